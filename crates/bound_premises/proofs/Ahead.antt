@@ -1,12 +1,12 @@
 -- Slaves that no frame carried yet are in their first bring-up, and stay there.
-use Rattle.std.proofs.Common.{◌≡◌, ℕ, zero, suc, ◌+◌, ◌<◌, ◌≤◌, ◌==◌, ◌&&◌, Bool, true, false, Option, Some, None, List, [], ◌∷◌, length, map, refl, sym, ap, ◌∙◌, subst, arith, if◌then◌else◌, eqb-true}
-use Rattle.std.specs.Prelude.{⊤, nat_lt}
+use Rattle.std.proofs.Common.{◌≡◌, ℕ, zero, suc, ◌<◌, ◌≤◌, ◌==◌, ◌&&◌, Bool, true, false, Option, Some, None, List, [], ◌∷◌, map, refl, sym, ap, ◌∙◌, subst, arith, if◌then◌else◌, eqb-true}
+use Rattle.std.specs.Prelude.{nat_lt}
 use Rattle.std.proofs.lemmas.Bool.{ltb-false}
 use Rattle.datagrams.specs.Datagram as Raw
 use Rattle.exchange_model.specs.Exchange.{Speech}
 use Rattle.frame_view.specs.Seen.{seen}
 use Rattle.frame_view.specs.View.{Lens}
-use Rattle.life_frames.specs.Shares.{came_at, given_where, Lived}
+use Rattle.life_frames.specs.Shares.{came_at, given_where}
 use Rattle.life_model.specs.Lives.{Spot, Stand, Life, life_next, life_back, life_lost}
 use Rattle.life_runs.specs.Led.{Exchanged, Leads, Turn, IsTurn, AllTurn, speech_at, is_passed, led_behind, life_behind}
 use Rattle.link_mails.specs.Body.{Body}

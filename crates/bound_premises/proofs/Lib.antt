@@ -1,5 +1,5 @@
 mod Ahead
 mod Asks
-mod News
+pub mod News
 mod Places
-mod Tours
+pub mod Tours

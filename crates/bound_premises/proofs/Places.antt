@@ -1,6 +1,6 @@
 -- The visits of a master's tour, by places, are those that the count of frames speaks of.
-use Rattle.std.proofs.Common.{◌≡◌, ℕ, zero, suc, ◌+◌, ◌-◌, ◌<◌, ◌≤◌, ◌==◌, ◌&&◌, Bool, true, false, cond, Option, Some, None, List, [], ◌∷◌, ◌++◌, length, filter, map, refl, sym, ap, ◌∙◌, subst, arith, if◌then◌else◌, inl, inr, eqb-true}
-use Rattle.std.specs.Prelude.{⊤, nat_lt, not, drop}
+use Rattle.std.proofs.Common.{◌≡◌, ℕ, zero, suc, ◌+◌, ◌-◌, ◌<◌, ◌≤◌, ◌==◌, ◌&&◌, Bool, true, false, cond, Option, Some, None, List, [], ◌∷◌, ◌++◌, length, filter, refl, sym, ap, ◌∙◌, subst, arith, if◌then◌else◌, eqb-true}
+use Rattle.std.specs.Prelude.{nat_lt, not, drop}
 use Rattle.std.proofs.lemmas.Bool.{ltb-true, ltb-false}
 use Rattle.life_model.specs.Lives.{Stand}
 use Rattle.life_runs.specs.Led.{Leads, Turn}
@@ -16,8 +16,8 @@ use Rattle.master_node.specs.of_master_tour.Stands as Stands
 use Rattle.master_node.specs.of_master_tour.Toured as Tours
 use Rattle.segment_model.specs.Slaves.{Datagram}
 use Rattle.run_frames.specs.Clocks.{Clocked, start_of}
-use Rattle.run_frames.specs.Led.{AreLed, under_of, unders}
-use Rattle.run_frames.specs.Orders.{is_live, is_opening, live_at, under_at, is_in, place_in, places_from, live_round, AreFirst, last_of, opened_on}
+use Rattle.run_frames.specs.Led.{AreLed, unders}
+use Rattle.run_frames.specs.Orders.{is_live, is_opening, live_at, under_at, is_in, place_in, places_from, live_round, last_of, opened_on}
 use Rattle.run_frames.specs.Tours.{VisitOf, PlacesOf}
 
 abbrev pub Slave : Type 0

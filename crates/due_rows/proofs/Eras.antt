@@ -10,7 +10,7 @@ use Rattle.link_model.specs.Segment.{RingFate}
 use Rattle.link_model.proofs.Law.{accepted_of_offered}
 use Rattle.master_side.specs.Due.{IsDue, EachDue}
 use Rattle.segment_model.specs.Record.{Frame}
-use Rattle.segment_model.specs.Seats.{Seat, Side, link_of, seat_next, seat_back, side_next}
+use Rattle.segment_model.specs.Seats.{Seat, link_of, seat_next, seat_back}
 use Rattle.segment_model.specs.Slaves.{Datagram, Processor, Registers, Slave, grams, frame_after}
 use Rattle.segment_model.proofs.Sounds.{SeatAgrees, frame_agrees, next_agrees}
 use Rattle.state_exchange.specs.Stated.{Stated, IsStated}
@@ -22,13 +22,10 @@ use Rattle.task_model.proofs.Ghosts.{Carried}
 use Rattle.task_model.proofs.Newest.{Holds}
 use Rattle.task_model.proofs.Sessions.{of_slaves}
 use Rattle.task_model.proofs.Stately.{state_over, free_state}
+use Rattle.due_rows.specs.Brings.{BringsDue}
 use Rattle.due_rows.proofs.Seats.{awaited}
 
 module _ {V A M Q R : Type 0} (x : Exchange V A M Q R) (law : IsLawful x) (hears : HearsFirst x) (s : Stated V A Q) (stated : IsStated x s) where
-  -- WHAT A FRAME MORE BRINGS of a slave
-  abbrev pub BringsDue : ℕ → Side M Q R → Account Q R → Slave V M → Type 0
-  BringsDue station d a n = (frame : ℕ) (pick : Pick Q) (sent : List (Datagram M)) → (let u = side_next x.speech frame d (mails_choice a pick) in IsFrameFor station u.halves (grams sent) → EachDue x.speech u.now (all_accepted station u.halves (grams (frame_after station n sent))))
-
   module _ (table : Table) (begun : ℕ) (is : IsTable table begun) (fs : List (Frame M)) (seat : Seat V M Q R) (a : Account Q R) (h : Holds x law s stated table (λ m. false) begun is fs seat a) (frame : ℕ) (pick : Pick Q) (sent : List (Datagram M)) where
     abbrev next : Seat V M Q R
     next = seat_next x frame seat (mails_choice a pick)
@@ -60,7 +57,7 @@ module _ {V A M Q R : Type 0} (x : Exchange V A M Q R) (law : IsLawful x) (hears
           sym (append_assoc (seat.accepted ++ brought) more.0 seat.slave.node.server.waiting) ∙ ap (λ l. l ++ seat.slave.node.server.waiting) (sym more.1),
         )
 
-  pub era_due : (processor : Processor V) (table : ℕ → Table) (spot : Spot) (e : Era M Q R) (opened end : ℕ) (fs : List (Frame M)) (v : V) (r : Registers) (slave : Slave V M) → EraIs x s processor table spot e opened end fs v r slave → BringsDue spot.station e.side e.account slave
+  pub era_due : (processor : Processor V) (table : ℕ → Table) (spot : Spot) (e : Era M Q R) (opened end : ℕ) (fs : List (Frame M)) (v : V) (r : Registers) (slave : Slave V M) → EraIs x s processor table spot e opened end fs v r slave → BringsDue x.speech spot.station e.side e.account slave
   era_due processor table spot e opened end fs v r slave is =
       (of_slaves x law s stated processor table (λ m. false) is.plan.tells (planned spot v r ∷ []) is.plan ((spot.station, e.side) ∷ []) (e.account ∷ []) ((spot.station, slave) ∷ []) (era_frames spot opened end fs) is.tasked
-      (λ t gs station start d a n. BringsDue station d a n) (λ t begun sits gs seat a h frame pick sent asks. seat_due t begun sits gs seat a h frame pick sent asks)).0.2 is.answers
+      (λ t gs station start d a n. BringsDue x.speech station d a n) (λ t begun sits gs seat a h frame pick sent asks. seat_due t begun sits gs seat a h frame pick sent asks)).0.2 is.answers

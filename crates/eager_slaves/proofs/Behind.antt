@@ -2,13 +2,15 @@
 use Rattle.std.proofs.Common.{◌≡◌, ℕ, ◌==◌, Bool, true, false, Option, Some, None, List, [], ◌∷◌, ◌++◌, length, refl, sym, ap, ◌∙◌, subst, if◌then◌else◌, append-nil, eq-eqb}
 use Rattle.std.specs.Prelude.{◌&&◌, not, option_map, drop}
 use Rattle.exchange_model.specs.Exchange.{Speech, plain}
-use Rattle.exchange_model.specs.Rows.{Row, left, row_heard}
+use Rattle.exchange_model.specs.Rows.{Row, left, row_heard, answer_after}
+use Rattle.held_visits.specs.of_answered_rows.Moments.{NowAnswered}
 use Rattle.idle_slaves.specs.Visited.{IsFor}
 use Rattle.idle_slaves.specs.Waiting.{Wanted}
 use Rattle.life_model.specs.Lives.{Life, Era, Spot, Stand, life_back, era_back, reopens, reopens_at, reopening, opens_state, returns_to_init}
 use Rattle.life_model.specs.Own.{own}
 use Rattle.link_model.specs.Frames.{halves_after, halves_answered, halves_accept, all_accepted}
 use Rattle.segment_model.specs.Record.{is_for}
+use Rattle.segment_model.specs.Seats.{side_back}
 use Rattle.segment_model.specs.Slaves.{Datagram, Found, grams}
 use Rattle.task_model.specs.Accounts.{Duty, Stage, account_back, account_met, account_by, access_done}
 
@@ -45,6 +47,24 @@ module _ {M Q R : Type 0} (x : Speech M Q R) (acknowledged : Q → Bool) (more :
 
     pub now_none : behind.era.side.now ≡ option_map (λ r. row_heard x frame [] r) l.era.side.now
     now_none = ap (λ (e : Era M Q R). e.side.now) era_is ∙ ap (λ (ds : List (Datagram M)). option_map (λ r. row_heard x frame (all_accepted spot.station l.era.side.halves (grams ds)) r) l.era.side.now) none
+
+    -- and so does the side, where its answer is the one of what was heard
+    same_row : (now : Option (Row M Q R)) → ((r : Row M Q R) → now ≡ Some r → (z : ℕ) → answer_after z r.answer (x.ends r.service (plain x.emission r.heard)) ≡ r.answer) → option_map (λ r. row_heard x frame [] r) now ≡ now
+    same_row None said = refl
+    same_row (Some r) said = ap Some (
+        let heard : r.heard ++ [] ≡ r.heard = append-nil r.heard in
+        let answer : answer_after frame r.answer (x.ends r.service (plain x.emission (r.heard ++ []))) ≡ r.answer = ap (λ ms. answer_after frame r.answer (x.ends r.service (plain x.emission ms))) heard ∙ said r refl frame in
+        (λ i. record r { heard = heard i; answer = answer i })
+        )
+
+    same_fresh : (b : Bool) → b && not false ≡ b
+    same_fresh true = refl
+    same_fresh false = refl
+
+    pub side_none : NowAnswered x l.era.side → behind.era.side ≡ l.era.side
+    side_none said =
+        ap (λ (e : Era M Q R). e.side) era_is ∙ ap (λ (ds : List (Datagram M)). side_back x frame spot.station ds l.era.side) none
+        ∙ (let fresh = same_fresh l.era.side.fresh in let now = same_row l.era.side.now said in (λ i. record l.era.side { fresh = fresh i; now = now i }))
 
   -- one
   module _ (d : Datagram M) (one : own spot.station back ≡ d ∷ []) (station : d.gram.station ≡ spot.station) where

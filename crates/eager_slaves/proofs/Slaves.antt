@@ -1,12 +1,15 @@
 -- ONE SLAVE by a frame that came back and gained nothing of it.
-use Rattle.std.proofs.Common.{◌≡◌, ◌⊎◌, ◌≤◌, ℕ, zero, suc, ◌%◌, ◌==◌, Bool, true, false, is_some, Option, Some, None, List, [], ◌∷◌, refl, sym, ap, ◌∙◌, subst, arith, if◌then◌else◌, inl, inr}
+use Rattle.std.proofs.Common.{◌≡◌, ◌⊎◌, ◌≤◌, ℕ, zero, suc, ◌%◌, ◌==◌, Bool, true, false, is_some, Option, Some, None, List, [], ◌∷◌, ◌++◌, refl, sym, ap, ◌∙◌, subst, arith, if◌then◌else◌, inl, inr, eq-eqb}
 use Rattle.std.specs.Prelude.{◌&&◌}
 use Rattle.exchange_model.specs.Exchange.{Exchange, Speech}
+use Rattle.held_visits.specs.Held.{HeldUp, EndsHeld}
+use Rattle.held_visits.specs.of_answered_rows.Moments.{IsFree, NowAnswered}
+use Rattle.held_visits.proofs.Held.{held_up, unpaused}
 use Rattle.idle_slaves.specs.Frames.{InVain, node_on, memory_on}
 use Rattle.idle_slaves.specs.Going.{Going, AccessVain, registers_on}
 use Rattle.idle_slaves.specs.Links.{HasLink}
 use Rattle.idle_slaves.specs.Visited.{IsFor, Meets, CameBack, HasRow, IsUnpaused, Waiting, Chosen, LifeSpent, visit_for, life_visit, memory_of}
-use Rattle.idle_slaves.specs.Waiting.{Wanted, Memory, IsWaiting, memory_behind, link_by, wanted_by}
+use Rattle.idle_slaves.specs.Waiting.{Wanted, Memory, IsWaiting, memory_behind, tried, link_by, wanted_by}
 use Rattle.idle_slaves.proofs.Choosing.{chosen}
 use Rattle.idle_slaves.proofs.Frames.{waits_so, was_spent}
 use Rattle.idle_slaves.proofs.Going.{goes_so}
@@ -15,10 +18,10 @@ use Rattle.idle_slaves.proofs.Waiting.{Holds, Comes, holds, comes}
 use Rattle.life_measure.specs.Gains.{gains, phase_gains, stage_gains, progress_gains}
 use Rattle.life_measure.specs.Visits.{Visit, mails_visit}
 use Rattle.life_measure.proofs.Gaining.{next_same, state_gains}
-use Rattle.life_model.specs.Lives.{Life, Spot, Stand, life_back}
+use Rattle.life_model.specs.Lives.{Life, Spot, Stand, life_back, era_next}
 use Rattle.life_model.specs.Own.{own}
 use Rattle.link_mails.specs.Body.{Body}
-use Rattle.link_model.specs.Frames.{Ask, node_meets, halves_answered, halves_accept}
+use Rattle.link_model.specs.Frames.{Ask, node_meets, halves_answered, halves_accept, all_accepted}
 use Rattle.link_model.specs.Link.{Halves, Link, Event, happens, written, write_counter}
 use Rattle.link_model.specs.Mails.{LinkMail, news}
 use Rattle.link_model.specs.Master.{InState, InHalf, OutHalf}
@@ -30,13 +33,14 @@ use Rattle.run_frames.specs.Goes.{Under, back_life}
 use Rattle.run_frames.specs.Orders.{is_live}
 use Rattle.run_frames.specs.Waits.{Waits, new_waits, waits_on}
 use Rattle.segment_model.specs.Record.{is_for}
-use Rattle.segment_model.specs.Slaves.{Datagram, Access, Found, Serving, Slave, Processor, Registers, serving, slave_after, slave_steps, slave_meets, frame_after, registers_met}
+use Rattle.segment_model.specs.Seats.{Side}
+use Rattle.segment_model.specs.Slaves.{Datagram, Access, Found, Serving, Slave, Processor, Registers, grams, serving, slave_after, slave_steps, slave_meets, frame_after, registers_met}
 use Rattle.segment_plan.specs.declared.service.Service as Plan
 use Rattle.state_exchange.specs.Stated.{Service}
 use Rattle.state_model.specs.States.{Table, Phase, carry, word_carried, decided, reads, phase_written}
 use Rattle.states_come.specs.Steps.{NotGone}
-use Rattle.task_model.specs.Accounts.{Duty, Stage, Progress, phase_access, access_done, account_by}
-use Rattle.eager_slaves.specs.Eager.{Remembered, AsksVisit, AsksStage, AsksFor, EachAsksFor, IsClear, NoneLeft, MayBegin, IsAtEnd, IsEager, IsInVain, IsDraining, RemembersOn, IsUnpausedBy, GetsNone}
+use Rattle.task_model.specs.Accounts.{Duty, Stage, Progress, phase_access, access_done, account_by, starts}
+use Rattle.eager_slaves.specs.Eager.{Remembered, AsksVisit, AsksStage, AsksFor, EachAsksFor, IsClear, NoneLeft, MayBegin, IsAtEnd, IsEager, IsInVain, IsDraining, RemembersOn, GetsNone}
 use Rattle.eager_slaves.specs.Frames.{One, FrameAs}
 use Rattle.eager_slaves.specs.Standing.{Steps, Unvisited, Visited, Standing, IsDone}
 use Rattle.eager_slaves.proofs.Behind as Behind
@@ -97,7 +101,7 @@ written_full {V} n m e = go n.out.box refl (ap (λ (z : Node Body (Serving V Bod
 read_empty : {V : Type 0} (n : Node Body (Serving V Body)) → node_meets n Ask.ReadMail ≡ n → n.inn.box ≡ None
 read_empty {V} n e = sym (ap (λ (z : Node Body (Serving V Body)). z.inn.box) e)
 
-unvisited_waits : {S : Type 0} (v : Server Body S) (l : Life Body Asked Reply) (n : Node Body S) (t : Waits) (m : Memory) → Unvisited v l n t → Waiting v l n m t
+pub unvisited_waits : {S : Type 0} (v : Server Body S) (l : Life Body Asked Reply) (n : Node Body S) (t : Waits) (m : Memory) → Unvisited v l n t → Waiting v l n m t
 unvisited_waits {S} v l n t m k = subst (λ (z : ℕ). Waiting v l n m (record { stepped = t.stepped; tries = z })) (sym k.tries) (by n t.stepped k.steps)
   where
     by : (n : Node Body S) (b : Bool) → Steps v k.link.node n b → Waiting v l n m (record { stepped = b; tries = 0 })
@@ -159,11 +163,8 @@ module _ {V A : Type 0} (ex : Exchange V A Body Asked Reply) (processor : Proces
         by false e = before e
 
     -- ---- A SLAVE THAT WAITS
-    module _ (m n : Remembered) (next : Option Plan.Service) (begun : Option (Service Asked)) (wish : f.pick.begin ≡ begun) (eager : IsEager (x c.spot) station sent m u.under begun next c.life u.life) (unpaused : IsUnpausedBy m begun) (remembers : RemembersOn station back m n u.under c.life u.life) where
-      module _ (t : Waits) (k : Waiting v c.life s.node m.memory t) (link : HasLink c.life.era.side s) where
-        pause_free : IsUnpaused f.pick m.memory t
-        pause_free target e one = unpaused target (sym wish ∙ e)
-
+    module _ (m n : Remembered) (next : Option Plan.Service) (begun : Option (Service Asked)) (wish : f.pick.begin ≡ begun) (eager : IsEager (x c.spot) station sent m u.under begun next c.life u.life) (remembers : RemembersOn station back m n u.under c.life u.life) where
+      module _ (t : Waits) (k : Waiting v c.life s.node m.memory t) (link : HasLink c.life.era.side s) (pause_free : IsUnpaused f.pick m.memory t) where
         chose : Chosen v c.life u.life s.node m.memory t
         chose = subst (λ z. Chosen v c.life z s.node m.memory t) (sym f.life) (chosen v c.life s.node m.memory t k (x c.spot) acknowledged more passed number f.pick f.unpassed pause_free)
 
@@ -305,6 +306,16 @@ module _ {V A : Type 0} (ex : Exchange V A Body Asked Reply) (processor : Proces
           left_behind true e before = left_visited e
           left_behind false e before = left_none e (before refl)
 
+          -- no mail was heard
+          silent_one : (e : u.under ≡ true) → all_accepted station u.life.era.side.halves (grams (own station back)) ≡ []
+          silent_one e =
+              let h = u.life.era.side.halves in
+              let o : One station sent = f.one clear.stands e in
+              let d : Datagram Body = met station s f.here o.datagram o.sent_so in
+              ap (λ (ds : List (Datagram Body)). all_accepted station h (grams ds)) (came e).one
+              ∙ ap (λ (b : Bool). (if b then halves_accept h d.gram.ask d.gram else []) ++ []) (eq-eqb d.gram.station station (came e).station_is)
+              ∙ ap (λ ms. ms ++ []) (hears_none e (life_visit u.life (memory_of c.life u.life m.memory)) refl (came e).meets)
+
           -- VISITED, behind it
           pub visited_on : (u.under ≡ false → u.life.era.side.halves.out.holding ≡ None → NoneLeft (x c.spot) u.life) → Visited v (x c.spot) behind s'.node n.memory (waits_on number c u t)
           visited_on before = record {
@@ -313,14 +324,59 @@ module _ {V A : Type 0} (ex : Exchange V A Body Asked Reply) (processor : Proces
             left = left_behind u.under refl (λ e. before e);
           }
 
+      -- ---- NO MAIL WAS HEARD of it
+      module _ (t : Waits) (link : HasLink c.life.era.side s) where
+        abbrev pub Silent : Type 0
+        Silent = all_accepted c.spot.station u.life.era.side.halves (grams (own c.spot.station back)) ≡ []
+
+        silent_none : u.under ≡ false → Silent
+        silent_none e = ap (λ (ds : List (Datagram Body)). all_accepted station u.life.era.side.halves (grams ds)) (back_none e)
+
+        pub waits_silent : Waiting v c.life s.node m.memory t → IsUnpaused f.pick m.memory t → Silent
+        waits_silent k pause = go u.under refl
+          where
+            go : (b : Bool) → u.under ≡ b → Silent
+            go true e = silent_one t k link pause (vain t k link pause (λ out. absurd (let no : true ≡ false = sym e ∙ out in cc))) e
+            go false e = silent_none e
+
+        pub going_silent : Going table c.life s.registers t → c.life.era.side.halves.inn.state ≡ InState.Clear → Silent
+        going_silent g clear = go u.under refl
+          where
+            opened : u.life.stand ≡ Stand.Open
+            opened = stand_is ∙ g.stands
+
+            hand : u.life.era.account.hand ≡ Some g.duty
+            hand = ap (λ (z : Life Body Asked Reply). z.era.account.hand) f.life ∙ hand_next (x c.spot) acknowledged more passed number c.life f.pick g.stands g.duty g.hand
+
+            open_clear : IsClear u.life
+            open_clear = record { stands = opened; clear = ap (λ (h : InHalf). h.state) inn_is ∙ clear }
+
+            other : (o : One station sent) → o.datagram.gram.ask ≡ Ask.Other
+            other o =
+                let asked = (subst (λ ds. EachAsksFor u.life.era.side.halves (memory_of c.life u.life m.memory) u.life.era.account.hand ds) o.is (eager.asks open_clear)).0 in
+                (subst (λ stage. AsksStage u.life.era.side.halves (memory_of c.life u.life m.memory) g.duty.target stage o.datagram) g.stage
+                (subst (λ h. AsksFor u.life.era.side.halves (memory_of c.life u.life m.memory) h o.datagram) hand asked)).0
+
+            go : (b : Bool) → u.under ≡ b → Silent
+            go false e = silent_none e
+            go true e =
+                let h = u.life.era.side.halves in
+                let o : One station sent = f.one opened e in
+                let d : Datagram Body = met station s f.here o.datagram o.sent_so in
+                ap (λ (ds : List (Datagram Body)). all_accepted station h (grams ds)) (back_one o)
+                ∙ ap (λ (b : Bool). (if b then halves_accept h d.gram.ask d.gram else []) ++ []) (eq-eqb d.gram.station station (met_station station s f.here o.datagram o.sent_so))
+                ∙ ap (λ a. halves_accept h a d.gram ++ []) (met_ask station s f.here o.datagram o.sent_so ∙ other o)
+
       -- ---- WHAT IT IS BEHIND THE FRAME
-      module _ (t : Waits) (next' : Option Plan.Service) (gets : GetsNone m n) (script : next ≡ None → next' ≡ None) (link : HasLink c.life.era.side s) (frees : LifeSpent v c.life s.node → NoneLeft (x c.spot) c.life → MayBegin (x c.spot) c.life)
+      module _ (t : Waits) (next' : Option Plan.Service) (gets : GetsNone m n) (script : next ≡ None → next' ≡ None) (link : HasLink c.life.era.side s) (answered : NowAnswered (x c.spot) c.life.era.side)
+          (states : (target : ℕ) → begun ≡ Some (Service.State target) → ((era_next (x c.spot) acknowledged more passed number c.life.era f.pick).account.started ≡ starts c.life.era.account (Service.State target) number) × (next ≡ None → ⊥))
+          (holds_up : u.under ≡ true → IsClear c.life → EndsHeld (x c.spot) acknowledged (next ≡ None) c.spot.station back u.life (back_life x acknowledged more passed number back c u)) (frees : LifeSpent v c.life s.node → NoneLeft (x c.spot) c.life → MayBegin (x c.spot) c.life)
           (settles : u.under ≡ true → IsClear u.life → u.life.era.side.halves.out.holding ≡ None → u.life.era.account.hand ≡ None → begun ≡ None) where
         abbrev on : Waits
         on = waits_on number c u t
 
         abbrev Stands : Type 0
-        Stands = Standing v table (x c.spot) behind s' n next' on
+        Stands = Standing v table (x c.spot) acknowledged behind s' n next' on
 
         abbrev WaitsYet : Type 0
         WaitsYet = (is_live behind.stand ≡ true) × (on.tries ≤ 1)
@@ -338,19 +394,55 @@ module _ {V A : Type 0} (ex : Exchange V A Body Asked Reply) (processor : Proces
             by false is = refl
             by true is = absurd (let no : true ≡ false = sym (gets is) ∙ e.packet in cc)
 
+        -- behind a write in vain where a state service might begin, the script is at its end
+        abbrev HeldOn : Life Body Asked Reply → Memory → Waits → Type 0
+        HeldOn l mem w = HeldUp (x c.spot) acknowledged (next ≡ None) l mem w
+
+        script_on : HeldOn behind n.memory on → HeldUp (x c.spot) acknowledged (next' ≡ None) behind n.memory on
+        script_on h one paused hand free = script (h one paused hand free)
+
+        state_begins : (target : ℕ) → f.pick.begin ≡ Some (Service.State target) → ((era_next (x c.spot) acknowledged more passed number c.life.era f.pick).account.started ≡ starts c.life.era.account (Service.State target) number) × (next ≡ None → ⊥)
+        state_begins target e = states target (sym wish ∙ e)
+
+        module _ (w : Waiting v c.life s.node m.memory t) (free : IsUnpaused f.pick m.memory t) (i : InVain x acknowledged more passed number back c u s.node m.memory t) (e : u.under ≡ true) where
+          abbrev open_behind : Life Body Asked Reply
+          open_behind = life_back (x c.spot) acknowledged more passed number c.spot [] back u.came u.life Stand.Open
+
+          open_is : behind ≡ open_behind
+          open_is = ap (λ z. life_back (x c.spot) acknowledged more passed number c.spot [] back u.came u.life z) (clear t w link free).stands
+
+          clear_c : IsClear c.life
+          clear_c = record { stands = w.shows.stands; clear = ap (λ (h : Halves Body). h.inn.state) (sym w.shows.halves) ∙ (holds v w.link w.wanted m.memory t w.waits).clear }
+
+          up : HeldOn open_behind (memory_behind (memory_of c.life u.life m.memory) (life_visit u.life (memory_of c.life u.life m.memory))) (tried t)
+          up = held_up (x c.spot) acknowledged more passed number c.spot [] back u.came u.life v c.life s.node m.memory t (next ≡ None) (chose t w link free) (row t w link free) (came t w link free e) (same t w link free)
+              (subst (λ z. EndsHeld (x c.spot) acknowledged (next ≡ None) c.spot.station back u.life z) open_is (holds_up e clear_c))
+
+          as_tried : 1 ≤ on.tries → 1 ≤ (tried t).tries
+          as_tried one = subst (λ (b : Bool). 1 ≤ (if b && t.stepped then suc t.tries else t.tries)) e one
+
+          pub held_visited : HeldOn behind n.memory on
+          held_visited =
+              subst (λ z. HeldOn z n.memory on) (sym open_is)
+              (subst (λ z. HeldOn open_behind z on) (sym (remembers_so t w link free i e)) (λ one paused hand might. up (as_tried one) paused hand might))
+
         -- ---- it was visited already
-        module _ (k : Visited v (x c.spot) c.life s.node m.memory t) (control : t.stepped ≡ true → s.registers.control ≡ None) (end : 2 ≤ t.tries → IsAtEnd next m) where
+        module _ (k : Visited v (x c.spot) c.life s.node m.memory t) (control : t.stepped ≡ true → s.registers.control ≡ None) (end : 2 ≤ t.tries → IsAtEnd next m)
+            (held : HeldUp (x c.spot) acknowledged (next ≡ None) c.life m.memory t) where
+          unpaused_now : IsUnpaused f.pick m.memory t
+          unpaused_now = unpaused (x c.spot) acknowledged more passed number c.life m.memory t f.pick (next ≡ None) f.unpassed held state_begins
+
           stays_so : u.under ≡ false → u.life ≡ c.life
           stays_so e = f.life ∙ same_next (x c.spot) acknowledged more passed number c.life f.pick k.waits.shows.stands f.unpassed (wish ∙ eager.begins e) (λ free r now. k.left free r now)
 
           i : InVain x acknowledged more passed number back c u s.node m.memory t
-          i = vain t k.waits link stays_so
+          i = vain t k.waits link unpaused_now stays_so
 
           before : u.under ≡ false → u.life.era.side.halves.out.holding ≡ None → NoneLeft (x c.spot) u.life
           before e free = subst (λ z. NoneLeft (x c.spot) z) (sym (stays_so e)) (k.left (ap (λ (z : Life Body Asked Reply). z.era.side.halves.out.holding) (sym (stays_so e)) ∙ free))
 
           now : Visited v (x c.spot) behind s'.node n.memory on
-          now = visited_on t k.waits link i before
+          now = visited_on t k.waits link unpaused_now i before
 
           none_left : LifeSpent v c.life s.node → NoneLeft (x c.spot) c.life
           none_left spent = k.left (sym (ap (λ (h : Halves Body). h.out.holding) spent.shows.halves) ∙ spent.spent.held)
@@ -367,8 +459,8 @@ module _ {V A : Type 0} (ex : Exchange V A Body Asked Reply) (processor : Proces
 
           ends_now : u.under ≡ true → 1 ≤ t.tries → IsAtEnd next m
           ends_now e one =
-              let spent = second v (x c.spot) acknowledged more passed number c.spot [] back u.came u.life s.node m.memory t c.life (chose t k.waits link) (row t k.waits link) (came t k.waits link e) (same t k.waits link) one in
-              eager.ends e clear_before (frees spent.0 (none_left spent.0)) (settles e (clear t k.waits link) (sym (ap (λ (h : Halves Body). h.out.holding) spent.1.shows.halves) ∙ spent.1.spent.held) spent.1.shows.hand)
+              let spent = second v (x c.spot) acknowledged more passed number c.spot [] back u.came u.life s.node m.memory t c.life (chose t k.waits link unpaused_now) (row t k.waits link unpaused_now) (came t k.waits link unpaused_now e) (same t k.waits link unpaused_now) one in
+              eager.ends e clear_before (frees spent.0 (none_left spent.0)) (settles e (clear t k.waits link unpaused_now) (sym (ap (λ (h : Halves Body). h.out.holding) spent.1.shows.halves) ∙ spent.1.spent.held) spent.1.shows.hand)
 
           at_end : (under stepped : Bool) → u.under ≡ under → t.stepped ≡ stepped → 2 ≤ (if under && stepped then suc t.tries else t.tries) → IsAtEnd next m
           at_end true true e g two = ends_now e (omega (arith, two))
@@ -390,8 +482,31 @@ module _ {V A : Type 0} (ex : Exchange V A Body Asked Reply) (processor : Proces
                 control = control (stepped_so t.stepped refl (one_of u.under t.stepped two));
               }
 
+          -- with no visit the side stays
+          side_same : u.under ≡ false → behind.era.side ≡ c.life.era.side
+          side_same e =
+              Behind.side_none (x c.spot) acknowledged more passed number c.spot back u.came u.life (clear t k.waits link unpaused_now).stands (back_none e) (subst (λ (z : Life Body Asked Reply). NowAnswered (x c.spot) z.era.side) (sym (stays_so e)) answered)
+              ∙ ap (λ (z : Life Body Asked Reply). z.era.side) (stays_so e)
+
+          hand_same : u.under ≡ false → behind.era.account.hand ≡ c.life.era.account.hand
+          hand_same e = Behind.hand_none (x c.spot) acknowledged more passed number c.spot back u.came u.life (clear t k.waits link unpaused_now).stands (back_none e) ∙ ap (λ (z : Life Body Asked Reply). z.era.account.hand) (stays_so e)
+
+          as_before : u.under ≡ false → 1 ≤ on.tries → 1 ≤ t.tries
+          as_before e one = subst (λ (b : Bool). 1 ≤ (if b && t.stepped then suc t.tries else t.tries)) e one
+
+          held_none : u.under ≡ false → HeldOn behind n.memory on
+          held_none e one paused hand free =
+              held (as_before e one) (ap (λ (z : Memory). z.paused) (sym (remembers.unvisited e (clear t k.waits link unpaused_now).stands)) ∙ paused) (sym (hand_same e) ∙ hand)
+              (subst (λ (d : Side Body Asked Reply). IsFree (x c.spot) acknowledged d) (side_same e) free)
+
+          held_now : (b : Bool) → u.under ≡ b → HeldOn behind n.memory on
+          held_now true e = held_visited k.waits unpaused_now i e
+          held_now false e = held_none e
+
           pub visited_stands : Stands
-          visited_stands = Standing.waits now (step_control t (step_registers (left t k.waits link)) control) (λ two. packet_none (at_end u.under t.stepped refl refl two))
+          visited_stands =
+              Standing.waits now (step_control t (step_registers (left t k.waits link unpaused_now)) control) (λ two. packet_none (at_end u.under t.stepped refl refl two))
+              (script_on (held_now u.under refl))
 
           pub visited_waits : WaitsYet ⊎ Done
           visited_waits = by on.tries refl
@@ -411,9 +526,12 @@ module _ {V A : Type 0} (ex : Exchange V A Body Asked Reply) (processor : Proces
           few true false = let e = k.tries in omega (arith, e)
           few false stepped = let e = k.tries in omega (arith, e)
 
+          unpaused_first : IsUnpaused f.pick m.memory t
+          unpaused_first target e one = absurd (let none = k.tries in omega (arith, none, one))
+
           -- it is visited now
           visited_now : u.under ≡ true → Visited v (x c.spot) behind s'.node n.memory on
-          visited_now e = visited_on t first link (vain t first link (λ out. absurd (let no : true ≡ false = sym e ∙ out in cc))) (λ out. absurd (let no : true ≡ false = sym e ∙ out in cc))
+          visited_now e = visited_on t first link unpaused_first (vain t first link unpaused_first (λ out. absurd (let no : true ≡ false = sym e ∙ out in cc))) (λ out. absurd (let no : true ≡ false = sym e ∙ out in cc))
 
           -- or it isn't: what came into hand came into hand when something was gained
           module _ (out : u.under ≡ false) where
@@ -464,7 +582,8 @@ module _ {V A : Type 0} (ex : Exchange V A Body Asked Reply) (processor : Proces
           by_under : (b : Bool) → u.under ≡ b → Stands × WaitsYet
           by_under true e =
               let now = visited_now e in (
-                Standing.waits now (step_control t (step_registers (left t first link)) control) (λ two. absurd (let one = few u.under t.stepped in omega (arith, one, two))),
+                Standing.waits now (step_control t (step_registers (left t first link unpaused_first)) control) (λ two. absurd (let one = few u.under t.stepped in omega (arith, one, two)))
+                    (script_on (held_visited first unpaused_first (vain t first link unpaused_first (λ out. absurd (let no : true ≡ false = sym e ∙ out in cc))) e)),
                 open_waits now.waits (few u.under t.stepped),
               )
           by_under false e =
@@ -560,8 +679,8 @@ module _ {V A : Type 0} (ex : Exchange V A Body Asked Reply) (processor : Proces
           )
 
         -- ---- HOWEVER IT STOOD, while it is open
-        pub open_stands : c.life.stand ≡ Stand.Open → Standing v table (x c.spot) c.life s m next t → Stands × (WaitsYet ⊎ Done)
+        pub open_stands : c.life.stand ≡ Stand.Open → Standing v table (x c.spot) acknowledged c.life s m next t → Stands × (WaitsYet ⊎ Done)
         open_stands stands (Standing.gone e) = absurd (let never : Stand.Gone ≡ Stand.Open = sym e ∙ stands in cc)
         open_stands stands (Standing.fresh k control) = let both = fresh_stands k control in (both.0, inl both.1)
-        open_stands stands (Standing.waits k control end) = (visited_stands k control end, visited_waits k control end)
+        open_stands stands (Standing.waits k control end held) = (visited_stands k control end held, visited_waits k control end held)
         open_stands stands (Standing.goes g clear) = let both = going_stands g clear in (both.0, inl both.1)

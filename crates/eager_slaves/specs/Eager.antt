@@ -92,20 +92,11 @@ pub record RemembersOn (station : ℕ) (back : List (Datagram Body)) (m n : Reme
       (let mem = memory_of old new m.memory in let visit = life_visit new mem in IsInVain visit d → n.memory ≡ memory_behind mem visit)
   pub unvisited : under ≡ false → new.stand ≡ Stand.Open → n.memory ≡ m.memory
 
--- a state service doesn't come into hand behind a write in vain
-abbrev pub IsUnpausedBy : Remembered → Option (Service Asked) → Type 0
-IsUnpausedBy m begun = (target : ℕ) → begun ≡ Some (Service.State target) → m.memory.paused ≡ false
-
 -- no packet came to its port
 abbrev pub GetsNone : Remembered → Remembered → Type 0
 GetsNone m n = n.packet ≡ true → m.packet ≡ true
 
 -- of all slaves
-abbrev pub AllUnpaused : List Remembered → List Turn → Type 0
-AllUnpaused [] [] = ⊤
-AllUnpaused (m ∷ ms) (u ∷ us) = IsUnpausedBy m u.begun × AllUnpaused ms us
-AllUnpaused _ _ = ⊥
-
 abbrev pub AllGetNone : List Remembered → List Remembered → Type 0
 AllGetNone [] [] = ⊤
 AllGetNone (m ∷ ms) (n ∷ ns) = GetsNone m n × AllGetNone ms ns

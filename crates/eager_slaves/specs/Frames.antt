@@ -1,10 +1,12 @@
 -- ONE FRAME THAT CAME BACK, for an open slave of a ring.
-use Rattle.std.specs.Prelude.{◌≡◌, ◌⊎◌, ◌≤◌, ℕ, suc, ◌%◌, ◌==◌, true, false, Bool, if◌then◌else◌, Option, None, List, [], ◌∷◌}
+use Rattle.std.specs.Prelude.{◌≡◌, ◌⊎◌, ◌≤◌, ℕ, suc, ◌%◌, ◌==◌, true, false, Bool, if◌then◌else◌, Option, Some, None, List, [], ◌∷◌}
 use Rattle.exchange_model.specs.Exchange.{Exchange, Speech}
+use Rattle.held_visits.specs.Held.{EndsHeld}
+use Rattle.held_visits.specs.of_answered_rows.Moments.{NowAnswered}
 use Rattle.idle_slaves.specs.Links.{HasLink}
 use Rattle.idle_slaves.specs.Visited.{LifeSpent}
 use Rattle.life_measure.specs.Gains.{gains}
-use Rattle.life_model.specs.Lives.{Spot, Stand, life_next}
+use Rattle.life_model.specs.Lives.{Spot, Stand, life_next, era_next}
 use Rattle.life_model.specs.Own.{own}
 use Rattle.link_mails.specs.Body.{Body}
 use Rattle.master_duty.specs.Reply.{Reply}
@@ -18,8 +20,8 @@ use Rattle.segment_plan.specs.declared.service.Service as Plan
 use Rattle.state_exchange.specs.Stated.{Service}
 use Rattle.state_model.specs.States.{Table}
 use Rattle.states_come.specs.Steps.{StepsAlone}
-use Rattle.task_model.specs.Accounts.{Pick}
-use Rattle.eager_slaves.specs.Eager.{Remembered, IsClear, NoneLeft, MayBegin, IsEager, IsUnpausedBy, RemembersOn, GetsNone}
+use Rattle.task_model.specs.Accounts.{Pick, starts}
+use Rattle.eager_slaves.specs.Eager.{Remembered, IsClear, NoneLeft, MayBegin, IsEager, RemembersOn, GetsNone}
 use Rattle.eager_slaves.specs.Standing.{Standing, IsDone}
 
 -- a datagram as it is sent: to the station, and nothing did it yet
@@ -52,19 +54,22 @@ module _ {V A : Type 0} (ex : Exchange V A Body Asked Reply) (processor : Proces
     pub alone : StepsAlone ex processor table c.life.era.account.hand s
 
   -- ITS MASTER MAKES NO VISIT IN VAIN where more could go on: what it does at the frame and remembers behind it; the slave's next service stays none where none
-  -- is left; what is spent might begin a service; and where nothing is held or in hand nothing began
+  -- is left; what is spent might begin a service; and where nothing is held or in hand nothing began. A state service that began came into hand, and was left of the
+  -- script; and at a write in vain, where one might begin behind it, none is left
   pub record EagerAs (c : Clocked Body Asked Reply) (u : Under Body Asked Reply) (s s' : Slave V Body) (f : FrameAs c u s s') (m n : Remembered) (begun : Option (Service Asked)) (next next' : Option Plan.Service) : Type 0 where
     pub wish : f.pick.begin ≡ begun
     pub eager : IsEager (x c.spot) c.spot.station sent m u.under begun next c.life u.life
-    pub unpaused : IsUnpausedBy m begun
     pub remembers : RemembersOn c.spot.station back m n u.under c.life u.life
     pub gets : GetsNone m n
     pub script : next ≡ None → next' ≡ None
     pub link : HasLink c.life.era.side s
     pub frees : LifeSpent (serving ex) c.life s.node → NoneLeft (x c.spot) c.life → MayBegin (x c.spot) c.life
     pub settles : u.under ≡ true → IsClear u.life → u.life.era.side.halves.out.holding ≡ None → u.life.era.account.hand ≡ None → begun ≡ None
+    pub answered : NowAnswered (x c.spot) c.life.era.side
+    pub states : (target : ℕ) → begun ≡ Some (Service.State target) → ((era_next (x c.spot) acknowledged more passed number c.life.era f.pick).account.started ≡ starts c.life.era.account (Service.State target) number) × (next ≡ None → ⊥)
+    pub ends : u.under ≡ true → IsClear c.life → EndsHeld (x c.spot) acknowledged (next ≡ None) c.spot.station back u.life (back_life x acknowledged more passed number back c u)
 
   -- IT STANDS SO BEHIND THE FRAME, and it waits yet or all was done of it before
   pub record StandsOn (c : Clocked Body Asked Reply) (u : Under Body Asked Reply) (s s' : Slave V Body) (m n : Remembered) (next next' : Option Plan.Service) (t : Waits) : Type 0 where
-    pub stands : Standing (serving ex) table (x c.spot) (back_life x acknowledged more passed number back c u) s' n next' (waits_on number c u t)
+    pub stands : Standing (serving ex) table (x c.spot) acknowledged (back_life x acknowledged more passed number back c u) s' n next' (waits_on number c u t)
     pub waits : ((is_live (back_life x acknowledged more passed number back c u).stand ≡ true) × ((waits_on number c u t).tries ≤ 1)) ⊎ IsDone (serving ex) (x c.spot) c.life s m next

@@ -1,6 +1,7 @@
 -- HOW A SLAVE STANDS while frames come back and gain nothing.
 use Rattle.std.specs.Prelude.{◌≡◌, ◌≤◌, Bool, true, false, Option, None}
 use Rattle.exchange_model.specs.Exchange.{Speech}
+use Rattle.held_visits.specs.Held.{HeldUp}
 use Rattle.idle_slaves.specs.Going.{Going}
 use Rattle.idle_slaves.specs.Visited.{Shows, Waiting, LifeSpent}
 use Rattle.idle_slaves.specs.Waiting.{Wanted, Memory}
@@ -39,12 +40,12 @@ pub record Visited {S : Type 0} (v : Server Body S) (x : Speech Body Asked Reply
   pub left : l.era.side.halves.out.holding ≡ None → NoneLeft x l
 
 -- A SLAVE STANDS: given up for good; open with nothing in doubt, and not visited yet, or visited in vain; or with a state service past its drain. No control
--- word waits behind a step, and behind two visits in vain its script is at its end
-pub data Standing {V : Type 0} (v : Server Body (Serving V Body)) (table : Table) (x : Speech Body Asked Reply) (l : Life Body Asked Reply) (s : Slave V Body) (m : Remembered) (next : Option Plan.Service) (t : Waits) : Type 0 where
-  gone : l.stand ≡ Stand.Gone → Standing v table x l s m next t
-  fresh : Unvisited v l s.node t → (t.stepped ≡ true → s.registers.control ≡ None) → Standing v table x l s m next t
-  waits : Visited v x l s.node m.memory t → (t.stepped ≡ true → s.registers.control ≡ None) → (2 ≤ t.tries → IsAtEnd next m) → Standing v table x l s m next t
-  goes : Going table l s.registers t → l.era.side.halves.inn.state ≡ InState.Clear → Standing v table x l s m next t
+-- word waits behind a step, behind two visits in vain its script is at its end, and so it is behind a write in vain where a state service might begin
+pub data Standing {V : Type 0} (v : Server Body (Serving V Body)) (table : Table) (x : Speech Body Asked Reply) (acknowledged : Asked → Bool) (l : Life Body Asked Reply) (s : Slave V Body) (m : Remembered) (next : Option Plan.Service) (t : Waits) : Type 0 where
+  gone : l.stand ≡ Stand.Gone → Standing v table x acknowledged l s m next t
+  fresh : Unvisited v l s.node t → (t.stepped ≡ true → s.registers.control ≡ None) → Standing v table x acknowledged l s m next t
+  waits : Visited v x l s.node m.memory t → (t.stepped ≡ true → s.registers.control ≡ None) → (2 ≤ t.tries → IsAtEnd next m) → HeldUp x acknowledged (next ≡ None) l m.memory t → Standing v table x acknowledged l s m next t
+  goes : Going table l s.registers t → l.era.side.halves.inn.state ≡ InState.Clear → Standing v table x acknowledged l s m next t
 
 -- ALL IS DONE OF IT: it is spent, and neither a mail, nor a service, nor a packet, nor a control word is left
 pub record IsDone {V : Type 0} (v : Server Body (Serving V Body)) (x : Speech Body Asked Reply) (l : Life Body Asked Reply) (s : Slave V Body) (m : Remembered) (next : Option Plan.Service) : Type 0 where

@@ -2,7 +2,7 @@
 //! contract states the law.
 #![tactic(auto)]
 
-ghost use Rattle.std.specs.Prelude.{ℕ, Bool, List, Option};
+ghost use Rattle.std.specs.Prelude.{ℕ, List, Option};
 ghost use Rattle.eager_slaves.specs.Eager.{Remembered};
 ghost use Rattle.life_runs.specs.First.{lens_of, first_leads};
 ghost use Rattle.life_runs.specs.Led.{Exchanged, Leads};
@@ -18,6 +18,6 @@ ghost use Rattle.entered_runs.specs.Entered.{EagerBut, Entered};
 /// OF A RUN WITH KNOWN FRAMES OF THE HOST those of them that gained nothing count as lost: each other frame that gained nothing is one that its master made with
 /// no visit in vain. No more count as lost than were lost, and one for each of the host's frames.
 pub fn entered_law()
-    ensures { (plan : Scenario) (slowest : ℕ) (paces : List ℕ) (marked : ℕ → Bool) (fs : List Exchanged) (again : Option (List ℕ)) (missed : ℕ) (leads : List Leads) (p : Progress) (cs : List (Clocked Body Asked Reply)) (ns : List Remembered) →
-        (run : IsToured (lens_of plan.slaves) plan.recover plan.retry slowest (first_leads plan) paces fs again missed leads p cs) → EagerBut plan marked run ns → Entered plan slowest paces marked fs again missed leads p cs ns run }
+    ensures { (plan : Scenario) (slowest : ℕ) (paces : List ℕ) (fs : List Exchanged) (again : Option (List ℕ)) (missed : ℕ) (leads : List Leads) (p : Progress) (cs : List (Clocked Body Asked Reply)) (ns : List Remembered) →
+        (run : IsToured (lens_of plan.slaves) plan.recover plan.retry slowest (first_leads plan) paces fs again missed leads p cs) → (e : EagerBut plan run ns) → Entered plan slowest paces fs again missed leads p cs ns run e }
 {}

@@ -18,7 +18,7 @@ use Rattle.plan_ring.specs.Round.{ring_of, ring_after, all_seen}
 use Rattle.segment_model.specs.Record.{Frame}
 use Rattle.segment_plan.specs.declared.plan.Scenario.{Scenario}
 use Rattle.segment_plan.specs.declared.slave.SlaveSpec.{SlaveSpec}
-use Rattle.slave_lives.specs.Lived.{Behind}
+use Rattle.slave_lives.specs.Lived.{Behind, IsBehind}
 use Rattle.slave_parts.specs.Parts.{Core, Server}
 use Rattle.slave_parts.specs.of_eoe_model.Network.{Station}
 use Rattle.slave_server.specs.Serving.{Serving}
@@ -70,6 +70,7 @@ module _ (plan : Scenario) (fs : List Exchanged) where
             alike = subst (λ (w : Behind Serving (InState Server) (InState (Station Core)) Asked Reply). Alike is_service (speech_at (lens_of plan.slaves) a.lived.spot) w.exchange.speech) x.is.services
                 (subst (λ (y : Speech Body Asked Reply). Alike is_service y m.services.exchange.speech) speech_is led.alike);
             row = subst (λ (l : Life Body Asked Reply). InHandIs is_service l) life_is led.in_hand;
+            behind = subst (λ (w : Behind Serving (InState Server) (InState (Station Core)) Asked Reply). IsBehind w) x.is.services i.whole.behind;
             last = ap (λ (w : Behind Serving (InState Server) (InState (Station Core)) Asked Reply). w.states.acknowledged) (sym x.is.services) ∙ led.last;
             lives = subst (λ (l : Life Body Asked Reply). LivesOpen (asked (profile_of s) s.boot (lens_of plan.slaves)) (spot_of place s) i.lived.from l.era gs m.node) life_is
                 (subst (λ (z : Spot). LivesOpen (asked (profile_of s) s.boot (lens_of plan.slaves)) z i.lived.from m.life.era gs m.node) x.is.spot

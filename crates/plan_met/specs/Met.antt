@@ -15,7 +15,7 @@ use Rattle.segment_model.specs.Slaves.{Datagram, Slave, slave_after, slave_steps
 use Rattle.segment_plan.specs.declared.plan.Scenario.{Scenario}
 use Rattle.segment_plan.specs.declared.slave.SlaveSpec.{SlaveSpec}
 use Rattle.segment_ring.specs.Ring.{is_in_pace}
-use Rattle.slave_lives.specs.Lived.{node_seen}
+use Rattle.slave_lives.specs.Lived.{IsBehind, node_seen}
 use Rattle.slave_parts.specs.Parts.{Core, Server}
 use Rattle.slave_parts.specs.of_eoe_model.Network.{Station}
 use Rattle.slave_server.specs.Serving.{Serving}
@@ -29,7 +29,7 @@ use Rattle.whole_lives.specs.Whole.{LivesOpen}
 abbrev pub slave_at : (ℕ → Lens) → SlaveSpec → Node Serving → Slave (InState Server) Body
 slave_at lens s n = node_seen (asked (profile_of s) s.boot lens) n
 
--- ONE THAT IS OPEN LIVES ITS EPOCH, which began with some application, by services that owe the laws and of which its master speaks alike
+-- ONE THAT IS OPEN LIVES ITS EPOCH, which began with some application, by services that owe the laws, of which its master speaks alike and which its node runs
 pub record IsOpenAt (plan : Scenario) (fs : List Exchanged) (place : ℕ) (s : SlaveSpec) (a : Leads) (n : Node Serving) : Type 0 where
   pub from : InState (Station Core)
   pub lives : LivesOpen (asked (profile_of s) s.boot (lens_of plan.slaves)) (spot_of place s) from a.lived.life.era (all_seen (lens_of plan.slaves) fs) n
@@ -38,6 +38,7 @@ pub record IsOpenAt (plan : Scenario) (fs : List Exchanged) (place : ℕ) (s : S
   pub alike : Alike is_service (speech_at (lens_of plan.slaves) a.lived.spot) (asked (profile_of s) s.boot (lens_of plan.slaves)).exchange.speech
   pub row : InHandIs is_service a.lived.life
   pub last : (asked (profile_of s) s.boot (lens_of plan.slaves)).states.acknowledged ≡ acknowledged
+  pub behind : IsBehind (asked (profile_of s) s.boot (lens_of plan.slaves))
 
 -- and its master leads it at its station
 pub record IsAt (plan : Scenario) (fs : List Exchanged) (place : ℕ) (s : SlaveSpec) (a : Leads) (n : Node Serving) : Type 0 where

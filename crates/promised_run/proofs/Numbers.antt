@@ -9,6 +9,7 @@ use Rattle.life_runs.specs.of_life_frames.Shares.{AllBoth}
 use Rattle.life_runs.specs.of_link_mails.Body.{Body}
 use Rattle.life_runs.specs.of_master_duty.Reply.{Reply}
 use Rattle.life_runs.specs.of_master_hand.Spoken.{Asked}
+use Rattle.promised_run.specs.Packets.{AllHavePackets}
 use Rattle.promised_run.specs.Numbers.{AllHaveNumbers, eras_rows, given_up_in, life_rows, rows_at, script_frame, script_frames, scripts_at}
 use Rattle.promised_run.proofs.Ports.{first_live}
 use Rattle.promised_run.proofs.Rows.{other_frames, others_append, run_others, run_packets}
@@ -27,9 +28,10 @@ use Rattle.run_record.proofs.of_packets_begun.Numbers.{numbers_begun, numbers_he
 use Rattle.run_record.proofs.of_packets_begun.Quiet.{run_quiet}
 use Rattle.run_record.proofs.of_port_events.Owns.{own_port}
 use Rattle.run_record.specs.Led.{LeadTo, ListsAll, NumbersAll, gaves_in}
+use Rattle.run_record.specs.Packets.{AreNumbered, begun_in, numbered_from}
 use Rattle.run_record.specs.Ran.{EndsAs, HasRows, IsGivenUp}
 use Rattle.run_record.specs.Reports.{IsBooked, noted_in, noted_of, reply_in}
-use Rattle.run_record.specs.of_packets_begun.Numbers.{NoneWaits, events_up_to, given_up_at, number_behind}
+use Rattle.run_record.specs.of_packets_begun.Numbers.{NoneWaits, events_up_to, frames_begun, given_up_at, number_behind}
 use Rattle.run_record.specs.of_script_answers.Answers.{AllNoted, Noted, Scripted, changes_behind, era_scripted, eras_scripted, life_scripted, next_opened, opened_anew, scripted_by, scripted_in, scripted_mails, side_answers}
 use Rattle.script_runs.specs.Came.{is_packet}
 use Rattle.script_runs.specs.of_life_model.Lives.{Era, Life}
@@ -135,3 +137,7 @@ all_numbers plan {leads = leads} lives book listed numbered booked gave ends ok 
       quiet = subst (λ (z : List ℕ). All (λ frame. NoneWaits many port (events_up_to frame book.switch book.switched)) z) (sym (scripts_are leads book.slaves booked k ∙ run_others lens plan plan.retry k lives))
           (run_quiet ports many k port own lives book.switch book.switched numbered);
     }
+
+-- THE ROWS OF PACKETS of each slave
+pub all_packets : (plan : Scenario) {fs : List Exchanged} {missed : ℕ} {leads : List Leads} (lives : LeadTo plan fs missed leads) (book : Book) → AreNumbered (λ k. frames_begun lives k) (begun_in book.slaves) → AllHavePackets leads book
+all_packets plan lives book h = λ k l. h k l ∙ ap (λ z. numbered_from 0 z) (sym (run_packets (lens_of plan.slaves) plan plan.retry k lives))

@@ -8,6 +8,7 @@ use Rattle.promised_run.specs.Emergencies.{AllHaveEmergencies}
 use Rattle.promised_run.specs.Epochs.{AllCaused}
 use Rattle.promised_run.specs.Few.{AreFewLost, OutlivesLosses}
 use Rattle.promised_run.specs.Numbers.{AllHaveNumbers}
+use Rattle.promised_run.specs.Packets.{AllHavePackets}
 use Rattle.promised_run.specs.Ports.{AllHavePorts}
 use Rattle.promised_run.specs.Reported.{AllReported}
 use Rattle.promised_run.specs.Unsent.{AllUnsent}
@@ -58,3 +59,5 @@ pub record IsPromised (plan : Scenario) (book : Book) : Type 0 where
   -- and each event at the port of a slave has its exact number: a packet begins with the frame of its row, one comes in with the number behind the frame that brought
   -- its last fragment, and the port goes down with the number behind the give-up; and nothing waits there behind the events numbered up to a row of the script
   pub numbers : book.ending ≢ endings.NoMemory → AllHaveNumbers plan led.lives book
+  -- and of packets just those stand among the services of a slave's row that came into hand of it, in order, each once, with its number and its frame
+  pub forwards : book.ending ≢ endings.NoMemory → AllHavePackets led.leads book

@@ -1,5 +1,5 @@
 -- A master goes on leading its slaves, frame by frame, and what is noted of their give-ups goes with it.
-use Rattle.std.proofs.Common.{◌≡◌, ℕ, suc, ◌+◌, Bool, true, false, None, List, [], ◌∷◌, ◌++◌, map, length, length-append, refl, sym, ap, ◌∙◌, subst, arith}
+use Rattle.std.proofs.Common.{◌≡◌, ℕ, suc, ◌+◌, ◌<◌, Bool, true, false, None, List, [], ◌∷◌, ◌++◌, map, length, length-append, refl, sym, ap, ◌∙◌, subst, arith}
 use Rattle.std.specs.Prelude.{◌↔◌, ◌&&◌, nat_lt, if◌then◌else◌}
 use Rattle.std.proofs.lemmas.Bool.{lt-ltb, le-ltb}
 use Rattle.std.proofs.lemmas.List.{map-append}
@@ -23,6 +23,10 @@ use Rattle.master_node.specs.Begins.{PacketsBegin}
 use Rattle.master_node.specs.Brought.{HasBrought}
 use Rattle.master_node.specs.Downs.{GoDown}
 use Rattle.master_node.specs.Happened.{events_of}
+use Rattle.master_node.specs.Listing.{ServicesBegin}
+use Rattle.master_node.specs.Eager.{recalls}
+use Rattle.master_node.specs.Starts.{AllBegin}
+use Rattle.master_node.specs.Origins.{forwards_at}
 use Rattle.master_node.specs.Joined.{HasUnfinished, JoinsKept, stand_before, stand_under, unfinished_after}
 use Rattle.master_node.specs.Made.{AreOfMaking}
 use Rattle.master_node.specs.Ports.{ports_behind, ports_of}
@@ -58,7 +62,8 @@ use Rattle.slave_node.specs.of_slave_steps.Node.{Node, node_passed}
 use Rattle.ring_returns.proofs.Returned as Returned
 use Rattle.run_record.specs.declared.notes.Notes.{Notes}
 use Rattle.run_record.specs.declared.standing.Log.{Log}
-use Rattle.run_record.specs.Forwarded.{IsForwarded, Forwards, ForwardsFirst}
+use Rattle.run_record.specs.Forwarded.{IsForwarded, Forwards, ForwardsFirst, PacketsNoted}
+use Rattle.run_record.specs.Packets.{BeginsOn, begun_noted}
 use Rattle.run_record.specs.Led.{exchanged, gaves_noted, TouredTo, Leading, AreLed}
 use Rattle.run_record.specs.Heard.{emergencies_noted, HeardBy}
 use Rattle.run_record.specs.Notes.{new_notes}
@@ -71,6 +76,7 @@ use Rattle.script_answers.specs.Steps.{TurnsSo, PassesSo, LosesSo}
 use Rattle.script_answers.proofs.Losses.{passes_so, loses_so}
 use Rattle.script_answers.proofs.Turns.{turns_so}
 use Rattle.run_record.proofs.Befores.{AllBefore, turns_before, all_before}
+use Rattle.run_record.proofs.Began.{packets_first, packets_on}
 use Rattle.run_record.proofs.Forwards.{forwarded_on}
 use Rattle.run_record.proofs.Gaves.{with_more}
 use Rattle.run_record.proofs.Heard.{first_heard}
@@ -117,11 +123,12 @@ none_unfinished services place [] = refl
 none_unfinished services place (s ∷ ss) = ap (λ z. None ∷ z) (none_unfinished services (suc place) ss)
 
 pub first_forwards : (plan : Scenario) (m : MasterNode) (notes : List Notes) → MasterShows (lens_of plan.slaves) plan.recover plan.retry m 0 (first_leads plan) → notes ≡ first_notes plan.services 0 plan.slaves → tour_of m ≡ new_tour → m.lan.ports.items ≡ ports_behind 0 plan.slaves →
-    HasUnfinished m (map stand_before (first_leads plan)) (map (λ spec. None) plan.slaves) → ForwardsFirst plan m notes
+    HasUnfinished m (map stand_before (first_leads plan)) (map (λ spec. None) plan.slaves) → ((k : ℕ) → forwards_at m.posts.items k ≡ 0) → ForwardsFirst plan m notes
 unfolding begins
-first_forwards plan m notes shown first tour ports none = λ b empty bare. record {
+first_forwards plan m notes shown first tour ports none counts = λ b empty bare. record {
   leading = begins plan m notes shown first tour;
   forwarded = record { ports = ports; unfinished = subst (λ z. HasUnfinished m (map stand_before (first_leads plan)) z) (sym (none_unfinished plan.services 0 plan.slaves)) none; listed = empty; begun = empty; numbered = (empty, bare) };
+  packets = packets_first plan m notes counts first;
 }
 
 -- GIVE-UPS over a frame
@@ -192,7 +199,7 @@ module _ (lens : ℕ → Lens) (recover retry : ℕ) (gives : Bool) (made : ℕ)
 module _ (m0 m1 m2 : MasterNode) (f : Exchanged) (result : Next)
     (idle : (result ≡ nexts.Idle) ↔ (has_live m0 ≡ false))
     (led : result ≡ nexts.Frame → (lens : ℕ → Lens) (recover retry missed number : ℕ) (as' : List Leads) → MasterShows lens recover retry m0 missed as' →
-    (us : List Turn) × IsLedFrame lens number f.sent as' us × MasterUnder lens recover retry m1 f.sent missed us × PacketsBegin m0.lan.switch us m1.lan)
+    (us : List Turn) × IsLedFrame lens number f.sent as' us × MasterUnder lens recover retry m1 f.sent missed us × PacketsBegin m0.lan.switch us m1.lan × ServicesBegin (λ k. forwards_at m0.posts.items k) as' us m1 × AllBegin lens m1.lan 0 (recalls m1) as' us)
     (visits : result ≡ nexts.Frame → (lens : ℕ → Lens) (recover retry missed : ℕ) (as' : List Leads) (us : List Turn) → MasterShows lens recover retry m0 missed as' → MasterUnder lens recover retry m1 f.sent missed us →
     (tour_of m1 ≡ tour_of m0) × IsOfTour (λ u. turn_share u) (λ k. holds_at is_live_lead as' k) (frame_size f.sent) (λ k. area_at lens as' k) (tour_of m0) us (length (seen lens f.sent)) m1.tour.visit.items)
     (asks : result ≡ nexts.Frame → (lens : ℕ → Lens) (recover retry missed : ℕ) (us : List Turn) → MasterUnder lens recover retry m1 f.sent missed us → AllAsk (seen lens f.sent) us) where
@@ -205,7 +212,7 @@ module _ (m0 m1 m2 : MasterNode) (f : Exchanged) (result : Next)
     abbrev lens : ℕ → Lens
     lens = lens_of plan.slaves
 
-    made : (us : List Turn) × IsLedFrame lens (length fs) f.sent l.leads us × MasterUnder lens plan.recover plan.retry m1 f.sent l.missed us × PacketsBegin m0.lan.switch us m1.lan
+    made : (us : List Turn) × IsLedFrame lens (length fs) f.sent l.leads us × MasterUnder lens plan.recover plan.retry m1 f.sent l.missed us × PacketsBegin m0.lan.switch us m1.lan × ServicesBegin (λ k. forwards_at m0.posts.items k) l.leads us m1 × AllBegin lens m1.lan 0 (recalls m1) l.leads us
     made = led (made_by result refl live) lens plan.recover plan.retry l.missed (length fs) l.leads l.shows
 
     abbrev gives : Bool
@@ -322,7 +329,8 @@ module _ (m0 m1 m2 : MasterNode) (f : Exchanged) (result : Next)
           (downs : (after : ℕ) → f.fate ≡ Fates.Lost after → (us : List Turn) → MasterUnder lens plan.recover plan.retry m1 f.sent l.missed us → GoDown m1 us (lives_behind lens plan.recover plan.retry l.missed (length fs) f us) m2)
           (grown : b'.switch ≡ b.switch ++ (events_of m1.lan.happened ++ events_of m2.lan.happened))
           (counted : b'.switched ≡ b.switched ++ (each_with frame (events_of m1.lan.happened) ++ each_with (suc frame) (events_of m2.lan.happened))) (w : IsForwarded plan m0 l.lives b.switch b.switched)
-          (stood : (switched (ports_of plan.slaves) b.switch).switch ≡ m0.lan.switch) (stands : (switched (ports_of plan.slaves) (b.switch ++ events_of m1.lan.happened)).switch ≡ m1.lan.switch) where
+          (stood : (switched (ports_of plan.slaves) b.switch).switch ≡ m0.lan.switch) (stands : (switched (ports_of plan.slaves) (b.switch ++ events_of m1.lan.happened)).switch ≡ m1.lan.switch)
+          (packets : PacketsNoted plan m0 notes l.lives) (kept : (k : ℕ) → forwards_at m2.posts.items k ≡ forwards_at m1.posts.items k) (few : frame + 1 < 4294967296) (many : length r.notes ≡ length notes) (begun_before : TurnsAll frame m1 (BeginsOn frame m1 notes r.notes)) (begun_behind : begun_noted r'.notes ≡ begun_noted r.notes) where
         pub forwards_on : Forwards plan m2 r'.notes (fs ++ f ∷ []) b'
         unfolding leads_on
         forwards_on = record {
@@ -330,6 +338,9 @@ module _ (m0 m1 m2 : MasterNode) (f : Exchanged) (result : Next)
           forwarded = forwarded_on plan fs l.missed l.leads l.lives f made.0 made.1 m0 m1 m2 made.2 visited.1 joins making (λ pass. back pass made.0 made.1) (λ h. joined made.0 (joined_in l.lives) made.1 made.2 h)
               (λ pass h. arrivals pass made.0 (joined_in l.lives) made.1 made.2 h) (λ after lost. downs after lost made.0 made.2) b.switch b'.switch grown b.switched b'.switched
               (counted ∙ ap (λ (n : ℕ). b.switched ++ (each_with n (events_of m1.lan.happened) ++ each_with (suc n) (events_of m2.lan.happened))) (sym counts)) w made.3 stood stands;
+          packets = packets_on plan fs l.missed l.leads l.lives f made.0 made.1 m0 m1 m2 notes r.notes r'.notes packets made.4 kept (subst (λ n. n + 1 < 4294967296) (sym counts) few) many begun_behind
+              ((subst (λ (k : ℕ). TurnsAll k m1 (BeginsOn k m1 notes r.notes)) (sym counts) begun_before) lens plan.recover l.leads (map turned_lead made.0) under
+              (all_turns lens plan.recover plan.retry gives (length fs) f made.1.datagrams l.leads made.0 made.1.each)) l.told;
         }
 
 -- what the ring gave back of a frame of the master's is its return

@@ -24,6 +24,8 @@ pub mod Overs
 pub mod Unsent
 pub mod Epochs
 pub mod Reports
+pub mod Packets
+pub mod Began
 pub mod Reporting
 pub mod Switched
 pub mod Numbered

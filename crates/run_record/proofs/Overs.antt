@@ -11,6 +11,8 @@ use Rattle.master_node.specs.of_life_runs.Led.{Leads}
 use Rattle.master_node.specs.Toured.{tour_of}
 use Rattle.master_node.specs.Wants.{AllCounted, AllLeft, gave_of}
 use Rattle.master_node.proofs.Counts.{counted, placed}
+use Rattle.packets_begun.specs.Numbers.{frames_begun}
+use Rattle.run_book.specs.declared.book.Begun.{Begun}
 use Rattle.run_book.specs.declared.book.Book.{Book}
 use Rattle.run_book.specs.declared.book.Emergency.{Emergency}
 use Rattle.run_book.specs.declared.book.Ending.{Ending}
@@ -25,17 +27,19 @@ use Rattle.run_record.specs.Session.{SessionState, session_rows, are_at_rest, so
 use Rattle.run_record.specs.Reports.{IsBooked}
 use Rattle.run_record.specs.Epochs.{HasEpochs}
 use Rattle.run_record.specs.Heard.{emergencies_noted, emergencies_in}
+use Rattle.run_record.specs.Packets.{AreNumbered, begun_in, begun_noted}
 use Rattle.run_record.specs.Switched.{IsSwitched, SameSwitch}
 use Rattle.run_record.specs.Unsent.{IsSpent}
 use Rattle.run_record.proofs.Reporting.{all_booked, all_spent, all_epochs}
 use Rattle.run_record.proofs.Ends.{rest_so, all_done, gaves_of_rows}
 use Rattle.run_record.proofs.Heard.{heard_of_rows}
+use Rattle.run_record.proofs.Packets.{begun_of_rows}
 use Rattle.run_record.proofs.Switched.{has_packets}
 use Rattle.run_record.proofs.Underway.{many}
 
 -- the lives that frames lead to, with the emergencies that are noted of them and the events that they list, each with its number
-abbrev HeardLives : Scenario → ℕ → List Leads → List (List Emergency) → List SwitchEvent → List ℕ → List SentFrame → Type 0
-HeardLives plan missed leads notes es ns frames = (lives : LeadTo plan (map exchanged frames) missed leads) × AllNoted (heard_in lives) notes × ListsAll plan lives es × BeginsAll plan lives es × NumbersAll plan lives es ns
+abbrev HeardLives : Scenario → ℕ → List Leads → List (List Emergency) → List (List Begun) → List SwitchEvent → List ℕ → List SentFrame → Type 0
+HeardLives plan missed leads notes rows es ns frames = (lives : LeadTo plan (map exchanged frames) missed leads) × AllNoted (heard_in lives) notes × ListsAll plan lives es × BeginsAll plan lives es × NumbersAll plan lives es ns × AreNumbered (λ k. frames_begun lives k) rows
 
 not_done : endings.Done ≡ endings.NoMemory → ⊥
 not_done e = absurd (cc)
@@ -73,8 +77,8 @@ module _ (plan : Scenario) (s : SessionState) (b b' : Book) (h : IsUnderway plan
   rest_by endings.Unfinished settled so left cut rows = tt
 
   -- the lives, by the frames of the book
-  both : HeardLives plan l.missed l.leads (emergencies_noted s.notes) b.switch b.switched b'.frames
-  both = subst (λ (fs : List SentFrame). HeardLives plan l.missed l.leads (emergencies_noted s.notes) b.switch b.switched fs) (sym frames) (l.lives, l.heard, w.forwarded.listed, w.forwarded.begun, w.forwarded.numbered)
+  both : HeardLives plan l.missed l.leads (emergencies_noted s.notes) (begun_noted s.notes) b.switch b.switched b'.frames
+  both = subst (λ (fs : List SentFrame). HeardLives plan l.missed l.leads (emergencies_noted s.notes) (begun_noted s.notes) b.switch b.switched fs) (sym frames) (l.lives, l.heard, w.forwarded.listed, w.forwarded.begun, w.forwarded.numbered, w.packets.rows)
 
   -- however it ends
   pub led_book : (ending result : Ending) (settled : Bool) → EndsSo s ending → OnTrue settled (IsLeftBy s.master) → OnFalse settled (ending ≡ endings.BudgetSpent) → (result ≡ ending) ⊎ (result ≡ endings.NoMemory) → (result ≢ endings.NoMemory → b'.slaves ≡ session_rows s) → LedBook plan b' result
@@ -93,6 +97,7 @@ module _ (plan : Scenario) (s : SessionState) (b b' : Book) (h : IsUnderway plan
     listed = λ ok. subst (λ (es : List SwitchEvent). ListsAll plan both.0 es) (sym kept.switch) both.2;
     begun = λ ok. subst (λ (es : List SwitchEvent). BeginsAll plan both.0 es) (sym kept.switch) both.3;
     numbered = λ ok. subst (λ (ns : List ℕ). NumbersAll plan both.0 b'.switch ns) (sym kept.switched) (subst (λ (es : List SwitchEvent). NumbersAll plan both.0 es b.switched) (sym kept.switch) both.4);
+    forwards = λ ok. subst (λ z. AreNumbered (λ k. frames_begun both.0 k) z) (sym (ap begun_in (rows ok) ∙ begun_of_rows s.recover s.ring.nodes s.notes same)) both.5;
     rests = elim answers [
       | inl is ↦ subst (λ (e : Ending). RestBy lens e l.leads b'.slaves) (sym is) (rest_by ending settled so left cut (λ ok. rows (λ none. ok (sym is ∙ none))))
       | inr none ↦ subst (λ (e : Ending). RestBy lens e l.leads b'.slaves) (sym none) tt

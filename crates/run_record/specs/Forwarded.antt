@@ -1,14 +1,17 @@
 -- WHAT CAME IN OF SLAVES, what began at their ports and which of these went down, as the events of a book's switch have it.
-use Rattle.std.specs.Prelude.{◌≡◌, ℕ, List, [], map}
+use Rattle.std.specs.Prelude.{◌≡◌, ℕ, List, [], length, map}
 use Rattle.eoe_switch.specs.declared.switching.SwitchEvent.{SwitchEvent}
 use Rattle.master_node.specs.of_life_runs.Led.{Exchanged, Leads}
 use Rattle.master_node.specs.Joined.{HasUnfinished, stand_before}
+use Rattle.master_node.specs.Origins.{forwards_at}
 use Rattle.master_node.specs.Ports.{ports_behind}
 use Rattle.master_node.specs.declared.node.MasterNode.{MasterNode}
+use Rattle.packets_begun.specs.Numbers.{frames_begun}
 use Rattle.port_events.specs.Listed.{unfinished_of}
 use Rattle.port_events.specs.of_packets_heard.Heard.{joined_in}
 use Rattle.run_book.specs.declared.book.Book.{Book}
 use Rattle.run_record.specs.Led.{LeadTo, ListsAll, BeginsAll, NumbersAll, Leading}
+use Rattle.run_record.specs.Packets.{AreNumbered, begun_noted}
 use Rattle.run_record.specs.declared.notes.Notes.{Notes}
 use Rattle.segment_plan.specs.declared.plan.Scenario.{Scenario}
 
@@ -21,10 +24,16 @@ pub record IsForwarded (plan : Scenario) (m : MasterNode) {fs : List Exchanged} 
   pub begun : BeginsAll plan lives es
   pub numbered : NumbersAll plan lives es ns
 
+-- THE PACKETS THAT CAME INTO HAND over these frames: so many its master has counted of each slave, and just these are noted
+pub record PacketsNoted (plan : Scenario) (m : MasterNode) (notes : List Notes) {fs : List Exchanged} {missed : ℕ} {leads : List Leads} (lives : LeadTo plan fs missed leads) : Type 0 where
+  pub counts : (k : ℕ) → forwards_at m.posts.items k ≡ length (frames_begun lives k)
+  pub rows : AreNumbered (λ k. frames_begun lives k) (begun_noted notes)
+
 -- A MASTER THAT LEADS, and its book
 pub record Forwards (plan : Scenario) (m : MasterNode) (notes : List Notes) (fs : List Exchanged) (b : Book) : Type 0 where
   pub leading : Leading plan m notes fs
   pub forwarded : IsForwarded plan m leading.lives b.switch b.switched
+  pub packets : PacketsNoted plan m notes leading.lives
 
 -- before its first frame, with any book whose switch has no event yet
 abbrev pub ForwardsFirst : Scenario → MasterNode → List Notes → Type 0

@@ -14,7 +14,7 @@ use Rattle.master_node.specs.Toured.{tour_of}
 use Rattle.master_node.specs.Wants.{gave_of, IsIdle}
 use Rattle.master_node.specs.declared.node.MasterNode.{MasterNode}
 use Rattle.master_node.specs.of_master_tour.Toured.{Tour}
-use Rattle.packets_begun.specs.Numbers.{Numbered}
+use Rattle.packets_begun.specs.Numbers.{Numbered, frames_begun}
 use Rattle.packets_begun.specs.Over.{AreBegun}
 use Rattle.port_events.specs.Listed.{Listed}
 use Rattle.run_book.specs.declared.book.Book.{Book}
@@ -25,6 +25,7 @@ use Rattle.run_book.specs.declared.book.SlaveBook.{SlaveBook}
 use Rattle.run_record.specs.Reports.{AllReport, IsBooked}
 use Rattle.run_record.specs.Epochs.{HasEpochs}
 use Rattle.run_record.specs.Heard.{emergencies_noted, emergencies_in}
+use Rattle.run_record.specs.Packets.{AreNumbered, begun_in}
 use Rattle.run_record.specs.Switched.{HasPackets}
 use Rattle.run_record.specs.Unsent.{IsSpent}
 use Rattle.run_record.specs.declared.notes.Notes.{Notes}
@@ -109,7 +110,7 @@ RestBy lens endings.Unfinished leads rows = ⊤
 -- stand in the book that came into hand, each with its frame, and each reply is that of its row; of the mails that its life accepted just the emergencies
 -- stand there, each with the frame that brought it; and nothing is left of it where the run is over. The frames are the visits of one tour. And the packets of
 -- the host are those that the events of the switch make, and these events are just those that the frames list; of the slaves' ports just the packets began that
--- came into hand; and each event has its number, by the frame that made it
+-- came into hand; and each event has its number, by the frame that made it; and just the packets that came into hand stand in the book of each slave, numbered
 pub record LedBook (plan : Scenario) (book : Book) (ending : Ending) : Type 0 where
   pub missed : ℕ
   pub leads : List Leads
@@ -126,3 +127,4 @@ pub record LedBook (plan : Scenario) (book : Book) (ending : Ending) : Type 0 wh
   pub listed : ending ≢ endings.NoMemory → ListsAll plan lives book.switch
   pub begun : ending ≢ endings.NoMemory → BeginsAll plan lives book.switch
   pub numbered : ending ≢ endings.NoMemory → NumbersAll plan lives book.switch book.switched
+  pub forwards : ending ≢ endings.NoMemory → AreNumbered (λ k. frames_begun lives k) (begun_in book.slaves)

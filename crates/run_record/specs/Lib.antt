@@ -10,6 +10,7 @@ pub mod Unsent
 pub mod Epochs
 pub mod Heard
 pub mod Reports
+pub mod Packets
 pub mod Led
 pub mod Session
 pub mod Ran

@@ -3,6 +3,7 @@
 ghost use Rattle.std.specs.Prelude.{◌≡◌, ◌<◌, ◌≤◌, length, vec_len, OnOk};
 ghost use Rattle.run_record.specs.Heard.{HeardAll, HeardNext};
 ghost use Rattle.run_record.specs.Led.{gaves_noted};
+ghost use Rattle.run_record.specs.Packets.{begun_noted};
 ghost use Rattle.run_record.specs.Reports.{KeepsReports, ReportsOn, PassesAll};
 ghost use Rattle.run_record.specs.Session.{SameSlaves};
 
@@ -25,6 +26,7 @@ impl Log {
         ensures slaves { SameSlaves self.old self.new }
         ensures gave { OnOk result (gaves_noted self.new.notes ≡ gaves_noted self.old.notes) }
         ensures heard { OnOk result (HeardNext frame at master.now self.old.notes self.new.notes) }
+        ensures rows { OnOk result (begun_noted self.new.notes ≡ begun_noted self.old.notes) }
         ensures told { OnOk result (KeepsReports self.old.notes self.new.notes) }
     {
         let Some(found) = master.emergency(at) else {
@@ -46,6 +48,7 @@ impl Log {
         ensures slaves { SameSlaves self.old self.new }
         ensures gave { OnOk result (gaves_noted self.new.notes ≡ gaves_noted self.old.notes) }
         ensures heard { OnOk result (HeardAll frame master.now self.old.notes self.new.notes) }
+        ensures rows { OnOk result (begun_noted self.new.notes ≡ begun_noted self.old.notes) }
         ensures told { OnOk result (KeepsReports self.old.notes self.new.notes) }
     {
         for place in 0..self.notes.len() {
@@ -66,6 +69,7 @@ impl Log {
         ensures slaves { SameSlaves self.old self.new }
         ensures gave { OnOk result (gaves_noted self.new.notes ≡ gaves_noted self.old.notes) }
         ensures heard { OnOk result (HeardAll frame master.now self.old.notes self.new.notes) }
+        ensures rows { OnOk result (begun_noted self.new.notes ≡ begun_noted self.old.notes) }
         ensures told { OnOk result (PassesAll frame master.now (ReportsOn self.old.notes self.new.notes)) }
     {
         self.note_emergencies(alloc, master, frame)?;

@@ -7,6 +7,7 @@ ghost use Rattle.run_record.specs.Heard.{emergencies_noted};
 ghost use Rattle.run_record.specs.Led.{gaves_noted};
 ghost use Rattle.run_record.specs.Reports.{Reports, KeepsReports};
 ghost use Rattle.run_record.specs.Notes.{station_of, stations_of};
+ghost use Rattle.run_record.specs.Packets.{begun_noted, noted_began};
 ghost use Rattle.run_record.specs.Switched.{NotesSwitch};
 
 use crate::notes::Notes;
@@ -50,10 +51,11 @@ fn reply_of(
 }
 
 // A packet or a mail that is passed on came into hand. What does by the script is noted by its master's number.
-fn note_began(notes: &mut Notes, origin: Origin, frame: u32) -> Result<(), NoMemory>
-    ensures gave { OnOk result (notes.new.gave ≡ notes.old.gave) }
-    ensures heard { OnOk result (notes.new.emergencies ≡ notes.old.emergencies) }
+pub(crate) fn note_began(notes: &mut Notes, origin: Origin, frame: u32) -> Result<(), NoMemory>
+    ensures gave { notes.new.gave ≡ notes.old.gave }
+    ensures heard { notes.new.emergencies ≡ notes.old.emergencies }
     ensures told { OnOk result ((a : Leads) → Reports a notes.old → Reports a notes.new) }
+    ensures is { OnOk result (notes.new ≡ noted_began notes.old origin frame) }
 {
     match origin {
         Origin::Script(_) => Ok(()),
@@ -74,9 +76,9 @@ fn note_at(
     ensures gave { OnOk result (notes.new.gave ≡ notes.old.gave) }
     ensures heard { OnOk result (notes.new.emergencies ≡ notes.old.emergencies) }
     ensures told { OnOk result ((a : Leads) → Reports a notes.old → Reports a notes.new) }
+    ensures rows { OnOk result (notes.new.begun ≡ notes.old.begun) }
 {
     match event {
-        Event::Began { origin, .. } => note_began(notes, *origin, moment.frame),
         Event::Answered { slave, kind } => {
             let reply = reply_of(alloc, master, *slave, *kind)?;
             notes.answered(reply, moment.frame)
@@ -85,7 +87,8 @@ fn note_at(
             notes.own = *own;
             Ok(())
         }
-        Event::Opened { .. }
+        Event::Began { .. }
+        | Event::Opened { .. }
         | Event::Emergency { .. }
         | Event::GivenUp { .. }
         | Event::GatewayReply { .. }
@@ -196,6 +199,7 @@ impl Log {
         ensures slaves { SameSlaves self.old self.new }
         ensures gave { OnOk result (gaves_noted self.new.notes ≡ gaves_noted self.old.notes) }
         ensures heard { OnOk result (emergencies_noted self.new.notes ≡ emergencies_noted self.old.notes) }
+        ensures rows { OnOk result (begun_noted self.new.notes ≡ begun_noted self.old.notes) }
         ensures told { OnOk result (KeepsReports self.old.notes self.new.notes) }
         ensures frames { SameFrames (1 + length self.old.ports) book.old book.new }
         ensures switch { OnOk result (NotesSwitch (1 + length self.old.ports) moment.sent master.now.lan.happened book.old book.new) }
@@ -204,7 +208,7 @@ impl Log {
         self.note_happened(alloc, moment, master.happened(), book)
     }
 
-    // Notes what happened beside the switch.
+    // Notes what happened beside the switch. What came into hand is noted before a frame.
     fn note_events(
         &mut self,
         alloc: Global,
@@ -214,6 +218,7 @@ impl Log {
         ensures slaves { SameSlaves self.old self.new }
         ensures gave { OnOk result (gaves_noted self.new.notes ≡ gaves_noted self.old.notes) }
         ensures heard { OnOk result (emergencies_noted self.new.notes ≡ emergencies_noted self.old.notes) }
+        ensures rows { OnOk result (begun_noted self.new.notes ≡ begun_noted self.old.notes) }
         ensures told { OnOk result (KeepsReports self.old.notes self.new.notes) }
     {
         for event in master.events() {
@@ -232,16 +237,17 @@ impl Log {
         ensures slaves { SameSlaves self.old self.new }
         ensures gave { OnOk result (gaves_noted self.new.notes ≡ gaves_noted self.old.notes) }
         ensures heard { OnOk result (emergencies_noted self.new.notes ≡ emergencies_noted self.old.notes) }
+        ensures rows { OnOk result (begun_noted self.new.notes ≡ begun_noted self.old.notes) }
         ensures told { OnOk result (KeepsReports self.old.notes self.new.notes) }
     {
         match event {
-            Event::Began { slave, .. }
-            | Event::Answered { slave, .. }
+            Event::Answered { slave, .. }
             | Event::Cleared { slave, .. }
             | Event::Opened { slave } => {
                 self.note_slave(alloc, master, moment, event, *slave as usize)
             }
-            Event::Emergency { .. }
+            Event::Began { .. }
+            | Event::Emergency { .. }
             | Event::GivenUp { .. }
             | Event::GatewayReply { .. }
             | Event::GatewayDone { .. } => Ok(()),
@@ -259,6 +265,7 @@ impl Log {
         ensures slaves { SameSlaves self.old self.new }
         ensures gave { OnOk result (gaves_noted self.new.notes ≡ gaves_noted self.old.notes) }
         ensures heard { OnOk result (emergencies_noted self.new.notes ≡ emergencies_noted self.old.notes) }
+        ensures rows { OnOk result (begun_noted self.new.notes ≡ begun_noted self.old.notes) }
         ensures told { OnOk result (KeepsReports self.old.notes self.new.notes) }
     {
         let Some(&home) = self.homes.get(at) else {

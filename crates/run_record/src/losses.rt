@@ -5,6 +5,7 @@ ghost use Rattle.master_node.specs.Shows.{MasterShows};
 ghost use Rattle.master_node.specs.Wants.{gave_of, AllCounted};
 ghost use Rattle.run_record.specs.Heard.{emergencies_noted, HeardBy};
 ghost use Rattle.run_record.specs.Led.{gaves_noted};
+ghost use Rattle.run_record.specs.Packets.{begun_noted};
 ghost use Rattle.run_record.specs.Reports.{ReportsTo, ReportsOn, ReportsBy, LosesAll};
 ghost use Rattle.run_record.specs.Session.{SameFrames, SameSlaves, gave_at, gaves_behind, GaveBy};
 ghost use Rattle.run_record.specs.Switched.{NotesSwitch};
@@ -35,6 +36,7 @@ impl Log {
         ensures gave { OnOk result ((lens : ℕ → Lens) (retry missed : ℕ) (leads : List Leads) → MasterShows lens self.old.recover retry master.now missed leads → AllCounted self.old.recover leads →
             gaves_noted self.new.notes ≡ gave_at at frame (map gave_of leads) (gaves_noted self.old.notes)) }
         ensures heard { OnOk result (emergencies_noted self.new.notes ≡ emergencies_noted self.old.notes) }
+        ensures rows { OnOk result (begun_noted self.new.notes ≡ begun_noted self.old.notes) }
         ensures told { OnOk result (LosesAll frame self.old.recover master.now (λ as' bs. ReportsTo at as' bs self.old.notes → ReportsTo (suc at) as' bs self.new.notes)) }
     {
         let place = at as usize;
@@ -60,6 +62,7 @@ impl Log {
         ensures gave { OnOk result ((lens : ℕ → Lens) (retry missed : ℕ) (leads : List Leads) → MasterShows lens self.old.recover retry master.now missed leads → AllCounted self.old.recover leads →
             gaves_noted self.new.notes ≡ gaves_behind frame (map gave_of leads) (gaves_noted self.old.notes)) }
         ensures heard { OnOk result (emergencies_noted self.new.notes ≡ emergencies_noted self.old.notes) }
+        ensures rows { OnOk result (begun_noted self.new.notes ≡ begun_noted self.old.notes) }
         ensures told { OnOk result (LosesAll frame self.old.recover master.now (ReportsOn self.old.notes self.new.notes)) }
     {
         for place in 0..self.notes.len() {
@@ -82,6 +85,7 @@ impl Log {
         ensures slaves { SameSlaves self.old self.new }
         ensures gave { OnOk result (GaveBy fate frame master.now self.old self.new) }
         ensures heard { OnOk result (HeardBy fate frame master.now self.old self.new) }
+        ensures rows { OnOk result (begun_noted self.new.notes ≡ begun_noted self.old.notes) }
         ensures told { OnOk result (ReportsBy fate frame master.now self.old self.new) }
     {
         match fate {
@@ -106,6 +110,7 @@ impl Log {
         ensures frames { SameFrames (1 + length self.old.ports) book.old book.new }
         ensures gave { OnOk result (GaveBy fate moment.frame master.now self.old self.new) }
         ensures heard { OnOk result (HeardBy fate moment.frame master.now self.old self.new) }
+        ensures rows { OnOk result (begun_noted self.new.notes ≡ begun_noted self.old.notes) }
         ensures told { OnOk result (ReportsBy fate moment.frame master.now self.old self.new) }
         ensures switch { OnOk result (NotesSwitch (1 + length self.old.ports) moment.sent master.now.lan.happened book.old book.new) }
     {

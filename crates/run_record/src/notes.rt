@@ -154,6 +154,7 @@ impl Notes {
         ensures is { OnOk result (self.new ≡ the.answered self.old reply frame) }
         ensures gave { self.new.gave ≡ self.old.gave }
         ensures heard { self.new.emergencies ≡ self.old.emergencies }
+        ensures rows { self.new.begun ≡ self.old.begun }
     {
         self.in_hand = false;
         self.awaited = Awaited::Nothing;
@@ -165,6 +166,7 @@ impl Notes {
         ensures is { OnOk result (self.new ≡ the.answered_where self.old reply frame) }
         ensures gave { self.new.gave ≡ self.old.gave }
         ensures heard { self.new.emergencies ≡ self.old.emergencies }
+        ensures rows { self.new.begun ≡ self.old.begun }
     {
         if !self.in_hand {
             return Ok(());
@@ -180,6 +182,7 @@ impl Notes {
         ensures is { OnOk result (self.new ≡ the.doubted self.old) }
         ensures gave { self.new.gave ≡ self.old.gave }
         ensures heard { self.new.emergencies ≡ self.old.emergencies }
+        ensures rows { self.new.begun ≡ self.old.begun }
     {
         self.awaited = Awaited::Nothing;
         if !self.in_hand {
@@ -193,6 +196,7 @@ impl Notes {
     pub fn given_up(&mut self, leaves: bool, frame: u32) -> Result<(), NoMemory>
         ensures is { OnOk result (self.new ≡ the.given_up self.old leaves frame) }
         ensures heard { self.new.emergencies ≡ self.old.emergencies }
+        ensures rows { self.new.begun ≡ self.old.begun }
     {
         self.doubt()?;
         self.leaving = leaves;
@@ -205,6 +209,7 @@ impl Notes {
         ensures is { OnOk result (self.new ≡ record self.old { epochs = the.epochs_cleared self.old frame }) }
         ensures gave { self.new.gave ≡ self.old.gave }
         ensures heard { self.new.emergencies ≡ self.old.emergencies }
+        ensures rows { self.new.begun ≡ self.old.begun }
     {
         let row = count(first_row(self.own, self.begun.len()));
         let emergencies = count(self.emergencies.len());
@@ -232,6 +237,7 @@ impl Notes {
         ensures is { OnOk result (self.new ≡ record self.old { epochs = the.epochs_stood self.old leaves opens frame }) }
         ensures gave { self.new.gave ≡ self.old.gave }
         ensures heard { self.new.emergencies ≡ self.old.emergencies }
+        ensures rows { self.new.begun ≡ self.old.begun }
     {
         if self.leaving && !leaves {
             return self.cleared(frame);
@@ -247,6 +253,7 @@ impl Notes {
         ensures is { OnOk result (self.new ≡ the.stood self.old leaves opens frame) }
         ensures gave { self.new.gave ≡ self.old.gave }
         ensures heard { self.new.emergencies ≡ self.old.emergencies }
+        ensures rows { self.new.begun ≡ self.old.begun }
     {
         self.turned(leaves, opens, frame)?;
         self.leaving = leaves;
@@ -258,6 +265,7 @@ impl Notes {
     pub fn alarmed(&mut self, octets: Octets, frame: u32) -> Result<(), NoMemory>
         ensures is { OnOk result (self.new ≡ the.alarmed self.old octets frame) }
         ensures gave { self.new.gave ≡ self.old.gave }
+        ensures rows { self.new.begun ≡ self.old.begun }
     {
         self.emergencies.add(Emergency { octets, frame })
     }

@@ -3,6 +3,7 @@
 ghost use Rattle.std.specs.Prelude.{◌≡◌, ◌<◌, ◌≤◌, suc, [], length, vec_len, OnOk, IfSome, slice_get};
 ghost use Rattle.run_record.specs.Heard.{emergencies_noted};
 ghost use Rattle.run_record.specs.Led.{gaves_noted};
+ghost use Rattle.run_record.specs.Packets.{begun_noted};
 ghost use Rattle.run_record.specs.Notes.{answered, told_noted, changed_noted, change_noted, stood};
 ghost use Rattle.run_record.specs.Reports.{ReportsTo, ReportsOn, PassesAll};
 ghost use Rattle.run_record.specs.Session.{SameSlaves};
@@ -21,6 +22,7 @@ fn note_told(notes: &mut Notes, told: Told, value: Octets, frame: u32) -> Result
     ensures is { OnOk result (notes.new ≡ told_noted told value frame notes.old) }
     ensures gave { notes.new.gave ≡ notes.old.gave }
     ensures heard { notes.new.emergencies ≡ notes.old.emergencies }
+    ensures rows { notes.new.begun ≡ notes.old.begun }
 {
     match told {
         Told::Waits | Told::Unknown => Ok(()),
@@ -40,6 +42,7 @@ fn note_back(
     ensures is { OnOk result (notes.new ≡ stood (told_noted told value frame notes.old) leaves opens frame) }
     ensures gave { notes.new.gave ≡ notes.old.gave }
     ensures heard { notes.new.emergencies ≡ notes.old.emergencies }
+    ensures rows { notes.new.begun ≡ notes.old.begun }
 {
     note_told(notes, told, value, frame)?;
     notes.stands(leaves, opens, frame)
@@ -50,6 +53,7 @@ fn note_kind(alloc: Global, notes: &mut Notes, kind: ReplyKind, frame: u32) -> R
     ensures is { OnOk result (notes.new ≡ answered notes.old (record { kind = kind; value = [] }) frame) }
     ensures gave { notes.new.gave ≡ notes.old.gave }
     ensures heard { notes.new.emergencies ≡ notes.old.emergencies }
+    ensures rows { notes.new.begun ≡ notes.old.begun }
 {
     let value = Octets::new(alloc);
     notes.replied(Reply { kind, value }, frame)
@@ -65,6 +69,7 @@ fn note_changed(
     ensures is { OnOk result (notes.new ≡ changed_noted changed frame notes.old) }
     ensures gave { notes.new.gave ≡ notes.old.gave }
     ensures heard { notes.new.emergencies ≡ notes.old.emergencies }
+    ensures rows { notes.new.begun ≡ notes.old.begun }
 {
     match changed {
         Changed::Nothing | Changed::Going => Ok(()),
@@ -84,6 +89,7 @@ fn note_change(
     ensures is { OnOk result (notes.new ≡ change_noted opens changed frame notes.old) }
     ensures gave { notes.new.gave ≡ notes.old.gave }
     ensures heard { notes.new.emergencies ≡ notes.old.emergencies }
+    ensures rows { notes.new.begun ≡ notes.old.begun }
 {
     if !opens {
         return Ok(());
@@ -107,6 +113,7 @@ fn note_turned(
     ensures is { OnOk result (notes.new ≡ stood (change_noted opens changed frame notes.old) leaves opens frame) }
     ensures gave { notes.new.gave ≡ notes.old.gave }
     ensures heard { notes.new.emergencies ≡ notes.old.emergencies }
+    ensures rows { notes.new.begun ≡ notes.old.begun }
 {
     note_change(alloc, notes, changed, opens, frame)?;
     notes.stands(leaves, opens, frame)
@@ -121,6 +128,7 @@ impl Log {
         ensures slaves { SameSlaves self.old self.new }
         ensures gave { OnOk result (gaves_noted self.new.notes ≡ gaves_noted self.old.notes) }
         ensures heard { OnOk result (emergencies_noted self.new.notes ≡ emergencies_noted self.old.notes) }
+        ensures rows { OnOk result (begun_noted self.new.notes ≡ begun_noted self.old.notes) }
         ensures told { OnOk result (PassesAll frame master.now (λ as' bs. ReportsTo at as' bs self.old.notes → ReportsTo (suc at) as' bs self.new.notes)) }
     {
         let leaves = master.is_leaving(at);
@@ -143,6 +151,7 @@ impl Log {
         ensures slaves { SameSlaves self.old self.new }
         ensures gave { OnOk result (gaves_noted self.new.notes ≡ gaves_noted self.old.notes) }
         ensures heard { OnOk result (emergencies_noted self.new.notes ≡ emergencies_noted self.old.notes) }
+        ensures rows { OnOk result (begun_noted self.new.notes ≡ begun_noted self.old.notes) }
         ensures told { OnOk result (PassesAll frame master.now (λ as' bs. ReportsTo at as' bs self.old.notes → ReportsTo (suc at) as' bs self.new.notes)) }
     {
         let leaves = master.is_leaving(at);
@@ -166,6 +175,7 @@ impl Log {
         ensures slaves { SameSlaves self.old self.new }
         ensures gave { OnOk result (gaves_noted self.new.notes ≡ gaves_noted self.old.notes) }
         ensures heard { OnOk result (emergencies_noted self.new.notes ≡ emergencies_noted self.old.notes) }
+        ensures rows { OnOk result (begun_noted self.new.notes ≡ begun_noted self.old.notes) }
         ensures told { OnOk result (PassesAll frame master.now (λ as' bs. ReportsTo at as' bs self.old.notes → ReportsTo (suc at) as' bs self.new.notes)) }
     {
         let leaves = master.is_leaving(at);
@@ -189,6 +199,7 @@ impl Log {
         ensures slaves { SameSlaves self.old self.new }
         ensures gave { OnOk result (gaves_noted self.new.notes ≡ gaves_noted self.old.notes) }
         ensures heard { OnOk result (emergencies_noted self.new.notes ≡ emergencies_noted self.old.notes) }
+        ensures rows { OnOk result (begun_noted self.new.notes ≡ begun_noted self.old.notes) }
         ensures told { OnOk result (PassesAll frame master.now (λ as' bs. ReportsTo at as' bs self.old.notes → ReportsTo (suc at) as' bs self.new.notes)) }
     {
         let rows = self.notes.as_slice();
@@ -212,6 +223,7 @@ impl Log {
         ensures slaves { SameSlaves self.old self.new }
         ensures gave { OnOk result (gaves_noted self.new.notes ≡ gaves_noted self.old.notes) }
         ensures heard { OnOk result (emergencies_noted self.new.notes ≡ emergencies_noted self.old.notes) }
+        ensures rows { OnOk result (begun_noted self.new.notes ≡ begun_noted self.old.notes) }
         ensures told { OnOk result (PassesAll frame master.now (ReportsOn self.old.notes self.new.notes)) }
     {
         for place in 0..self.notes.len() {

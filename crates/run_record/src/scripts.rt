@@ -3,6 +3,7 @@
 ghost use Rattle.std.specs.Prelude.{◌≡◌, ◌<◌, ◌≤◌, ◌+◌, suc, length, vec_len, OnOk};
 ghost use Rattle.run_record.specs.Heard.{emergencies_noted};
 ghost use Rattle.run_record.specs.Led.{gaves_noted};
+ghost use Rattle.run_record.specs.Packets.{BeginsOn, SamePackets};
 ghost use Rattle.run_record.specs.Reports.{ReportsTo, ReportsOn, TurnsAll};
 ghost use Rattle.run_record.specs.Session.{SameFrames, SameSlaves};
 ghost use Rattle.run_record.specs.Switched.{NotesSwitch};
@@ -23,6 +24,7 @@ impl Log {
         ensures gave { OnOk result (gaves_noted self.new.notes ≡ gaves_noted self.old.notes) }
         ensures heard { OnOk result (emergencies_noted self.new.notes ≡ emergencies_noted self.old.notes) }
         ensures told { OnOk result (TurnsAll frame master.now (λ as' bs. ReportsTo at as' bs self.old.notes → ReportsTo (suc at) as' bs self.new.notes)) }
+        ensures packets { OnOk result (SamePackets self.old.notes self.new.notes) }
     {
         let place = at as usize;
         let number = master.scripted(at);
@@ -42,6 +44,7 @@ impl Log {
         ensures gave { OnOk result (gaves_noted self.new.notes ≡ gaves_noted self.old.notes) }
         ensures heard { OnOk result (emergencies_noted self.new.notes ≡ emergencies_noted self.old.notes) }
         ensures told { OnOk result (TurnsAll frame master.now (ReportsOn self.old.notes self.new.notes)) }
+        ensures packets { OnOk result (SamePackets self.old.notes self.new.notes) }
     {
         for place in 0..self.notes.len() {
             self.note_script(master, frame, place as u32)?;
@@ -64,9 +67,11 @@ impl Log {
         ensures heard { OnOk result (emergencies_noted self.new.notes ≡ emergencies_noted self.old.notes) }
         ensures frames { SameFrames (1 + length self.old.ports) book.old book.new }
         ensures told { OnOk result (TurnsAll moment.frame master.now (ReportsOn self.old.notes self.new.notes)) }
+        ensures begun { OnOk result (TurnsAll moment.frame master.now (BeginsOn moment.frame master.now self.old.notes self.new.notes)) }
         ensures switch { OnOk result (NotesSwitch (1 + length self.old.ports) moment.sent master.now.lan.happened book.old book.new) }
     {
         self.note_scripts(master, moment.frame)?;
-        self.note(alloc, master, moment, book)
+        self.note_begun(master.events(), moment.frame)?;
+        self.note_happened(alloc, moment, master.happened(), book)
     }
 }

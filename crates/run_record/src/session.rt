@@ -17,6 +17,7 @@ ghost use Rattle.master_node.specs.Joined.{HasUnfinished, stand_before, stand_un
 ghost use Rattle.port_events.specs.Listed.{unfinished_of};
 ghost use Rattle.port_events.specs.of_packets_heard.Heard.{Joined, mails_by};
 ghost use Rattle.master_node.specs.Listed.{listed};
+ghost use Rattle.master_node.specs.Origins.{forwards_at};
 ghost use Rattle.master_node.specs.Shows.{MasterShows, MasterUnder};
 ghost use Rattle.master_node.specs.Toured.{tour_of};
 ghost use Rattle.master_node.specs.of_segment_model.Returned.{Returns};
@@ -223,6 +224,7 @@ fn tell(master: &mut MasterNode, fate: Fate, back: &FrameBuf)
     ensures arrivals { fate ≡ Fates.Pass → (lens : ℕ → Lens) (recover retry missed : ℕ) (octets : List ℕ) (us : List Turn) (js : List Joined) → MasterUnder lens recover retry master.old octets missed us → Returns (seen lens octets) (seen lens back.now.items) →
         HasUnfinished master.old (map stand_under us) (unfinished_of js) → ComeIn master.old (λ k. completed_at (seen lens back.now.items) us (unfinished_of js) k) master.new }
     ensures downs { (after : ℕ) → fate ≡ Fates.Lost after → (lens : ℕ → Lens) (recover retry missed number : ℕ) (us : List Turn) (f : Exchanged) → f.fate ≡ fate → MasterUnder lens recover retry master.old f.sent missed us → GoDown master.old us (lives_behind lens recover retry missed number f us) master.new }
+    ensures counts { (k : ℕ) → forwards_at master.new.posts.items k ≡ forwards_at master.old.posts.items k }
 {
     match fate {
         Fate::Pass => master.returned(back),

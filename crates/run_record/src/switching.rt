@@ -6,6 +6,7 @@ ghost use Rattle.master_node.specs.Happened.{handed_by};
 ghost use Rattle.run_book.specs.Ports.{IsAtPort};
 ghost use Rattle.run_record.specs.Heard.{emergencies_noted};
 ghost use Rattle.run_record.specs.Led.{gaves_noted};
+ghost use Rattle.run_record.specs.Packets.{begun_noted};
 ghost use Rattle.run_record.specs.Reports.{KeepsReports};
 ghost use Rattle.run_record.specs.Session.{SameFrames, SameSlaves};
 ghost use Rattle.run_record.specs.Switched.{octets_of, NotesSwitch};
@@ -59,6 +60,7 @@ impl Log {
         ensures slaves { SameSlaves self.old self.new }
         ensures gave { gaves_noted self.new.notes ≡ gaves_noted self.old.notes }
         ensures heard { emergencies_noted self.new.notes ≡ emergencies_noted self.old.notes }
+        ensures rows { begun_noted self.new.notes ≡ begun_noted self.old.notes }
         ensures told { KeepsReports self.old.notes self.new.notes }
         ensures frames { SameFrames (1 + length self.old.ports) book.old book.new }
         ensures switch { OnOk result (NotesSwitch (1 + length self.old.ports) moment.sent rows.now book.old book.new) }
@@ -79,6 +81,7 @@ impl Log {
         ensures slaves { SameSlaves self.old self.new }
         ensures gave { gaves_noted self.new.notes ≡ gaves_noted self.old.notes }
         ensures heard { emergencies_noted self.new.notes ≡ emergencies_noted self.old.notes }
+        ensures rows { begun_noted self.new.notes ≡ begun_noted self.old.notes }
         ensures told { KeepsReports self.old.notes self.new.notes }
         ensures frames { SameFrames (1 + length self.old.ports) book.old book.new }
         ensures switch { OnOk result (NotesSwitch (1 + length self.old.ports) moment.sent (row.now ∷ []) book.old book.new) }
@@ -114,6 +117,7 @@ impl Log {
         ensures slaves { SameSlaves self.old self.new }
         ensures gave { gaves_noted self.new.notes ≡ gaves_noted self.old.notes }
         ensures heard { emergencies_noted self.new.notes ≡ emergencies_noted self.old.notes }
+        ensures rows { begun_noted self.new.notes ≡ begun_noted self.old.notes }
         ensures told { KeepsReports self.old.notes self.new.notes }
     {
         if port == 0 {

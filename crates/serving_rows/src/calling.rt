@@ -34,12 +34,7 @@ fn words_of(alloc: Global, form: &str, scenario: &str) -> Result<Vec<String>> {
 }
 
 // Makes the call over a link.
-fn call<F: Files>(
-    alloc: Global,
-    words: &[String],
-    link: MemLink,
-    files: &mut F,
-) -> Result<Called> {
+fn call<F: Files>(alloc: Global, words: &[String], link: MemLink, files: &mut F) -> Result<Called> {
     let mut out = MemSink::new(alloc, Rows::new(alloc));
     let mut port = MemPort::new(alloc, Rows::new(alloc), Rows::new(alloc));
     let mut book = Book::new(alloc);

@@ -82,9 +82,9 @@ module _ (plan : Scenario) (fs : List Exchanged) (place : ℕ) (s : SlaveSpec) (
         let era = o.lives.lives.epoch in
         era_comes ex w.states w.processor (table_of w) (spot_of place s) l.era era.opened (length (all_seen lens fs)) (all_seen lens fs) era.server era.registers slave era.is duty phase hand stage
 
-  module _ (opens : a.lived.life.stand ≡ Stand.Open → IsOpenAt plan fs place s a n) (x : Speech Body Asked Reply) (m : Remembered) (next : Option Plan.Service) (way : way_of 1 1 a.lived.life ≡ None) (hand : HandAt a.lived.life a.lived.life.stand) where
+  module _ (opens : a.lived.life.stand ≡ Stand.Open → IsOpenAt plan fs place s a n) (x : Speech Body Asked Reply) (g : Asked → Bool) (m : Remembered) (next : Option Plan.Service) (way : way_of 1 1 a.lived.life ≡ None) (hand : HandAt a.lived.life a.lived.life.stand) where
     abbrev Stands : Type 0
-    Stands = Standing (serving ex) table x l slave m next new_waits
+    Stands = Standing (serving ex) table x g l slave m next new_waits
 
     -- its link waits
     fresh : a.lived.life.stand ≡ Stand.Open → a.lived.life.era.side.halves.inn.state ≡ InState.Clear → (q : Wanted) → IsFor q a.lived.life.era.account.hand → Stands
@@ -129,5 +129,5 @@ module _ (plan : Scenario) (fs : List Exchanged) (place : ℕ) (s : SlaveSpec) (
     by_stand Stand.Open e none k = by_hand e (clear_way l.era.side.halves.inn.state none) l.era.account.hand refl k
     by_stand Stand.Gone e none k = Standing.gone e
 
-    pub begins : Standing (serving (asked (profile_of s) s.boot (lens_of plan.slaves)).exchange) (table_of (asked (profile_of s) s.boot (lens_of plan.slaves)) s.station) x a.lived.life (slave_at (lens_of plan.slaves) s n) m next new_waits
+    pub begins : Standing (serving (asked (profile_of s) s.boot (lens_of plan.slaves)).exchange) (table_of (asked (profile_of s) s.boot (lens_of plan.slaves)) s.station) x g a.lived.life (slave_at (lens_of plan.slaves) s n) m next new_waits
     begins = by_stand l.stand refl way hand

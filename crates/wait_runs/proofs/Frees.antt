@@ -49,7 +49,7 @@ module _ {M Q R : Type 0} (is : Q → Bool) (y z : Speech M Q R) (same : Alike i
 row_is : {M Q R : Type 0} (is : Q → Bool) (now : Option (Row M Q R)) (r : Row M Q R) → RowIs is now → now ≡ Some r → is r.service ≡ true
 row_is is now r k e = subst (λ z. RowIs is z) e k
 
-answered_is : {M Q R : Type 0} (x : Speech M Q R) (now : Option (Row M Q R)) (r : Row M Q R) → IsAnswered x now → now ≡ Some r → (frame : ℕ) → answer_after frame r.answer (x.ends r.service (plain x.emission r.heard)) ≡ r.answer
+pub answered_is : {M Q R : Type 0} (x : Speech M Q R) (now : Option (Row M Q R)) (r : Row M Q R) → IsAnswered x now → now ≡ Some r → (frame : ℕ) → answer_after frame r.answer (x.ends r.service (plain x.emission r.heard)) ≡ r.answer
 answered_is x now r k e = subst (λ z. IsAnswered x z) e k
 
 module _ (plan : Scenario) (fs : List Exchanged) (place : ℕ) (s : SlaveSpec) (a : Leads) (n : Node Serving) (o : IsOpenAt plan fs place s a n) (never : NeverWaits (asked (profile_of s) s.boot (lens_of plan.slaves)).exchange) where
@@ -100,5 +100,6 @@ module _ (plan : Scenario) (fs : List Exchanged) (place : ℕ) (s : SlaveSpec) (
         free = frees d.spent d.left;
         end = d.end;
         settled = k.settled;
+        offered = ap (λ z. z.inn.offered) (sym d.spent.shows.node) ∙ d.spent.spent.offered;
         control = d.control;
       }

@@ -4,3 +4,4 @@ mod Took
 mod One
 pub mod Lists
 mod Walk
+mod Held

@@ -4,7 +4,7 @@ use Rattle.std.specs.Prelude.{slice_get, All, ⊤, nat_lt}
 use Rattle.std.proofs.lemmas.Bool.{ltb-false}
 use Rattle.std.proofs.lemmas.List.Elements.{All-head, All-tail}
 use Rattle.datagrams.specs.Datagram as Raw
-use Rattle.eager_slaves.specs.Eager.{Remembered, AllEager, AllRemember, AllUnpaused, AllGetNone}
+use Rattle.eager_slaves.specs.Eager.{Remembered, AllEager, AllRemember, AllGetNone}
 use Rattle.eager_slaves.specs.Standing.{Standing}
 use Rattle.exchange_model.specs.Exchange.{Speech}
 use Rattle.frame_view.specs.Seen.{seen, datagrams_seen}
@@ -39,9 +39,9 @@ use Rattle.slave_parts.specs.of_slave_model.Profile.{Profile, IsProfile}
 use Rattle.slave_server.specs.Serving.{Serving}
 use Rattle.slave_server.specs.Spec.{profile_of}
 use Rattle.slave_steps.specs.Node.{Node}
-use Rattle.wait_runs.specs.Eager.{AllRest, AllUnpassed}
+use Rattle.wait_runs.specs.Eager.{AllRest, AllSilent, AllUnpassed}
 use Rattle.wait_runs.proofs.Begins.{begins}
-use Rattle.wait_runs.proofs.One.{stands_on}
+use Rattle.wait_runs.proofs.One.{stands_on, quiet_at}
 
 abbrev pub Slave : Type 0
 Slave = Clocked Body Asked Reply
@@ -99,7 +99,7 @@ module _ (plan : Scenario) where
   -- each slave stands
   abbrev pub IsStanding : SlaveSpec → Leads → Slave → Node Serving → Remembered → Waits → Type 0
   IsStanding s a c n m t =
-      Standing (serving (asked (profile_of s) s.boot (lens_of plan.slaves)).exchange) (table_of (asked (profile_of s) s.boot (lens_of plan.slaves)) s.station) (speech_at (lens_of plan.slaves) c.spot) c.life (slave_at (lens_of plan.slaves) s n) m (slice_get a.script a.number) t
+      Standing (serving (asked (profile_of s) s.boot (lens_of plan.slaves)).exchange) (table_of (asked (profile_of s) s.boot (lens_of plan.slaves)) s.station) (speech_at (lens_of plan.slaves) c.spot) acknowledged c.life (slave_at (lens_of plan.slaves) s n) m (slice_get a.script a.number) t
 
   abbrev pub AllStanding : List SlaveSpec → List Leads → List Slave → List (Node Serving) → List Remembered → List Waits → Type 0
   AllStanding [] [] [] [] [] [] = ⊤
@@ -136,8 +136,8 @@ module _ (plan : Scenario) where
   all_begin fs place sent (s ∷ ss) (a ∷ as') (c ∷ cs) [] (n ∷ ns) (m ∷ ms) o l e r h = absurd e
   all_begin fs place sent (s ∷ ss) (a ∷ as') (c ∷ cs) (u ∷ us) (n ∷ ns) [] o l e r h = absurd e
   all_begin fs place sent (s ∷ ss) (a ∷ as') (c ∷ cs) (u ∷ us) (n ∷ ns) (m ∷ ms) o l e r h = (
-    subst (λ (y : Life Body Asked Reply). Standing (serving (asked (profile_of s) s.boot lens).exchange) (table_of (asked (profile_of s) s.boot lens) s.station) (speech_at lens c.spot) y (slave_at lens s n) m (slice_get a.script a.number) new_waits) (sym l.1)
-        (begins plan fs place s a n o.0.stands (speech_at lens c.spot) m (slice_get a.script a.number)
+    subst (λ (y : Life Body Asked Reply). Standing (serving (asked (profile_of s) s.boot lens).exchange) (table_of (asked (profile_of s) s.boot lens) s.station) (speech_at lens c.spot) acknowledged y (slave_at lens s n) m (slice_get a.script a.number) new_waits) (sym l.1)
+        (begins plan fs place s a n o.0.stands (speech_at lens c.spot) acknowledged m (slice_get a.script a.number)
         (subst (λ (y : Life Body Asked Reply). way_of 1 1 y ≡ None) l.1 r.0) (subst (λ (y : Life Body Asked Reply). HandAt y y.stand) l.1 h.0)),
     all_begin fs (suc place) sent ss as' cs us ns ms o.1 l.2 e.1 r.1 h.1,
   )
@@ -149,7 +149,7 @@ module _ (plan : Scenario) where
   one_repaired : (s : SlaveSpec) (a : Leads) (c : Slave) (n : Node Serving) (m : Remembered) (t : Waits) → IsStanding s a c n m t → way_of 1 1 c.life ≡ None
   one_repaired s a c n m t (Standing.gone e) = ap (stand_way 1 1 c.life.era.side.halves.inn.state) e
   one_repaired s a c n m t (Standing.fresh k control) = clear_none c k.shows.stands (ap (λ (h : Halves Body). h.inn.state) (sym k.shows.halves) ∙ k.clear)
-  one_repaired s a c n m t (Standing.waits k control end) =
+  one_repaired s a c n m t (Standing.waits k control end held) =
       clear_none c k.waits.shows.stands (ap (λ (h : Halves Body). h.inn.state) (sym k.waits.shows.halves) ∙ (holds (serving (asked (profile_of s) s.boot lens).exchange) k.waits.link k.waits.wanted m.memory t k.waits.waits).clear)
   one_repaired s a c n m t (Standing.goes g clear) = clear_none c g.stands clear
 
@@ -184,34 +184,64 @@ module _ (plan : Scenario) where
     abbrev pub Then : List Slave → List Turn → List Waits → List Waits
     Then cs us ts = all_on number cs (unders (seen (lens_of plan.slaves) f.back) us) ts
 
+    pub all_silent : (place : ℕ) (ss : List SlaveSpec) (as' : List Leads) (cs : List Slave) (us : List Turn) (paces : List ℕ) (ns ks : List (Node Serving)) (ms ms' : List Remembered) (ts : List Waits) → AllOpenAt plan fs place ss as' ns → AreLed as' cs → AllTurn (lens_of plan.slaves) number ds as' us →
+        AllMet (lens_of plan.slaves) (seen (lens_of plan.slaves) f.sent) (seen (lens_of plan.slaves) f.back) number ss as' paces ns ks → map (λ (c : Slave). c.pace) cs ≡ paces → NeverAll ss → AllEager (lens_of plan.slaves) (seen (lens_of plan.slaves) f.sent) ms as' us →
+        AllRemember (seen (lens_of plan.slaves) f.back) ms ms' as' us → AllUnpassed as' → SameAll (speech_at (lens_of plan.slaves)) number (seen (lens_of plan.slaves) f.sent) (seen (lens_of plan.slaves) f.back) cs (unders (seen (lens_of plan.slaves) f.back) us) → AllStanding ss as' cs ns ms ts →
+        AllSilent (seen (lens_of plan.slaves) f.back) us
+    all_silent place [] [] [] [] [] [] [] [] [] [] o l t met p never e r b s k = tt
+    all_silent place [] (a ∷ as') cs us ps ns ks ms ms' ts o l t met p never e r b s k = absurd o
+    all_silent place [] [] (c ∷ cs) us ps ns ks ms ms' ts o l t met p never e r b s k = absurd l
+    all_silent place [] [] [] (u ∷ us) ps ns ks ms ms' ts o l t met p never e r b s k = absurd t
+    all_silent place [] [] [] [] (h ∷ ps) ns ks ms ms' ts o l t met p never e r b s k = absurd met
+    all_silent place [] [] [] [] [] (n ∷ ns) ks ms ms' ts o l t met p never e r b s k = absurd o
+    all_silent place [] [] [] [] [] [] (n ∷ ks) ms ms' ts o l t met p never e r b s k = absurd met
+    all_silent place [] [] [] [] [] [] [] (m ∷ ms) ms' ts o l t met p never e r b s k = absurd e
+    all_silent place [] [] [] [] [] [] [] [] (m ∷ ms') ts o l t met p never e r b s k = absurd r
+    all_silent place [] [] [] [] [] [] [] [] [] (w ∷ ts) o l t met p never e r b s k = absurd k
+    all_silent place (s ∷ ss) [] cs us ps ns ks ms ms' ts o l t met p never e r b same k = absurd o
+    all_silent place (s ∷ ss) (a ∷ as') [] us ps ns ks ms ms' ts o l t met p never e r b same k = absurd l
+    all_silent place (s ∷ ss) (a ∷ as') (c ∷ cs) [] ps ns ks ms ms' ts o l t met p never e r b same k = absurd t
+    all_silent place (s ∷ ss) (a ∷ as') (c ∷ cs) (u ∷ us) [] ns ks ms ms' ts o l t met p never e r b same k = absurd met
+    all_silent place (s ∷ ss) (a ∷ as') (c ∷ cs) (u ∷ us) (h ∷ ps) [] ks ms ms' ts o l t met p never e r b same k = absurd o
+    all_silent place (s ∷ ss) (a ∷ as') (c ∷ cs) (u ∷ us) (h ∷ ps) (n ∷ ns) [] ms ms' ts o l t met p never e r b same k = absurd met
+    all_silent place (s ∷ ss) (a ∷ as') (c ∷ cs) (u ∷ us) (h ∷ ps) (n ∷ ns) (n' ∷ ks) [] ms' ts o l t met p never e r b same k = absurd e
+    all_silent place (s ∷ ss) (a ∷ as') (c ∷ cs) (u ∷ us) (h ∷ ps) (n ∷ ns) (n' ∷ ks) (m ∷ ms) [] ts o l t met p never e r b same k = absurd r
+    all_silent place (s ∷ ss) (a ∷ as') (c ∷ cs) (u ∷ us) (h ∷ ps) (n ∷ ns) (n' ∷ ks) (m ∷ ms) (m' ∷ ms') [] o l t met p never e r b same k = absurd k
+    all_silent place (s ∷ ss) (a ∷ as') (c ∷ cs) (u ∷ us) (h ∷ ps) (n ∷ ns) (n' ∷ ks) (m ∷ ms) (m' ∷ ms') (w ∷ ts) o l t met p never e r b same k =
+        let pace : c.pace ≡ h = (let both : c.pace ∷ map (λ (z : Slave). z.pace) cs ≡ h ∷ ps = p in cc) in
+        let paces : map (λ (z : Slave). z.pace) cs ≡ ps = (let both : c.pace ∷ map (λ (z : Slave). z.pace) cs ≡ h ∷ ps = p in cc) in (
+          quiet_at plan fs place number sent back ds view s a c u n n' m m' w l.0 l.1 t.0 o.0 (λ e. subst (λ z. IsMet lens sent back number z s n n') (sym pace) (met.0 e)) never.0 e.0 r.0 b.0 same.0 k.0,
+          all_silent (suc place) ss as' cs us ps ns ks ms ms' ts o.1 l.2 t.1 met.1 paces never.1 e.1 r.1 b.1 same.1 k.1,
+        )
+
     pub all_stand : (place : ℕ) (ss : List SlaveSpec) (as' : List Leads) (cs : List Slave) (us : List Turn) (paces : List ℕ) (ns ks : List (Node Serving)) (ms ms' : List Remembered) (ts : List Waits) → AllOpenAt plan fs place ss as' ns → AreLed as' cs → AllTurn (lens_of plan.slaves) number ds as' us →
-        AllMet (lens_of plan.slaves) (seen (lens_of plan.slaves) f.sent) (seen (lens_of plan.slaves) f.back) number ss as' paces ns ks → map (λ (c : Slave). c.pace) cs ≡ paces → NeverAll ss → AllEager (lens_of plan.slaves) (seen (lens_of plan.slaves) f.sent) ms as' us → AllUnpaused ms us →
+        AllMet (lens_of plan.slaves) (seen (lens_of plan.slaves) f.sent) (seen (lens_of plan.slaves) f.back) number ss as' paces ns ks → map (λ (c : Slave). c.pace) cs ≡ paces → NeverAll ss → AllEager (lens_of plan.slaves) (seen (lens_of plan.slaves) f.sent) ms as' us →
         AllRemember (seen (lens_of plan.slaves) f.back) ms ms' as' us → AllGetNone ms ms' → AllUnpassed as' → SameAll (speech_at (lens_of plan.slaves)) number (seen (lens_of plan.slaves) f.sent) (seen (lens_of plan.slaves) f.back) cs (unders (seen (lens_of plan.slaves) f.back) us) → AllStanding ss as' cs ns ms ts →
         AllStanding ss (leads_on us) (On cs us) ks ms' (Then cs us ts) × (SomeWaits (On cs us) (Then cs us ts) ⊎ AllRest (lens_of plan.slaves) ss ms as' ns)
-    all_stand place [] [] [] [] [] [] [] [] [] [] o l t met p never e q r g b s k = (tt, inr tt)
-    all_stand place [] (a ∷ as') cs us ps ns ks ms ms' ts o l t met p never e q r g b s k = absurd o
-    all_stand place [] [] (c ∷ cs) us ps ns ks ms ms' ts o l t met p never e q r g b s k = absurd l
-    all_stand place [] [] [] (u ∷ us) ps ns ks ms ms' ts o l t met p never e q r g b s k = absurd t
-    all_stand place [] [] [] [] (h ∷ ps) ns ks ms ms' ts o l t met p never e q r g b s k = absurd met
-    all_stand place [] [] [] [] [] (n ∷ ns) ks ms ms' ts o l t met p never e q r g b s k = absurd o
-    all_stand place [] [] [] [] [] [] (n ∷ ks) ms ms' ts o l t met p never e q r g b s k = absurd met
-    all_stand place [] [] [] [] [] [] [] (m ∷ ms) ms' ts o l t met p never e q r g b s k = absurd e
-    all_stand place [] [] [] [] [] [] [] [] (m ∷ ms') ts o l t met p never e q r g b s k = absurd g
-    all_stand place [] [] [] [] [] [] [] [] [] (w ∷ ts) o l t met p never e q r g b s k = absurd k
-    all_stand place (s ∷ ss) [] cs us ps ns ks ms ms' ts o l t met p never e q r g b same k = absurd o
-    all_stand place (s ∷ ss) (a ∷ as') [] us ps ns ks ms ms' ts o l t met p never e q r g b same k = absurd l
-    all_stand place (s ∷ ss) (a ∷ as') (c ∷ cs) [] ps ns ks ms ms' ts o l t met p never e q r g b same k = absurd t
-    all_stand place (s ∷ ss) (a ∷ as') (c ∷ cs) (u ∷ us) [] ns ks ms ms' ts o l t met p never e q r g b same k = absurd met
-    all_stand place (s ∷ ss) (a ∷ as') (c ∷ cs) (u ∷ us) (h ∷ ps) [] ks ms ms' ts o l t met p never e q r g b same k = absurd o
-    all_stand place (s ∷ ss) (a ∷ as') (c ∷ cs) (u ∷ us) (h ∷ ps) (n ∷ ns) [] ms ms' ts o l t met p never e q r g b same k = absurd met
-    all_stand place (s ∷ ss) (a ∷ as') (c ∷ cs) (u ∷ us) (h ∷ ps) (n ∷ ns) (n' ∷ ks) [] ms' ts o l t met p never e q r g b same k = absurd e
-    all_stand place (s ∷ ss) (a ∷ as') (c ∷ cs) (u ∷ us) (h ∷ ps) (n ∷ ns) (n' ∷ ks) (m ∷ ms) [] ts o l t met p never e q r g b same k = absurd g
-    all_stand place (s ∷ ss) (a ∷ as') (c ∷ cs) (u ∷ us) (h ∷ ps) (n ∷ ns) (n' ∷ ks) (m ∷ ms) (m' ∷ ms') [] o l t met p never e q r g b same k = absurd k
-    all_stand place (s ∷ ss) (a ∷ as') (c ∷ cs) (u ∷ us) (h ∷ ps) (n ∷ ns) (n' ∷ ks) (m ∷ ms) (m' ∷ ms') (w ∷ ts) o l t met p never e q r g b same k =
+    all_stand place [] [] [] [] [] [] [] [] [] [] o l t met p never e r g b s k = (tt, inr tt)
+    all_stand place [] (a ∷ as') cs us ps ns ks ms ms' ts o l t met p never e r g b s k = absurd o
+    all_stand place [] [] (c ∷ cs) us ps ns ks ms ms' ts o l t met p never e r g b s k = absurd l
+    all_stand place [] [] [] (u ∷ us) ps ns ks ms ms' ts o l t met p never e r g b s k = absurd t
+    all_stand place [] [] [] [] (h ∷ ps) ns ks ms ms' ts o l t met p never e r g b s k = absurd met
+    all_stand place [] [] [] [] [] (n ∷ ns) ks ms ms' ts o l t met p never e r g b s k = absurd o
+    all_stand place [] [] [] [] [] [] (n ∷ ks) ms ms' ts o l t met p never e r g b s k = absurd met
+    all_stand place [] [] [] [] [] [] [] (m ∷ ms) ms' ts o l t met p never e r g b s k = absurd e
+    all_stand place [] [] [] [] [] [] [] [] (m ∷ ms') ts o l t met p never e r g b s k = absurd g
+    all_stand place [] [] [] [] [] [] [] [] [] (w ∷ ts) o l t met p never e r g b s k = absurd k
+    all_stand place (s ∷ ss) [] cs us ps ns ks ms ms' ts o l t met p never e r g b same k = absurd o
+    all_stand place (s ∷ ss) (a ∷ as') [] us ps ns ks ms ms' ts o l t met p never e r g b same k = absurd l
+    all_stand place (s ∷ ss) (a ∷ as') (c ∷ cs) [] ps ns ks ms ms' ts o l t met p never e r g b same k = absurd t
+    all_stand place (s ∷ ss) (a ∷ as') (c ∷ cs) (u ∷ us) [] ns ks ms ms' ts o l t met p never e r g b same k = absurd met
+    all_stand place (s ∷ ss) (a ∷ as') (c ∷ cs) (u ∷ us) (h ∷ ps) [] ks ms ms' ts o l t met p never e r g b same k = absurd o
+    all_stand place (s ∷ ss) (a ∷ as') (c ∷ cs) (u ∷ us) (h ∷ ps) (n ∷ ns) [] ms ms' ts o l t met p never e r g b same k = absurd met
+    all_stand place (s ∷ ss) (a ∷ as') (c ∷ cs) (u ∷ us) (h ∷ ps) (n ∷ ns) (n' ∷ ks) [] ms' ts o l t met p never e r g b same k = absurd e
+    all_stand place (s ∷ ss) (a ∷ as') (c ∷ cs) (u ∷ us) (h ∷ ps) (n ∷ ns) (n' ∷ ks) (m ∷ ms) [] ts o l t met p never e r g b same k = absurd g
+    all_stand place (s ∷ ss) (a ∷ as') (c ∷ cs) (u ∷ us) (h ∷ ps) (n ∷ ns) (n' ∷ ks) (m ∷ ms) (m' ∷ ms') [] o l t met p never e r g b same k = absurd k
+    all_stand place (s ∷ ss) (a ∷ as') (c ∷ cs) (u ∷ us) (h ∷ ps) (n ∷ ns) (n' ∷ ks) (m ∷ ms) (m' ∷ ms') (w ∷ ts) o l t met p never e r g b same k =
         let pace : c.pace ≡ h = (let both : c.pace ∷ map (λ (z : Slave). z.pace) cs ≡ h ∷ ps = p in cc) in
         let paces : map (λ (z : Slave). z.pace) cs ≡ ps = (let both : c.pace ∷ map (λ (z : Slave). z.pace) cs ≡ h ∷ ps = p in cc) in
-        let one = stands_on plan fs place number sent back ds view s a c u n n' m m' w l.0 l.1 t.0 o.0 (λ e. subst (λ z. IsMet lens sent back number z s n n') (sym pace) (met.0 e)) never.0 e.0 q.0 r.0 g.0 b.0 same.0 k.0 in
-        let rest = all_stand (suc place) ss as' cs us ps ns ks ms ms' ts o.1 l.2 t.1 met.1 paces never.1 e.1 q.1 r.1 g.1 b.1 same.1 k.1 in (
+        let one = stands_on plan fs place number sent back ds view s a c u n n' m m' w l.0 l.1 t.0 o.0 (λ e. subst (λ z. IsMet lens sent back number z s n n') (sym pace) (met.0 e)) never.0 e.0 r.0 b.0 same.0 g.0 k.0 in
+        let rest = all_stand (suc place) ss as' cs us ps ns ks ms ms' ts o.1 l.2 t.1 met.1 paces never.1 e.1 r.1 g.1 b.1 same.1 k.1 in (
           (one.0, rest.0),
           elim one.1 [
             | inl waits ↦ inl (inl waits)

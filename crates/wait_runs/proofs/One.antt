@@ -1,8 +1,8 @@
 -- One slave of the run by a frame that came back and gained nothing.
-use Rattle.std.proofs.Common.{◌≡◌, ◌⊎◌, ◌≤◌, ℕ, suc, ◌%◌, ◌==◌, true, false, Option, Some, None, List, [], refl, sym, ap, ◌∙◌, subst, if◌then◌else◌, inl, inr}
+use Rattle.std.proofs.Common.{◌≡◌, ◌⊎◌, ◌≤◌, ℕ, suc, ◌%◌, ◌==◌, true, false, Option, Some, None, List, [], refl, sym, ap, ◌∙◌, subst, arith, if◌then◌else◌, inl, inr}
 use Rattle.std.specs.Prelude.{slice_get}
 use Rattle.datagrams.specs.Datagram as Raw
-use Rattle.eager_slaves.specs.Eager.{Remembered, IsClear, NoneLeft, MayBegin, IsAtEnd, IsEager, RemembersOn, IsUnpausedBy, GetsNone}
+use Rattle.eager_slaves.specs.Eager.{Remembered, IsClear, NoneLeft, MayBegin, IsAtEnd, IsEager, RemembersOn, GetsNone}
 use Rattle.eager_slaves.specs.Standing.{Unvisited, Visited, Standing, IsDone}
 use Rattle.eager_slaves.proofs.Choices.{stand_next}
 use Rattle.eager_slaves.specs.Frames.{One, FrameAs}
@@ -12,15 +12,19 @@ use Rattle.exchange_model.specs.Exchange.{Exchange, Speech}
 use Rattle.exchange_model.specs.Rows.{begun}
 use Rattle.frame_view.specs.Seen.{datagrams_seen}
 use Rattle.frame_view.specs.View.{Lens}
+use Rattle.held_visits.specs.Held.{HeldUp, EndsHeld}
+use Rattle.held_visits.specs.of_answered_rows.Moments.{NowAnswered}
+use Rattle.held_visits.proofs.Held.{unpaused as held_unpaused}
 use Rattle.idle_slaves.specs.Going.{Going}
 use Rattle.idle_slaves.specs.Links.{HasLink}
-use Rattle.idle_slaves.specs.Visited.{LifeSpent}
+use Rattle.idle_slaves.specs.Visited.{LifeSpent, Waiting, IsUnpaused}
 use Rattle.life_measure.specs.Gains.{gains}
-use Rattle.life_model.specs.Lives.{Life, Spot, Stand, life_next, life_back, granted}
+use Rattle.life_model.specs.Lives.{Life, Spot, Stand, life_next, life_back, era_next, granted}
 use Rattle.life_model.specs.Own.{own}
 use Rattle.life_runs.specs.First.{lens_of}
 use Rattle.life_runs.specs.Led.{Exchanged, Leads, Turn, IsTurn, Comes, Took, speech_at, is_passed}
 use Rattle.link_mails.specs.Body.{Body}
+use Rattle.link_model.specs.Frames.{all_accepted}
 use Rattle.link_model.specs.Master.{InState as HalfState}
 use Rattle.master_duty.specs.Reply.{Reply}
 use Rattle.master_hand.specs.Spoken.{Asked, acknowledged, is_followed}
@@ -34,7 +38,7 @@ use Rattle.run_frames.specs.Led.{under_of}
 use Rattle.run_frames.specs.Orders.{is_live}
 use Rattle.run_frames.specs.Waits.{Waits, waits_on}
 use Rattle.segment_model.specs.Seats.{Side, side_next}
-use Rattle.segment_model.specs.Slaves.{Datagram, Slave, serving, slave_after, slave_steps, frame_after}
+use Rattle.segment_model.specs.Slaves.{Datagram, Slave, grams, serving, slave_after, slave_steps, frame_after}
 use Rattle.segment_plan.specs.declared.plan.Scenario.{Scenario}
 use Rattle.segment_plan.specs.declared.service.Service as Plan
 use Rattle.segment_plan.specs.declared.slave.SlaveSpec.{SlaveSpec}
@@ -52,6 +56,7 @@ use Rattle.task_model.specs.Accounts.{Pick, account_begins, starts, mails_choice
 use Rattle.wait_runs.specs.Eager.{IsResting}
 use Rattle.wait_runs.proofs.Begins.{link_at, alone_at}
 use Rattle.wait_runs.proofs.Frees.{frees, rests}
+use Rattle.wait_runs.proofs.Held.{answered_at, states_at, ends_at}
 use Rattle.wait_runs.proofs.Took.{first_mail, state_took, mails_took, begun_row, mails_is}
 
 -- a script at its end stays there
@@ -65,7 +70,7 @@ module _ (plan : Scenario) (fs : List Exchanged) (place number : ℕ) (sent back
     (s : SlaveSpec) (a : Leads) (c : Clocked Body Asked Reply) (u : Turn) (n k : Node Serving) (m m' : Remembered) (t : Waits) (spot : c.spot ≡ a.lived.spot) (life : c.life ≡ a.lived.life) (turn : IsTurn (lens_of plan.slaves) number ds a u)
     (at : IsAt plan fs place s a n) (met : a.lived.life.stand ≡ Stand.Open → IsMet (lens_of plan.slaves) sent back number c.pace s n k) (never : NeverWaits (asked (profile_of s) s.boot (lens_of plan.slaves)).exchange)
     (eager : IsEager (speech_at (lens_of plan.slaves) a.lived.spot) a.lived.spot.station sent m u.share.under u.begun (slice_get a.script a.number) a.lived.life u.lived.life)
-    (unpaused : IsUnpausedBy m u.begun) (remembers : RemembersOn a.lived.spot.station back m m' u.share.under a.lived.life u.lived.life) (gets : GetsNone m m') (unpassed : a.lived.life.era.passing ≡ None)
+    (remembers : RemembersOn a.lived.spot.station back m m' u.share.under a.lived.life u.lived.life) (unpassed : a.lived.life.era.passing ≡ None)
     (same : gains (back_life (speech_at (lens_of plan.slaves)) acknowledged is_followed is_passed number back c (under_of back u)) ≡ gains c.life) where
   abbrev lens : ℕ → Lens
   lens = lens_of plan.slaves
@@ -123,10 +128,10 @@ module _ (plan : Scenario) (fs : List Exchanged) (place number : ℕ) (sent back
       (subst (λ (z : Spot). RemembersOn z.station back m m' u.share.under a.lived.life u.lived.life) (sym spot) remembers)
 
   abbrev Before : Type 0
-  Before = Standing (serving ex) table (x c.spot) c.life slave m (slice_get a.script a.number) t
+  Before = Standing (serving ex) table (x c.spot) acknowledged c.life slave m (slice_get a.script a.number) t
 
   abbrev Behind : Type 0
-  Behind = Standing (serving ex) table (x c.spot) behind slave' m' (slice_get u.script u.number) on
+  Behind = Standing (serving ex) table (x c.spot) acknowledged behind slave' m' (slice_get u.script u.number) on
 
   abbrev WaitsYet : Type 0
   WaitsYet = (is_live behind.stand ≡ true) × (on.tries ≤ 1)
@@ -213,23 +218,59 @@ module _ (plan : Scenario) (fs : List Exchanged) (place number : ℕ) (sent back
         inr (rests plan fs place s a n o never m stands_a
         (subst (λ (y : Spot). IsDone (serving ex) (x y) a.lived.life slave m (slice_get a.script a.number)) spot (subst (λ (l : Life Body Asked Reply). IsDone (serving ex) (x c.spot) l slave m (slice_get a.script a.number)) life d)))
 
-    visited : (k : Visited (serving ex) (x c.spot) c.life slave.node m.memory t) → (t.stepped ≡ true → slave.registers.control ≡ None) → (2 ≤ t.tries → IsAtEnd (slice_get a.script a.number) m) → Behind × (WaitsYet ⊎ Rest)
-    visited k control end = (
-      Slaves.visited_stands ex (asked (profile_of s) s.boot lens).processor table x acknowledged is_followed is_passed number sent back c v slave slave' frame m m' (slice_get a.script a.number) u.begun turn.begun eager_c unpaused remembers_c t (slice_get u.script u.number) gets script link frees_c settles k control end,
-      elim (Slaves.visited_waits ex (asked (profile_of s) s.boot lens).processor table x acknowledged is_followed is_passed number sent back c v slave slave' frame m m' (slice_get a.script a.number) u.begun turn.begun eager_c unpaused remembers_c t (slice_get u.script u.number) gets script link frees_c settles k control end) [
+    -- what was heard is the answer; and a state service that began was left of the script
+    answered_c : NowAnswered (x c.spot) c.life.era.side
+    answered_c = subst (λ (l : Life Body Asked Reply). NowAnswered (x c.spot) l.era.side) (sym life) (subst (λ (y : Spot). NowAnswered (x y) a.lived.life.era.side) (sym spot) (answered_at plan fs place s a n o))
+
+    abbrev States : Spot → Life Body Asked Reply → Type 0
+    States y l = (target : ℕ) → u.begun ≡ Some (Service.State target) → ((era_next (x y) acknowledged is_followed is_passed number l.era turn.next.pick).account.started ≡ starts l.era.account (Service.State target) number) × (slice_get a.script a.number ≡ None → ⊥)
+
+    states_c : States c.spot c.life
+    states_c = subst (λ l. States c.spot l) (sym life) (subst (λ y. States y a.lived.life) (sym spot) (λ target is. states_at plan fs place s a n o number ds u turn stands_a unpassed target is))
+
+    -- at a write in vain
+    ends_c : u.share.under ≡ true → IsClear c.life → EndsHeld (x c.spot) acknowledged (slice_get a.script a.number ≡ None) c.spot.station back u.lived.life behind
+    ends_c e clear =
+        let clear_a : IsClear a.lived.life = subst (λ l. IsClear l) life clear in
+        let open_now : u.lived.life.stand ≡ Stand.Open = ap (λ (l : Life Body Asked Reply). l.stand) life_is ∙ stand_next (x c.spot) acknowledged is_followed is_passed number c.life turn.next.pick ∙ stands in
+        subst (λ z. EndsHeld (x c.spot) acknowledged (slice_get a.script a.number ≡ None) c.spot.station back u.lived.life (life_back (x c.spot) acknowledged is_followed is_passed number c.spot [] back v.came u.lived.life z)) (sym open_now)
+        (subst (λ (y : Spot). EndsHeld (x y) acknowledged (slice_get a.script a.number ≡ None) y.station back u.lived.life (life_back (x y) acknowledged is_followed is_passed number y [] back v.came u.lived.life Stand.Open)) (sym spot)
+        (ends_at plan fs place s a n o number ds u turn stands_a unpassed back v.came (λ free hand none. (eager.ends e clear_a (record { free = free.free; done = free.done; hand = hand }) (sym turn.begun ∙ none)).script)))
+
+    -- no mail is heard of it
+    abbrev Quiet : Type 0
+    Quiet = all_accepted c.spot.station u.lived.life.era.side.halves (grams (own c.spot.station back)) ≡ []
+
+    waits_quiet : Waiting (serving ex) c.life slave.node m.memory t → IsUnpaused turn.next.pick m.memory t → Quiet
+    waits_quiet k pause = Slaves.waits_silent ex (asked (profile_of s) s.boot lens).processor table x acknowledged is_followed is_passed number sent back c v slave slave' frame m m' (slice_get a.script a.number) u.begun turn.begun eager_c remembers_c t link k pause
+
+    visited_quiet : Visited (serving ex) (x c.spot) c.life slave.node m.memory t → HeldUp (x c.spot) acknowledged (slice_get a.script a.number ≡ None) c.life m.memory t → Quiet
+    visited_quiet k held = waits_quiet k.waits (held_unpaused (x c.spot) acknowledged is_followed is_passed number c.life m.memory t turn.next.pick (slice_get a.script a.number ≡ None) unpassed_c held (λ target e. states_c target (sym turn.begun ∙ e)))
+
+    fresh_quiet : Unvisited (serving ex) c.life slave.node t → Quiet
+    fresh_quiet k = waits_quiet (Slaves.unvisited_waits (serving ex) c.life slave.node t m.memory k) (λ target e one. absurd (let none = k.tries in omega (arith, none, one)))
+
+    going_quiet : Going table c.life slave.registers t → c.life.era.side.halves.inn.state ≡ HalfState.Clear → Quiet
+    going_quiet g clear = Slaves.going_silent ex (asked (profile_of s) s.boot lens).processor table x acknowledged is_followed is_passed number sent back c v slave slave' frame m m' (slice_get a.script a.number) u.begun turn.begun eager_c remembers_c t link g clear
+
+    visited : GetsNone m m' → (k : Visited (serving ex) (x c.spot) c.life slave.node m.memory t) → (t.stepped ≡ true → slave.registers.control ≡ None) → (2 ≤ t.tries → IsAtEnd (slice_get a.script a.number) m) →
+        HeldUp (x c.spot) acknowledged (slice_get a.script a.number ≡ None) c.life m.memory t → Behind × (WaitsYet ⊎ Rest)
+    visited gets k control end held = (
+      Slaves.visited_stands ex (asked (profile_of s) s.boot lens).processor table x acknowledged is_followed is_passed number sent back c v slave slave' frame m m' (slice_get a.script a.number) u.begun turn.begun eager_c remembers_c t (slice_get u.script u.number) gets script link answered_c states_c ends_c frees_c settles k control end held,
+      elim (Slaves.visited_waits ex (asked (profile_of s) s.boot lens).processor table x acknowledged is_followed is_passed number sent back c v slave slave' frame m m' (slice_get a.script a.number) u.begun turn.begun eager_c remembers_c t (slice_get u.script u.number) gets script link answered_c states_c ends_c frees_c settles k control end held) [
         | inl waits ↦ inl waits
         | inr done ↦ inr (rests_c done)
       ],
     )
 
-    fresh : (k : Unvisited (serving ex) c.life slave.node t) → (t.stepped ≡ true → slave.registers.control ≡ None) → Behind × (WaitsYet ⊎ Rest)
-    fresh k control =
-        let both = Slaves.fresh_stands ex (asked (profile_of s) s.boot lens).processor table x acknowledged is_followed is_passed number sent back c v slave slave' frame m m' (slice_get a.script a.number) u.begun turn.begun eager_c unpaused remembers_c t (slice_get u.script u.number) gets script link frees_c settles k control in
+    fresh : GetsNone m m' → (k : Unvisited (serving ex) c.life slave.node t) → (t.stepped ≡ true → slave.registers.control ≡ None) → Behind × (WaitsYet ⊎ Rest)
+    fresh gets k control =
+        let both = Slaves.fresh_stands ex (asked (profile_of s) s.boot lens).processor table x acknowledged is_followed is_passed number sent back c v slave slave' frame m m' (slice_get a.script a.number) u.begun turn.begun eager_c remembers_c t (slice_get u.script u.number) gets script link answered_c states_c ends_c frees_c settles k control in
         (both.0, inl both.1)
 
-    going : (g : Going table c.life slave.registers t) → c.life.era.side.halves.inn.state ≡ HalfState.Clear → Behind × (WaitsYet ⊎ Rest)
-    going g clear =
-        let both = Slaves.going_stands ex (asked (profile_of s) s.boot lens).processor table x acknowledged is_followed is_passed number sent back c v slave slave' frame m m' (slice_get a.script a.number) u.begun turn.begun eager_c unpaused remembers_c t (slice_get u.script u.number) gets script link frees_c settles g clear in
+    going : GetsNone m m' → (g : Going table c.life slave.registers t) → c.life.era.side.halves.inn.state ≡ HalfState.Clear → Behind × (WaitsYet ⊎ Rest)
+    going gets g clear =
+        let both = Slaves.going_stands ex (asked (profile_of s) s.boot lens).processor table x acknowledged is_followed is_passed number sent back c v slave slave' frame m m' (slice_get a.script a.number) u.begun turn.begun eager_c remembers_c t (slice_get u.script u.number) gets script link answered_c states_c ends_c frees_c settles g clear in
         (both.0, inl both.1)
 
   -- ---- one that was given up for good
@@ -240,8 +281,21 @@ module _ (plan : Scenario) (fs : List Exchanged) (place number : ℕ) (sent back
         inr (inl (ap (λ (l : Life Body Asked Reply). l.stand) (sym life) ∙ e)),
       )
 
-  pub stands_on : Before → Behind × (WaitsYet ⊎ Rest)
-  stands_on (Standing.gone e) = gone e
-  stands_on (Standing.fresh k control) = fresh k.shows.stands k control
-  stands_on (Standing.waits k control end) = visited k.waits.shows.stands k control end
-  stands_on (Standing.goes g clear) = going g.stands g clear
+  pub stands_on : GetsNone m m' → Before → Behind × (WaitsYet ⊎ Rest)
+  stands_on gets (Standing.gone e) = gone e
+  stands_on gets (Standing.fresh k control) = fresh k.shows.stands gets k control
+  stands_on gets (Standing.waits k control end held) = visited k.waits.shows.stands gets k control end held
+  stands_on gets (Standing.goes g clear) = going g.stands gets g clear
+
+  -- no mail is heard of an open one
+  pub quiet_at : Before → u.lived.life.stand ≡ Stand.Open → all_accepted u.lived.spot.station u.lived.life.era.side.halves (grams (own u.lived.spot.station back)) ≡ []
+  quiet_at k stands = subst (λ (z : Spot). all_accepted z.station u.lived.life.era.side.halves (grams (own z.station back)) ≡ []) (sym under_spot) (by k)
+    where
+      stand : u.lived.life.stand ≡ c.life.stand
+      stand = ap (λ (l : Life Body Asked Reply). l.stand) life_is ∙ stand_next (x c.spot) acknowledged is_followed is_passed number c.life turn.next.pick
+
+      by : Before → all_accepted c.spot.station u.lived.life.era.side.halves (grams (own c.spot.station back)) ≡ []
+      by (Standing.gone e) = absurd (let no : Stand.Gone ≡ Stand.Open = sym e ∙ sym stand ∙ stands in cc)
+      by (Standing.fresh k control) = fresh_quiet k.shows.stands k
+      by (Standing.waits k control end held) = visited_quiet k.waits.shows.stands k held
+      by (Standing.goes g clear) = going_quiet g.stands g clear

@@ -32,8 +32,8 @@ use Rattle.segment_plan.specs.declared.plan.Scenario.{Scenario}
 use Rattle.segment_plan.specs.declared.service.Service as Script
 use Rattle.segment_plan.specs.declared.slave.SlaveSpec.{SlaveSpec}
 use Rattle.segment_ring.specs.declared.wire.Fate.TheVariants.{Pass, Lost}
-use Rattle.wait_runs.specs.Eager.{AllRest, IsEagerFrame, EagerIn}
-use Rattle.wait_runs.proofs.Lists.{Slave, still_same, all_same, AllStanding, NeverAll, all_begin, repaired, all_stand}
+use Rattle.wait_runs.specs.Eager.{AllRest, AllSilent, IsEagerFrame, EagerIn}
+use Rattle.wait_runs.proofs.Lists.{Slave, still_same, all_same, AllStanding, NeverAll, all_begin, repaired, all_silent, all_stand}
 
 one_more : (fs : List Exchanged) (f : Exchanged) (n : ℕ) → n ≡ length fs → suc n ≡ length (fs ++ f ∷ [])
 one_more fs f n e = ap suc e ∙ sym (length-append fs (f ∷ []) ∙ (let sum : length fs + 1 ≡ suc (length fs) = omega arith in sum))
@@ -180,10 +180,14 @@ module _ (seen_is : SeenIs) (plan : Scenario) (laws : Laws plan) (never : NeverA
             (all_begin plan fs 0 (seen lens f.sent) plan.slaves as' cs us (ring_after (ring_of plan) fs).nodes ms opens h.led e.eager (all_repaired slowest p.opened p.frames p.last cs over same.0) h.hands)
         before (suc n) is = h.stands (omega (arith, is))
 
+        silent : AllSilent (seen (lens_of plan.slaves) f.back) us
+        silent = all_silent plan fs p.frames f plan.recover plan.retry (length fs) gives at_frames.datagrams view 0 plan.slaves as' cs us plan.paces (ring_after (ring_of plan) fs).nodes (ring_after (ring_of plan) (fs ++ f ∷ [])).nodes ms ns p.waits
+            opens h.led at_frames.each met h.paced never e.eager e.remembers e.unpassed (all_same x p.frames (seen lens f.sent) (seen lens f.back) cs vs lists same.1) (before p.still refl)
+
         both : AllStanding plan plan.slaves (leads_behind lens plan.recover plan.retry slowest missed (length fs) f us) on (ring_after (ring_of plan) (fs ++ f ∷ [])).nodes ns (all_on p.frames cs vs p.waits)
             × (SomeWaits on (all_on p.frames cs vs p.waits) ⊎ AllRest (lens_of plan.slaves) plan.slaves ms as' (ring_after (ring_of plan) fs).nodes)
         both = all_stand plan fs p.frames f plan.recover plan.retry (length fs) gives at_frames.datagrams view 0 plan.slaves as' cs us plan.paces (ring_after (ring_of plan) fs).nodes (ring_after (ring_of plan) (fs ++ f ∷ [])).nodes ms ns p.waits
-            opens h.led at_frames.each met h.paced never e.eager e.unpaused e.remembers e.none e.unpassed (all_same x p.frames (seen lens f.sent) (seen lens f.back) cs vs lists same.1) (before p.still refl)
+            opens h.led at_frames.each met h.paced never e.eager e.remembers (e.none silent) e.unpassed (all_same x p.frames (seen lens f.sent) (seen lens f.back) cs vs lists same.1) (before p.still refl)
 
         pub some : SomeWaits on (waits_led (lens_of plan.slaves) plan.recover plan.retry slowest p f us cs)
         some = subst (λ z. SomeWaits on (waits_behind z p.frames cs vs p.waits)) (sym counted) (elim both.1 [ inl waits ↦ waits | inr rest ↦ absurd (e.some rest) ])

@@ -1,7 +1,6 @@
 use Rattle.due_rows.proofs.Eras.{era_due}
 use Rattle.due_rows.proofs.due_law.Goals as goal
-use Rattle.life_model.specs.Lives.{granted}
 
 pub returns : goal.returns
-returns g c = λ x s processor table spot e opened last fs v r slave law stated hears is more passed frame pick sent asks.
-    era_due x law hears s stated processor table spot e opened last fs v r slave is frame (granted e.passing pick) sent asks
+returns g c = λ w hears frame pick sent asks.
+    era_due w.exchange w.lawful hears w.states w.stated w.processor w.table w.spot w.era w.opened w.end w.frames w.server w.registers w.slave w.is frame pick sent asks

@@ -68,3 +68,9 @@ returns-in-Pass-clause-downs c = λ after lost. absurd (let bad : Fates.Pass ≡
 pub returns-in-Lost-clause-downs : goal.returns-in-Lost-clause-downs
 returns-in-Lost-clause-downs c = λ after lost lens recover retry missed number us f fate under.
     c.lost.ensures.downs lens recover retry missed number after f.sent us f (fate ∙ lost) refl under
+
+pub returns-in-Pass-clause-counts : goal.returns-in-Pass-clause-counts
+returns-in-Pass-clause-counts c = c.returned.ensures.counts
+
+pub returns-in-Lost-clause-counts : goal.returns-in-Lost-clause-counts
+returns-in-Lost-clause-counts c = c.lost.ensures.counts

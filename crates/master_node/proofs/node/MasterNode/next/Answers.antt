@@ -106,10 +106,10 @@ returns-clause-enters c = λ h lens recover retry missed as' x rests may.
     let e = c.begins.ensures in
     let many = both_length (λ a s. IsLead lens recover a s) as' m.tour.stops.items x.each in
     let entered = c.admit.ensures.enters
-        (record {
-          opened = subst (λ n. n ≤ m.tour.opened) many (all_opened lens m.lan _ as' m.tour.opened rests x.goes.ahead);
-          rest = λ k. rests_same m.lan l e.switch e.ports k _ (all_rest lens recover m.lan as' m.tour.stops.items x.each rests k);
-        })
-        (record { left = (λ i. nat_lt (e.host.1 i) (length (e.host.0 i))) ∙ may.left; quiet = subst (λ s. NoneWaits s) (sym e.switch) may.quiet })
-        e.none in
+    (record {
+      opened = subst (λ n. n ≤ m.tour.opened) many (all_opened lens m.lan _ as' m.tour.opened rests x.goes.ahead);
+      rest = λ k. rests_same m.lan l e.switch e.ports k _ (all_rest lens recover m.lan as' m.tour.stops.items x.each rests k);
+    })
+    (record { left = (λ i. nat_lt (e.host.1 i) (length (e.host.0 i))) ∙ may.left; quiet = subst (λ s. NoneWaits s) (sym e.switch) may.quiet })
+    e.none in
     first_more _ _ c.make.ensures.made.more.0 entered c.make.ensures.made.more.1

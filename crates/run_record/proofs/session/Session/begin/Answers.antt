@@ -25,7 +25,7 @@ invariant_of-result c =
     )
 
 pub returns-clause-forwards : goal.returns-clause-forwards
-returns-clause-forwards c = first_forwards c.args.plan.now _ _ c.in_ok-new.ensures.leads c.in_ok-new-2.ensures.notes c.in_ok-new.ensures.tour c.in_ok-new.ensures.ports c.in_ok-new.ensures.joined
+returns-clause-forwards c = first_forwards c.args.plan.now _ _ c.in_ok-new.ensures.leads c.in_ok-new-2.ensures.notes c.in_ok-new.ensures.tour c.in_ok-new.ensures.ports c.in_ok-new.ensures.joined c.in_ok-new.ensures.counts
 
 pub returns-clause-switch : goal.returns-clause-switch
 returns-clause-switch c = c.in_ok-new.ensures.begins

@@ -75,7 +75,7 @@ returns-clause-ok c =
             (subst (λ (n : ℕ). IsSwitched ports host n c.tell.new.master.lan c.note_behind.new.book) after
             (switched_step ports host c.self.inside.number c.self.inside.master.lan c.next.new.self.lan c.tell.new.master.lan c.args.book.now c.note_before.new.book c.put_frame.new.book c.note_behind.new.book
             c.next.ensures.happened c.in_ok-note_before.ensures.switch c.put_frame.ensures.switch c.tell.ensures.happened
-            (subst (λ (n : ℕ). NotesSwitch n (c.self.inside.number + 1) c.tell.new.master.lan.happened c.put_frame.new.book c.note_behind.new.book) same both.1.1.1)
+            (subst (λ (n : ℕ). NotesSwitch n (c.self.inside.number + 1) c.tell.new.master.lan.happened c.put_frame.new.book c.note_behind.new.book) same both.1.1.1.0)
             (subst (λ (n : ℕ). IsSwitched ports host n c.self.inside.master.lan c.args.book.now) (sym number)
             (subst (λ (s : SessionState). IsSwitched s.ports host s.ring.number s.master.lan c.args.book.now) (sym c.self.view_is) x))));
         forwards = λ plan fs host recover many counts live x w.
@@ -106,17 +106,18 @@ returns-clause-ok c =
             (λ after lost us under. c.tell.ensures.downs after lost (lens_of plan.slaves) plan.recover plan.retry l.missed (length fs) us (exchanged f) refl under)
             (switch_grown ports host c.self.inside.number c.self.inside.master.lan c.next.new.self.lan c.tell.new.master.lan c.args.book.now c.note_before.new.book c.put_frame.new.book c.note_behind.new.book
             c.next.ensures.happened c.in_ok-note_before.ensures.switch c.put_frame.ensures.switch c.tell.ensures.happened
-            (subst (λ (n : ℕ). NotesSwitch n (c.self.inside.number + 1) c.tell.new.master.lan.happened c.put_frame.new.book c.note_behind.new.book) same both.1.1.1) now)
+            (subst (λ (n : ℕ). NotesSwitch n (c.self.inside.number + 1) c.tell.new.master.lan.happened c.put_frame.new.book c.note_behind.new.book) same both.1.1.1.0) now)
             (numbers_grown ports host c.self.inside.number c.self.inside.master.lan c.next.new.self.lan c.tell.new.master.lan c.args.book.now c.note_before.new.book c.put_frame.new.book c.note_behind.new.book
             c.next.ensures.happened c.in_ok-note_before.ensures.switch c.put_frame.ensures.switch c.tell.ensures.happened
-            (subst (λ (n : ℕ). NotesSwitch n (c.self.inside.number + 1) c.tell.new.master.lan.happened c.put_frame.new.book c.note_behind.new.book) same both.1.1.1) now)
+            (subst (λ (n : ℕ). NotesSwitch n (c.self.inside.number + 1) c.tell.new.master.lan.happened c.put_frame.new.book c.note_behind.new.book) same both.1.1.1.0) now)
             mine.forwarded
             (subst (λ (n : ℕ). (switched n c.args.book.now.switch).switch ≡ c.self.inside.master.lan.switch) all (switch_stood ports host c.self.inside.number c.self.inside.master.lan c.args.book.now now))
             (subst (λ (n : ℕ). (switched n (c.args.book.now.switch ++ events_of c.next.new.self.lan.happened)).switch ≡ c.next.new.self.lan.switch) all
-            (switch_stands ports host c.self.inside.number c.self.inside.master.lan c.next.new.self.lan c.args.book.now c.next.ensures.happened now));
+            (switch_stands ports host c.self.inside.number c.self.inside.master.lan c.next.new.self.lan c.args.book.now c.next.ensures.happened now))
+            mine.packets c.tell.ensures.counts (let a = c.self.invariant.1 in let b = c.self.invariant.2 in omega (arith, a, b)) c.note_before.ensures.slaves.notes c.in_ok-note_before.ensures.begun both.1.1.1.1;
       },
     ))
-    (on_ok_both _ _ c.note_behind.result c.note_behind.ensures.gave (on_ok_both _ _ c.note_behind.result c.note_behind.ensures.told (on_ok_both _ _ c.note_behind.result c.note_behind.ensures.heard c.note_behind.ensures.switch)))
+    (on_ok_both _ _ c.note_behind.result c.note_behind.ensures.gave (on_ok_both _ _ c.note_behind.result c.note_behind.ensures.told (on_ok_both _ _ c.note_behind.result c.note_behind.ensures.heard (on_ok_both _ _ c.note_behind.result c.note_behind.ensures.switch c.note_behind.ensures.rows))))
 
 pub returns-clause-err : goal.returns-clause-err
 returns-clause-err c =

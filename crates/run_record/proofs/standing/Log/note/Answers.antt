@@ -27,3 +27,6 @@ returns-clause-switch c =
     (λ notes. switch_at c.args.self.now c.note_events.new.self c.args.moment.sent c.args.master.now.lan.happened c.args.book.now c.note_happened.new.book c.note_events.ensures.slaves
     (subst (λ rows. NotesSwitch (1 + length c.note_events.new.self.ports) c.args.moment.sent rows c.args.book.now c.note_happened.new.book) c.happened.ensures notes))
     c.note_happened.ensures.switch
+
+pub returns-clause-rows : goal.returns-clause-rows
+returns-clause-rows c = any_ok c.note_happened.result (c.note_happened.ensures.rows ∙ c.in_ok-note_events.ensures.rows)

@@ -12,6 +12,7 @@ use Rattle.run_record.proofs.Steps.{any_ok}
 use Rattle.script_answers.specs.Steps.{PassesSo}
 use Rattle.master_node.specs.of_life_model.Lives.{Stand}
 use Rattle.master_node.specs.Told.{Tells}
+use Rattle.run_record.proofs.Packets.{same_begun}
 use Rattle.run_record.proofs.standing.Log.note_answer.Goals as goal
 
 pub invariant_of-self : goal.invariant_of-self
@@ -42,3 +43,7 @@ returns-clause-told c =
 pub returns-clause-heard : goal.returns-clause-heard
 returns-clause-heard c =
     any_ok c.note_back.result (same_heard c.args.self.now.notes c.args.at c.at_mut-notes.result.now c.note_back.new.notes (c.note_back.ensures.heard ∙ ap (λ (n : Notes). n.emergencies) c.at_mut-notes.ensures.value))
+
+pub returns-clause-rows : goal.returns-clause-rows
+returns-clause-rows c =
+    any_ok c.note_back.result (same_begun c.args.self.now.notes c.args.at c.at_mut-notes.result.now c.note_back.new.notes (c.note_back.ensures.rows ∙ ap (λ (n : Notes). n.begun) c.at_mut-notes.ensures.value))

@@ -1,3 +1,4 @@
+use Rattle.std.proofs.Common.{◌∙◌}
 use Rattle.std.proofs.lemmas.Result.{on_ok_weaker}
 use Rattle.run_record.proofs.Gaves.{gave_after}
 use Rattle.run_record.proofs.Heard.{heard_after}
@@ -22,3 +23,6 @@ returns-clause-heard c =
 
 pub returns-clause-switch : goal.returns-clause-switch
 returns-clause-switch c = any_ok c.note_fate.result c.in_ok-note.ensures.switch
+
+pub returns-clause-rows : goal.returns-clause-rows
+returns-clause-rows c = on_ok_weaker c.note_fate.result (λ same. same ∙ c.in_ok-note.ensures.rows) c.note_fate.ensures.rows

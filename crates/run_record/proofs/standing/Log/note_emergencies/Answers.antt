@@ -12,6 +12,7 @@ loop-place-init c = record {
   slaves = record { notes = refl; homes = refl; asked = refl; ports = refl; recover = refl };
   gave = refl;
   heard = λ us back hss x noted. noted;
+  rows = refl;
   told = λ as' r. r;
 }
 
@@ -25,6 +26,7 @@ loop-place-preserved c =
       heard = λ us back hss x noted.
           let e : suc place ≡ place + 1 = omega arith in
           subst (λ (k : ℕ). AllNoted (heard_to (brought_of c.args.frame back) k hss us) (emergencies_noted c.note_emergency.new.self.notes)) e (c.in_ok-note_emergency.ensures.heard us back hss x (inv.heard us back hss x noted));
+      rows = c.in_ok-note_emergency.ensures.rows ∙ inv.rows;
       told = λ as' r. c.in_ok-note_emergency.ensures.told as' (inv.told as' r);
     }
 

@@ -8,6 +8,7 @@ use Rattle.run_record.proofs.Heard.{TellsOf, one_noted, none_noted}
 use Rattle.run_record.proofs.Reporting.{set_reports}
 use Rattle.run_record.proofs.Stations.{same_noted}
 use Rattle.run_record.proofs.Steps.{any_ok}
+use Rattle.run_record.proofs.Packets.{same_begun}
 use Rattle.run_record.proofs.standing.Log.note_emergency.Goals as goal
 
 pub invariant_of-self : goal.invariant_of-self
@@ -37,3 +38,7 @@ returns-clause-heard c =
     on_ok_weaker c.alarmed.result
     (λ is. one_noted m c.args.frame c.args.at c.args.self.now.notes c.requires.notes c.requires.posts c.at_mut.result.now c.alarmed.new.self c.in_ok-octets.octets c.at_mut.ensures.value is tells)
     c.alarmed.ensures.is
+
+pub returns-clause-rows : goal.returns-clause-rows
+returns-clause-rows c =
+    any_ok c.alarmed.result (same_begun c.args.self.now.notes c.args.at c.at_mut.result.now c.alarmed.new.self (c.alarmed.ensures.rows ∙ ap (λ (n : Notes). n.begun) c.at_mut.ensures.value))

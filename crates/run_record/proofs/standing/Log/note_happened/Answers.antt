@@ -8,6 +8,7 @@ loop-row-init c = record {
   slaves = record { notes = refl; homes = refl; asked = refl; ports = refl; recover = refl };
   gave = refl;
   heard = refl;
+  rows = refl;
   told = λ as' r. r;
   frames = record { frames = refl; rest = record { slaves = refl; grams = refl; replies = refl; serving = refl; at_port = λ all. all } };
   switch = notes_first (1 + length c.args.self.now.ports) c.args.moment.sent c.args.rows.now c.args.book.now;
@@ -21,6 +22,7 @@ loop-row-preserved c =
       slaves = slaves_more inv.slaves c.note_switch.ensures.slaves;
       gave = c.note_switch.ensures.gave ∙ inv.gave;
       heard = c.note_switch.ensures.heard ∙ inv.heard;
+      rows = c.note_switch.ensures.rows ∙ inv.rows;
       told = λ as' r. c.note_switch.ensures.told as' (inv.told as' r);
       frames = frames_more ports inv.frames (at_log inv.slaves c.note_switch.ensures.frames);
       switch = notes_next ports c.args.moment.sent c.args.rows.now c.loop-row.row-index c.row-item.result c.args.book.now c.loop-row.book c.note_switch.new.book c.loop-row-test.true c.row-item.is inv.switch
@@ -46,3 +48,6 @@ returns-in_err-note_switch-clause-frames c =
 pub returns-clause-switch : goal.returns-clause-switch
 returns-clause-switch c =
     notes_last (1 + length c.args.self.now.ports) c.args.moment.sent c.args.rows.now c.loop-row.row-index c.args.book.now c.loop-row.book c.loop-row-test.false c.loop-row.invariant.switch
+
+pub returns-in_err-note_switch-clause-rows : goal.returns-in_err-note_switch-clause-rows
+returns-in_err-note_switch-clause-rows c = c.note_switch.ensures.rows ∙ c.loop-row.invariant.rows

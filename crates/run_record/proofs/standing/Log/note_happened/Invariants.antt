@@ -4,6 +4,7 @@ use Rattle.run_record.specs.Led.{gaves_noted}
 use Rattle.run_record.specs.Reports.{KeepsReports}
 use Rattle.run_record.specs.Session.{SameSlaves, SameFrames}
 use Rattle.run_record.proofs.Switched.{NotesTo}
+use Rattle.run_record.specs.Packets.{begun_noted}
 use Rattle.run_record.proofs.standing.Log.note_happened.Given as goal
 
 abbrev pub invariant-loop-row : goal.invariant-loop-row
@@ -11,6 +12,7 @@ invariant-loop-row l = record {
   slaves : SameSlaves l.initial.self l.self;
   gave : gaves_noted l.self.notes ≡ gaves_noted l.initial.self.notes;
   heard : emergencies_noted l.self.notes ≡ emergencies_noted l.initial.self.notes;
+  rows : begun_noted l.self.notes ≡ begun_noted l.initial.self.notes;
   told : KeepsReports l.initial.self.notes l.self.notes;
   frames : SameFrames (1 + length l.initial.self.ports) l.initial.book l.book;
   switch : NotesTo (1 + length l.initial.self.ports) l.moment.sent l.rows l.row-index l.initial.book l.book;

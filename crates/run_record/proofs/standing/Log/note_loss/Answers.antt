@@ -14,6 +14,7 @@ use Rattle.run_record.proofs.Heard.{same_heard}
 use Rattle.run_record.proofs.Steps.{any_ok}
 use Rattle.run_record.proofs.Reporting.{to_next, to_same, got_there, same_whole, loss_same, loss_more}
 use Rattle.script_answers.specs.Steps.{LosesSo}
+use Rattle.run_record.proofs.Packets.{same_begun}
 use Rattle.run_record.proofs.standing.Log.note_loss.Goals as goal
 
 pub returns-then-not-gave_up_more-clause-gave : goal.returns-then-not-gave_up_more-clause-gave
@@ -91,3 +92,7 @@ returns-clause-told c =
 pub returns-clause-heard : goal.returns-clause-heard
 returns-clause-heard c =
     any_ok c.given_up-noted.result (same_heard c.args.self.now.notes c.args.at c.at_mut-notes.result.now c.given_up-noted.new.self (c.given_up-noted.ensures.heard ∙ ap (λ (n : Notes). n.emergencies) c.at_mut-notes.ensures.value))
+
+pub returns-clause-rows : goal.returns-clause-rows
+returns-clause-rows c =
+    any_ok c.given_up-noted.result (same_begun c.args.self.now.notes c.args.at c.at_mut-notes.result.now c.given_up-noted.new.self (c.given_up-noted.ensures.rows ∙ ap (λ (n : Notes). n.begun) c.at_mut-notes.ensures.value))

@@ -21,6 +21,7 @@ loop-place-preserved c =
     record {
       slaves = slaves_more inv.slaves c.note_loss.ensures.slaves;
       heard = c.in_ok-note_loss.ensures.heard ∙ inv.heard;
+      rows = c.in_ok-note_loss.ensures.rows ∙ inv.rows;
       told = λ lens retry missed as' bs shown all p r.
           let e : suc place ≡ place + 1 = omega arith in
           subst (λ (k : ℕ). ReportsTo k as' bs c.note_loss.new.self.notes) e
@@ -43,6 +44,7 @@ loop-place-init c = record {
   slaves = record { notes = refl; homes = refl; asked = refl; ports = refl; recover = refl };
   gave = λ lens retry missed leads shown all. refl;
   heard = refl;
+  rows = refl;
   told = λ lens retry missed as' bs shown all p r. to_first as' bs c.args.self.now.notes (both_lengths (λ a b. LosesSo c.args.frame a b) as' bs p) r;
 }
 

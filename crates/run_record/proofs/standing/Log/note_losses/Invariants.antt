@@ -8,6 +8,7 @@ use Rattle.run_record.specs.Led.{gaves_noted}
 use Rattle.run_record.specs.Reports.{AllReport, ReportsTo, LosesAll}
 use Rattle.run_record.specs.Session.{SameSlaves}
 use Rattle.run_record.proofs.Gaves.{walked}
+use Rattle.run_record.specs.Packets.{begun_noted}
 use Rattle.run_record.proofs.standing.Log.note_losses.Given as goal
 
 abbrev pub invariant-loop-place : goal.invariant-loop-place
@@ -16,5 +17,6 @@ invariant-loop-place l = record {
   gave : (lens : ℕ → Lens) (retry missed : ℕ) (leads : List Leads) → MasterShows lens l.initial.self.recover retry l.master missed leads → AllCounted l.initial.self.recover leads →
       gaves_noted l.self.notes ≡ walked l.place l.frame (map gave_of leads) (gaves_noted l.initial.self.notes);
   heard : emergencies_noted l.self.notes ≡ emergencies_noted l.initial.self.notes;
+  rows : begun_noted l.self.notes ≡ begun_noted l.initial.self.notes;
   told : LosesAll l.frame l.initial.self.recover l.master (λ as' bs. AllReport as' l.initial.self.notes → ReportsTo l.place as' bs l.self.notes);
 }

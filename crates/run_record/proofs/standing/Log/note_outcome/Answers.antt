@@ -9,6 +9,7 @@ use Rattle.run_record.proofs.Reporting.{to_next, got_there, awaited_at, reply_ch
 use Rattle.run_record.proofs.Stations.{same_noted}
 use Rattle.run_record.proofs.Steps.{any_ok}
 use Rattle.script_answers.specs.Steps.{PassesSo}
+use Rattle.run_record.proofs.Packets.{same_begun}
 use Rattle.run_record.proofs.standing.Log.note_outcome.Goals as goal
 
 pub invariant_of-self : goal.invariant_of-self
@@ -38,3 +39,7 @@ returns-clause-told c =
 pub returns-clause-heard : goal.returns-clause-heard
 returns-clause-heard c =
     any_ok c.note_turned.result (same_heard c.args.self.now.notes c.args.at c.at_mut-notes.result.now c.note_turned.new.notes (c.note_turned.ensures.heard ∙ ap (λ (n : Notes). n.emergencies) c.at_mut-notes.ensures.value))
+
+pub returns-clause-rows : goal.returns-clause-rows
+returns-clause-rows c =
+    any_ok c.note_turned.result (same_begun c.args.self.now.notes c.args.at c.at_mut-notes.result.now c.note_turned.new.notes (c.note_turned.ensures.rows ∙ ap (λ (n : Notes). n.begun) c.at_mut-notes.ensures.value))

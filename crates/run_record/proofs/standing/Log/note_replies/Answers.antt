@@ -10,6 +10,7 @@ loop-place-init c = record {
   slaves = record { notes = refl; homes = refl; asked = refl; ports = refl; recover = refl };
   gave = refl;
   heard = refl;
+  rows = refl;
   told = λ lens recover as' bs x p r. to_first as' bs c.args.self.now.notes (both_lengths (λ a b. PassesSo c.args.frame a b) as' bs p) r;
 }
 
@@ -21,6 +22,7 @@ loop-place-preserved c =
       slaves = slaves_more inv.slaves c.note_reply.ensures.slaves;
       gave = c.in_ok-note_reply.ensures.gave ∙ inv.gave;
       heard = c.in_ok-note_reply.ensures.heard ∙ inv.heard;
+      rows = c.in_ok-note_reply.ensures.rows ∙ inv.rows;
       told = λ lens recover as' bs x p r.
           let e : suc place ≡ place + 1 = omega arith in
           subst (λ (k : ℕ). ReportsTo k as' bs c.note_reply.new.self.notes) e (c.in_ok-note_reply.ensures.told lens recover as' bs x p (inv.told lens recover as' bs x p r));

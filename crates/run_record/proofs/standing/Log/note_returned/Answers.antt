@@ -9,3 +9,6 @@ returns-clause-heard c =
 pub returns-clause-told : goal.returns-clause-told
 returns-clause-told c =
     on_ok_weaker c.note_replies.result (λ t. λ lens recover as' bs x p r. t lens recover as' bs x p (c.in_ok-note_emergencies.ensures.told as' r)) c.note_replies.ensures.told
+
+pub returns-clause-rows : goal.returns-clause-rows
+returns-clause-rows c = on_ok_weaker c.note_replies.result (λ same. same ∙ c.in_ok-note_emergencies.ensures.rows) c.note_replies.ensures.rows

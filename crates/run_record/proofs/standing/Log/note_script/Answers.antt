@@ -9,6 +9,7 @@ use Rattle.run_record.proofs.Reporting.{to_next, to_same, got_there, same_whole,
 use Rattle.run_record.proofs.Stations.{same_noted}
 use Rattle.run_record.proofs.Steps.{any_ok}
 use Rattle.script_answers.specs.Steps.{TurnsSo}
+use Rattle.run_record.proofs.Packets.{script_rows}
 use Rattle.run_record.proofs.standing.Log.note_script.Goals as goal
 
 pub returns-then-number-rows-clause-told : goal.returns-then-number-rows-clause-told
@@ -52,3 +53,10 @@ returns-clause-told c =
 pub returns-clause-heard : goal.returns-clause-heard
 returns-clause-heard c =
     any_ok c.began_script.result (same_heard c.args.self.now.notes c.args.at c.at_mut.result.now c.began_script.new.self (c.began_script.ensures.heard ∙ ap (λ (n : Notes). n.emergencies) c.at_mut.ensures.value))
+
+pub returns-clause-packets : goal.returns-clause-packets
+returns-clause-packets c =
+    let log = c.args.self.now in
+    on_ok_weaker c.began_script.result
+    (λ is. script_rows log.notes c.args.at c.at_mut.result.now c.began_script.new.self c.scripted-number.result c.changes_state-state.result c.args.frame c.requires.notes c.at_mut.ensures.value is)
+    c.began_script.ensures.is

@@ -7,6 +7,7 @@ use Rattle.run_record.proofs.Gaves.{same_gaves}
 use Rattle.run_record.proofs.Heard.{same_heard}
 use Rattle.run_record.proofs.Reporting.{set_reports}
 use Rattle.run_record.proofs.Stations.{among_stations, one_noted}
+use Rattle.run_record.proofs.Packets.{same_begun}
 use Rattle.run_record.proofs.standing.Log.note_slave.Goals as goal
 
 pub at_mut-requires : goal.at_mut-requires
@@ -43,3 +44,9 @@ returns-clause-heard c =
     on_ok_weaker c.note_at-noted.result
     (λ same. same_heard c.args.self.now.notes c.args.at c.at_mut-notes.result.now c.note_at-noted.new.notes (same ∙ ap (λ (n : Notes). n.emergencies) c.at_mut-notes.ensures.value))
     c.note_at-noted.ensures.heard
+
+pub returns-clause-rows : goal.returns-clause-rows
+returns-clause-rows c =
+    on_ok_weaker c.note_at-noted.result
+    (λ same. same_begun c.args.self.now.notes c.args.at c.at_mut-notes.result.now c.note_at-noted.new.notes (same ∙ ap (λ (n : Notes). n.begun) c.at_mut-notes.ensures.value))
+    c.note_at-noted.ensures.rows

@@ -5,6 +5,7 @@ use Rattle.run_record.proofs.Gaves.{same_gaves}
 use Rattle.run_record.proofs.Heard.{same_heard}
 use Rattle.run_record.proofs.Reporting.{set_reports}
 use Rattle.run_record.proofs.Stations.{same_noted}
+use Rattle.run_record.proofs.Packets.{same_begun}
 use Rattle.run_record.proofs.standing.Log.receive.Goals as goal
 
 pub invariant_of-self : goal.invariant_of-self
@@ -28,3 +29,7 @@ returns-clause-told c =
 pub returns-clause-heard : goal.returns-clause-heard
 returns-clause-heard c =
     same_heard c.args.self.now.notes c.in-Some.field-0.now c.at_mut.result.now c.received.new.self (ap (λ (n : Notes). n.emergencies) c.received.ensures ∙ ap (λ (n : Notes). n.emergencies) c.at_mut.ensures.value)
+
+pub returns-clause-rows : goal.returns-clause-rows
+returns-clause-rows c =
+    same_begun c.args.self.now.notes c.in-Some.field-0.now c.at_mut.result.now c.received.new.self (ap (λ (n : Notes). n.begun) c.received.ensures ∙ ap (λ (n : Notes). n.begun) c.at_mut.ensures.value)

@@ -1,0 +1,10 @@
+mod Maps
+mod Ports
+mod Settled
+mod Rests
+mod Scripts
+mod Frames
+mod Unpassed
+mod Counts
+mod Walk
+mod First

@@ -1,0 +1,46 @@
+use Rattle.std.proofs.Common.{◌≡◌, ◌<◌, true, false, Some, [], sym, ap, ◌∙◌, arith, length, rules}
+use Rattle.std.specs.Prelude.{nat_lt}
+use Rattle.master_tour.specs.declared.stop.Stand.{Stand}
+use Rattle.master_node.specs.Coming.{IsComing, next_of}
+use Rattle.master_node.specs.Starts.{IsByMails, NoneComes, SideFrees}
+use Rattle.master_node.specs.declared.coming.Coming.{Coming}
+use Rattle.master_node.proofs.Lists.{some_here}
+use Rattle.master_node.proofs.Restings.{never}
+use Rattle.master_node.proofs.Starts.{none_waiting, some_waiting, waits_other}
+use Rattle.master_node.proofs.node.MasterNode.coming_open.Goals as goal
+
+pub returns-then-not-is_free-clause-none : goal.returns-then-not-is_free-clause-none
+returns-then-not-is_free-clause-none c = λ w e.
+    let m = c.args.self.now in
+    let l : c.args.place < length m.tour.stops.items = omega (arith, c.requires, m.paired, m.tour.stops.ok.0) in
+    let free : c.is_free.result ≡ false = search rules in
+    some_here (λ s. s.stand ≡ Stand.Open → SideFrees s.side → NoneComes m.lan c.args.place (next_of s)) m.tour.stops.items c.args.place c.index-stop.result.now l c.index-stop.ensures
+    (λ o f. absurd (never (sym free ∙ c.is_free.ensures.may f.speech f.side f.account f.known f.shows f.hand f.unpassed f.free f.done)))
+
+pub returns-then-waits-clause-waits : goal.returns-then-waits-clause-waits
+returns-then-waits-clause-waits c =
+    let yes : c.waits.result ≡ true = search rules in
+    λ e. some_waiting _ (sym c.waits.ensures ∙ yes) e
+
+pub returns-clause-comes : goal.returns-clause-comes
+returns-clause-comes c = λ w.
+    let m = c.args.self.now in
+    let l : c.args.place < length m.tour.stops.items = omega (arith, c.requires, m.paired, m.tour.stops.ok.0) in
+    some_here (λ s. IsComing (next_of s) c.scripted.result) m.tour.stops.items c.args.place c.index-stop.result.now l c.index-stop.ensures c.scripted.ensures.comes
+
+pub returns-clause-none : goal.returns-clause-none
+returns-clause-none c = λ w e.
+    let m = c.args.self.now in
+    let l : c.args.place < length m.tour.stops.items = omega (arith, c.requires, m.paired, m.tour.stops.ok.0) in
+    let no : c.waits.result ≡ false = search rules in
+    some_here (λ s. s.stand ≡ Stand.Open → SideFrees s.side → NoneComes m.lan c.args.place (next_of s)) m.tour.stops.items c.args.place c.index-stop.result.now l c.index-stop.ensures
+    (λ o f. (none_waiting _ (sym c.waits.ensures ∙ no), c.scripted.ensures.none e))
+
+pub returns-clause-mails : goal.returns-clause-mails
+returns-clause-mails c =
+    let m = c.args.self.now in
+    let l : c.args.place < length m.tour.stops.items = omega (arith, c.requires, m.paired, m.tour.stops.ok.0) in
+    some_here (λ s. c.scripted.result ≡ Some Coming.Script → IsByMails (next_of s)) m.tour.stops.items c.args.place c.index-stop.result.now l c.index-stop.ensures c.scripted.ensures.mails
+
+pub returns-clause-waits : goal.returns-clause-waits
+returns-clause-waits c = waits_other c.args.self.now.lan c.args.place c.scripted.result c.scripted.ensures.packet

@@ -1,0 +1,66 @@
+use Rattle.std.proofs.Common.{◌<◌, sym, subst, arith, length}
+use Rattle.master_tour.specs.Walks.{StepsAt}
+use Rattle.master_node.specs.Begins.{LaysOldest}
+use Rattle.master_node.specs.Coming.{IsLaid}
+use Rattle.master_node.specs.Kept.{StopStays}
+use Rattle.master_node.proofs.Kepts.{stop_same}
+use Rattle.master_node.proofs.Lists.{steps_same}
+use Rattle.std.proofs.Common.{ap, refl}
+use Rattle.master_tour.proofs.Walks.{each_same}
+use Rattle.master_node.proofs.Lists.{steps_each}
+use Rattle.master_node.specs.Origins.{LaysFrom}
+use Rattle.master_node.specs.Starts.{LaysPacket, WaitsFor}
+use Rattle.master_node.proofs.node.MasterNode.lay.Goals as goal
+
+pub returns-in-None-clause-laid : goal.returns-in-None-clause-laid
+returns-in-None-clause-laid c =
+    let m = c.args.self.now in
+    let l : c.args.place < length m.tour.stops.items = omega (arith, c.requires, m.paired, m.tour.stops.ok.0) in
+    let e = c.in-None.is in
+    subst (λ z. StepsAt (λ s t. StopStays s t × IsLaid z t.side.hand.laying.laid) c.args.place m.tour.stops.items m.tour.stops.items) (sym e) (steps_same _ c.args.place m.tour.stops.items l (λ s. (stop_same s, tt)))
+
+pub returns-in-Some-clause-laid : goal.returns-in-Some-clause-laid
+returns-in-Some-clause-laid c =
+    subst (λ z. StepsAt (λ s t. StopStays s t × IsLaid z t.side.hand.laying.laid) c.args.place c.args.self.now.tour.stops.items c.lay_coming.new.self.tour.stops.items) (sym c.in-Some.is) c.lay_coming.ensures.laid
+
+pub returns-in-None-clause-joins : goal.returns-in-None-clause-joins
+returns-in-None-clause-joins c = each_same _ c.args.self.now.tour.stops.items (λ s. refl)
+
+pub returns-in-Some-clause-joins : goal.returns-in-Some-clause-joins
+returns-in-Some-clause-joins c = steps_each _ _ c.args.place c.args.self.now.tour.stops.items c.lay_coming.new.self.tour.stops.items (λ s. refl) (λ s t p. ap (λ z. z.join) p.0.side.found) c.lay_coming.ensures.laid
+
+pub returns-in-None-clause-oldest : goal.returns-in-None-clause-oldest
+returns-in-None-clause-oldest c =
+    let m = c.args.self.now in
+    let l : c.args.place < length m.tour.stops.items = omega (arith, c.requires, m.paired, m.tour.stops.ok.0) in
+    subst (λ z. StepsAt (λ s t. LaysOldest m.lan c.args.place z t) c.args.place m.tour.stops.items m.tour.stops.items) (sym c.in-None.is) (steps_same _ c.args.place m.tour.stops.items l (λ s. tt))
+
+pub returns-in-Some-clause-oldest : goal.returns-in-Some-clause-oldest
+returns-in-Some-clause-oldest c =
+    let m = c.args.self.now in
+    subst (λ z. StepsAt (λ s t. LaysOldest m.lan c.args.place z t) c.args.place m.tour.stops.items c.lay_coming.new.self.tour.stops.items) (sym c.in-Some.is) c.lay_coming.ensures.oldest
+
+pub returns-in-None-clause-origins : goal.returns-in-None-clause-origins
+returns-in-None-clause-origins c =
+    let m = c.args.self.now in
+    let l : c.args.place < length m.tour.stops.items = omega (arith, c.requires, m.paired, m.tour.stops.ok.0) in
+    let k : c.args.place < length m.posts.items = omega (arith, c.requires, m.posts.ok.0) in
+    subst (λ z. StepsAt (λ s t. StepsAt (λ p q. LaysFrom z s.side.hand.laying.number p q) c.args.place m.posts.items m.posts.items) c.args.place m.tour.stops.items m.tour.stops.items) (sym c.in-None.is)
+    (steps_same _ c.args.place m.tour.stops.items l (λ s. steps_same _ c.args.place m.posts.items k (λ p. record { counts = refl; origin = tt })))
+
+pub returns-in-Some-clause-origins : goal.returns-in-Some-clause-origins
+returns-in-Some-clause-origins c =
+    let m = c.args.self.now in
+    let n = c.lay_coming.new.self in
+    subst (λ z. StepsAt (λ s t. StepsAt (λ p q. LaysFrom z s.side.hand.laying.number p q) c.args.place m.posts.items n.posts.items) c.args.place m.tour.stops.items n.tour.stops.items) (sym c.in-Some.is) c.lay_coming.ensures.origins
+
+pub returns-in-None-clause-sure : goal.returns-in-None-clause-sure
+returns-in-None-clause-sure c = λ w.
+    let m = c.args.self.now in
+    let l : c.args.place < length m.tour.stops.items = omega (arith, c.requires, m.paired, m.tour.stops.ok.0) in
+    subst (λ z. StepsAt (λ s t. LaysPacket z t.side.hand.laying.laid) c.args.place m.tour.stops.items m.tour.stops.items) (sym c.in-None.is) (steps_same _ c.args.place m.tour.stops.items l (λ s. tt))
+
+pub returns-in-Some-clause-sure : goal.returns-in-Some-clause-sure
+returns-in-Some-clause-sure c = λ w.
+    let m = c.args.self.now in
+    subst (λ z. StepsAt (λ s t. LaysPacket z t.side.hand.laying.laid) c.args.place m.tour.stops.items c.lay_coming.new.self.tour.stops.items) (sym c.in-Some.is) (c.lay_coming.ensures.sure (subst (λ z. WaitsFor m.lan c.args.place z) c.in-Some.is w))

@@ -1,0 +1,55 @@
+use Rattle.std.proofs.Common.{◌≡◌, ◌∙◌, ◌<◌, Some, inl, inr, refl, sym, ap, arith, length}
+use Rattle.master_hand.specs.declared.laying.Laid.{Laid}
+use Rattle.master_node.specs.Begins.{IsOldest}
+use Rattle.master_tour.proofs.Walks.{steps_set}
+use Rattle.master_node.proofs.Kepts.{stop_side}
+use Rattle.master_node.proofs.node.MasterNode.lay_packet.Goals as goal
+
+pub returns-in-Some-clause-laid : goal.returns-in-Some-clause-laid
+returns-in-Some-clause-laid c =
+    let m = c.args.self.now in
+    let l : c.args.place < length m.tour.stops.items = omega (arith, c.requires, m.paired, m.tour.stops.ok.0) in
+    steps_set _ c.args.place m.tour.stops.items c.index_mut.result.now _ l c.index_mut.ensures.value (stop_side _ _ _ c.lay_packet.ensures.kept refl refl refl refl refl refl, inl c.lay_packet.ensures.laid)
+
+pub returns-in-None-clause-laid : goal.returns-in-None-clause-laid
+returns-in-None-clause-laid c =
+    let m = c.args.self.now in
+    let l : c.args.place < length m.tour.stops.items = omega (arith, c.requires, m.paired, m.tour.stops.ok.0) in
+    steps_set _ c.args.place m.tour.stops.items c.index_mut-in-None.result.now _ l c.index_mut-in-None.ensures.value (stop_side _ _ _ c.lay_nothing.ensures.kept refl refl refl refl refl refl, inr c.lay_nothing.ensures.laid)
+
+pub returns-in-Some-clause-oldest : goal.returns-in-Some-clause-oldest
+returns-in-Some-clause-oldest c =
+    let m = c.args.self.now in
+    let l : c.args.place < length m.tour.stops.items = omega (arith, c.requires, m.paired, m.tour.stops.ok.0) in
+    steps_set (λ s t. IsOldest m.lan c.args.place t) c.args.place m.tour.stops.items c.index_mut.result.now _ l c.index_mut.ensures.value
+    (λ e. c.in-Some.ensures.oldest ∙ ap (λ z. Some (record { items = z })) (sym c.lay_packet.ensures.packet))
+
+pub returns-in-None-clause-oldest : goal.returns-in-None-clause-oldest
+returns-in-None-clause-oldest c =
+    let m = c.args.self.now in
+    let l : c.args.place < length m.tour.stops.items = omega (arith, c.requires, m.paired, m.tour.stops.ok.0) in
+    steps_set (λ s t. IsOldest m.lan c.args.place t) c.args.place m.tour.stops.items c.index_mut-in-None.result.now _ l c.index_mut-in-None.ensures.value
+    (λ e. absurd (let bad : Laid.Nothing ≡ Laid.Packet = sym c.lay_nothing.ensures.laid ∙ e in cc))
+
+pub returns-in-Some-clause-origins : goal.returns-in-Some-clause-origins
+returns-in-Some-clause-origins c =
+    let m = c.args.self.now in
+    let l : c.args.place < length m.tour.stops.items = omega (arith, c.requires, m.paired, m.tour.stops.ok.0) in
+    let k : c.args.place < length m.posts.items = omega (arith, c.requires, m.posts.ok.0) in
+    steps_set _ c.args.place m.tour.stops.items c.index_mut.result.now _ l c.index_mut.ensures.value (steps_set _ c.args.place m.posts.items c.index_mut-post.result.now _ k c.index_mut-post.ensures.value (record { counts = refl; origin = refl }))
+
+pub returns-in-None-clause-origins : goal.returns-in-None-clause-origins
+returns-in-None-clause-origins c =
+    let m = c.args.self.now in
+    let l : c.args.place < length m.tour.stops.items = omega (arith, c.requires, m.paired, m.tour.stops.ok.0) in
+    let k : c.args.place < length m.posts.items = omega (arith, c.requires, m.posts.ok.0) in
+    steps_set _ c.args.place m.tour.stops.items c.index_mut-in-None.result.now _ l c.index_mut-in-None.ensures.value (steps_set _ c.args.place m.posts.items c.index_mut-post.result.now _ k c.index_mut-post.ensures.value (record { counts = refl; origin = refl }))
+
+pub returns-in-Some-clause-sure : goal.returns-in-Some-clause-sure
+returns-in-Some-clause-sure c = λ n.
+    let m = c.args.self.now in
+    let l : c.args.place < length m.tour.stops.items = omega (arith, c.requires, m.paired, m.tour.stops.ok.0) in
+    steps_set (λ s t. t.side.hand.laying.laid ≡ Laid.Packet) c.args.place m.tour.stops.items c.index_mut.result.now _ l c.index_mut.ensures.value c.lay_packet.ensures.laid
+
+pub returns-in-None-clause-sure : goal.returns-in-None-clause-sure
+returns-in-None-clause-sure c = λ n. absurd (n (c.oldest.ensures.none c.in-None.is))

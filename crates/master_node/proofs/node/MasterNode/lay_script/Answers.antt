@@ -1,0 +1,20 @@
+use Rattle.std.proofs.Common.{◌<◌, refl, arith, length}
+use Rattle.master_tour.proofs.Walks.{steps_set}
+use Rattle.master_node.proofs.Kepts.{stop_side}
+use Rattle.std.proofs.Common.{ap}
+use Rattle.master_node.specs.declared.event.Origin.{Origin}
+use Rattle.master_node.proofs.node.MasterNode.lay_script.Goals as goal
+
+pub returns-clause-laid : goal.returns-clause-laid
+returns-clause-laid c =
+    let m = c.args.self.now in
+    let l : c.args.place < length m.tour.stops.items = omega (arith, c.requires, m.paired, m.tour.stops.ok.0) in
+    steps_set _ c.args.place m.tour.stops.items c.index_mut.result.now _ l c.index_mut.ensures.value (stop_side _ _ _ c.lay_script.ensures.kept refl refl refl refl refl refl, c.lay_script.ensures.laid)
+
+pub returns-clause-origins : goal.returns-clause-origins
+returns-clause-origins c =
+    let m = c.args.self.now in
+    let l : c.args.place < length m.tour.stops.items = omega (arith, c.requires, m.paired, m.tour.stops.ok.0) in
+    let k : c.args.place < length m.posts.items = omega (arith, c.requires, m.posts.ok.0) in
+    steps_set _ c.args.place m.tour.stops.items c.index_mut.result.now _ l c.index_mut.ensures.value
+    (steps_set _ c.args.place m.posts.items c.index_mut-post.result.now _ k c.index_mut-post.ensures.value (record { counts = refl; origin = ap (λ z. Origin.Script z) c.number-number.ensures }))

@@ -1,0 +1,13 @@
+use Rattle.std.proofs.Common.{◌<◌, refl, ap, arith, length}
+use Rattle.master_tour.proofs.Walks.{steps_set}
+use Rattle.master_node.specs.declared.event.Origin.{Origin}
+use Rattle.master_node.proofs.Listing.{steps_stay}
+use Rattle.master_node.proofs.node.MasterNode.lay_state.Goals as goal
+
+pub returns-clause-origins : goal.returns-clause-origins
+returns-clause-origins c =
+    let m = c.args.self.now in
+    let l : c.args.place < length m.tour.stops.items = omega (arith, c.requires, m.paired, m.tour.stops.ok.0) in
+    let k : c.args.place < length m.posts.items = omega (arith, c.requires, m.posts.ok.0) in
+    steps_stay _ c.args.place m.tour.stops.items c.index.result.now l c.index.ensures
+    (steps_set _ c.args.place m.posts.items c.index_mut-post.result.now _ k c.index_mut-post.ensures.value (refl, ap (λ z. Origin.Script z) c.number-number.ensures))

@@ -1,0 +1,4 @@
+pub mod Names
+mod Wishes
+mod Slaves
+pub mod All

@@ -1,0 +1,2 @@
+pub use Rattle.due_rows.specs as of_due_rows
+pub mod Dues

@@ -1,0 +1,4 @@
+mod Shut
+mod Finds
+pub mod Quiet
+pub mod Steps

@@ -1,0 +1,283 @@
+-- THE PACKETS THAT CAME INTO HAND before a frame, as its master lists them and by the lives of the slaves.
+use Rattle.std.proofs.Common.{◌≡◌, ◌⊎◌, inl, inr, ◌<◌, ◌≤◌, ◌+◌, ◌%◌, ◌==◌, ℕ, zero, suc, Bool, true, false, Option, Some, None, List, [], ◌∷◌, ◌++◌, map, length, length-append, refl, sym, ap, ◌∙◌, subst, arith, append_assoc, append-nil}
+use Rattle.std.specs.Prelude.{if◌then◌else◌, IfSome, slice_get}
+use Rattle.std.proofs.Math.Nat.{mod-eq_of_lt}
+use Rattle.std.proofs.lemmas.Bool.{eq-eqb, eqb-true}
+use Rattle.std.proofs.lemmas.List.{length-map}
+use Rattle.master_node.specs.Begins.{begun_of, is_other}
+use Rattle.master_node.specs.Listing.{ServicesBegin, began_by, began_in, events_in, forwards_behind, number_at}
+use Rattle.master_node.specs.Origins.{forwards_at}
+use Rattle.master_node.specs.declared.event.Event.{Event}
+use Rattle.master_node.specs.declared.event.Origin.TheVariants.{Script, Forward, Gateway}
+use Rattle.master_node.specs.declared.node.MasterNode.{MasterNode}
+use Rattle.master_node.specs.of_datagrams.Datagram as Raw
+use Rattle.master_node.specs.of_frame_view.View.{Lens}
+use Rattle.master_node.specs.of_life_model.Lives.{Life}
+use Rattle.master_node.specs.of_life_runs.First.{first_leads, lens_of}
+use Rattle.master_node.specs.of_life_runs.Led.{AllTurn, Exchanged, IsLed, IsLedFrame, IsTurn, Leads, Took, Turn, speech_at}
+use Rattle.master_node.specs.of_life_runs.Spans.{is_open}
+use Rattle.master_node.specs.of_master_duty.Reply.{Reply}
+use Rattle.master_node.specs.of_master_duty.of_state_exchange.Stated.{Service}
+use Rattle.master_node.specs.of_master_hand.Spoken.{Asked, sdo, file, drive, net, passed}
+use Rattle.master_node.specs.of_master_hand.of_eoe_model.Client as EoeClient
+use Rattle.master_node.specs.of_master_tour.Made.{is_in}
+use Rattle.master_node.specs.of_master_tour.Orders.{AreOnce}
+use Rattle.master_node.specs.of_task_model.Accounts.{Started, starts}
+use Rattle.packets_begun.specs.Numbers.{each_with, frames_begun}
+use Rattle.packets_begun.specs.Over.{packet_begun}
+use Rattle.run_record.specs.Forwarded.{PacketsNoted}
+use Rattle.run_record.specs.Led.{LeadTo}
+use Rattle.run_record.specs.Packets.{AllFree, AllPackets, FreeAt, BeginsOn, FreeFor, HasPacket, PacketFor, begun_noted, numbered_from, packet_row, packets_at, rows_by}
+use Rattle.run_record.specs.Reports.{AllReport, Reports, waits_of}
+use Rattle.run_record.specs.Session.{first_notes}
+use Rattle.run_record.specs.declared.notes.Awaited.{Awaited}
+use Rattle.run_record.specs.declared.notes.Notes.{Notes}
+use Rattle.run_record.proofs.Packets.{rows_append}
+use Rattle.script_answers.specs.Answers.{StandsBy, turned}
+use Rattle.script_answers.proofs.Turns.{life_mails}
+use Rattle.script_runs.specs.Came.{is_packet}
+use Rattle.segment_plan.specs.declared.plan.Scenario.{Scenario}
+use Rattle.segment_plan.specs.declared.service.Service as Plan
+use Rattle.segment_plan.specs.declared.slave.SlaveSpec.{SlaveSpec}
+use Rattle.slave_node.specs.of_link_mails.Body.{Body}
+
+-- ---- of a slave of which a packet came into hand nothing is awaited
+
+last_same : {T : Type 0} (xs ys : List T) (x y : T) → xs ++ x ∷ [] ≡ ys ++ y ∷ [] → x ≡ y
+last_same [] [] x y e = cc
+last_same [] (b ∷ []) x y e = absurd (cc)
+last_same [] (b ∷ c ∷ ys) x y e = absurd (cc)
+last_same (a ∷ []) [] x y e = absurd (cc)
+last_same (a ∷ b ∷ xs) [] x y e = absurd (cc)
+last_same (a ∷ xs) (b ∷ ys) x y e = let f : xs ++ x ∷ [] ≡ ys ++ y ∷ [] = cc in last_same xs ys x y f
+
+-- a packet is no service of a script
+scripted : (q : Asked) → is_other q ≡ false → is_packet (Service.Mails q) ≡ false → ⊥
+scripted (sdo q) o p = absurd (cc)
+scripted (file q) o p = absurd (cc)
+scripted (drive q) o p = absurd (cc)
+scripted (net (EoeClient.set_ip block)) o p = absurd (cc)
+scripted (net EoeClient.get_ip) o p = absurd (cc)
+scripted (net (EoeClient.packet octets frame)) o p = absurd (cc)
+scripted (passed m) o p = absurd (cc)
+
+-- of another service the row is another
+abbrev with_frame : Service Asked → ℕ → Started Asked
+with_frame s frame = record { service = s; frame = frame }
+
+no_packet : (q a : Asked) (frame g : ℕ) → is_other q ≡ false → with_frame (Service.Mails q) frame ≡ with_frame (Service.Mails a) g → is_other a ≡ false
+no_packet q a frame g o e = let s : Service.Mails q ≡ Service.Mails a = ap (λ (r : Started Asked). r.service) e in let f : q ≡ a = cc in subst (λ z. is_other z ≡ false) f o
+
+no_state : (q : Asked) (target frame g : ℕ) → with_frame (Service.Mails q) frame ≡ with_frame (Service.State target) g → ⊥
+no_state q target frame g e = absurd (let s : Service.Mails q ≡ Service.State target = ap (λ (r : Started Asked). r.service) e in cc)
+
+waits_nothing : (awaited : Awaited) (a : Leads) → HasPacket a → StandsBy (waits_of awaited) a → awaited ≡ Awaited.Nothing
+waits_nothing Awaited.Nothing a p s = refl
+waits_nothing Awaited.Reply a p s =
+    let same = last_same p.front s.era.front (with_frame (Service.Mails p.packet) p.frame) (with_frame (Service.Mails s.era.asked) s.era.frame) (sym p.started ∙ s.era.started) in
+    absurd (scripted s.era.asked (no_packet p.packet s.era.asked p.frame s.era.frame p.is same) s.era.script)
+waits_nothing Awaited.Change a p (inl g) =
+    absurd (no_state p.packet g.era.duty.target p.frame g.era.frame (last_same p.front g.era.front (with_frame (Service.Mails p.packet) p.frame) (with_frame (Service.State g.era.duty.target) g.era.frame) (sym p.started ∙ g.era.started)))
+waits_nothing Awaited.Change a p (inr c) = absurd (let bad : true ≡ false = sym (ap is_open p.stand) ∙ c.away in cc)
+
+free_report : (a : Leads) (n : Notes) → HasPacket a → Reports a n → n.awaited ≡ Awaited.Nothing
+free_report a n p r = waits_nothing n.awaited a p r.told.stands
+
+free_place : (bs : List Leads) (notes : List Notes) → AllReport bs notes → (k : ℕ) → IfSome (slice_get bs k) (λ a. HasPacket a) → FreeAt notes k
+free_place [] [] r k p = tt
+free_place [] (n ∷ notes) r k p = absurd r
+free_place (a ∷ bs) [] r k p = absurd r
+free_place (a ∷ bs) (n ∷ notes) r zero p = free_report a n p r.0
+free_place (a ∷ bs) (n ∷ notes) r (suc k) p = free_place bs notes r.1 k p
+
+pub all_free : (bs : List Leads) (notes : List Notes) → AllReport bs notes → (es : List Event) → AllPackets bs es → AllFree notes es
+all_free bs notes r [] p = tt
+all_free bs notes r (e ∷ es) p = (free_event e p.0, all_free bs notes r es p.1)
+  where
+    free_event : (event : Event) → PacketFor bs event → FreeFor notes event
+    free_event (Event.Began slave (Script number)) q = tt
+    free_event (Event.Began slave (Forward number)) q = free_place bs notes r slave q
+    free_event (Event.Began slave (Gateway number)) q = tt
+    free_event (Event.Answered slave kind) q = tt
+    free_event (Event.Emergency slave octets) q = tt
+    free_event (Event.GatewayReply key mail) q = tt
+    free_event (Event.GatewayDone key) q = tt
+    free_event (Event.GivenUp slave) q = tt
+    free_event (Event.Cleared slave own) q = tt
+    free_event (Event.Opened slave) q = tt
+
+-- ---- the slaves of which the master lists one
+
+abbrev SlaveLife : Type 0
+SlaveLife = Life Body Asked Reply
+
+packet_turn : (lens : ℕ → Lens) (made : ℕ) (ds : List Raw.Datagram) (a : Leads) (u : Turn) (q : Asked) → IsTurn lens made ds a u → u.begun ≡ Some (Service.Mails q) → is_other q ≡ false → HasPacket (turned u)
+packet_turn lens made ds a u q t e o =
+    let took : u.lived.life.era.account.started ≡ starts a.lived.life.era.account (Service.Mails q) made = subst (λ z. Took made a.lived.life.era.account u.lived.life.era.account z) e t.took in
+    let grew = ap (λ (l : SlaveLife). l.era.account.started) (sym t.next.life) ∙ took in
+    let m = life_mails (speech_at lens a.lived.spot) made a.lived.life t.next.pick a.lived.life.stand refl q (t.begun ∙ e) grew in
+    record { stand = ap (λ (l : SlaveLife). l.stand) t.next.life ∙ m.stand; packet = q; is = o; frame = made; front = a.lived.life.era.account.started; started = took }
+
+packet_place : (lens : ℕ → Lens) (made : ℕ) (ds : List Raw.Datagram) (as' : List Leads) (us : List Turn) → AllTurn lens made ds as' us → (k : ℕ) (q : Asked) → begun_of us k ≡ Some (Service.Mails q) → is_other q ≡ false → IfSome (slice_get (map turned us) k) (λ a. HasPacket a)
+packet_place lens made ds [] [] t k q e o = tt
+packet_place lens made ds [] (u ∷ us) t k q e o = absurd t
+packet_place lens made ds (a ∷ as') [] t k q e o = tt
+packet_place lens made ds (a ∷ as') (u ∷ us) t zero q e o = packet_turn lens made ds a u q t.0 e o
+packet_place lens made ds (a ∷ as') (u ∷ us) t (suc k) q e o = packet_place lens made ds as' us t.1 k q e o
+
+packets_append : (bs : List Leads) (es fs : List Event) → AllPackets bs es → AllPackets bs fs → AllPackets bs (es ++ fs)
+packets_append bs [] fs p q = q
+packets_append bs (e ∷ es) fs p q = (p.0, packets_append bs es fs p.1 q)
+
+pub all_packets : (lens : ℕ → Lens) (made : ℕ) (ds : List Raw.Datagram) (as' : List Leads) (us : List Turn) → AllTurn lens made ds as' us → (numbers forwards : ℕ → ℕ) (ps : List ℕ) → AllPackets (map turned us) (began_in numbers forwards (begun_of us) ps)
+all_packets lens made ds as' us t numbers forwards [] = tt
+all_packets lens made ds as' us t numbers forwards (p ∷ ps) =
+    packets_append (map turned us) (began_by p (numbers p) (forwards p) (begun_of us p)) (began_in numbers forwards (begun_of us) ps) (here (begun_of us p) refl) (all_packets lens made ds as' us t numbers forwards ps)
+  where
+    mails : (q : Asked) → begun_of us p ≡ Some (Service.Mails q) → (b : Bool) → is_other q ≡ b → PacketFor (map turned us) (Event.Began p (if b then Script (numbers p) else Forward (forwards p)))
+    mails q e true o = tt
+    mails q e false o = packet_place lens made ds as' us t p q e o
+
+    here : (b : Option (Service Asked)) → begun_of us p ≡ b → AllPackets (map turned us) (began_by p (numbers p) (forwards p) b)
+    here None e = tt
+    here (Some (Service.State target)) e = (tt, tt)
+    here (Some (Service.Mails q)) e = (mails q e (is_other q) refl, tt)
+
+-- ---- the rows that it lists
+
+-- of a service that came into hand
+abbrev row_by : ℕ → ℕ → Option (Service Asked) → List (ℕ × ℕ)
+row_by frame number None = []
+row_by frame number (Some (Service.Mails q)) = if is_other q then [] else (number, frame) ∷ []
+row_by frame number (Some (Service.State target)) = []
+
+abbrev none_rows : List (ℕ × ℕ)
+none_rows = []
+
+nothing_else : (b : Bool) → (if b then none_rows else none_rows) ++ none_rows ≡ (if b then none_rows else none_rows)
+nothing_else true = refl
+nothing_else false = refl
+
+one_row : (frame k p number forwards : ℕ) (b : Option (Service Asked)) → rows_by frame k (began_by p number forwards b) ≡ (if p == k then row_by frame forwards b else [])
+one_row frame k p number forwards None = go (p == k)
+  where
+    go : (z : Bool) → none_rows ≡ (if z then none_rows else none_rows)
+    go true = refl
+    go false = refl
+one_row frame k p number forwards (Some (Service.State target)) = nothing_else (p == k)
+one_row frame k p number forwards (Some (Service.Mails q)) = go (is_other q) (p == k)
+  where
+    go : (o z : Bool) → (if z then packet_row (if o then Script number else Forward forwards) frame else none_rows) ++ none_rows ≡ (if z then (if o then none_rows else (forwards, frame) ∷ []) else none_rows)
+    go true true = refl
+    go true false = refl
+    go false true = refl
+    go false false = refl
+
+in_rows : (frame k : ℕ) (numbers forwards : ℕ → ℕ) (b : ℕ → Option (Service Asked)) (ps : List ℕ) → AreOnce ps → rows_by frame k (began_in numbers forwards b ps) ≡ (if is_in k ps then row_by frame (forwards k) (b k) else [])
+in_rows frame k numbers forwards b [] o = refl
+in_rows frame k numbers forwards b (p ∷ ps) o =
+    rows_append frame k (began_by p (numbers p) (forwards p) (b p)) (began_in numbers forwards b ps) ∙ (λ i. one_row frame k p (numbers p) (forwards p) (b p) i ++ in_rows frame k numbers forwards b ps o.1 i) ∙ go (k == p) refl
+  where
+    go : (z : Bool) → (k == p) ≡ z → (if p == k then row_by frame (forwards p) (b p) else []) ++ (if is_in k ps then row_by frame (forwards k) (b k) else []) ≡ (if (if k == p then true else is_in k ps) then row_by frame (forwards k) (b k) else [])
+    go true f =
+        let q : k ≡ p = eqb-true k p f in
+        let out : is_in k ps ≡ false = subst (λ j. is_in j ps ≡ false) (sym q) o.0 in
+        (λ i. (if eq-eqb p k (sym q) i then row_by frame (forwards (sym q i)) (b (sym q i)) else []) ++ (if out i then row_by frame (forwards k) (b k) else []))
+        ∙ append-nil (row_by frame (forwards k) (b k)) ∙ ap (λ (z : Bool). if (if z then true else is_in k ps) then row_by frame (forwards k) (b k) else []) (sym f)
+    go false f =
+        let away : (p == k) ≡ false = not_back (p == k) refl f in
+        ap (λ (z : Bool). (if z then row_by frame (forwards p) (b p) else []) ++ (if is_in k ps then row_by frame (forwards k) (b k) else [])) away
+        ∙ ap (λ (z : Bool). if (if z then true else is_in k ps) then row_by frame (forwards k) (b k) else []) (sym f)
+      where
+        not_back : (z : Bool) → (p == k) ≡ z → (k == p) ≡ false → (p == k) ≡ false
+        not_back true e n = absurd (let w = eq-eqb k p (sym (eqb-true p k e)) in let bad : true ≡ false = sym w ∙ n in cc)
+        not_back false e n = e
+
+pub listed_rows : (frame k : ℕ) (forwards : ℕ → ℕ) (as' : List Leads) (us : List Turn) (m : MasterNode) → ServicesBegin forwards as' us m → rows_by frame k (events_in m) ≡ row_by frame (forwards k) (begun_of us k)
+listed_rows frame k forwards as' us m x =
+    ap (λ z. rows_by frame k z) x.listed ∙ in_rows frame k (λ j. number_at as' j) forwards (λ j. begun_of us j) x.visited x.once ∙ go (is_in k x.visited) refl
+  where
+    go : (z : Bool) → is_in k x.visited ≡ z → (if z then row_by frame (forwards k) (begun_of us k) else []) ≡ row_by frame (forwards k) (begun_of us k)
+    go true e = refl
+    go false e = ap (λ z. row_by frame (forwards k) z) (sym (x.others k e))
+
+-- ---- by the frames of a run
+
+row_frames : (frame number : ℕ) (b : Option (Service Asked)) → row_by frame number b ≡ numbered_from number (each_with frame (packet_begun b))
+row_frames frame number None = refl
+row_frames frame number (Some (Service.State target)) = refl
+row_frames frame number (Some (Service.Mails (sdo q))) = refl
+row_frames frame number (Some (Service.Mails (file q))) = refl
+row_frames frame number (Some (Service.Mails (drive q))) = refl
+row_frames frame number (Some (Service.Mails (net (EoeClient.set_ip block)))) = refl
+row_frames frame number (Some (Service.Mails (net EoeClient.get_ip))) = refl
+row_frames frame number (Some (Service.Mails (net (EoeClient.packet octets n)))) = refl
+row_frames frame number (Some (Service.Mails (passed m))) = refl
+
+counted_frames : (frame n : ℕ) (b : Option (Service Asked)) → n + 1 < 4294967296 → forwards_behind n b ≡ n + length (each_with frame (packet_begun b))
+counted_frames frame n None l = omega arith
+counted_frames frame n (Some (Service.State target)) l = omega arith
+counted_frames frame n (Some (Service.Mails (sdo q))) l = omega arith
+counted_frames frame n (Some (Service.Mails (file q))) l = omega arith
+counted_frames frame n (Some (Service.Mails (drive q))) l = omega arith
+counted_frames frame n (Some (Service.Mails (net (EoeClient.set_ip block)))) l = omega arith
+counted_frames frame n (Some (Service.Mails (net EoeClient.get_ip))) l = omega arith
+counted_frames frame n (Some (Service.Mails (net (EoeClient.packet octets i)))) l = mod-eq_of_lt l
+counted_frames frame n (Some (Service.Mails (passed m))) l = omega arith
+
+numbered_append : (n : ℕ) (fs gs : List ℕ) → numbered_from n (fs ++ gs) ≡ numbered_from n fs ++ numbered_from (n + length fs) gs
+numbered_append n [] gs = ap (λ k. numbered_from k gs) (let e : n ≡ n + 0 = omega arith in e)
+numbered_append n (f ∷ fs) gs = ap (λ z. (n, f) ∷ z) (numbered_append (suc n) fs gs ∙ ap (λ k. numbered_from (suc n) fs ++ numbered_from k gs) (let e : suc n + length fs ≡ n + suc (length fs) = omega arith in e))
+
+few_one : (frame : ℕ) (b : Option (Service Asked)) → length (each_with frame (packet_begun b)) ≤ 1
+few_one frame None = omega arith
+few_one frame (Some (Service.State target)) = omega arith
+few_one frame (Some (Service.Mails (sdo q))) = omega arith
+few_one frame (Some (Service.Mails (file q))) = omega arith
+few_one frame (Some (Service.Mails (drive q))) = omega arith
+few_one frame (Some (Service.Mails (net (EoeClient.set_ip block)))) = omega arith
+few_one frame (Some (Service.Mails (net EoeClient.get_ip))) = omega arith
+few_one frame (Some (Service.Mails (net (EoeClient.packet octets i)))) = omega arith
+few_one frame (Some (Service.Mails (passed m))) = omega arith
+
+few_frames : {lens : ℕ → Lens} {recover retry : ℕ} {first : List Leads} {fs : List Exchanged} {missed : ℕ} {as' : List Leads} (led : IsLed lens recover retry first fs missed as') (k : ℕ) → length (frames_begun led k) ≤ length fs
+few_frames IsLed.start k = omega arith
+few_frames (IsLed.on fs missed as' f us led frame) k =
+    let before = few_frames led k in
+    let one = few_one (length fs) (begun_of us k) in
+    let left = length-append (frames_begun led k) (each_with (length fs) (packet_begun (begun_of us k))) in
+    let right = length-append fs (f ∷ []) in
+    omega (arith, before, one, left, right)
+
+-- ONE FRAME MORE
+pub packets_on : (plan : Scenario) (fs : List Exchanged) (missed : ℕ) (as' : List Leads) (lives : LeadTo plan fs missed as') (f : Exchanged) (us : List Turn) (frame : IsLedFrame (lens_of plan.slaves) (length fs) f.sent as' us) (m0 m1 m2 : MasterNode) (old mid new : List Notes) →
+    PacketsNoted plan m0 old lives → ServicesBegin (λ k. forwards_at m0.posts.items k) as' us m1 → ((k : ℕ) → forwards_at m2.posts.items k ≡ forwards_at m1.posts.items k) → length fs + 1 < 4294967296 → length mid ≡ length old → begun_noted new ≡ begun_noted mid →
+    BeginsOn (length fs) m1 old mid as' (map turned us) → AllReport as' old → PacketsNoted plan m2 new (IsLed.on fs missed as' f us lives frame)
+packets_on plan fs missed as' lives f us frame m0 m1 m2 old mid new w x kept few many same begins told = record {
+  counts = λ k.
+      let n = length (frames_begun lives k) in
+      let more = each_with (length fs) (packet_begun (begun_of us k)) in
+      let less = few_frames lives k in
+      kept k ∙ x.counts k ∙ ap (λ z. forwards_behind z (begun_of us k)) (w.counts k) ∙ counted_frames (length fs) n (begun_of us k) (omega (arith, less, few)) ∙ sym (length-append (frames_begun lives k) more);
+  rows = λ k l.
+      let before = length-map old (λ (n : Notes). n.begun) in
+      let middle = length-map mid (λ (n : Notes). n.begun) in
+      let long = ap length same in
+      let inside : k < length old = omega (arith, l, long, middle, many) in
+      let within : k < length (begun_noted old) = omega (arith, inside, before) in
+      let lists : AllPackets (map turned us) (events_in m1) = subst (λ z. AllPackets (map turned us) z) (sym x.listed) (all_packets (lens_of plan.slaves) (length fs) frame.datagrams as' us frame.each (λ j. number_at as' j) (λ j. forwards_at m0.posts.items j) x.visited) in
+      let more = each_with (length fs) (packet_begun (begun_of us k)) in
+      let zero : length (frames_begun lives k) ≡ 0 + length (frames_begun lives k) = omega arith in
+      ap (λ z. packets_at z k) same ∙ begins told lists k inside
+      ∙ (λ i. w.rows k within i ++ (listed_rows (length fs) k (λ j. forwards_at m0.posts.items j) as' us m1 x ∙ ap (λ z. row_by (length fs) z (begun_of us k)) (w.counts k) ∙ row_frames (length fs) (length (frames_begun lives k)) (begun_of us k) ∙ ap (λ z. numbered_from z more) zero) i)
+      ∙ sym (numbered_append 0 (frames_begun lives k) more);
+}
+
+-- before the first frame
+none_noted : (services : List (ℕ × Plan.Service)) (number : ℕ) (ss : List SlaveSpec) (k : ℕ) → packets_at (begun_noted (first_notes services number ss)) k ≡ []
+none_noted services number [] k = refl
+none_noted services number (s ∷ ss) zero = refl
+none_noted services number (s ∷ ss) (suc k) = none_noted services (number + 1) ss k
+
+pub packets_first : (plan : Scenario) (m : MasterNode) (notes : List Notes) → ((k : ℕ) → forwards_at m.posts.items k ≡ 0) → notes ≡ first_notes plan.services 0 plan.slaves → PacketsNoted plan m notes IsLed.start
+packets_first plan m notes none first = record { counts = none; rows = λ k l. ap (λ (ns : List Notes). packets_at (begun_noted ns) k) first ∙ none_noted plan.services 0 plan.slaves k }
