@@ -144,25 +144,25 @@ pub leads_kept : (rows : List (ℕ × Plan.Service)) (place : ℕ) (specs : List
 leads_kept rows place [] = tt
 leads_kept rows place (s ∷ ss) = (λ e. new_kept, leads_kept rows (suc place) ss)
 
+plain_passing : (stand : Stand) (awaits : Bool) (p : Option Passing) (l : Life Body Talk.Asked Reply) → p ≡ None → l.era.passing ≡ None → StandPassing stand awaits p l
+plain_passing (Stand.Opening up) awaits p l e f = λ n. record { is = f ∙ sym (ap passing_seen e); awaited = λ t. absurd (none p e t) }
+  where
+    none : (o : Option Passing) → o ≡ None → is_some o ≡ true → ⊥
+    none None e t = absurd (cc)
+    none (Some x) e t = absurd (cc)
+plain_passing Stand.Open awaits p l e f = record { is = f ∙ sym (ap passing_seen e); awaited = λ t. absurd (none p e t) }
+  where
+    none : (o : Option Passing) → o ≡ None → is_some o ≡ true → ⊥
+    none None e t = absurd (cc)
+    none (Some x) e t = absurd (cc)
+plain_passing Stand.Gone awaits p l e f = tt
+
+none_counts : (stand : Stand) (at : Option ℕ) (pace : ℕ) → at ≡ None → StandCounts stand at pace 0 true
+none_counts (Stand.Opening up) at pace e = λ f. e
+none_counts Stand.Open at pace e = subst (λ z. CountsAt z pace 0 true) (sym e) (record { is = refl; early = tt })
+none_counts Stand.Gone at pace e = tt
+
 module _ {G : Ghosts InHand} (lens : ℕ → Lens) (recover : ℕ) where
-  plain_passing : (stand : Stand) (awaits : Bool) (p : Option Passing) (l : Life Body Talk.Asked Reply) → p ≡ None → l.era.passing ≡ None → StandPassing stand awaits p l
-  plain_passing (Stand.Opening up) awaits p l e f = λ n. record { is = f ∙ sym (ap passing_seen e); awaited = λ t. absurd (none p e t) }
-    where
-      none : (o : Option Passing) → o ≡ None → is_some o ≡ true → ⊥
-      none None e t = absurd (cc)
-      none (Some x) e t = absurd (cc)
-  plain_passing Stand.Open awaits p l e f = record { is = f ∙ sym (ap passing_seen e); awaited = λ t. absurd (none p e t) }
-    where
-      none : (o : Option Passing) → o ≡ None → is_some o ≡ true → ⊥
-      none None e t = absurd (cc)
-      none (Some x) e t = absurd (cc)
-  plain_passing Stand.Gone awaits p l e f = tt
-
-  none_counts : (stand : Stand) (at : Option ℕ) (pace : ℕ) → at ≡ None → StandCounts stand at pace 0 true
-  none_counts (Stand.Opening up) at pace e = λ f. e
-  none_counts Stand.Open at pace e = subst (λ z. CountsAt z pace 0 true) (sym e) (record { is = refl; early = tt })
-  none_counts Stand.Gone at pace e = tt
-
   first_served : (pace : ℕ) (a : Leads) (p : Post) (s : Stop InHand G) → IsLead lens recover a s → IsPaced pace s → WaitsNone p → LifeKept nothing_kept a.lived.life → IsServed lens recover 0 (new_serves pace a) p s
   first_served pace a p s l n w k = record {
     lives = l.lives;
