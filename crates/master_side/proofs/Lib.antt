@@ -5,3 +5,4 @@ pub mod Agains
 pub mod Passings
 pub mod Tellings
 pub mod Recalls
+pub mod First

@@ -16,3 +16,4 @@ pub mod Recall
 pub mod Free
 pub mod Sides
 pub mod Returns
+pub mod First

@@ -39,6 +39,8 @@ impl<H: Hand> Side<H> {
     ghost use Rattle.master_side.specs.Again.{HasNoRoom, IsOnWay, Repeats, area_of, next_len, sent_len};
     ghost use Rattle.master_side.specs.Carried.{in_hand};
     ghost use Rattle.master_side.specs.Free.{is_free_side};
+    ghost use Rattle.master_side.specs.First.{first_of};
+    ghost use Rattle.master_side.specs.declared.carried.Wish.{Wish};
     ghost use Rattle.master_side.specs.Sides.{HoldsNext, LinkStays, recall_in};
     ghost use Rattle.master_side.specs.declared.carried.Carried.{Carried};
 
@@ -188,13 +190,14 @@ impl<H: Hand> Side<H> {
         ensures most { result ≤ 1486 }
         ensures area { result ≤ area_of self.now }
         ensures again { in_hand self.now.duty ≡ None → self.now.passing ≡ None → Repeats self.now → result ≤ sent_len self.now }
+        ensures is { result ≡ first_of self.now wish }
     {
         if !matches!(self.inn, InwardHalf::Clear(_)) {
             return self.len_of(Carried::Inward);
         }
         match wish {
             Wish::State(_) => self.len_of(Carried::Full),
-            Wish::Mails if self.paused && !self.out.is_idle() => self.len_of(Carried::Inward),
+            Wish::Mails if self.paused => self.len_of(Carried::Inward),
             Wish::Mails => self.len_of(Carried::Write),
         }
     }
@@ -214,6 +217,7 @@ impl<H: Hand> Side<H> {
         ensures again { Repeats self.old → Repeats self.new × (sent_len self.new ≡ sent_len self.old) × (result ≤ sent_len self.old) }
         ensures recalled { recall_in self.new ≡ recall_in self.old }
         ensures still { is_free_side self.old ≡ true → is_some wish ≡ true → self.new ≡ self.old }
+        ensures first { is_free_side self.old ≡ true → (w : Wish) → wish ≡ Some w → result ≡ first_of self.old w }
     {
         match wish {
             Some(wish) if self.is_free() => self.first_len(wish),

@@ -73,6 +73,7 @@ impl<H: Hand> Side<H> {
     ghost use Rattle.master_side.specs.Again.{HoldsOn, IsOnWay, Repeats, SendsAtMost, sent_len};
     ghost use Rattle.master_side.specs.Heard.{heard_of, Brought};
     ghost use Rattle.master_side.specs.Free.{is_free_side, begins_by};
+    ghost use Rattle.master_side.specs.First.{SendsFirst};
     ghost use Rattle.master_side.specs.Shown.{new_side, wish_begun, takes_ready};
     ghost use Rattle.master_side.specs.Sides.{ShowsOf, ShowsNew, PassingOf, LinkStays, recall_in, HoldsNext, LeavesNone, FreeSays, FreeWhere, NoneMissed, BeginsIn, MailsBegin, StateBegins, PicksIn, PassesIn, StaysPlain};
     ghost use Rattle.master_side.specs.Returns.{BackShows, BackPasses, BackBrings, BackJoins, BackKnows, ReadsOn, ReadsAlone, LostShows, LostPasses, LostRecalls, LostWrite, HearsShown, HearsPassing, HearsJoined, HearsKnown};
@@ -195,6 +196,7 @@ impl<H: Hand> Side<H> {
         ensures join { H.join self.new.hand ≡ H.join self.old.hand }
         ensures again { in_hand self.old.duty ≡ None → self.old.passing ≡ None → Repeats self.old → SendsAtMost (sent_len self.old) self.new }
         ensures recalled { in_hand self.old.duty ≡ None → H.knows self.old.hand ≡ true → recall_in self.new ≡ recall_in self.old }
+        ensures first { in_hand self.old.duty ≡ None → SendsFirst self.old self.new true (Some Wish.Mails) }
     {
         let began = self.hand.begin();
         let passed = began && self.hand.is_passed();
@@ -212,6 +214,7 @@ impl<H: Hand> Side<H> {
         ensures read { (self.new.read_at ≡ self.old.read_at) × (self.new.pace ≡ self.old.pace) }
         ensures again { in_hand self.old.duty ≡ None → self.old.passing ≡ None → Repeats self.old → SendsAtMost (sent_len self.old) self.new }
         ensures recalled { in_hand self.old.duty ≡ None → recall_in self.new ≡ recall_in self.old }
+        ensures first { SendsFirst self.old self.new true (Some (Wish.State target)) }
     {
         let duty = Duty::new(target.state);
         self.duty = Some(Met::On(duty));
@@ -233,6 +236,7 @@ impl<H: Hand> Side<H> {
         ensures recalled { recall_in self.new ≡ recall_in self.old }
         ensures none { NoneMissed self.old result wish }
         ensures did { result ≡ begins_by (is_free_side self.old) wish (H.ready self.old.hand) }
+        ensures first { SendsFirst self.old self.new result wish }
     {
         if !self.is_free() {
             return false;
@@ -267,6 +271,7 @@ impl<H: Hand> Side<H> {
         ensures none { NoneMissed self.old result wish }
         ensures rest { LeavesNone self.new }
         ensures did { result ≡ begins_by (is_free_side self.old) wish (H.ready self.old.hand) }
+        ensures first { SendsFirst self.old self.new result wish }
     {
         let began = self.begin(wish);
         self.hold_next();

@@ -5,6 +5,9 @@ use Rattle.frame_view.specs.of_segment_model.Ends as Ends
 use Rattle.master_side.specs.Passing.{PassingShows, passing_seen, passing_behind}
 use Rattle.master_side.proofs.Passings.{still_shows}
 use Rattle.master_side.proofs.Agains.{again_most}
+use Rattle.std.proofs.Common.{false}
+use Rattle.master_side.specs.First.{SendsFirst}
+use Rattle.std.proofs.Common.{refl}
 use Rattle.master_side.proofs.side.Side.begin.Goals as goal
 
 pub returns-in-Mails-clause-picked : goal.returns-in-Mails-clause-picked
@@ -60,3 +63,14 @@ returns-in-State-clause-passing g c = λ p s.
     let e : c.args.wish ≡ Some (Wish.State c.in-State.target) = c.in-Some.is ∙ ap Some c.in-State.is in
     subst (λ (w : Option Wish). PassingShows (g.H.Hand.awaits new.hand) new.passing (passing_behind g.H.Hand.passed p (wish_begun true w (g.H.Hand.ready old.hand)))) (sym e)
     (still_shows (g.H.Hand.awaits old.hand) (g.H.Hand.awaits new.hand) old.passing new.passing p (λ t. subst (λ h. g.H.Hand.awaits h ≡ true) (sym k.0) t) k.1 s)
+
+pub returns-in-Mails-clause-first : goal.returns-in-Mails-clause-first
+returns-in-Mails-clause-first g c = λ b w e held h.
+    let f = c.is_free.ensures.bare c.if-not-is_free.false in
+    let is : c.args.wish ≡ Some Wish.Mails = c.in-Some.is ∙ ap Some c.in-Mails.is in
+    c.begin_mails.ensures.first f.0 refl w (sym is ∙ e) held h
+
+pub returns-in-State-clause-first : goal.returns-in-State-clause-first
+returns-in-State-clause-first g c = λ b w e held h.
+    let is : c.args.wish ≡ Some (Wish.State c.in-State.target) = c.in-Some.is ∙ ap Some c.in-State.is in
+    c.begin_state.ensures.first refl w (sym is ∙ e) held h

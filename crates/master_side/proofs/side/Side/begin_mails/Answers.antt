@@ -10,6 +10,13 @@ use Rattle.master_side.specs.declared.carried.Wish.{Wish}
 use Rattle.master_side.specs.declared.passing.Passing.{Passing}
 use Rattle.master_side.proofs.Passings.{begun_waits, begun_other, begun_none}
 use Rattle.master_side.proofs.side.Side.begin_mails.Goals.{then-began, else-began, then-passed, else-passed}
+use Rattle.std.proofs.Common.{ap}
+use Rattle.std.specs.Prelude.{is_some}
+use Rattle.mailbox_master.specs.Any.{in_half_of}
+use Rattle.master_side.specs.First.{HoldsFirst}
+use Rattle.master_side.specs.Sent.{gram_len}
+use Rattle.master_side.proofs.First.{mails_at, wish_mails}
+use Rattle.master_side.specs.First.{first_by}
 use Rattle.master_side.proofs.side.Side.begin_mails.Goals as goal
 
 pub returns-clause-picked : goal.returns-clause-picked
@@ -63,3 +70,14 @@ returns-clause-recalled g c = λ n k.
     same : (b known : Bool) → known ≡ true → (if b then true else known) ≡ known
     same true known e = sym e
     same false known e = refl
+
+pub returns-clause-first : goal.returns-clause-first
+returns-clause-first g c = λ n b w e held h.
+    let old = c.args.self.now in
+    let s = (in_half_of old.inn).state in
+    let some = subst (λ z. HoldsFirst z held) (sym (wish_mails w e)) h in
+    let to = ap (λ z. gram_len old.out old.inn (first_by s old.paused z)) (wish_mails w e) in
+    elim c.if-passed.branch [
+      | then-passed v ↦ mails_at old.out old.inn old.duty _ s false old.paused held true v.passing-is n some ∙ to
+      | else-passed v ↦ mails_at old.out old.inn old.duty _ s false old.paused held false v.passing-is n some ∙ to
+    ]

@@ -3,6 +3,11 @@ use Rattle.master_duty.specs.declared.stage.Met.{Met}
 use Rattle.master_side.proofs.Agains.{drains_most}
 use Rattle.master_side.proofs.Begins.{begins_state}
 use Rattle.master_side.proofs.Recalls.{state_recall}
+use Rattle.std.proofs.Common.{sym, ap, subst, ◌∙◌}
+use Rattle.mailbox_master.specs.Any.{in_half_of}
+use Rattle.master_side.specs.Sent.{gram_len}
+use Rattle.master_side.proofs.First.{state_first, wish_state}
+use Rattle.master_side.specs.First.{first_by}
 use Rattle.master_side.proofs.side.Side.begin_state.Goals as goal
 
 pub returns-clause-picked : goal.returns-clause-picked
@@ -14,3 +19,8 @@ returns-clause-again g c = λ n p r held h. drains_most c.args.self.now c.new-du
 
 pub returns-clause-recalled : goal.returns-clause-recalled
 returns-clause-recalled g c = λ n. let old = c.args.self.now in state_recall old.paused old.turn (g.H.Hand.knows old.hand) old.duty (Some (Met.On c.new-duty.result)) n
+
+pub returns-clause-first : goal.returns-clause-first
+returns-clause-first g c = λ b w e held h.
+    let old = c.args.self.now in
+    ap (gram_len old.out old.inn) (state_first c.new-duty.result old.passing (in_half_of old.inn).state old.paused held c.args.target c.new-duty.ensures.stage ∙ ap (λ z. first_by (in_half_of old.inn).state old.paused z) (wish_state c.args.target w e))

@@ -3,6 +3,7 @@ use Rattle.master_side.specs.Shown.{SideShows}
 use Rattle.master_side.proofs.Begins.{picked}
 use Rattle.master_side.proofs.Agains.{holds_most}
 use Rattle.master_side.proofs.Passings.{still_shows}
+use Rattle.master_side.proofs.First.{holds_first}
 use Rattle.master_side.proofs.side.Side.choose.Goals as goal
 
 pub returns-clause-picked : goal.returns-clause-picked
@@ -19,3 +20,6 @@ returns-clause-passing g c = λ p s.
     let mid = c.begin-began.new.self in
     let new = c.hold_next.new.self in
     still_shows (g.H.Hand.awaits mid.hand) (g.H.Hand.awaits new.hand) mid.passing new.passing _ c.hold_next.ensures.awaits c.hold_next.ensures.passing (c.begin-began.ensures.passing p s)
+
+pub returns-clause-first : goal.returns-clause-first
+returns-clause-first g c = holds_first c.args.self.now c.begin-began.new.self c.hold_next.new.self _ _ c.hold_next.ensures.on c.begin-began.ensures.first
