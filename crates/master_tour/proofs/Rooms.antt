@@ -1,5 +1,5 @@
 -- Whether a frame has room for a slave's datagram.
-use Rattle.std.proofs.Common.{◌≡◌, ◌≤◌, ◌+◌, ◌-◌, ◌<◌, ℕ, Bool, true, false, List, length, refl, sym, ap, ◌∙◌, subst, nat_le, leb-false, arith}
+use Rattle.std.proofs.Common.{◌≡◌, ◌≤◌, ◌+◌, ◌-◌, ◌<◌, ℕ, Bool, true, false, List, length, refl, sym, ap, ◌∙◌, subst, nat_le, leb-true, leb-false, arith}
 use Rattle.al_state.specs.declared.bringing.BringUp.{BringUp}
 use Rattle.al_state.specs.BringUp.{octets_of}
 use Rattle.master_side.specs.Again.{HasNoRoom, IsOnWay, Repeats, area_of, sent_len}
@@ -85,3 +85,7 @@ module _ {H : Type 0} {G : Ghosts H} (a b : Stand) (s t : Side H G) where
 
 pub ahead_opens : {H : Type 0} {G : Ghosts H} (a : Stand) (s : Side H G) (up : BringUp) (len : ℕ) → a ≡ Stand.Opening up → len ≡ length (octets_of up) → len ≤ stand_len a s
 ahead_opens a s up len e l = let p = ap (λ z. stand_len z s) e in omega (arith, p, l)
+
+-- one that fits
+pub fits_in : (octets : List ℕ) (ahead room len : ℕ) → len ≡ ahead → room ≡ 1514 - length octets - 12 → nat_le ahead room ≡ true → len ≤ 1514 - length octets - 12
+fits_in octets ahead room len e r f = let l = leb-true ahead room f in omega (arith, e, r, l)

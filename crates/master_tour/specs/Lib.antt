@@ -17,3 +17,4 @@ pub mod Behind
 pub mod Stops
 pub mod Counting
 pub mod Frees
+pub mod First

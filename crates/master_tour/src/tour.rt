@@ -30,6 +30,7 @@ pub struct Tour<H: Hand> {
 }
 
 impl<H: Hand> Tour<H> {
+    ghost use Rattle.master_tour.specs.First.{FitsFirst, LacksFirst};
     ghost use Rattle.std.specs.Prelude.{◌≡◌, ◌≤◌, ◌<◌, ◌-◌, ℕ, List, IfSome, All, length, [], ◌∷◌};
     ghost use Rattle.datagrams.specs.Datagram as Raw;
     ghost use Rattle.datagrams.specs.Command.{IsNamed};
@@ -320,6 +321,7 @@ impl<H: Hand> Tour<H> {
         ensures recalled { StepsAt (λ s t. recall_in t.side ≡ recall_in s.side) place self.old.stops.items self.new.stops.items }
         ensures read { StepsAt (λ s t. ReadStays s t × (H.awaits s.side.hand ≡ true → H.awaits t.side.hand ≡ true)) place self.old.stops.items self.new.stops.items }
         ensures still { StepsAt (λ s t. is_free_side s.side ≡ true → is_some wish ≡ true → t.side ≡ s.side) place self.old.stops.items self.new.stops.items }
+        ensures begins { result ≡ true → StepsAt (λ s t. FitsFirst frame.now.items wish s) place self.old.stops.items self.new.stops.items }
     {
         self.stops[place].ahead(wish) <= datagrams::room(frame)
     }
@@ -361,6 +363,7 @@ impl<H: Hand> Tour<H> {
         ensures begins { StepsAt (λ s t. BeginsAll s.stand result (H.knows s.side.hand) s.side.duty s.side.passing H.acknowledged (λ x d a. ShowsOf s.side x d a) wish (H.ready s.side.hand)) place self.old.stops.items self.new.stops.items }
         ensures read { StepsAt (λ s t. ReadStays s t) place self.old.stops.items self.new.stops.items }
         ensures did { StepsAt (λ s t. result ≡ stop_begins s wish) place self.old.stops.items self.new.stops.items }
+        ensures lacks { StepsAt (λ s t. LacksFirst frame.old.items result wish s t) place self.old.stops.items self.new.stops.items }
     {
         let at = self.count;
         let began = self.stops[place].visit(wish, at, index, frame);

@@ -22,6 +22,9 @@ fn access_len(up: &BringUp) -> usize
 }
 
 impl<H: Hand> Stop<H> {
+    ghost use Rattle.master_tour.specs.First.{LacksFirst};
+    ghost use Rattle.master_side.specs.First.{first_of};
+    ghost use Rattle.master_side.specs.declared.carried.Wish.{Wish};
     ghost use Rattle.std.specs.Prelude.{◌≡◌, ◌≤◌, ◌<◌, ◌-◌, ◌++◌, ◌∷◌, [], ℕ, List, length, true, false};
     ghost use Rattle.datagrams.specs.Datagram as Raw;
     ghost use Rattle.datagrams.specs.Frame.{IsBegun};
@@ -75,6 +78,7 @@ impl<H: Hand> Stop<H> {
         ensures recalled { recall_in self.new.side ≡ recall_in self.old.side }
         ensures read { ReadStays self.old self.new }
         ensures still { is_free_side self.old.side ≡ true → is_some wish ≡ true → self.new.side ≡ self.old.side }
+        ensures first { self.old.stand ≡ Stand.Open → is_free_side self.old.side ≡ true → (w : Wish) → wish ≡ Some w → result ≡ first_of self.old.side w }
     {
         match self.stand {
             Stand::Gone => 0,
@@ -125,6 +129,7 @@ impl<H: Hand> Stop<H> {
         ensures begins { BeginsAll self.old.stand result (H.knows self.old.side.hand) self.old.side.duty self.old.side.passing H.acknowledged (λ x d a. ShowsOf self.old.side x d a) wish (H.ready self.old.side.hand) }
         ensures read { ReadStays self.old self.new }
         ensures did { result ≡ begins_by (is_free_side self.old.side) wish (H.ready self.old.side.hand) }
+        ensures lacks { LacksFirst frame.old.items result wish self.old self.new }
     {
         let began = self.side.choose(wish);
         let placed = self.side.add_datagram(index, frame);
@@ -184,6 +189,7 @@ impl<H: Hand> Stop<H> {
         ensures begins { BeginsAll self.old.stand result (H.knows self.old.side.hand) self.old.side.duty self.old.side.passing H.acknowledged (λ x d a. ShowsOf self.old.side x d a) wish (H.ready self.old.side.hand) }
         ensures read { ReadStays self.old self.new }
         ensures did { result ≡ stop_begins self.old wish }
+        ensures lacks { LacksFirst frame.old.items result wish self.old self.new }
     {
         self.under = false;
         match self.stand {

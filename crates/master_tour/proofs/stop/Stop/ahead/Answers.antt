@@ -1,4 +1,4 @@
-use Rattle.std.proofs.Common.{sym, subst, ap}
+use Rattle.std.proofs.Common.{◌∙◌, sym, subst, ap}
 use Rattle.master_side.specs.Shown.{SideShows}
 use Rattle.master_tour.specs.Stands.{StopShows, StandShows, is_open}
 use Rattle.master_tour.proofs.Visits.{still_hold, open_hold}
@@ -46,3 +46,12 @@ returns-in-Opening-clause-again g c = λ r. (r, refl, ahead_opens c.args.self.no
 
 pub returns-in-Open-clause-again : goal.returns-in-Open-clause-again
 returns-in-Open-clause-again g c = ahead_open c.args.self.now.stand c.args.self.now.stand c.args.self.now.side c.ahead.new.self c.ahead.result c.in-Open.is c.in-Open.is c.ahead.ensures.again
+
+pub returns-in-Gone-clause-first : goal.returns-in-Gone-clause-first
+returns-in-Gone-clause-first g c = λ o. absurd (let t = sym c.in-Gone.is ∙ o in cc)
+
+pub returns-in-Opening-clause-first : goal.returns-in-Opening-clause-first
+returns-in-Opening-clause-first g c = λ o. absurd (let t = sym c.in-Opening.is ∙ o in cc)
+
+pub returns-in-Open-clause-first : goal.returns-in-Open-clause-first
+returns-in-Open-clause-first g c = λ o. c.ahead.ensures.first

@@ -8,6 +8,8 @@ use Rattle.master_tour.proofs.Grams.{choice_clear}
 use Rattle.std.proofs.Common.{arith}
 use Rattle.master_side.specs.Again.{HasNoRoom}
 use Rattle.master_side.proofs.Agains.{area_same}
+use Rattle.std.proofs.Common.{subst}
+use Rattle.master_side.specs.First.{HoldsFirst}
 use Rattle.master_tour.proofs.stop.Stop.open_visit.Goals as goal
 
 pub returns-clause-shown : goal.returns-clause-shown
@@ -68,3 +70,9 @@ returns-clause-takes g c = λ o n k x d a s.
 
 pub returns-clause-begins : goal.returns-clause-begins
 returns-clause-begins g c = λ o n k h p x d a s f q. c.choose-began.ensures.none x d a k s h p f q n
+
+pub returns-clause-lacks : goal.returns-clause-lacks
+returns-clause-lacks g c = λ b u w e h.
+    let m = c.choose-began.new.self in
+    let held = subst (λ z. HoldsFirst w z.state) c.add_datagram-placed.ensures.kept.out_is h in
+    subst (λ n. HasNoRoom c.args.frame.now.items n) (c.choose-began.ensures.first b w e m.out.state held) (c.add_datagram-placed.ensures.long u)

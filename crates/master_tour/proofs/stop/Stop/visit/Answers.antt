@@ -11,6 +11,7 @@ use Rattle.master_tour.proofs.Visits.{still_next, open_next}
 use Rattle.master_tour.proofs.Rooms.{visit_gone, visit_full, visit_opens, visit_open}
 use Rattle.master_tour.specs.Passing.{StandPassing}
 use Rattle.master_tour.proofs.Passings.{gone_passing, next_still, next_open, passing_waits}
+use Rattle.std.proofs.Common.{◌≡◌, true, false}
 use Rattle.master_tour.proofs.stop.Stop.visit.Goals as goal
 
 pub returns-in-Gone-clause-lives : goal.returns-in-Gone-clause-lives
@@ -126,3 +127,15 @@ returns-else-access_len-room-clause-takes g c = λ o. absurd (let e = sym c.in-O
 
 pub returns-else-access_len-room-clause-begins : goal.returns-else-access_len-room-clause-begins
 returns-else-access_len-room-clause-begins g c = λ o. absurd (let e = sym c.in-Opening.is ∙ o in cc)
+
+pub returns-in-Gone-clause-lacks : goal.returns-in-Gone-clause-lacks
+returns-in-Gone-clause-lacks g c = λ b. absurd (let t : false ≡ true = b in cc)
+
+pub returns-then-access_len-room-clause-lacks : goal.returns-then-access_len-room-clause-lacks
+returns-then-access_len-room-clause-lacks g c = λ b. absurd (let t : false ≡ true = b in cc)
+
+pub returns-else-access_len-room-clause-lacks : goal.returns-else-access_len-room-clause-lacks
+returns-else-access_len-room-clause-lacks g c = λ b. absurd (let t : false ≡ true = b in cc)
+
+pub returns-in-Open-clause-lacks : goal.returns-in-Open-clause-lacks
+returns-in-Open-clause-lacks g c = c.open_visit.ensures.lacks

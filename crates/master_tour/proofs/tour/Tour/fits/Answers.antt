@@ -4,7 +4,9 @@ use Rattle.master_side.specs.Shown.{SideShows}
 use Rattle.master_tour.proofs.Walks.{steps_set}
 use Rattle.master_tour.proofs.Steps.{frame_grows}
 use Rattle.master_tour.proofs.Mades.{made_ahead, made_other, grown_none}
-use Rattle.master_tour.proofs.Rooms.{looks}
+use Rattle.master_tour.proofs.Rooms.{fits_in, looks}
+use Rattle.std.proofs.Common.{◌≤◌, sym, arith}
+use Rattle.master_tour.specs.First.{FitsFirst}
 use Rattle.master_tour.proofs.tour.Tour.fits.Goals as goal
 
 pub returns-clause-lives : goal.returns-clause-lives
@@ -43,3 +45,8 @@ returns-clause-read g c = steps_set _ c.args.place c.args.self.now.stops.items c
 
 pub returns-clause-still : goal.returns-clause-still
 returns-clause-still g c = steps_set _ c.args.place c.args.self.now.stops.items c.index_mut.result.now c.ahead.new.self c.requires.inside c.index_mut.ensures.value c.ahead.ensures.still
+
+pub returns-clause-begins : goal.returns-clause-begins
+returns-clause-begins g c = λ r.
+    steps_set (λ s t. FitsFirst c.args.frame.now.items c.args.wish s) c.args.place c.args.self.now.stops.items c.index_mut.result.now c.ahead.new.self c.requires.inside c.index_mut.ensures.value
+    (λ o f w e. let same = c.ahead.ensures.first o f w e in fits_in c.args.frame.now.items c.ahead.result c.room.result _ (sym same) c.room.ensures r)

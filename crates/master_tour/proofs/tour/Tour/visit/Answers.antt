@@ -32,6 +32,7 @@ use Rattle.master_tour.specs.Passing.{StandPassing}
 use Rattle.master_tour.specs.declared.stop.Stand.{Stand}
 use Rattle.master_tour.specs.Counting.{ReadStays}
 use Rattle.master_tour.specs.Frees.{stop_begins}
+use Rattle.master_tour.specs.First.{LacksFirst}
 use Rattle.master_tour.proofs.tour.Tour.visit.Goals as goal
 
 pub returns-clause-lives : goal.returns-clause-lives
@@ -132,3 +133,8 @@ pub returns-clause-did : goal.returns-clause-did
 returns-clause-did g c =
     subst (λ z. StepsAt (λ s t. c.visit-began.result ≡ stop_begins s c.args.wish) c.args.place c.args.self.now.stops.items z.items) (sym c.carry_where.ensures.stops)
     (steps_set (λ s t. c.visit-began.result ≡ stop_begins s c.args.wish) c.args.place c.args.self.now.stops.items c.index_mut.result.now c.visit-began.new.self c.requires.inside c.index_mut.ensures.value c.visit-began.ensures.did)
+
+pub returns-clause-lacks : goal.returns-clause-lacks
+returns-clause-lacks g c =
+    subst (λ z. StepsAt (λ s t. LacksFirst c.args.frame.now.items c.visit-began.result c.args.wish s t) c.args.place c.args.self.now.stops.items z.items) (sym c.carry_where.ensures.stops)
+    (steps_set (λ s t. LacksFirst c.args.frame.now.items c.visit-began.result c.args.wish s t) c.args.place c.args.self.now.stops.items c.index_mut.result.now c.visit-began.new.self c.requires.inside c.index_mut.ensures.value c.visit-began.ensures.lacks)
