@@ -1,66 +1,152 @@
--- NOTHING COMES INTO HAND at a visit without a datagram, where the frame's room was asked for it.
-use Rattle.std.proofs.Common.{◌≡◌, ◌≤◌, ◌-◌, ℕ, Bool, true, false, Option, Some, length, refl, ap, ◌∙◌, subst, arith, leb-true, nat_le, List}
-use Rattle.std.specs.Prelude.{◌&&◌, not, if◌then◌else◌}
-use Rattle.std.proofs.lemmas.List.{length-replicate}
-use Rattle.life_frames.specs.of_link_model.Master.{InState}
-use Rattle.master_side.specs.of_mailbox_mail.declared.mail.Mail.{Mail}
-use Rattle.master_side.specs.of_mailbox_master.declared.halves.InwardHalf.{InwardHalf}
-use Rattle.master_side.specs.of_mailbox_master.Links.{OutLink}
-use Rattle.master_side.specs.of_mailbox_master.Any.{in_half_of, in_area_len, in_access, in_access_of}
-use Rattle.master_side.specs.Again.{HasNoRoom}
-use Rattle.master_side.specs.Carried.{is_clear}
-use Rattle.master_side.specs.First.{HoldsFirst, first_by, first_of}
-use Rattle.master_side.specs.Free.{is_free_side}
-use Rattle.master_side.specs.Sent.{gram_len}
-use Rattle.master_side.specs.declared.carried.Carried.{Carried}
-use Rattle.master_side.specs.declared.carried.Wish.{Wish}
-use Rattle.master_side.specs.declared.hand.Hand.{Ghosts}
-use Rattle.master_side.specs.declared.side.Side.{Side}
-use Rattle.master_tour.specs.First.{FitsFirst, LacksFirst}
-use Rattle.master_tour.specs.declared.stop.Stand.{Stand}
-use Rattle.master_tour.specs.declared.stop.Stop.{Stop}
+-- The visit that comes next is the first of those left.
+use Rattle.std.proofs.Common.{◌≡◌, ℕ, zero, suc, ◌+◌, ◌-◌, ◌<◌, ◌≤◌, ◌==◌, Bool, true, false, Option, Some, None, List, [], ◌∷◌, length, get_or, drop, refl, sym, ap, ◌∙◌, subst, arith}
+use Rattle.std.specs.Prelude.{nat_lt, if◌then◌else◌, cond, filter, slice_get}
+use Rattle.std.proofs.lemmas.Bool.{ltb-true, ltb-false, lt-ltb, le-ltb}
+use Rattle.master_tour.specs.Made.{is_in}
+use Rattle.master_tour.specs.Orders.{start_of, place_in, places_from, round_left, visits_left, visited_of, is_fixed, last_place, last_behind, AreOnce}
+use Rattle.master_tour.proofs.Orders.{drop_at, place_over, round_here, start_low}
 
--- a datagram has octets
-some_in : (len : ℕ) (bit : Bool) (s : InState) → 64 ≤ len → 1 ≤ length (in_access len bit s).octets
-some_in len bit InState.Clear l = let n = length-replicate {A = ℕ} len 0 in omega (arith, n, l)
-some_in len bit InState.Doubt l = omega arith
-some_in len bit InState.Asked l = omega arith
-some_in len bit InState.Refetch l = let n = length-replicate {A = ℕ} len 0 in omega (arith, n, l)
+-- of a list of places
+pub list_order : (xs : List ℕ) (i p d : ℕ) → i < length xs → p ≡ get_or xs i d → drop i xs ≡ p ∷ drop (i + 1) xs
+list_order xs i p d l e =
+    let f : suc i ≡ i + 1 = omega arith in
+    drop_at xs i d l ∙ (λ j. sym e j ∷ drop (f j) xs)
 
-some_inward : (inn : InwardHalf) → nat_le 64 (in_area_len inn) ≡ true → 1 ≤ length (in_access_of inn).octets
-some_inward inn l = some_in (in_area_len inn) (in_half_of inn).bit (in_half_of inn).state (leb-true 64 (in_area_len inn) l)
+-- of a round: those that aren't live are passed
+module _ (live : ℕ → Bool) (start count : ℕ) where
+  skips : (i d : ℕ) → i + d < count → ((j : ℕ) → i ≤ j → j < i + d → live (place_in start count j) ≡ false) → live (place_in start count (i + d)) ≡ true →
+      filter live (round_left start count i) ≡ place_in start count (i + d) ∷ filter live (round_left start count (suc (i + d)))
+  skips i zero l n y =
+      let e : i + 0 ≡ i = omega arith in
+      let here = round_here start count i (omega (arith, l)) in
+      ap (filter live) here
+      ∙ ap (λ (z : Bool). cond z (place_in start count i ∷ filter live (round_left start count (suc i))) (filter live (round_left start count (suc i)))) (subst (λ z. live (place_in start count z) ≡ true) e y)
+      ∙ ap (λ z. place_in start count z ∷ filter live (round_left start count (suc z))) (sym e)
+  skips i (suc d) l n y =
+      let e : i + suc d ≡ suc i + d = omega arith in
+      let here = round_here start count i (omega (arith, l)) in
+      ap (filter live) here
+      ∙ ap (λ (z : Bool). cond z (place_in start count i ∷ filter live (round_left start count (suc i))) (filter live (round_left start count (suc i)))) (n i (omega arith) (omega arith))
+      ∙ skips (suc i) d (omega (arith, l)) (λ j a b. n j (omega (arith, a)) (omega (arith, b))) (subst (λ z. live (place_in start count z) ≡ true) e y)
+      ∙ ap (λ z. place_in start count z ∷ filter live (round_left start count (suc z))) (sym e)
 
-some_by : (out : OutLink (Option Mail)) (inn : InwardHalf) (b : Bool) (k : Carried) → 1 ≤ gram_len out inn k → nat_le 64 (in_area_len inn) ≡ true → 1 ≤ gram_len out inn (if b then k else Carried.Inward)
-some_by out inn true k m l = m
-some_by out inn false k m l = some_inward inn l
+  pub round_order : (i j k p : ℕ) → i ≤ k → k < count → ((j : ℕ) → i ≤ j → j < k → live (place_in start count j) ≡ false) → live (place_in start count k) ≡ true → j ≡ k + 1 → p ≡ place_in start count k →
+      filter live (round_left start count i) ≡ p ∷ filter live (round_left start count j)
+  round_order i j k p a l n y f e =
+      let s : i + (k - i) ≡ k = omega (arith, a) in
+      let g : suc k ≡ j = omega (arith, f) in
+      skips i (k - i) (omega (arith, a, l)) (λ q x z. n q x (omega (arith, z, a))) (subst (λ z. live (place_in start count z) ≡ true) (sym s) y)
+      ∙ ap (λ z. place_in start count z ∷ filter live (round_left start count (suc z))) s
+      ∙ (λ q. sym e q ∷ filter live (round_left start count (g q)))
 
-len_is : (out out' : OutLink (Option Mail)) (inn inn' : InwardHalf) → out'.len ≡ out.len → inn' ≡ inn → (k : Carried) → gram_len out' inn' k ≡ gram_len out inn k
-len_is out out' inn inn' l e Carried.Nothing = refl
-len_is out out' inn inn' l e Carried.Write = l
-len_is out out' inn inn' l e Carried.Inward = ap (λ z. length (in_access_of z).octets) e
-len_is out out' inn inn' l e Carried.Full = refl
-len_is out out' inn inn' l e Carried.Control = refl
-len_is out out' inn inn' l e Carried.Status = refl
+  none_from : (i n : ℕ) → i + n ≤ count → ((j : ℕ) → i ≤ j → j < count → live (place_in start count j) ≡ false) → filter live (places_from start count i n) ≡ []
+  none_from i zero l n = refl
+  none_from i (suc d) l n =
+      ap (λ (z : Bool). cond z (place_in start count i ∷ filter live (places_from start count (suc i) d)) (filter live (places_from start count (suc i) d))) (n i (omega arith) (omega (arith, l)))
+      ∙ none_from (suc i) d (omega (arith, l)) (λ j a b. n j (omega (arith, a)) b)
 
-no_lack : (octets : List ℕ) (n : ℕ) → 1 ≤ n → n ≤ 1514 - length octets - 12 → HasNoRoom octets n → ⊥
-no_lack octets n some fits lacks = omega (arith, some, fits, lacks)
+  nothing_from : (i : ℕ) → count ≤ i → filter live (round_left start count i) ≡ []
+  nothing_from i l = let e : count - i ≡ 0 = omega (arith, l) in ap (λ z. filter live (places_from start count i z)) e
 
-module _ {H : Type 0} {G : Ghosts H} where
-  -- so has that with which a service begins
-  pub some_first : (s : Side H G) (w : Wish) → nat_le 64 s.out.len ≡ true → nat_le 64 (in_area_len s.inn) ≡ true → 1 ≤ first_of s w
-  some_first s Wish.Mails out inn = some_by s.out s.inn (is_clear (in_half_of s.inn).state && not s.paused) Carried.Write (let l = leb-true 64 s.out.len out in omega (arith, l)) inn
-  some_first s (Wish.State target) out inn = some_by s.out s.inn (is_clear (in_half_of s.inn).state) Carried.Full (omega arith) inn
+  pub round_none : (i : ℕ) → ((j : ℕ) → i ≤ j → j < count → live (place_in start count j) ≡ false) → filter live (round_left start count i) ≡ []
+  round_none i n = go (nat_lt i count) refl
+    where
+      go : (z : Bool) → nat_lt i count ≡ z → filter live (round_left start count i) ≡ []
+      go true e = let l = ltb-true i count e in none_from i (count - i) (omega (arith, l)) n
+      go false e = nothing_from i (ltb-false i count e)
 
-  -- by these of a side alone
-  pub first_same : (s t : Side H G) (w : Wish) → t.out.len ≡ s.out.len → t.inn ≡ s.inn → t.paused ≡ s.paused → first_of t w ≡ first_of s w
-  first_same s t w l i p =
-      len_is s.out t.out s.inn t.inn l i (first_by (in_half_of t.inn).state t.paused w)
-      ∙ ap (λ z. gram_len s.out s.inn (first_by (in_half_of z).state t.paused w)) i
-      ∙ ap (λ z. gram_len s.out s.inn (first_by (in_half_of s.inn).state z w)) p
+-- by which of them it is
+module _ (live : ℕ → Bool) (again : Bool) (visit : List ℕ) (opened count : ℕ) (last : Option ℕ) where
+  pub again_order : (i j p : ℕ) → again ≡ true → drop i visit ≡ p ∷ drop j visit → visited_of (is_fixed again opened count) live (visits_left again visit opened count last i) ≡ p ∷ visited_of (is_fixed again opened count) live (visits_left again visit opened count last j)
+  again_order i j p e h = subst (λ z. visited_of (is_fixed z opened count) live (visits_left z visit opened count last i) ≡ p ∷ visited_of (is_fixed z opened count) live (visits_left z visit opened count last j)) (sym e) h
 
-  -- a visit whose service had room has a datagram, where a mail of it is held
-  pub has_datagram : (octets : List ℕ) (w : Wish) (s t u : Stop H G) → s.stand ≡ Stand.Open → is_free_side s.side ≡ true → nat_le 64 s.side.out.len ≡ true → nat_le 64 (in_area_len s.side.inn) ≡ true →
-      FitsFirst octets (Some w) s → t.side.out.len ≡ s.side.out.len → t.side.inn ≡ s.side.inn → t.side.paused ≡ s.side.paused →
-      LacksFirst octets true (Some w) t u → u.under ≡ false → HoldsFirst w u.side.out.state → ⊥
-  has_datagram octets w s t u o f out inn fits l i p lacks under held =
-      no_lack octets (first_of s.side w) (some_first s.side w out inn) (fits o f w refl) (subst (λ n. HasNoRoom octets n) (first_same s.side t.side w l i p) (lacks refl under w refl held))
+  abbrev by_test : Bool → ℕ → List ℕ
+  by_test z i = visited_of z live (if z then drop i (opened ∷ []) else round_left (start_of count last) count i)
+
+  pub first_order : (i j p : ℕ) → again ≡ false → opened < count → drop i (opened ∷ []) ≡ p ∷ drop j (opened ∷ []) →
+      visited_of (is_fixed again opened count) live (visits_left again visit opened count last i) ≡ p ∷ visited_of (is_fixed again opened count) live (visits_left again visit opened count last j)
+  first_order i j p e l h =
+      subst (λ z. visited_of (is_fixed z opened count) live (visits_left z visit opened count last i) ≡ p ∷ visited_of (is_fixed z opened count) live (visits_left z visit opened count last j)) (sym e)
+      (subst (λ z. by_test z i ≡ p ∷ by_test z j) (sym (lt-ltb opened count l)) h)
+
+  pub later_order : (i j p : ℕ) → again ≡ false → count ≤ opened → filter live (round_left (start_of count last) count i) ≡ p ∷ filter live (round_left (start_of count last) count j) →
+      visited_of (is_fixed again opened count) live (visits_left again visit opened count last i) ≡ p ∷ visited_of (is_fixed again opened count) live (visits_left again visit opened count last j)
+  later_order i j p e l h =
+      subst (λ z. visited_of (is_fixed z opened count) live (visits_left z visit opened count last i) ≡ p ∷ visited_of (is_fixed z opened count) live (visits_left z visit opened count last j)) (sym e)
+      (subst (λ z. by_test z i ≡ p ∷ by_test z j) (sym (le-ltb opened count l)) h)
+
+  -- none is left
+  pub first_none : (i : ℕ) → again ≡ false → opened < count → 1 ≤ i → visited_of (is_fixed again opened count) live (visits_left again visit opened count last i) ≡ []
+  first_none i e l h =
+      subst (λ z. visited_of (is_fixed z opened count) live (visits_left z visit opened count last i) ≡ []) (sym e)
+      (subst (λ z. by_test z i ≡ []) (sym (lt-ltb opened count l)) (over i h))
+    where
+      nil : (n : ℕ) → drop {A = ℕ} n [] ≡ []
+      nil zero = refl
+      nil (suc n) = refl
+
+      over : (n : ℕ) → 1 ≤ n → drop n (opened ∷ []) ≡ []
+      over zero h = absurd (omega (arith, h))
+      over (suc n) h = nil n
+
+  pub later_none : (i : ℕ) → again ≡ false → count ≤ opened → filter live (round_left (start_of count last) count i) ≡ [] → visited_of (is_fixed again opened count) live (visits_left again visit opened count last i) ≡ []
+  later_none i e l h =
+      subst (λ z. visited_of (is_fixed z opened count) live (visits_left z visit opened count last i) ≡ []) (sym e)
+      (subst (λ z. by_test z i ≡ []) (sym (le-ltb opened count l)) h)
+
+-- THE ONE CARRIED LAST
+last_got : (p : ℕ) (ps : List ℕ) → slice_get (p ∷ ps) (length ps) ≡ Some (last_place p ps)
+last_got p [] = refl
+last_got p (q ∷ ps) = last_got q ps
+
+pub last_some : (opened count : ℕ) (last : Option ℕ) (visit : List ℕ) (x : ℕ) → slice_get visit (length visit - 1) ≡ Some x → last_behind opened count last visit ≡ (if nat_lt opened count then None else Some x)
+last_some opened count last [] x e = absurd (cc)
+last_some opened count last (p ∷ ps) x e =
+    let n : length (p ∷ ps) - 1 ≡ length ps = omega arith in
+    let f : Some (last_place p ps) ≡ Some x = sym (last_got p ps) ∙ ap (slice_get (p ∷ ps)) (sym n) ∙ e in
+    ap (λ z. if nat_lt opened count then None else z) f
+
+pub last_none : (opened count : ℕ) (last : Option ℕ) (visit : List ℕ) → slice_get visit (length visit - 1) ≡ None → last_behind opened count last visit ≡ last
+last_none opened count last [] e = refl
+last_none opened count last (p ∷ ps) e =
+    let n : length (p ∷ ps) - 1 ≡ length ps = omega arith in
+    absurd (let f = sym (last_got p ps) ∙ ap (slice_get (p ∷ ps)) (sym n) ∙ e in cc)
+
+-- NO PLACE TWICE among the visits of a frame
+once_from : (start count j n : ℕ) → start ≤ count → j + n ≤ count → AreOnce (places_from start count j n)
+once_from start count j zero s l = tt
+once_from start count j (suc n) s l = (place_over start count j (suc j) n s (omega arith) (omega (arith, l)), once_from start count (suc j) n s (omega (arith, l)))
+
+not_filtered : (live : ℕ → Bool) (k : ℕ) (ps : List ℕ) → is_in k ps ≡ false → is_in k (filter live ps) ≡ false
+not_filtered live k [] e = refl
+not_filtered live k (p ∷ ps) e = go (k == p) refl e (not_filtered live k ps)
+  where
+    by : (z : Bool) → (k == p) ≡ false → is_in k (filter live ps) ≡ false → is_in k (cond z (p ∷ filter live ps) (filter live ps)) ≡ false
+    by true f r = ap (λ (y : Bool). if y then true else is_in k (filter live ps)) f ∙ r
+    by false f r = r
+
+    go : (z : Bool) → (k == p) ≡ z → (if z then true else is_in k ps) ≡ false → (is_in k ps ≡ false → is_in k (filter live ps) ≡ false) → is_in k (cond (live p) (p ∷ filter live ps) (filter live ps)) ≡ false
+    go true f e r = absurd (cc)
+    go false f e r = by (live p) f (r e)
+
+once_filtered : (live : ℕ → Bool) (ps : List ℕ) → AreOnce ps → AreOnce (filter live ps)
+once_filtered live [] o = tt
+once_filtered live (p ∷ ps) o = go (live p) (once_filtered live ps o.1)
+  where
+    go : (z : Bool) → AreOnce (filter live ps) → AreOnce (cond z (p ∷ filter live ps) (filter live ps))
+    go true r = (not_filtered live p ps o.0, r)
+    go false r = r
+
+pub visits_once : (live : ℕ → Bool) (again : Bool) (visit : List ℕ) (opened count : ℕ) (last : Option ℕ) → (again ≡ true → AreOnce visit) → AreOnce (visited_of (is_fixed again opened count) live (visits_left again visit opened count last 0))
+visits_once live true visit opened count last o = o refl
+visits_once live false visit opened count last o = go (nat_lt opened count)
+  where
+    go : (z : Bool) → AreOnce (visited_of z live (if z then drop 0 (opened ∷ []) else round_left (start_of count last) count 0))
+    go true = (refl, tt)
+    go false = once_filtered live (round_left (start_of count last) count 0) (once_from (start_of count last) count 0 (count - 0) (start_low count last) (omega arith))
+
+-- the same where the same are live
+pub visited_same : (fixed : Bool) (f g : ℕ → Bool) (ps : List ℕ) → ((k : ℕ) → f k ≡ g k) → visited_of fixed f ps ≡ visited_of fixed g ps
+visited_same true f g ps h = refl
+visited_same false f g [] h = refl
+visited_same false f g (p ∷ ps) h = (λ i. cond (h p i) (p ∷ visited_same false f g ps h i) (visited_same false f g ps h i))

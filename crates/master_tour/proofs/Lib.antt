@@ -20,4 +20,4 @@ pub mod Sizes
 pub mod Rooms
 pub mod Behinds
 pub mod Counting
-pub mod Firsts
+pub mod FirstRooms
