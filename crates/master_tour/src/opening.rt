@@ -1,7 +1,7 @@
 //! The return of an access of an opening: the slave is seen in Init, or is open, or the next access is in hand.
 
 ghost use Rattle.std.specs.Prelude.{◌≡◌};
-ghost use Rattle.std.specs.Prelude.{false, not, ◌&&◌};
+ghost use Rattle.std.specs.Prelude.{false, if◌then◌else◌, not, ◌&&◌};
 ghost use Rattle.al_state.specs.BringUp.{is_behind_init};
 ghost use Rattle.master_tour.specs.Stands.{turned_by};
 
@@ -42,7 +42,7 @@ fn news_of(is_up: bool, is_cleared: bool) -> Option<Turned>
 }
 
 impl<H: Hand> Stop<H> {
-    ghost use Rattle.std.specs.Prelude.{◌≡◌, ℕ, List, true, false};
+    ghost use Rattle.std.specs.Prelude.{◌≡◌, ℕ, List, true, false, if◌then◌else◌};
     ghost use Rattle.datagrams.specs.Datagram as Raw;
     ghost use Rattle.datagrams.specs.Frame.{IsFrame};
     ghost use Rattle.life_frames.specs.of_exchange_model.Exchange.{Speech};
