@@ -125,12 +125,12 @@ module _ (lens : ℕ → Lens) (recover made : ℕ) where
   held_mails : (l k : Life Body Asked Reply) (spot : Spot) (pick : Pick Asked) (q : Asked) (u : Slave) → u.stand ≡ Stand.Open → knows u.side.hand.course ≡ true →
       Holds u.stand u.side.out.state (knows u.side.hand.course) (λ x d a. SideShows (Shows u.side.hand.course u.side.hand.which u.side.hand.clients x) u.side.out u.side.inn u.side.fresh u.side.duty d a) →
       StopShows (side_shows lens recover u spot) recover spot u.stand u.spare k → k ≡ life_next (speech_at lens spot) acknowledged is_followed is_passed made l l.stand pick → pick.begin ≡ Some (Service.Mails q) → Counts made pick.begin l k → u.side.out.state ≡ None → ⊥
-  held_mails l k spot pick q u open known holds shown is b took none =
+  held_mails l k spot pick q u opened known holds shown is b took none =
       let x = speech_at lens spot in
-      let stood = subst (λ (z : Stand). StandShows (λ d b. side_shows lens recover u spot d b) spot z k) open shown.stood in
+      let stood = subst (λ (z : Stand). StandShows (λ d b. side_shows lens recover u spot d b) spot z k) opened shown.stood in
       let n = newest x q made acknowledged is_followed is_passed l k l.stand pick b is (took ∙ ap (λ z. l.era.account.started ++ started_by made z) b) in
       let out : k.era.side.halves.out.holding ≡ None = ap (λ (z : Halves Body). z.out.holding) stood.1.halves ∙ ap (λ z. option_map link_mail z) none in
-      some_planned (record { out = (lens spot.station).out; back = (lens spot.station).back }) q n.valid (unheld x q made k.era.side n out (holds open none known x k.era.side k.era.account stood.1))
+      some_planned (record { out = (lens spot.station).out; back = (lens spot.station).back }) q n.valid (unheld x q made k.era.side n out (holds opened none known x k.era.side k.era.account stood.1))
 
   -- THE SLAVE THAT WAS VISITED has a datagram in the frame, where something came into hand of it
   pub without : (octets : List ℕ) (wish : Option Wish) (result : Bool) (begun : ℕ → Option (Service Asked)) (index : ℕ) (next : List ℕ) (ds : List Raw.Datagram) (i : ℕ) (a : Lived Asked Reply) (s t u : Slave) → StopFills lens recover made begun index next ds i a u → Roomy octets wish s t → Lacking octets wish result t u →
