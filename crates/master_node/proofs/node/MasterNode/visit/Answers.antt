@@ -52,7 +52,7 @@ use Rattle.master_node.proofs.Begins.{at_other, at_place}
 use Rattle.master_node.proofs.Fills.{from_each, from_map}
 use Rattle.master_node.proofs.Lists.{steps_got, steps_some}
 use Rattle.master_node.proofs.Starts.{Asks, ComesSo, LeavesNone, Readies, from_both, from_steps, leaves_none, readies, some_so, started_here, started_same, started_there, waits_yet}
-use Rattle.std.specs.Prelude.{is_some}
+use Rattle.std.specs.Prelude.{None, is_some}
 use Rattle.master_side.specs.Free.{is_free_side}
 use Rattle.master_tour.specs.First.{FitsFirst}
 use Rattle.master_tour.specs.declared.stop.Stand.{Stand}
