@@ -269,7 +269,7 @@ some_so l place coming None first comes none mails = tt
 some_so l place coming (Some s) first comes none mails = record { comes = comes; first = first; none = λ e. none e; mails = mails }
 
 -- THE FRAME IS MADE: of all slaves
-pub all_begin : {G : Ghosts InHand} (lens : ℕ → Lens) (recover : ℕ) (octets : List ℕ) (l : Lan) (visited : List ℕ) (o : ℕ → Option (Stated.Service Asked)) (i : ℕ) (as' : List Leads) (us : List Turn) (ss : List (Stop InHand G)) →
+all_begin : {G : Ghosts InHand} (lens : ℕ → Lens) (recover : ℕ) (octets : List ℕ) (l : Lan) (visited : List ℕ) (o : ℕ → Option (Stated.Service Asked)) (i : ℕ) (as' : List Leads) (us : List Turn) (ss : List (Stop InHand G)) →
     AllFrom (λ j a s. HasStarted lens l visited j (o j) a s) i as' ss → AllBoth (λ u s. IsUnder lens recover octets u s) us ss → ((k j : ℕ) → j ≡ i + k → begun_of us k ≡ o j) → AllBegin lens l i (map (λ s. recall_of s) ss) as' us
 all_begin lens recover octets l visited o i [] [] [] h w f = tt
 all_begin lens recover octets l visited o i [] us (s ∷ ss) h w f = absurd h
@@ -282,7 +282,7 @@ all_begin lens recover octets l visited o i (a ∷ as') (u ∷ us) (s ∷ ss) h 
 )
 
 -- and without a visit by the frame nothing came into hand
-pub all_unvisited : {G : Ghosts InHand} (lens : ℕ → Lens) (recover : ℕ) (octets : List ℕ) (l : Lan) (visited : List ℕ) (o : ℕ → Option (Stated.Service Asked)) (i : ℕ) (as' : List Leads) (us : List Turn) (ss : List (Stop InHand G)) →
+all_unvisited : {G : Ghosts InHand} (lens : ℕ → Lens) (recover : ℕ) (octets : List ℕ) (l : Lan) (visited : List ℕ) (o : ℕ → Option (Stated.Service Asked)) (i : ℕ) (as' : List Leads) (us : List Turn) (ss : List (Stop InHand G)) →
     AllFrom (λ j a s. HasStarted lens l visited j (o j) a s) i as' ss → AllBoth (λ u s. IsUnder lens recover octets u s) us ss → ((k j : ℕ) → j ≡ i + k → begun_of us k ≡ o j) → AllUnvisited us
 all_unvisited lens recover octets l visited o i as' [] ss h w f = tt
 all_unvisited lens recover octets l visited o i as' (u ∷ us) [] h w f = absurd w
@@ -291,3 +291,9 @@ all_unvisited lens recover octets l visited o i (a ∷ as') (u ∷ us) (s ∷ ss
   λ v. f 0 i (omega arith) ∙ h.0.unvisited (sym w.0.under ∙ v),
   all_unvisited lens recover octets l visited o (suc i) as' us ss h.1 w.1 (λ k j e. f (suc k) j (omega (arith, e))),
 )
+
+pub all_start : {G : Ghosts InHand} (lens : ℕ → Lens) (recover : ℕ) (octets : List ℕ) (l : Lan) (visited : List ℕ) (o : ℕ → Option (Stated.Service Asked)) (as' : List Leads) (us : List Turn) (ss : List (Stop InHand G)) →
+    AllFrom (λ j a s. HasStarted lens l visited j (o j) a s) 0 as' ss → AllBoth (λ u s. IsUnder lens recover octets u s) us ss → ((k : ℕ) → begun_of us k ≡ o k) → AllBegin lens l 0 (map (λ s. recall_of s) ss) as' us × AllUnvisited us
+all_start lens recover octets l visited o as' us ss h w f =
+    let begun : (k j : ℕ) → j ≡ 0 + k → begun_of us k ≡ o j = λ k j q. f k ∙ ap o (let w : k ≡ j = omega (arith, q) in w) in
+    (all_begin lens recover octets l visited o 0 as' us ss h w begun, all_unvisited lens recover octets l visited o 0 as' us ss h w begun)

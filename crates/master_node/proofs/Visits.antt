@@ -178,6 +178,10 @@ module _ {G : Ghosts InHand} (coming : Option Coming) (result : Bool) (place : �
   pub now_here : (begun : ℕ → Option (Service Asked)) (t u : Stop InHand G) (spot : ℕ) → slice_get s2 place ≡ Some t → u.place ≡ t.place → u.place ≡ spot → now begun spot ≡ wish_begun result (wish_of coming) (ready_of t.side.hand.laying)
   now_here begun t u spot is p q = begun_here begun here what spot (sym q ∙ p ∙ ap place_of (sym is)) ∙ ap came_of is
 
+  -- nothing did
+  pub none_here : (t : Stop InHand G) → slice_get s2 place ≡ Some t → wish_begun result (wish_of coming) (ready_of t.side.hand.laying) ≡ None → what ≡ None
+  none_here t is n = ap came_of is ∙ n
+
   -- THE SLAVE GOES ON
   all_go : StepsAt (λ s v. Goes coming result (slice_get s2 place) s v) place s0 s4
   all_go = steps_trans (λ s u. Laid coming s u) (λ s v. Behind coming result (slice_get s2 place) s v) (λ s v. Goes coming result (slice_get s2 place) s v) place s0 s2 s4

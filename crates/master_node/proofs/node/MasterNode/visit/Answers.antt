@@ -19,7 +19,7 @@ use Rattle.master_node.specs.Filling.{StopFills}
 use Rattle.master_node.specs.Shows.{lived_of}
 use Rattle.master_node.proofs.Lists.{steps_map, steps_holds, steps_each, each_trans}
 use Rattle.master_node.proofs.Filleds.{count_behind}
-use Rattle.master_node.proofs.Visits.{Fitted, Began, SomeKept, here, what, what_is, now, now_here, comes, frame, frame_kept, spot, leaves, waits_none, told, among, among_fitted}
+use Rattle.master_node.proofs.Visits.{Fitted, Began, SomeKept, here, what, what_is, none_here, now, now_here, comes, frame, frame_kept, spot, leaves, waits_none, told, among, among_fitted}
 use Rattle.master_node.proofs.Begins.{begun_step}
 use Rattle.master_node.specs.Listing.{number_at}
 use Rattle.master_node.proofs.Listing.{laid_from, listed_on, listed_step, listed_visit, number_here}
@@ -164,8 +164,8 @@ returns-clause-led c = λ lens recover made from left next as' room rows quiet d
             let went = subst (λ z. StepsAt (λ s u. Went octets z r (slice_get s2 place) s u) place s0 s3) c.wish_of-wish.ensures
             (steps_trans _ _ (λ s u. Went octets wish r (slice_get s2 place) s u) place s0 s2 s3 (λ s t u a b. record { between = t; is = b.0; roomed = a; lacking = b.1.0; place = b.1.1 }) room_kept (steps_got _ place s2 s3 lacking)) in
             let without_one = steps_behind (λ i a u. StopFills lens recover made begun index next visited_frame.datagrams i a u) _ (λ s u. u.under ≡ false → what_here ≡ None) 0 place place (map lived_of as') s0 s3 (omega arith)
-            (λ a s u p w n. sym (what_is coming r place s0 s1 s2 s3 s4 rooms coms fitted laid began came w.between w.is) ∙ without lens recover made octets (wish_of coming) r begun index next visited_frame.datagrams place a s w.between u p w.roomed w.lacking
-            (now_here coming r place s0 s1 s2 s3 s4 rooms coms fitted laid began came f.begun w.between u a.spot.place w.is w.place p.lives.planned.stands.place_is) n) visited_frame.each went in
+            (λ a s u p w n. none_here coming r place s0 s1 s2 s3 s4 rooms coms fitted laid began came w.between w.is (without lens recover made octets (wish_of coming) r begun index next visited_frame.datagrams place a s w.between u p w.roomed w.lacking
+            (now_here coming r place s0 s1 s2 s3 s4 rooms coms fitted laid began came f.begun w.between u a.spot.place w.is w.place p.lives.planned.stands.place_is) n)) visited_frame.each went in
             let before = from_both _ _ 0 as' s0 (from_both _ _ 0 as' s0 (from_map lived_of (λ i a s. StopFills lens recover made f.begun index left f.frame.datagrams i a s) 0 as' s0 f.frame.each) f.among) f.starts.each in
             let third = from_steps _ (λ i a s. HasStarted lens l2 (place ∷ visited) i (begun_for begun as' i) a s) (λ s u. LeavesNone lens recover made l place what_here s u × (u.under ≡ false → what_here ≡ None)) 0 place place as' s0 s3 (omega arith)
             (λ a s u p q. started_here lens recover made l l2 visited place (begun_for begun as' place) what_here a s u fewer_on (at_place f.begun here_is what_here as' place at_spot) (waits_yet lens recover made f.begun index left f.frame.datagrams place a s at p.0.0 p.0.1) q.0 q.1)
