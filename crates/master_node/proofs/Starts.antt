@@ -1,6 +1,6 @@
 -- WHAT MIGHT BEGIN AT A VISIT did, or nothing is left that might; and of all other slaves nothing changes.
 use Rattle.std.proofs.Common.{◌≡◌, ◌==◌, ◌+◌, ◌<◌, ℕ, zero, suc, Bool, true, false, Option, Some, None, List, [], ◌∷◌, refl, sym, ap, ◌∙◌, subst, arith}
-use Rattle.std.specs.Prelude.{IfSome, length, map, nat_lt, option_map, slice_get, if◌then◌else◌}
+use Rattle.std.specs.Prelude.{IfSome, length, map, nat_lt, slice_get}
 use Rattle.std.proofs.lemmas.Bool.{eq-eqb, eqb-true, ltb-false}
 use Rattle.datagrams.specs.Datagram as Raw
 use Rattle.life_runs.specs.of_frame_view.View.{Lens}
@@ -15,7 +15,7 @@ use Rattle.master_hand.specs.Spoken.{Asked, acknowledged, is_followed, is_passed
 use Rattle.master_hand.specs.declared.hand.InHand.{InHand}
 use Rattle.master_hand.specs.declared.laying.Laid.{Laid}
 use Rattle.master_side.specs.Recall.{BeginsNone}
-use Rattle.master_side.specs.Shown.{SideShows, wish_begun, wished}
+use Rattle.master_side.specs.Shown.{SideShows, wish_begun}
 use Rattle.master_side.specs.declared.carried.Wish.{Wish}
 use Rattle.master_side.specs.declared.hand.Hand.{Ghosts}
 use Rattle.master_side.specs.of_link_mails.Body.{Body}
@@ -31,13 +31,13 @@ use Rattle.master_node.specs.Begins.{NoneMore, PacketFirst, begun_of}
 use Rattle.master_node.specs.Coming.{IsComing, IsLaid, next_of, wish_of}
 use Rattle.master_node.specs.Eager.{recall_of}
 use Rattle.master_node.specs.Filling.{IsAmong, StopFills}
-use Rattle.master_node.specs.Kept.{StopKept, StopStays}
+use Rattle.master_node.specs.Kept.{StopStays}
 use Rattle.master_node.specs.Resting.{MayBegin}
 use Rattle.master_node.specs.Shows.{IsUnder, side_shows}
 use Rattle.master_node.specs.Starts.{AllBegin, AllUnvisited, HasStarted, IsByMails, LaysPacket, NeverBegins, NoPacket, NoneComes, SideFrees, WaitsFor}
 use Rattle.master_node.specs.declared.coming.Coming.{Coming}
 use Rattle.master_node.specs.declared.lan.Lan.{Lan}
-use Rattle.master_node.proofs.Frees.{MightBegin, StillLife, frees, might_still, still_life, still_on}
+use Rattle.master_node.proofs.Frees.{MightBegin, StillLife, frees, might_still, still_life}
 use Rattle.master_node.proofs.Kepts.{shows_kept}
 use Rattle.master_node.proofs.Lefts.{in_here, in_tail, in_there}
 

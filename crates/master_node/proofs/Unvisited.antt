@@ -1,12 +1,12 @@
 -- WITHOUT A DATAGRAM NOTHING COMES INTO HAND: a service that came into hand at a visit had room in the frame, and has something to send.
-use Rattle.std.proofs.Common.{◌≡◌, ◌+◌, ℕ, zero, suc, Bool, true, false, Option, Some, None, List, [], ◌∷◌, ◌++◌, refl, sym, ap, ◌∙◌, subst, arith}
-use Rattle.std.specs.Prelude.{◌&&◌, is_none, is_some, map, option_map}
+use Rattle.std.proofs.Common.{◌≡◌, ◌+◌, ℕ, zero, suc, Bool, true, false, Option, Some, None, List, [], ◌∷◌, ◌++◌, refl, ap, ◌∙◌, subst, arith}
+use Rattle.std.specs.Prelude.{◌&&◌, is_none, is_some, option_map}
 use Rattle.datagrams.specs.Datagram as Raw
 use Rattle.mailbox_mail.specs.declared.mail.Mail.{Mail}
 use Rattle.mailbox_master.specs.of_link_model.Link.{Halves}
 use Rattle.life_runs.specs.of_frame_view.View.{Lens}
-use Rattle.life_runs.specs.of_life_frames.Shares.{AllBoth, AllFrom, Lived}
-use Rattle.life_runs.specs.Led.{Turn, speech_at}
+use Rattle.life_runs.specs.of_life_frames.Shares.{AllFrom, Lived}
+use Rattle.life_runs.specs.Led.{speech_at}
 use Rattle.master_duty.specs.Reply.{Reply}
 use Rattle.master_duty.specs.of_state_exchange.Stated.{Service}
 use Rattle.master_duty.specs.of_task_model.Accounts.{Pick}
@@ -35,9 +35,7 @@ use Rattle.master_tour.specs.Stands.{Counts, StandShows, StopShows}
 use Rattle.master_tour.specs.Walks.{StepsAt}
 use Rattle.master_tour.specs.declared.stop.Stand.{Stand}
 use Rattle.master_tour.specs.declared.stop.Stop.{Stop}
-use Rattle.master_tour.specs.of_life_model.Lives
 use Rattle.master_tour.specs.of_life_model.Lives.{Life, Spot, life_next}
-use Rattle.master_node.specs.Begins.{begun_of}
 use Rattle.master_node.specs.Coming.{wish_of}
 use Rattle.master_node.specs.Eager.{recall_of}
 use Rattle.master_node.specs.Filling.{StopFills}

@@ -1,5 +1,5 @@
-use Rattle.std.proofs.Common.{◌≡◌, ◌<◌, true, false, Some, [], sym, ap, ◌∙◌, arith, length, rules}
-use Rattle.std.specs.Prelude.{is_some, nat_lt}
+use Rattle.std.proofs.Common.{◌≡◌, ◌<◌, true, false, Some, sym, ◌∙◌, arith, length, rules}
+use Rattle.std.specs.Prelude.{is_some}
 use Rattle.master_side.specs.Free.{is_free_side}
 use Rattle.master_tour.specs.declared.stop.Stand.{Stand}
 use Rattle.master_node.specs.Coming.{IsComing, next_of}

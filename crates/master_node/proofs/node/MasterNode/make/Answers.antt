@@ -26,7 +26,7 @@ use Rattle.master_node.specs.Eager.{StopTakesUp, recall_of}
 use Rattle.master_node.proofs.Eagers.{each_comp}
 use Rattle.master_node.proofs.Lefts.{true_false}
 use Rattle.master_node.proofs.Toureds.{each_none, tour_same, of_tour}
-use Rattle.std.proofs.Common.{[], arith}
+use Rattle.std.proofs.Common.{[]}
 use Rattle.master_node.specs.Begins.{begun_for}
 use Rattle.master_node.specs.Starts.{HasStarted}
 use Rattle.master_node.proofs.Starts.{all_start}

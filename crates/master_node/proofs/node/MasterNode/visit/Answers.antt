@@ -36,12 +36,11 @@ use Rattle.master_node.proofs.Lists.{steps_trans}
 use Rattle.master_node.proofs.Rooms.{steps_room, looks_full, visits_full}
 use Rattle.master_node.proofs.Eagers.{goes_kept, recall_kept, steps_tested}
 use Rattle.master_node.proofs.Visits as Visited
-use Rattle.master_node.specs.Eager.{StopGoes, StopTakesUp, recall_of}
+use Rattle.master_node.specs.Eager.{StopGoes, recall_of}
 use Rattle.master_tour.proofs.Walks.{each_map}
 use Rattle.master_node.proofs.Happenings.{happens_none, happens_from}
 use Rattle.master_node.proofs.Made.{makes_none, makes_then}
-use Rattle.std.proofs.Common.{◌∷◌, length}
-use Rattle.life_runs.specs.of_life_frames.Shares.{AllFrom}
+use Rattle.std.proofs.Common.{◌∷◌}
 use Rattle.master_hand.specs.Shown.{Shows, knows}
 use Rattle.master_hand.specs.Spoken.{acknowledged}
 use Rattle.master_side.specs.Shown.{SideShows}
