@@ -1,5 +1,5 @@
 -- A run that is made frame by frame.
-use Rattle.std.specs.Prelude.{◌≡◌, ℕ, zero, suc, map, replicate, false, ◌+◌, Bool, true, nat_lt, ◌||◌, List, [], ◌∷◌, ◌++◌, ◌⊎◌, length, Option, Some, None, is_some}
+use Rattle.std.specs.Prelude.{◌≡◌, ℕ, zero, suc, map, replicate, if◌then◌else◌, false, ◌+◌, Bool, true, nat_lt, ◌||◌, List, [], ◌∷◌, ◌++◌, ◌⊎◌, length, Option, Some, None, is_some}
 use Rattle.std.specs.List.{list_all, list_any}
 use Rattle.arrayvec.specs.ArrayVec.{ArrayVec}
 use Rattle.segment_plan.specs.Bound.{bound_of}
@@ -26,8 +26,8 @@ use Rattle.run_record.specs.Led.{exchanged, Leading, AreLed}
 use Rattle.run_record.specs.Replay.{first_ring, behind, IsRecorded}
 use Rattle.run_record.specs.Forwarded.{Forwards}
 use Rattle.run_notes.specs.Switched.{IsSwitched}
-
 use Rattle.run_notes.specs.Slaves.{first_notes, home_of, slave_row, slave_rows, KeepsRest}
+
 -- a session: the ring with its slaves, what became of each slave, their stations and the lengths of their mailboxes, the mails that are
 -- passed on to each and how many of them still wait, the master, the ports of its switch, how often a slave is taken up again, the most frames, and
 -- whether requests are served
