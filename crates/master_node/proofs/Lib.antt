@@ -36,6 +36,9 @@ pub mod Visitings
 pub mod Eagers
 pub mod Servings
 pub mod Serveds
+pub mod Mailings
+pub mod Mailed
+pub mod ServedVisits
 pub mod Entering
 pub mod Frees
 pub mod Starts

@@ -55,7 +55,7 @@ impl MasterNode {
     ghost use Rattle.master_tour.specs.Walks.{StepsAt};
     ghost use Rattle.master_node.specs.declared.coming.Coming.{Coming};
     ghost use Rattle.master_node.specs.Appends.{AppendsMail};
-    ghost use Rattle.master_node.specs.Serving.{FitsAt, IsAsked, ServedShows};
+    ghost use Rattle.master_node.specs.Serving.{FitsAt, IsAsked, ServedShows, mails_in};
     ghost use Rattle.served_runs.specs.Served.{Keyed, Serves, MayAsk, asked_at};
     ghost use Rattle.master_node.specs.Shows.{WaitsNone};
     ghost use Rattle.master_node.specs.Kept.{TourKept, TourOn};
@@ -175,6 +175,7 @@ impl MasterNode {
         ensures fewer { NoneMore self.old.lan self.new.lan }
         ensures events { self.new.list.count ≤ self.old.list.count + 1 }
         ensures lists { StepsAt (λ p q. ListsOne place coming self.old self.new p q) place self.old.posts.items self.new.posts.items }
+        ensures mails { mails_in self.new ≡ mails_in self.old }
     {
         match coming {
             None => {}
@@ -204,6 +205,7 @@ impl MasterNode {
         ensures fewer { NoneMore self.old.lan self.new.lan }
         ensures events { self.new.list.count ≤ self.old.list.count + 1 }
         ensures lists { StepsAt (λ p q. ListsOne place (where_began began coming) self.old self.new p q) place self.old.posts.items self.new.posts.items }
+        ensures mails { mails_in self.new ≡ mails_in self.old }
     {
         if began {
             self.begun(place, coming);
