@@ -13,7 +13,8 @@ use Rattle.run_book.specs.declared.book.Ending.{Ending}
 use Rattle.run_book.specs.declared.book.Ending.TheVariants as endings
 use Rattle.run_book.specs.declared.book.GramIn.{GramIn}
 use Rattle.run_book.specs.declared.book.GramOut.{GramOut}
-use Rattle.run_record.specs.Session.{first_session, session_rows, home_of}
+use Rattle.run_record.specs.Session.{first_session, session_rows}
+use Rattle.run_record.specs.of_run_notes.Slaves.{home_of}
 use Rattle.run_record.specs.Ran.{HasSent, EndsSo, StopsSo, StopsAs}
 use Rattle.gateway_run.proofs.Room.{small_budget}
 use Rattle.run_record.proofs.Underway.{begun, has_frames, ended}

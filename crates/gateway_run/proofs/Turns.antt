@@ -16,7 +16,8 @@ use Rattle.run_book.specs.declared.book.GramIn.{GramIn}
 use Rattle.run_book.specs.declared.book.GramOut.{GramOut}
 use Rattle.run_book.specs.declared.book.SentFrame.{SentFrame}
 use Rattle.gateway_run.specs.Events.{events_of}
-use Rattle.run_record.specs.Session.{SessionState, home_of, Steps, Stops}
+use Rattle.run_record.specs.Session.{SessionState, Steps, Stops}
+use Rattle.run_record.specs.of_run_notes.Slaves.{home_of}
 use Rattle.run_record.specs.Ran.{HasSent, IsUnderway}
 use Rattle.run_record.proofs.Underway.{same_on, has_frames, stepped_on, stopped}
 use Rattle.gateway_run.specs.Heard.{heard_as, sent_as, AreHeard, AreSent, AreSentBut, IsOwed, IsRightly}

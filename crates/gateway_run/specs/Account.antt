@@ -15,7 +15,7 @@ use Rattle.segment_plan.specs.declared.plan.Scenario.{Scenario}
 use Rattle.run_book.specs.declared.book.GramIn.{GramIn}
 use Rattle.run_book.specs.declared.book.GramOut.{GramOut}
 use Rattle.run_book.specs.declared.book.SentFrame.{SentFrame}
-use Rattle.run_record.specs.Notes.{stations_of}
+use Rattle.run_record.specs.of_run_notes.Notes.{stations_of}
 use Rattle.run_record.specs.Replay.{behind, IsRecorded}
 use Rattle.gateway_run.specs.Events.{events_of}
 use Rattle.run_record.specs.Session.{SessionState, Asks, first_session}

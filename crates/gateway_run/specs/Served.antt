@@ -6,7 +6,8 @@ use Rattle.run_book.specs.declared.book.Book.{Book}
 use Rattle.run_book.specs.declared.book.Ending.{Ending}
 use Rattle.run_book.specs.declared.book.Ending.TheVariants as endings
 use Rattle.run_book.specs.declared.book.GramOut.{GramOut}
-use Rattle.run_record.specs.Session.{SessionState, home_of, session_rows}
+use Rattle.run_record.specs.Session.{SessionState, session_rows}
+use Rattle.run_record.specs.of_run_notes.Slaves.{home_of}
 use Rattle.run_record.specs.Ran.{StopsAs}
 use Rattle.gateway_run.specs.declared.desk.Request.{Request}
 use Rattle.gateway_run.specs.Account.{Owing, Course, AreSpelled}

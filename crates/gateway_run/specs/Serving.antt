@@ -7,7 +7,8 @@ use Rattle.run_book.specs.declared.book.GramOut.{GramOut}
 use Rattle.ec_outside.specs.declared.port.SentGram.{SentGram}
 use Rattle.segment_plan.specs.declared.plan.Scenario.{Scenario}
 use Rattle.run_book.specs.declared.book.Book.{Book}
-use Rattle.run_record.specs.Session.{home_of, budget_of}
+use Rattle.run_record.specs.Session.{budget_of}
+use Rattle.run_record.specs.of_run_notes.Slaves.{home_of}
 use Rattle.run_record.specs.Ran.{HasSent, IsUnderway}
 use Rattle.gateway_run.specs.Heard.{heard_as, AreHeard, AreSent, AreSentBut, IsOwed, IsRightly}
 use Rattle.gateway_run.specs.Account.{Owing, Course, AreSpelled}

@@ -6,8 +6,8 @@ use Rattle.life_runs.specs.Led.{Leads}
 use Rattle.run_book.specs.of_master_node.Wants.{gave_of}
 use Rattle.promised_run.specs.Epochs.{AllCaused}
 use Rattle.run_book.specs.declared.book.SlaveBook.{SlaveBook}
-use Rattle.run_record.specs.Epochs.{HasEpochs}
-use Rattle.run_record.specs.Led.{gaves_in}
+use Rattle.run_record.specs.of_run_notes.Epochs.{HasEpochs}
+use Rattle.run_record.specs.of_run_notes.Slaves.{gaves_in}
 
 heads : (x y : List ℕ) (xs ys : List (List ℕ)) → x ∷ xs ≡ y ∷ ys → x ≡ y
 heads x y xs ys e = cc

@@ -29,7 +29,8 @@ use Rattle.run_book.specs.declared.book.Ending.TheVariants as endings
 use Rattle.run_book.specs.declared.book.SentFrame.{SentFrame}
 use Rattle.run_book.specs.declared.book.SlaveBook.{SlaveBook}
 use Rattle.run_book.specs.of_master_node.Wants.{gave_of}
-use Rattle.run_record.specs.Led.{exchanged, gaves_in, LedBook}
+use Rattle.run_record.specs.Led.{exchanged, LedBook}
+use Rattle.run_record.specs.of_run_notes.Slaves.{gaves_in}
 use Rattle.run_record.specs.Ran.{HasFrames, EndsAs}
 use Rattle.run_record.specs.Replay.{first_ring, behind as ring_next, AreRecorded}
 use Rattle.run_record.specs.Session.{some_given_up}

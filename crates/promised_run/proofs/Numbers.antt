@@ -27,10 +27,11 @@ use Rattle.run_record.proofs.of_packets_begun.GivenUp.{numbers_down}
 use Rattle.run_record.proofs.of_packets_begun.Numbers.{numbers_begun, numbers_heard}
 use Rattle.run_record.proofs.of_packets_begun.Quiet.{run_quiet}
 use Rattle.run_record.proofs.of_port_events.Owns.{own_port}
-use Rattle.run_record.specs.Led.{LeadTo, ListsAll, NumbersAll, gaves_in}
-use Rattle.run_record.specs.Packets.{AreNumbered, begun_in, numbered_from}
+use Rattle.run_record.specs.Led.{LeadTo, ListsAll, NumbersAll}
+use Rattle.run_record.specs.of_run_notes.Slaves.{gaves_in}
+use Rattle.run_record.specs.of_run_notes.Packets.{AreNumbered, begun_in, numbered_from}
 use Rattle.run_record.specs.Ran.{EndsAs, HasRows, IsGivenUp}
-use Rattle.run_record.specs.Reports.{IsBooked, noted_in, noted_of, reply_in}
+use Rattle.run_record.specs.of_run_notes.Reports.{IsBooked, noted_in, noted_of, reply_in}
 use Rattle.run_record.specs.of_packets_begun.Numbers.{NoneWaits, events_up_to, frames_begun, given_up_at, number_behind}
 use Rattle.run_record.specs.of_script_answers.Answers.{AllNoted, Noted, Scripted, changes_behind, era_scripted, eras_scripted, life_scripted, next_opened, opened_anew, scripted_by, scripted_in, scripted_mails, side_answers}
 use Rattle.script_runs.specs.Came.{is_packet}

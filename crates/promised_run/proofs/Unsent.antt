@@ -4,7 +4,7 @@ use Rattle.life_runs.specs.of_life_frames.Shares.{AllBoth}
 use Rattle.life_runs.specs.Led.{Leads}
 use Rattle.promised_run.specs.Unsent.{AllUnsent}
 use Rattle.run_book.specs.declared.book.SlaveBook.{SlaveBook}
-use Rattle.run_record.specs.Unsent.{IsSpent}
+use Rattle.run_record.specs.of_run_notes.Unsent.{IsSpent}
 use Rattle.script_runs.specs.Slaves.{AllCome}
 use Rattle.segment_plan.specs.declared.plan.Scenario.{Scenario}
 use Rattle.segment_plan.specs.declared.slave.SlaveSpec.{SlaveSpec}

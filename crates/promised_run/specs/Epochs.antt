@@ -3,7 +3,7 @@ use Rattle.std.specs.Prelude.{List, [], ◌∷◌, ⊤}
 use Rattle.life_runs.specs.Causes.{AllEndBy}
 use Rattle.life_runs.specs.Led.{Leads}
 use Rattle.run_book.specs.declared.book.SlaveBook.{SlaveBook}
-use Rattle.run_record.specs.Epochs.{HasEpochs}
+use Rattle.run_record.specs.of_run_notes.Epochs.{HasEpochs}
 
 -- OF ONE SLAVE: the epochs of the book are just those of its life, each returned to Init and opened by the frames that showed it; and each but the first
 -- has its cause in the one before it: a state service in hand that returns to Init, or a give-up at a frame that the book has

@@ -18,7 +18,7 @@ use Rattle.run_book.specs.declared.book.Ending.{Ending}
 use Rattle.run_book.specs.declared.book.Ending.TheVariants as endings
 use Rattle.run_record.specs.Led.{LedBook, exchanged}
 use Rattle.run_record.specs.Replay.{first_ring, ring_after}
-use Rattle.run_record.specs.Switched.{HasPackets}
+use Rattle.run_record.specs.of_run_notes.Switched.{HasPackets}
 use Rattle.segment_plan.specs.declared.plan.Scenario.{Scenario}
 
 -- WHERE A RUN IS OVER: done, all of each slave is done; with a slave given up, nothing is left of those that weren't given up for good

@@ -3,7 +3,7 @@ use Rattle.std.specs.Prelude.{◌≡◌, ℕ, suc, List, [], ◌∷◌, ⊤}
 use Rattle.life_runs.specs.First.{script_for}
 use Rattle.life_runs.specs.Led.{Leads}
 use Rattle.run_book.specs.declared.book.SlaveBook.{SlaveBook}
-use Rattle.run_record.specs.Unsent.{IsSpent}
+use Rattle.run_record.specs.of_run_notes.Unsent.{IsSpent}
 use Rattle.segment_plan.specs.declared.plan.Scenario.{Scenario}
 
 -- OF ONE SLAVE of a plan at its place: just the rest of the plan's script for it, behind the services that came into hand, wasn't sent

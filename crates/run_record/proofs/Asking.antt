@@ -3,7 +3,7 @@ use Rattle.std.proofs.Common.{◌≡◌, ℕ, zero, suc, ◌<◌, List, [], ◌�
 use Rattle.std.specs.Prelude.{MatchOption, slice_get, slice_set, slice_index_or, Option, Some, None, ◌↔◌}
 use Rattle.master_node.specs.Lives.{waiting_at, waiting_of}
 use Rattle.master_node.specs.declared.post.Post.{Post}
-use Rattle.run_record.specs.declared.standing.AskedMail.{AskedMail}
+use Rattle.run_notes.specs.declared.standing.AskedMail.{AskedMail}
 use Rattle.mailbox_mail.specs.declared.mail.Mail.{Mail}
 use Rattle.run_record.specs.Session.{asked_more, asked_mail}
 

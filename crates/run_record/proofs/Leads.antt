@@ -60,17 +60,19 @@ use Rattle.segment_ring.specs.Schedule.{fate_at}
 use Rattle.slave_server.specs.declared.server.SlaveServer.{SlaveServer}
 use Rattle.slave_node.specs.of_slave_steps.Node.{Node, node_passed}
 use Rattle.ring_returns.proofs.Returned as Returned
-use Rattle.run_record.specs.declared.notes.Notes.{Notes}
-use Rattle.run_record.specs.declared.standing.Log.{Log}
+use Rattle.run_notes.specs.declared.notes.Notes.{Notes}
+use Rattle.run_notes.specs.declared.standing.Log.{Log}
 use Rattle.run_record.specs.Forwarded.{IsForwarded, Forwards, ForwardsFirst, PacketsNoted}
-use Rattle.run_record.specs.Packets.{BeginsOn, begun_noted}
-use Rattle.run_record.specs.Led.{exchanged, gaves_noted, TouredTo, Leading, AreLed}
-use Rattle.run_record.specs.Heard.{emergencies_noted, HeardBy}
-use Rattle.run_record.specs.Notes.{new_notes}
-use Rattle.run_record.specs.Reports.{Reports, AllReport, ReportsOn, ReportsBy, TurnsAll}
-use Rattle.run_record.specs.Unsent.{IsNumbered}
-use Rattle.run_record.proofs.Unsent.{none_begun, all_left}
-use Rattle.run_record.specs.Session.{first_notes, scripted, gaves_behind, GaveBy, has_live}
+use Rattle.run_notes.specs.Packets.{BeginsOn, begun_noted}
+use Rattle.run_record.specs.Led.{exchanged, TouredTo, Leading, AreLed}
+use Rattle.run_notes.specs.Slaves.{gaves_noted}
+use Rattle.run_notes.specs.Heard.{emergencies_noted, HeardBy}
+use Rattle.run_notes.specs.Notes.{new_notes}
+use Rattle.run_notes.specs.Reports.{Reports, AllReport, ReportsOn, ReportsBy, TurnsAll}
+use Rattle.run_notes.specs.Unsent.{IsNumbered}
+use Rattle.run_notes.proofs.Unsent.{none_begun, all_left}
+use Rattle.run_record.specs.Session.{has_live}
+use Rattle.run_notes.specs.Slaves.{first_notes, scripted, gaves_behind, GaveBy}
 use Rattle.script_answers.specs.Answers.{turned as turned_lead}
 use Rattle.script_answers.specs.Steps.{TurnsSo, PassesSo, LosesSo}
 use Rattle.script_answers.proofs.Losses.{passes_so, loses_so}
@@ -78,8 +80,8 @@ use Rattle.script_answers.proofs.Turns.{turns_so}
 use Rattle.run_record.proofs.Befores.{AllBefore, turns_before, all_before}
 use Rattle.run_record.proofs.Began.{packets_first, packets_on}
 use Rattle.run_record.proofs.Forwards.{forwarded_on}
-use Rattle.run_record.proofs.Gaves.{with_more}
-use Rattle.run_record.proofs.Heard.{first_heard}
+use Rattle.run_notes.proofs.Gaves.{with_more}
+use Rattle.run_notes.proofs.Heard.{first_heard}
 use Rattle.visit_orders.specs.Toured.{IsToured, tour_behind, lives_behind}
 
 -- BEFORE THE FIRST FRAME

@@ -6,8 +6,8 @@ use Rattle.master_node.specs.declared.happened.Happening.{Happening}
 use Rattle.master_node.specs.declared.lan.Lan.{Lan}
 use Rattle.packets_begun.specs.Numbers.{each_with}
 use Rattle.run_book.specs.declared.book.Book.{Book}
-use Rattle.run_record.specs.Switched.{rows_of, numbers_of, stamped, HasNoted, NotesSwitch, SameSwitch, IsSwitched}
-use Rattle.run_record.proofs.Switched.{all_last, all_rows, numbers_more, switched_on, switched_same}
+use Rattle.run_notes.specs.Switched.{rows_of, numbers_of, stamped, HasNoted, NotesSwitch, SameSwitch, IsSwitched}
+use Rattle.run_notes.proofs.Switched.{all_last, all_rows, numbers_more, switched_on, switched_same}
 
 stamped_each : (sent : ℕ) (rows : List Happening) → numbers_of (stamped sent rows) ≡ each_with sent (events_of rows)
 stamped_each sent [] = refl

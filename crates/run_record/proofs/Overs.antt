@@ -21,20 +21,21 @@ use Rattle.run_book.specs.declared.book.SentFrame.{SentFrame}
 use Rattle.run_book.specs.declared.book.SlaveBook.{SlaveBook}
 use Rattle.segment_plan.specs.declared.plan.Scenario.{Scenario}
 use Rattle.run_record.specs.Forwarded.{Forwards}
-use Rattle.run_record.specs.Led.{exchanged, gaves_in, Leading, LeadTo, ListsAll, BeginsAll, NumbersAll, TouredTo, RestsSo, RestBy, LedBook}
+use Rattle.run_record.specs.Led.{exchanged, Leading, LeadTo, ListsAll, BeginsAll, NumbersAll, TouredTo, RestsSo, RestBy, LedBook}
+use Rattle.run_notes.specs.Slaves.{gaves_in}
 use Rattle.run_record.specs.Ran.{IsUnderway, EndsSo}
 use Rattle.run_record.specs.Session.{SessionState, session_rows, are_at_rest, some_given_up, IsLeftBy}
-use Rattle.run_record.specs.Reports.{IsBooked}
-use Rattle.run_record.specs.Epochs.{HasEpochs}
-use Rattle.run_record.specs.Heard.{emergencies_noted, emergencies_in}
-use Rattle.run_record.specs.Packets.{AreNumbered, begun_in, begun_noted}
-use Rattle.run_record.specs.Switched.{IsSwitched, SameSwitch}
-use Rattle.run_record.specs.Unsent.{IsSpent}
-use Rattle.run_record.proofs.Reporting.{all_booked, all_spent, all_epochs}
+use Rattle.run_notes.specs.Reports.{IsBooked}
+use Rattle.run_notes.specs.Epochs.{HasEpochs}
+use Rattle.run_notes.specs.Heard.{emergencies_noted, emergencies_in}
+use Rattle.run_notes.specs.Packets.{AreNumbered, begun_in, begun_noted}
+use Rattle.run_notes.specs.Switched.{IsSwitched, SameSwitch}
+use Rattle.run_notes.specs.Unsent.{IsSpent}
+use Rattle.run_notes.proofs.Reporting.{all_booked, all_spent, all_epochs}
 use Rattle.run_record.proofs.Ends.{rest_so, all_done, gaves_of_rows}
-use Rattle.run_record.proofs.Heard.{heard_of_rows}
-use Rattle.run_record.proofs.Packets.{begun_of_rows}
-use Rattle.run_record.proofs.Switched.{has_packets}
+use Rattle.run_notes.proofs.Heard.{heard_of_rows}
+use Rattle.run_notes.proofs.Packets.{begun_of_rows}
+use Rattle.run_notes.proofs.Switched.{has_packets}
 use Rattle.run_record.proofs.Underway.{many}
 
 -- the lives that frames lead to, with the emergencies that are noted of them and the events that they list, each with its number

@@ -6,9 +6,10 @@ use Rattle.std.proofs.lemmas.List.Elements.{All-nil, All-cons}
 use Rattle.slave_node.specs.of_slave_steps.Node.{Node}
 use Rattle.slave_server.specs.declared.server.SlaveServer.{SlaveServer}
 use Rattle.run_book.specs.declared.book.SlaveBook.{SlaveBook}
-use Rattle.run_record.specs.declared.notes.Notes.{Notes}
-use Rattle.run_record.specs.Notes.{has_given_up}
-use Rattle.run_record.specs.Session.{slave_row, slave_rows, some_given_up, rests_at, are_at_rest}
+use Rattle.run_notes.specs.declared.notes.Notes.{Notes}
+use Rattle.run_notes.specs.Notes.{has_given_up}
+use Rattle.run_record.specs.Session.{some_given_up, rests_at, are_at_rest}
+use Rattle.run_notes.specs.Slaves.{slave_row, slave_rows}
 use Rattle.run_record.specs.Ran.{IsGivenUp}
 
 -- one slave more behind the others

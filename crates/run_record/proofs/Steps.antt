@@ -7,24 +7,12 @@ use Rattle.slave_server.specs.declared.server.SlaveServer.{SlaveServer}
 use Rattle.run_book.specs.Book.{IsShort}
 use Rattle.run_book.specs.declared.book.Book.{Book}
 use Rattle.run_book.specs.declared.book.SentFrame.{SentFrame}
-use Rattle.run_record.specs.declared.notes.Notes.{Notes}
+use Rattle.run_notes.specs.declared.notes.Notes.{Notes}
 use Rattle.run_record.specs.Replay.{behind, IsRecorded}
-use Rattle.run_record.specs.Session.{SessionState, KeepsRest, SameFrames, LedOn, Stops}
-use Rattle.run_record.proofs.Kept.{rest_more}
+use Rattle.run_record.specs.Session.{SessionState, LedOn, Stops}
+use Rattle.run_notes.specs.Slaves.{KeepsRest, SameFrames}
+use Rattle.run_notes.proofs.Kept.{rest_more}
 use Rattle.run_record.proofs.Replays.{length_behind}
-
--- what holds whichever way a call ended
-pub any_ok : {T E P : Type 0} (r : Result T E) → P → OnOk r P
-any_ok (Ok v) p = p
-any_ok (Err e) p = tt
-
-pub any_err : {T E P : Type 0} (r : Result T E) → P → OnErr r P
-any_err (Ok v) p = tt
-any_err (Err e) p = p
-
-pub on_ok_both : {T E : Type 0} (P Q : Type 0) (r : Result T E) → OnOk r P → OnOk r Q → OnOk r (P × Q)
-on_ok_both P Q (Ok v) p q = (p, q)
-on_ok_both P Q (Err e) p q = tt
 
 -- what a session keeps true: so many homes, lists of mails and posts as slaves
 abbrev pub Holds : ℕ → ℕ → List Notes → RingState (Node SlaveServer) → ℕ → ℕ → ℕ → Type 0

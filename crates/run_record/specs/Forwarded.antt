@@ -11,8 +11,8 @@ use Rattle.port_events.specs.Listed.{unfinished_of}
 use Rattle.port_events.specs.of_packets_heard.Heard.{joined_in}
 use Rattle.run_book.specs.declared.book.Book.{Book}
 use Rattle.run_record.specs.Led.{LeadTo, ListsAll, BeginsAll, NumbersAll, Leading}
-use Rattle.run_record.specs.Packets.{AreNumbered, begun_noted}
-use Rattle.run_record.specs.declared.notes.Notes.{Notes}
+use Rattle.run_notes.specs.Packets.{AreNumbered, begun_noted}
+use Rattle.run_notes.specs.declared.notes.Notes.{Notes}
 use Rattle.segment_plan.specs.declared.plan.Scenario.{Scenario}
 
 -- A MASTER'S SWITCH behind these frames: its slaves have the ports of the plan, what is unfinished of their packets is by their lives, what began there came into hand,

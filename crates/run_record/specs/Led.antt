@@ -22,18 +22,19 @@ use Rattle.run_book.specs.declared.book.Ending.{Ending}
 use Rattle.run_book.specs.declared.book.Ending.TheVariants as endings
 use Rattle.run_book.specs.declared.book.SentFrame.{SentFrame}
 use Rattle.run_book.specs.declared.book.SlaveBook.{SlaveBook}
-use Rattle.run_record.specs.Reports.{AllReport, IsBooked}
-use Rattle.run_record.specs.Epochs.{HasEpochs}
-use Rattle.run_record.specs.Heard.{emergencies_noted, emergencies_in}
-use Rattle.run_record.specs.Packets.{AreNumbered, begun_in}
-use Rattle.run_record.specs.Switched.{HasPackets}
-use Rattle.run_record.specs.Unsent.{IsSpent}
-use Rattle.run_record.specs.declared.notes.Notes.{Notes}
+use Rattle.run_notes.specs.Reports.{AllReport, IsBooked}
+use Rattle.run_notes.specs.Epochs.{HasEpochs}
+use Rattle.run_notes.specs.Heard.{emergencies_noted, emergencies_in}
+use Rattle.run_notes.specs.Packets.{AreNumbered, begun_in}
+use Rattle.run_notes.specs.Switched.{HasPackets}
+use Rattle.run_notes.specs.Unsent.{IsSpent}
+use Rattle.run_notes.specs.declared.notes.Notes.{Notes}
 use Rattle.segment_plan.specs.declared.plan.Scenario.{Scenario}
 use Rattle.slave_server.specs.Serving.{next_mail}
 use Rattle.slave_node.specs.of_slave_steps.Node.{is_settled}
 use Rattle.visit_orders.specs.Toured.{IsToured}
 
+use Rattle.run_notes.specs.Slaves.{gaves_noted, gaves_in}
 -- a frame of a book
 abbrev pub exchanged : SentFrame → Exchanged
 exchanged f = record { sent = f.sent; fate = f.fate; back = f.back }
@@ -65,14 +66,6 @@ pub record AreLed (plan : Scenario) (fs : List Exchanged) : Type 0 where
   pub lives : LeadTo plan fs missed leads
   pub tour : Tour
   pub toured : TouredTo plan fs tour leads
-
--- the frames at which slaves were given up: by what is noted of them, by the rows of a book
-abbrev pub gaves_noted : List Notes → List (List ℕ)
-gaves_noted notes = map (λ (n : Notes). n.gave) notes
-
--- by the rows of a book
-abbrev pub gaves_in : List SlaveBook → List (List ℕ)
-gaves_in rows = map (λ (row : SlaveBook). row.gave) rows
 
 -- A MASTER BEHIND THESE FRAMES of a plan's run leads its slaves; so often each was given up as is noted, and what is noted of its services goes with its
 -- life; and just the emergencies among the mails that its life accepted are noted, each with the frame that brought it; and its frames are the visits of

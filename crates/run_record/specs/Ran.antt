@@ -8,7 +8,8 @@ use Rattle.run_book.specs.declared.book.Ending.{Ending}
 use Rattle.run_book.specs.declared.book.Ending.TheVariants as endings
 use Rattle.run_book.specs.declared.book.SlaveBook.{SlaveBook}
 use Rattle.run_record.specs.Replay.{first_ring, ring_after, AreRecorded}
-use Rattle.run_record.specs.Session.{SessionState, session_rows, home_of, budget_of, are_at_rest, some_given_up}
+use Rattle.run_record.specs.Session.{SessionState, session_rows, budget_of, are_at_rest, some_given_up}
+use Rattle.run_notes.specs.Slaves.{home_of}
 
 -- the frames of a serving that hears so many datagrams, or of a run, which hears none: each as the ring of the plan's new slaves gives it,
 -- and no more than the budget; and each event at a port of the switch

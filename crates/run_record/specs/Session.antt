@@ -1,38 +1,33 @@
 -- A run that is made frame by frame.
-use Rattle.std.specs.Prelude.{◌≡◌, ℕ, zero, suc, map, replicate, false, ◌+◌, ◌==◌, Bool, true, nat_lt, if◌then◌else◌, ◌||◌, List, [], ◌∷◌, ◌++◌, ◌⊎◌, length, All, count_by, slice_get, Option, Some, None, is_some}
+use Rattle.std.specs.Prelude.{◌≡◌, ℕ, zero, suc, map, replicate, false, ◌+◌, Bool, true, nat_lt, ◌||◌, List, [], ◌∷◌, ◌++◌, ◌⊎◌, length, Option, Some, None, is_some}
 use Rattle.std.specs.List.{list_all, list_any}
 use Rattle.arrayvec.specs.ArrayVec.{ArrayVec}
 use Rattle.segment_plan.specs.Bound.{bound_of}
 use Rattle.segment_plan.specs.declared.plan.Scenario.{Scenario}
-use Rattle.segment_plan.specs.declared.service.Service.{Service}
-use Rattle.segment_plan.specs.declared.slave.SlaveSpec.{SlaveSpec}
 use Rattle.segment_ring.specs.Ring.{RingState}
 use Rattle.slave_node.specs.of_slave_steps.Node.{Node, is_settled}
 use Rattle.slave_server.specs.Serving.{next_mail}
 use Rattle.slave_server.specs.declared.server.SlaveServer.{SlaveServer}
 use Rattle.run_book.specs.Book.{IsShort}
-use Rattle.run_book.specs.Ports.{ports_of, IsAtPort}
+use Rattle.run_book.specs.Ports.{ports_of}
 use Rattle.run_book.specs.declared.book.Book.{Book}
 use Rattle.run_book.specs.declared.book.SentFrame.{SentFrame}
 use Rattle.run_book.specs.declared.book.SlaveBook.{SlaveBook}
-use Rattle.run_record.specs.declared.notes.Notes.{Notes}
+use Rattle.run_notes.specs.declared.notes.Notes.{Notes}
 use Rattle.mailbox_mail.specs.declared.mail.Mail.{Mail}
-use Rattle.run_record.specs.declared.standing.AskedMail.{AskedMail}
-use Rattle.run_record.specs.declared.standing.Log.{Log}
-use Rattle.run_record.specs.Notes.{new_notes, ended}
+use Rattle.run_notes.specs.declared.standing.AskedMail.{AskedMail}
 use Rattle.master_node.specs.declared.node.MasterNode.{MasterNode}
 use Rattle.master_node.specs.Shows.{MasterShows}
-use Rattle.master_node.specs.Wants.{gave_of, AllCounted, AllPlaced, AllLeft}
+use Rattle.master_node.specs.Wants.{AllPlaced, AllLeft}
 use Rattle.master_node.specs.of_master_tour.Goes.{is_live}
 use Rattle.master_node.specs.of_life_runs.Led.{Exchanged, Leads}
 use Rattle.master_node.specs.of_frame_view.View.{Lens}
-use Rattle.segment_ring.specs.declared.wire.Fate.{Fate}
-use Rattle.segment_ring.specs.declared.wire.Fate.TheVariants.{Pass, Lost}
-use Rattle.run_record.specs.Led.{exchanged, gaves_noted, Leading, AreLed}
+use Rattle.run_record.specs.Led.{exchanged, Leading, AreLed}
 use Rattle.run_record.specs.Replay.{first_ring, behind, IsRecorded}
 use Rattle.run_record.specs.Forwarded.{Forwards}
-use Rattle.run_record.specs.Switched.{IsSwitched}
+use Rattle.run_notes.specs.Switched.{IsSwitched}
 
+use Rattle.run_notes.specs.Slaves.{first_notes, home_of, slave_row, slave_rows, KeepsRest}
 -- a session: the ring with its slaves, what became of each slave, their stations and the lengths of their mailboxes, the mails that are
 -- passed on to each and how many of them still wait, the master, the ports of its switch, how often a slave is taken up again, the most frames, and
 -- whether requests are served
@@ -61,19 +56,6 @@ budget_or None bound = smaller_bound bound
 abbrev pub budget_of : Scenario → ℕ → ℕ
 budget_of plan grams = budget_or plan.budget (bound_of plan grams)
 
--- how many services the script has for a slave
-abbrev pub scripted : List (ℕ × Service) → ℕ → ℕ
-scripted services slave = count_by (λ (row : ℕ × Service). row.0 == slave) services
-
--- nothing happened yet at the slaves from a number on
-abbrev pub first_notes : List (ℕ × Service) → ℕ → List SlaveSpec → List Notes
-first_notes services number [] = []
-first_notes services number (spec ∷ specs) = new_notes (scripted services number) ∷ first_notes services (number + 1) specs
-
--- the station of a slave and the length of its mailbox
-abbrev pub home_of : SlaveSpec → ℕ × ℕ
-home_of spec = (spec.station, spec.out_len)
-
 -- a session of a plan before its first frame, with this master
 abbrev pub first_session : Scenario → ℕ → MasterNode → SessionState
 first_session plan grams master = record {
@@ -88,23 +70,6 @@ first_session plan grams master = record {
   budget = budget_of plan grams;
   serving = nat_lt 0 grams;
 }
-
--- the row of a slave, should the run end here
-abbrev pub slave_row : ℕ → Node SlaveServer → Notes → SlaveBook
-slave_row recover node n = record {
-  node = node;
-  begun = n.begun;
-  answers = ended n;
-  emergencies = n.emergencies;
-  epochs = n.epochs;
-  gave = n.gave;
-  given_up = slice_get n.gave recover;
-}
-
--- the rows of slaves, in ring order
-abbrev pub slave_rows : ℕ → List (Node SlaveServer) → List Notes → List SlaveBook
-slave_rows recover (node ∷ nodes) (n ∷ notes) = slave_row recover node n ∷ slave_rows recover nodes notes
-slave_rows recover _ _ = []
 
 -- the rows of a session's slaves
 abbrev pub session_rows : SessionState → List SlaveBook
@@ -130,44 +95,6 @@ has_given_up row = nat_lt 0 (length row.gave)
 -- one of them was given up
 abbrev pub some_given_up : List SlaveBook → Bool
 some_given_up rows = list_any has_given_up rows
-
--- what a step leaves of a book: its events at the switch stay at one of so many ports
-pub record KeepsRest (ports : ℕ) (b b' : Book) : Type 0 where
-  pub slaves : b'.slaves ≡ b.slaves
-  pub grams : b'.grams ≡ b.grams
-  pub replies : b'.replies ≡ b.replies
-  pub serving : b'.serving ≡ b.serving
-  pub at_port : All (IsAtPort ports) b.switch → All (IsAtPort ports) b'.switch
-
--- what the events of a step leave of a book
-pub record SameFrames (ports : ℕ) (b b' : Book) : Type 0 where
-  pub frames : b'.frames ≡ b.frames
-  pub rest : KeepsRest ports b b'
-
--- the slaves and ports of a log stay as many
-pub record SameSlaves (r r' : Log) : Type 0 where
-  pub notes : length r'.notes ≡ length r.notes
-  pub homes : r'.homes ≡ r.homes
-  pub asked : r'.asked ≡ r.asked
-  pub ports : r'.ports ≡ r.ports
-  pub recover : r'.recover ≡ r.recover
-
--- the give-ups of each slave behind a frame that was lost: this frame more where it was given up more often than before
-abbrev pub gaves_behind : ℕ → List (List ℕ) → List (List ℕ) → List (List ℕ)
-gaves_behind frame (now ∷ nows) (old ∷ olds) = (if nat_lt (length old) (length now) then old ++ frame ∷ [] else old) ∷ gaves_behind frame nows olds
-gaves_behind frame _ olds = olds
-
--- the same of the slave at a place alone
-abbrev pub gave_at : ℕ → ℕ → List (List ℕ) → List (List ℕ) → List (List ℕ)
-gave_at zero frame (now ∷ nows) (old ∷ olds) = (if nat_lt (length old) (length now) then old ++ frame ∷ [] else old) ∷ olds
-gave_at (suc place) frame (now ∷ nows) (old ∷ olds) = old ∷ gave_at place frame nows olds
-gave_at place frame _ olds = olds
-
--- the give-ups that are noted behind a frame of this fate: those that the slaves have which this master leads
-abbrev pub GaveBy : Fate → ℕ → MasterNode → Log → Log → Type 0
-GaveBy Pass frame m r r' = gaves_noted r'.notes ≡ gaves_noted r.notes
-GaveBy (Lost after) frame m r r' = (lens : ℕ → Lens) (retry missed : ℕ) (leads : List Leads) → MasterShows lens r.recover retry m missed leads → AllCounted r.recover leads →
-    gaves_noted r'.notes ≡ gaves_behind frame (map gave_of leads) (gaves_noted r.notes)
 
 -- some slave is live
 abbrev pub has_live : MasterNode → Bool

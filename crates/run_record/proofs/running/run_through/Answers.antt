@@ -12,8 +12,8 @@ use Rattle.run_record.proofs.Leads.{one_frame_more, one_led_more, none_led, same
 use Rattle.std.proofs.lemmas.List.{length-map}
 use Rattle.run_record.proofs.Ends.{some_live}
 use Rattle.run_record.proofs.Overs.{led_book}
-use Rattle.run_record.proofs.Steps.{any_err}
-use Rattle.run_record.proofs.Switched.{switched_new}
+use Rattle.run_notes.proofs.Ways.{any_err}
+use Rattle.run_record.proofs.SwitchFirst.{switched_new}
 use Rattle.master_node.proofs.Counts.{counted}
 use Rattle.master_node.specs.of_life_runs.First.{lens_of}
 use Rattle.run_record.proofs.running.run_through.Goals as goal

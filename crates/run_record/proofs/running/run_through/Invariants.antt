@@ -4,7 +4,7 @@ use Rattle.run_record.specs.Session.{session_rows, are_at_rest, has_live, IsLeft
 use Rattle.run_record.specs.Forwarded.{Forwards}
 use Rattle.run_record.specs.Led.{exchanged}
 use Rattle.run_record.specs.Ran.{IsUnderway}
-use Rattle.run_record.specs.Switched.{IsSwitched}
+use Rattle.run_notes.specs.Switched.{IsSwitched}
 use Rattle.run_record.proofs.running.run_through.Given as goal
 
 abbrev pub invariant-loop-settled : goal.invariant-loop-settled

@@ -1,6 +1,6 @@
 use Rattle.std.proofs.Common.{◌≡◌, ◌++◌, ◌∷◌, [], length, length-append, ap, ap₂, sym, ◌∙◌, append_assoc, arith}
 use Rattle.std.proofs.lemmas.Result.{on_ok_weaker}
-use Rattle.run_record.specs.Session.{slave_rows}
+use Rattle.run_notes.specs.Slaves.{slave_rows}
 use Rattle.run_record.proofs.Rows.{rows_more}
 use Rattle.run_record.proofs.session.+put_slaves.Goals as goal
 

@@ -1,6 +1,7 @@
 use Rattle.std.proofs.Common.{◌≡◌, ◌+◌, ◌∷◌, ◌&&◌, true, false, drop, ap, sym, ◌∙◌, rules, arith}
 use Rattle.std.proofs.lemmas.List.{drop_more}
-use Rattle.run_record.specs.Session.{SessionState, are_at_rest, slave_rows}
+use Rattle.run_record.specs.Session.{SessionState, are_at_rest}
+use Rattle.run_notes.specs.Slaves.{slave_rows}
 use Rattle.run_record.proofs.Rows.{rest_at}
 use Rattle.run_record.proofs.session.Session.are_at_rest.Goals as goal
 

@@ -4,8 +4,8 @@ use Rattle.segment_ring.specs.Ring.{RingState}
 use Rattle.slave_node.specs.of_slave_steps.Node.{Node}
 use Rattle.slave_server.specs.Spec.{node_of}
 use Rattle.slave_server.specs.declared.server.SlaveServer.{SlaveServer}
-use Rattle.run_record.specs.Session.{home_of}
-use Rattle.run_record.proofs.Firsts.{length_first}
+use Rattle.run_notes.specs.Slaves.{home_of}
+use Rattle.run_notes.proofs.Firsts.{length_first}
 use Rattle.run_record.proofs.Leads.{first_forwards}
 use Rattle.run_record.proofs.session.Session.begin.Goals as goal
 

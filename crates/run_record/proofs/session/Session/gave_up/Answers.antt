@@ -1,6 +1,6 @@
 use Rattle.std.proofs.Common.{◌∙◌, ap}
 use Rattle.std.specs.List.{list_any}
-use Rattle.run_record.specs.Notes.{has_given_up}
+use Rattle.run_notes.specs.Notes.{has_given_up}
 use Rattle.run_record.specs.Session.{SessionState, session_rows, some_given_up}
 use Rattle.run_record.proofs.Rows.{given_up_in_notes}
 use Rattle.run_record.proofs.session.Session.gave_up.Goals as goal

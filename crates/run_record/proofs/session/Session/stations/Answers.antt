@@ -1,6 +1,6 @@
 use Rattle.std.proofs.Common.{◌≤◌, ℕ, length, sym, ap, ◌∙◌, subst}
 use Rattle.run_record.specs.Session.{SessionState}
-use Rattle.run_record.proofs.Stations.{length_stations}
+use Rattle.run_notes.proofs.Stations.{length_stations}
 use Rattle.run_record.proofs.session.Session.stations.Goals as goal
 
 pub returns-clause-many : goal.returns-clause-many

@@ -11,13 +11,15 @@ use Rattle.run_record.specs.Led.{exchanged, Leading}
 use Rattle.run_record.specs.Forwarded.{Forwards}
 use Rattle.run_record.proofs.Leads.{forwards_on, led_on, returned}
 use Rattle.run_record.specs.Replay.{behind, IsRecorded}
-use Rattle.run_record.specs.Session.{SessionState, SameFrames, KeepsRest, has_live}
-use Rattle.run_record.proofs.Kept.{rest_more}
-use Rattle.run_record.specs.Switched.{IsSwitched, NotesSwitch}
+use Rattle.run_record.specs.Session.{SessionState, has_live}
+use Rattle.run_notes.specs.Slaves.{SameFrames, KeepsRest}
+use Rattle.run_notes.proofs.Kept.{rest_more}
+use Rattle.run_notes.specs.Switched.{IsSwitched, NotesSwitch}
 use Rattle.run_record.proofs.Numbered.{numbers_grown}
-use Rattle.run_record.proofs.Switched.{switched_step, switch_grown, switch_stands, switch_stood}
+use Rattle.run_notes.proofs.Switched.{switched_step, switch_grown, switch_stands, switch_stood}
 use Rattle.std.proofs.lemmas.Result.{on_ok_weaker}
-use Rattle.run_record.proofs.Steps.{any_err, on_ok_both, holds_on, no_frame, one_frame}
+use Rattle.run_record.proofs.Steps.{holds_on, no_frame, one_frame}
+use Rattle.run_notes.proofs.Ways.{any_err, on_ok_both}
 use Rattle.run_record.proofs.session.Session.step.Goals as goal
 
 pub invariant_of-self-in_err-put_frame : goal.invariant_of-self-in_err-put_frame

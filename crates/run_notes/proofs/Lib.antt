@@ -1,0 +1,15 @@
+pub use Rattle.script_answers.proofs as of_script_answers
+pub mod Epochs
+pub mod Firsts
+pub mod Frees
+pub mod Gaves
+pub mod Heard
+pub mod Kept
+pub mod Lists
+pub mod Packets
+pub mod Reporting
+pub mod Reports
+pub mod Stations
+pub mod Switched
+pub mod Unsent
+pub mod Ways

@@ -1,0 +1,32 @@
+use Rattle.std.proofs.Common.{◌+◌, length, ◌∙◌, subst}
+use Rattle.std.proofs.lemmas.Result.{on_ok_weaker}
+use Rattle.run_notes.specs.Switched.{NotesSwitch}
+use Rattle.run_notes.proofs.Kept.{slaves_more, at_log}
+use Rattle.run_notes.proofs.Ways.{any_ok}
+use Rattle.run_notes.proofs.Switched.{switch_at}
+use Rattle.run_notes.proofs.standing.Log.note.Goals as goal
+
+pub returns-clause-slaves : goal.returns-clause-slaves
+returns-clause-slaves c = slaves_more c.note_events.ensures.slaves c.note_happened.ensures.slaves
+
+pub returns-clause-gave : goal.returns-clause-gave
+returns-clause-gave c = any_ok c.note_happened.result (c.note_happened.ensures.gave ∙ c.in_ok-note_events.ensures.gave)
+
+pub returns-clause-heard : goal.returns-clause-heard
+returns-clause-heard c = any_ok c.note_happened.result (c.note_happened.ensures.heard ∙ c.in_ok-note_events.ensures.heard)
+
+pub returns-clause-told : goal.returns-clause-told
+returns-clause-told c = any_ok c.note_happened.result (λ as' r. c.note_happened.ensures.told as' (c.in_ok-note_events.ensures.told as' r))
+
+pub returns-clause-frames : goal.returns-clause-frames
+returns-clause-frames c = at_log c.note_events.ensures.slaves c.note_happened.ensures.frames
+
+pub returns-clause-switch : goal.returns-clause-switch
+returns-clause-switch c =
+    on_ok_weaker c.note_happened.result
+    (λ notes. switch_at c.args.self.now c.note_events.new.self c.args.moment.sent c.args.master.now.lan.happened c.args.book.now c.note_happened.new.book c.note_events.ensures.slaves
+    (subst (λ rows. NotesSwitch (1 + length c.note_events.new.self.ports) c.args.moment.sent rows c.args.book.now c.note_happened.new.book) c.happened.ensures notes))
+    c.note_happened.ensures.switch
+
+pub returns-clause-rows : goal.returns-clause-rows
+returns-clause-rows c = any_ok c.note_happened.result (c.note_happened.ensures.rows ∙ c.in_ok-note_events.ensures.rows)

@@ -1,0 +1,49 @@
+use Rattle.std.proofs.Common.{◌≡◌, ℕ, List, sym, ap, ◌∙◌, subst}
+use Rattle.std.specs.Prelude.{IfSome, slice_get}
+use Rattle.std.proofs.lemmas.Result.{on_ok_weaker}
+use Rattle.run_notes.specs.declared.notes.Awaited.{Awaited}
+use Rattle.run_notes.specs.declared.notes.Notes.{Notes}
+use Rattle.run_notes.specs.Reports.{Reports}
+use Rattle.run_notes.proofs.Gaves.{same_gaves}
+use Rattle.run_notes.proofs.Heard.{same_heard}
+use Rattle.run_notes.proofs.Reporting.{to_next, got_there, awaited_at, reply_told}
+use Rattle.run_notes.proofs.Stations.{same_noted}
+use Rattle.run_notes.proofs.Ways.{any_ok}
+use Rattle.script_answers.specs.Steps.{PassesSo}
+use Rattle.master_node.specs.of_life_model.Lives.{Stand}
+use Rattle.master_node.specs.Told.{Tells}
+use Rattle.run_notes.proofs.Packets.{same_begun}
+use Rattle.run_notes.proofs.standing.Log.note_answer.Goals as goal
+
+pub invariant_of-self : goal.invariant_of-self
+invariant_of-self c =
+    let log = c.args.self.now in
+    record { lit = log.lit ∙ sym (same_noted log.recover log.homes log.notes c.args.at c.at_mut-notes.result.now c.note_back.new.notes (c.note_back.ensures.gave ∙ ap (λ (n : Notes). n.gave) c.at_mut-notes.ensures.value)) }
+
+pub returns-clause-gave : goal.returns-clause-gave
+returns-clause-gave c =
+    any_ok c.note_back.result (same_gaves c.args.self.now.notes c.args.at c.at_mut-notes.result.now c.note_back.new.notes (c.note_back.ensures.gave ∙ ap (λ (n : Notes). n.gave) c.at_mut-notes.ensures.value))
+
+pub returns-clause-told : goal.returns-clause-told
+returns-clause-told c =
+    let log = c.args.self.now in
+    let n = c.at_mut-notes.result.now in
+    let got = got_there log.notes c.args.at n c.requires.notes c.at_mut-notes.ensures.value in
+    let leaves = c.is_leaving-leaves in
+    let opens = c.is_open-opens in
+    let is_so : n.awaited ≡ Awaited.Reply = awaited_at Awaited.Reply log.notes c.args.at n got c.requires.awaited in
+    on_ok_weaker c.note_back.result
+    (λ is. λ lens recover as' bs x p r.
+    to_next (λ a b. PassesSo c.args.frame a b) c.args.at as' bs log.notes n c.note_back.new.notes p got
+    (λ a b e q s. subst (λ (z : Notes). Reports b z) (sym is)
+    (reply_told c.args.frame a b n q s leaves.result opens.result bs c.args.at e (leaves.ensures lens recover bs x) (opens.ensures lens recover bs x) is_so c.in_ok-told.told c.told.new.into
+    (subst (λ (old : List ℕ). IfSome (slice_get bs c.args.at) (λ a. a.lived.life.stand ≡ Stand.Open → Tells c.in_ok-told.told old c.told.new.into a.lived.life.era.side.now)) c.new-value.ensures (c.in_ok-told.ensures lens recover bs x)))) r)
+    c.note_back.ensures.is
+
+pub returns-clause-heard : goal.returns-clause-heard
+returns-clause-heard c =
+    any_ok c.note_back.result (same_heard c.args.self.now.notes c.args.at c.at_mut-notes.result.now c.note_back.new.notes (c.note_back.ensures.heard ∙ ap (λ (n : Notes). n.emergencies) c.at_mut-notes.ensures.value))
+
+pub returns-clause-rows : goal.returns-clause-rows
+returns-clause-rows c =
+    any_ok c.note_back.result (same_begun c.args.self.now.notes c.args.at c.at_mut-notes.result.now c.note_back.new.notes (c.note_back.ensures.rows ∙ ap (λ (n : Notes). n.begun) c.at_mut-notes.ensures.value))

@@ -1,0 +1,41 @@
+use Rattle.std.proofs.Common.{sym, ap, ◌∙◌, arith}
+use Rattle.std.proofs.lemmas.Result.{on_ok_weaker}
+use Rattle.run_notes.specs.declared.notes.Notes.{Notes}
+use Rattle.run_notes.proofs.Gaves.{same_gaves}
+use Rattle.run_notes.proofs.Heard.{same_heard}
+use Rattle.run_notes.proofs.Packets.{none_begun, one_begun, one_free}
+use Rattle.run_notes.proofs.Reporting.{set_reports}
+use Rattle.run_notes.proofs.Stations.{same_noted}
+use Rattle.run_notes.proofs.Ways.{any_ok}
+use Rattle.run_notes.proofs.standing.Log.note_begun_at.Goals as goal
+
+pub invariant_of-self : goal.invariant_of-self
+invariant_of-self c =
+    let log = c.args.self.now in
+    record { lit = log.lit ∙ sym (same_noted log.recover log.homes log.notes c.args.at c.at_mut.result.now c.note_began.new.notes (c.note_began.ensures.gave ∙ ap (λ (n : Notes). n.gave) c.at_mut.ensures.value)) }
+
+pub returns-clause-gave : goal.returns-clause-gave
+returns-clause-gave c =
+    any_ok c.note_began.result (same_gaves c.args.self.now.notes c.args.at c.at_mut.result.now c.note_began.new.notes (c.note_began.ensures.gave ∙ ap (λ (n : Notes). n.gave) c.at_mut.ensures.value))
+
+pub returns-clause-heard : goal.returns-clause-heard
+returns-clause-heard c =
+    any_ok c.note_began.result (same_heard c.args.self.now.notes c.args.at c.at_mut.result.now c.note_began.new.notes (c.note_began.ensures.heard ∙ ap (λ (n : Notes). n.emergencies) c.at_mut.ensures.value))
+
+pub returns-clause-told : goal.returns-clause-told
+returns-clause-told c =
+    on_ok_weaker c.note_began.result (λ f. set_reports c.args.self.now.notes c.args.at c.at_mut.result.now c.note_began.new.notes c.at_mut.ensures.value f) c.note_began.ensures.told
+
+pub returns-then-place-len-clause-packets : goal.returns-then-place-len-clause-packets
+returns-then-place-len-clause-packets c = none_begun c.args.self.now.notes c.args.at c.args.origin c.args.frame (omega arith)
+
+pub returns-clause-packets : goal.returns-clause-packets
+returns-clause-packets c =
+    on_ok_weaker c.note_began.result (λ is. one_begun c.args.self.now.notes c.args.at c.at_mut.result.now c.note_began.new.notes c.args.origin c.args.frame (omega arith) c.at_mut.ensures.value is) c.note_began.ensures.is
+
+pub returns-then-place-len-clause-free : goal.returns-then-place-len-clause-free
+returns-then-place-len-clause-free c = λ k f. f
+
+pub returns-clause-free : goal.returns-clause-free
+returns-clause-free c =
+    on_ok_weaker c.note_began.result (λ is. one_free c.args.self.now.notes c.args.at c.at_mut.result.now c.note_began.new.notes c.args.origin c.args.frame (omega arith) c.at_mut.ensures.value is) c.note_began.ensures.is

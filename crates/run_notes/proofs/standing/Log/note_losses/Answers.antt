@@ -1,0 +1,55 @@
+use Rattle.std.proofs.Common.{◌≡◌, ◌+◌, ℕ, suc, map, refl, sym, ap, ◌∙◌, subst, arith}
+use Rattle.std.proofs.lemmas.List.{length-map}
+use Rattle.run_notes.specs.declared.notes.Notes.{Notes}
+use Rattle.master_node.specs.Shows.{MasterShows}
+use Rattle.master_node.specs.Wants.{gave_of, AllCounted}
+use Rattle.run_notes.specs.Slaves.{gaves_noted}
+use Rattle.run_notes.specs.Slaves.{gave_at}
+use Rattle.run_notes.proofs.Gaves.{walked, walked_on, walked_all}
+use Rattle.run_notes.proofs.Kept.{slaves_more}
+use Rattle.run_notes.specs.Reports.{ReportsTo}
+use Rattle.run_notes.proofs.Reporting.{to_first, to_last, both_lengths}
+use Rattle.script_answers.specs.Steps.{LosesSo}
+use Rattle.run_notes.proofs.standing.Log.note_losses.Goals as goal
+
+pub loop-place-preserved : goal.loop-place-preserved
+loop-place-preserved c =
+    let first = c.args.self.now in
+    let now = c.loop-place.self in
+    let inv = c.loop-place.invariant in
+    let place = c.loop-place.place in
+    record {
+      slaves = slaves_more inv.slaves c.note_loss.ensures.slaves;
+      heard = c.in_ok-note_loss.ensures.heard ∙ inv.heard;
+      rows = c.in_ok-note_loss.ensures.rows ∙ inv.rows;
+      told = λ lens retry missed as' bs shown all p r.
+          let e : suc place ≡ place + 1 = omega arith in
+          subst (λ (k : ℕ). ReportsTo k as' bs c.note_loss.new.self.notes) e
+          (c.in_ok-note_loss.ensures.told lens retry missed as' bs (subst (λ (n : ℕ). MasterShows lens n retry c.args.master.now missed bs) (sym inv.slaves.recover) shown) (subst (λ (n : ℕ). AllCounted n bs) (sym inv.slaves.recover) all) p (inv.told lens retry missed as' bs shown all p r));
+      gave = λ lens retry missed leads shown all.
+          c.in_ok-note_loss.ensures.gave lens retry missed leads (subst (λ (n : ℕ). MasterShows lens n retry c.args.master.now missed leads) (sym inv.slaves.recover) shown) (subst (λ (n : ℕ). AllCounted n leads) (sym inv.slaves.recover) all)
+          ∙ ap (gave_at place c.args.frame (map gave_of leads)) (inv.gave lens retry missed leads shown all) ∙ walked_on place c.args.frame (map gave_of leads) (gaves_noted first.notes)
+          ∙ (let e : suc place ≡ place + 1 = omega arith in ap (λ (k : ℕ). walked k c.args.frame (map gave_of leads) (gaves_noted first.notes)) e);
+    }
+
+pub returns-clause-gave : goal.returns-clause-gave
+returns-clause-gave c = λ lens retry missed leads shown all.
+    let first = c.args.self.now in
+    let long = length-map first.notes (λ (n : Notes). n.gave) in
+    c.loop-place.invariant.gave lens retry missed leads shown all
+    ∙ walked_all c.loop-place.place c.args.frame (map gave_of leads) (gaves_noted first.notes) (omega (arith, long, c.loop-place-test.false, c.len-place-end.ensures))
+
+pub loop-place-init : goal.loop-place-init
+loop-place-init c = record {
+  slaves = record { notes = refl; homes = refl; asked = refl; ports = refl; recover = refl };
+  gave = λ lens retry missed leads shown all. refl;
+  heard = refl;
+  rows = refl;
+  told = λ lens retry missed as' bs shown all p r. to_first as' bs c.args.self.now.notes (both_lengths (λ a b. LosesSo c.args.frame a b) as' bs p) r;
+}
+
+pub returns-clause-told : goal.returns-clause-told
+returns-clause-told c = λ lens retry missed as' bs shown all p r.
+    let now = c.loop-place.self.notes in
+    let many = c.loop-place.invariant.slaves.notes in
+    to_last c.loop-place.place as' bs now (omega (arith, many, c.loop-place-test.false, c.len-place-end.ensures)) (c.loop-place.invariant.told lens retry missed as' bs shown all p r)

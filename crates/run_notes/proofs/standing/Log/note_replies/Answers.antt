@@ -1,0 +1,35 @@
+use Rattle.std.proofs.Common.{◌≡◌, ◌+◌, ℕ, suc, refl, ◌∙◌, subst, arith}
+use Rattle.run_notes.proofs.Kept.{slaves_more}
+use Rattle.run_notes.specs.Reports.{ReportsTo}
+use Rattle.run_notes.proofs.Reporting.{to_first, to_last, both_lengths}
+use Rattle.script_answers.specs.Steps.{PassesSo}
+use Rattle.run_notes.proofs.standing.Log.note_replies.Goals as goal
+
+pub loop-place-init : goal.loop-place-init
+loop-place-init c = record {
+  slaves = record { notes = refl; homes = refl; asked = refl; ports = refl; recover = refl };
+  gave = refl;
+  heard = refl;
+  rows = refl;
+  told = λ lens recover as' bs x p r. to_first as' bs c.args.self.now.notes (both_lengths (λ a b. PassesSo c.args.frame a b) as' bs p) r;
+}
+
+pub loop-place-preserved : goal.loop-place-preserved
+loop-place-preserved c =
+    let inv = c.loop-place.invariant in
+    let place = c.loop-place.place in
+    record {
+      slaves = slaves_more inv.slaves c.note_reply.ensures.slaves;
+      gave = c.in_ok-note_reply.ensures.gave ∙ inv.gave;
+      heard = c.in_ok-note_reply.ensures.heard ∙ inv.heard;
+      rows = c.in_ok-note_reply.ensures.rows ∙ inv.rows;
+      told = λ lens recover as' bs x p r.
+          let e : suc place ≡ place + 1 = omega arith in
+          subst (λ (k : ℕ). ReportsTo k as' bs c.note_reply.new.self.notes) e (c.in_ok-note_reply.ensures.told lens recover as' bs x p (inv.told lens recover as' bs x p r));
+    }
+
+pub returns-clause-told : goal.returns-clause-told
+returns-clause-told c = λ lens recover as' bs x p r.
+    let now = c.loop-place.self.notes in
+    let many = c.loop-place.invariant.slaves.notes in
+    to_last c.loop-place.place as' bs now (omega (arith, many, c.loop-place-test.false, c.len-place-end.ensures)) (c.loop-place.invariant.told lens recover as' bs x p r)

@@ -1,0 +1,52 @@
+use Rattle.std.proofs.Common.{◌<◌, ℕ, List, length, sym, ap, ◌∙◌, arith}
+use Rattle.std.specs.Prelude.{Option, slice_set}
+use Rattle.std.proofs.lemmas.Result.{on_ok_weaker}
+use Rattle.run_notes.specs.declared.notes.Notes.{Notes}
+use Rattle.run_notes.specs.Notes.{stations_of}
+use Rattle.run_notes.proofs.Gaves.{same_gaves}
+use Rattle.run_notes.proofs.Heard.{same_heard}
+use Rattle.run_notes.proofs.Reporting.{set_reports}
+use Rattle.run_notes.proofs.Stations.{among_stations, one_noted}
+use Rattle.run_notes.proofs.Packets.{same_begun}
+use Rattle.run_notes.proofs.standing.Log.note_slave.Goals as goal
+
+pub at_mut-requires : goal.at_mut-requires
+at_mut-requires c =
+    let log = c.args.self.now in
+    let e = c.in-Some.ensures in
+    let inside : c.args.at < length log.notes = omega arith in
+    let more = among_stations log.recover log.homes log.notes c.args.at _ (sym e) inside in
+    let same = ap length log.lit in
+    omega (arith, more, same)
+
+pub invariant_of-self : goal.invariant_of-self
+invariant_of-self c =
+    let log = c.args.self.now in
+    let e = c.in-Some.ensures in
+    record {
+      lit =
+          ap (λ (l : List (Option (ℕ × ℕ))). slice_set l c.args.at c.station_of.result) log.lit ∙ ap (slice_set (stations_of log.recover log.homes log.notes) c.args.at) c.station_of.ensures
+          ∙ one_noted log.recover log.homes log.notes c.args.at _ c.note_at-noted.new.notes (sym e);
+    }
+
+pub returns-clause-gave : goal.returns-clause-gave
+returns-clause-gave c =
+    on_ok_weaker c.note_at-noted.result
+    (λ same. same_gaves c.args.self.now.notes c.args.at c.at_mut-notes.result.now c.note_at-noted.new.notes (same ∙ ap (λ (n : Notes). n.gave) c.at_mut-notes.ensures.value))
+    c.note_at-noted.ensures.gave
+
+pub returns-clause-told : goal.returns-clause-told
+returns-clause-told c =
+    on_ok_weaker c.note_at-noted.result (λ f. set_reports c.args.self.now.notes c.args.at c.at_mut-notes.result.now c.note_at-noted.new.notes c.at_mut-notes.ensures.value f) c.note_at-noted.ensures.told
+
+pub returns-clause-heard : goal.returns-clause-heard
+returns-clause-heard c =
+    on_ok_weaker c.note_at-noted.result
+    (λ same. same_heard c.args.self.now.notes c.args.at c.at_mut-notes.result.now c.note_at-noted.new.notes (same ∙ ap (λ (n : Notes). n.emergencies) c.at_mut-notes.ensures.value))
+    c.note_at-noted.ensures.heard
+
+pub returns-clause-rows : goal.returns-clause-rows
+returns-clause-rows c =
+    on_ok_weaker c.note_at-noted.result
+    (λ same. same_begun c.args.self.now.notes c.args.at c.at_mut-notes.result.now c.note_at-noted.new.notes (same ∙ ap (λ (n : Notes). n.begun) c.at_mut-notes.ensures.value))
+    c.note_at-noted.ensures.rows

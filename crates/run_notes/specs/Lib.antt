@@ -1,0 +1,10 @@
+pub use Rattle.eoe_switch.specs as of_eoe_switch
+pub use Rattle.script_answers.specs as of_script_answers
+pub mod Notes
+pub mod Unsent
+pub mod Epochs
+pub mod Heard
+pub mod Reports
+pub mod Packets
+pub mod Switched
+pub mod Slaves

@@ -1,0 +1,150 @@
+-- THE ROWS OF PACKETS that came into hand of slaves, as they are noted and as a book has them.
+use Rattle.std.specs.Prelude.{◌≡◌, ◌<◌, ◌==◌, ℕ, zero, suc, false, if◌then◌else◌, List, [], ◌∷◌, ◌++◌, length, map, IfSome, slice_get, ⊤}
+use Rattle.master_node.specs.Begins.{is_other}
+use Rattle.master_node.specs.Listing.{events_in}
+use Rattle.master_node.specs.declared.event.Event.{Event}
+use Rattle.master_node.specs.declared.event.Origin.{Origin}
+use Rattle.master_node.specs.declared.event.Origin.TheVariants.{Script, Forward, Gateway}
+use Rattle.master_node.specs.declared.node.MasterNode.{MasterNode}
+use Rattle.master_node.specs.of_life_model.Lives.{Stand}
+use Rattle.master_node.specs.of_life_runs.Led.{Leads}
+use Rattle.master_node.specs.of_master_duty.of_state_exchange.Stated.{Service}
+use Rattle.master_node.specs.of_master_hand.Spoken.{Asked}
+use Rattle.master_node.specs.of_task_model.Accounts.{Started}
+use Rattle.run_book.specs.declared.book.Begun.{Begun}
+use Rattle.run_book.specs.declared.book.SlaveBook.{SlaveBook}
+use Rattle.run_notes.specs.Notes.{began_where}
+use Rattle.run_notes.specs.Reports.{AllReport}
+use Rattle.run_notes.specs.declared.notes.Awaited.{Awaited}
+use Rattle.run_notes.specs.declared.notes.Notes.{Notes}
+use Rattle.script_answers.specs.Steps.{account_of}
+
+-- the row of a packet: its number, and the frame before which it came into hand; others have none
+abbrev pub packet_row : Origin → ℕ → List (ℕ × ℕ)
+packet_row (Script number) frame = []
+packet_row (Forward number) frame = (number, frame) ∷ []
+packet_row (Gateway number) frame = []
+
+-- those among these rows, in order
+abbrev pub packet_rows : List Begun → List (ℕ × ℕ)
+packet_rows [] = []
+packet_rows (b ∷ bs) = packet_row b.origin b.frame ++ packet_rows bs
+
+-- the rows of slaves, as they are noted
+abbrev pub begun_noted : List Notes → List (List Begun)
+begun_noted notes = map (λ (n : Notes). n.begun) notes
+
+-- and in a book
+abbrev pub begun_in : List SlaveBook → List (List Begun)
+begun_in rows = map (λ (row : SlaveBook). row.begun) rows
+
+-- THE ROWS OF PACKETS of the slave at a place
+abbrev pub packets_at : List (List Begun) → ℕ → List (ℕ × ℕ)
+packets_at [] k = []
+packets_at (bs ∷ rest) zero = packet_rows bs
+packets_at (bs ∷ rest) (suc k) = packets_at rest k
+
+-- such frames, numbered from a number on
+abbrev pub numbered_from : ℕ → List ℕ → List (ℕ × ℕ)
+numbered_from n [] = []
+numbered_from n (frame ∷ frames) = (n, frame) ∷ numbered_from (suc n) frames
+
+-- OF EACH SLAVE JUST THE PACKETS STAND THERE that came into hand before these frames, in order, numbered from 0 on
+abbrev pub AreNumbered : (ℕ → List ℕ) → List (List Begun) → Type 0
+AreNumbered frames rows = (k : ℕ) → k < length rows → packets_at rows k ≡ numbered_from 0 (frames k)
+
+-- nothing new stands there
+abbrev pub SamePackets : List Notes → List Notes → Type 0
+SamePackets old new = (k : ℕ) → packets_at (begun_noted new) k ≡ packets_at (begun_noted old) k
+
+-- a service that came into hand is noted, but for one of the script, which is noted by its master's number
+abbrev pub noted_began : Notes → Origin → ℕ → Notes
+noted_began n (Script number) frame = n
+noted_began n (Forward number) frame = began_where n (Forward number) frame
+noted_began n (Gateway number) frame = began_where n (Gateway number) frame
+
+-- what an event is to note of the slave at a place, before a frame
+abbrev pub rows_of : ℕ → ℕ → Event → List (ℕ × ℕ)
+rows_of frame k (Event.Began slave origin) = if slave == k then packet_row origin frame else []
+rows_of frame k (Event.Answered slave kind) = []
+rows_of frame k (Event.Emergency slave octets) = []
+rows_of frame k (Event.GatewayReply key mail) = []
+rows_of frame k (Event.GatewayDone key) = []
+rows_of frame k (Event.GivenUp slave) = []
+rows_of frame k (Event.Cleared slave own) = []
+rows_of frame k (Event.Opened slave) = []
+
+-- what all of them are
+abbrev pub rows_by : ℕ → ℕ → List Event → List (ℕ × ℕ)
+rows_by frame k [] = []
+rows_by frame k (e ∷ es) = rows_of frame k e ++ rows_by frame k es
+
+-- no answer is awaited of the slave at a place
+abbrev pub FreeAt : List Notes → ℕ → Type 0
+FreeAt notes k = IfSome (slice_get notes k) (λ n. n.awaited ≡ Awaited.Nothing)
+
+-- of a slave of which a packet began
+abbrev pub FreeBy : List Notes → ℕ → Origin → Type 0
+FreeBy notes k (Script number) = ⊤
+FreeBy notes k (Forward number) = FreeAt notes k
+FreeBy notes k (Gateway number) = ⊤
+
+-- by an event
+abbrev pub FreeFor : List Notes → Event → Type 0
+FreeFor notes (Event.Began slave origin) = FreeBy notes slave origin
+FreeFor notes (Event.Answered slave kind) = ⊤
+FreeFor notes (Event.Emergency slave octets) = ⊤
+FreeFor notes (Event.GatewayReply key mail) = ⊤
+FreeFor notes (Event.GatewayDone key) = ⊤
+FreeFor notes (Event.GivenUp slave) = ⊤
+FreeFor notes (Event.Cleared slave own) = ⊤
+FreeFor notes (Event.Opened slave) = ⊤
+
+-- and by all of these
+abbrev pub AllFree : List Notes → List Event → Type 0
+AllFree notes [] = ⊤
+AllFree notes (e ∷ es) = FreeFor notes e × AllFree notes es
+
+-- JUST THE PACKETS OF THESE EVENTS ARE NOTED, where none of their slaves awaits an answer
+abbrev pub NotesPackets : ℕ → List Event → List Notes → List Notes → Type 0
+NotesPackets frame es old new = AllFree old es → (k : ℕ) → k < length old → packets_at (begun_noted new) k ≡ packets_at (begun_noted old) k ++ rows_by frame k es
+
+-- what is awaited of no slave stays so
+abbrev pub StayFree : List Notes → List Notes → Type 0
+StayFree old new = (k : ℕ) → FreeAt old k → FreeAt new k
+
+-- A SLAVE OF WHICH A PACKET CAME INTO HAND last, by its life
+pub record HasPacket (a : Leads) : Type 0 where
+  pub stand : a.lived.life.stand ≡ Stand.Open
+  pub packet : Asked
+  pub is : is_other packet ≡ false
+  pub frame : ℕ
+  pub front : List (Started Asked)
+  pub started : (account_of a).started ≡ front ++ record { service = Service.Mails packet; frame = frame } ∷ []
+
+-- of the slave at a place, where an event says so
+abbrev pub PacketBy : List Leads → ℕ → Origin → Type 0
+PacketBy as' k (Script number) = ⊤
+PacketBy as' k (Forward number) = IfSome (slice_get as' k) (λ a. HasPacket a)
+PacketBy as' k (Gateway number) = ⊤
+
+-- by an event
+abbrev pub PacketFor : List Leads → Event → Type 0
+PacketFor as' (Event.Began slave origin) = PacketBy as' slave origin
+PacketFor as' (Event.Answered slave kind) = ⊤
+PacketFor as' (Event.Emergency slave octets) = ⊤
+PacketFor as' (Event.GatewayReply key mail) = ⊤
+PacketFor as' (Event.GatewayDone key) = ⊤
+PacketFor as' (Event.GivenUp slave) = ⊤
+PacketFor as' (Event.Cleared slave own) = ⊤
+PacketFor as' (Event.Opened slave) = ⊤
+
+-- and by all of these
+abbrev pub AllPackets : List Leads → List Event → Type 0
+AllPackets as' [] = ⊤
+AllPackets as' (e ∷ es) = PacketFor as' e × AllPackets as' es
+
+-- BEFORE A FRAME just the packets are noted that its master lists as begun, where they came into hand of these lives
+abbrev pub BeginsOn : ℕ → MasterNode → List Notes → List Notes → List Leads → List Leads → Type 0
+BeginsOn frame m old new as' bs =
+    AllReport as' old → AllPackets bs (events_in m) → (k : ℕ) → k < length old → packets_at (begun_noted new) k ≡ packets_at (begun_noted old) k ++ rows_by frame k (events_in m)

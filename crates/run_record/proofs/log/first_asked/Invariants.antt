@@ -1,5 +1,0 @@
-use Rattle.std.proofs.Common.{◌≡◌, [], replicate}
-use Rattle.run_record.proofs.log.first_asked.Given as goal
-
-abbrev pub invariant-loop : goal.invariant-loop
-invariant-loop l = l.asked ≡ replicate l.counter []
