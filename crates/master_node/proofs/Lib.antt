@@ -38,6 +38,7 @@ pub mod Servings
 pub mod Serveds
 pub mod Mailings
 pub mod Mailed
+pub mod FreeKept
 pub mod ServedVisits
 pub mod Entering
 pub mod Frees

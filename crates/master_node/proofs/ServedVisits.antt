@@ -20,6 +20,7 @@ use Rattle.master_side.specs.Carried.{in_hand}
 use Rattle.master_side.specs.Free.{begins_by, is_free_side}
 use Rattle.master_side.specs.Passing.{passing_behind, passing_seen}
 use Rattle.master_side.specs.Shown.{takes_ready, wish_begun}
+use Rattle.master_side.specs.declared.carried.Wish.{Wish}
 use Rattle.master_side.specs.declared.hand.Hand.{Ghosts}
 use Rattle.master_side.specs.declared.passing.Passing.{Passing}
 use Rattle.master_side.specs.of_link_mails.Body.{Body}
@@ -46,7 +47,7 @@ use Rattle.master_node.proofs.Cames.{NumberBehind, got_inside}
 use Rattle.master_node.proofs.Fills.{begun_at, begun_comes, begun_here, fills_kept, frame_each}
 use Rattle.master_node.proofs.Kepts.{lives_kept, stop_same}
 use Rattle.master_node.proofs.Lists.{steps_each, steps_got, steps_map, steps_mid, steps_trans}
-use Rattle.master_node.proofs.Mailed.{next_passing, none_begun, none_came, served_came, stand_awaits}
+use Rattle.master_node.proofs.Mailed.{next_passing, none_begun, none_came, served_came, stand_awaits, stand_same}
 use Rattle.master_node.proofs.Visits.{Began, SomeKept}
 
 -- A SLAVE THAT STAYS but for what is held, and for its place in the frame
@@ -121,12 +122,12 @@ PassesOn lens recover made b s t = (spot : Spot) (l m : Life Body Asked Reply) �
     StandPassing t.stand (awaits_reply t.side.hand.course t.side.hand.which t.side.hand.clients) t.side.passing m
 
 -- and is visited
-pub record Visited {G : Ghosts InHand} (lens : ℕ → Lens) (recover made : ℕ) (coming : Option Coming) (result : Bool) (s t : Stop InHand G) : Type 0 where
-  pub began : Began result (wish_of coming) s t
-  pub did : result ≡ stand_begins s.stand (begins_by (is_free_side s.side) (wish_of coming) (ready_of s.side.hand.laying))
+pub record Visited {G : Ghosts InHand} (lens : ℕ → Lens) (recover made : ℕ) (wish : Option Wish) (result : Bool) (s t : Stop InHand G) : Type 0 where
+  pub began : Began result wish s t
+  pub did : result ≡ stand_begins s.stand (begins_by (is_free_side s.side) wish (ready_of s.side.hand.laying))
   pub stand : t.stand ≡ s.stand
   pub read : ReadStays s t
-  pub passes : PassesOn lens recover made (wish_begun result (wish_of coming) (ready_of s.side.hand.laying)) s t
+  pub passes : PassesOn lens recover made (wish_begun result wish (ready_of s.side.hand.laying)) s t
 
 record Ready {G : Ghosts InHand} (coming : Option Coming) (got : List Keyed) (s t : Stop InHand G) : Type 0 where
   ahead : Ahead coming s
@@ -135,7 +136,7 @@ record Ready {G : Ghosts InHand} (coming : Option Coming) (got : List Keyed) (s 
 record Seen {G : Ghosts InHand} (lens : ℕ → Lens) (recover made : ℕ) (coming : Option Coming) (result : Bool) (stop : Option (Stop InHand G)) (s t : Stop InHand G) : Type 0 where
   is : stop ≡ Some s
   next : IsNextState (next_of s) coming
-  visited : Visited lens recover made coming result s t
+  visited : Visited lens recover made (wish_of coming) result s t
 
 record Goes {G : Ghosts InHand} (lens : ℕ → Lens) (recover made : ℕ) (coming : Option Coming) (result : Bool) (got : List Keyed) (stop : Option (Stop InHand G)) (s v : Stop InHand G) : Type 0 where
   second : Stop InHand G
@@ -196,6 +197,27 @@ free_none false b o e = absurd (cc)
 none_passing : (awaits : Bool) (stand : Stand) (p : Option Passing) (l : Life Body Asked Reply) → stand ≡ Stand.Open → p ≡ None → StandPassing stand awaits p l → l.era.passing ≡ None
 none_passing awaits stand p l e n s = (subst (λ z. StandPassing z awaits p l) e s).is ∙ ap passing_seen n
 
+-- a visit that passes a mail on
+pub passes_on : (x : Speech Body Asked Reply) (made : ℕ) (l m : Life Body Asked Reply) (b : Option (Service Asked)) (hold awaits : Bool) (stand : Stand) (p : Option Passing) →
+    (let n = life_next x acknowledged is_followed is_passed made l l.stand (record { begin = b; hold = hold }) in
+    Counts made b l n → BeginsFree l b → StandPassing stand awaits p n → m.era.passing ≡ passing_behind is_passed l.era.passing b → StandPassing stand awaits p m)
+passes_on x made l m b hold awaits stand p = λ counts free s e.
+    let pick : Pick Asked = record { begin = b; hold = hold } in
+    let n = life_next x acknowledged is_followed is_passed made l l.stand pick in
+    stand_same stand awaits p n m (e ∙ sym (next_passing x made l n b pick refl refl counts free)) s
+
+-- something is wished where something may come
+pub wish_some : (coming : Option Coming) → is_some coming ≡ true → is_some (wish_of coming) ≡ true
+wish_some None e = e
+wish_some (Some Coming.Packet) e = refl
+wish_some (Some Coming.Mail) e = refl
+wish_some (Some Coming.Script) e = refl
+wish_some (Some (Coming.State target)) e = refl
+
+pub some_pair : {T : Type 0} (P Q : T → Type 0) (o : Option T) → IfSome o P → IfSome o Q → IfSome o (λ t. P t × Q t)
+some_pair P Q None p q = tt
+some_pair P Q (Some t) p q = (p, q)
+
 -- something came into hand only where something may
 comes_some : (coming : Option Coming) (result : Bool) (ready : Option Asked) (q : Service Asked) → wish_begun result (wish_of coming) ready ≡ Some q → is_some coming ≡ true
 comes_some None result ready q e = absurd (let w = sym (none_begun None result ready refl) ∙ e in cc)
@@ -211,7 +233,7 @@ counts_kept n made counts s t k h = subst (λ (z : Type 0). z) (λ j. StandCount
 
 module _ {G : Ghosts InHand} (lens : ℕ → Lens) (recover made : ℕ) (coming : Option Coming) (result : Bool) (place : ℕ) (got : List Keyed) (s0 s1 s2 s3 s4 : List (Stop InHand G)) (rooms : (s : Stop InHand G) → s.side.out.len ≡ s.side.hand.laying.areas.out)
     (frees : (n : ℕ) (s t : Stop InHand G) → StopKept n s t → is_free_side t.side ≡ is_free_side s.side) (ahead : StepsAt (λ s t. Ahead coming t) place s0 s1) (readied : StepsAt (λ s t. Readied coming got s t) place s1 s2)
-    (visited : StepsAt (λ s t. Visited lens recover made coming result s t) place s2 s3) (came : StepsAt (λ s t. CameBy result coming s t) place s3 s4) where
+    (visited : StepsAt (λ s t. Visited lens recover made (wish_of coming) result s t) place s2 s3) (came : StepsAt (λ s t. CameBy result coming s t) place s3 s4) where
   -- what came into hand, and where
   abbrev came_of : Option (Stop InHand G) → Option (Service Asked)
   came_of None = None
@@ -248,7 +270,7 @@ module _ {G : Ghosts InHand} (lens : ℕ → Lens) (recover made : ℕ) (coming 
 
   all_seen : StepsAt (λ s t. Seen lens recover made coming result (slice_get s2 place) s t) place s2 s3
   all_seen = steps_mid (λ s t. Ready coming got s t) _ (λ s t. Seen lens recover made coming result (slice_get s2 place) s t) place s1 s2 s3 (λ s t u a b. record { is = b.0; next = next_on s t a; visited = b.1 }) all_ready
-      (steps_got (λ s t. Visited lens recover made coming result s t) place s2 s3 visited)
+      (steps_got (λ s t. Visited lens recover made (wish_of coming) result s t) place s2 s3 visited)
 
   pub kept : EachPair (λ s t. SomeKept s t) s3 s4
   kept = steps_each _ (λ s t. SomeKept s t) place s3 s4 any_same (λ s t k. k)

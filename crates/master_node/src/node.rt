@@ -55,7 +55,8 @@ impl MasterNode {
     ghost use Rattle.master_tour.specs.Walks.{StepsAt};
     ghost use Rattle.master_node.specs.declared.coming.Coming.{Coming};
     ghost use Rattle.master_node.specs.Appends.{AppendsMail};
-    ghost use Rattle.master_node.specs.Serving.{FitsAt, IsAsked, ServedShows, mails_in};
+    ghost use Rattle.master_node.specs.Serving.{FitsAt, IsAsked, ServedShows, mails_in, run_lead};
+    ghost use Rattle.master_node.specs.Passes.{IsPassing};
     ghost use Rattle.served_runs.specs.Served.{Keyed, Serves, MayAsk, asked_at};
     ghost use Rattle.master_node.specs.Shows.{WaitsNone};
     ghost use Rattle.master_node.specs.Kept.{TourKept, TourOn};
@@ -235,6 +236,8 @@ impl MasterNode {
         ensures made { Makes self.old.lan self.new.lan }
         ensures eager { All WaitsNone self.old.posts.items → holds_at (λ s. s.under) self.old.tour.stops.items place ≡ false → EagerOn self.old self.new }
         ensures events { self.new.list.count ≤ self.old.list.count + 1 }
+        ensures serves { (lens : ℕ → Lens) (recover made : ℕ) (left next : List ℕ) (ws : List Serves) → AreDistinct (map (λ w. lived_of (run_lead w)) ws) → is_in place left ≡ true → is_in place next ≡ false → ((k : ℕ) → is_in k next ≡ true → is_in k left ≡ true) →
+            IsPassing lens recover made left self.old into.old.items ws → IsPassing lens recover made (if result then next else left) self.new into.new.items ws }
     {
         let index = (self.made % 256) as u8;
         let coming = self.coming(place);
