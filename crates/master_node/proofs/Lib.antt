@@ -40,6 +40,8 @@ pub mod Mailings
 pub mod Mailed
 pub mod FreeKept
 pub mod ServedVisits
+pub mod Roundings
+pub mod ServedSents
 pub mod Entering
 pub mod Frees
 pub mod Starts

@@ -1,8 +1,9 @@
 -- WHILE A FRAME OF A SERVING IS MADE: what may come into hand of a slave where mails wait, what was laid ready, and what each slave has of the frame.
-use Rattle.std.specs.Prelude.{◌≡◌, ◌≤◌, ◌%◌, ℕ, zero, suc, true, false, Option, Some, None, List, [], ◌∷◌, map, length, drop, All, ⊤}
+use Rattle.std.specs.Prelude.{◌≡◌, ◌≤◌, ◌<◌, ◌%◌, ℕ, zero, suc, true, false, Option, Some, None, List, [], ◌∷◌, map, length, drop, All, ⊤}
 use Rattle.std.specs.List.{list_any}
 use Rattle.datagrams.specs.Datagram as Raw
 use Rattle.counters_kept.specs.Lives.{LifeKept}
+use Rattle.life_runs.specs.Led.{Leads}
 use Rattle.life_runs.specs.of_frame_view.View.{Lens}
 use Rattle.master_duty.specs.Reply.{Reply}
 use Rattle.master_duty.specs.of_state_exchange.Stated as Stated
@@ -15,6 +16,7 @@ use Rattle.master_side.specs.Passing.{passing_behind}
 use Rattle.master_side.specs.declared.hand.Hand.{Ghosts}
 use Rattle.master_side.specs.of_link_mails.Body.{Body}
 use Rattle.master_tour.specs.Counting.{StopCounts}
+use Rattle.master_tour.specs.Goes.{BeginsLive, holds_at, is_live}
 use Rattle.master_tour.specs.Made.{FrameMade, is_in}
 use Rattle.master_tour.specs.Passing.{StandPassing}
 use Rattle.master_tour.specs.declared.stop.Stop.{Stop}
@@ -25,7 +27,7 @@ use Rattle.served_runs.specs.Served.{Keyed, Serves, ServedComes}
 use Rattle.served_runs.specs.Told.{Passed}
 use Rattle.master_node.specs.Filling.{StopFills}
 use Rattle.master_node.specs.Serving.{MayPass, mails_in, run_lead}
-use Rattle.master_node.specs.Shows.{lived_of}
+use Rattle.master_node.specs.Shows.{ComeAgain, is_live_lead, lived_of}
 use Rattle.master_node.specs.declared.coming.Coming.{Coming}
 use Rattle.master_node.specs.declared.node.MasterNode.{MasterNode}
 
@@ -107,3 +109,20 @@ module _ (lens : ℕ → Lens) where
       pub begun : ℕ → Option (Stated.Service Asked)
       pub frame : FrameMade (λ ds i a s. StopFills lens recover made begun (m.made % 256) left ds i a s) octets m.tour.count (map (λ w. lived_of (run_lead w)) ws) m.tour.stops.items
       pub each : ThreeFrom (λ i w ks s. IsServing begun made left i w ks s) 0 ws (mails_in m) m.tour.stops.items
+
+-- BEFORE THE FIRST VISIT no datagram stands in the frame, some slave is live, and the first that is visited is
+pub record BeginsFrame (m : MasterNode) (octets : List ℕ) (as' : List Leads) : Type 0 where
+  pub count : m.tour.count ≡ 0
+  pub passed : m.tour.passed ≡ 0
+  pub short : length octets ≡ 16
+  pub begins : BeginsLive (λ s. is_live s.stand) m.tour.again m.tour.visit.items m.tour.opened m.tour.stops.items
+  pub some : list_any (λ s. is_live s.stand) m.tour.stops.items ≡ true
+  pub lives : (k : ℕ) → holds_at (λ s. is_live s.stand) m.tour.stops.items k ≡ holds_at is_live_lead as' k
+  pub again : m.tour.again ≡ true → ComeAgain is_live_lead m.tour.visit.items m.tour.opened as'
+  pub anew : m.tour.again ≡ false → m.tour.visit.items ≡ []
+
+-- BEHIND THE LAST the frame has a datagram; in the first bring-up it has none but of the slave that is brought up
+pub record EndsFrame (left : List ℕ) (m : MasterNode) (as' : List Leads) : Type 0 where
+  pub some : 1 ≤ m.tour.count
+  pub apart : m.tour.opened < length as' → (k : ℕ) → k < length as' → (k ≡ m.tour.opened → ⊥) → is_in k left ≡ true
+  pub comes : ComeAgain is_live_lead m.tour.visit.items m.tour.opened as'
