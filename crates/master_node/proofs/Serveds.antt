@@ -3,7 +3,7 @@ use Rattle.std.proofs.Common.{◌≡◌, ◌≤◌, ◌<◌, ℕ, zero, suc, ◌
 use Rattle.std.specs.Prelude.{map, nat_le, if◌then◌else◌}
 use Rattle.std.proofs.Math.Nat.{add-mod_right, mod-eq_of_lt}
 use Rattle.counters_kept.proofs.Lives.{back_life}
-use Rattle.life_runs.specs.Led.{Exchanged, Leads, Turn, led_behind, speech_at}
+use Rattle.life_runs.specs.Led.{Exchanged, led_behind, speech_at}
 use Rattle.life_runs.specs.of_frame_view.View.{Lens}
 use Rattle.life_runs.specs.of_frame_view.Seen.{seen}
 use Rattle.life_runs.specs.of_life_frames.Frames.{Share, AreApart}
@@ -11,7 +11,7 @@ use Rattle.life_runs.specs.of_life_frames.Shares.{Lived, AllBoth, AllThree, AreD
 use Rattle.life_runs.specs.of_segment_ring.declared.wire.Fate.{Fate}
 use Rattle.life_runs.specs.of_segment_ring.declared.wire.Fate.TheVariants.{Pass}
 use Rattle.master_duty.specs.Reply.{Reply}
-use Rattle.master_duty.specs.of_segment_model.Record.{Kept, News}
+use Rattle.master_duty.specs.of_segment_model.Record.{News}
 use Rattle.master_duty.specs.of_segment_model.Returned.{Returns}
 use Rattle.master_duty.specs.of_segment_model.Seats.{Side}
 use Rattle.master_duty.specs.of_segment_model.Slaves.{Datagram, Found}
@@ -24,21 +24,21 @@ use Rattle.master_hand.specs.declared.hand.InHand.{InHand}
 use Rattle.master_side.specs.Passing.{counts_at, news_back}
 use Rattle.master_side.specs.declared.hand.Hand.{Ghosts}
 use Rattle.master_side.specs.of_link_mails.Body.{Body}
-use Rattle.master_tour.specs.Counting.{CountsOn, StandCounts, StopCounts}
+use Rattle.master_tour.specs.Counting.{StandCounts, StopCounts}
 use Rattle.master_tour.specs.Goes.{is_opened, holds_at, opened_behind}
-use Rattle.master_tour.specs.Passing.{StandKept, StandPassing}
+use Rattle.master_tour.specs.Passing.{StandPassing}
 use Rattle.master_tour.specs.Stands.{StandShows, StandUnder, is_opening}
 use Rattle.master_tour.specs.Under.{Under}
 use Rattle.master_tour.specs.Walks.{EachPair}
 use Rattle.master_tour.specs.declared.stop.Stand.{Stand}
 use Rattle.master_tour.specs.declared.stop.Stop.{Stop}
 use Rattle.master_tour.specs.of_life_model.Lives
-use Rattle.master_tour.specs.of_life_model.Lives.{Life, Spot, life_back, opens_state, reopening, reopens, reopens_at, returns_to_init}
+use Rattle.master_tour.specs.of_life_model.Lives.{Life, Spot, era_back, life_back, opens_state, reopening, reopens, reopens_at, returns_to_init}
 use Rattle.master_tour.proofs.Backs.{seen_aims}
 use Rattle.master_tour.proofs.Unders.{under_back}
 use Rattle.counters_kept.specs.of_news_kept.Counts.{counts_on}
 use Rattle.served_runs.specs.Served.{Serves, ServedTurn, served_behind}
-use Rattle.master_node.specs.Serving.{IsServed, IsServedUnder, run_lead, run_turn, serves_of, waits_of}
+use Rattle.master_node.specs.Serving.{IsServed, IsServedUnder, run_lead, run_turn, waits_of}
 use Rattle.master_node.specs.Shows.{GoesOn, GoesUnder, IsLived, is_opening_lead, lived_of, side_shows}
 use Rattle.master_node.specs.declared.post.Post.{Post}
 use Rattle.master_node.proofs.Goings.{ahead_behind}
@@ -85,14 +85,25 @@ reopens_stand l m (Some duty) e = go duty.stage
     go Accounts.Stage.Drains = e
     go (Accounts.Stage.Goes phase) = by (returns_to_init duty.target)
 
+reopens_same : (lens : ℕ → Lens) (spot : Spot) (made : ℕ) (ns ms : List (News Body)) (back : List (Datagram Body)) (l : Life Body Asked Reply) →
+    (let now = λ (news : List (News Body)). era_back (speech_at lens spot) acknowledged is_followed is_passed spot.station made news back l.era in
+    (reopens (record l { era = now ns }) (now ns).account.hand).stand ≡ (reopens (record l { era = now ms }) (now ms).account.hand).stand)
+reopens_same lens spot made ns ms back l =
+    let now = λ (news : List (News Body)). era_back (speech_at lens spot) acknowledged is_followed is_passed spot.station made news back l.era in
+    reopens_stand (record l { era = now ns }) (record l { era = now ms }) (now ns).account.hand (refl {a = l.stand})
+
 stand_same : (lens : ℕ → Lens) (spot : Spot) (made : ℕ) (ns ms : List (News Body)) (back : List (Datagram Body)) (got : Option (Bool × Option Found)) (l : Life Body Asked Reply) (z : Lives.Stand) →
     (life_back (speech_at lens spot) acknowledged is_followed is_passed made spot ns back got l z).stand ≡ (life_back (speech_at lens spot) acknowledged is_followed is_passed made spot ms back got l z).stand
 stand_same lens spot made ns ms back None l (Lives.Stand.Opens o) = refl
 stand_same lens spot made ns ms back (Some got) l (Lives.Stand.Opens o) = refl
-stand_same lens spot made ns ms back None l Lives.Stand.Open = reopens_stand _ _ _ refl
-stand_same lens spot made ns ms back (Some got) l Lives.Stand.Open = reopens_stand _ _ _ refl
+stand_same lens spot made ns ms back None l Lives.Stand.Open = reopens_same lens spot made ns ms back l
+stand_same lens spot made ns ms back (Some got) l Lives.Stand.Open = reopens_same lens spot made ns ms back l
 stand_same lens spot made ns ms back None l Lives.Stand.Gone = refl
 stand_same lens spot made ns ms back (Some got) l Lives.Stand.Gone = refl
+
+-- whether an empty read counts behind a frame of which this came back
+abbrev CountsBehind : {G : Ghosts InHand} → ℕ → List (Datagram Body) → Stop InHand G → Stop InHand G → Life Body Asked Reply → Type 0
+CountsBehind made back s t l = (counts : Bool) → StopCounts s made counts → StopCounts t (suc made) (counts_on l.stand s.side.station s.side.pace made back counts)
 
 module _ (lens : ℕ → Lens) (recover retry : ℕ) where
   -- a frame that came back with these octets
@@ -109,7 +120,7 @@ module _ (lens : ℕ → Lens) (recover retry : ℕ) where
         StandPassing t.stand (awaits_reply t.side.hand.course t.side.hand.which t.side.hand.clients) t.side.passing
         (life_back (speech_at lens v.turn.lived.spot) acknowledged is_followed is_passed made v.turn.lived.spot (news_back s.side.station v.kept (counts_at s.side.read_at s.side.pace made) (seen lens back)) (seen lens back)
         (came_at s.under s.at (seen lens back)) v.turn.lived.life v.turn.lived.life.stand) →
-        CountsOn made (seen lens back) s t v.turn.lived.life → t.side.pace ≡ s.side.pace → scripted t.side.hand.laying ≡ scripted s.side.hand.laying → waits_of q ≡ waits_of p →
+        CountsBehind made (seen lens back) s t v.turn.lived.life → t.side.pace ≡ s.side.pace → scripted t.side.hand.laying ≡ scripted s.side.hand.laying → waits_of q ≡ waits_of p →
         IsServed lens recover (suc made) (served_behind lens recover retry gives made (passed_so f back) v) q t
     served_so f octets back v p q s t i r lives passes counts pace script waits =
         let l = v.turn.lived.life in
@@ -147,7 +158,7 @@ module _ (lens : ℕ → Lens) (recover retry : ℕ) where
         StandPassing t.stand (awaits_reply t.side.hand.course t.side.hand.which t.side.hand.clients) t.side.passing
         (life_back (speech_at lens v.turn.lived.spot) acknowledged is_followed is_passed made v.turn.lived.spot (news_back s.side.station v.kept (counts_at s.side.read_at s.side.pace made) (seen lens back)) (seen lens back)
         (came_at s.under s.at (seen lens back)) v.turn.lived.life v.turn.lived.life.stand) →
-        CountsOn made (seen lens back) s t v.turn.lived.life → t.side.pace ≡ s.side.pace → scripted t.side.hand.laying ≡ scripted s.side.hand.laying → waits_of q ≡ waits_of p →
+        CountsBehind made (seen lens back) s t v.turn.lived.life → t.side.pace ≡ s.side.pace → scripted t.side.hand.laying ≡ scripted s.side.hand.laying → waits_of q ≡ waits_of p →
         IsServed lens recover (suc made) (served_behind lens recover retry gives made f v) q t
     served_back f octets back v p q s t is b i r lives passes counts pace script waits =
         subst (λ (z : Exchanged). IsServed lens recover (suc made) (served_behind lens recover retry gives made z v) q t) (sym (so_is f back is b)) (served_so f octets back v p q s t i r lives passes counts pace script waits)

@@ -1,4 +1,4 @@
-use Rattle.std.proofs.Common.{◌∙◌, ◌+◌, ◌++◌, ◌∷◌, [], sym, ap, subst, arith, take}
+use Rattle.std.proofs.Common.{◌∙◌, ◌+◌, ◌++◌, ◌∷◌, [], sym, ap, subst, arith, get_or, length, take}
 use Rattle.std.proofs.lemmas.List.{take_more}
 use Rattle.life_runs.specs.of_life_frames.Shares.{AllBoth, AllFrom}
 use Rattle.master_node.specs.First.{IsFirst}
@@ -28,6 +28,6 @@ loop-place-preserved c =
           (subst (λ z. AllFrom (λ place spec s. IsFirst plan place spec s) 0 z (ss ++ c.in_ok-stop_of.field-0 ∷ [])) (sym more)
           (from_more (λ place spec s. IsFirst plan place spec s) 0 p (take p xs) ss x c.in_ok-stop_of.field-0 all (omega (arith, long, many, count)) c.in_ok-stop_of.ensures.is)),
       subst (λ z. AllBoth (λ pace s. IsPaced pace s) (take (p + 1) ys) z) (sym c.in_ok-push.ensures.items)
-          (subst (λ z. AllBoth (λ pace s. IsPaced pace s) z (ss ++ c.in_ok-stop_of.field-0 ∷ [])) (sym (take_more ys p c.index-paces-place.result (omega (arith, l, same)) ∙ ap (λ z. take p ys ++ z ∷ []) (sym c.index-paces-place.is)))
-          (both_more (λ pace s. IsPaced pace s) (take p ys) ss c.index-paces-place.result c.in_ok-stop_of.field-0 c.loop-place.invariant.2 c.in_ok-stop_of.ensures.paced)),
+          (subst (λ z. AllBoth (λ pace s. IsPaced pace s) z (ss ++ c.in_ok-stop_of.field-0 ∷ [])) (sym (take_more ys p 0 (let lx = ap length c.as_slice-slaves.ensures in let ly = ap length c.as_slice-paces.ensures in omega (arith, l, same, lx, ly))))
+          (both_more (λ pace s. IsPaced pace s) (take p ys) ss (get_or ys p 0) c.in_ok-stop_of.field-0 c.loop-place.invariant.2 c.in_ok-stop_of.ensures.paced)),
     )

@@ -30,7 +30,7 @@ use Rattle.master_node.proofs.Downs.{lists_all, lists_as}
 use Rattle.master_tour.proofs.Backs.{seen_aims}
 use Rattle.master_tour.proofs.Walks.{each_map}
 use Rattle.master_node.proofs.Recalled.{recalls_back}
-use Rattle.std.proofs.Common.{suc}
+use Rattle.std.proofs.Common.{◌+◌, ◌-◌, ◌%◌, ◌^◌, suc}
 use Rattle.counters_kept.proofs.Lives.{stands_kept}
 use Rattle.life_runs.specs.of_life_frames.Shares.{AllThree}
 use Rattle.master_hand.specs.Shown.{awaits_reply}
@@ -151,7 +151,7 @@ returns-clause-served c = λ lens recover retry missed made octets vs f p b u r.
     let ts = c.returned.new.self.stops.items in
     let back = seen lens c.args.frame.now.items in
     let gives = gives_up_at lens recover retry missed in
-    let number : c.wrapping_sub.result ≡ made = c.wrapping_sub.ensures ∙ back_made m.made made u.made_is u.early in
+    let number : (m.made + (2 ^ 32 - 1)) % 2 ^ 32 ≡ made = back_made m.made made u.made_is u.early in
     let three = e.shown lens (seen lens octets) r u.sent (λ spot. speech_at lens spot) is_followed is_passed made recover (map (λ v. v.turn.lived) vs)
     (three_both _ _ (λ v. v.turn.lived) (λ v k s i. (i.served.lives, i.way)) vs m.posts.items ss u.each) in
     let toured = pair_both _ _ ss ts e.stays (pair_both _ _ ss ts (e.passing lens (seen lens octets) r u.sent) (pair_both _ _ ss ts (e.counts lens (seen lens octets) r u.sent) e.pace)) in
@@ -171,7 +171,7 @@ returns-clause-served c = λ lens recover retry missed made octets vs f p b u r.
       distinct = distinct_served lens recover retry gives made f vs (back_spot lens recover retry gives made f p) u.distinct;
       goes = subst (λ z. GoesOn z.again z.visit.items z.opened (map run_lead (map (served_behind lens recover retry gives made f) vs))) (sym tells.tour)
           (goes_served lens recover retry gives made f c.returned.new.self.again m.tour.visit.items c.returned.new.self.visit.items m.tour.opened c.returned.new.self.opened vs ts p e.tour.1 e.opened
-          (long_served lens recover (suc made) _ n.posts.items ts each) (opens_served lens recover (suc made) _ n.posts.items ts each) u.goes);
+          (long_served lens recover retry (suc made) _ n.posts.items ts each) (opens_served lens recover retry (suc made) _ n.posts.items ts each) u.goes);
       missed_is = ap (λ z. z.missed) tells.tour ∙ e.tour.2;
       retry_is = ap (λ z. z.retry) tells.tour ∙ e.tour.3 ∙ u.retry_is;
       again = λ t. absurd (true_false n.tour.again t (ap (λ z. z.again) tells.tour ∙ e.tour.1));
