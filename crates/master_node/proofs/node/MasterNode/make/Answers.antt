@@ -169,7 +169,7 @@ returns-clause-serves c = λ lens recover retry missed made ws some small x.
     let nothing : ℕ → Option (Service Asked) = λ k. None in
     let before = three_both (λ w p s. IsServed lens recover made w p s) _ (λ w. lived_of (run_lead w)) (λ w p s h. (h.lives, Served.waits_alike s.stand _ s.side.passing w.lead.lived.life h.passing)) ws m.posts.items ss x.each in
     let leads = three_both (λ w p s. IsServed lens recover made w p s) (λ a s. IsLived lens recover (lived_of a) s) run_lead (λ w p s h. h.lives) ws m.posts.items ss x.each in
-    let many : length ts ≡ length as' = e.long ∙ long_served lens recover made ws m.posts.items ss x.each in
+    let many : length ts ≡ length as' = e.long ∙ long_served lens recover retry made ws m.posts.items ss x.each in
     let alive : (k : ℕ) → holds_at (λ s. is_live s.stand) ts k ≡ holds_at is_live_lead as' k =
     λ k. each_holds _ (λ s. is_live s.stand) (λ s t p. ap is_live p.1) ss ts e.each k ∙ both_holds (λ a s. IsLived lens recover (lived_of a) s) is_live_lead (λ s. is_live s.stand) (λ a s l. stand_lives lens recover a.lived s l) as' ss leads k in
     let goes = goes_begun m.tour.again t1.again m.tour.visit.items t1.visit.items m.tour.opened t1.opened as' e.tour.0 e.tour.1 (λ a. ap (λ z. z.items) (e.again a)) x.goes in
