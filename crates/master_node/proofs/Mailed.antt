@@ -35,12 +35,12 @@ use Rattle.master_node.proofs.Cames.{NumberBehind, came_by}
 
 -- where nothing came into hand all is as it was
 pub record NoneCame (n m : ℕ) (waits left : List Keyed) (hand behind : Option Passed) : Type 0 where
-  pub number : m ≡ n
-  pub waits : left ≡ waits
-  pub hand : behind ≡ hand
+  pub number_is : m ≡ n
+  pub waits_are : left ≡ waits
+  pub hand_is : behind ≡ hand
 
 pub none_came : (room : ℕ) (script : List Plan.Service) (waits left : List Keyed) (hand behind : Option Passed) (n m : ℕ) (b : Option (Service Asked)) → ServedComes room script waits hand n b m left behind → b ≡ None → NoneCame n m waits left hand behind
-none_came room script waits left hand behind n m b ServedComes.none e = record { number = refl; waits = refl; hand = refl }
+none_came room script waits left hand behind n m b ServedComes.none e = record { number_is = refl; waits_are = refl; hand_is = refl }
 none_came room script waits left hand behind n m b (ServedComes.own s k c) e = absurd (cc)
 none_came room script waits left hand behind n m b (ServedComes.mail k rest w) e = absurd (cc)
 
@@ -91,7 +91,7 @@ none_begun None false ready e = refl
 none_begun (Some c) result ready e = absurd (cc)
 
 -- HOW FAR A MAIL HAS COME, by what came into hand
-waits_of_begin : Option (Service Asked) → Option Passing
+abbrev waits_of_begin : Option (Service Asked) → Option Passing
 waits_of_begin None = None
 waits_of_begin (Some (Service.Mails q)) = if is_passed q then Some Passing.Waiting else None
 waits_of_begin (Some (Service.State target)) = None
@@ -119,7 +119,7 @@ module _ (x : Speech Body Asked Reply) (made : ℕ) where
   next_passing l n None pick is e counts free = ap (λ z. z.era.passing) is ∙ stays_none l l.stand pick e
   next_passing l n (Some q) pick is e counts free =
       let f = free q refl in
-      let none : is_some l.era.passing ≡ true → pick.begin ≡ None = λ t. absurd (let u : is_some None ≡ true = ap (λ (z : Option Ends.Passing). is_some z) (sym f.1) ∙ t in cc) in
+      let none : is_some l.era.passing ≡ true → pick.begin ≡ None = λ t. absurd (let u : is_some {T = Ends.Passing} None ≡ true = ap (λ (z : Option Ends.Passing). is_some z) (sym f.1) ∙ t in cc) in
       let p = waits_of_begin (Some q) in
       let seen : passing_behind is_passed l.era.passing pick.begin ≡ passing_seen p = (λ i. passing_behind is_passed (f.1 i) (e i)) ∙ seen_begin (Some q) in
       let s = next_open x acknowledged is_followed is_passed made l pick.begin pick.hold Stand.Open true p f.0 refl none (subst (λ z. Counts made pick.begin l z) is counts) (record { is = seen; awaited = λ t. refl }) in

@@ -40,8 +40,8 @@ drop_keyed [] = refl
 drop_keyed (a ∷ as') = refl
 
 -- the oldest waits no longer
-pub waits_taken : (v w : Post) → w.mails.items ≡ drop 1 v.mails.items → waits_of w ≡ waits_behind (Some Coming.Mail) (waits_of v)
-waits_taken v w e = ap (map keyed) e ∙ drop_keyed v.mails.items
+pub waits_taken : (as' bs : List Asked) → bs ≡ drop 1 as' → map keyed bs ≡ drop 1 (map keyed as')
+waits_taken as' bs e = ap (map keyed) e ∙ drop_keyed as'
 
 pub waits_set : (coming : Option Coming) (ps : List Post) (place : ℕ) (v w : Post) → place < length ps → v ≡ get_or ps place v → waits_of w ≡ waits_behind coming (waits_of v) →
     StepsAt (λ ks ls. ls ≡ waits_behind coming ks) place (map waits_of ps) (map waits_of (set ps place w))

@@ -143,7 +143,7 @@ came_fits R room script waits left hand behind n m b (ServedComes.mail k rest e)
 
 module _ {G : Ghosts InHand} (lens : ℕ → Lens) (recover made : ℕ) (begun : ℕ → Option (Service Asked)) (octets : List ℕ) (ds : List Raw.Datagram) (is : seen lens octets ≡ datagrams_seen lens ds) where
   -- a slave in the frame that was made
-  abbrev Sends : Lived Asked Reply → Lived Asked Reply → Stop InHand G → Type 0
+  abbrev pub Sends : Lived Asked Reply → Lived Asked Reply → Stop InHand G → Type 0
   Sends a b s = StopSent (speech_at lens a.spot) acknowledged is_followed is_passed made begun lens recover (side_shows lens recover s a.spot) s.side.station s.place s.start s.stand s.spare s.side.out.len (in_area_len s.side.inn) s.side.carried s.under s.at ds a b
 
   abbrev turn_so : Serves → Option Passed → Lived Asked Reply → Post → Stop InHand G → ServedTurn

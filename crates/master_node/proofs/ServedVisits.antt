@@ -1,5 +1,5 @@
 -- A VISIT OF A SERVING: what comes into hand of one slave, which mails still wait for it, and what stays of all others.
-use Rattle.std.proofs.Common.{◌≡◌, ◌==◌, ◌+◌, ◌≤◌, ℕ, zero, suc, Bool, true, false, Option, None, Some, List, [], ◌∷◌, refl, sym, ap, ◌∙◌, subst, arith, length}
+use Rattle.std.proofs.Common.{◌≡◌, ◌==◌, ◌+◌, ◌≤◌, ◌<◌, ℕ, zero, suc, Bool, true, false, Option, None, Some, List, [], ◌∷◌, refl, sym, ap, ◌∙◌, subst, arith, length}
 use Rattle.std.specs.Prelude.{◌&&◌, is_some, is_none, map, All, IfSome, slice_get, if◌then◌else◌}
 use Rattle.std.proofs.lemmas.Bool.{eq-eqb, eqb-true}
 use Rattle.datagrams.specs.Datagram as Raw
@@ -321,12 +321,12 @@ module _ {G : Ghosts InHand} (lens : ℕ → Lens) (recover made : ℕ) (coming 
         let begin = came_of (Some t) in
         let now_is : now begun a.spot.place ≡ begin = begun_here begun here what a.spot.place p ∙ ap came_of g.seen.is in
         let script : t.side.hand.laying.script ≡ w.lead.script = stays.side.script ∙ h.script in
-        let number : t.side.hand.laying.number ≡ w.lead.number = stays.side.number ∙ same.number in
+        let number : t.side.hand.laying.number ≡ w.lead.number = stays.side.number ∙ same.number_is in
         let long : t.side.out.len ≡ room = ap (λ z. z.len) stays.side.side.out_is ∙ sym h.room in
         let free : is_some coming ≡ true → (t.stand ≡ Stand.Open) × (is_free_side t.side ≡ true) = λ e. (stays.stand ∙ (g.ready.ahead.free e).0, frees _ s t stays ∙ (g.ready.ahead.free e).1) in
         let mail = subst (λ z. LaysMail coming room z t.side.hand.laying) (sym all_got) (subst (λ z. LaysMail coming z got t.side.hand.laying) long g.ready.readied.mail) in
         let came_served = served_came room t.side.hand.laying (scripted u.side.hand.laying) v.side.hand.laying.number h.hand coming ks result t.stand (is_free_side t.side) (sym (rooms t) ∙ long) g.seen.next g.ready.readied.laid
-        (subst (λ z. MailWaits z coming) (sym all_got) waits) (subst (λ z. All (λ q. MayPass room q) z) (sym same.waits) h.fits) mail g.seen.visited.did free b.ready b.script (number_is coming result u v g.came) in
+        (subst (λ z. MailWaits z coming) (sym all_got) waits) (subst (λ z. All (λ q. MayPass room q) z) (sym same.waits_are) h.fits) mail g.seen.visited.did free b.ready b.script (number_is coming result u v g.came) in
         let l = f.life in
         let lived = lives_kept lens recover _ (record { spot = a.spot; life = l }) s t stays f.lives in
         let mail_same : l.era.passing ≡ a.life.era.passing = next_passing (speech_at lens a.spot) made a.life l None f.pick f.next (f.idle at) f.took (λ q e. absurd (cc)) in
@@ -337,7 +337,7 @@ module _ {G : Ghosts InHand} (lens : ℕ → Lens) (recover made : ℕ) (coming 
         record {
           hand = came_served.behind;
           script = k.side.script ∙ script_stays _ t u b.script ∙ script;
-          comes = subst (λ (z : Type 0). z) (λ j. ServedComes room (script j) (same.waits j) (same.hand j) (number j) (sym now_is j) v.side.hand.laying.number (sym leaves j) came_served.behind) came_served.comes;
+          comes = subst (λ (z : Type 0). z) (λ j. ServedComes room (script j) (same.waits_are j) (same.hand_is j) (number j) (sym now_is j) v.side.hand.laying.number (sym leaves j) came_served.behind) came_served.comes;
           still = λ e. absurd (let z = sym over ∙ e in cc);
           free = λ q e. (let z = begins q (sym now_is ∙ e) in (sym stand_is ∙ z.0, sym mail_same ∙ z.1));
           short = h.short;

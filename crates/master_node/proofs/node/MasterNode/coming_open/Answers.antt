@@ -89,7 +89,7 @@ pub returns-then-has_mail-clause-oldest : goal.returns-then-has_mail-clause-olde
 returns-then-has_mail-clause-oldest c = λ e.
     let m = c.args.self.now in
     let k : c.args.place < length m.posts.items = omega (arith, c.requires, m.posts.ok.0) in
-    let p = c.index-self-posts-place.result.now in
+    let p = c.index.result.now in
     let some : c.has_mail.result ≡ true = search rules in
-    let none = c.has_mail.ensures.1 (none_waits p (sym (waits_here m.posts.items c.args.place p k c.index-self-posts-place.ensures) ∙ e)) in
+    let none = c.has_mail.ensures.1 (none_waits p (sym (waits_here m.posts.items c.args.place p k c.index.ensures) ∙ e)) in
     absurd (let w : true ≡ false = sym some ∙ none in cc)

@@ -2,7 +2,7 @@ use Rattle.std.proofs.Common.{◌<◌, refl, arith, length}
 use Rattle.master_tour.proofs.Walks.{steps_set}
 use Rattle.master_node.proofs.Kepts.{stop_side, stop_same}
 use Rattle.master_node.proofs.Lists.{steps_same}
-use Rattle.std.proofs.Common.{◌∙◌, ◌+◌, ◌≤◌, Some, None, sym, ap, subst}
+use Rattle.std.proofs.Common.{◌≡◌, ◌∙◌, ◌+◌, ◌≤◌, Some, None, sym, ap, subst}
 use Rattle.master_node.specs.declared.coming.Coming.{Coming}
 use Rattle.master_node.specs.Passes.{IsReady}
 use Rattle.master_node.proofs.Mailings.{ready_none, ready_so, waits_here, waits_set, waits_taken}
@@ -40,13 +40,13 @@ pub returns-in-Some-clause-mails : goal.returns-in-Some-clause-mails
 returns-in-Some-clause-mails c =
     let m = c.args.self.now in
     let k : c.args.place < length m.posts.items = omega (arith, c.requires, m.posts.ok.0) in
-    waits_set (Some Coming.Mail) m.posts.items c.args.place c.index_mut-post.result.now _ k c.index_mut-post.ensures.value (waits_taken c.index_mut-post.result.now _ c.take.ensures.mails)
+    waits_set (Some Coming.Mail) m.posts.items c.args.place c.index_mut-post.result.now _ k c.index_mut-post.ensures.value (waits_taken c.index_mut-post.result.now.mails.items c.take.new.self.mails.items c.take.ensures.mails)
 
 pub returns-in_default-clause-mails : goal.returns-in_default-clause-mails
 returns-in_default-clause-mails c =
     let m = c.args.self.now in
     let k : c.args.place < length m.posts.items = omega (arith, c.requires, m.posts.ok.0) in
-    waits_set (Some Coming.Mail) m.posts.items c.args.place c.index_mut-post.result.now _ k c.index_mut-post.ensures.value (waits_taken c.index_mut-post.result.now _ c.take.ensures.mails)
+    waits_set (Some Coming.Mail) m.posts.items c.args.place c.index_mut-post.result.now _ k c.index_mut-post.ensures.value (waits_taken c.index_mut-post.result.now.mails.items c.take.new.self.mails.items c.take.ensures.mails)
 
 pub returns-in-Some-clause-ready : goal.returns-in-Some-clause-ready
 returns-in-Some-clause-ready c =
