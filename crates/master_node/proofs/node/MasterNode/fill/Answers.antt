@@ -62,7 +62,16 @@ returns-clause-filled c = λ lens recover made from as' d x.
     fills_last lens recover made from as' c.loop.counter c.loop.self c.loop.into.items (let t = c.loop-test.false in omega (arith, t)) (c.loop.invariant.3 lens recover made from as' d x)
 
 pub loop-init : goal.loop-init
-loop-init c = (c.requires, refl, on_same c.args.self.now, (λ lens recover made from as' d x. fills_first lens recover made from as' c.args.self.now c.args.into.now.items x), each_same _ c.args.self.now.tour.stops.items (λ s. refl), (λ b short. (visiting_first c.args.into.now.items c.args.self.now short b, b.count)), happens_none 0 _ _ refl, makes_none _ _ refl, (λ quiet b short. (quiet, each_same (λ s t. StopGoes s t) c.args.self.now.tour.stops.items (λ s. (refl, λ h. h)))),
+loop-init c = (
+  c.requires,
+  refl,
+  on_same c.args.self.now,
+  (λ lens recover made from as' d x. fills_first lens recover made from as' c.args.self.now c.args.into.now.items x),
+  each_same _ c.args.self.now.tour.stops.items (λ s. refl),
+  (λ b short. (visiting_first c.args.into.now.items c.args.self.now short b, b.count)),
+  happens_none 0 _ _ refl,
+  makes_none _ _ refl,
+  (λ quiet b short. (quiet, each_same (λ s t. StopGoes s t) c.args.self.now.tour.stops.items (λ s. (refl, λ h. h)))),
   omega arith,
   (λ lens recover made ws d f b. rounds_first (map run_lead ws) (λ left m octets. IsPassing lens recover made left m octets ws) (λ left m octets g. many_serve lens recover made ws left m octets g) (λ left m n octets k g. passing_same lens recover made ws left m n octets k g) c.args.self.now c.args.into.now.items f b),
 )
@@ -296,7 +305,7 @@ returns-then-self-count-clause-serves c = λ lens recover made ws d f b.
     let yes : c.visit.result ≡ true = cc in
     let x = rounds_last (map run_lead ws) (λ left m octets. IsPassing lens recover made left m octets ws) (λ left m octets g. many_serve lens recover made ws left m octets g) (λ left m n octets k g. passing_same lens recover made ws left m n octets k g) (c.loop.counter + 1) c.visit.new.self c.visit.new.into.items (omega arith)
     (rounds_more (map run_lead ws) (λ left m octets. IsPassing lens recover made left m octets ws) (λ left m octets g. many_serve lens recover made ws left m octets g) (λ left m n octets k g. passing_same lens recover made ws left m n octets k g)
-      c.loop.counter c.loop.self _ c.visit.new.self c.loop.into.items c.visit.new.into.items p r (record { stops = e.stops; count = e.kept.0; again = e.kept.1; visit = e.kept.2; opened = e.kept.3; last = e.kept.4; made = refl; posts = refl; list = refl; lan = refl }) (λ a. e.left p is a) (λ a b g h. passes_at (λ s. is_live s.stand) c.loop.self.tour.stops.items c.due.result p is (e.first a b g h))
-      (c.in-Some.ensures.few) v.on.0 v.on.1 v.visits v.counts (λ a b. (v.first a b).1)
-      (λ left other a o s g. subst (λ (z : Bool). IsPassing lens recover made (if z then other else left) c.visit.new.self c.visit.new.into.items ws) yes (v.serves lens recover made left other ws d a o s g))) in
+    c.loop.counter c.loop.self _ c.visit.new.self c.loop.into.items c.visit.new.into.items p r (record { stops = e.stops; count = e.kept.0; again = e.kept.1; visit = e.kept.2; opened = e.kept.3; last = e.kept.4; made = refl; posts = refl; list = refl; lan = refl }) (λ a. e.left p is a) (λ a b g h. passes_at (λ s. is_live s.stand) c.loop.self.tour.stops.items c.due.result p is (e.first a b g h))
+    (c.in-Some.ensures.few) v.on.0 v.on.1 v.visits v.counts (λ a b. (v.first a b).1)
+    (λ left other a o s g. subst (λ (z : Bool). IsPassing lens recover made (if z then other else left) c.visit.new.self c.visit.new.into.items ws) yes (v.serves lens recover made left other ws d a o s g))) in
     (x.left, x.filling, x.ends)
