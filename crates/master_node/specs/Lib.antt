@@ -43,6 +43,7 @@ pub mod Arrivals
 pub mod Eager
 pub mod Resting
 pub mod Serving
+pub mod Passes
 pub mod Entering
 pub mod Starts
 pub mod Recalled
