@@ -39,3 +39,4 @@ pub mod Frees
 pub mod Starts
 pub mod Queued
 pub mod Recalled
+pub mod Unvisited

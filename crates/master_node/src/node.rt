@@ -75,7 +75,7 @@ impl MasterNode {
     ghost use Rattle.master_node.specs.Rooms.{SendsSame, Takes, area_at, area_in};
     ghost use Rattle.master_node.specs.Asks.{AllAsk};
     ghost use Rattle.master_node.specs.Eager.{AllTakeUp, AllVisit, EagerFrom, EagerOn, recalls};
-    ghost use Rattle.master_node.specs.Starts.{AllBegin};
+    ghost use Rattle.master_node.specs.Starts.{AllBegin, AllUnvisited};
     ghost use Rattle.master_tour.specs.declared.stop.Stand.{Stand};
     ghost use Rattle.std.specs.Prelude.{None};
     ghost use Rattle.master_node.specs.Toured.{StaysPut, TakesPart, IsBare, HasVisited, stop_share, turn_share, tour_of};
@@ -277,7 +277,7 @@ impl MasterNode {
         ensures led { (lens : ℕ → Lens) (recover retry missed number : ℕ) (from : Before) (as' : List Leads) → length self.old.lan.happened ≤ 1 → HasTaken from.switch [] self.old.lan → IsUnlisted from.forwards self.old → list_any (λ s. is_live s.stand) self.old.tour.stops.items ≡ true → MasterShows lens recover retry self.old missed as' →
             (us : List Turn) × IsLedFrame lens number into.new.items as' us × MasterUnder lens recover retry self.new into.new.items missed us × PacketsBegin from.switch us self.new.lan × (tour_of self.new ≡ tour_of self.old) ×
             IsOfTour (λ s. stop_share s) (λ k. holds_at is_live_lead as' k) (frame_size into.new.items) (λ k. area_at lens as' k) (tour_of self.old) self.new.tour.stops.items (length (seen lens into.new.items)) self.new.tour.visit.items × ServicesBegin from.forwards as' us self.new ×
-            AllBegin lens self.new.lan 0 (recalls self.new) as' us }
+            AllBegin lens self.new.lan 0 (recalls self.new) as' us × AllUnvisited us }
         ensures joins { JoinsKept self.old self.new }
         ensures lan { Happens 16 self.old.lan self.new.lan }
         ensures made { Makes self.old.lan self.new.lan }
@@ -301,7 +301,7 @@ impl MasterNode {
         ensures led { result ≡ Next.Frame → (lens : ℕ → Lens) (recover retry missed number : ℕ) (as' : List Leads) → MasterShows lens recover retry self.old missed as' →
             (us : List Turn) × IsLedFrame lens number into.new.items as' us × MasterUnder lens recover retry self.new into.new.items missed us }
         ensures begun { result ≡ Next.Frame → (lens : ℕ → Lens) (recover retry missed number : ℕ) (as' : List Leads) → MasterShows lens recover retry self.old missed as' →
-            (us : List Turn) × IsLedFrame lens number into.new.items as' us × MasterUnder lens recover retry self.new into.new.items missed us × PacketsBegin self.old.lan.switch us self.new.lan × ServicesBegin (λ k. forwards_at self.old.posts.items k) as' us self.new × AllBegin lens self.new.lan 0 (recalls self.new) as' us }
+            (us : List Turn) × IsLedFrame lens number into.new.items as' us × MasterUnder lens recover retry self.new into.new.items missed us × PacketsBegin self.old.lan.switch us self.new.lan × ServicesBegin (λ k. forwards_at self.old.posts.items k) as' us self.new × AllBegin lens self.new.lan 0 (recalls self.new) as' us × AllUnvisited us }
         ensures toured { result ≡ Next.Frame → (lens : ℕ → Lens) (recover retry missed : ℕ) (as' : List Leads) (us : List Turn) → MasterShows lens recover retry self.old missed as' → MasterUnder lens recover retry self.new into.new.items missed us →
             (tour_of self.new ≡ tour_of self.old) × IsOfTour (λ u. turn_share u) (λ k. holds_at is_live_lead as' k) (frame_size into.new.items) (λ k. area_at lens as' k) (tour_of self.old) us (length (seen lens into.new.items)) self.new.tour.visit.items }
         ensures asks { result ≡ Next.Frame → (lens : ℕ → Lens) (recover retry missed : ℕ) (us : List Turn) → MasterUnder lens recover retry self.new into.new.items missed us → AllAsk (seen lens into.new.items) us }

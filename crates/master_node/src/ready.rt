@@ -22,7 +22,8 @@ impl MasterNode {
     ghost use Rattle.master_node.specs.Starts.{IsByMails, LaysPacket, NoPacket, NoneComes, SideFrees, WaitsFor};
     ghost use Rattle.master_hand.specs.declared.laying.Laid.{Laid};
     ghost use Rattle.master_tour.specs.declared.stop.Stand.{Stand};
-    ghost use Rattle.std.specs.Prelude.{None};
+    ghost use Rattle.std.specs.Prelude.{None, is_some, true};
+    ghost use Rattle.master_side.specs.Free.{is_free_side};
     ghost use Rattle.master_node.specs.Origins.{LaysFrom};
     ghost use Rattle.master_node.specs.Begins.{IsOldest, LaysOldest, PacketFirst};
 
@@ -35,6 +36,7 @@ impl MasterNode {
         ensures none { All WaitsNone self.now.posts.items → result ≡ None → IfSome (slice_get self.now.tour.stops.items place) (λ s. s.stand ≡ Stand.Open → SideFrees s.side → NoneComes self.now.lan place (next_of s)) }
         ensures mails { IfSome (slice_get self.now.tour.stops.items place) (λ s. result ≡ Some Coming.Script → IsByMails (next_of s)) }
         ensures waits { WaitsFor self.now.lan place result }
+        ensures free { IfSome (slice_get self.now.tour.stops.items place) (λ s. is_some result ≡ true → is_free_side s.side ≡ true) }
     {
         let stop = &self.tour.stops[place];
         if !stop.side.is_free() {
@@ -57,6 +59,7 @@ impl MasterNode {
         ensures none { All WaitsNone self.now.posts.items → result ≡ None → IfSome (slice_get self.now.tour.stops.items place) (λ s. s.stand ≡ Stand.Open → SideFrees s.side → NoneComes self.now.lan place (next_of s)) }
         ensures mails { IfSome (slice_get self.now.tour.stops.items place) (λ s. result ≡ Some Coming.Script → IsByMails (next_of s)) }
         ensures waits { WaitsFor self.now.lan place result }
+        ensures free { IfSome (slice_get self.now.tour.stops.items place) (λ s. is_some result ≡ true → (s.stand ≡ Stand.Open) × (is_free_side s.side ≡ true)) }
     {
         let stop = &self.tour.stops[place];
         match stop.stand {
