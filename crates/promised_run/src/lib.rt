@@ -19,8 +19,8 @@ use segment_plan::Scenario;
 use std::alloc::Global;
 
 /// Runs a plan that was read, as `run_record` does. Whatever frames are lost, each slave begins just the first services of its script, each once and
-/// in order; it has carried out in each epoch just the first of these, and each reply is its application's. A budget of as many frames as the bound, as a plan
-/// has that gives none, never cuts it off; and where no more in a row are lost than the retry limit, all is done.
+/// in order; it has carried out in each epoch just the first of these, and each reply is its application's. A budget of as many frames as the bound never cuts
+/// it off; and where no more in a row are lost than the retry limit, all is done.
 pub fn run(alloc: Global, plan: &Scenario, book: &mut Book) -> Ending
     requires plan { IsPlan plan.now }
     requires told { IsTold plan.now }
