@@ -127,7 +127,7 @@ settled_rest recover (a ∷ as') (node ∷ nodes) (n ∷ notes) settled c g =
     let rest = settled_rest recover as' nodes notes settled.1 c.1 (rests n.gave (gave_of a) (gaves_noted notes) (map gave_of as') g) in
     elim settled.0 [
       | inl gone ↦ (let count : length (gave_of a) ≡ suc recover = (let P : Stand → Type 0 = λ s. IsCounted recover s (length (gave_of a)) in subst P gone c.0) in
-      ap (λ (b : Bool). (b || is_settled next_mail node) && are_at_rest (slave_rows recover nodes notes)) (here_some n.gave recover (ap length h ∙ count)) ∙ rest)
+          ap (λ (b : Bool). (b || is_settled next_mail node) && are_at_rest (slave_rows recover nodes notes)) (here_some n.gave recover (ap length h ∙ count)) ∙ rest)
       | inr is ↦ ap (λ (b : Bool). (is_some (slice_get n.gave recover) || b) && are_at_rest (slave_rows recover nodes notes)) is ∙ either_true (is_some (slice_get n.gave recover)) (are_at_rest (slave_rows recover nodes notes)) rest
     ]
   where

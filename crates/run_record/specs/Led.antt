@@ -34,8 +34,8 @@ use Rattle.segment_plan.specs.declared.plan.Scenario.{Scenario}
 use Rattle.slave_server.specs.Serving.{next_mail}
 use Rattle.slave_node.specs.of_slave_steps.Node.{is_settled}
 use Rattle.visit_orders.specs.Toured.{IsToured}
-
 use Rattle.run_notes.specs.Slaves.{gaves_noted, gaves_in}
+
 -- a frame of a book
 abbrev pub exchanged : SentFrame → Exchanged
 exchanged f = record { sent = f.sent; fate = f.fate; back = f.back }

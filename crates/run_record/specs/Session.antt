@@ -28,8 +28,8 @@ use Rattle.run_record.specs.Led.{exchanged, Leading, AreLed}
 use Rattle.run_record.specs.Replay.{first_ring, behind, IsRecorded}
 use Rattle.run_record.specs.Recalling.{RunStands}
 use Rattle.run_notes.specs.Switched.{IsSwitched}
-
 use Rattle.run_notes.specs.Slaves.{first_notes, home_of, slave_row, slave_rows, KeepsRest}
+
 -- a session: the ring with its slaves, what became of each slave, their stations and the lengths of their mailboxes, the mails that are
 -- passed on to each and how many of them still wait, the master, the ports of its switch, how often a slave is taken up again, the most frames, and
 -- whether requests are served
