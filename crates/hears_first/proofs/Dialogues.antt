@@ -6,6 +6,7 @@ use Rattle.exchange_model.specs.Exchange.{given, plain}
 use Rattle.exchange_model.specs.Dialogue.{Turn, next, again, stop, chosen, first_turn, turn_at, rest_at, said, sent, Decides}
 use Rattle.exchange_model.proofs.Lists.{append_none, cut, drop_past}
 use Rattle.exchange_model.proofs.Words.{plain-append}
+use Rattle.never_waits.proofs.Dialogues.{turn_more}
 
 pub drop_none : {M : Type 0} (n : ℕ) → (let none : List M = [] in drop n none ≡ [])
 drop_none zero = refl
@@ -21,23 +22,6 @@ at_last all p r planned e none h =
 pub not_none : {X M : Type 0} (hs : List M) (b : M) (more : List M) → [] ≡ hs ++ b ∷ more → X
 not_none [] b more e = absurd (cc)
 not_none (h ∷ hs) b more e = absurd (cc)
-
--- what is decided within the first answers is decided with more behind them, which are then left
-record Decided {M : Type 0} (decide : M → List M → Option Turn) (m : M) (turn : Turn) (seen hs more : List M) : Type 0 where
-  same : turn_at decide m seen (hs ++ more) ≡ Some turn
-  rest : rest_at decide m seen (hs ++ more) ≡ rest_at decide m seen hs ++ more
-
-decided_more : {M : Type 0} (decide : M → List M → Option Turn) (m : M) (turn : Turn) (seen : List M) (h : M) (hs more : List M) (now : Option Turn) →
-    decide m seen ≡ now → first_turn now (turn_at decide m (seen ++ h ∷ []) hs) ≡ Some turn →
-    (turn_at decide m (seen ++ h ∷ []) hs ≡ Some turn → Decided decide m turn (seen ++ h ∷ []) hs more) → Decided decide m turn seen (h ∷ hs) more
-decided_more decide m turn seen h hs more None is found hyp = record { same = rw is (hyp found).same; rest = rw is (hyp found).rest }
-decided_more decide m turn seen h hs more (Some other) is found hyp = record { same = rw is found; rest = rw is refl }
-
-turn_more : {M : Type 0} (decide : M → List M → Option Turn) (m : M) (turn : Turn) (seen hs more : List M) →
-    turn_at decide m seen hs ≡ Some turn → Decided decide m turn seen hs more
-turn_more decide m turn seen [] [] e = record { same = e; rest = refl }
-turn_more decide m turn seen [] (h ∷ more) e = record { same = rw e refl; rest = rw e refl }
-turn_more decide m turn seen (h ∷ hs) more e = decided_more decide m turn seen h hs more (decide m seen) refl e (turn_more decide m turn (seen ++ h ∷ []) hs more)
 
 both_parts : {M : Type 0} (a b : M) (xs ys : List M) → a ∷ xs ≡ b ∷ ys → (a ≡ b) × (xs ≡ ys)
 both_parts a b xs ys e = (cc, cc)

@@ -3,10 +3,7 @@ use Rattle.std.proofs.Common.{◌≡◌, inl, inr, ℕ, zero, suc, ◌+◌, ◌<
 use Rattle.std.specs.Prelude.{drop}
 use Rattle.exchange_model.specs.Areas.{Areas, AreMailboxes}
 use Rattle.exchange_model.specs.Exchange.{after, given, plain}
-use Rattle.exchange_model.specs.Prefix.{IsPrefixOf}
-use Rattle.exchange_model.specs.Dialogue.{said}
 use Rattle.exchange_model.proofs.Lists.{prefix_refl}
-use Rattle.exchange_model.proofs.Turns.{said_more}
 use Rattle.exchange_model.proofs.Words.{plain_given-append}
 use Rattle.coe_model.specs.Mails as CoeMails
 use Rattle.coe_model.specs.Meaning as CoeMeaning
@@ -16,13 +13,13 @@ use Rattle.coe_model.specs.Tables as Tables
 use Rattle.coe_model.specs.Model as CoeModel
 use Rattle.coe_model.proofs.CoeLaw as CoeLaw
 use Rattle.coe_model.proofs.Speaks as CoeSpeaks
-use Rattle.foe_model.specs.Mails.{FoeMail, Read, Ack, mail, is_emission}
+use Rattle.foe_model.specs.Mails.{FoeMail, is_emission}
 use Rattle.foe_model.specs.Files.{Files, AreLawful}
 use Rattle.foe_model.specs.Server.{Server}
-use Rattle.foe_model.specs.Meaning.{Service, read, write}
-use Rattle.foe_model.specs.Client.{mails_of, acks, decide}
+use Rattle.foe_model.specs.Meaning.{Service}
+use Rattle.foe_model.specs.Client.{mails_of, decide}
 use Rattle.foe_model.specs.Model.{turns, planned, full, foe_exchange}
-use Rattle.foe_model.proofs.FoeLaw.{bound, kept}
+use Rattle.foe_model.proofs.FoeLaw.{kept}
 use Rattle.foe_model.proofs.Carries.{step, all_plain}
 use Rattle.foe_model.proofs.Speaks.{decided, replies_few}
 use Rattle.soe_model.specs.Elements as Elements
@@ -34,6 +31,7 @@ use Rattle.eoe_model.specs.Model.{eoe_exchange}
 use Rattle.eoe_model.specs.Network.{Network, IsSound}
 use Rattle.eoe_model.proofs.EoeLaw as EoeLaw
 use Rattle.hears_first.specs.Hears.{HearsFirst}
+use Rattle.never_waits.proofs.Protocols.{planned_more, fewer_than}
 use Rattle.hears_first.proofs.Dialogues.{drop_none, at_last, not_none, hears}
 
 -- SoE and EoE: nothing comes before the last mail, and none is told behind it
@@ -84,37 +82,14 @@ module _ {S : Type 0} (o : Tables.Tables S) (law : Tables.AreLawful o) (eoe : Bo
   coe_hears v q ready valid p r e hs b more comes = coe_by q v ready p r e hs b more comes
 
 -- FoE
-acks_begin : (n m number : ℕ) → n ≤ m → IsPrefixOf (acks n number) (acks m number)
-acks_begin zero m number less = (acks m number, refl)
-acks_begin (suc n) zero number less = absurd (omega arith)
-acks_begin (suc n) (suc m) number less = let rest = acks_begin n m (number + 1) (omega arith) in (rest.0, ap (λ l. mail (Ack number) ∷ l) rest.1)
-
-acks_long : (n number : ℕ) → length (acks n number) ≡ n
-acks_long zero number = refl
-acks_long (suc n) number = ap suc (acks_long n (number + 1))
-
 module _ {S : Type 0} (o : Files S) (law : AreLawful o) (areas : Areas) (sized : AreMailboxes areas) where
-  -- more turns and more acknowledgements than replies don't matter
-  planned_more : (q : Service) (n : ℕ) (hs : List FoeMail) → length hs < n → planned areas.out q hs ≡ said (decide areas.out) n (mails_of areas.out q n) hs
-  planned_more (write name pass bytes) n hs few =
-      said_more (decide areas.out) (λ m. refl) (suc (length hs)) n (mails_of areas.out (write name pass bytes) (length hs)) [] hs (omega arith) few (inr refl)
-      ∙ ap (λ ms. said (decide areas.out) n ms hs) (append-nil (mails_of areas.out (write name pass bytes) (length hs)))
-  planned_more (read name pass) n hs few =
-      let begins = acks_begin (length hs) n 1 (omega arith) in
-      said_more (decide areas.out) (λ m. refl) (suc (length hs)) n (mail (Read pass (record { items = name })) ∷ acks (length hs) 1) begins.0 hs (omega arith) few
-      (inl (omega (arith, acks_long (length hs) 1))) ∙ ap (λ ms. said (decide areas.out) n (mail (Read pass (record { items = name })) ∷ ms) hs) begins.1
-
-  fewer_than : (app : S) (q : Service) → bound o law areas sized app q < turns o app q
-  fewer_than app (read name pass) = omega arith
-  fewer_than app (write name pass bytes) = omega arith
-
   few_replies : (v : Server S) (q : Service) → o.valid v.app ≡ true → (p r : List FoeMail) → full o areas v q ≡ p ++ r → (hs : List FoeMail) (b : FoeMail) (more : List FoeMail) → plain is_emission (given (step o areas) v p) ≡ hs ++ b ∷ more → length hs < turns o v.app q
   few_replies v q sound p r e hs b more comes =
-      omega (arith, replies_few o areas v p, ap length (all_plain (given (step o areas) v p)), ap length comes, length-append hs (b ∷ more), ap length e, length-append p r, (kept o law areas sized v q sound).few, fewer_than v.app q)
+      omega (arith, replies_few o areas v p, ap length (all_plain (given (step o areas) v p)), ap length comes, length-append hs (b ∷ more), ap length e, length-append p r, (kept o law areas sized v q sound).few, fewer_than o law areas sized v.app q)
 
   pub foe_hears : HearsFirst (foe_exchange o areas)
   foe_hears v q ready valid p r e hs b more comes =
       let n = turns o v.app q in
       let mails = mails_of areas.out q n in
-      ap (drop (length p)) (planned_more q n hs (few_replies v q ready p r e hs b more comes))
+      ap (drop (length p)) (planned_more o law areas sized q n hs (few_replies v q ready p r e hs b more comes))
       ∙ hears (step o areas) is_emission (decide areas.out) n v mails p r hs b more (decided o areas mails) e comes

@@ -4,6 +4,7 @@
 
 mod behind;
 mod cursor;
+mod opening;
 mod stop;
 mod tour;
 mod visiting;

@@ -15,9 +15,9 @@ pub tells_all : {M : Type 0} (all p r planned : List M) → all ≡ p ++ r → p
 tells_all all p r planned e same none = sym (drop_behind p r) ∙ ap (drop (length p)) (sym e ∙ sym same) ∙ none
 
 -- what is decided within the first answers is decided with more behind them, which are then left
-record Decided {M : Type 0} (decide : M → List M → Option Turn) (m : M) (turn : Turn) (seen hs more : List M) : Type 0 where
-  same : turn_at decide m seen (hs ++ more) ≡ Some turn
-  rest : rest_at decide m seen (hs ++ more) ≡ rest_at decide m seen hs ++ more
+pub record Decided {M : Type 0} (decide : M → List M → Option Turn) (m : M) (turn : Turn) (seen hs more : List M) : Type 0 where
+  pub same : turn_at decide m seen (hs ++ more) ≡ Some turn
+  pub rest : rest_at decide m seen (hs ++ more) ≡ rest_at decide m seen hs ++ more
 
 decided_more : {M : Type 0} (decide : M → List M → Option Turn) (m : M) (turn : Turn) (seen : List M) (h : M) (hs more : List M) (now : Option Turn) →
     decide m seen ≡ now → first_turn now (turn_at decide m (seen ++ h ∷ []) hs) ≡ Some turn →
@@ -25,7 +25,7 @@ decided_more : {M : Type 0} (decide : M → List M → Option Turn) (m : M) (tur
 decided_more decide m turn seen h hs more None is found hyp = record { same = rw is (hyp found).same; rest = rw is (hyp found).rest }
 decided_more decide m turn seen h hs more (Some other) is found hyp = record { same = rw is found; rest = rw is refl }
 
-turn_more : {M : Type 0} (decide : M → List M → Option Turn) (m : M) (turn : Turn) (seen hs more : List M) →
+pub turn_more : {M : Type 0} (decide : M → List M → Option Turn) (m : M) (turn : Turn) (seen hs more : List M) →
     turn_at decide m seen hs ≡ Some turn → Decided decide m turn seen hs more
 turn_more decide m turn seen [] [] e = record { same = e; rest = refl }
 turn_more decide m turn seen [] (h ∷ more) e = record { same = rw e refl; rest = rw e refl }

@@ -54,7 +54,7 @@ acks_long (suc n) number = ap suc (acks_long n (number + 1))
 
 module _ {S : Type 0} (o : Files S) (law : AreLawful o) (areas : Areas) (sized : AreMailboxes areas) where
   -- more turns and more acknowledgements than replies don't matter
-  planned_more : (q : Service) (n : ℕ) (hs : List FoeMail) → length hs < n → planned areas.out q hs ≡ said (decide areas.out) n (mails_of areas.out q n) hs
+  pub planned_more : (q : Service) (n : ℕ) (hs : List FoeMail) → length hs < n → planned areas.out q hs ≡ said (decide areas.out) n (mails_of areas.out q n) hs
   planned_more (write name pass bytes) n hs few =
       said_more (decide areas.out) (λ m. refl) (suc (length hs)) n (mails_of areas.out (write name pass bytes) (length hs)) [] hs (omega arith) few (inr refl)
       ∙ ap (λ ms. said (decide areas.out) n ms hs) (append-nil (mails_of areas.out (write name pass bytes) (length hs)))
@@ -63,7 +63,7 @@ module _ {S : Type 0} (o : Files S) (law : AreLawful o) (areas : Areas) (sized :
       said_more (decide areas.out) (λ m. refl) (suc (length hs)) n (mail (Read pass (record { items = name })) ∷ acks (length hs) 1) begins.0 hs (omega arith) few
       (inl (omega (arith, acks_long (length hs) 1))) ∙ ap (λ ms. said (decide areas.out) n (mail (Read pass (record { items = name })) ∷ ms) hs) begins.1
 
-  fewer_than : (app : S) (q : Service) → bound o law areas sized app q < turns o app q
+  pub fewer_than : (app : S) (q : Service) → bound o law areas sized app q < turns o app q
   fewer_than app (read name pass) = omega arith
   fewer_than app (write name pass bytes) = omega arith
 

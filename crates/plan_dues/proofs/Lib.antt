@@ -1,4 +1,3 @@
 pub mod Names
-mod Wishes
 mod Slaves
 pub mod All

@@ -21,7 +21,7 @@ use Rattle.plan_ring.proofs.of_named_lives.Alike.{next_same, next_is}
 use Rattle.plan_met.specs.Met.{slave_at, IsOpenAt, IsAt, IsMet}
 use Rattle.plan_ring.specs.Asked.{asked, is_service}
 use Rattle.plan_ring.specs.Round.{all_seen}
-use Rattle.plan_dues.proofs.Wishes.{wish_is}
+use Rattle.plan_ring.proofs.Turns.{wish_is}
 use Rattle.slave_parts.specs.of_segment_model.Slaves.{Datagram, Slave, grams}
 use Rattle.life_runs.specs.of_segment_plan.declared.plan.Scenario.{Scenario}
 use Rattle.life_runs.specs.of_segment_plan.declared.slave.SlaveSpec.{SlaveSpec}

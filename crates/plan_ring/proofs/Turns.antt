@@ -60,7 +60,7 @@ asked_is : (room : ℕ) (s : Plan.Service) (q : Asked) → asked_of room s ≡ S
 asked_is room s q e = ap served (sym e) ∙ all_served room s
 
 -- SO WHAT COMES INTO HAND is one, and asks for no state that the slave lacks
-wish_is : (room : ℕ) (script : List Plan.Service) (n : ℕ) (b : Option (Service Asked)) (k : ℕ) → Comes room script n b k → WishIs is_service b
+pub wish_is : (room : ℕ) (script : List Plan.Service) (n : ℕ) (b : Option (Service Asked)) (k : ℕ) → Comes room script n b k → WishIs is_service b
 wish_is room script n _ _ Comes.none = tt
 wish_is room script n _ _ (Comes.mails s q at asked) = asked_is room s q asked
 wish_is room script n _ _ (Comes.state target at) = tt

@@ -1,17 +1,16 @@
 -- What begins is in hand: a state service, or the first mail of a service by mails.
-use Rattle.std.proofs.Common.{◌≡◌, ℕ, ◌+◌, Bool, true, false, Option, Some, None, List, [], ◌∷◌, ◌++◌, length, refl, sym, ap, ◌∙◌, subst, arith, length-append, if◌then◌else◌}
-use Rattle.std.specs.Prelude.{◌&&◌, nat_lt}
+use Rattle.std.proofs.Common.{◌≡◌, ℕ, ◌+◌, Bool, true, false, Option, Some, None, List, [], ◌∷◌, ◌++◌, length, refl, sym, ap, ◌∙◌, subst, arith, length-append}
+use Rattle.std.specs.Prelude.{◌&&◌}
 use Rattle.exchange_model.specs.Exchange.{Exchange, Speech, IsLawful, given, plain}
 use Rattle.exchange_model.specs.Rows.{Row, begun}
 use Rattle.life_runs.specs.Led.{Comes}
-use Rattle.master_hand.specs.Spoken.{Asked, net}
-use Rattle.master_hand.specs.Talk.{asked_of}
+use Rattle.master_hand.specs.Spoken.{Asked}
 use Rattle.named_lives.specs.Alike.{WishIs}
 use Rattle.never_waits.specs.Waits.{NeverWaits}
 use Rattle.plan_ring.specs.Asked.{is_service}
+use Rattle.plan_ring.proofs.Turns.{wish_is}
 use Rattle.segment_model.specs.Seats.{Side, side_begins, side_holds, side_next, next_mail, is_over}
 use Rattle.segment_plan.specs.declared.service.Service as Plan
-use Rattle.slave_parts.specs.of_eoe_model.Client as EoeClient
 use Rattle.state_exchange.specs.Stated.{Service}
 use Rattle.task_model.specs.Accounts.{Account, Duty, Started, Pick, account_begins, mails_begin, mails_choice, starts, state_begins, is_free, is_acknowledged}
 
@@ -77,30 +76,5 @@ module _ {M Q R : Type 0} (x : Speech M Q R) (acknowledged : Q → Bool) (frame 
       held_none e (next_mail x e.now e.halves.out.holding pick.hold) none ∙ ap (λ b. (side_begins x frame d d.now b).now) chosen ∙ begun_now d.now q k.valid k.free
 
 -- what comes into hand is one of the slave's services
-abbrev served : Option Asked → Bool
-served None = true
-served (Some q) = is_service q
-
-room_served : (b : Bool) (block : List ℕ) → served (if b then None else Some (net (EoeClient.set_ip block))) ≡ true
-room_served true block = refl
-room_served false block = refl
-
-all_served : (room : ℕ) (s : Plan.Service) → served (asked_of room s) ≡ true
-all_served room (Plan.Service.Sdo service) = refl
-all_served room (Plan.Service.ReadFile name pass) = refl
-all_served room (Plan.Service.WriteFile name pass bytes) = refl
-all_served room (Plan.Service.ReadIdn number idn elements) = refl
-all_served room (Plan.Service.WriteIdn number idn elements bytes) = refl
-all_served room (Plan.Service.SetIp block) = room_served (nat_lt room (length block + 10)) block
-all_served room Plan.Service.GetIp = refl
-all_served room (Plan.Service.State target) = refl
-all_served room (Plan.Service.Forward packet) = refl
-
-wish_is : (room : ℕ) (script : List Plan.Service) (n : ℕ) (b : Option (Service Asked)) (k : ℕ) → Comes room script n b k → WishIs is_service b
-wish_is room script n _ _ Comes.none = tt
-wish_is room script n _ _ (Comes.mails s q at asks) = ap served (sym asks) ∙ all_served room s
-wish_is room script n _ _ (Comes.state target at) = tt
-wish_is room script n _ _ (Comes.packet octets frame) = refl
-
 pub mails_is : (room : ℕ) (script : List Plan.Service) (n : ℕ) (q : Asked) (b : Option (Service Asked)) (k : ℕ) → Comes room script n b k → b ≡ Some (Service.Mails q) → is_service q ≡ true
 mails_is room script n q b k comes e = subst (λ z. WishIs is_service z) e (wish_is room script n b k comes)
