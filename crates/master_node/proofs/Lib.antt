@@ -39,4 +39,5 @@ pub mod Frees
 pub mod Starts
 pub mod Queued
 pub mod Recalled
+pub mod Newest
 pub mod Unvisited

@@ -8,7 +8,7 @@ use Rattle.master_tour.specs.Made.{FrameMade, is_in}
 use Rattle.master_duty.specs.of_state_exchange.Stated.{Service}
 use Rattle.master_node.specs.Filling.{IsAmong, StopFills}
 use Rattle.master_node.specs.Shows.{IsLead, GoesOn, lived_of, is_live_lead}
-use Rattle.master_node.proofs.Begins.{begun_nothing, packets_begin}
+use Rattle.master_node.proofs.Begins.{begun_nothing, nothing_for, packets_begin}
 use Rattle.master_node.proofs.Fills.{from_map}
 use Rattle.master_node.proofs.Listing.{listed_nothing, services_begin}
 use Rattle.master_node.proofs.Lists.{both_map, both_holds, both_length}
@@ -29,7 +29,7 @@ use Rattle.master_node.proofs.Toureds.{each_none, tour_same, of_tour}
 use Rattle.std.proofs.Common.{[], arith}
 use Rattle.master_node.specs.Begins.{begun_for}
 use Rattle.master_node.specs.Starts.{HasStarted}
-use Rattle.master_node.proofs.Starts.{all_begin}
+use Rattle.master_node.proofs.Starts.{all_begin, all_unvisited}
 use Rattle.master_node.proofs.node.MasterNode.make.Goals as goal
 
 pub returns-clause-led : goal.returns-clause-led
@@ -57,7 +57,7 @@ returns-clause-led c = λ lens recover retry missed number from as' room taken u
         starts = record {
           visited = [];
           each = both_from (λ a s. IsLead lens recover a s) _ (λ i a s. HasStarted lens m.lan [] i (begun_for nothing as' i) a s)
-              (λ i a s t l p. record { under = λ u. absurd (true_false t.under u p.5); ends = λ w. absurd (let z : false ≡ true = w in cc) }) 0 as' ss ts x.each e.each;
+              (λ i a s t l p. record { under = λ u. absurd (true_false t.under u p.5); ends = λ w. absurd (let z : false ≡ true = w in cc); unvisited = λ w. nothing_for as' i }) 0 as' ss ts x.each e.each;
         };
       };
       quiet = x.quiet;
@@ -112,6 +112,9 @@ returns-clause-led c = λ lens recover retry missed number from as' room taken u
       of_tour into m _ c.fill.new.self v e.tour.0 visits e.tour.1 e.tour.2 e.tour.3 on (λ k. holds_at is_live_lead as' k) alive (λ k. v.alive k ∙ alive k) (frame_size octets) (λ k. area_at lens as' k) (c.finish-some.ensures.size yes) areas (length (seen lens octets)) (sent_many lens octets f.filling.frame.datagrams (c.finish-some.ensures.reads yes f.filling.frame.datagrams f.filling.frame.begun f.filling.frame.long f.filling.frame.named) ∙ f.filling.frame.long) f.some,
       services_begin from.forwards f.left begun as' (turns lens recover number begun octets z.datagrams is as' z.lives t2.stops.items) c.fill.new.self _ (λ k. begun_turns lens recover number begun octets z.datagrams is as' z.lives t2.stops.items z.each k) refl refl f.filling.listing,
       all_begin lens recover octets c.fill.new.self.lan f.filling.starts.visited (λ k. begun_for begun as' k) 0 as' (turns lens recover number begun octets z.datagrams is as' z.lives t2.stops.items) t2.stops.items f.filling.starts.each
+          (under_all lens recover number begun octets z.datagrams is f.left 0 as' z.lives t2.stops.items f.filling.among z.each)
+          (λ k j q. begun_turns lens recover number begun octets z.datagrams is as' z.lives t2.stops.items z.each k ∙ ap (λ n. begun_for begun as' n) (let w : k ≡ j = omega (arith, q) in w)),
+      all_unvisited lens recover octets c.fill.new.self.lan f.filling.starts.visited (λ k. begun_for begun as' k) 0 as' (turns lens recover number begun octets z.datagrams is as' z.lives t2.stops.items) t2.stops.items f.filling.starts.each
           (under_all lens recover number begun octets z.datagrams is f.left 0 as' z.lives t2.stops.items f.filling.among z.each)
           (λ k j q. begun_turns lens recover number begun octets z.datagrams is as' z.lives t2.stops.items z.each k ∙ ap (λ n. begun_for begun as' n) (let w : k ≡ j = omega (arith, q) in w)),
     )

@@ -19,7 +19,7 @@ use Rattle.master_node.specs.Filling.{StopFills}
 use Rattle.master_node.specs.Shows.{lived_of}
 use Rattle.master_node.proofs.Lists.{steps_map, steps_holds, steps_each, each_trans}
 use Rattle.master_node.proofs.Filleds.{count_behind}
-use Rattle.master_node.proofs.Visits.{Fitted, Began, SomeKept, here, what, what_is, now, comes, frame, spot, leaves, waits_none, told, among, among_fitted}
+use Rattle.master_node.proofs.Visits.{Fitted, Began, SomeKept, here, what, what_is, now, now_here, comes, frame, frame_kept, spot, leaves, waits_none, told, among, among_fitted}
 use Rattle.master_node.proofs.Begins.{begun_step}
 use Rattle.master_node.specs.Listing.{number_at}
 use Rattle.master_node.proofs.Listing.{laid_from, listed_on, listed_step, listed_visit, number_here}
@@ -52,6 +52,12 @@ use Rattle.master_node.proofs.Begins.{at_other, at_place}
 use Rattle.master_node.proofs.Fills.{from_each, from_map}
 use Rattle.master_node.proofs.Lists.{steps_got, steps_some}
 use Rattle.master_node.proofs.Starts.{Asks, ComesSo, LeavesNone, Readies, from_both, from_steps, leaves_none, readies, some_so, started_here, started_same, started_there, waits_yet}
+use Rattle.std.specs.Prelude.{is_some}
+use Rattle.master_side.specs.Free.{is_free_side}
+use Rattle.master_tour.specs.First.{FitsFirst}
+use Rattle.master_tour.specs.declared.stop.Stand.{Stand}
+use Rattle.master_node.specs.Coming.{wish_of}
+use Rattle.master_node.proofs.Unvisited.{Lacking, Roomed, Roomy, Went, roomy, some_wish, steps_behind, without}
 use Rattle.master_node.proofs.node.MasterNode.visit.Goals as goal
 
 pub returns-then-not-fits-clause-led : goal.returns-then-not-fits-clause-led
@@ -109,9 +115,10 @@ returns-clause-led c = λ lens recover made from left next as' room rows quiet d
     let index = m.made % 256 in
     let begun = now coming r place s0 s1 s2 s3 s4 rooms coms fitted laid began came f.begun in
     let same = ap (λ n. n % 256) (c.came.ensures.kept.0.made ∙ c.lay.ensures.kept.0.made) in
-    let made_frame = frame coming r place s0 s1 s2 s3 s4 rooms coms fitted laid began came lens recover made index f.begun left next (map lived_of as') c.args.into.now.items c.visit-began.new.frame.items m.tour.count c.lay.new.self.tour.count c.visit-began.new.self.count
+    let visited_frame = frame coming r place s0 s1 s2 s3 s4 rooms coms fitted laid began came lens recover made index f.begun left next (map lived_of as') c.args.into.now.items c.visit-began.new.frame.items m.tour.count c.lay.new.self.tour.count c.visit-began.new.self.count
     (c.lay.ensures.kept.0.count ∙ e.count) (e.made (speech_at lens) is_followed is_passed made recover index m.tour.count lens left (map lived_of as') c.args.into.now.items f.begun d at f.frame)
     (λ g. v.made (speech_at lens) is_followed is_passed made recover lens left next (map lived_of as') f.begun begun d at over fewer (subst (λ z. IfSome (slice_get s2 place) (λ s. ComesAt f.begun begun s.place (wish_begun r z (ready_of s.side.hand.laying)))) (sym c.wish_of-wish.ensures) (comes coming r place s0 s1 s2 s3 s4 rooms coms fitted laid began came f.begun)) g) in
+    let made_frame = frame_kept coming r place s0 s1 s2 s3 s4 rooms coms fitted laid began came lens recover made index f.begun next (map lived_of as') c.visit-began.new.frame.items c.visit-began.new.self.count visited_frame in
     record {
       begun = begun;
       frame = subst (λ n. FrameMade (λ ds i a s. StopFills lens recover made begun (c.came.new.self.made % 256) next ds i a s) c.visit-began.new.frame.items n (map lived_of as') s4) (sym c.came.ensures.kept.0.count)
@@ -145,10 +152,24 @@ returns-clause-led c = λ lens recover made from left next as' room rows quiet d
             let left_none = steps_trans _ _ (λ s u. LeavesNone lens recover made l place what_here s u) place s0 s2 s3
             (λ s t u a b. subst (λ z. LeavesNone lens recover made l place z s u) (what_is coming r place s0 s1 s2 s3 s4 rooms coms fitted laid began came t b.0) (leaves_none lens recover made l place coming r s t u (rooms t) a b.1.0 b.1.1)) ready
             (steps_got _ place s2 s3 (steps_both _ _ place s2 s3 begins v.recalled)) in
+            let wish = c.wish_of-wish.result in
+            let octets = c.args.into.now.items in
+            let fit : c.fits.result ≡ true = cc in
+            let roomed = steps_map _ (λ s t. Roomed octets wish s t × (t.stand ≡ s.stand)) place s0 s1
+            (λ s t p. (record { free = λ w. p.0.0.0 (some_wish coming (sym (ap (λ z. is_some z) c.wish_of-wish.ensures) ∙ w)); fits = p.0.0.1; still = p.0.1 }, p.1.1))
+            (steps_both _ _ place s0 s1 (steps_both _ _ place s0 s1 (steps_some (λ s. is_some coming ≡ true → (s.stand ≡ Stand.Open) × (is_free_side s.side ≡ true)) (λ s t. FitsFirst octets wish s) place s0 s1 (e.begins fit) c.coming-coming.ensures.free) e.still) e.step) in
+            let room_kept = steps_trans _ _ (λ s u. Roomy octets wish s u) place s0 s1 s2 (λ s t u a b. roomy octets wish s t u a.1 a.0 b.0) roomed laid in
+            let lacking = steps_map _ (λ t u. Lacking octets wish r t u × (u.place ≡ t.place)) place s2 s3 (λ t u p. (record { lacks = p.0.0; takes = p.0.1; stand = p.1.1.0.1; recalled = p.1.1.1 }, p.1.0.4))
+            (steps_both _ _ place s2 s3 (steps_both _ _ place s2 s3 v.lacks v.takes) (steps_both _ _ place s2 s3 v.lives (steps_both _ _ place s2 s3 v.step v.recalled))) in
+            let went = subst (λ z. StepsAt (λ s u. Went octets z r (slice_get s2 place) s u) place s0 s3) c.wish_of-wish.ensures
+            (steps_trans _ _ (λ s u. Went octets wish r (slice_get s2 place) s u) place s0 s2 s3 (λ s t u a b. record { between = t; is = b.0; roomed = a; lacking = b.1.0; place = b.1.1 }) room_kept (steps_got _ place s2 s3 lacking)) in
+            let without_one = steps_behind (λ i a u. StopFills lens recover made begun index next visited_frame.datagrams i a u) _ (λ s u. u.under ≡ false → what_here ≡ None) 0 place place (map lived_of as') s0 s3 (omega arith)
+            (λ a s u p w n. sym (what_is coming r place s0 s1 s2 s3 s4 rooms coms fitted laid began came w.between w.is) ∙ without lens recover made octets (wish_of coming) r begun index next visited_frame.datagrams place a s w.between u p w.roomed w.lacking
+            (now_here coming r place s0 s1 s2 s3 s4 rooms coms fitted laid began came f.begun w.between u a.spot.place w.is w.place p.lives.planned.stands.place_is) n) visited_frame.each went in
             let before = from_both _ _ 0 as' s0 (from_both _ _ 0 as' s0 (from_map lived_of (λ i a s. StopFills lens recover made f.begun index left f.frame.datagrams i a s) 0 as' s0 f.frame.each) f.among) f.starts.each in
-            let third = from_steps _ (λ i a s. HasStarted lens l2 (place ∷ visited) i (begun_for begun as' i) a s) (λ s u. LeavesNone lens recover made l place what_here s u) 0 place place as' s0 s3 (omega arith)
-            (λ a s u p q. started_here lens recover made l l2 visited place (begun_for begun as' place) what_here a s u fewer_on (at_place f.begun here_is what_here as' place at_spot) (waits_yet lens recover made f.begun index left f.frame.datagrams place a s at p.0.0 p.0.1) q)
-            (λ j a s n p. started_there lens l l2 visited place j (begun_for f.begun as' j) (begun_for begun as' j) a s fewer_on n (at_other f.begun here_is what_here as' place j d at_spot n) p.1) before left_none in
+            let third = from_steps _ (λ i a s. HasStarted lens l2 (place ∷ visited) i (begun_for begun as' i) a s) (λ s u. LeavesNone lens recover made l place what_here s u × (u.under ≡ false → what_here ≡ None)) 0 place place as' s0 s3 (omega arith)
+            (λ a s u p q. started_here lens recover made l l2 visited place (begun_for begun as' place) what_here a s u fewer_on (at_place f.begun here_is what_here as' place at_spot) (waits_yet lens recover made f.begun index left f.frame.datagrams place a s at p.0.0 p.0.1) q.0 q.1)
+            (λ j a s n p. started_there lens l l2 visited place j (begun_for f.begun as' j) (begun_for begun as' j) a s fewer_on n (at_other f.begun here_is what_here as' place j d at_spot n) p.1) before (steps_both _ _ place s0 s3 left_none without_one) in
             from_each (λ i a s. HasStarted lens l2 (place ∷ visited) i (begun_for begun as' i) a s) (λ s t. SomeKept s t) (λ i a s. HasStarted lens l2 (place ∷ visited) i (begun_for begun as' i) a s)
             (λ i a s t p k. started_same lens l2 (place ∷ visited) i (begun_for begun as' i) a s t k.kept.under (recall_kept k.number s t k.kept) p) 0 as' s3 s4 third (Visited.kept coming r place s0 s1 s2 s3 s4 rooms coms fitted laid began came);
       };
