@@ -215,9 +215,9 @@ module _ (lens : ℕ → Lens) (recover retry : ℕ) (gives : Bool) (made : ℕ)
   all_lose after (u ∷ us) h = (loses_so lens recover retry gives made f u h.0 after, all_lose after us h.1)
 
 -- where some slave is live there is a next frame
-pub next_frame : {m : MasterNode} (result : Next) → (result ≡ nexts.Idle) ↔ (has_live m ≡ false) → has_live m ≡ true → result ≡ nexts.Frame
-next_frame nexts.Frame idle live = refl
-next_frame nexts.Idle idle live = absurd (let none = idle.0 refl in let bad : true ≡ false = sym live ∙ none in cc)
+pub next_frame : (m : MasterNode) (result : Next) → (result ≡ nexts.Idle) ↔ (has_live m ≡ false) → has_live m ≡ true → result ≡ nexts.Frame
+next_frame m nexts.Frame idle live = refl
+next_frame m nexts.Idle idle live = absurd (let none = idle.0 refl in let bad : true ≡ false = sym live ∙ none in cc)
 
 -- ONE FRAME: what the master says of it before, and of its return or loss
 module _ (m0 m1 m2 : MasterNode) (f : Exchanged) (result : Next)
@@ -232,7 +232,7 @@ module _ (m0 m1 m2 : MasterNode) (f : Exchanged) (result : Next)
     lens = lens_of plan.slaves
 
     made : (us : List Turn) × IsLedFrame lens (length fs) f.sent l.leads us × MasterUnder lens plan.recover plan.retry m1 f.sent l.missed us × PacketsBegin m0.lan.switch us m1.lan × ServicesBegin (λ k. forwards_at m0.posts.items k) l.leads us m1 × AllBegin lens m1.lan 0 (recalls m1) l.leads us × AllUnvisited us
-    made = led (next_frame result idle live) lens plan.recover plan.retry l.missed (length fs) l.leads l.shows
+    made = led (next_frame m0 result idle live) lens plan.recover plan.retry l.missed (length fs) l.leads l.shows
 
     abbrev gives : Bool
     gives = gives_up_at lens plan.recover plan.retry l.missed
@@ -241,10 +241,10 @@ module _ (m0 m1 m2 : MasterNode) (f : Exchanged) (result : Next)
     leads us = map (led_behind lens plan.recover plan.retry gives (length fs) f) us
 
     visited : (tour_of m1 ≡ tour_of m0) × IsOfTour (λ u. turn_share u) (λ k. holds_at is_live_lead l.leads k) (frame_size f.sent) (λ k. area_at lens l.leads k) (tour_of m0) made.0 (length (seen lens f.sent)) m1.tour.visit.items
-    visited = visits (next_frame result idle live) lens plan.recover plan.retry l.missed l.leads made.0 l.shows made.2
+    visited = visits (next_frame m0 result idle live) lens plan.recover plan.retry l.missed l.leads made.0 l.shows made.2
 
     asked : AllAsk (seen lens f.sent) made.0
-    asked = asks (next_frame result idle live) lens plan.recover plan.retry l.missed made.0 made.2
+    asked = asks (next_frame m0 result idle live) lens plan.recover plan.retry l.missed made.0 made.2
 
     -- where the tour stands behind it
     abbrev tour : ℕ → Tour → Tour
@@ -371,10 +371,10 @@ module _ (m0 m1 m2 : MasterNode) (f : Exchanged) (result : Next)
             (lost : (after : ℕ) → f.fate ≡ Fates.Lost after → (us : List Turn) → MasterUnder lens plan.recover plan.retry m1 f.sent l.missed us → AllRecall lens [] us (recalls m1) (recalls m2))
             (rests : AllRest lens m0.lan 0 (recalls m0) l.leads → AllSettled l.leads ring.nodes → has_entered (events_of m1.lan.happened) ≡ true) where
           same_recalls : recalls m1 ≡ recalls m0
-          same_recalls = stays (next_frame result idle live) lens plan.recover plan.retry l.missed l.leads l.shows
+          same_recalls = stays (next_frame m0 result idle live) lens plan.recover plan.retry l.missed l.leads l.shows
 
           visits_all : AllVisit (seen lens f.sent) (recalls m1) made.0
-          visits_all = all_visit (next_frame result idle live) lens plan.recover plan.retry l.missed l.leads made.0 l.shows made.2
+          visits_all = all_visit (next_frame m0 result idle live) lens plan.recover plan.retry l.missed l.leads made.0 l.shows made.2
 
           half : HasUnfinished m1 (map stand_under made.0) (unfinished_of (joined_in l.lives))
           half = under_way lens (length fs) made.1.datagrams l.leads made.0 m0 m1 (unfinished_of (joined_in l.lives)) made.1.each joins w.unfinished
@@ -386,7 +386,7 @@ module _ (m0 m1 m2 : MasterNode) (f : Exchanged) (result : Next)
           recalled_frame : IsRecalledFrame plan l.leads f made.0 (state_of m0 b.switch ring) (state_of m2 b'.switch ring')
           recalled_frame = record {
             visits = subst (λ ms. AllVisit (seen lens f.sent) ms made.0) same_recalls visits_all;
-            takes = subst (λ ms. AllTakeUp lens ms made.0) same_recalls (all_take (next_frame result idle live) lens plan.recover plan.retry l.missed l.leads made.0 l.shows made.2);
+            takes = subst (λ ms. AllTakeUp lens ms made.0) same_recalls (all_take (next_frame m0 result idle live) lens plan.recover plan.retry l.missed l.leads made.0 l.shows made.2);
             unvisited = made.6;
             still = still_of lens plan.recover plan.retry l.missed m0 l.leads l.shows;
             events = happened_so.0;

@@ -128,7 +128,7 @@ returns-clause-ok c =
             (λ after lost us under. c.tell.ensures.kept after lost (lens_of plan.slaves) plan.recover plan.retry l.missed c.next.new.into.items us under)
             (rests_enter plan c.self.inside.master c.self.inside.ring c.self.inside.log.notes c.self.inside.log.recover fs l c.args.book.now.switch c.args.book.now.switched mine.forwarded stood (subst StillWants (sym c.self.view_is) wants)
             (subst (λ (n : ℕ). AllCounted n l.leads) (sym (ap (λ (s : SessionState). s.recover) c.self.view_is ∙ recover)) (counted (lens_of plan.slaves) plan plan.retry fs l.missed l.leads l.lives)) c.next.new.self.lan.happened
-            (λ rests may. c.next.ensures.enters (next_frame c.next.result c.next.ensures.idle live) (lens_of plan.slaves) plan.recover plan.retry l.missed l.leads l.shows rests may));
+            (λ rests may. c.next.ensures.enters (next_frame c.self.inside.master c.next.result c.next.ensures.idle live) (lens_of plan.slaves) plan.recover plan.retry l.missed l.leads l.shows rests may));
       },
     ))
     (on_ok_both _ _ c.note_behind.result c.note_behind.ensures.gave (on_ok_both _ _ c.note_behind.result c.note_behind.ensures.told (on_ok_both _ _ c.note_behind.result c.note_behind.ensures.heard (on_ok_both _ _ c.note_behind.result c.note_behind.ensures.switch c.note_behind.ensures.rows))))
