@@ -405,7 +405,7 @@ module _ (m0 m1 m2 : MasterNode) (f : Exchanged) (result : Next)
           On t as' = (toured : TouredTo plan (fs ++ f ∷ []) t as') × RecalledIn plan toured (state_of m2 b'.switch ring')
 
           remembered_first : On (tour m0.tour.missed (tour_of m0)) (lives_behind lens plan.recover plan.retry m0.tour.missed (length fs) f made.0)
-          remembered_first = (IsToured.on fs (tour_of m0) l.leads f made.0 m1.tour.visit.items old.toured made.1 (record { visits = visited.1; asks = asked }), state_of m0 b.switch ring, recalled_frame, old.recalled)
+          remembered_first = (IsToured.on fs (tour_of m0) l.leads f made.0 m1.tour.visit.items old.toured made.1 (record { visits = visited.1; asks = asked }), (state_of m0 b.switch ring, recalled_frame, old.recalled))
 
           remembered_on : On (tour_of m2) (leads made.0)
           remembered_on =
