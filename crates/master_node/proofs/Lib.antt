@@ -34,6 +34,8 @@ pub mod Listing
 pub mod Restings
 pub mod Visitings
 pub mod Eagers
+pub mod Servings
+pub mod Serveds
 pub mod Entering
 pub mod Frees
 pub mod Starts

@@ -55,6 +55,8 @@ impl MasterNode {
     ghost use Rattle.master_tour.specs.Walks.{StepsAt};
     ghost use Rattle.master_node.specs.declared.coming.Coming.{Coming};
     ghost use Rattle.master_node.specs.Appends.{AppendsMail};
+    ghost use Rattle.master_node.specs.Serving.{FitsAt, IsAsked, ServedShows};
+    ghost use Rattle.served_runs.specs.Served.{Keyed, Serves, MayAsk, asked_at};
     ghost use Rattle.master_node.specs.Shows.{WaitsNone};
     ghost use Rattle.master_node.specs.Kept.{TourKept, TourOn};
     ghost use Rattle.master_node.specs.Coming.{PassesBy, CameBy};
@@ -368,7 +370,8 @@ impl MasterNode {
         self.tour.stops[slave as usize].is_live()
     }
 
-    /// A mail waits to be passed on to a slave, behind those that do; `false` exactly where 64 do already, and then nothing changed. `key` names its asker.
+    /// A mail waits to be passed on to a slave, behind those that do; `false` exactly where 64 do already, and then nothing changed. `key` names its asker. So
+    /// it does in the lives of a serving, where it fits the slave's mailbox.
     pub fn ask(&mut self, slave: u32, key: usize, mail: &Mail) -> bool
         requires { slave < vec_len self.old.posts }
         ensures full { (result ≡ false) ↔ (waiting_at self.old.posts.items slave ≡ 64) }
@@ -376,6 +379,8 @@ impl MasterNode {
         ensures waits { waiting_at self.old.posts.items slave < 64 → StepsAt (λ p q. AppendsMail key mail.now p.mails.items q.mails.items) slave self.old.posts.items self.new.posts.items }
         ensures stays { result ≡ false → StepsAt (λ p q. q ≡ p) slave self.old.posts.items self.new.posts.items }
         ensures kept { (self.new.tour ≡ self.old.tour) × (self.new.lan ≡ self.old.lan) × (self.new.made ≡ self.old.made) }
+        ensures served { (lens : ℕ → Lens) (recover retry missed made : ℕ) (ws : List Serves) → waiting_at self.old.posts.items slave < 64 → FitsAt lens slave (length mail.now.body.items) ws → ServedShows lens recover retry self.old missed made ws →
+            (k : Keyed) × IsAsked key mail.now k × MayAsk lens slave k ws × ServedShows lens recover retry self.new missed made (asked_at slave k ws) }
     {
         self.posts[slave as usize].ask(key, mail)
     }

@@ -38,6 +38,9 @@ impl MasterNode {
     ghost use Rattle.master_node.specs.Origins.{forwards_at};
     ghost use Rattle.master_node.specs.Happened.{Happens, HappensSo};
     ghost use Rattle.master_node.specs.Shows.{MasterShows, MasterUnder};
+    ghost use Rattle.master_node.specs.Serving.{TellsOnly, ServedShows, ServedUnder};
+    ghost use Rattle.served_runs.specs.Served.{ServedTurn, served_behind};
+    ghost use Rattle.std.specs.Prelude.{suc};
     ghost use Rattle.master_tour.specs.Toured.{goes_on, lost_on};
     ghost use Rattle.master_node.specs.Shows.{is_opening_lead};
     ghost use Rattle.master_node.specs.Toured.{tour_of};
@@ -51,6 +54,7 @@ impl MasterNode {
         ensures posts { vec_len self.new.posts ≡ vec_len self.old.posts }
         ensures kept { NodeKept self.old self.new }
         ensures lan { self.new.lan ≡ self.old.lan }
+        ensures tells { TellsOnly self.old self.new }
     {
         let post = &mut self.posts[place];
         post.work = Work::Nothing;
@@ -68,6 +72,7 @@ impl MasterNode {
         ensures kept { NodeKept self.old self.new }
         ensures lan { Happens 1 self.old.lan self.new.lan }
         ensures listed { Lists (arrive_by (port_by (slice_get self.old.lan.ports.items place)) (kept_at self.old.tour.stops.items place)) self.old.lan self.new.lan }
+        ensures tells { TellsOnly self.old self.new }
     {
         let hand = &self.tour.stops[place].side.hand;
         if let Some(octets) = hand.emergency() {
@@ -89,6 +94,7 @@ impl MasterNode {
         ensures posts { vec_len self.new.posts ≡ vec_len self.old.posts }
         ensures kept { NodeKept self.old self.new }
         ensures lan { self.new.lan ≡ self.old.lan }
+        ensures tells { TellsOnly self.old self.new }
     {
         if let Some(mail) = self.tour.stops[place].side.hand.replied() {
             let mail = bare(mail);
@@ -102,6 +108,7 @@ impl MasterNode {
         ensures posts { vec_len self.new.posts ≡ vec_len self.old.posts }
         ensures kept { NodeKept self.old self.new }
         ensures lan { self.new.lan ≡ self.old.lan }
+        ensures tells { TellsOnly self.old self.new }
     {
         if let Some(kind) = self.tour.stops[place].side.hand.answer() {
             self.answered(place, kind);
@@ -115,6 +122,7 @@ impl MasterNode {
         ensures kept { NodeKept self.old self.new }
         ensures lan { Happens 1 self.old.lan self.new.lan }
         ensures listed { Lists (arrive_by (port_by (slice_get self.old.lan.ports.items place)) (kept_at self.old.tour.stops.items place)) self.old.lan self.new.lan }
+        ensures tells { TellsOnly self.old self.new }
     {
         self.emitted(place);
         if matches!(what, Heard::Emission) {
@@ -133,6 +141,7 @@ impl MasterNode {
         ensures posts { vec_len self.new.posts ≡ vec_len self.old.posts }
         ensures kept { NodeKept self.old self.new }
         ensures lan { self.new.lan ≡ self.old.lan }
+        ensures tells { TellsOnly self.old self.new }
     {
         if self.tour.stops[place].side.is_free() {
             self.answered(place, ReplyKind::Handed);
@@ -145,6 +154,7 @@ impl MasterNode {
         ensures posts { vec_len self.new.posts ≡ vec_len self.old.posts }
         ensures kept { NodeKept self.old self.new }
         ensures lan { self.new.lan ≡ self.old.lan }
+        ensures tells { TellsOnly self.old self.new }
     {
         if self.tour.stops[place].side.passing.is_none() {
             self.answered(place, ReplyKind::Handed);
@@ -158,6 +168,7 @@ impl MasterNode {
         ensures posts { vec_len self.new.posts ≡ vec_len self.old.posts }
         ensures kept { NodeKept self.old self.new }
         ensures lan { self.new.lan ≡ self.old.lan }
+        ensures tells { TellsOnly self.old self.new }
     {
         match self.tour.stops[place].side.duty {
             Some(Met::Reached) => self.answered(place, ReplyKind::Done),
@@ -172,6 +183,7 @@ impl MasterNode {
         ensures posts { vec_len self.new.posts ≡ vec_len self.old.posts }
         ensures kept { NodeKept self.old self.new }
         ensures lan { self.new.lan ≡ self.old.lan }
+        ensures tells { TellsOnly self.old self.new }
     {
         match self.posts[place].work {
             Work::Nothing | Work::Mails => {}
@@ -194,6 +206,7 @@ impl MasterNode {
         ensures posts { vec_len self.new.posts ≡ vec_len self.old.posts }
         ensures kept { NodeKept self.old self.new }
         ensures lan { self.new.lan ≡ self.old.lan }
+        ensures tells { TellsOnly self.old self.new }
     {
         let slave = place as u32;
         let own = self.has_state(place);
@@ -216,6 +229,7 @@ impl MasterNode {
         ensures kept { NodeKept self.old self.new }
         ensures lan { Happens 1 self.old.lan self.new.lan }
         ensures listed { Lists (arrive_by (port_by (slice_get self.old.lan.ports.items place)) (packets_of what (kept_at self.old.tour.stops.items place))) self.old.lan self.new.lan }
+        ensures tells { TellsOnly self.old self.new }
     {
         if let Some(what) = what {
             self.heard(place, what);
@@ -229,6 +243,7 @@ impl MasterNode {
         ensures kept { NodeKept self.old self.new }
         ensures lan { Happens 1 self.old.lan self.new.lan }
         ensures listed { Lists (arrive_by (port_by (slice_get self.old.lan.ports.items place)) (heard_at self.old.tour.stops.items place)) self.old.lan self.new.lan }
+        ensures tells { TellsOnly self.old self.new }
     {
         let what = self.tour.stops[place].side.heard;
         self.heard_where(place, what);
@@ -242,6 +257,7 @@ impl MasterNode {
         ensures kept { NodeKept self.old self.new }
         ensures lan { Happens 1 self.old.lan self.new.lan }
         ensures listed { Lists (arrive_by (port_by (slice_get self.old.lan.ports.items place)) (heard_at self.old.tour.stops.items place)) self.old.lan self.new.lan }
+        ensures tells { TellsOnly self.old self.new }
     {
         if place < self.posts.len() {
             self.back(place);
@@ -254,6 +270,7 @@ impl MasterNode {
         ensures kept { NodeKept self.old self.new }
         ensures lan { Happens 16 self.old.lan self.new.lan }
         ensures listed { Lists (arrivals_in self.old.lan.ports.items (λ p. heard_at self.old.tour.stops.items p) self.old.tour.visit.items) self.old.lan self.new.lan }
+        ensures tells { TellsOnly self.old self.new }
     {
         for k in 0..self.tour.visit.len() {
             let place = self.tour.visit.as_slice()[k];
@@ -274,6 +291,8 @@ impl MasterNode {
         ensures happened { HappensSo self.old.lan self.new.lan }
         ensures arrivals { (lens : ℕ → Lens) (recover retry missed : ℕ) (octets : List ℕ) (us : List Turn) (befores : List (Option Unfinished)) → MasterUnder lens recover retry self.old octets missed us → Returns (seen lens octets) (seen lens frame.now.items) →
             HasUnfinished self.old (map stand_under us) befores → ComeIn self.old (λ p. completed_at (seen lens frame.now.items) us befores p) self.new }
+        ensures served { (lens : ℕ → Lens) (recover retry missed made : ℕ) (octets : List ℕ) (vs : List ServedTurn) (f : Exchanged) → f.fate ≡ Fate.Pass → f.back ≡ frame.now.items → ServedUnder lens recover retry self.old octets missed made vs → Returns (seen lens octets) (seen lens frame.now.items) →
+            ServedShows lens recover retry self.new 0 (suc made) (map (served_behind lens recover retry (gives_up_at lens recover retry missed) made f) vs) }
         ensures counts { (k : ℕ) → forwards_at self.new.posts.items k ≡ forwards_at self.old.posts.items k }
         ensures recalls { (lens : ℕ → Lens) (recover retry missed : ℕ) (octets : List ℕ) (us : List Turn) → MasterUnder lens recover retry self.old octets missed us → Returns (seen lens octets) (seen lens frame.now.items) →
             AllVisit (seen lens octets) (recalls self.old) us → AllRecall lens (seen lens frame.now.items) us (recalls self.old) (recalls self.new) }
