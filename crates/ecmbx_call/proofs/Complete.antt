@@ -11,7 +11,8 @@ use Rattle.promised_run.specs.Ran.{EndsAs}
 use Rattle.promised_run.specs.Session.{budget_of}
 use Rattle.ecmbx_words.specs.declared.status.Status.{Status}
 use Rattle.ecmbx_words.specs.declared.status.Status.TheVariants as statuses
-use Rattle.ecmbx_words.specs.Ends.{Ended}
+use Rattle.run_report.specs.Report.{report_lines}
+use Rattle.ecmbx_words.specs.Ends.{text_of, Ended}
 use Rattle.ecmbx_call.specs.Causes.{RunsTo, SavesTo}
 use Rattle.ecmbx_call.specs.Complete.{CompletesTo, IsComplete}
 use Rattle.ecmbx_call.specs.Course.{HasRun, status_of}
@@ -41,9 +42,9 @@ module _ (words : List (List ℕ)) (table saved : Option Table) (sunk : Type 0) 
   pub completes_to : (status ≡ statuses.SinkFault → sunk) → (sunk → ⊥) → RunsTo words table plan book old new status → SavesTo words table saved plan book old new status → CompletesTo words table plan book status
   completes_to sinks quiet runs saves octets (inl f) found is enough = elim (runs octets f found is) [
     | inl memory ↦ inl memory
-    | inr ran ↦ told_so _ sinks quiet ran.0 enough ran.1
+    | inr ran ↦ told_so (text_of (report_lines plan book)) sinks quiet ran.0 enough ran.1
   ]
   completes_to sinks quiet runs saves octets (inr f) found is enough = elim (saves octets f found is) [
     | inl memory ↦ inl memory
-    | inr ran ↦ told_so _ sinks quiet ran.0 enough ran.2
+    | inr ran ↦ told_so (text_of (report_lines plan book)) sinks quiet ran.0 enough ran.2
   ]
