@@ -77,11 +77,11 @@ drops_start gave kss = record { long = refl; each = λ k. sym (ap (λ (b : Bool)
 
 in_more : (k p : ℕ) (ps : List ℕ) → is_in k (ps ++ p ∷ []) ≡ (is_in k ps || is_in k (p ∷ []))
 in_more k p [] = refl
-in_more k p (q ∷ qs) = go (k == q)
+in_more k p (q ∷ qs) = go (k == q) (in_more k p qs)
   where
-    go : (z : Bool) → (if z then true else is_in k (qs ++ p ∷ [])) ≡ ((if z then true else is_in k qs) || is_in k (p ∷ []))
-    go true = refl
-    go false = in_more k p qs
+    go : (z : Bool) → is_in k (qs ++ p ∷ []) ≡ (is_in k qs || is_in k (p ∷ [])) → (if z then true else is_in k (qs ++ p ∷ [])) ≡ ((if z then true else is_in k qs) || is_in k (p ∷ []))
+    go true e = refl
+    go false e = e
 
 both_drop : {T : Type 0} (g a b : Bool) (x : List T) → (if g && b then [] else (if g && a then [] else x)) ≡ (if g && (a || b) then [] else x)
 both_drop false a b x = refl
