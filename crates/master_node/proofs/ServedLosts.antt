@@ -1,14 +1,13 @@
 -- WHAT A MASTER SHOWS OF THE SLAVES OF A SERVING behind a frame that was lost.
-use Rattle.std.proofs.Common.{◌≡◌, ◌≤◌, ◌<◌, ◌+◌, ℕ, zero, suc, Bool, true, false, Option, List, [], ◌∷◌, refl, sym, ap, ◌∙◌, subst, arith, length}
+use Rattle.std.proofs.Common.{◌≡◌, ◌≤◌, ◌<◌, ℕ, zero, suc, Bool, true, false, List, [], ◌∷◌, refl, sym, ap, ◌∙◌, subst, arith, length}
 use Rattle.std.specs.Prelude.{◌&&◌, not, map, All, nat_le, if◌then◌else◌}
 use Rattle.std.proofs.lemmas.List.Elements.{All-nil}
-use Rattle.counters_kept.specs.Lives.{LifeKept, lost_so}
+use Rattle.counters_kept.specs.Lives.{LifeKept}
 use Rattle.counters_kept.proofs.Lives.{given_life, lost_life}
 use Rattle.counters_kept.specs.of_news_kept.Counts.{counts_on}
-use Rattle.life_runs.specs.Led.{Exchanged, Leads, Turn, led_behind, speech_at}
+use Rattle.life_runs.specs.Led.{Exchanged, Leads, led_behind, speech_at}
 use Rattle.life_runs.specs.of_frame_view.View.{Lens}
 use Rattle.life_runs.specs.of_frame_view.Seen.{seen}
-use Rattle.life_runs.specs.of_life_frames.Frames.{Share}
 use Rattle.life_runs.specs.of_life_frames.Shares.{Lived, AllThree, given_where, lived_lost}
 use Rattle.life_runs.specs.of_segment_ring.declared.wire.Fate.{Fate}
 use Rattle.life_runs.specs.of_segment_ring.declared.wire.Fate.TheVariants.{Lost}
@@ -33,7 +32,7 @@ use Rattle.master_tour.specs.declared.stop.Stop.{Stop}
 use Rattle.master_tour.specs.of_life_model.Lives
 use Rattle.master_tour.specs.of_life_model.Lives.{Life, Spot, life_lost}
 use Rattle.master_tour.proofs.Backs.{seen_aims}
-use Rattle.served_runs.specs.Served.{Keyed, Serves, ServedTurn, served_behind}
+use Rattle.served_runs.specs.Served.{Keyed, ServedTurn, served_behind}
 use Rattle.master_node.specs.Passes.{waits_in}
 use Rattle.master_node.specs.Serving.{IsServed, IsServedUnder, MayPass, run_lead, run_turn, waits_of}
 use Rattle.master_node.specs.Shows.{ComeAgain, GoesOn, GoesUnder, HoldsFirst, IsLived, is_led, is_live_lead, is_opening_lead, side_shows}
