@@ -1,5 +1,5 @@
 -- A SIDE IS AS FREE AS IT WAS where the same is in hand.
-use Rattle.std.proofs.Common.{◌≡◌, ℕ, subst}
+use Rattle.std.proofs.Common.{◌≡◌, ℕ}
 use Rattle.std.specs.Prelude.{◌&&◌, is_none}
 use Rattle.master_hand.specs.Over.{done_by, over_by}
 use Rattle.master_hand.specs.contracts.hand.InHandHand.TheImpl as Impl

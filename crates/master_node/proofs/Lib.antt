@@ -42,6 +42,8 @@ pub mod FreeKept
 pub mod ServedVisits
 pub mod Roundings
 pub mod ServedSents
+pub mod Droppeds
+pub mod ServedLosts
 pub mod Entering
 pub mod Frees
 pub mod Starts

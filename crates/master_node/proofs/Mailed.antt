@@ -1,6 +1,6 @@
 -- What comes into hand of a slave where mails wait: the next of its script, a packet, or the oldest mail; and how far a mail has come then that is passed on.
-use Rattle.std.proofs.Common.{◌≡◌, ◌+◌, ◌≤◌, ◌<◌, ℕ, zero, suc, Bool, true, false, Option, None, Some, List, [], ◌∷◌, refl, sym, ap, ◌∙◌, subst, length}
-use Rattle.std.specs.Prelude.{◌&&◌, is_some, is_none, drop, All, slice_get, if◌then◌else◌, ⊤}
+use Rattle.std.proofs.Common.{◌≡◌, ℕ, Bool, true, false, Option, None, Some, List, [], ◌∷◌, refl, sym, ap, ◌∙◌, subst}
+use Rattle.std.specs.Prelude.{◌&&◌, is_some, drop, All, slice_get, if◌then◌else◌}
 use Rattle.std.proofs.lemmas.List.Elements.{All-head}
 use Rattle.life_runs.specs.Led.{Comes}
 use Rattle.master_duty.specs.Reply.{Reply}
@@ -10,7 +10,6 @@ use Rattle.master_duty.specs.of_state_exchange.Stated.{Service}
 use Rattle.master_duty.specs.of_task_model.Accounts.{Pick, account_next}
 use Rattle.master_hand.specs.Laying.{Waiting, Scripted, ready_of, scripted, scripted_behind}
 use Rattle.master_hand.specs.Spoken.{Asked, acknowledged, is_followed, is_passed, passed}
-use Rattle.master_hand.specs.declared.laying.Laid.{Laid}
 use Rattle.master_side.specs.Free.{begins_by}
 use Rattle.master_side.specs.Passing.{PassingShows, passing_behind, passing_seen}
 use Rattle.master_side.specs.Shown.{takes_ready, wish_begun, wished}
@@ -27,7 +26,7 @@ use Rattle.master_tour.proofs.Passings.{next_open}
 use Rattle.segment_plan.specs.declared.service.Service as Plan
 use Rattle.served_runs.specs.Served.{Keyed, ServedComes}
 use Rattle.served_runs.specs.Told.{Passed}
-use Rattle.master_node.specs.Coming.{IsComing, IsLaid, wish_of}
+use Rattle.master_node.specs.Coming.{IsLaid, wish_of}
 use Rattle.master_node.specs.Passes.{BeginsFree, IsNextState, LaysMail, MailWaits, waits_behind}
 use Rattle.master_node.specs.Serving.{MayPass}
 use Rattle.master_node.specs.declared.coming.Coming.{Coming}

@@ -1,5 +1,5 @@
 -- THE FRAME OF A SERVING IS MADE: before its first visit, and behind its last.
-use Rattle.std.proofs.Common.{◌≡◌, ◌≤◌, ◌<◌, ◌+◌, ◌%◌, ℕ, zero, suc, Bool, true, Option, None, Some, List, [], ◌∷◌, refl, sym, ap, ◌∙◌, subst, length}
+use Rattle.std.proofs.Common.{◌≡◌, ◌%◌, ℕ, suc, Bool, Option, None, Some, List, [], ◌∷◌, refl, sym, ap, ◌∙◌, subst, length}
 use Rattle.std.specs.Prelude.{is_some, map, All}
 use Rattle.std.proofs.lemmas.List.Elements.{All-tail}
 use Rattle.datagrams.specs.Datagram as Raw
@@ -8,11 +8,10 @@ use Rattle.counters_kept.proofs.Lives.{next_life}
 use Rattle.life_runs.specs.of_frame_view.View.{Lens}
 use Rattle.life_runs.specs.of_frame_view.Seen.{seen, datagrams_seen}
 use Rattle.life_runs.specs.of_life_frames.Shares.{Lived, AllThree}
-use Rattle.life_runs.specs.Led.{Leads, Turn, speech_at}
+use Rattle.life_runs.specs.Led.{speech_at}
 use Rattle.mailbox_master.specs.Any.{in_area_len}
 use Rattle.master_duty.specs.Reply.{Reply}
 use Rattle.master_duty.specs.of_state_exchange.Stated.{Service}
-use Rattle.master_hand.specs.Shown.{awaits_reply}
 use Rattle.master_hand.specs.Spoken.{Asked, acknowledged, is_followed, is_passed}
 use Rattle.master_hand.specs.declared.hand.InHand.{InHand}
 use Rattle.master_side.specs.Passing.{passing_seen}

@@ -1,5 +1,5 @@
 -- A VISIT OF A SERVING: what comes into hand of one slave, which mails still wait for it, and what stays of all others.
-use Rattle.std.proofs.Common.{◌≡◌, ◌==◌, ◌+◌, ◌≤◌, ◌<◌, ℕ, zero, suc, Bool, true, false, Option, None, Some, List, [], ◌∷◌, refl, sym, ap, ◌∙◌, subst, arith, length}
+use Rattle.std.proofs.Common.{◌≡◌, ◌==◌, ◌+◌, ◌<◌, ℕ, zero, suc, Bool, true, false, Option, None, Some, List, [], ◌∷◌, refl, sym, ap, ◌∙◌, subst, arith, length}
 use Rattle.std.specs.Prelude.{◌&&◌, is_some, is_none, map, All, IfSome, slice_get, if◌then◌else◌}
 use Rattle.std.proofs.lemmas.Bool.{eq-eqb, eqb-true}
 use Rattle.datagrams.specs.Datagram as Raw
@@ -16,7 +16,6 @@ use Rattle.master_hand.specs.Laying.{Scripted, ready_of, scripted, scripted_behi
 use Rattle.master_hand.specs.Shown.{awaits_reply}
 use Rattle.master_hand.specs.Spoken.{Asked, acknowledged, is_followed, is_passed}
 use Rattle.master_hand.specs.declared.hand.InHand.{InHand}
-use Rattle.master_side.specs.Carried.{in_hand}
 use Rattle.master_side.specs.Free.{begins_by, is_free_side}
 use Rattle.master_side.specs.Passing.{passing_behind, passing_seen}
 use Rattle.master_side.specs.Shown.{takes_ready, wish_begun}

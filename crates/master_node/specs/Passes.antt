@@ -1,7 +1,6 @@
 -- WHILE A FRAME OF A SERVING IS MADE: what may come into hand of a slave where mails wait, what was laid ready, and what each slave has of the frame.
 use Rattle.std.specs.Prelude.{◌≡◌, ◌≤◌, ◌<◌, ◌%◌, ℕ, zero, suc, true, false, Option, Some, None, List, [], ◌∷◌, map, length, drop, All, ⊤}
 use Rattle.std.specs.List.{list_any}
-use Rattle.datagrams.specs.Datagram as Raw
 use Rattle.counters_kept.specs.Lives.{LifeKept}
 use Rattle.life_runs.specs.Led.{Leads}
 use Rattle.life_runs.specs.of_frame_view.View.{Lens}

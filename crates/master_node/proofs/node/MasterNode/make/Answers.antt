@@ -19,7 +19,7 @@ use Rattle.master_node.proofs.Lists.{each_trans}
 use Rattle.master_tour.specs.Sizes.{frame_size}
 use Rattle.master_node.specs.Rooms.{FitAgain, area_at}
 use Rattle.master_node.proofs.Fits.{again_on, side_sends}
-use Rattle.master_node.proofs.Leaves.{areas_from, area_planned, fit_under}
+use Rattle.master_node.proofs.Leaves.{areas_from, area_planned, fit_under, visits_are}
 use Rattle.master_hand.specs.Shown.{knows}
 use Rattle.master_side.specs.Recall.{recall_by}
 use Rattle.master_node.specs.Eager.{StopTakesUp, recall_of}
@@ -240,6 +240,7 @@ returns-clause-serves c = λ lens recover retry missed made ws some small x.
         retry_is = on.retry ∙ e.tour.4 ∙ x.retry_is;
         sent = sent_some lens octets z.datagrams z.frame;
         fits = fit_under into _ c.fill.new.self c.fill.ensures.begun.1.fits v;
+        carried = λ k y. subst (λ w. is_in k w ≡ true) (sym (visits_are into _ c.fill.new.self v)) (v.carries.only k y);
         made_is = refl;
         early = small;
       },

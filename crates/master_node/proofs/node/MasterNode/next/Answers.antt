@@ -128,5 +128,5 @@ returns-clause-serves c = λ h lens recover retry missed made ws small x.
     let more : (c.make.new.self.made + 1) % 2 ^ 32 ≡ suc made = ap (λ z. (z + 1) % 2 ^ 32) is ∙ mod-eq_of_lt (omega (arith, small)) ∙ (let n : made + 1 ≡ suc made = omega arith in n) in (
       w.0,
       w.1,
-      record { each = u.each; distinct = u.distinct; goes = u.goes; missed_is = u.missed_is; retry_is = u.retry_is; sent = u.sent; fits = u.fits; made_is = more; early = u.early },
+      record { each = u.each; distinct = u.distinct; goes = u.goes; missed_is = u.missed_is; retry_is = u.retry_is; sent = u.sent; fits = u.fits; carried = u.carried; made_is = more; early = u.early },
     )
