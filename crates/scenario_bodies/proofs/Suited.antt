@@ -9,7 +9,7 @@ use Rattle.scenario_keys.specs.declared.refusal.Refusal.{Refusal}
 use Rattle.scenario_keys.specs.declared.refusal.Stop.{Stop}
 use Rattle.scenario_keys.specs.Reading.{◌>>=◌}
 use Rattle.scenario_keys.specs.Keys.{name_at}
-use Rattle.scenario_octets.specs.Octets.{octets_at}
+use Rattle.scenario_values.specs.Octets.{octets_at}
 use Rattle.scenario_actions.specs.declared.actions.SdoAction.{SdoAction}
 use Rattle.scenario_sdo.specs.Sdo.{sdo_of}
 use Rattle.scenario_bodies.specs.Suited.{Suits}

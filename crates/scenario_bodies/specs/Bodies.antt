@@ -13,7 +13,7 @@ use Rattle.scenario_keys.specs.declared.refusal.Rule.TheVariants.{OutOfRange}
 use Rattle.scenario_keys.specs.declared.refusal.Refusal.{Refusal}
 use Rattle.scenario_keys.specs.Reading.{◌>>=◌, unless_refused}
 use Rattle.scenario_keys.specs.Keys.{integer_at, integer_or, name_at}
-use Rattle.scenario_octets.specs.Octets.{octets_at}
+use Rattle.scenario_values.specs.Octets.{octets_at}
 use Rattle.scenario_actions.specs.declared.actions.SdoAction.{SdoAction}
 use Rattle.scenario_actions.specs.declared.actions.Action.{Action}
 use Rattle.scenario_actions.specs.declared.actions.Action.TheVariants as actions

@@ -14,7 +14,7 @@ use eoe::is_block;
 use file_store::Name;
 use scenario_actions::{Action, SdoAction};
 use scenario_keys::{Place, Rule, Stop, integer_or, needed_integer, needed_name, put, unless};
-use scenario_octets::needed_octets;
+use scenario_values::needed_octets;
 use scenario_sdo::{sdo_body, subindex, word};
 use segment_plan::{Service, SlaveSpec, smaller};
 use std::alloc::Global;

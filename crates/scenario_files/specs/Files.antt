@@ -12,7 +12,7 @@ use Rattle.scenario_keys.specs.declared.refusal.Rule.TheVariants.{OutOfRange}
 use Rattle.scenario_keys.specs.declared.refusal.Refusal.{Refusal}
 use Rattle.scenario_keys.specs.Reading.{◌>>=◌, wanted, unless_refused, each_behind}
 use Rattle.scenario_keys.specs.Keys.{only_keys, integer_or, bool_at, text_at, name_at}
-use Rattle.scenario_octets.specs.Octets.{octets_at}
+use Rattle.scenario_values.specs.Octets.{octets_at}
 
 -- whether a file may be read, and whether it may be written
 abbrev pub rights_of : List ℕ → Option (Bool × Bool)

@@ -12,7 +12,7 @@ use scenario_keys::{
     Place, Rule, Stop, bool_or_false, integer_or, needed_name, needed_text, only_known, put,
     refused, unless,
 };
-use scenario_octets::needed_octets;
+use scenario_values::needed_octets;
 use std::alloc::Global;
 use toml::Table;
 

@@ -7,7 +7,7 @@ ghost use Rattle.scenario_idns.specs.Idns.{drive_at, idn_of, idns_of};
 
 use ec_fields::Rows;
 use idn_table::IdnSpec;
-use scenario_bounds::{bounded_value, bounds};
+use scenario_values::{bounded_value, bounds};
 use scenario_keys::{
     Place, Rule, Stop, bool_or_false, integer_or, needed_integer, needed_sizes, only_known, put,
     some_label, unless,

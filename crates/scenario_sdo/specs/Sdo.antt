@@ -7,7 +7,7 @@ use Rattle.scenario_keys.specs.declared.place.Place.{Place}
 use Rattle.scenario_keys.specs.declared.refusal.Refusal.{Refusal}
 use Rattle.scenario_keys.specs.Reading.{◌>>=◌}
 use Rattle.scenario_keys.specs.Keys.{integer_at}
-use Rattle.scenario_octets.specs.Octets.{octets_at}
+use Rattle.scenario_values.specs.Octets.{octets_at}
 use Rattle.scenario_actions.specs.declared.actions.SdoAction.{SdoAction}
 use Rattle.scenario_actions.specs.declared.actions.SdoAction.TheVariants as sdo
 

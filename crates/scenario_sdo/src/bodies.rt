@@ -7,7 +7,7 @@ ghost use Rattle.scenario_sdo.specs.Sdo.{word_at, sub_at, sdo_of};
 use object_dictionary::SdoService;
 use scenario_actions::SdoAction;
 use scenario_keys::{Place, Stop, needed_integer};
-use scenario_octets::needed_octets;
+use scenario_values::needed_octets;
 use std::alloc::Global;
 use toml::Table;
 

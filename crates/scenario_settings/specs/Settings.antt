@@ -7,7 +7,7 @@ use Rattle.scenario_keys.specs.declared.refusal.Rule.TheVariants.{OutOfRange}
 use Rattle.scenario_keys.specs.declared.refusal.Refusal.{Refusal}
 use Rattle.scenario_keys.specs.Reading.{◌>>=◌, wanted, unless_refused, optional}
 use Rattle.scenario_keys.specs.Keys.{integer_or, text_in}
-use Rattle.scenario_octets.specs.Octets.{octets_at, no_octets_at}
+use Rattle.scenario_values.specs.Octets.{octets_at, no_octets_at}
 
 -- the AL state of a word, where the slave has it: Bootstrap only with that state
 abbrev pub start_of : Bool → List ℕ → Option ℕ

@@ -5,7 +5,7 @@ ghost use Rattle.scenario_keys.specs.Reading.{Gives};
 ghost use Rattle.scenario_settings.specs.Settings.{start_of, start_in, start_at, own_mac_at, mac_at, pace_at};
 
 use scenario_keys::{Place, Rule, Stop, find, integer_or, refused, text, unless};
-use scenario_octets::{needed_in_place, no_octets};
+use scenario_values::{needed_in_place, no_octets};
 use toml::{Table, Value};
 
 fn start_of(boot: bool, word: &str) -> Option<u8>

@@ -10,8 +10,8 @@ use Rattle.scenario_keys.specs.declared.place.Place.TheVariants as places
 use Rattle.scenario_keys.specs.declared.refusal.Refusal.{Refusal}
 use Rattle.scenario_keys.specs.Reading.{◌>>=◌}
 use Rattle.scenario_keys.specs.Keys.{only_keys}
-use Rattle.scenario_tables.specs.Tables.{optional_tables_at}
-use Rattle.scenario_objects.specs.Objects.{objects_of}
+use Rattle.scenario_values.specs.Tables.{optional_tables_at}
+use Rattle.scenario_values.specs.Objects.{objects_of}
 use Rattle.scenario_files.specs.Files.{files_of}
 use Rattle.scenario_idns.specs.Idns.{idns_of}
 use Rattle.scenario_plain.specs.Plain.{plain_slave_of}

@@ -7,8 +7,8 @@ use Rattle.scenario_keys.specs.declared.refusal.Rule.TheVariants.{WrongVersion, 
 use Rattle.scenario_keys.specs.declared.refusal.Refusal.{Refusal}
 use Rattle.scenario_keys.specs.Reading.{◌>>=◌, wanted, unless_refused, optional, each}
 use Rattle.scenario_keys.specs.Keys.{only_keys, needed_at, number_in, integer_in}
-use Rattle.scenario_octets.specs.Octets.{octets_at}
-use Rattle.scenario_tables.specs.Tables.{tables_at}
+use Rattle.scenario_values.specs.Octets.{octets_at}
+use Rattle.scenario_values.specs.Tables.{tables_at}
 
 -- the versions: 1 and 2
 abbrev pub version_of : ℤ → Option ℕ

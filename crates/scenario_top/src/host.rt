@@ -8,7 +8,7 @@ use arrayvec::ArrayVec;
 use ec_fields::Rows;
 use eoe::Packet;
 use scenario_keys::{Place, Stop, only_known, put};
-use scenario_octets::needed_buffer;
+use scenario_values::needed_buffer;
 use std::alloc::Global;
 use toml::Table;
 

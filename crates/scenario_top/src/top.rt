@@ -4,7 +4,7 @@ ghost use Rattle.scenario_keys.specs.Reading.{Gives};
 ghost use Rattle.scenario_top.specs.Top.{version_of, version_at, budget_at, slave_tables_at};
 
 use scenario_keys::{Place, Rule, Stop, find, integer, needed, number, refused, unless};
-use scenario_tables::needed_tables;
+use scenario_values::needed_tables;
 use std::alloc::Global;
 use toml::Table;
 
