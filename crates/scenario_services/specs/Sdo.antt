@@ -8,8 +8,8 @@ use Rattle.scenario_keys.specs.declared.refusal.Refusal.{Refusal}
 use Rattle.scenario_keys.specs.Reading.{◌>>=◌}
 use Rattle.scenario_keys.specs.Keys.{integer_at}
 use Rattle.scenario_values.specs.Octets.{octets_at}
-use Rattle.scenario_actions.specs.declared.actions.SdoAction.{SdoAction}
-use Rattle.scenario_actions.specs.declared.actions.SdoAction.TheVariants as sdo
+use Rattle.scenario_services.specs.declared.actions.SdoAction.{SdoAction}
+use Rattle.scenario_services.specs.declared.actions.SdoAction.TheVariants as sdo
 
 -- an index or a kind of list
 abbrev pub word_at : List ℕ → Place → Members → Result ℕ Refusal

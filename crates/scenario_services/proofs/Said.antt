@@ -8,8 +8,8 @@ use Rattle.scenario_keys.specs.declared.refusal.Rule.TheVariants.{Missing, Wrong
 use Rattle.scenario_keys.specs.declared.refusal.Refusal.{Refusal}
 use Rattle.scenario_keys.specs.Reading.{◌>>=◌, wanted}
 use Rattle.scenario_keys.specs.Keys.{text_in, text_at}
-use Rattle.scenario_actions.specs.declared.actions.Action.{Action}
-use Rattle.scenario_actions.specs.Actions.{action_of, given_action, action_at}
+use Rattle.scenario_services.specs.declared.actions.Action.{Action}
+use Rattle.scenario_services.specs.Actions.{action_of, given_action, action_at}
 
 -- a word that is known
 word_some : (place : Place) (a : Action) (o : Option (List ℕ)) → option_and_then action_of o ≡ Some a

@@ -10,10 +10,10 @@ use Rattle.scenario_keys.specs.declared.refusal.Stop.{Stop}
 use Rattle.scenario_keys.specs.Reading.{◌>>=◌}
 use Rattle.scenario_keys.specs.Keys.{name_at}
 use Rattle.scenario_values.specs.Octets.{octets_at}
-use Rattle.scenario_actions.specs.declared.actions.SdoAction.{SdoAction}
-use Rattle.scenario_sdo.specs.Sdo.{sdo_of}
-use Rattle.scenario_bodies.specs.Suited.{Suits}
-use Rattle.scenario_bodies.specs.Bodies.{password_at, element_at, sdo_at, read_file_at, write_file_at, read_idn_at, write_idn_at}
+use Rattle.scenario_services.specs.declared.actions.SdoAction.{SdoAction}
+use Rattle.scenario_services.specs.Sdo.{sdo_of}
+use Rattle.scenario_services.specs.Suited.{Suits}
+use Rattle.scenario_services.specs.Bodies.{password_at, element_at, sdo_at, read_file_at, write_file_at, read_idn_at, write_idn_at}
 
 -- what is read suits, where all that may follow does
 next : {A : Type 0} (slave : SlaveSpec) (read : Result A Refusal) (f : A → Result Service Refusal) → ((x : A) → IfOk (f x) (Suits slave)) → IfOk (read >>= f) (Suits slave)

@@ -6,16 +6,16 @@ ghost use Rattle.segment_plan.specs.declared.service.Service.TheVariants.{GetIp}
 ghost use Rattle.segment_plan.specs.Sound.{IsSlave, IsName, IsService, is_target};
 ghost use Rattle.scenario_keys.specs.Reading.{Gives};
 ghost use Rattle.scenario_keys.specs.Keys.{name_at};
-ghost use Rattle.scenario_bodies.specs.Suited.{Appends, Suits, sent_to};
-ghost use Rattle.scenario_bodies.specs.Bodies.{password_at, element_at, block_at, state_at, sdo_at, read_file_at, write_file_at, read_idn_at, write_idn_at, set_ip_at, target_state_at, body_of};
+ghost use Rattle.scenario_services.specs.Suited.{Appends, Suits, sent_to};
+ghost use Rattle.scenario_services.specs.Bodies.{password_at, element_at, block_at, state_at, sdo_at, read_file_at, write_file_at, read_idn_at, write_idn_at, set_ip_at, target_state_at, body_of};
 
+use crate::actions::{Action, SdoAction};
+use crate::sdo::{sdo_body, subindex, word};
 use ec_fields::{Octets, Rows, buffer_of};
 use eoe::is_block;
 use file_store::Name;
-use scenario_actions::{Action, SdoAction};
 use scenario_keys::{Place, Rule, Stop, integer_or, needed_integer, needed_name, put, unless};
 use scenario_values::needed_octets;
-use scenario_sdo::{sdo_body, subindex, word};
 use segment_plan::{Service, SlaveSpec, smaller};
 use std::alloc::Global;
 use toml::Table;
@@ -211,7 +211,7 @@ fn add_get_ip(number: u32, rows: &mut Rows<(u32, Service)>) -> Result<(), Stop>
 /// Appends what the keys of a service say, with the number of its slave. Each service is read by a function of its own, so that only its own
 /// room is filled.
 #[tactic(auto, using(crate::proofs::Suited::sdo, crate::proofs::Suited::read_file, crate::proofs::Suited::write_file, crate::proofs::Suited::read_idn, crate::proofs::Suited::write_idn), unfolding(crate::specs::Bodies::body_of))]
-pub fn add_body(
+pub(crate) fn add_body(
     alloc: Global,
     action: Action,
     table: &Table,

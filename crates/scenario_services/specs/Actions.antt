@@ -7,10 +7,10 @@ use Rattle.scenario_keys.specs.declared.refusal.Rule.TheVariants.{OutOfRange}
 use Rattle.scenario_keys.specs.declared.refusal.Refusal.{Refusal}
 use Rattle.scenario_keys.specs.Reading.{◌>>=◌, wanted}
 use Rattle.scenario_keys.specs.Keys.{only_keys, text_at}
-use Rattle.scenario_actions.specs.declared.actions.SdoAction.{SdoAction}
-use Rattle.scenario_actions.specs.declared.actions.SdoAction.TheVariants as sdo
-use Rattle.scenario_actions.specs.declared.actions.Action.{Action}
-use Rattle.scenario_actions.specs.declared.actions.Action.TheVariants as actions
+use Rattle.scenario_services.specs.declared.actions.SdoAction.{SdoAction}
+use Rattle.scenario_services.specs.declared.actions.SdoAction.TheVariants as sdo
+use Rattle.scenario_services.specs.declared.actions.Action.{Action}
+use Rattle.scenario_services.specs.declared.actions.Action.TheVariants as actions
 
 -- what a service of CoE does
 abbrev pub sdo_action_of : List ℕ → Option SdoAction

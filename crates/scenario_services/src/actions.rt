@@ -1,9 +1,9 @@
 ghost use Rattle.std.specs.Prelude.{◌≡◌, map};
-ghost use Rattle.scenario_actions.specs.Actions.{sdo_action_of, sdo_keys_of, other_action_of, action_of, keys_of};
+ghost use Rattle.scenario_services.specs.Actions.{sdo_action_of, sdo_keys_of, other_action_of, action_of, keys_of};
 
 /// What a service of CoE does.
 #[derive(Clone, Copy, Debug, PartialEq, Eq)]
-pub enum SdoAction {
+pub(crate) enum SdoAction {
     /// Writes an entry.
     Download,
     /// Reads an entry.
@@ -22,7 +22,7 @@ pub enum SdoAction {
 
 /// What a service does.
 #[derive(Clone, Copy, Debug, PartialEq, Eq)]
-pub enum Action {
+pub(crate) enum Action {
     /// A service of CoE.
     Sdo(SdoAction),
     /// Reads a file.
@@ -100,7 +100,7 @@ fn word_other(word: &str) -> Option<Action>
 }
 
 /// What a word of `do` says.
-pub fn word_action(word: &str) -> Option<Action>
+pub(crate) fn word_action(word: &str) -> Option<Action>
     ensures { result ≡ action_of word.now }
 {
     match word_sdo(word) {
@@ -110,7 +110,7 @@ pub fn word_action(word: &str) -> Option<Action>
 }
 
 /// The keys of a service.
-pub fn known_for(action: Action) -> &'static [&'static str]
+pub(crate) fn known_for(action: Action) -> &'static [&'static str]
     ensures { map (λ k. k.now) result.now ≡ keys_of action }
 {
     match action {

@@ -2,24 +2,24 @@ ghost use Rattle.std.specs.Prelude.{◌≡◌, IfOk};
 ghost use Rattle.toml.specs.View.{table_view};
 ghost use Rattle.segment_plan.specs.Sound.{IsSdo};
 ghost use Rattle.scenario_keys.specs.Reading.{Gives};
-ghost use Rattle.scenario_sdo.specs.Sdo.{word_at, sub_at, sdo_of};
+ghost use Rattle.scenario_services.specs.Sdo.{word_at, sub_at, sdo_of};
 
+use crate::actions::SdoAction;
 use object_dictionary::SdoService;
-use scenario_actions::SdoAction;
 use scenario_keys::{Place, Stop, needed_integer};
 use scenario_values::needed_octets;
 use std::alloc::Global;
 use toml::Table;
 
 /// An index or a kind of list: 0 to 65,535.
-pub fn word(table: &Table, key: &str, place: Place) -> Result<u16, Stop>
+pub(crate) fn word(table: &Table, key: &str, place: Place) -> Result<u16, Stop>
     ensures { Gives (λ n. n) result (word_at key.now place (table_view table.now)) }
 {
     Ok(needed_integer(table, key, 0, 0xFFFF, place)? as u16)
 }
 
 /// A subindex: 0 to 255.
-pub fn subindex(table: &Table, key: &str, place: Place) -> Result<u8, Stop>
+pub(crate) fn subindex(table: &Table, key: &str, place: Place) -> Result<u8, Stop>
     ensures { Gives (λ n. n) result (sub_at key.now place (table_view table.now)) }
 {
     Ok(needed_integer(table, key, 0, 0xFF, place)? as u8)
@@ -27,7 +27,7 @@ pub fn subindex(table: &Table, key: &str, place: Place) -> Result<u8, Stop>
 
 /// What the keys of a service of CoE say.
 #[tactic(auto, unfolding(crate::specs::Sdo::sdo_of))]
-pub fn sdo_body(
+pub(crate) fn sdo_body(
     alloc: Global,
     action: SdoAction,
     table: &Table,

@@ -14,10 +14,10 @@ use Rattle.scenario_keys.specs.declared.refusal.Refusal.{Refusal}
 use Rattle.scenario_keys.specs.Reading.{◌>>=◌, unless_refused}
 use Rattle.scenario_keys.specs.Keys.{integer_at, integer_or, name_at}
 use Rattle.scenario_values.specs.Octets.{octets_at}
-use Rattle.scenario_actions.specs.declared.actions.SdoAction.{SdoAction}
-use Rattle.scenario_actions.specs.declared.actions.Action.{Action}
-use Rattle.scenario_actions.specs.declared.actions.Action.TheVariants as actions
-use Rattle.scenario_sdo.specs.Sdo.{word_at, sub_at, sdo_of}
+use Rattle.scenario_services.specs.declared.actions.SdoAction.{SdoAction}
+use Rattle.scenario_services.specs.declared.actions.Action.{Action}
+use Rattle.scenario_services.specs.declared.actions.Action.TheVariants as actions
+use Rattle.scenario_services.specs.Sdo.{word_at, sub_at, sdo_of}
 
 -- the password of a file
 abbrev pub password_at : Place → Members → Result ℕ Refusal
