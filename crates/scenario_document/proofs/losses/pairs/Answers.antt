@@ -5,7 +5,7 @@ use Rattle.scenario_keys.specs.declared.place.Place.TheVariants.{Top}
 use Rattle.scenario_keys.specs.Keys.{two_numbers_in}
 use Rattle.scenario_keys.proofs.Each.{goes_on, ends, whole}
 use Rattle.scenario_keys.proofs.Items.{list_of_items_view}
-use Rattle.scenario_top.proofs.losses.pairs.Goals as goal
+use Rattle.scenario_document.proofs.losses.pairs.Goals as goal
 
 pub returns-in_err-pair_of-clause-gives : goal.returns-in_err-pair_of-clause-gives
 returns-in_err-pair_of-clause-gives c =

@@ -2,7 +2,7 @@ ghost use Rattle.std.specs.Prelude.{◌≡◌, ◌≤◌, ◌+◌, length, take,
 ghost use Rattle.std.specs.List.{list_any};
 ghost use Rattle.segment_plan.specs.Sound.{is_same_name, is_same_station, repeated_name, repeated_station, are_lost, is_bounded, IsLaid, IsPlan};
 ghost use Rattle.scenario_keys.specs.Reading.{Gives};
-ghost use Rattle.scenario_whole.specs.Whole.{unless_repeated, whole};
+ghost use Rattle.scenario_document.specs.Whole.{unless_repeated, whole};
 
 use scenario_keys::{Place, Rule, Stop, refused, unless};
 use segment_plan::{Scenario, SlaveSpec, bound};

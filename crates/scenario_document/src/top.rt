@@ -1,7 +1,7 @@
 ghost use Rattle.std.specs.Prelude.{◌≡◌, ◌≤◌, map, length, IfOk, IfSome};
 ghost use Rattle.toml.specs.View.{table_view};
 ghost use Rattle.scenario_keys.specs.Reading.{Gives};
-ghost use Rattle.scenario_top.specs.Top.{version_of, version_at, budget_at, slave_tables_at};
+ghost use Rattle.scenario_document.specs.Top.{version_of, version_at, budget_at, slave_tables_at};
 
 use scenario_keys::{Place, Rule, Stop, find, integer, needed, number, refused, unless};
 use scenario_values::needed_tables;
@@ -19,7 +19,7 @@ fn version_of(number: i64) -> Option<u32>
 }
 
 /// The version of the format, which comes before all else.
-pub fn version(table: &Table) -> Result<u32, Stop>
+pub(crate) fn version(table: &Table) -> Result<u32, Stop>
     ensures { Gives (λ n. n) result (version_at (table_view table.now)) }
 {
     let value = needed(table, "version", Place::Top)?;
@@ -30,7 +30,7 @@ pub fn version(table: &Table) -> Result<u32, Stop>
 }
 
 /// The most frames that a run sends, where the key is there.
-pub fn budget(table: &Table) -> Result<Option<u32>, Stop>
+pub(crate) fn budget(table: &Table) -> Result<Option<u32>, Stop>
     ensures gives { Gives (λ n. n) result (budget_at (table_view table.now)) }
     ensures within { IfOk result (λ o. IfSome o (λ n. (1 ≤ n) × (n ≤ 100000000))) }
 {
@@ -44,7 +44,7 @@ pub fn budget(table: &Table) -> Result<Option<u32>, Stop>
 }
 
 /// The tables of the slaves, of which there is one at least.
-pub fn slave_tables(alloc: Global, table: &Table) -> Result<Vec<&Table>, Stop>
+pub(crate) fn slave_tables(alloc: Global, table: &Table) -> Result<Vec<&Table>, Stop>
     ensures gives { Gives (λ ts. map (λ t. table_view t.now) ts.items) result (slave_tables_at (table_view table.now)) }
     ensures within { IfOk result (λ ts. (1 ≤ length ts.items) × (length ts.items ≤ 16)) }
 {

@@ -3,7 +3,7 @@ ghost use Rattle.toml.specs.View.{view, items_view, table_view};
 ghost use Rattle.scenario_keys.specs.declared.place.Place.TheVariants.{Top};
 ghost use Rattle.scenario_keys.specs.Reading.{Gives, each};
 ghost use Rattle.scenario_keys.specs.Keys.{two_numbers_in, list_of};
-ghost use Rattle.scenario_top.specs.Losses.{lost_in, lose_of, lose_in, lose_at};
+ghost use Rattle.scenario_document.specs.Losses.{lost_in, lose_of, lose_in, lose_at};
 
 use ec_fields::Rows;
 use scenario_keys::{Place, Rule, Stop, find, number_in, pair_of, put, refused, unless};
@@ -61,7 +61,7 @@ fn lose_in(alloc: Global, value: &Value) -> Result<Rows<(u32, u32)>, Stop>
 }
 
 /// The lost frames: all pairs first, then how many they are, then their numbers.
-pub fn lose(alloc: Global, table: &Table) -> Result<Rows<(u32, u32)>, Stop>
+pub(crate) fn lose(alloc: Global, table: &Table) -> Result<Rows<(u32, u32)>, Stop>
     ensures gives { Gives (λ ps. ps) result (lose_at (table_view table.now)) }
     ensures many { IfOk result (λ ps. length ps ≤ 4096) }
 {

@@ -2,7 +2,7 @@ ghost use Rattle.std.specs.Prelude.{◌≡◌, ◌≤◌, [], map, length, IfOk,
 ghost use Rattle.toml.specs.View.{table_view};
 ghost use Rattle.segment_plan.specs.Sound.{IsPacket};
 ghost use Rattle.scenario_keys.specs.Reading.{Gives};
-ghost use Rattle.scenario_top.specs.Top.{packet_of, packets_of};
+ghost use Rattle.scenario_document.specs.Top.{packet_of, packets_of};
 
 use arrayvec::ArrayVec;
 use ec_fields::Rows;
@@ -23,7 +23,7 @@ fn packet(table: &Table, number: u32, packet: &mut Packet) -> Result<(), Stop>
 }
 
 /// The packets of the host in order.
-pub fn packets(alloc: Global, tables: &[&Table]) -> Result<Rows<Packet>, Stop>
+pub(crate) fn packets(alloc: Global, tables: &[&Table]) -> Result<Rows<Packet>, Stop>
     requires { length tables.now ≤ 4096 }
     ensures gives { Gives (λ ps. ps) result (packets_of (map (λ t. table_view t.now) tables.now)) }
     ensures many { IfOk result (λ ps. length ps ≡ length tables.now) }
