@@ -88,7 +88,7 @@ fn made_again(
 }
 
 // A run that is made again, and counted.
-fn replayed(alloc: Global, plan: &Scenario, book: &Book) -> Result<Replayed, NoMemory>
+fn counted(alloc: Global, plan: &Scenario, book: &Book) -> Result<Replayed, NoMemory>
     requires { IsPlan plan.now }
 {
     let rows = book.frames.as_slice();
@@ -118,7 +118,7 @@ pub fn replay(alloc: Global, octets: &[u8]) -> Replayed {
     if run(alloc, &plan, &mut book) == Ending::NoMemory {
         return Replayed::NoMemory;
     }
-    match replayed(alloc, &plan, &book) {
+    match counted(alloc, &plan, &book) {
         Ok(replayed) => replayed,
         Err(NoMemory) => Replayed::NoMemory,
     }
