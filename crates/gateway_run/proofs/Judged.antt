@@ -15,7 +15,7 @@ use Rattle.gateway_core.specs.declared.framing.GatewayFault.{GatewayFault}
 use Rattle.run_book.specs.declared.book.GramOut.{GramOut}
 use Rattle.run_record.specs.of_run_notes.Notes.{stations_of}
 use Rattle.run_record.specs.Session.{SessionState}
-use Rattle.run_notes.proofs.Stations.{stands_at_home}
+use Rattle.run_record.proofs.of_run_notes.Stations.{stands_at_home}
 use Rattle.gateway_run.specs.Account.{IsFree, Spells, Judges.ignored as is_ignored, Judges.refused as is_refused, Judges.too_many, Judges.queues}
 use Rattle.gateway_run.specs.Heard.{IsOwed, IsPassedOn, IsJudged}
 use Rattle.gateway_run.specs.Desk.{IsOpen, Passes, IsTaken}

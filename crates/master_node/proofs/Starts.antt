@@ -1,6 +1,6 @@
 -- WHAT MIGHT BEGIN AT A VISIT did, or nothing is left that might; and of all other slaves nothing changes.
 use Rattle.std.proofs.Common.{◌≡◌, ◌==◌, ◌+◌, ◌<◌, ℕ, zero, suc, Bool, true, false, Option, Some, None, List, [], ◌∷◌, refl, sym, ap, ◌∙◌, subst, arith}
-use Rattle.std.specs.Prelude.{IfSome, length, map, nat_lt, option_map, slice_get, if◌then◌else◌}
+use Rattle.std.specs.Prelude.{IfSome, length, map, nat_lt, slice_get}
 use Rattle.std.proofs.lemmas.Bool.{eq-eqb, eqb-true, ltb-false}
 use Rattle.datagrams.specs.Datagram as Raw
 use Rattle.life_runs.specs.of_frame_view.View.{Lens}
@@ -15,7 +15,7 @@ use Rattle.master_hand.specs.Spoken.{Asked, acknowledged, is_followed, is_passed
 use Rattle.master_hand.specs.declared.hand.InHand.{InHand}
 use Rattle.master_hand.specs.declared.laying.Laid.{Laid}
 use Rattle.master_side.specs.Recall.{BeginsNone}
-use Rattle.master_side.specs.Shown.{SideShows, wish_begun, wished}
+use Rattle.master_side.specs.Shown.{SideShows, wish_begun}
 use Rattle.master_side.specs.declared.carried.Wish.{Wish}
 use Rattle.master_side.specs.declared.hand.Hand.{Ghosts}
 use Rattle.master_side.specs.of_link_mails.Body.{Body}
@@ -31,13 +31,13 @@ use Rattle.master_node.specs.Begins.{NoneMore, PacketFirst, begun_of}
 use Rattle.master_node.specs.Coming.{IsComing, IsLaid, next_of, wish_of}
 use Rattle.master_node.specs.Eager.{recall_of}
 use Rattle.master_node.specs.Filling.{IsAmong, StopFills}
-use Rattle.master_node.specs.Kept.{StopKept, StopStays}
+use Rattle.master_node.specs.Kept.{StopStays}
 use Rattle.master_node.specs.Resting.{MayBegin}
 use Rattle.master_node.specs.Shows.{IsUnder, side_shows}
-use Rattle.master_node.specs.Starts.{AllBegin, HasStarted, IsByMails, LaysPacket, NeverBegins, NoPacket, NoneComes, SideFrees, WaitsFor}
+use Rattle.master_node.specs.Starts.{AllBegin, AllUnvisited, HasStarted, IsByMails, LaysPacket, NeverBegins, NoPacket, NoneComes, SideFrees, WaitsFor}
 use Rattle.master_node.specs.declared.coming.Coming.{Coming}
 use Rattle.master_node.specs.declared.lan.Lan.{Lan}
-use Rattle.master_node.proofs.Frees.{MightBegin, StillLife, frees, might_still, still_life, still_on}
+use Rattle.master_node.proofs.Frees.{MightBegin, StillLife, frees, might_still, still_life}
 use Rattle.master_node.proofs.Kepts.{shows_kept}
 use Rattle.master_node.proofs.Lefts.{in_here, in_tail, in_there}
 
@@ -243,21 +243,23 @@ waits_other l place (Some (Coming.State target)) n = tt
 
 -- what has started stays
 pub started_same : {G : Ghosts InHand} (lens : ℕ → Lens) (l : Lan) (visited : List ℕ) (i : ℕ) (begun : Option (Stated.Service Asked)) (a : Leads) (s t : Stop InHand G) → t.under ≡ s.under → recall_of t ≡ recall_of s → HasStarted lens l visited i begun a s → HasStarted lens l visited i begun a t
-started_same lens l visited i begun a s t u r h = record { under = λ w. h.under (sym u ∙ w); ends = λ w k. h.ends w (sym (ap (λ z. z.knows) r) ∙ k) }
+started_same lens l visited i begun a s t u r h = record { under = λ w. h.under (sym u ∙ w); ends = λ w k. h.ends w (sym (ap (λ z. z.knows) r) ∙ k); unvisited = λ w. h.unvisited (sym u ∙ w) }
 
 -- it does where another slave is visited
 pub started_there : {G : Ghosts InHand} (lens : ℕ → Lens) (l m : Lan) (visited : List ℕ) (place j : ℕ) (begun now : Option (Stated.Service Asked)) (a : Leads) (s : Stop InHand G) → NoneMore l m → (j ≡ place → ⊥) → now ≡ begun → HasStarted lens l visited j begun a s → HasStarted lens m (place ∷ visited) j now a s
 started_there lens l m visited place j begun now a s fewer n e h = record {
   under = λ w. in_there j place visited (h.under w);
   ends = λ w k b f. let g = h.ends (in_behind j place visited n w) k b (sym e ∙ f) in record { script = g.script; packet = fewer j g.packet };
+  unvisited = λ w. e ∙ h.unvisited w;
 }
 
 -- and the one that is
-pub started_here : {G : Ghosts InHand} (lens : ℕ → Lens) (recover made : ℕ) (l m : Lan) (visited : List ℕ) (place : ℕ) (now what : Option (Stated.Service Asked)) (a : Leads) (s u : Stop InHand G) → NoneMore l m → now ≡ what → WaitsYet lens recover made a s → LeavesNone lens recover made l place what s u →
+pub started_here : {G : Ghosts InHand} (lens : ℕ → Lens) (recover made : ℕ) (l m : Lan) (visited : List ℕ) (place : ℕ) (now what : Option (Stated.Service Asked)) (a : Leads) (s u : Stop InHand G) → NoneMore l m → now ≡ what → WaitsYet lens recover made a s → LeavesNone lens recover made l place what s u → (u.under ≡ false → what ≡ None) →
     HasStarted lens m (place ∷ visited) place now a u
-started_here lens recover made l m visited place now what a s u fewer e w h = record {
+started_here lens recover made l m visited place now what a s u fewer e w h n = record {
   under = λ t. in_here place place visited (eq-eqb place place refl);
   ends = λ t k b f. let g = h a w k b (sym e ∙ f) in record { script = g.0; packet = fewer place g.1 };
+  unvisited = λ t. e ∙ n t;
 }
 
 -- what may come at a place
@@ -267,7 +269,7 @@ some_so l place coming None first comes none mails = tt
 some_so l place coming (Some s) first comes none mails = record { comes = comes; first = first; none = λ e. none e; mails = mails }
 
 -- THE FRAME IS MADE: of all slaves
-pub all_begin : {G : Ghosts InHand} (lens : ℕ → Lens) (recover : ℕ) (octets : List ℕ) (l : Lan) (visited : List ℕ) (o : ℕ → Option (Stated.Service Asked)) (i : ℕ) (as' : List Leads) (us : List Turn) (ss : List (Stop InHand G)) →
+all_begin : {G : Ghosts InHand} (lens : ℕ → Lens) (recover : ℕ) (octets : List ℕ) (l : Lan) (visited : List ℕ) (o : ℕ → Option (Stated.Service Asked)) (i : ℕ) (as' : List Leads) (us : List Turn) (ss : List (Stop InHand G)) →
     AllFrom (λ j a s. HasStarted lens l visited j (o j) a s) i as' ss → AllBoth (λ u s. IsUnder lens recover octets u s) us ss → ((k j : ℕ) → j ≡ i + k → begun_of us k ≡ o j) → AllBegin lens l i (map (λ s. recall_of s) ss) as' us
 all_begin lens recover octets l visited o i [] [] [] h w f = tt
 all_begin lens recover octets l visited o i [] us (s ∷ ss) h w f = absurd h
@@ -278,3 +280,20 @@ all_begin lens recover octets l visited o i (a ∷ as') (u ∷ us) (s ∷ ss) h 
   λ k b v e. h.0.ends (h.0.under (sym w.0.under ∙ v)) k b (sym (f 0 i (omega arith)) ∙ e),
   all_begin lens recover octets l visited o (suc i) as' us ss h.1 w.1 (λ k j e. f (suc k) j (omega (arith, e))),
 )
+
+-- and without a visit by the frame nothing came into hand
+all_unvisited : {G : Ghosts InHand} (lens : ℕ → Lens) (recover : ℕ) (octets : List ℕ) (l : Lan) (visited : List ℕ) (o : ℕ → Option (Stated.Service Asked)) (i : ℕ) (as' : List Leads) (us : List Turn) (ss : List (Stop InHand G)) →
+    AllFrom (λ j a s. HasStarted lens l visited j (o j) a s) i as' ss → AllBoth (λ u s. IsUnder lens recover octets u s) us ss → ((k j : ℕ) → j ≡ i + k → begun_of us k ≡ o j) → AllUnvisited us
+all_unvisited lens recover octets l visited o i as' [] ss h w f = tt
+all_unvisited lens recover octets l visited o i as' (u ∷ us) [] h w f = absurd w
+all_unvisited lens recover octets l visited o i [] (u ∷ us) (s ∷ ss) h w f = absurd h
+all_unvisited lens recover octets l visited o i (a ∷ as') (u ∷ us) (s ∷ ss) h w f = (
+  λ v. f 0 i (omega arith) ∙ h.0.unvisited (sym w.0.under ∙ v),
+  all_unvisited lens recover octets l visited o (suc i) as' us ss h.1 w.1 (λ k j e. f (suc k) j (omega (arith, e))),
+)
+
+pub all_start : {G : Ghosts InHand} (lens : ℕ → Lens) (recover : ℕ) (octets : List ℕ) (l : Lan) (visited : List ℕ) (o : ℕ → Option (Stated.Service Asked)) (as' : List Leads) (us : List Turn) (ss : List (Stop InHand G)) →
+    AllFrom (λ j a s. HasStarted lens l visited j (o j) a s) 0 as' ss → AllBoth (λ u s. IsUnder lens recover octets u s) us ss → ((k : ℕ) → begun_of us k ≡ o k) → AllBegin lens l 0 (map (λ s. recall_of s) ss) as' us × AllUnvisited us
+all_start lens recover octets l visited o as' us ss h w f =
+    let begun : (k j : ℕ) → j ≡ 0 + k → begun_of us k ≡ o j = λ k j q. f k ∙ ap o (let w : k ≡ j = omega (arith, q) in w) in
+    (all_begin lens recover octets l visited o 0 as' us ss h w begun, all_unvisited lens recover octets l visited o 0 as' us ss h w begun)

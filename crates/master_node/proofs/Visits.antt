@@ -161,14 +161,26 @@ module _ {G : Ghosts InHand} (coming : Option Coming) (result : Bool) (place : �
   pub frame : (lens : ℕ → Lens) (recover made index : ℕ) (begun : ℕ → Option (Service Asked)) (left next : List ℕ) (as' : List (Lived Asked Reply)) (octets octets' : List ℕ) (n n2 n3 : ℕ) → n2 ≡ n →
       FrameMade (λ ds i a s. StopFills lens recover made begun index left ds i a s) octets n as' s1 →
       (FrameMade (λ ds i a s. StopFills lens recover made begun index left ds i a s) octets n2 as' s2 → FrameMade (λ ds i a s. StopFills lens recover made (now begun) index next ds i a s) octets' n3 as' s3) →
-      FrameMade (λ ds i a s. StopFills lens recover made (now begun) index next ds i a s) octets' n3 as' s4
+      FrameMade (λ ds i a s. StopFills lens recover made (now begun) index next ds i a s) octets' n3 as' s3
   frame lens recover made index begun left next as' octets octets' n n2 n3 e f v =
-      frame_each (λ ds i a s. StopFills lens recover made (now begun) index next ds i a s) (λ s t. SomeKept s t) (λ ds i a s. StopFills lens recover made (now begun) index next ds i a s)
-      (λ ds i a s t p k. fills_kept lens recover made (now begun) index k.number next ds i a s t k.kept p) octets' n3 as' s3 s4
-      (v (frame_each (λ ds i a s. StopFills lens recover made begun index left ds i a s) (λ s t. StopStays s t) (λ ds i a s. StopFills lens recover made begun index left ds i a s)
+      v (frame_each (λ ds i a s. StopFills lens recover made begun index left ds i a s) (λ s t. StopStays s t) (λ ds i a s. StopFills lens recover made begun index left ds i a s)
       (λ ds i a s t p k. fills_kept lens recover made begun index s.side.hand.laying.number left ds i a s t k p) octets n2 as' s1 s2 (subst (λ z. FrameMade (λ ds i a s. StopFills lens recover made begun index left ds i a s) octets z as' s1) (sym e) f)
-      (steps_each (λ s t. StopStays s t × IsLaid coming t.side.hand.laying.laid) (λ s t. StopStays s t) place s1 s2 (λ s. stop_same s) (λ s t k. k.0) laid)))
-      kept
+      (steps_each (λ s t. StopStays s t × IsLaid coming t.side.hand.laying.laid) (λ s t. StopStays s t) place s1 s2 (λ s. stop_same s) (λ s t k. k.0) laid))
+
+  -- and behind it what came into hand is passed by
+  pub frame_kept : (lens : ℕ → Lens) (recover made index : ℕ) (begun : ℕ → Option (Service Asked)) (next : List ℕ) (as' : List (Lived Asked Reply)) (octets : List ℕ) (n : ℕ) →
+      FrameMade (λ ds i a s. StopFills lens recover made (now begun) index next ds i a s) octets n as' s3 → FrameMade (λ ds i a s. StopFills lens recover made (now begun) index next ds i a s) octets n as' s4
+  frame_kept lens recover made index begun next as' octets n f =
+      frame_each (λ ds i a s. StopFills lens recover made (now begun) index next ds i a s) (λ s t. SomeKept s t) (λ ds i a s. StopFills lens recover made (now begun) index next ds i a s)
+      (λ ds i a s t p k. fills_kept lens recover made (now begun) index k.number next ds i a s t k.kept p) octets n as' s3 s4 f kept
+
+  -- what came into hand of the slave that is visited
+  pub now_here : (begun : ℕ → Option (Service Asked)) (t u : Stop InHand G) (spot : ℕ) → slice_get s2 place ≡ Some t → u.place ≡ t.place → u.place ≡ spot → now begun spot ≡ wish_begun result (wish_of coming) (ready_of t.side.hand.laying)
+  now_here begun t u spot is p q = begun_here begun here what spot (sym q ∙ p ∙ ap place_of (sym is)) ∙ ap came_of is
+
+  -- nothing did
+  pub none_here : (t : Stop InHand G) → slice_get s2 place ≡ Some t → wish_begun result (wish_of coming) (ready_of t.side.hand.laying) ≡ None → what ≡ None
+  none_here t is n = ap came_of is ∙ n
 
   -- THE SLAVE GOES ON
   all_go : StepsAt (λ s v. Goes coming result (slice_get s2 place) s v) place s0 s4

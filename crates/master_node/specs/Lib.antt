@@ -42,6 +42,9 @@ pub mod Listing
 pub mod Arrivals
 pub mod Eager
 pub mod Resting
+pub mod Serving
+pub mod Passes
+pub mod Dropped
 pub mod Entering
 pub mod Starts
 pub mod Recalled

@@ -105,6 +105,7 @@ LaysPacket (Some (Coming.State target)) laid = ⊤
 pub record HasStarted {G : Ghosts InHand} (lens : ℕ → Lens) (l : Lan) (visited : List ℕ) (i : ℕ) (begun : Option (Stated.Service Asked)) (a : Leads) (s : Stop InHand G) : Type 0 where
   pub under : s.under ≡ true → is_in i visited ≡ true
   pub ends : is_in i visited ≡ true → knows s.side.hand.course ≡ true → MayBegin lens a → begun ≡ None → IsAtEnd lens l i a
+  pub unvisited : s.under ≡ false → begun ≡ None
 
 -- all slaves, by the places that were visited so far
 pub record HaveStarted {G : Ghosts InHand} (lens : ℕ → Lens) (l : Lan) (begun : ℕ → Option (Stated.Service Asked)) (as' : List Leads) (ss : List (Stop InHand G)) : Type 0 where

@@ -42,7 +42,7 @@ pub struct MasterNode {
 }
 
 impl MasterNode {
-    ghost use Rattle.std.specs.Prelude.{◌≡◌, ◌<◌, ◌≤◌, ℕ, List, true, false, vec_len, length};
+    ghost use Rattle.std.specs.Prelude.{◌≡◌, ◌<◌, ◌≤◌, ◌^◌, suc, ℕ, List, true, false, vec_len, length};
     ghost use Rattle.datagrams.specs.Datagram as Raw;
     ghost use Rattle.datagrams.specs.Frame.{IsBegun};
     ghost use Rattle.std.specs.Prelude.{◌↔◌};
@@ -55,6 +55,9 @@ impl MasterNode {
     ghost use Rattle.master_tour.specs.Walks.{StepsAt};
     ghost use Rattle.master_node.specs.declared.coming.Coming.{Coming};
     ghost use Rattle.master_node.specs.Appends.{AppendsMail};
+    ghost use Rattle.master_node.specs.Serving.{FitsAt, IsAsked, ServedShows, ServedUnder, mails_in, run_lead};
+    ghost use Rattle.master_node.specs.Passes.{BeginsFrame, EndsFrame, IsPassing};
+    ghost use Rattle.served_runs.specs.Served.{Keyed, Serves, ServedTurn, IsServedFrame, MayAsk, asked_at};
     ghost use Rattle.master_node.specs.Shows.{WaitsNone};
     ghost use Rattle.master_node.specs.Kept.{TourKept, TourOn};
     ghost use Rattle.master_node.specs.Coming.{PassesBy, CameBy};
@@ -75,7 +78,7 @@ impl MasterNode {
     ghost use Rattle.master_node.specs.Rooms.{SendsSame, Takes, area_at, area_in};
     ghost use Rattle.master_node.specs.Asks.{AllAsk};
     ghost use Rattle.master_node.specs.Eager.{AllTakeUp, AllVisit, EagerFrom, EagerOn, recalls};
-    ghost use Rattle.master_node.specs.Starts.{AllBegin};
+    ghost use Rattle.master_node.specs.Starts.{AllBegin, AllUnvisited};
     ghost use Rattle.master_tour.specs.declared.stop.Stand.{Stand};
     ghost use Rattle.std.specs.Prelude.{None};
     ghost use Rattle.master_node.specs.Toured.{StaysPut, TakesPart, IsBare, HasVisited, stop_share, turn_share, tour_of};
@@ -126,6 +129,7 @@ impl MasterNode {
         ensures made { Makes self.old.lan self.new.lan }
         ensures takes { TakesOn [] self.old.lan self.new.lan }
         ensures list { self.new.list ≡ self.old.list }
+        ensures number { self.new.made ≡ self.old.made }
     {
         if self.tour.opened < self.tour.stops.len() || !self.lan.has_host() {
             return;
@@ -173,6 +177,7 @@ impl MasterNode {
         ensures fewer { NoneMore self.old.lan self.new.lan }
         ensures events { self.new.list.count ≤ self.old.list.count + 1 }
         ensures lists { StepsAt (λ p q. ListsOne place coming self.old self.new p q) place self.old.posts.items self.new.posts.items }
+        ensures mails { mails_in self.new ≡ mails_in self.old }
     {
         match coming {
             None => {}
@@ -202,6 +207,7 @@ impl MasterNode {
         ensures fewer { NoneMore self.old.lan self.new.lan }
         ensures events { self.new.list.count ≤ self.old.list.count + 1 }
         ensures lists { StepsAt (λ p q. ListsOne place (where_began began coming) self.old self.new p q) place self.old.posts.items self.new.posts.items }
+        ensures mails { mails_in self.new ≡ mails_in self.old }
     {
         if began {
             self.begun(place, coming);
@@ -231,6 +237,8 @@ impl MasterNode {
         ensures made { Makes self.old.lan self.new.lan }
         ensures eager { All WaitsNone self.old.posts.items → holds_at (λ s. s.under) self.old.tour.stops.items place ≡ false → EagerOn self.old self.new }
         ensures events { self.new.list.count ≤ self.old.list.count + 1 }
+        ensures serves { (lens : ℕ → Lens) (recover made : ℕ) (left next : List ℕ) (ws : List Serves) → AreDistinct (map (λ w. lived_of (run_lead w)) ws) → is_in place left ≡ true → is_in place next ≡ false → ((k : ℕ) → is_in k next ≡ true → is_in k left ≡ true) →
+            IsPassing lens recover made left self.old into.old.items ws → IsPassing lens recover made (if result then next else left) self.new into.new.items ws }
     {
         let index = (self.made % 256) as u8;
         let coming = self.coming(place);
@@ -256,6 +264,8 @@ impl MasterNode {
         ensures lan { Happens 16 self.old.lan self.new.lan }
         ensures made { Makes self.old.lan self.new.lan }
         ensures eager { All WaitsNone self.old.posts.items → IsBare self.old → length into.old.items ≡ 16 → EagerOn self.old self.new }
+        ensures serves { (lens : ℕ → Lens) (recover made : ℕ) (ws : List Serves) → AreDistinct (map (λ w. lived_of (run_lead w)) ws) → ((left : List ℕ) → IsPassing lens recover made left self.old into.old.items ws) → BeginsFrame self.old into.old.items (map run_lead ws) →
+            (left : List ℕ) × IsPassing lens recover made left self.new into.new.items ws × EndsFrame left self.new (map run_lead ws) }
     {
         for _ in 0..SLAVES {
             let Some(place) = self.tour.due() else {
@@ -277,11 +287,13 @@ impl MasterNode {
         ensures led { (lens : ℕ → Lens) (recover retry missed number : ℕ) (from : Before) (as' : List Leads) → length self.old.lan.happened ≤ 1 → HasTaken from.switch [] self.old.lan → IsUnlisted from.forwards self.old → list_any (λ s. is_live s.stand) self.old.tour.stops.items ≡ true → MasterShows lens recover retry self.old missed as' →
             (us : List Turn) × IsLedFrame lens number into.new.items as' us × MasterUnder lens recover retry self.new into.new.items missed us × PacketsBegin from.switch us self.new.lan × (tour_of self.new ≡ tour_of self.old) ×
             IsOfTour (λ s. stop_share s) (λ k. holds_at is_live_lead as' k) (frame_size into.new.items) (λ k. area_at lens as' k) (tour_of self.old) self.new.tour.stops.items (length (seen lens into.new.items)) self.new.tour.visit.items × ServicesBegin from.forwards as' us self.new ×
-            AllBegin lens self.new.lan 0 (recalls self.new) as' us }
+            AllBegin lens self.new.lan 0 (recalls self.new) as' us × AllUnvisited us }
         ensures joins { JoinsKept self.old self.new }
         ensures lan { Happens 16 self.old.lan self.new.lan }
         ensures made { Makes self.old.lan self.new.lan }
         ensures eager { (lens : ℕ → Lens) (recover retry missed : ℕ) (as' : List Leads) → MasterShows lens recover retry self.old missed as' → EagerFrom self.old self.new }
+        ensures serves { (lens : ℕ → Lens) (recover retry missed made : ℕ) (ws : List Serves) → list_any (λ s. is_live s.stand) self.old.tour.stops.items ≡ true → suc made < 2 ^ 32 → ServedShows lens recover retry self.old missed made ws →
+            (vs : List ServedTurn) × IsServedFrame lens made into.new.items ws vs × ServedUnder lens recover retry (record self.new { made = suc made }) into.new.items missed made vs × (self.new.made ≡ made) }
     {
         self.tour.begin(into);
         self.fill(into);
@@ -295,13 +307,14 @@ impl MasterNode {
     /// what is remembered of its visits; and behind its visit no mail is left that could be held. Where each slave was given up for good or rests and no packet
     /// waits at any port, a packet of the host comes in, if one is left. The packets that came into hand are just those that leave their ports of the switch, each the oldest there.
     /// Just the services that came into hand are listed as begun, each with where it comes from and its number there.
+    /// Of a slave that has no datagram in the frame nothing came into hand. While mails are passed on the frame is just so that of a serving.
     pub fn next(&mut self, into: &mut FrameBuf) -> Next
         ensures idle { (result ≡ Next.Idle) ↔ (list_any (λ s. is_live s.stand) self.old.tour.stops.items ≡ false) }
         ensures posts { vec_len self.new.posts ≡ vec_len self.old.posts }
         ensures led { result ≡ Next.Frame → (lens : ℕ → Lens) (recover retry missed number : ℕ) (as' : List Leads) → MasterShows lens recover retry self.old missed as' →
             (us : List Turn) × IsLedFrame lens number into.new.items as' us × MasterUnder lens recover retry self.new into.new.items missed us }
         ensures begun { result ≡ Next.Frame → (lens : ℕ → Lens) (recover retry missed number : ℕ) (as' : List Leads) → MasterShows lens recover retry self.old missed as' →
-            (us : List Turn) × IsLedFrame lens number into.new.items as' us × MasterUnder lens recover retry self.new into.new.items missed us × PacketsBegin self.old.lan.switch us self.new.lan × ServicesBegin (λ k. forwards_at self.old.posts.items k) as' us self.new × AllBegin lens self.new.lan 0 (recalls self.new) as' us }
+            (us : List Turn) × IsLedFrame lens number into.new.items as' us × MasterUnder lens recover retry self.new into.new.items missed us × PacketsBegin self.old.lan.switch us self.new.lan × ServicesBegin (λ k. forwards_at self.old.posts.items k) as' us self.new × AllBegin lens self.new.lan 0 (recalls self.new) as' us × AllUnvisited us }
         ensures toured { result ≡ Next.Frame → (lens : ℕ → Lens) (recover retry missed : ℕ) (as' : List Leads) (us : List Turn) → MasterShows lens recover retry self.old missed as' → MasterUnder lens recover retry self.new into.new.items missed us →
             (tour_of self.new ≡ tour_of self.old) × IsOfTour (λ u. turn_share u) (λ k. holds_at is_live_lead as' k) (frame_size into.new.items) (λ k. area_at lens as' k) (tour_of self.old) us (length (seen lens into.new.items)) self.new.tour.visit.items }
         ensures asks { result ≡ Next.Frame → (lens : ℕ → Lens) (recover retry missed : ℕ) (us : List Turn) → MasterUnder lens recover retry self.new into.new.items missed us → AllAsk (seen lens into.new.items) us }
@@ -312,6 +325,8 @@ impl MasterNode {
         ensures joins { JoinsKept self.old self.new }
         ensures happened { HappensSo self.old.lan self.new.lan }
         ensures made { (self.new.lan.ports ≡ self.old.lan.ports) × AreOfMaking self.new.lan.happened }
+        ensures serves { result ≡ Next.Frame → (lens : ℕ → Lens) (recover retry missed made : ℕ) (ws : List Serves) → suc made < 2 ^ 32 → ServedShows lens recover retry self.old missed made ws →
+            (vs : List ServedTurn) × IsServedFrame lens made into.new.items ws vs × ServedUnder lens recover retry self.new into.new.items missed made vs }
     {
         self.list.clear();
         self.lan.begins();
@@ -367,7 +382,8 @@ impl MasterNode {
         self.tour.stops[slave as usize].is_live()
     }
 
-    /// A mail waits to be passed on to a slave, behind those that do; `false` exactly where 64 do already, and then nothing changed. `key` names its asker.
+    /// A mail waits to be passed on to a slave, behind those that do; `false` exactly where 64 do already, and then nothing changed. `key` names its asker. So
+    /// it does in the lives of a serving, where it fits the slave's mailbox.
     pub fn ask(&mut self, slave: u32, key: usize, mail: &Mail) -> bool
         requires { slave < vec_len self.old.posts }
         ensures full { (result ≡ false) ↔ (waiting_at self.old.posts.items slave ≡ 64) }
@@ -375,6 +391,8 @@ impl MasterNode {
         ensures waits { waiting_at self.old.posts.items slave < 64 → StepsAt (λ p q. AppendsMail key mail.now p.mails.items q.mails.items) slave self.old.posts.items self.new.posts.items }
         ensures stays { result ≡ false → StepsAt (λ p q. q ≡ p) slave self.old.posts.items self.new.posts.items }
         ensures kept { (self.new.tour ≡ self.old.tour) × (self.new.lan ≡ self.old.lan) × (self.new.made ≡ self.old.made) }
+        ensures served { (lens : ℕ → Lens) (recover retry missed made : ℕ) (ws : List Serves) → waiting_at self.old.posts.items slave < 64 → FitsAt lens slave (length mail.now.body.items) ws → ServedShows lens recover retry self.old missed made ws →
+            (k : Keyed) × IsAsked key mail.now k × MayAsk lens slave k ws × ServedShows lens recover retry self.new missed made (asked_at slave k ws) }
     {
         self.posts[slave as usize].ask(key, mail)
     }

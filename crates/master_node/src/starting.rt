@@ -1,7 +1,8 @@
 //! A master before its first frame.
 
 ghost use Rattle.std.specs.Prelude.{◌≡◌, ◌≤◌, ◌<◌, length, map, replicate, vec_len, false, All, IfOk, None};
-ghost use Rattle.life_runs.specs.of_life_frames.Shares.{AllFrom};
+ghost use Rattle.life_runs.specs.of_life_frames.Shares.{AllBoth, AllFrom};
+ghost use Rattle.master_node.specs.Serving.{IsPaced};
 ghost use Rattle.master_node.specs.Lives.{waiting_of};
 ghost use Rattle.segment_plan.specs.Sound.{IsPlan, IsSlave, IsPace};
 ghost use Rattle.master_node.specs.First.{IsNewSide, IsFirst};
@@ -33,7 +34,8 @@ fn side_of(
     requires plan { IsPlan plan.now }
     requires slave { IsSlave spec.now }
     requires pace { IsPace pace }
-    ensures { IfOk result (λ s. IsNewSide plan.now.services place spec.now s) }
+    ensures is { IfOk result (λ s. IsNewSide plan.now.services place spec.now s) }
+    ensures paced { IfOk result (λ s. (s.read_at ≡ None) × (s.pace ≡ pace)) }
 {
     let script = script_of(alloc, place, plan.services.as_slice())?;
     let hand = InHand::new(alloc, spec.out_len, spec.in_len, script)?;
@@ -52,7 +54,8 @@ fn stop_of(
     requires slave { IsSlave spec.now }
     requires pace { IsPace pace }
     requires place { place < 16 }
-    ensures { IfOk result (λ s. IsFirst plan.now place spec.now s) }
+    ensures is { IfOk result (λ s. IsFirst plan.now place spec.now s) }
+    ensures paced { IfOk result (λ s. IsPaced pace s) }
 {
     let side = side_of(alloc, plan, place, spec, pace)?;
     let up = bring_new(place, spec.station, spec.out_len, spec.in_len, spec.start);
@@ -73,6 +76,7 @@ fn stops_of(alloc: Global, plan: &Scenario) -> Result<Vec<Stop<InHand>>, NoMemor
     requires { IsPlan plan.now }
     ensures many { IfOk result (λ stops. vec_len stops ≡ length plan.now.slaves) }
     ensures first { IfOk result (λ stops. AllFrom (λ place spec s. IsFirst plan.now place spec s) 0 plan.now.slaves stops.items) }
+    ensures paced { IfOk result (λ stops. AllBoth (λ pace s. IsPaced pace s) plan.now.paces stops.items) }
 {
     let slaves = plan.slaves.as_slice();
     let paces = plan.paces.as_slice();
@@ -102,6 +106,7 @@ fn tour_of(alloc: Global, plan: &Scenario) -> Result<Tour<InHand>, NoMemory>
     requires { IsPlan plan.now }
     ensures many { IfOk result (λ tour. vec_len tour.stops ≡ length plan.now.slaves) }
     ensures first { IfOk result (λ tour. AllFrom (λ place spec s. IsFirst plan.now place spec s) 0 plan.now.slaves tour.stops.items) }
+    ensures paced { IfOk result (λ tour. AllBoth (λ pace s. IsPaced pace s) plan.now.paces tour.stops.items) }
     ensures begins { IfOk result (λ tour. (tour.opened ≡ 0) × (tour.again ≡ false) × (tour.missed ≡ 0) × (tour.retry ≡ plan.now.retry)) }
     ensures last { IfOk result (λ tour. tour.last ≡ None) }
 {
@@ -127,6 +132,8 @@ impl MasterNode {
     ghost use Rattle.segment_plan.specs.Sound.{IsPlan};
     ghost use Rattle.life_runs.specs.First.{lens_of, first_leads};
     ghost use Rattle.master_node.specs.Shows.{MasterShows};
+    ghost use Rattle.master_node.specs.Serving.{ServedShows};
+    ghost use Rattle.served_runs.specs.Served.{all_serve};
     ghost use Rattle.std.specs.Prelude.{None};
     ghost use Rattle.master_node.specs.Joined.{HasUnfinished, stand_before};
     ghost use Rattle.eoe_switch.specs.Switch.{first_switch};
@@ -150,6 +157,7 @@ impl MasterNode {
         ensures ports { IfOk result (λ master. master.lan.ports.items ≡ ports_behind 0 plan.now.slaves) }
         ensures leads { IfOk result (λ master. MasterShows (lens_of plan.now.slaves) plan.now.recover plan.now.retry master 0 (first_leads plan.now)) }
         ensures knows { IfOk result (λ master. AllKnow (recalls master)) }
+        ensures served { IfOk result (λ master. ServedShows (lens_of plan.now.slaves) plan.now.recover plan.now.retry master 0 0 (all_serve plan.now.paces (first_leads plan.now))) }
         ensures joined { IfOk result (λ master. HasUnfinished master (map stand_before (first_leads plan.now)) (map (λ spec. None) plan.now.slaves)) }
     {
         let tour = tour_of(alloc, plan)?;

@@ -38,6 +38,12 @@ impl MasterNode {
     ghost use Rattle.master_node.specs.Origins.{forwards_at};
     ghost use Rattle.master_node.specs.Happened.{Happens, HappensSo};
     ghost use Rattle.master_node.specs.Shows.{MasterShows, MasterUnder};
+    ghost use Rattle.master_node.specs.Serving.{TellsOnly, ServedShows, ServedUnder, mails_in};
+    ghost use Rattle.master_node.specs.Dropped.{Drops, gave_at};
+    ghost use Rattle.master_tour.specs.Walks.{StepsAt};
+    ghost use Rattle.std.specs.Prelude.{◌∷◌};
+    ghost use Rattle.served_runs.specs.Served.{ServedTurn, served_behind};
+    ghost use Rattle.std.specs.Prelude.{suc};
     ghost use Rattle.master_tour.specs.Toured.{goes_on, lost_on};
     ghost use Rattle.master_node.specs.Shows.{is_opening_lead};
     ghost use Rattle.master_node.specs.Toured.{tour_of};
@@ -51,6 +57,7 @@ impl MasterNode {
         ensures posts { vec_len self.new.posts ≡ vec_len self.old.posts }
         ensures kept { NodeKept self.old self.new }
         ensures lan { self.new.lan ≡ self.old.lan }
+        ensures tells { TellsOnly self.old self.new }
     {
         let post = &mut self.posts[place];
         post.work = Work::Nothing;
@@ -68,6 +75,7 @@ impl MasterNode {
         ensures kept { NodeKept self.old self.new }
         ensures lan { Happens 1 self.old.lan self.new.lan }
         ensures listed { Lists (arrive_by (port_by (slice_get self.old.lan.ports.items place)) (kept_at self.old.tour.stops.items place)) self.old.lan self.new.lan }
+        ensures tells { TellsOnly self.old self.new }
     {
         let hand = &self.tour.stops[place].side.hand;
         if let Some(octets) = hand.emergency() {
@@ -89,6 +97,7 @@ impl MasterNode {
         ensures posts { vec_len self.new.posts ≡ vec_len self.old.posts }
         ensures kept { NodeKept self.old self.new }
         ensures lan { self.new.lan ≡ self.old.lan }
+        ensures tells { TellsOnly self.old self.new }
     {
         if let Some(mail) = self.tour.stops[place].side.hand.replied() {
             let mail = bare(mail);
@@ -102,6 +111,7 @@ impl MasterNode {
         ensures posts { vec_len self.new.posts ≡ vec_len self.old.posts }
         ensures kept { NodeKept self.old self.new }
         ensures lan { self.new.lan ≡ self.old.lan }
+        ensures tells { TellsOnly self.old self.new }
     {
         if let Some(kind) = self.tour.stops[place].side.hand.answer() {
             self.answered(place, kind);
@@ -115,6 +125,7 @@ impl MasterNode {
         ensures kept { NodeKept self.old self.new }
         ensures lan { Happens 1 self.old.lan self.new.lan }
         ensures listed { Lists (arrive_by (port_by (slice_get self.old.lan.ports.items place)) (kept_at self.old.tour.stops.items place)) self.old.lan self.new.lan }
+        ensures tells { TellsOnly self.old self.new }
     {
         self.emitted(place);
         if matches!(what, Heard::Emission) {
@@ -133,6 +144,7 @@ impl MasterNode {
         ensures posts { vec_len self.new.posts ≡ vec_len self.old.posts }
         ensures kept { NodeKept self.old self.new }
         ensures lan { self.new.lan ≡ self.old.lan }
+        ensures tells { TellsOnly self.old self.new }
     {
         if self.tour.stops[place].side.is_free() {
             self.answered(place, ReplyKind::Handed);
@@ -145,6 +157,7 @@ impl MasterNode {
         ensures posts { vec_len self.new.posts ≡ vec_len self.old.posts }
         ensures kept { NodeKept self.old self.new }
         ensures lan { self.new.lan ≡ self.old.lan }
+        ensures tells { TellsOnly self.old self.new }
     {
         if self.tour.stops[place].side.passing.is_none() {
             self.answered(place, ReplyKind::Handed);
@@ -158,6 +171,7 @@ impl MasterNode {
         ensures posts { vec_len self.new.posts ≡ vec_len self.old.posts }
         ensures kept { NodeKept self.old self.new }
         ensures lan { self.new.lan ≡ self.old.lan }
+        ensures tells { TellsOnly self.old self.new }
     {
         match self.tour.stops[place].side.duty {
             Some(Met::Reached) => self.answered(place, ReplyKind::Done),
@@ -172,6 +186,7 @@ impl MasterNode {
         ensures posts { vec_len self.new.posts ≡ vec_len self.old.posts }
         ensures kept { NodeKept self.old self.new }
         ensures lan { self.new.lan ≡ self.old.lan }
+        ensures tells { TellsOnly self.old self.new }
     {
         match self.posts[place].work {
             Work::Nothing | Work::Mails => {}
@@ -194,6 +209,7 @@ impl MasterNode {
         ensures posts { vec_len self.new.posts ≡ vec_len self.old.posts }
         ensures kept { NodeKept self.old self.new }
         ensures lan { self.new.lan ≡ self.old.lan }
+        ensures tells { TellsOnly self.old self.new }
     {
         let slave = place as u32;
         let own = self.has_state(place);
@@ -216,6 +232,7 @@ impl MasterNode {
         ensures kept { NodeKept self.old self.new }
         ensures lan { Happens 1 self.old.lan self.new.lan }
         ensures listed { Lists (arrive_by (port_by (slice_get self.old.lan.ports.items place)) (packets_of what (kept_at self.old.tour.stops.items place))) self.old.lan self.new.lan }
+        ensures tells { TellsOnly self.old self.new }
     {
         if let Some(what) = what {
             self.heard(place, what);
@@ -229,6 +246,7 @@ impl MasterNode {
         ensures kept { NodeKept self.old self.new }
         ensures lan { Happens 1 self.old.lan self.new.lan }
         ensures listed { Lists (arrive_by (port_by (slice_get self.old.lan.ports.items place)) (heard_at self.old.tour.stops.items place)) self.old.lan self.new.lan }
+        ensures tells { TellsOnly self.old self.new }
     {
         let what = self.tour.stops[place].side.heard;
         self.heard_where(place, what);
@@ -242,6 +260,7 @@ impl MasterNode {
         ensures kept { NodeKept self.old self.new }
         ensures lan { Happens 1 self.old.lan self.new.lan }
         ensures listed { Lists (arrive_by (port_by (slice_get self.old.lan.ports.items place)) (heard_at self.old.tour.stops.items place)) self.old.lan self.new.lan }
+        ensures tells { TellsOnly self.old self.new }
     {
         if place < self.posts.len() {
             self.back(place);
@@ -254,6 +273,7 @@ impl MasterNode {
         ensures kept { NodeKept self.old self.new }
         ensures lan { Happens 16 self.old.lan self.new.lan }
         ensures listed { Lists (arrivals_in self.old.lan.ports.items (λ p. heard_at self.old.tour.stops.items p) self.old.tour.visit.items) self.old.lan self.new.lan }
+        ensures tells { TellsOnly self.old self.new }
     {
         for k in 0..self.tour.visit.len() {
             let place = self.tour.visit.as_slice()[k];
@@ -274,6 +294,8 @@ impl MasterNode {
         ensures happened { HappensSo self.old.lan self.new.lan }
         ensures arrivals { (lens : ℕ → Lens) (recover retry missed : ℕ) (octets : List ℕ) (us : List Turn) (befores : List (Option Unfinished)) → MasterUnder lens recover retry self.old octets missed us → Returns (seen lens octets) (seen lens frame.now.items) →
             HasUnfinished self.old (map stand_under us) befores → ComeIn self.old (λ p. completed_at (seen lens frame.now.items) us befores p) self.new }
+        ensures served { (lens : ℕ → Lens) (recover retry missed made : ℕ) (octets : List ℕ) (vs : List ServedTurn) (f : Exchanged) → f.fate ≡ Fate.Pass → f.back ≡ frame.now.items → ServedUnder lens recover retry self.old octets missed made vs → Returns (seen lens octets) (seen lens frame.now.items) →
+            ServedShows lens recover retry self.new 0 (suc made) (map (served_behind lens recover retry (gives_up_at lens recover retry missed) made f) vs) }
         ensures counts { (k : ℕ) → forwards_at self.new.posts.items k ≡ forwards_at self.old.posts.items k }
         ensures recalls { (lens : ℕ → Lens) (recover retry missed : ℕ) (octets : List ℕ) (us : List Turn) → MasterUnder lens recover retry self.old octets missed us → Returns (seen lens octets) (seen lens frame.now.items) →
             AllVisit (seen lens octets) (recalls self.old) us → AllRecall lens (seen lens frame.now.items) us (recalls self.old) (recalls self.new) }
@@ -291,6 +313,7 @@ impl MasterNode {
         ensures kept { NodeKept self.old self.new }
         ensures lan { self.new.lan ≡ self.old.lan }
         ensures tour { self.new.tour ≡ self.old.tour }
+        ensures mails { StepsAt (λ ks ls. ls ≡ []) place (mails_in self.old) (mails_in self.new) }
     {
         self.posts[place].drop_all();
     }
@@ -302,6 +325,7 @@ impl MasterNode {
         ensures kept { NodeKept self.old self.new }
         ensures lan { Happens 1 self.old.lan self.new.lan }
         ensures tour { self.new.tour ≡ self.old.tour }
+        ensures mails { mails_in self.new ≡ mails_in self.old }
         ensures listed { Lists (down_by (port_by (slice_get self.old.lan.ports.items place)) (holds_at (λ s. not (is_live s.stand)) self.old.tour.stops.items place)) self.old.lan self.new.lan }
     {
         if !self.tour.stops[place].is_live() {
@@ -316,6 +340,7 @@ impl MasterNode {
         ensures kept { NodeKept self.old self.new }
         ensures lan { Happens 1 self.old.lan self.new.lan }
         ensures tour { self.new.tour ≡ self.old.tour }
+        ensures mails { Drops (λ p. gave_at self.old.tour.stops.items p) (place ∷ []) (mails_in self.old) (mails_in self.new) }
         ensures listed { Lists (down_by (port_by (slice_get self.old.lan.ports.items place)) (gives_at self.old.tour.stops.items place)) self.old.lan self.new.lan }
     {
         if !is_given_up(self.tour.stops[place].news) {
@@ -334,6 +359,7 @@ impl MasterNode {
         ensures kept { NodeKept self.old self.new }
         ensures lan { Happens 1 self.old.lan self.new.lan }
         ensures tour { self.new.tour ≡ self.old.tour }
+        ensures mails { Drops (λ p. gave_at self.old.tour.stops.items p) (place ∷ []) (mails_in self.old) (mails_in self.new) }
         ensures listed { Lists (down_by (port_by (slice_get self.old.lan.ports.items place)) (gives_at self.old.tour.stops.items place)) self.old.lan self.new.lan }
     {
         if place < self.posts.len() {
@@ -346,6 +372,8 @@ impl MasterNode {
         ensures posts { vec_len self.new.posts ≡ vec_len self.old.posts }
         ensures kept { NodeKept self.old self.new }
         ensures lan { Happens 16 self.old.lan self.new.lan }
+        ensures tour { self.new.tour ≡ self.old.tour }
+        ensures mails { Drops (λ p. gave_at self.old.tour.stops.items p) self.old.tour.visit.items (mails_in self.old) (mails_in self.new) }
         ensures listed { Lists (downs_in self.old.lan.ports.items (λ p. gives_at self.old.tour.stops.items p) self.old.tour.visit.items) self.old.lan self.new.lan }
     {
         for k in 0..self.tour.visit.len() {
@@ -366,6 +394,8 @@ impl MasterNode {
         ensures happened { HappensSo self.old.lan self.new.lan }
         ensures downs { (lens : ℕ → Lens) (recover retry missed number after : ℕ) (octets : List ℕ) (us : List Turn) (f : Exchanged) → f.fate ≡ Fate.Lost after → f.sent ≡ octets → MasterUnder lens recover retry self.old octets missed us →
             GoDown self.old us (map (led_behind lens recover retry (gives_up_at lens recover retry missed) number f) us) self.new }
+        ensures served { (lens : ℕ → Lens) (recover retry missed made after : ℕ) (octets : List ℕ) (vs : List ServedTurn) (f : Exchanged) → f.fate ≡ Fate.Lost after → f.sent ≡ octets → ServedUnder lens recover retry self.old octets missed made vs →
+            ServedShows lens recover retry self.new (missed_behind lens recover retry f.fate missed) (suc made) (map (served_behind lens recover retry (gives_up_at lens recover retry missed) made f) vs) }
         ensures counts { (k : ℕ) → forwards_at self.new.posts.items k ≡ forwards_at self.old.posts.items k }
         ensures recalls { (lens : ℕ → Lens) (recover retry missed : ℕ) (octets : List ℕ) (us : List Turn) → MasterUnder lens recover retry self.old octets missed us → AllRecall lens [] us (recalls self.old) (recalls self.new) }
     {

@@ -21,8 +21,8 @@ new-requires-clause-few c =
     let f = c.requires.plan.laid.few_services in
     omega (arith, e, l, f)
 
-pub returns : goal.returns
-returns c =
+pub returns-clause-is : goal.returns-clause-is
+returns-clause-is c =
     let h = c.new-2.ensures.hand.0 in
     let script = c.in_ok-script.ensures ∙ ap (script_for c.args.place) c.as_slice.ensures in
     record {

@@ -7,10 +7,11 @@ use Rattle.master_node.proofs.Tells.{node_refl, node_then}
 use Rattle.master_node.proofs.Arrivals.{arrivals_next, heard_kept}
 use Rattle.master_node.proofs.Downs.{lists_none, lists_then, lists_as}
 use Rattle.master_node.proofs.Happenings.{happens_none, happens_then, happens_more}
+use Rattle.master_node.proofs.Servings.{tells_refl, tells_then}
 use Rattle.master_node.proofs.node.MasterNode.all_back.Goals as goal
 
 pub loop-k-init : goal.loop-k-init
-loop-k-init c = record { posts = refl; kept = node_refl c.args.self.now; lan = happens_none 0 _ _ refl; listed = lists_none _ _ _ refl refl }
+loop-k-init c = record { posts = refl; kept = node_refl c.args.self.now; tells = tells_refl c.args.self.now; lan = happens_none 0 _ _ refl; listed = lists_none _ _ _ refl refl }
 
 pub loop-k-preserved : goal.loop-k-preserved
 loop-k-preserved c =
@@ -25,6 +26,7 @@ loop-k-preserved c =
     record {
       posts = step.posts ∙ inv.posts;
       kept = node_then _ _ _ step.kept inv.kept;
+      tells = tells_then _ _ _ step.tells inv.tells;
       lan = happens_then k 1 _ _ _ inv.lan step.lan;
       listed = lists_as _ _ _ _ (arrivals_next m.lan.ports.items (λ p. heard_at m.tour.stops.items p) m.tour.visit.items k 0 inside)
           (lists_then _ _ _ _ _ inv.listed

@@ -2,6 +2,7 @@ use Rattle.std.proofs.Common.{refl, arith}
 use Rattle.master_node.specs.Shows.{WaitsNone}
 use Rattle.master_node.proofs.Kepts.{node_same}
 use Rattle.master_node.proofs.Lists.{all_set}
+use Rattle.master_node.proofs.Servings.{posts_set}
 use Rattle.master_node.proofs.Listing.{forwards_set}
 use Rattle.master_node.proofs.node.MasterNode.answered.Goals as goal
 
@@ -11,3 +12,10 @@ returns-clause-kept c =
     let r = c.requires in
     let k = m.posts.ok.0 in
     node_same m _ refl refl (λ q. all_set WaitsNone m.posts.items c.args.place c.index_mut-post.result.now _ (omega (arith, r, k)) c.index_mut-post.ensures.value (λ p. p) q) (forwards_set m.posts.items c.args.place c.index_mut-post.result.now _ (omega (arith, r, k)) c.index_mut-post.ensures.value refl)
+
+pub returns-clause-tells : goal.returns-clause-tells
+returns-clause-tells c =
+    let m = c.args.self.now in
+    let r = c.requires in
+    let k = m.posts.ok.0 in
+    record { tour = refl; made = refl; mails = posts_set m.posts.items c.args.place c.index_mut-post.result.now _ (omega (arith, r, k)) c.index_mut-post.ensures.value refl }

@@ -2,6 +2,10 @@ use Rattle.std.proofs.Common.{◌≡◌, ◌<◌, ◌∙◌, sym, arith, length}
 use Rattle.master_tour.proofs.Walks.{steps_set}
 use Rattle.master_node.specs.Appends.{AppendsMail}
 use Rattle.master_node.proofs.Places.{waiting_here}
+use Rattle.std.proofs.Common.{subst}
+use Rattle.life_runs.specs.of_life_frames.Shares.{AreDistinct}
+use Rattle.master_node.specs.Shows.{GoesOn, lived_of}
+use Rattle.master_node.proofs.Servings.{asked_so, leads_same}
 use Rattle.master_node.proofs.node.MasterNode.ask.Goals as goal
 
 pub returns-clause-full : goal.returns-clause-full
@@ -19,3 +23,22 @@ pub returns-clause-stays : goal.returns-clause-stays
 returns-clause-stays c = λ r.
     let l : c.args.slave < length c.args.self.now.posts.items = omega (arith, c.requires, c.args.self.now.posts.ok.0) in
     steps_set (λ p q. q ≡ p) c.args.slave c.args.self.now.posts.items c.index_mut.result.now c.ask.new.self l c.index_mut.ensures.value (c.ask.ensures.same r)
+
+pub returns-clause-served : goal.returns-clause-served
+returns-clause-served c = λ lens recover retry missed made ws r f h.
+    let m = c.args.self.now in
+    let a = asked_so lens recover made c.args.key c.args.mail.now c.args.slave ws m.posts.items _ m.tour.stops.items r f h.each (returns-clause-waits c r) in (
+      a.asks,
+      a.is,
+      a.may,
+      record {
+        each = a.each;
+        distinct = subst (λ z. AreDistinct z) (sym (leads_same lived_of c.args.slave a.asks ws)) h.distinct;
+        goes = subst (λ z. GoesOn m.tour.again m.tour.visit.items m.tour.opened z) (sym (leads_same (λ l. l) c.args.slave a.asks ws)) h.goes;
+        missed_is = h.missed_is;
+        retry_is = h.retry_is;
+        again = h.again;
+        made_is = h.made_is;
+        early = h.early;
+      },
+    )

@@ -6,6 +6,7 @@ use Rattle.master_node.proofs.Arrivals.{heard_here}
 use Rattle.master_node.proofs.Downs.{lists_as, lists_on}
 use Rattle.master_node.proofs.Tells.{node_then}
 use Rattle.master_node.proofs.Happenings.{happens_on}
+use Rattle.master_node.proofs.Servings.{tells_then}
 use Rattle.master_node.proofs.node.MasterNode.back.Goals as goal
 
 pub returns-clause-kept : goal.returns-clause-kept
@@ -20,3 +21,6 @@ returns-clause-listed c =
     let l : c.args.place < length m.tour.stops.items = omega (arith, c.requires, m.paired, m.tour.stops.ok.0) in
     lists_on _ _ _ _ (c.turned.ensures.lan ∙ c.over.ensures.lan)
     (lists_as _ _ _ _ (ap (λ z. arrive_by (port_by (slice_get m.lan.ports.items c.args.place)) z) (heard_here m.tour.stops.items c.args.place c.index.result.now l c.index.ensures)) c.heard_where.ensures.listed)
+
+pub returns-clause-tells : goal.returns-clause-tells
+returns-clause-tells c = tells_then _ _ _ c.turned.ensures.tells (tells_then _ _ _ c.over.ensures.tells c.heard_where.ensures.tells)

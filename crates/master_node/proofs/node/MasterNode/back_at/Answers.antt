@@ -6,6 +6,7 @@ use Rattle.master_node.proofs.Tells.{node_refl}
 use Rattle.master_node.proofs.Arrivals.{arrive_none, heard_beyond}
 use Rattle.master_node.proofs.Downs.{lists_none}
 use Rattle.master_node.proofs.Happenings.{happens_none}
+use Rattle.master_node.proofs.Servings.{tells_refl}
 use Rattle.master_node.proofs.node.MasterNode.back_at.Goals as goal
 
 pub returns-else-place-len-clause-kept : goal.returns-else-place-len-clause-kept
@@ -20,3 +21,6 @@ returns-else-place-len-clause-listed c =
     let p = c.args.place in
     let l : length m.tour.stops.items ≤ p = omega (arith, c.if-place-len.false, c.len.ensures, m.paired, m.tour.stops.ok.0) in
     lists_none _ _ _ (ap (λ z. arrive_by (port_by (slice_get m.lan.ports.items p)) z) (heard_beyond m.tour.stops.items p l) ∙ arrive_none (port_by (slice_get m.lan.ports.items p))) refl
+
+pub returns-else-place-len-clause-tells : goal.returns-else-place-len-clause-tells
+returns-else-place-len-clause-tells c = tells_refl _

@@ -7,6 +7,7 @@ use Rattle.master_node.proofs.Arrivals.{kept_here, arrive_none}
 use Rattle.master_node.proofs.Downs.{lists_as, lists_none}
 use Rattle.master_node.proofs.Tells.{node_told}
 use Rattle.master_node.proofs.Happenings.{happens_none}
+use Rattle.master_node.proofs.Servings.{tells_told}
 use Rattle.master_node.proofs.node.MasterNode.emitted.Goals as goal
 
 pub returns-in-Some-packet-clause-kept : goal.returns-in-Some-packet-clause-kept
@@ -35,3 +36,9 @@ returns-in_default-packet-clause-listed c =
     lists_none _ _ _
     (ap (λ z. arrive_by port z) (kept_here m.tour.stops.items c.args.place c.index.result.now l c.index.ensures ∙ ap as_list (sym c.in_default-packet.ensures)) ∙ arrive_none port)
     refl
+
+pub returns-in-Some-packet-clause-tells : goal.returns-in-Some-packet-clause-tells
+returns-in-Some-packet-clause-tells c = tells_told _ _ refl refl refl
+
+pub returns-in_default-packet-clause-tells : goal.returns-in_default-packet-clause-tells
+returns-in_default-packet-clause-tells c = tells_told _ _ refl refl refl

@@ -5,6 +5,7 @@ use Rattle.master_node.specs.Forwards.{port_by}
 use Rattle.master_node.proofs.Tells.{node_refl}
 use Rattle.master_node.proofs.Arrivals.{arrive_none}
 use Rattle.master_node.proofs.Downs.{lists_as, lists_none}
+use Rattle.master_node.proofs.Servings.{tells_refl}
 use Rattle.master_node.proofs.node.MasterNode.heard_where.Goals as goal
 
 pub returns-in_default-clause-kept : goal.returns-in_default-clause-kept
@@ -20,3 +21,6 @@ returns-in_default-clause-listed c =
     let m = c.args.self.now in
     let port = port_by (slice_get m.lan.ports.items c.args.place) in
     lists_none _ _ _ (ap (λ z. arrive_by port (packets_of z (kept_at m.tour.stops.items c.args.place))) c.in_default.is ∙ arrive_none port) refl
+
+pub returns-in_default-clause-tells : goal.returns-in_default-clause-tells
+returns-in_default-clause-tells c = tells_refl _

@@ -2,6 +2,11 @@ use Rattle.std.proofs.Common.{◌≡◌, ◌∙◌, [], true, false, sym}
 use Rattle.life_runs.specs.First.{lens_of}
 use Rattle.life_runs.proofs.First.{apart_from, have_lens, distinct_from}
 use Rattle.master_node.proofs.Firsts.{all_known, all_leads, all_open, all_unfinished}
+use Rattle.std.proofs.Common.{subst, refl, arith}
+use Rattle.life_runs.specs.First.{first_leads}
+use Rattle.life_runs.specs.of_life_frames.Shares.{AreDistinct}
+use Rattle.master_node.specs.Shows.{GoesOn}
+use Rattle.master_node.proofs.Servings.{firsts_served, leads_kept, lives_all, run_all}
 use Rattle.master_node.proofs.Listing.{none_counted}
 use Rattle.master_node.proofs.node.MasterNode.new.Goals as goal
 
@@ -28,3 +33,21 @@ returns-clause-counts c = λ k. none_counted c.in_ok-posts.posts.items c.in_ok-p
 
 pub returns-clause-knows : goal.returns-clause-knows
 returns-clause-knows c = all_known c.args.plan.now 0 c.args.plan.now.slaves c.in_ok-tour.tour.stops.items c.in_ok-tour.ensures.first
+
+pub returns-clause-served : goal.returns-clause-served
+returns-clause-served c =
+    let plan = c.args.plan.now in
+    let leads = first_leads plan in
+    let t = c.in_ok-tour.tour in
+    let h = returns-clause-leads c in
+    record {
+      each = firsts_served (lens_of plan.slaves) plan.recover plan.paces leads c.in_ok-posts.posts.items t.stops.items h.each c.in_ok-tour.ensures.paced c.in_ok-posts.ensures.quiet
+          (omega (arith, c.in_ok-posts.posts.ok.0, t.stops.ok.0, c.in_ok-posts.ensures.many, c.in_ok-tour.ensures.many, c.len.ensures)) (leads_kept plan.services 0 plan.slaves);
+      distinct = subst (λ z. AreDistinct z) (sym (lives_all plan.paces leads)) h.distinct;
+      goes = subst (λ z. GoesOn t.again t.visit.items t.opened z) (sym (run_all plan.paces leads)) h.goes;
+      missed_is = h.missed_is;
+      retry_is = h.retry_is;
+      again = h.again;
+      made_is = refl;
+      early = omega arith;
+    }

@@ -26,6 +26,9 @@ use Rattle.master_node.specs.Shows.{IsLead}
 use Rattle.master_node.proofs.Entering.{all_opened, first_more, rests_same}
 use Rattle.master_node.proofs.Lists.{both_length}
 use Rattle.master_node.proofs.Restings.{all_rest}
+use Rattle.std.proofs.Common.{◌+◌, ◌%◌, ◌^◌, suc}
+use Rattle.std.proofs.Math.Nat.{mod-eq_of_lt}
+use Rattle.master_node.proofs.ServedSents.{served_same}
 use Rattle.master_node.proofs.node.MasterNode.next.Goals as goal
 
 pub returns-clause-led : goal.returns-clause-led
@@ -42,7 +45,7 @@ returns-clause-begun c = λ h lens recover retry missed number as' x.
     let none = ap length c.begins.ensures.none in
     let admitted = c.admit.ensures.lan in
     let w = c.make.ensures.led lens recover retry missed number (record { switch = c.args.self.now.lan.switch; forwards = λ k. forwards_at c.args.self.now.posts.items k }) as' (omega (arith, admitted.few, none)) (c.admit.ensures.takes.takes _ [] (omega (arith, none)) (has_none _ _ c.begins.ensures.switch c.begins.ensures.none)) (unlisted (record c.args.self.now { list = c.clear.new.self; lan = c.begins.new.self }) c.admit.new.self c.clear.ensures.none c.clear.ensures.last c.admit.ensures.list c.admit.ensures.same.0) (subst (λ z. list_any (λ s. is_live s.stand) z.stops.items ≡ true) (sym c.admit.ensures.same.1) (sym c.has_live.ensures ∙ live)) (shows_same lens recover retry missed as' _ c.admit.new.self c.admit.ensures.same.1 c.admit.ensures.same.0 x) in
-    (w.0, w.1, record { each = w.2.each; distinct = w.2.distinct; quiet = w.2.quiet; goes = w.2.goes; missed_is = w.2.missed_is; retry_is = w.2.retry_is; sent = w.2.sent; fits = w.2.fits }, w.3, services_made _ _ _ c.make.new.self _ c.made.ensures.last refl w.6, w.7)
+    (w.0, w.1, record { each = w.2.each; distinct = w.2.distinct; quiet = w.2.quiet; goes = w.2.goes; missed_is = w.2.missed_is; retry_is = w.2.retry_is; sent = w.2.sent; fits = w.2.fits }, w.3, services_made _ _ _ c.make.new.self _ c.made.ensures.last refl w.6, w.7, w.8)
 
 pub returns-then-not-has_live-clause-joins : goal.returns-then-not-has_live-clause-joins
 returns-then-not-has_live-clause-joins c = each_same _ c.args.self.now.tour.stops.items (λ s. refl)
@@ -113,3 +116,17 @@ returns-clause-enters c = λ h lens recover retry missed as' x rests may.
     (record { left = (λ i. nat_lt (e.host.1 i) (length (e.host.0 i))) ∙ may.left; quiet = subst (λ s. NoneWaits s) (sym e.switch) may.quiet })
     e.none in
     first_more _ _ c.make.ensures.made.more.0 entered c.make.ensures.made.more.1
+
+pub returns-clause-serves : goal.returns-clause-serves
+returns-clause-serves c = λ h lens recover retry missed made ws small x.
+    let live : c.has_live.result ≡ true = cc in
+    let same = c.admit.ensures.same in
+    let w = c.make.ensures.serves lens recover retry missed made ws (subst (λ z. list_any (λ s. is_live s.stand) z.stops.items ≡ true) (sym same.1) (sym c.has_live.ensures ∙ live)) small
+    (served_same lens recover retry missed made ws c.args.self.now c.admit.new.self same.1 same.0 c.admit.ensures.number x) in
+    let u = w.2 in
+    let is : c.make.new.self.made ≡ made = w.3 in
+    let more : (c.make.new.self.made + 1) % 2 ^ 32 ≡ suc made = ap (λ z. (z + 1) % 2 ^ 32) is ∙ mod-eq_of_lt (omega (arith, small)) ∙ (let n : made + 1 ≡ suc made = omega arith in n) in (
+      w.0,
+      w.1,
+      record { each = u.each; distinct = u.distinct; goes = u.goes; missed_is = u.missed_is; retry_is = u.retry_is; sent = u.sent; fits = u.fits; carried = u.carried; made_is = more; early = u.early },
+    )

@@ -18,7 +18,7 @@ use Rattle.life_runs.specs.of_life_frames.Shares.{Lived}
 use Rattle.master_duty.specs.Reply.{Reply}
 use Rattle.master_hand.specs.Joins.{unfinished_behind}
 use Rattle.master_tour.specs.Joins.{join_at}
-use Rattle.master_tour.specs.Stands.{came_at}
+use Rattle.master_tour.specs.Stands.{StandShows, came_at}
 use Rattle.master_node.specs.Joined.{IsUnfinished, StopCompleted, stand_before, stand_under, mails_back}
 use Rattle.master_node.proofs.Joineds.{back_unfinished, completed_at as completed_at_stop, three_on, three_kept, three_map, three_of, three_after, pair_both, completed_kept}
 use Rattle.master_node.proofs.Lefts.{true_false}
@@ -30,6 +30,18 @@ use Rattle.master_node.proofs.Downs.{lists_all, lists_as}
 use Rattle.master_tour.proofs.Backs.{seen_aims}
 use Rattle.master_tour.proofs.Walks.{each_map}
 use Rattle.master_node.proofs.Recalled.{recalls_back}
+use Rattle.std.proofs.Common.{◌+◌, ◌-◌, ◌%◌, ◌^◌, suc}
+use Rattle.counters_kept.proofs.Lives.{stands_kept}
+use Rattle.life_runs.specs.of_life_frames.Shares.{AllThree}
+use Rattle.master_hand.specs.Shown.{awaits_reply}
+use Rattle.master_side.specs.Passing.{counts_at, news_back}
+use Rattle.master_tour.specs.Counting.{CountsOn}
+use Rattle.master_tour.specs.Passing.{StandPassing}
+use Rattle.master_tour.specs.of_life_model.Lives.{life_back}
+use Rattle.served_runs.specs.Served.{served_behind}
+use Rattle.master_node.specs.Serving.{IsServed, run_lead}
+use Rattle.master_node.specs.Shows.{GoesOn, side_shows}
+use Rattle.master_node.proofs.Serveds.{back_made, served_back, all_served, distinct_served, back_spot, goes_served, opens_served, long_served, three_both}
 use Rattle.master_node.proofs.node.MasterNode.returned.Goals as goal
 
 pub returns-clause-leads : goal.returns-clause-leads
@@ -128,3 +140,41 @@ returns-clause-recalls c = λ lens recover retry missed octets us u r a.
     let ts = c.returned.new.self.stops.items in
     recalls_back lens recover octets back us ss ts c.all_back.new.self.tour.stops.items r (λ s. seen_aims lens c.args.frame.now.items s.side.station s.named) u.each a
     (each_map _ _ ss ts (λ s t p v i. p (speech_at lens v.lived.spot) recover v.lived.spot v.lived.life i.lead.lives.planned.stands i.way i.lead.lives.shown) (c.returned.ensures.recalls lens (seen lens octets) r u.sent)) c.all_back.ensures.kept.each
+
+pub returns-clause-served : goal.returns-clause-served
+returns-clause-served c = λ lens recover retry missed made octets vs f p b u r.
+    let m = c.args.self.now in
+    let n = c.all_back.new.self in
+    let e = c.returned.ensures in
+    let tells = c.all_back.ensures.tells in
+    let ss = m.tour.stops.items in
+    let ts = c.returned.new.self.stops.items in
+    let back = seen lens c.args.frame.now.items in
+    let gives = gives_up_at lens recover retry missed in
+    let number : (m.made + (2 ^ 32 - 1)) % 2 ^ 32 ≡ made = back_made m.made made u.made_is u.early in
+    let three = e.shown lens (seen lens octets) r u.sent (λ spot. speech_at lens spot) is_followed is_passed made recover (map (λ v. v.turn.lived) vs)
+    (three_both _ _ (λ v. v.turn.lived) (λ v k s i. (i.served.lives, i.way)) vs m.posts.items ss u.each) in
+    let toured = pair_both _ _ ss ts e.stays (pair_both _ _ ss ts (e.passing lens (seen lens octets) r u.sent) (pair_both _ _ ss ts (e.counts lens (seen lens octets) r u.sent) e.pace)) in
+    let each = all_served lens recover retry gives made f octets _ _ vs m.posts.items n.posts.items ss ts u.each tells.mails three toured
+    (λ v k q s t i w a z.
+    let l = v.turn.lived.life in
+    let spot = v.turn.lived.spot in
+    let x = speech_at lens spot in
+    let shown = i.served.lives.shown in
+    served_back lens recover retry gives made f octets c.args.frame.now.items v k q s t p b i r a
+    (subst (λ j. StandPassing t.stand (awaits_reply t.side.hand.course t.side.hand.which t.side.hand.clients) t.side.passing (life_back x acknowledged is_followed is_passed made spot (news_back s.side.station v.kept (counts_at s.side.read_at s.side.pace j) back) back (came_at s.under s.at back) l l.stand)) number
+    (z.1.0 x made recover spot v.kept l i.served.lives.planned.stands i.way shown (stands_kept s.stand v.kept l (λ o. (subst (λ y. StandShows (λ d g. side_shows lens recover s spot d g) spot y l) o shown.stood).0) i.served.kept) i.served.passing))
+    (subst (λ j. CountsOn j back s t l) number (z.1.1.0 x recover spot l i.way shown)) z.1.1.1 z.0.0 w) in
+    let there = subst (λ z. AllThree (λ w q t. IsServed lens recover (suc made) w q t) (map (served_behind lens recover retry gives made f) vs) n.posts.items z.stops.items) (sym tells.tour) each in
+    record {
+      each = there;
+      distinct = distinct_served lens recover retry gives made f vs (back_spot lens recover retry gives made f p) u.distinct;
+      goes = subst (λ z. GoesOn z.again z.visit.items z.opened (map run_lead (map (served_behind lens recover retry gives made f) vs))) (sym tells.tour)
+          (goes_served lens recover retry gives made f c.returned.new.self.again m.tour.visit.items c.returned.new.self.visit.items m.tour.opened c.returned.new.self.opened vs ts p e.tour.1 e.opened
+          (long_served lens recover retry (suc made) _ n.posts.items ts each) (opens_served lens recover retry (suc made) _ n.posts.items ts each) u.goes);
+      missed_is = ap (λ z. z.missed) tells.tour ∙ e.tour.2;
+      retry_is = ap (λ z. z.retry) tells.tour ∙ e.tour.3 ∙ u.retry_is;
+      again = λ t. absurd (true_false n.tour.again t (ap (λ z. z.again) tells.tour ∙ e.tour.1));
+      made_is = tells.made ∙ u.made_is;
+      early = u.early;
+    }

@@ -1,5 +1,5 @@
-use Rattle.std.proofs.Common.{◌⊎◌, inl, ◌≡◌, ◌∙◌, ◌+◌, ◌%◌, refl, sym, ap, subst, arith}
-use Rattle.std.specs.Prelude.{map, false, nat_lt, IfSome, slice_get}
+use Rattle.std.proofs.Common.{ℕ, ◌⊎◌, inl, ◌≡◌, ◌∙◌, ◌+◌, ◌%◌, refl, sym, ap, subst, arith}
+use Rattle.std.specs.Prelude.{map, false, is_some, nat_lt, IfSome, slice_get}
 use Rattle.std.proofs.lemmas.Bool.{le-ltb, lt-ltb}
 use Rattle.master_node.proofs.Lefts.{true_false}
 use Rattle.master_node.specs.Toured.{StaysPut, TakesPart}
@@ -19,7 +19,7 @@ use Rattle.master_node.specs.Filling.{StopFills}
 use Rattle.master_node.specs.Shows.{lived_of}
 use Rattle.master_node.proofs.Lists.{steps_map, steps_holds, steps_each, each_trans}
 use Rattle.master_node.proofs.Filleds.{count_behind}
-use Rattle.master_node.proofs.Visits.{Fitted, Began, SomeKept, here, what, what_is, now, comes, frame, spot, leaves, waits_none, told, among, among_fitted}
+use Rattle.master_node.proofs.Visits.{Fitted, Began, SomeKept, here, what, what_is, none_here, now, now_here, comes, frame, frame_kept, spot, leaves, waits_none, told, among, among_fitted}
 use Rattle.master_node.proofs.Begins.{begun_step}
 use Rattle.master_node.specs.Listing.{number_at}
 use Rattle.master_node.proofs.Listing.{laid_from, listed_on, listed_step, listed_visit, number_here}
@@ -36,12 +36,11 @@ use Rattle.master_node.proofs.Lists.{steps_trans}
 use Rattle.master_node.proofs.Rooms.{steps_room, looks_full, visits_full}
 use Rattle.master_node.proofs.Eagers.{goes_kept, recall_kept, steps_tested}
 use Rattle.master_node.proofs.Visits as Visited
-use Rattle.master_node.specs.Eager.{StopGoes, StopTakesUp, recall_of}
+use Rattle.master_node.specs.Eager.{StopGoes, recall_of}
 use Rattle.master_tour.proofs.Walks.{each_map}
 use Rattle.master_node.proofs.Happenings.{happens_none, happens_from}
 use Rattle.master_node.proofs.Made.{makes_none, makes_then}
-use Rattle.std.proofs.Common.{◌∷◌, length}
-use Rattle.life_runs.specs.of_life_frames.Shares.{AllFrom}
+use Rattle.std.proofs.Common.{◌∷◌}
 use Rattle.master_hand.specs.Shown.{Shows, knows}
 use Rattle.master_hand.specs.Spoken.{acknowledged}
 use Rattle.master_side.specs.Shown.{SideShows}
@@ -52,6 +51,20 @@ use Rattle.master_node.proofs.Begins.{at_other, at_place}
 use Rattle.master_node.proofs.Fills.{from_each, from_map}
 use Rattle.master_node.proofs.Lists.{steps_got, steps_some}
 use Rattle.master_node.proofs.Starts.{Asks, ComesSo, LeavesNone, Readies, from_both, from_steps, leaves_none, readies, some_so, started_here, started_same, started_there, waits_yet}
+use Rattle.std.specs.Prelude.{None}
+use Rattle.master_tour.specs.First.{FitsFirst}
+use Rattle.master_tour.specs.declared.stop.Stand.{Stand}
+use Rattle.master_node.proofs.Unvisited.{Lacking, Roomed, Roomy, Went, roomy, some_wish, steps_behind, without}
+use Rattle.master_hand.specs.Shown.{awaits_reply}
+use Rattle.master_side.specs.Free.{is_free_side}
+use Rattle.master_tour.specs.Walks.{EachPair}
+use Rattle.master_node.specs.Coming.{next_of, wish_of}
+use Rattle.master_node.specs.Kept.{StopKept, StopStays}
+use Rattle.master_node.specs.Passes.{IsNextState, IsServing, LaysMail, waits_in}
+use Rattle.master_node.specs.Serving.{mails_in, run_lead}
+use Rattle.master_node.specs.Passes.{ThreeFrom}
+use Rattle.master_node.proofs.ServedVisits as Served
+use Rattle.master_node.proofs.FreeKept as Frees
 use Rattle.master_node.proofs.node.MasterNode.visit.Goals as goal
 
 pub returns-then-not-fits-clause-led : goal.returns-then-not-fits-clause-led
@@ -109,9 +122,10 @@ returns-clause-led c = λ lens recover made from left next as' room rows quiet d
     let index = m.made % 256 in
     let begun = now coming r place s0 s1 s2 s3 s4 rooms coms fitted laid began came f.begun in
     let same = ap (λ n. n % 256) (c.came.ensures.kept.0.made ∙ c.lay.ensures.kept.0.made) in
-    let made_frame = frame coming r place s0 s1 s2 s3 s4 rooms coms fitted laid began came lens recover made index f.begun left next (map lived_of as') c.args.into.now.items c.visit-began.new.frame.items m.tour.count c.lay.new.self.tour.count c.visit-began.new.self.count
+    let visited_frame = frame coming r place s0 s1 s2 s3 s4 rooms coms fitted laid began came lens recover made index f.begun left next (map lived_of as') c.args.into.now.items c.visit-began.new.frame.items m.tour.count c.lay.new.self.tour.count c.visit-began.new.self.count
     (c.lay.ensures.kept.0.count ∙ e.count) (e.made (speech_at lens) is_followed is_passed made recover index m.tour.count lens left (map lived_of as') c.args.into.now.items f.begun d at f.frame)
     (λ g. v.made (speech_at lens) is_followed is_passed made recover lens left next (map lived_of as') f.begun begun d at over fewer (subst (λ z. IfSome (slice_get s2 place) (λ s. ComesAt f.begun begun s.place (wish_begun r z (ready_of s.side.hand.laying)))) (sym c.wish_of-wish.ensures) (comes coming r place s0 s1 s2 s3 s4 rooms coms fitted laid began came f.begun)) g) in
+    let made_frame = frame_kept coming r place s0 s1 s2 s3 s4 rooms coms fitted laid began came lens recover made index f.begun next (map lived_of as') c.visit-began.new.frame.items c.visit-began.new.self.count visited_frame in
     record {
       begun = begun;
       frame = subst (λ n. FrameMade (λ ds i a s. StopFills lens recover made begun (c.came.new.self.made % 256) next ds i a s) c.visit-began.new.frame.items n (map lived_of as') s4) (sym c.came.ensures.kept.0.count)
@@ -145,10 +159,24 @@ returns-clause-led c = λ lens recover made from left next as' room rows quiet d
             let left_none = steps_trans _ _ (λ s u. LeavesNone lens recover made l place what_here s u) place s0 s2 s3
             (λ s t u a b. subst (λ z. LeavesNone lens recover made l place z s u) (what_is coming r place s0 s1 s2 s3 s4 rooms coms fitted laid began came t b.0) (leaves_none lens recover made l place coming r s t u (rooms t) a b.1.0 b.1.1)) ready
             (steps_got _ place s2 s3 (steps_both _ _ place s2 s3 begins v.recalled)) in
+            let wish = c.wish_of-wish.result in
+            let octets = c.args.into.now.items in
+            let fit : c.fits.result ≡ true = cc in
+            let roomed = steps_map _ (λ s t. Roomed octets wish s t × (t.stand ≡ s.stand)) place s0 s1
+            (λ s t p. (record { free = λ w. p.0.0.0 (some_wish coming (sym (ap (λ z. is_some z) c.wish_of-wish.ensures) ∙ w)); fits = p.0.0.1; still = p.0.1 }, p.1.1))
+            (steps_both _ _ place s0 s1 (steps_both _ _ place s0 s1 (steps_some (λ s. is_some coming ≡ true → (s.stand ≡ Stand.Open) × (is_free_side s.side ≡ true)) (λ s t. FitsFirst octets wish s) place s0 s1 (e.begins fit) c.coming-coming.ensures.free) e.still) e.step) in
+            let room_kept = steps_trans _ _ (λ s u. Roomy octets wish s u) place s0 s1 s2 (λ s t u a b. roomy octets wish s t u a.1 a.0 b.0) roomed laid in
+            let lacking = steps_map _ (λ t u. Lacking octets wish r t u × (u.place ≡ t.place)) place s2 s3 (λ t u p. (record { lacks = p.0.0; takes = p.0.1; stand = p.1.1.0.1; recalled = p.1.1.1 }, p.1.0.4))
+            (steps_both _ _ place s2 s3 (steps_both _ _ place s2 s3 v.lacks v.takes) (steps_both _ _ place s2 s3 v.lives (steps_both _ _ place s2 s3 v.step v.recalled))) in
+            let went = subst (λ z. StepsAt (λ s u. Went octets z r (slice_get s2 place) s u) place s0 s3) c.wish_of-wish.ensures
+            (steps_trans _ _ (λ s u. Went octets wish r (slice_get s2 place) s u) place s0 s2 s3 (λ s t u a b. record { between = t; is = b.0; roomed = a; lacking = b.1.0; place = b.1.1 }) room_kept (steps_got _ place s2 s3 lacking)) in
+            let without_one = steps_behind (λ i a u. StopFills lens recover made begun index next visited_frame.datagrams i a u) _ (λ s u. u.under ≡ false → what_here ≡ None) 0 place place (map lived_of as') s0 s3 (omega arith)
+            (λ a s u p w n. none_here coming r place s0 s1 s2 s3 s4 rooms coms fitted laid began came w.between w.is (without lens recover made octets (wish_of coming) r begun index next visited_frame.datagrams place a s w.between u p w.roomed w.lacking
+            (now_here coming r place s0 s1 s2 s3 s4 rooms coms fitted laid began came f.begun w.between u a.spot.place w.is w.place p.lives.planned.stands.place_is) n)) visited_frame.each went in
             let before = from_both _ _ 0 as' s0 (from_both _ _ 0 as' s0 (from_map lived_of (λ i a s. StopFills lens recover made f.begun index left f.frame.datagrams i a s) 0 as' s0 f.frame.each) f.among) f.starts.each in
-            let third = from_steps _ (λ i a s. HasStarted lens l2 (place ∷ visited) i (begun_for begun as' i) a s) (λ s u. LeavesNone lens recover made l place what_here s u) 0 place place as' s0 s3 (omega arith)
-            (λ a s u p q. started_here lens recover made l l2 visited place (begun_for begun as' place) what_here a s u fewer_on (at_place f.begun here_is what_here as' place at_spot) (waits_yet lens recover made f.begun index left f.frame.datagrams place a s at p.0.0 p.0.1) q)
-            (λ j a s n p. started_there lens l l2 visited place j (begun_for f.begun as' j) (begun_for begun as' j) a s fewer_on n (at_other f.begun here_is what_here as' place j d at_spot n) p.1) before left_none in
+            let third = from_steps _ (λ i a s. HasStarted lens l2 (place ∷ visited) i (begun_for begun as' i) a s) (λ s u. LeavesNone lens recover made l place what_here s u × (u.under ≡ false → what_here ≡ None)) 0 place place as' s0 s3 (omega arith)
+            (λ a s u p q. started_here lens recover made l l2 visited place (begun_for begun as' place) what_here a s u fewer_on (at_place f.begun here_is what_here as' place at_spot) (waits_yet lens recover made f.begun index left f.frame.datagrams place a s at p.0.0 p.0.1) q.0 q.1)
+            (λ j a s n p. started_there lens l l2 visited place j (begun_for f.begun as' j) (begun_for begun as' j) a s fewer_on n (at_other f.begun here_is what_here as' place j d at_spot n) p.1) before (steps_both _ _ place s0 s3 left_none without_one) in
             from_each (λ i a s. HasStarted lens l2 (place ∷ visited) i (begun_for begun as' i) a s) (λ s t. SomeKept s t) (λ i a s. HasStarted lens l2 (place ∷ visited) i (begun_for begun as' i) a s)
             (λ i a s t p k. started_same lens l2 (place ∷ visited) i (begun_for begun as' i) a s t k.kept.under (recall_kept k.number s t k.kept) p) 0 as' s3 s4 third (Visited.kept coming r place s0 s1 s2 s3 s4 rooms coms fitted laid began came);
       };
@@ -312,3 +340,75 @@ returns-then-not-fits-clause-events c = omega arith
 
 pub returns-clause-events : goal.returns-clause-events
 returns-clause-events c = let e = ap (λ z. z.count) c.lay.ensures.list in let f = c.came.ensures.events in omega (arith, e, f)
+
+pub returns-then-not-fits-clause-serves : goal.returns-then-not-fits-clause-serves
+returns-then-not-fits-clause-serves c = λ lens recover made left next ws d at over fewer f.
+    let m = c.args.self.now in
+    let e = c.fits.ensures in
+    let s0 = m.tour.stops.items in
+    let s1 = c.fits.new.self.stops.items in
+    let alike = steps_each _ (λ s t. Served.Alike s t) c.args.place s0 s1 (λ s. Served.alike_same s)
+    (λ s t p. record { script = p.1.0.3; place = p.0.1; stand = p.1.0.1; passing = p.1.0.2; awaits = p.1.1.1; read = p.1.1.0; out = p.1.0.0.out_is }) (steps_both _ _ c.args.place s0 s1 e.lives (steps_both _ _ c.args.place s0 s1 e.step e.read)) in
+    record {
+      begun = f.begun;
+      frame = subst (λ n. FrameMade (λ ds i a s. StopFills lens recover made f.begun (m.made % 256) left ds i a s) c.args.into.now.items n (map (λ w. lived_of (run_lead w)) ws) s1) (sym e.count)
+          (e.made (speech_at lens) is_followed is_passed made recover (m.made % 256) m.tour.count lens left (map (λ w. lived_of (run_lead w)) ws) c.args.into.now.items f.begun d at f.frame);
+      each = Served.three_each (λ i w ks s. IsServing lens f.begun made left i w ks s) (λ i w ks s. IsServing lens f.begun made left i w ks s) (λ s t. Served.Alike s t) (λ i w ks s t h k. Served.serving_alike lens f.begun made left i w ks s t h k)
+          0 ws (mails_in m) s0 s1 f.each alike;
+    }
+
+pub returns-clause-serves : goal.returns-clause-serves
+returns-clause-serves c = λ lens recover made left next ws d at over fewer f.
+    let m = c.args.self.now in
+    let e = c.fits.ensures in
+    let v = c.visit-began.ensures in
+    let place = c.args.place in
+    let coming = c.coming-coming.result in
+    let r = c.visit-began.result in
+    let s0 = m.tour.stops.items in
+    let s1 = c.fits.new.self.stops.items in
+    let s2 = c.lay.new.self.tour.stops.items in
+    let s3 = c.visit-began.new.self.stops.items in
+    let s4 = c.came.new.self.tour.stops.items in
+    let got = waits_in (mails_in m) place in
+    let lives = map (λ w. lived_of (run_lead w)) ws in
+    let index = m.made % 256 in
+    let rooms : (s : Stop InHand Impl.ghosts) → s.side.out.len ≡ s.side.hand.laying.areas.out = λ s. s.side.room ∙ ap (λ z. z.out) (sym s.side.hand.one_slave) in
+    let frees : (n : ℕ) (s t : Stop InHand Impl.ghosts) → StopKept n s t → is_free_side t.side ≡ is_free_side s.side = λ n s t k. Frees.free_kept n s t k in
+    let alike = steps_each _ (λ s t. Served.Alike s t) place s0 s1 (λ s. Served.alike_same s)
+    (λ s t p. record { script = p.1.0.3; place = p.0.1; stand = p.1.0.1; passing = p.1.0.2; awaits = p.1.1.1; read = p.1.1.0; out = p.1.0.0.out_is }) (steps_both _ _ place s0 s1 e.lives (steps_both _ _ place s0 s1 e.step e.read)) in
+    let ahead = steps_map _ (λ s t. Served.Ahead coming t) place s0 s1
+    (λ s t p. record {
+      next = subst (λ z. IsNextState (slice_get z.script z.number) coming) (sym p.1.0.3) p.0.0;
+      free = λ y. (p.1.0.1 ∙ (p.0.1 y).0, ap (λ z. is_free_side z) (p.1.1 (p.0.1 y).1 (ap is_some c.wish_of-wish.ensures ∙ Served.wish_some coming y)) ∙ (p.0.1 y).1);
+    })
+    (steps_some _ _ place s0 s1 (steps_both _ _ place s0 s1 e.step e.still) (Served.some_pair _ _ (slice_get s0 place) c.coming-coming.ensures.states c.coming-coming.ensures.free)) in
+    let readied = steps_map _ (λ s t. Served.Readied coming got s t) place s1 s2 (λ s t p. record { stays = p.0.0; laid = p.0.1; mail = p.1 }) (steps_both _ _ place s1 s2 c.lay.ensures.laid c.lay.ensures.ready) in
+    let visited = subst (λ z. StepsAt (λ s t. Served.Visited lens recover made z r s t) place s2 s3) c.wish_of-wish.ensures
+    (steps_map _ (λ s t. Served.Visited lens recover made c.wish_of-wish.result r s t) place s2 s3
+    (λ s t p. record {
+      began = record { place = p.0.4; out = p.1.0.0.out_is; ready = p.1.1.0.0; script = p.1.1.0.1; unpassed = p.1.1.0.2 };
+      did = p.1.1.1.0;
+      stand = p.1.0.1;
+      read = p.1.1.1.1.0;
+      passes = λ spot l n planned waits shown stood begins y.
+          let h = p.0.0 (speech_at lens spot) is_followed is_passed made recover spot lens l planned.out_is planned.back_is planned.stands waits shown in
+          Served.passes_on (speech_at lens spot) made l n (wish_begun r c.wish_of-wish.result (ready_of s.side.hand.laying)) h.hold (awaits_reply t.side.hand.course t.side.hand.which t.side.hand.clients) t.stand t.side.passing h.took begins
+          (p.1.1.1.1.1 (speech_at lens spot) made recover spot h.hold l shown stood h.took) y;
+    })
+    (steps_both _ _ place s2 s3 v.lives (steps_both _ _ place s2 s3 v.step (steps_both _ _ place s2 s3 v.began (steps_both _ _ place s2 s3 v.did (steps_both _ _ place s2 s3 v.read v.passing)))))) in
+    let came = c.came.ensures.came in
+    let begun = Served.now lens recover made coming r place got s0 s1 s2 s3 s4 rooms frees ahead readied visited came f.begun in
+    let same = ap (λ n. n % 256) (c.came.ensures.kept.0.made ∙ c.lay.ensures.kept.0.made) in
+    let before = e.made (speech_at lens) is_followed is_passed made recover index m.tour.count lens left lives c.args.into.now.items f.begun d at f.frame in
+    let made_frame = Served.frame lens recover made coming r place got s0 s1 s2 s3 s4 rooms frees ahead readied visited came index f.begun left next lives c.args.into.now.items c.visit-began.new.frame.items m.tour.count c.lay.new.self.tour.count c.visit-began.new.self.count
+    (c.lay.ensures.kept.0.count ∙ e.count) before
+    (λ g. v.made (speech_at lens) is_followed is_passed made recover lens left next lives f.begun begun d at over fewer (subst (λ z. IfSome (slice_get s2 place) (λ s. ComesAt f.begun begun s.place (wish_begun r z (ready_of s.side.hand.laying)))) (sym c.wish_of-wish.ensures) (Served.comes lens recover made coming r place got s0 s1 s2 s3 s4 rooms frees ahead readied visited came f.begun)) g) in
+    let all = Served.three_each (λ i w ks s. IsServing lens f.begun made left i w ks s) (λ i w ks s. IsServing lens f.begun made left i w ks s) (λ s t. Served.Alike s t) (λ i w ks s t h k. Served.serving_alike lens f.begun made left i w ks s t h k) 0 ws (mails_in m) s0 s1 f.each alike in
+    record {
+      begun = begun;
+      frame = subst (λ n. FrameMade (λ ds i a s. StopFills lens recover made begun (c.came.new.self.made % 256) next ds i a s) c.visit-began.new.frame.items n lives s4) (sym c.came.ensures.kept.0.count)
+          (subst (λ k. FrameMade (λ ds i a s. StopFills lens recover made begun k next ds i a s) c.visit-began.new.frame.items c.visit-began.new.self.count lives s4) (sym same) made_frame);
+      each = subst (λ z. ThreeFrom (λ i w ks s. IsServing lens begun made next i w ks s) 0 ws z s4) (sym c.came.ensures.mails)
+          (Served.serving lens recover made coming r place got s0 s1 s2 s3 s4 rooms frees ahead readied visited came f.begun index left next before.datagrams fewer c.coming-coming.ensures.oldest ws (mails_in m) (mails_in c.lay.new.self) at over d before.each all c.lay.ensures.mails refl);
+    }
