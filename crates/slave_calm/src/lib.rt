@@ -2,10 +2,12 @@
 //! no running code: the functions here do nothing, and their contracts state the laws.
 #![tactic(auto)]
 
-ghost use Rattle.std.specs.Prelude.{ℕ};
+ghost use Rattle.std.specs.Prelude.{◌≡◌, ℕ, length, replicate};
 ghost use Rattle.slave_model.specs.Application.{Parts, ArePartsLawful};
 ghost use Rattle.slave_model.specs.Profile.{Profile, IsProfile};
 ghost use Rattle.slave_served.specs.Served.{product_whole};
+ghost use Rattle.soe_model.specs.Elements.{target};
+ghost use Rattle.soe_model.specs.Mails.{fragments_of};
 ghost use Rattle.few_replies.specs.Most.{Tells, AreEnough};
 ghost use Rattle.passed_counts.specs.Calm.{IsCalm};
 ghost use Rattle.slave_calm.specs.Packets.{is_calm, is_fair};
@@ -19,4 +21,9 @@ pub fn slave_calm<T, F, I>()
     ensures enough { (p : Profile) → IsProfile p → AreEnough p 16384 16384 316 }
     // Where lists have 1,024 octets and elements 4,096, as of a plan's slaves, 76 are enough.
     ensures smaller { (p : Profile) → IsProfile p → AreEnough p 1024 4096 76 }
+{}
+
+/// A worked row: an element of 4,096 octets goes through a mailbox of 64 in just as many fragments.
+pub fn element_row()
+    ensures { length (fragments_of 64 2 (target 0 100 64) (replicate 4096 7)) ≡ 76 }
 {}
