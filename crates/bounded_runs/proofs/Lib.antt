@@ -1,1 +1,2 @@
+mod Recalled
 mod Uncut

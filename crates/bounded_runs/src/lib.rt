@@ -1,5 +1,4 @@
-//! A run is never cut off by a budget of as many frames as the bound. Definitions and a law, no running code: the function here does nothing, and its contract
-//! states the law.
+//! A run is never cut off by a budget of as many frames as the bound. Laws, no running code: the functions here do nothing, and their contracts state the laws.
 #![tactic(auto)]
 
 ghost use Rattle.std.specs.Prelude.{◌≢◌, ◌≤◌, ℕ, List, map};
@@ -7,6 +6,7 @@ ghost use Rattle.link_mails.specs.Body.{Body};
 ghost use Rattle.master_duty.specs.Reply.{Reply};
 ghost use Rattle.master_hand.specs.Spoken.{Asked};
 ghost use Rattle.plan_ring.specs.Lives.{IsKnown};
+ghost use Rattle.plan_rooms.specs.Rooms.{HasRoom};
 ghost use Rattle.run_book.specs.declared.book.Book.{Book};
 ghost use Rattle.run_book.specs.declared.book.Ending.{Ending};
 ghost use Rattle.run_book.specs.declared.book.Ending.TheVariants as endings;
@@ -28,4 +28,14 @@ pub fn bounded_law()
 {
     run_work::run_bound();
     switched_runs::switched_run_law();
+}
+
+/// SO NO RUN OF A PLAN IS CUT OFF by such a budget, whatever frames are lost, where each of its services has room: its master makes no visit in vain by what it
+/// remembers, and its slaves send no mail that isn't due.
+pub fn uncut_law()
+    ensures { (plan : Scenario) (book : Book) (ending : Ending) → IsPlan plan → IsKnown plan → HasRoom plan → HasFrames plan book → EndsAs plan book ending → LedBook plan book ending →
+        bound_of plan 0 ≤ budget_of plan 0 → ending ≢ endings.BudgetSpent }
+{
+    bounded_law();
+    eager_runs::eager_run_law();
 }

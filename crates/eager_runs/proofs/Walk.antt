@@ -30,7 +30,8 @@ use Rattle.slave_server.specs.Serving.{Serving}
 use Rattle.slave_steps.specs.Node.{Node}
 use Rattle.visit_orders.specs.Toured as Visits
 use Rattle.wait_runs.specs.Eager.{AllRest, AllUnpassed, IsEagerFrame}
-use Rattle.eager_runs.specs.Runs.{MailsAreDue, ScriptsMay, remembered, waiting_at}
+use Rattle.plan_dues.specs.Dues.{MailsAreDue}
+use Rattle.eager_runs.specs.Runs.{ScriptsMay, remembered, waiting_at}
 use Rattle.eager_runs.proofs.Counts.{came_more, entered_few, lost_more, lost_one}
 use Rattle.eager_runs.proofs.Frames.{all_eager, all_known, all_quiet, all_remember, gets_none, lost_known}
 use Rattle.eager_runs.proofs.Ports.{none_before, none_more}

@@ -14,6 +14,7 @@ use Rattle.run_book.specs.declared.book.Ending.{Ending}
 use Rattle.run_book.specs.declared.book.Ending.TheVariants as endings
 use Rattle.segment_plan.specs.Sound.{IsPlan}
 use Rattle.run_book.specs.Book.{IsNew}
+use Rattle.promised_run.specs.Bounded.{IsBounded}
 use Rattle.promised_run.specs.Promised.{IsPromised}
 use Rattle.promised_run.specs.Ran.{HasFrames, EndsAs}
 use Rattle.ecmbx_words.specs.declared.status.Status.{Status}
@@ -69,8 +70,8 @@ save_unread name before table faulted book octets old new status fresh (inl memo
 save_unread name before table faulted book octets old new status fresh (inr (e, is, ended)) = inr (statuses.Refused, refused_line e, SavedCourse.refused e is fresh, ended)
 
 -- what a run left
-pub has_run : (plan : Scenario) (book : Book) (ending : Ending) → HasFrames plan book → IsPromised plan book → EndsAs plan book ending → book.ending ≡ ending → HasRun plan book
-has_run plan book ending frames promise ends is = record { frames = frames; promise = promise; ending = subst (λ e. EndsAs plan book e) (sym is) ends }
+pub has_run : (plan : Scenario) (book : Book) (ending : Ending) → HasFrames plan book → IsPromised plan book → IsBounded plan book → EndsAs plan book ending → book.ending ≡ ending → HasRun plan book
+has_run plan book ending frames promise bounded ends is = record { frames = frames; promise = promise; bounded = bounded; ending = subst (λ e. EndsAs plan book e) (sym is) ends }
 
 -- a save that failed ends a run without a text
 pub save_failed : (name : List ℕ) (before table : Option Table) (faulted : Type 0) (plan : Scenario) (book : Book) (octets : List ℕ) (old : Option (List ℕ)) (status : Status) → plan_of octets ≡ Ok plan → HasRun plan book → IsUnsaved faulted status → Followed (SavedCourse name before table faulted book octets) old old status

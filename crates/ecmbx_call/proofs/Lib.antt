@@ -5,6 +5,7 @@ mod Told
 mod Found
 mod Endings
 pub mod Causes
+mod Complete
 mod Frames
 pub mod Calls
 mod Words

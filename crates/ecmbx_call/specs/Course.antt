@@ -14,6 +14,7 @@ use Rattle.scenario_made.specs.Made.{text_of as made_text}
 use Rattle.run_book.specs.declared.book.Book.{Book}
 use Rattle.run_book.specs.Ports.{ports_of, IsAtPort}
 use Rattle.run_book.specs.Book.{IsNew}
+use Rattle.promised_run.specs.Bounded.{IsBounded}
 use Rattle.promised_run.specs.Promised.{IsPromised}
 use Rattle.promised_run.specs.Ran.{HasFrames, EndsAs}
 use Rattle.run_report.specs.Report.{report_lines}
@@ -36,10 +37,12 @@ use Rattle.ecmbx_call.specs.Files.{limit, IsSaved}
 abbrev pub words_of : List (String Global) → List (List ℕ)
 words_of words = map string_bytes words
 
--- what the run of a plan left in its book: its frames, the promise for each slave, and an ending with its cause
+-- what the run of a plan left in its book: its frames, the promise for each slave, and an ending with its cause; a budget of as many frames as the bound
+-- didn't cut it off, and where few frames in a row were lost all is done
 pub record HasRun (plan : Scenario) (book : Book) : Type 0 where
   pub frames : HasFrames plan book
   pub promise : IsPromised plan book
+  pub bounded : IsBounded plan book
   pub ending : EndsAs plan book book.ending
 
 -- a run or serving that can be reported: each slave has its row, and each event is at a port of the switch

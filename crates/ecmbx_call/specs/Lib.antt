@@ -4,6 +4,7 @@ pub mod Files
 pub mod Serving
 pub mod Course
 pub mod Causes
+pub mod Complete
 pub mod Calls
 pub mod First
 pub mod Asks

@@ -5,6 +5,7 @@ ghost use Rattle.run_book.specs.Book.{IsNew};
 ghost use Rattle.ecmbx_words.specs.declared.form.Form.TheVariants as forms;
 ghost use Rattle.ecmbx_words.specs.declared.status.Status.TheVariants as statuses;
 ghost use Rattle.ecmbx_words.specs.Form.{form_in};
+ghost use Rattle.ecmbx_call.specs.Complete.{CompletesTo};
 ghost use Rattle.ecmbx_call.specs.Course.{words_of, RunsFile, SavesFile, ShowsFile, AuditsFile, CarriesOut, Began, BeganIn};
 ghost use Rattle.ecmbx_call.specs.Serving.{ServesFile, ServedIn};
 ghost use Rattle.gateway_run.specs.Serving.{told};
@@ -166,6 +167,10 @@ pub fn ecmbx<F: Files, O: Sink, P: Port>(
 
     // The same with CAPTURE: what stands under that name is the capture of the very frames of the book.
     ensures saves { (plan : Plan) → IsCalm F.file_faults files.old files.new → SavesTo (words_of words.now) (F.table files.old) (F.table files.new) plan book.new (O.written out.old) (O.written out.new) result }
+
+    // Either with a budget of as many frames as the bound: all is done, or a slave was given up and nothing is left of the others; and all is done where no more frames
+    // in a row are lost than the retry limit.
+    ensures completes { (plan : Plan) → IsCalm F.file_faults files.old files.new → IsCalm O.sink_faults out.old out.new → CompletesTo (words_of words.now) (F.table files.old) plan book.new result }
 
     // A found scenario that is served: the book has its frames and the datagrams that the port heard and sent, and what is written is its report.
     ensures serves { (plan : Plan) → IsCalm F.file_faults files.old files.new → ServesTo (words_of words.now) (F.table files.old) (told P.heard P.sent P.over P.port_faults port.old) (told P.heard P.sent P.over P.port_faults port.new) plan book.new (O.written out.old) (O.written out.new) result }

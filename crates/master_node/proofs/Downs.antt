@@ -164,6 +164,16 @@ module _ (x : Speech Body Asked Reply) (recover number : ℕ) (spot : Spot) (sen
   lost_stays l Lives.Stand.Open = (refl, refl)
   lost_stays l Lives.Stand.Gone = (refl, refl)
 
+  pub given_is : (gives : Bool) (l : SlaveLife) (news : Option Turned) → news ≡ turned l (given_where gives recover spot number (lost_of l)) → is_given_up news ≡ gives
+  given_is true l news t =
+      let m = given_where true recover spot number (lost_of l) in
+      let more : nat_lt (length l.gave) (length m.gave) ≡ true = ap (λ (z : List ℕ). nat_lt (length l.gave) (length (z ++ number ∷ []))) (lost_stays l l.stand).1 ∙ lt_more l.gave number in
+      ap is_given_up (t ∙ ap (λ z. turned_by z (nat_lt (length l.past) (length m.past)) (is_opening l.stand && is_open m.stand)) more)
+  given_is false l news t =
+      let m = lost_of l in
+      let same : nat_lt (length l.gave) (length m.gave) ≡ false = ap (λ (z : List ℕ). nat_lt (length l.gave) (length z)) (lost_stays l l.stand).1 ∙ lt_self (length l.gave) in
+      ap is_given_up (t ∙ ap (λ z. turned_by z (nat_lt (length l.past) (length m.past)) (is_opening l.stand && is_open m.stand)) same) ∙ not_turned (nat_lt (length l.past) (length m.past)) (is_opening l.stand && is_open m.stand)
+
   -- one that a frame gives up, or doesn't
   pub gone_is : (gives : Bool) (l : SlaveLife) (news : Option Turned) (live : Bool) → (gives ≡ true → is_led l.stand ≡ true) → news ≡ turned l (given_where gives recover spot number (lost_of l)) →
       live ≡ is_led (given_where gives recover spot number (lost_of l)).stand → (is_given_up news && not live) ≡ (is_led l.stand && not (is_led (given_where gives recover spot number (lost_of l)).stand))

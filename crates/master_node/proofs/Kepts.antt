@@ -39,6 +39,8 @@ side_same s = record {
   carried = refl;
   heard = refl;
   found = refl;
+  read = refl;
+  pace = refl;
 }
 
 pub stop_same : {G : Ghosts InHand} (s : Stop InHand G) → StopStays s s
@@ -63,6 +65,8 @@ stop_on n m s t u a b = record {
     carried = b.side.carried ∙ a.side.carried;
     heard = b.side.heard ∙ a.side.heard;
     found = b.side.found ∙ a.side.found;
+    read = b.side.read ∙ a.side.read;
+    pace = b.side.pace ∙ a.side.pace;
   };
   stand = b.stand ∙ a.stand;
   place = b.place ∙ a.place;

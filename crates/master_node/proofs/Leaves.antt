@@ -115,11 +115,8 @@ pub area_planned : {G : Ghosts InHand} (lens : ℕ → Lens) (spot : Spot) (s : 
 area_planned lens spot s p = λ i. larger ((sym p.out_is ∙ ap (λ z. (lens z).out) p.stands.station_is) i) ((sym p.back_is ∙ ap (λ z. (lens z).back) p.stands.station_is) i)
 
 -- those that it carries are the ones that come again, should it be lost
-pub fit_under : (octets : List ℕ) (m n : MasterNode) → length octets ≤ 1514 → HasVisited octets m n → FitUnder n.tour.visit.items n.tour.stops.items
-fit_under octets m n small h = record {
-  few = let e = ap length visits in let c = h.count in let l = h.most in omega (arith, e, c, l);
-  fit = subst (λ z. FitFrom (λ s. IsSentStop s) n.tour.stops.items 1514 16 z) (sym visits) (fit_wider (λ s. IsSentStop s) n.tour.stops.items (length octets) 1514 16 h.places small h.way);
-}
+pub visits_are : (octets : List ℕ) (m n : MasterNode) (h : HasVisited octets m n) → n.tour.visit.items ≡ h.places
+visits_are octets m n h = go m.tour.again refl
   where
     none : (z : Bool) (rest : List ℕ) → z ≡ true → LeavesFull octets n.tour.stops.items z rest → rest ≡ []
     none z [] e l = refl
@@ -133,5 +130,10 @@ fit_under octets m n small h = record {
         let same = ap (λ z. visit_of live (length m.tour.stops.items) (again_of z m.tour.visit.items) m.tour.opened m.tour.last) (sym e) ∙ h.split ∙ ap (λ z. h.places ++ z) (none m.tour.again h.rest e h.leaves) ∙ append-nil h.places in
         h.comes ∙ ap (λ z. visit_on (again_of z m.tour.visit.items) h.places) e ∙ same
 
-    visits : n.tour.visit.items ≡ h.places
-    visits = go m.tour.again refl
+pub fit_under : (octets : List ℕ) (m n : MasterNode) → length octets ≤ 1514 → HasVisited octets m n → FitUnder n.tour.visit.items n.tour.stops.items
+fit_under octets m n small h =
+    let visits = visits_are octets m n h in
+    record {
+      few = let e = ap length visits in let c = h.count in let l = h.most in omega (arith, e, c, l);
+      fit = subst (λ z. FitFrom (λ s. IsSentStop s) n.tour.stops.items 1514 16 z) (sym visits) (fit_wider (λ s. IsSentStop s) n.tour.stops.items (length octets) 1514 16 h.places small h.way);
+    }

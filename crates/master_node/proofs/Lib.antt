@@ -36,6 +36,14 @@ pub mod Visitings
 pub mod Eagers
 pub mod Servings
 pub mod Serveds
+pub mod Mailings
+pub mod Mailed
+pub mod FreeKept
+pub mod ServedVisits
+pub mod Roundings
+pub mod ServedSents
+pub mod Droppeds
+pub mod ServedLosts
 pub mod Entering
 pub mod Frees
 pub mod Starts

@@ -115,7 +115,7 @@ next_stands x made l (Lives.Stand.Opens o) pick e = e
 next_stands x made l Lives.Stand.Open pick e = e
 next_stands x made l Lives.Stand.Gone pick e = e
 
-took_of : (made : ℕ) (old new : Account Asked Reply) (p b : Option (Service Asked)) → p ≡ b → new.started ≡ old.started ++ started_by made p → Took made old new b
+pub took_of : (made : ℕ) (old new : Account Asked Reply) (p b : Option (Service Asked)) → p ≡ b → new.started ≡ old.started ++ started_by made p → Took made old new b
 took_of made old new p None e s = tt
 took_of made old new None (Some b) e s = absurd (cc)
 took_of made old new (Some a) (Some b) e s = subst (λ z. new.started ≡ old.started ++ started_by made z) e s

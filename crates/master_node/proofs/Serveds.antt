@@ -50,7 +50,7 @@ back_made m made e l =
     ap (λ z. z % 2 ^ 32) n ∙ add-mod_right made (2 ^ 32) ∙ mod-eq_of_lt (omega (arith, l))
 
 -- where the life is open the master has it so
-open_stand : (shows : Side Body Asked Reply → Account Asked Reply → Type 0) (spot : Spot) (stand : Stand) (l : Life Body Asked Reply) → StandShows shows spot stand l → l.stand ≡ Lives.Stand.Open → stand ≡ Stand.Open
+pub open_stand : (shows : Side Body Asked Reply → Account Asked Reply → Type 0) (spot : Spot) (stand : Stand) (l : Life Body Asked Reply) → StandShows shows spot stand l → l.stand ≡ Lives.Stand.Open → stand ≡ Stand.Open
 open_stand shows spot (Stand.Opening up) l s e = absurd (let t = sym s.stand ∙ e in cc)
 open_stand shows spot Stand.Open l s e = refl
 open_stand shows spot Stand.Gone l s e = absurd (let t = sym s ∙ e in cc)

@@ -39,7 +39,7 @@ abbrev EachOf : {T : Type 0} → (T → Type 0) → List T → Type 0
 EachOf P [] = ⊤
 EachOf P (x ∷ xs) = P x × EachOf P xs
 
-abbrev keyed : Asked → Keyed
+abbrev pub keyed : Asked → Keyed
 keyed a = record { key = a.key; mail = a.mail }
 
 keyed_more : (as' bs : List Asked) → map keyed (as' ++ bs) ≡ map keyed as' ++ map keyed bs

@@ -24,6 +24,8 @@ pub record SideKept {G : Ghosts InHand} (n : ℕ) (s t : Side InHand G) : Type 0
   pub carried : t.carried ≡ s.carried
   pub heard : t.heard ≡ s.heard
   pub found : t.hand.found ≡ s.hand.found
+  pub read : t.read_at ≡ s.read_at
+  pub pace : t.pace ≡ s.pace
 
 -- and so has its place in the tour
 pub record StopKept {G : Ghosts InHand} (n : ℕ) (s t : Stop InHand G) : Type 0 where

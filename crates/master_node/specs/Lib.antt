@@ -43,6 +43,8 @@ pub mod Arrivals
 pub mod Eager
 pub mod Resting
 pub mod Serving
+pub mod Passes
+pub mod Dropped
 pub mod Entering
 pub mod Starts
 pub mod Recalled

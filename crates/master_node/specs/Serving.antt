@@ -10,6 +10,8 @@ use Rattle.master_hand.specs.declared.hand.InHand.{InHand}
 use Rattle.master_side.specs.declared.hand.Hand.{Ghosts}
 use Rattle.master_side.specs.of_mailbox_mail.declared.mail.Mail.{Mail}
 use Rattle.master_tour.specs.Counting.{StopCounts}
+use Rattle.master_tour.specs.Goes.{holds_at}
+use Rattle.master_tour.specs.Made.{is_in}
 use Rattle.master_tour.specs.Passing.{StandPassing}
 use Rattle.master_tour.specs.Stands.{StandUnder}
 use Rattle.master_tour.specs.declared.stop.Stop.{Stop}
@@ -86,7 +88,7 @@ module _ (lens : ℕ → Lens) where
         pub made_is : m.made ≡ made
         pub early : made < 2 ^ 32
 
-      -- THE MASTER WHILE THAT FRAME IS UNDER WAY
+      -- THE MASTER WHILE THAT FRAME IS UNDER WAY; the slaves of which that has a datagram come again, should it be lost
       pub record ServedUnder (m : MasterNode) (octets : List ℕ) (missed made : ℕ) (vs : List ServedTurn) : Type 0 where
         pub each : AllThree (λ v p s. IsServedUnder octets made v p s) vs m.posts.items m.tour.stops.items
         pub distinct : AreDistinct (map (λ v. v.turn.lived) vs)
@@ -95,6 +97,7 @@ module _ (lens : ℕ → Lens) where
         pub retry_is : m.tour.retry ≡ retry
         pub sent : 1 ≤ length (seen lens octets)
         pub fits : FitUnder m.tour.visit.items m.tour.stops.items
+        pub carried : (k : ℕ) → holds_at (λ s. s.under) m.tour.stops.items k ≡ true → is_in k m.tour.visit.items ≡ true
         pub made_is : m.made ≡ suc made
         pub early : suc made < 2 ^ 32
 

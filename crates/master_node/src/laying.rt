@@ -1,6 +1,6 @@
 //! Services that are laid ready in the hand of a slave's side.
 
-ghost use Rattle.std.specs.Prelude.{◌≡◌, ◌≤◌, ◌<◌, suc, length};
+ghost use Rattle.std.specs.Prelude.{◌≡◌, ◌≤◌, ◌<◌, ◌+◌, suc, length};
 ghost use Rattle.master_hand.specs.declared.laying.Laid.{Laid};
 ghost use Rattle.master_node.specs.Kept.{SideKept};
 
@@ -21,7 +21,8 @@ pub fn lay_packet(side: &mut Side<InHand>, packet: &Packet)
 
 /// A mail that is passed on is laid ready, if it fits the slave's mailbox.
 pub fn lay_mail(side: &mut Side<InHand>, mail: &Mail)
-    ensures { SideKept side.old.hand.laying.number side.old side.new }
+    ensures kept { SideKept side.old.hand.laying.number side.old side.new }
+    ensures laid { 6 + length mail.now.body.items ≤ side.old.out.len → (side.new.hand.laying.laid ≡ Laid.Mail) × (side.new.hand.laying.mail ≡ record { kind = mail.now.kind; body = mail.now.body }) }
 {
     if 6 + mail.body.len() <= side.out_len as usize {
         side.hand.lay_mail(mail);

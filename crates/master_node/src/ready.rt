@@ -26,6 +26,8 @@ impl MasterNode {
     ghost use Rattle.master_side.specs.Free.{is_free_side};
     ghost use Rattle.master_node.specs.Origins.{LaysFrom};
     ghost use Rattle.master_node.specs.Begins.{IsOldest, LaysOldest, PacketFirst};
+    ghost use Rattle.master_node.specs.Serving.{mails_in};
+    ghost use Rattle.master_node.specs.Passes.{IsNextState, IsReady, LaysMail, MailWaits, waits_behind, waits_in};
 
     // What may come into hand of an open slave: a packet first, then a mail that is passed on, then the script. One that has something in hand takes
     // nothing.
@@ -37,6 +39,8 @@ impl MasterNode {
         ensures mails { IfSome (slice_get self.now.tour.stops.items place) (λ s. result ≡ Some Coming.Script → IsByMails (next_of s)) }
         ensures waits { WaitsFor self.now.lan place result }
         ensures free { IfSome (slice_get self.now.tour.stops.items place) (λ s. is_some result ≡ true → is_free_side s.side ≡ true) }
+        ensures states { IfSome (slice_get self.now.tour.stops.items place) (λ s. IsNextState (next_of s) result) }
+        ensures oldest { MailWaits (waits_in (mails_in self.now) place) result }
     {
         let stop = &self.tour.stops[place];
         if !stop.side.is_free() {
@@ -60,6 +64,8 @@ impl MasterNode {
         ensures mails { IfSome (slice_get self.now.tour.stops.items place) (λ s. result ≡ Some Coming.Script → IsByMails (next_of s)) }
         ensures waits { WaitsFor self.now.lan place result }
         ensures free { IfSome (slice_get self.now.tour.stops.items place) (λ s. is_some result ≡ true → (s.stand ≡ Stand.Open) × (is_free_side s.side ≡ true)) }
+        ensures states { IfSome (slice_get self.now.tour.stops.items place) (λ s. IsNextState (next_of s) result) }
+        ensures oldest { MailWaits (waits_in (mails_in self.now) place) result }
     {
         let stop = &self.tour.stops[place];
         match stop.stand {
@@ -80,6 +86,7 @@ impl MasterNode {
         ensures lan { self.new.lan ≡ self.old.lan }
         ensures list { self.new.list ≡ self.old.list }
         ensures origins { StepsAt (λ s t. StepsAt (λ p q. LaysFrom (Some Coming.Packet) s.side.hand.laying.number p q) place self.old.posts.items self.new.posts.items) place self.old.tour.stops.items self.new.tour.stops.items }
+        ensures mails { mails_in self.new ≡ mails_in self.old }
     {
         let post = &mut self.posts[place];
         post.next = Work::Packet;
@@ -99,6 +106,8 @@ impl MasterNode {
         ensures lan { self.new.lan ≡ self.old.lan }
         ensures list { self.new.list ≡ self.old.list }
         ensures origins { StepsAt (λ s t. StepsAt (λ p q. LaysFrom (Some Coming.Mail) s.side.hand.laying.number p q) place self.old.posts.items self.new.posts.items) place self.old.tour.stops.items self.new.tour.stops.items }
+        ensures mails { StepsAt (λ ks ls. ls ≡ waits_behind (Some Coming.Mail) ks) place (mails_in self.old) (mails_in self.new) }
+        ensures ready { StepsAt (λ s t. IsReady t.side.out.len (waits_in (mails_in self.old) place) t.side.hand.laying) place self.old.tour.stops.items self.new.tour.stops.items }
     {
         let post = &mut self.posts[place];
         post.origin = Origin::Gateway(post.oldest());
@@ -117,6 +126,7 @@ impl MasterNode {
         ensures lan { self.new.lan ≡ self.old.lan }
         ensures list { self.new.list ≡ self.old.list }
         ensures origins { StepsAt (λ s t. StepsAt (λ p q. LaysFrom (Some Coming.Script) s.side.hand.laying.number p q) place self.old.posts.items self.new.posts.items) place self.old.tour.stops.items self.new.tour.stops.items }
+        ensures mails { mails_in self.new ≡ mails_in self.old }
     {
         let side = &mut self.tour.stops[place].side;
         let number = side.hand.number();
@@ -135,6 +145,7 @@ impl MasterNode {
         ensures lan { self.new.lan ≡ self.old.lan }
         ensures list { self.new.list ≡ self.old.list }
         ensures origins { StepsAt (λ s t. StepsAt (λ p q. (q.forwards ≡ p.forwards) × (q.origin ≡ Origin.Script s.side.hand.laying.number)) place self.old.posts.items self.new.posts.items) place self.old.tour.stops.items self.new.tour.stops.items }
+        ensures mails { mails_in self.new ≡ mails_in self.old }
     {
         let number = self.tour.stops[place].side.hand.number();
         let post = &mut self.posts[place];
@@ -153,6 +164,8 @@ impl MasterNode {
         ensures lan { self.new.lan ≡ self.old.lan }
         ensures list { self.new.list ≡ self.old.list }
         ensures origins { StepsAt (λ s t. StepsAt (λ p q. LaysFrom (Some coming) s.side.hand.laying.number p q) place self.old.posts.items self.new.posts.items) place self.old.tour.stops.items self.new.tour.stops.items }
+        ensures mails { StepsAt (λ ks ls. ls ≡ waits_behind (Some coming) ks) place (mails_in self.old) (mails_in self.new) }
+        ensures ready { StepsAt (λ s t. LaysMail (Some coming) t.side.out.len (waits_in (mails_in self.old) place) t.side.hand.laying) place self.old.tour.stops.items self.new.tour.stops.items }
     {
         match coming {
             Coming::Packet => self.lay_packet(place),
@@ -174,6 +187,8 @@ impl MasterNode {
         ensures lan { self.new.lan ≡ self.old.lan }
         ensures list { self.new.list ≡ self.old.list }
         ensures origins { StepsAt (λ s t. StepsAt (λ p q. LaysFrom coming s.side.hand.laying.number p q) place self.old.posts.items self.new.posts.items) place self.old.tour.stops.items self.new.tour.stops.items }
+        ensures mails { StepsAt (λ ks ls. ls ≡ waits_behind coming ks) place (mails_in self.old) (mails_in self.new) }
+        ensures ready { StepsAt (λ s t. LaysMail coming t.side.out.len (waits_in (mails_in self.old) place) t.side.hand.laying) place self.old.tour.stops.items self.new.tour.stops.items }
     {
         match coming {
             None => {}

@@ -38,7 +38,10 @@ impl MasterNode {
     ghost use Rattle.master_node.specs.Origins.{forwards_at};
     ghost use Rattle.master_node.specs.Happened.{Happens, HappensSo};
     ghost use Rattle.master_node.specs.Shows.{MasterShows, MasterUnder};
-    ghost use Rattle.master_node.specs.Serving.{TellsOnly, ServedShows, ServedUnder};
+    ghost use Rattle.master_node.specs.Serving.{TellsOnly, ServedShows, ServedUnder, mails_in};
+    ghost use Rattle.master_node.specs.Dropped.{Drops, gave_at};
+    ghost use Rattle.master_tour.specs.Walks.{StepsAt};
+    ghost use Rattle.std.specs.Prelude.{◌∷◌};
     ghost use Rattle.served_runs.specs.Served.{ServedTurn, served_behind};
     ghost use Rattle.std.specs.Prelude.{suc};
     ghost use Rattle.master_tour.specs.Toured.{goes_on, lost_on};
@@ -310,6 +313,7 @@ impl MasterNode {
         ensures kept { NodeKept self.old self.new }
         ensures lan { self.new.lan ≡ self.old.lan }
         ensures tour { self.new.tour ≡ self.old.tour }
+        ensures mails { StepsAt (λ ks ls. ls ≡ []) place (mails_in self.old) (mails_in self.new) }
     {
         self.posts[place].drop_all();
     }
@@ -321,6 +325,7 @@ impl MasterNode {
         ensures kept { NodeKept self.old self.new }
         ensures lan { Happens 1 self.old.lan self.new.lan }
         ensures tour { self.new.tour ≡ self.old.tour }
+        ensures mails { mails_in self.new ≡ mails_in self.old }
         ensures listed { Lists (down_by (port_by (slice_get self.old.lan.ports.items place)) (holds_at (λ s. not (is_live s.stand)) self.old.tour.stops.items place)) self.old.lan self.new.lan }
     {
         if !self.tour.stops[place].is_live() {
@@ -335,6 +340,7 @@ impl MasterNode {
         ensures kept { NodeKept self.old self.new }
         ensures lan { Happens 1 self.old.lan self.new.lan }
         ensures tour { self.new.tour ≡ self.old.tour }
+        ensures mails { Drops (λ p. gave_at self.old.tour.stops.items p) (place ∷ []) (mails_in self.old) (mails_in self.new) }
         ensures listed { Lists (down_by (port_by (slice_get self.old.lan.ports.items place)) (gives_at self.old.tour.stops.items place)) self.old.lan self.new.lan }
     {
         if !is_given_up(self.tour.stops[place].news) {
@@ -353,6 +359,7 @@ impl MasterNode {
         ensures kept { NodeKept self.old self.new }
         ensures lan { Happens 1 self.old.lan self.new.lan }
         ensures tour { self.new.tour ≡ self.old.tour }
+        ensures mails { Drops (λ p. gave_at self.old.tour.stops.items p) (place ∷ []) (mails_in self.old) (mails_in self.new) }
         ensures listed { Lists (down_by (port_by (slice_get self.old.lan.ports.items place)) (gives_at self.old.tour.stops.items place)) self.old.lan self.new.lan }
     {
         if place < self.posts.len() {
@@ -365,6 +372,8 @@ impl MasterNode {
         ensures posts { vec_len self.new.posts ≡ vec_len self.old.posts }
         ensures kept { NodeKept self.old self.new }
         ensures lan { Happens 16 self.old.lan self.new.lan }
+        ensures tour { self.new.tour ≡ self.old.tour }
+        ensures mails { Drops (λ p. gave_at self.old.tour.stops.items p) self.old.tour.visit.items (mails_in self.old) (mails_in self.new) }
         ensures listed { Lists (downs_in self.old.lan.ports.items (λ p. gives_at self.old.tour.stops.items p) self.old.tour.visit.items) self.old.lan self.new.lan }
     {
         for k in 0..self.tour.visit.len() {
@@ -385,6 +394,8 @@ impl MasterNode {
         ensures happened { HappensSo self.old.lan self.new.lan }
         ensures downs { (lens : ℕ → Lens) (recover retry missed number after : ℕ) (octets : List ℕ) (us : List Turn) (f : Exchanged) → f.fate ≡ Fate.Lost after → f.sent ≡ octets → MasterUnder lens recover retry self.old octets missed us →
             GoDown self.old us (map (led_behind lens recover retry (gives_up_at lens recover retry missed) number f) us) self.new }
+        ensures served { (lens : ℕ → Lens) (recover retry missed made after : ℕ) (octets : List ℕ) (vs : List ServedTurn) (f : Exchanged) → f.fate ≡ Fate.Lost after → f.sent ≡ octets → ServedUnder lens recover retry self.old octets missed made vs →
+            ServedShows lens recover retry self.new (missed_behind lens recover retry f.fate missed) (suc made) (map (served_behind lens recover retry (gives_up_at lens recover retry missed) made f) vs) }
         ensures counts { (k : ℕ) → forwards_at self.new.posts.items k ≡ forwards_at self.old.posts.items k }
         ensures recalls { (lens : ℕ → Lens) (recover retry missed : ℕ) (octets : List ℕ) (us : List Turn) → MasterUnder lens recover retry self.old octets missed us → AllRecall lens [] us (recalls self.old) (recalls self.new) }
     {

@@ -10,3 +10,4 @@ mod Ports
 mod Rows
 mod Numbers
 mod Overs
+mod Bounded

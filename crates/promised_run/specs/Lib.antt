@@ -7,6 +7,7 @@ pub mod Few
 pub mod Ports
 pub mod Numbers
 pub mod Packets
+pub mod Bounded
 pub mod Promised
 pub use Rattle.run_record.specs.Ran
 pub use Rattle.run_record.specs.Session

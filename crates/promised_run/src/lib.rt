@@ -6,9 +6,12 @@ ghost use Rattle.run_book.specs.Book.{IsNew};
 ghost use Rattle.run_record.specs.Ran.{HasFrames, EndsAs};
 ghost use Rattle.run_promises.specs.of_scenario.Told.{IsTold};
 ghost use Rattle.segment_plan.specs.Sound.{IsPlan};
+ghost use Rattle.promised_run.specs.Bounded.{IsBounded};
 ghost use Rattle.promised_run.specs.Promised.{IsPromised};
 
+use bounded_runs::uncut_law;
 use life_runs::epochs_law;
+use plan_rooms::room_law;
 use run_book::{Book, Ending};
 use run_promises::{read_promise_law, rest_promise_law};
 use script_runs::script_run_law;
@@ -16,13 +19,15 @@ use segment_plan::Scenario;
 use std::alloc::Global;
 
 /// Runs a plan that was read, as `run_record` does. Whatever frames are lost, each slave begins just the first services of its script, each once and
-/// in order; it has carried out in each epoch just the first of these, and each reply is its application's.
+/// in order; it has carried out in each epoch just the first of these, and each reply is its application's. A budget of as many frames as the bound never cuts
+/// it off; and where no more in a row are lost than the retry limit, all is done.
 pub fn run(alloc: Global, plan: &Scenario, book: &mut Book) -> Ending
     requires plan { IsPlan plan.now }
     requires told { IsTold plan.now }
     requires new { IsNew book.old }
     ensures frames { HasFrames plan.now book.new }
     ensures promise { IsPromised plan.now book.new }
+    ensures bounded { IsBounded plan.now book.new }
     ensures ends { EndsAs plan.now book.new result }
     ensures ending { book.new.ending ≡ result }
     ensures serving { book.new.serving ≡ false }
@@ -33,5 +38,7 @@ pub fn run(alloc: Global, plan: &Scenario, book: &mut Book) -> Ending
     rest_promise_law();
     script_run_law();
     epochs_law();
+    room_law();
+    uncut_law();
     run_record::run(alloc, plan, book)
 }

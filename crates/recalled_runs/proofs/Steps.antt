@@ -64,19 +64,23 @@ module _ (plan : Scenario) (m0 m1 m2 : MasterNode) (f : Exchanged) (us : List Tu
   pub made_is : IsLanOf plan m1.lan (es ++ events_of m1.lan.happened)
   made_is = record { ports = ap (λ (p : ArrayVec (Option ℕ)). p.items) making.0 ∙ ports; switch = sym stands }
 
-  pub at_switch : PacketsBegin m0.lan.switch us m1.lan → (f.fate ≡ Pass → ComeIn m1 (λ k. completed_at (seen (lens_of plan.slaves) f.back) us js k) m2) → es' ≡ es ++ (events_of m1.lan.happened ++ events_of m2.lan.happened) → AtSwitch plan f us es es'
-  at_switch begins arrivals grown = record {
-    making = events_of m1.lan.happened;
-    only = all_events m1.lan.happened making.1;
-    visited = begins.visited;
-    once = begins.once;
-    taken = ap (λ s. taken_in s (events_of m1.lan.happened)) stood ∙ begins.taken ∙ ap (λ ps. begins_in ps (begun_of us) begins.visited) made_is.ports;
-    others = begins.others;
-    behind = events_of m2.lan.happened;
-    whole = grown;
-    quiet = λ pass quiet.
-        (arrivals pass).events ∙ none_arrive m1.lan.ports.items (λ k. completed_at (seen (lens_of plan.slaves) f.back) us js k) (none_completed (seen (lens_of plan.slaves) f.back) us js quiet) m1.tour.visit.items;
-  }
+  pub at_switch : PacketsBegin m0.lan.switch us m1.lan → (f.fate ≡ Pass → ComeIn m1 (λ k. completed_at (seen (lens_of plan.slaves) f.back) us js k) m2) → es' ≡ es ++ (events_of m1.lan.happened ++ events_of m2.lan.happened) →
+      (at : AtSwitch plan f us es es') × (at.making ≡ events_of m1.lan.happened)
+  at_switch begins arrivals grown = (
+    record {
+      making = events_of m1.lan.happened;
+      only = all_events m1.lan.happened making.1;
+      visited = begins.visited;
+      once = begins.once;
+      taken = ap (λ s. taken_in s (events_of m1.lan.happened)) stood ∙ begins.taken ∙ ap (λ ps. begins_in ps (begun_of us) begins.visited) made_is.ports;
+      others = begins.others;
+      behind = events_of m2.lan.happened;
+      whole = grown;
+      quiet = λ pass quiet.
+          (arrivals pass).events ∙ none_arrive m1.lan.ports.items (λ k. completed_at (seen (lens_of plan.slaves) f.back) us js k) (none_completed (seen (lens_of plan.slaves) f.back) us js quiet) m1.tour.visit.items;
+    },
+    refl,
+  )
 
 -- ---- with no state service in hand an open slave has no turn
 by_duty : {D : Type 0} (o : Option D) (turn : Bool) → (o ≡ None) → (is_some o && turn) ≡ false

@@ -2,7 +2,7 @@ mod Served
 mod Ups
 mod Books
 mod Rests
-mod Known
+pub mod Known
 mod Rounds
 mod Gones
 mod Slaves

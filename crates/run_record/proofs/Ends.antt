@@ -10,6 +10,7 @@ use Rattle.master_node.specs.of_life_runs.Led.{Leads}
 use Rattle.master_node.specs.Shows.{MasterShows}
 use Rattle.master_node.specs.Wants.{gave_of, IsCounted, AllCounted, IsLeft, AllLeft}
 use Rattle.master_node.specs.declared.node.MasterNode.{MasterNode}
+use Rattle.recalled_runs.specs.Recalled.{AllSettled}
 use Rattle.run_book.specs.declared.book.SlaveBook.{SlaveBook}
 use Rattle.run_notes.specs.declared.notes.Notes.{Notes}
 use Rattle.run_record.specs.Led.{RestsSo, DoneSo}
@@ -115,3 +116,21 @@ some_live lens recover recover' retry missed m leads nodes notes shown c g (inl 
     by false e =
         let rest = gone_rest recover' leads nodes notes (all_gone lens recover leads m.tour.stops.items shown.each e) c g in
         absurd (let bad : true ≡ false = sym rest ∙ busy in cc)
+
+-- WHERE EACH IS SETTLED that wasn't given up for good all are at rest
+pub settled_rest : (recover : ℕ) (leads : List Leads) (nodes : List (Node SlaveServer)) (notes : List Notes) → AllSettled leads nodes → AllCounted recover leads → gaves_noted notes ≡ map gave_of leads → are_at_rest (slave_rows recover nodes notes) ≡ true
+settled_rest recover leads [] notes settled c g = refl
+settled_rest recover leads (node ∷ nodes) [] settled c g = refl
+settled_rest recover [] (node ∷ nodes) (n ∷ notes) settled c g = absurd (not_none n.gave (gaves_noted notes) (sym g))
+settled_rest recover (a ∷ as') (node ∷ nodes) (n ∷ notes) settled c g =
+    let h : n.gave ≡ gave_of a = heads n.gave (gave_of a) (gaves_noted notes) (map gave_of as') g in
+    let rest = settled_rest recover as' nodes notes settled.1 c.1 (rests n.gave (gave_of a) (gaves_noted notes) (map gave_of as') g) in
+    elim settled.0 [
+      | inl gone ↦ (let count : length (gave_of a) ≡ suc recover = (let P : Stand → Type 0 = λ s. IsCounted recover s (length (gave_of a)) in subst P gone c.0) in
+          ap (λ (b : Bool). (b || is_settled next_mail node) && are_at_rest (slave_rows recover nodes notes)) (here_some n.gave recover (ap length h ∙ count)) ∙ rest)
+      | inr is ↦ ap (λ (b : Bool). (is_some (slice_get n.gave recover) || b) && are_at_rest (slave_rows recover nodes notes)) is ∙ either_true (is_some (slice_get n.gave recover)) (are_at_rest (slave_rows recover nodes notes)) rest
+    ]
+  where
+    either_true : (a b : Bool) → b ≡ true → ((a || true) && b) ≡ true
+    either_true true b e = e
+    either_true false b e = e

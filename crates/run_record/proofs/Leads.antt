@@ -5,6 +5,7 @@ use Rattle.std.proofs.lemmas.Bool.{lt-ltb, le-ltb}
 use Rattle.std.proofs.lemmas.List.{map-append}
 use Rattle.datagrams.specs.Datagram as Raw
 use Rattle.eoe_switch.specs.Switch.{switched}
+use Rattle.eoe_switch.specs.declared.switching.SwitchEvent.{SwitchEvent}
 use Rattle.master_node.specs.of_frame_view.View.{Lens}
 use Rattle.master_node.specs.of_frame_view.Seen.{seen}
 use Rattle.master_node.specs.of_life_frames.Shares.{AllBoth, Lived, came_at, given_where}
@@ -24,8 +25,10 @@ use Rattle.master_node.specs.Brought.{HasBrought}
 use Rattle.master_node.specs.Downs.{GoDown}
 use Rattle.master_node.specs.Happened.{events_of}
 use Rattle.master_node.specs.Listing.{ServicesBegin}
-use Rattle.master_node.specs.Eager.{recalls}
-use Rattle.master_node.specs.Starts.{AllBegin}
+use Rattle.master_node.specs.Eager.{AllTakeUp, AllVisit, recalls}
+use Rattle.master_node.specs.Recalled.{AllKnow, AllRecall}
+use Rattle.master_node.specs.Resting.{AllRest}
+use Rattle.master_node.specs.Starts.{AllBegin, AllUnvisited}
 use Rattle.master_node.specs.Origins.{forwards_at}
 use Rattle.master_node.specs.Joined.{HasUnfinished, JoinsKept, stand_before, stand_under, unfinished_after}
 use Rattle.master_node.specs.Made.{AreOfMaking}
@@ -47,6 +50,9 @@ use Rattle.master_node.proofs.Counts.{counted, turn_gave, back_gave, lost_gave}
 use Rattle.packets_begun.specs.Numbers.{each_with}
 use Rattle.port_events.specs.Listed.{unfinished_of}
 use Rattle.port_events.specs.of_packets_heard.Heard.{Joined, joined_in, joined_none, mails_by}
+use Rattle.port_events.proofs.Unfinished.{under_way}
+use Rattle.recalled_runs.specs.Recalled.{AllSettled, AtSwitch, IsLanOf, IsRecalledFrame, RecalledIn, has_entered}
+use Rattle.recalled_runs.proofs.Steps.{at_switch, before_is, made_is, still_of}
 use Rattle.run_book.specs.declared.book.Book.{Book}
 use Rattle.run_book.specs.declared.book.SentFrame.{SentFrame}
 use Rattle.master_node.specs.of_segment_model.Returned.{Returns}
@@ -62,7 +68,9 @@ use Rattle.slave_node.specs.of_slave_steps.Node.{Node, node_passed}
 use Rattle.ring_returns.proofs.Returned as Returned
 use Rattle.run_notes.specs.declared.notes.Notes.{Notes}
 use Rattle.run_notes.specs.declared.standing.Log.{Log}
-use Rattle.run_record.specs.Forwarded.{IsForwarded, Forwards, ForwardsFirst, PacketsNoted}
+use Rattle.run_record.specs.Forwarded.{IsForwarded, Forwards, PacketsNoted}
+use Rattle.run_record.specs.Recalling.{Remembers, RunBegins, RunStands, state_of}
+use Rattle.run_record.specs.Replay.{behind, first_ring}
 use Rattle.run_notes.specs.Packets.{BeginsOn, begun_noted}
 use Rattle.run_record.specs.Led.{exchanged, TouredTo, Leading, AreLed}
 use Rattle.run_notes.specs.Slaves.{gaves_noted}
@@ -125,13 +133,22 @@ none_unfinished services place [] = refl
 none_unfinished services place (s ∷ ss) = ap (λ z. None ∷ z) (none_unfinished services (suc place) ss)
 
 pub first_forwards : (plan : Scenario) (m : MasterNode) (notes : List Notes) → MasterShows (lens_of plan.slaves) plan.recover plan.retry m 0 (first_leads plan) → notes ≡ first_notes plan.services 0 plan.slaves → tour_of m ≡ new_tour → m.lan.ports.items ≡ ports_behind 0 plan.slaves →
-    HasUnfinished m (map stand_before (first_leads plan)) (map (λ spec. None) plan.slaves) → ((k : ℕ) → forwards_at m.posts.items k ≡ 0) → ForwardsFirst plan m notes
+    HasUnfinished m (map stand_before (first_leads plan)) (map (λ spec. None) plan.slaves) → ((k : ℕ) → forwards_at m.posts.items k ≡ 0) → (b : Book) → b.switch ≡ [] → b.switched ≡ [] → Forwards plan m notes [] b
 unfolding begins
-first_forwards plan m notes shown first tour ports none counts = λ b empty bare. record {
+first_forwards plan m notes shown first tour ports none counts b empty bare = record {
   leading = begins plan m notes shown first tour;
   forwarded = record { ports = ports; unfinished = subst (λ z. HasUnfinished m (map stand_before (first_leads plan)) z) (sym (none_unfinished plan.services 0 plan.slaves)) none; listed = empty; begun = empty; numbered = (empty, bare) };
   packets = packets_first plan m notes counts first;
 }
+
+-- nor is anything remembered but that its hands know their slaves' mails
+pub first_stands : (plan : Scenario) (m : MasterNode) (notes : List Notes) → MasterShows (lens_of plan.slaves) plan.recover plan.retry m 0 (first_leads plan) → notes ≡ first_notes plan.services 0 plan.slaves → tour_of m ≡ new_tour → m.lan.ports.items ≡ ports_behind 0 plan.slaves →
+    HasUnfinished m (map stand_before (first_leads plan)) (map (λ spec. None) plan.slaves) → ((k : ℕ) → forwards_at m.posts.items k ≡ 0) → AllKnow (recalls m) → RunBegins plan m notes
+unfolding begins first_forwards
+first_stands plan m notes shown first tour ports none counts known = λ b empty bare.
+    let both : (toured : TouredTo plan [] (tour_of m) (first_leads plan)) × RecalledIn plan toured (state_of m b.switch (first_ring plan)) =
+    subst (λ (t : Tour). (toured : TouredTo plan [] t (first_leads plan)) × RecalledIn plan toured (state_of m b.switch (first_ring plan))) (sym tour) (IsToured.start, record { known = known; events = empty; ring = refl }) in
+    record { forwards = first_forwards plan m notes shown first tour ports none counts b empty bare; remembers = record { toured = both.0; recalled = both.1 } }
 
 -- GIVE-UPS over a frame
 abbrev turned_gave : Turn → List ℕ
@@ -197,25 +214,25 @@ module _ (lens : ℕ → Lens) (recover retry : ℕ) (gives : Bool) (made : ℕ)
   all_lose after [] h = tt
   all_lose after (u ∷ us) h = (loses_so lens recover retry gives made f u h.0 after, all_lose after us h.1)
 
+-- where some slave is live there is a next frame
+pub next_frame : (m : MasterNode) (result : Next) → (result ≡ nexts.Idle) ↔ (has_live m ≡ false) → has_live m ≡ true → result ≡ nexts.Frame
+next_frame m nexts.Frame idle live = refl
+next_frame m nexts.Idle idle live = absurd (let none = idle.0 refl in let bad : true ≡ false = sym live ∙ none in cc)
+
 -- ONE FRAME: what the master says of it before, and of its return or loss
 module _ (m0 m1 m2 : MasterNode) (f : Exchanged) (result : Next)
     (idle : (result ≡ nexts.Idle) ↔ (has_live m0 ≡ false))
     (led : result ≡ nexts.Frame → (lens : ℕ → Lens) (recover retry missed number : ℕ) (as' : List Leads) → MasterShows lens recover retry m0 missed as' →
-    (us : List Turn) × IsLedFrame lens number f.sent as' us × MasterUnder lens recover retry m1 f.sent missed us × PacketsBegin m0.lan.switch us m1.lan × ServicesBegin (λ k. forwards_at m0.posts.items k) as' us m1 × AllBegin lens m1.lan 0 (recalls m1) as' us)
+    (us : List Turn) × IsLedFrame lens number f.sent as' us × MasterUnder lens recover retry m1 f.sent missed us × PacketsBegin m0.lan.switch us m1.lan × ServicesBegin (λ k. forwards_at m0.posts.items k) as' us m1 × AllBegin lens m1.lan 0 (recalls m1) as' us × AllUnvisited us)
     (visits : result ≡ nexts.Frame → (lens : ℕ → Lens) (recover retry missed : ℕ) (as' : List Leads) (us : List Turn) → MasterShows lens recover retry m0 missed as' → MasterUnder lens recover retry m1 f.sent missed us →
     (tour_of m1 ≡ tour_of m0) × IsOfTour (λ u. turn_share u) (λ k. holds_at is_live_lead as' k) (frame_size f.sent) (λ k. area_at lens as' k) (tour_of m0) us (length (seen lens f.sent)) m1.tour.visit.items)
     (asks : result ≡ nexts.Frame → (lens : ℕ → Lens) (recover retry missed : ℕ) (us : List Turn) → MasterUnder lens recover retry m1 f.sent missed us → AllAsk (seen lens f.sent) us) where
-  -- where some slave is live there is one
-  made_by : (r : Next) → result ≡ r → has_live m0 ≡ true → result ≡ nexts.Frame
-  made_by nexts.Frame e live = e
-  made_by nexts.Idle e live = absurd (let none = idle.0 e in let bad : true ≡ false = sym live ∙ none in cc)
-
   module _ (plan : Scenario) (fs : List Exchanged) (live : has_live m0 ≡ true) (notes : List Notes) (l : Leading plan m0 notes fs) where
     abbrev lens : ℕ → Lens
     lens = lens_of plan.slaves
 
-    made : (us : List Turn) × IsLedFrame lens (length fs) f.sent l.leads us × MasterUnder lens plan.recover plan.retry m1 f.sent l.missed us × PacketsBegin m0.lan.switch us m1.lan × ServicesBegin (λ k. forwards_at m0.posts.items k) l.leads us m1 × AllBegin lens m1.lan 0 (recalls m1) l.leads us
-    made = led (made_by result refl live) lens plan.recover plan.retry l.missed (length fs) l.leads l.shows
+    made : (us : List Turn) × IsLedFrame lens (length fs) f.sent l.leads us × MasterUnder lens plan.recover plan.retry m1 f.sent l.missed us × PacketsBegin m0.lan.switch us m1.lan × ServicesBegin (λ k. forwards_at m0.posts.items k) l.leads us m1 × AllBegin lens m1.lan 0 (recalls m1) l.leads us × AllUnvisited us
+    made = led (next_frame m0 result idle live) lens plan.recover plan.retry l.missed (length fs) l.leads l.shows
 
     abbrev gives : Bool
     gives = gives_up_at lens plan.recover plan.retry l.missed
@@ -224,10 +241,10 @@ module _ (m0 m1 m2 : MasterNode) (f : Exchanged) (result : Next)
     leads us = map (led_behind lens plan.recover plan.retry gives (length fs) f) us
 
     visited : (tour_of m1 ≡ tour_of m0) × IsOfTour (λ u. turn_share u) (λ k. holds_at is_live_lead l.leads k) (frame_size f.sent) (λ k. area_at lens l.leads k) (tour_of m0) made.0 (length (seen lens f.sent)) m1.tour.visit.items
-    visited = visits (made_by result refl live) lens plan.recover plan.retry l.missed l.leads made.0 l.shows made.2
+    visited = visits (next_frame m0 result idle live) lens plan.recover plan.retry l.missed l.leads made.0 l.shows made.2
 
     asked : AllAsk (seen lens f.sent) made.0
-    asked = asks (made_by result refl live) lens plan.recover plan.retry l.missed made.0 made.2
+    asked = asks (next_frame m0 result idle live) lens plan.recover plan.retry l.missed made.0 made.2
 
     -- where the tour stands behind it
     abbrev tour : ℕ → Tour → Tour
@@ -345,14 +362,69 @@ module _ (m0 m1 m2 : MasterNode) (f : Exchanged) (result : Next)
               (all_turns lens plan.recover plan.retry gives (length fs) f made.1.datagrams l.leads made.0 made.1.each)) l.told;
         }
 
+        -- and what it remembers
+        module _ (ring ring' : RingState (Node SlaveServer)) (old : Remembers plan m0 ring b.switch fs l.leads) (next_ring : ring' ≡ behind ring f.sent)
+            (all_visit : result ≡ nexts.Frame → (lens : ℕ → Lens) (recover retry missed : ℕ) (as' : List Leads) (us : List Turn) → MasterShows lens recover retry m0 missed as' → MasterUnder lens recover retry m1 f.sent missed us → AllVisit (seen lens f.sent) (recalls m1) us)
+            (all_take : result ≡ nexts.Frame → (lens : ℕ → Lens) (recover retry missed : ℕ) (as' : List Leads) (us : List Turn) → MasterShows lens recover retry m0 missed as' → MasterUnder lens recover retry m1 f.sent missed us → AllTakeUp lens (recalls m1) us)
+            (stays : result ≡ nexts.Frame → (lens : ℕ → Lens) (recover retry missed : ℕ) (as' : List Leads) → MasterShows lens recover retry m0 missed as' → recalls m1 ≡ recalls m0)
+            (returned : f.fate ≡ Fates.Pass → (us : List Turn) → IsLedFrame lens (length fs) f.sent l.leads us → MasterUnder lens plan.recover plan.retry m1 f.sent l.missed us → AllVisit (seen lens f.sent) (recalls m1) us → AllRecall lens (seen lens f.back) us (recalls m1) (recalls m2))
+            (lost : (after : ℕ) → f.fate ≡ Fates.Lost after → (us : List Turn) → MasterUnder lens plan.recover plan.retry m1 f.sent l.missed us → AllRecall lens [] us (recalls m1) (recalls m2))
+            (rests : AllRest lens m0.lan 0 (recalls m0) l.leads → AllSettled l.leads ring.nodes → has_entered (events_of m1.lan.happened) ≡ true) where
+          same_recalls : recalls m1 ≡ recalls m0
+          same_recalls = stays (next_frame m0 result idle live) lens plan.recover plan.retry l.missed l.leads l.shows
+
+          visits_all : AllVisit (seen lens f.sent) (recalls m1) made.0
+          visits_all = all_visit (next_frame m0 result idle live) lens plan.recover plan.retry l.missed l.leads made.0 l.shows made.2
+
+          half : HasUnfinished m1 (map stand_under made.0) (unfinished_of (joined_in l.lives))
+          half = under_way lens (length fs) made.1.datagrams l.leads made.0 m0 m1 (unfinished_of (joined_in l.lives)) made.1.each joins w.unfinished
+
+          happened_so : (at : AtSwitch plan f made.0 b.switch b'.switch) × (at.making ≡ events_of m1.lan.happened)
+          happened_so =
+              at_switch plan m0 m1 m2 f made.0 (unfinished_of (joined_in l.lives)) b.switch b'.switch w.ports making stood stands made.3 (λ pass. arrivals pass made.0 (joined_in l.lives) made.1 made.2 half) grown
+
+          recalled_frame : IsRecalledFrame plan l.leads f made.0 (state_of m0 b.switch ring) (state_of m2 b'.switch ring')
+          recalled_frame = record {
+            visits = subst (λ ms. AllVisit (seen lens f.sent) ms made.0) same_recalls visits_all;
+            takes = subst (λ ms. AllTakeUp lens ms made.0) same_recalls (all_take (next_frame m0 result idle live) lens plan.recover plan.retry l.missed l.leads made.0 l.shows made.2);
+            unvisited = made.6;
+            still = still_of lens plan.recover plan.retry l.missed m0 l.leads l.shows;
+            events = happened_so.0;
+            made = m1.lan;
+            made_is = subst (λ z. IsLanOf plan m1.lan (b.switch ++ z)) (sym happened_so.1) (made_is plan m0 m1 m2 f made.0 (unfinished_of (joined_in l.lives)) b.switch b'.switch w.ports making stood stands);
+            begins = subst (λ ms. AllBegin lens m1.lan 0 ms l.leads made.0) same_recalls made.5;
+            before = m0.lan;
+            before_is = before_is plan m0 m1 m2 f made.0 (unfinished_of (joined_in l.lives)) b.switch b'.switch w.ports making stood stands;
+            rests = λ all settled. ap has_entered happened_so.1 ∙ rests all settled;
+            returned = λ pass. subst (λ ms. AllRecall lens (seen lens f.back) made.0 ms (recalls m2)) same_recalls (returned pass made.0 made.1 made.2 visits_all);
+            lost = λ after e. subst (λ ms. AllRecall lens [] made.0 ms (recalls m2)) same_recalls (lost after e made.0 made.2);
+            ring = next_ring;
+          }
+
+          abbrev On : Tour → List Leads → Type 0
+          On t as' = (toured : TouredTo plan (fs ++ f ∷ []) t as') × RecalledIn plan toured (state_of m2 b'.switch ring')
+
+          remembered_first : On (tour m0.tour.missed (tour_of m0)) (lives_behind lens plan.recover plan.retry m0.tour.missed (length fs) f made.0)
+          remembered_first = (IsToured.on fs (tour_of m0) l.leads f made.0 m1.tour.visit.items old.toured made.1 (record { visits = visited.1; asks = asked }), (state_of m0 b.switch ring, recalled_frame, old.recalled))
+
+          remembered_on : On (tour_of m2) (leads made.0)
+          remembered_on =
+              subst (λ (t : Tour). On t (leads made.0)) (sym (goes (length fs) made.0 made.1 made.2 ∙ ap (tour l.missed) visited.0))
+              (subst (λ (n : ℕ). On (tour n (tour_of m0)) (lives_behind lens plan.recover plan.retry n (length fs) f made.0)) l.shows.missed_is remembered_first)
+
+          pub stands_on : RunStands plan m2 r'.notes (fs ++ f ∷ []) b' ring'
+          unfolding forwards_on leads_on
+          stands_on = record { forwards = forwards_on; remembers = record { toured = remembered_on.0; recalled = remembered_on.1 } }
+
 -- what the ring gave back of a frame of the master's is its return
 pub returned : (lens : ℕ → Lens) (ring : RingState (Node SlaveServer)) (f : Exchanged) (number : ℕ) (as' : List Leads) (us : List Turn) → f.fate ≡ fate_at ring.lose ring.number → f.back ≡ ring_returned node_passed ring f.sent → IsLedFrame lens number f.sent as' us → f.fate ≡ Fates.Pass →
     Returns (seen lens f.sent) (seen lens f.back)
 returned lens ring f number as' us fate back frame pass = subst (λ (octets : List ℕ). Returns (seen lens f.sent) (seen lens octets)) (sym back) (Returned.ring_back lens ring f.sent _ frame.frame (sym fate ∙ pass))
 
 -- THE FRAMES of a book
-pub one_frame_more : (plan : Scenario) (m : MasterNode) (notes : List Notes) (fs : List SentFrame) (f : SentFrame) (gs : List SentFrame) (b : Book) → gs ≡ fs ++ f ∷ [] → Forwards plan m notes (map exchanged fs ++ exchanged f ∷ []) b → Forwards plan m notes (map exchanged gs) b
-one_frame_more plan m notes fs f gs b put w = subst (λ (k : List Exchanged). Forwards plan m notes k b) (sym (ap (map exchanged) put ∙ map-append exchanged fs (f ∷ []))) w
+pub stands_more : (plan : Scenario) (m : MasterNode) (notes : List Notes) (ring : RingState (Node SlaveServer)) (fs : List SentFrame) (f : SentFrame) (gs : List SentFrame) (b : Book) → gs ≡ fs ++ f ∷ [] → RunStands plan m notes (map exchanged fs ++ exchanged f ∷ []) b ring →
+    RunStands plan m notes (map exchanged gs) b ring
+stands_more plan m notes ring fs f gs b put w = subst (λ (k : List Exchanged). RunStands plan m notes k b ring) (sym (ap (map exchanged) put ∙ map-append exchanged fs (f ∷ []))) w
 
 pub one_led_more : (plan : Scenario) (fs : List SentFrame) (f : SentFrame) (gs : List SentFrame) → gs ≡ fs ++ f ∷ [] → AreLed plan (map exchanged fs ++ exchanged f ∷ []) → AreLed plan (map exchanged gs)
 one_led_more plan fs f gs put l = subst (λ (k : List Exchanged). AreLed plan k) (sym (ap (map exchanged) put ∙ map-append exchanged fs (f ∷ []))) l
@@ -364,5 +436,6 @@ none_led plan fs none = subst (λ (gs : List SentFrame). AreLed plan (map exchan
 pub same_led : (plan : Scenario) (fs gs : List SentFrame) → gs ≡ fs → AreLed plan (map exchanged fs) → AreLed plan (map exchanged gs)
 same_led plan fs gs same led = subst (λ (hs : List SentFrame). AreLed plan (map exchanged hs)) (sym same) led
 
-pub first_leading : (plan : Scenario) (m : MasterNode) (notes : List Notes) (fs : List SentFrame) (b : Book) → fs ≡ [] → Forwards plan m notes [] b → Forwards plan m notes (map exchanged fs) b
-first_leading plan m notes fs b none w = subst (λ (gs : List SentFrame). Forwards plan m notes (map exchanged gs) b) (sym none) w
+pub stands_first : (plan : Scenario) (m : MasterNode) (notes : List Notes) (ring : RingState (Node SlaveServer)) (fs : List SentFrame) (b : Book) → fs ≡ [] → ring ≡ first_ring plan → RunStands plan m notes [] b (first_ring plan) → RunStands plan m notes (map exchanged fs) b ring
+stands_first plan m notes ring fs b none is w =
+    subst (λ (z : RingState (Node SlaveServer)). RunStands plan m notes (map exchanged fs) b z) (sym is) (subst (λ (gs : List SentFrame). RunStands plan m notes (map exchanged gs) b (first_ring plan)) (sym none) w)

@@ -14,6 +14,7 @@ pub mod Leads
 pub mod Numbered
 pub mod Overs
 pub mod Plans
+pub mod Recalling
 pub mod Replays
 pub mod Rows
 pub mod Steps

@@ -12,6 +12,7 @@ use Rattle.master_node.specs.Toured.{tour_of}
 use Rattle.master_node.specs.Wants.{AllCounted, AllLeft, gave_of}
 use Rattle.master_node.proofs.Counts.{counted, placed}
 use Rattle.packets_begun.specs.Numbers.{frames_begun}
+use Rattle.recalled_runs.specs.Recalled.{RecalledIn}
 use Rattle.run_book.specs.declared.book.Begun.{Begun}
 use Rattle.run_book.specs.declared.book.Book.{Book}
 use Rattle.run_book.specs.declared.book.Emergency.{Emergency}
@@ -21,7 +22,8 @@ use Rattle.run_book.specs.declared.book.SentFrame.{SentFrame}
 use Rattle.run_book.specs.declared.book.SlaveBook.{SlaveBook}
 use Rattle.segment_plan.specs.declared.plan.Scenario.{Scenario}
 use Rattle.run_record.specs.Forwarded.{Forwards}
-use Rattle.run_record.specs.Led.{exchanged, Leading, LeadTo, ListsAll, BeginsAll, NumbersAll, TouredTo, RestsSo, RestBy, LedBook}
+use Rattle.run_record.specs.Recalling.{RunStands, state_of}
+use Rattle.run_record.specs.Led.{exchanged, Leading, LeadTo, ListsAll, BeginsAll, NumbersAll, TouredTo, RestsSo, RestBy, RecalledBook, LedBook}
 use Rattle.run_notes.specs.Slaves.{gaves_in}
 use Rattle.run_record.specs.Ran.{IsUnderway, EndsSo}
 use Rattle.run_record.specs.Session.{SessionState, session_rows, are_at_rest, some_given_up, IsLeftBy}
@@ -48,9 +50,12 @@ not_done e = absurd (cc)
 not_given : endings.GivenUp ≡ endings.NoMemory → ⊥
 not_given e = absurd (cc)
 
-module _ (plan : Scenario) (s : SessionState) (b b' : Book) (h : IsUnderway plan 0 s b) (w : Forwards plan s.master s.notes (map exchanged b.frames) b) (switched : IsSwitched s.ports plan.host s.ring.number s.master.lan b) (frames : b'.frames ≡ b.frames) (kept : SameSwitch b b') (same : length s.notes ≡ length s.ring.nodes) where
+module _ (plan : Scenario) (s : SessionState) (b b' : Book) (h : IsUnderway plan 0 s b) (stands : RunStands plan s.master s.notes (map exchanged b.frames) b s.ring) (switched : IsSwitched s.ports plan.host s.ring.number s.master.lan b) (frames : b'.frames ≡ b.frames) (kept : SameSwitch b b') (same : length s.notes ≡ length s.ring.nodes) where
   abbrev lens : ℕ → Lens
   lens = lens_of plan.slaves
+
+  abbrev w : Forwards plan s.master s.notes (map exchanged b.frames) b
+  w = stands.forwards
 
   abbrev l : Leading plan s.master s.notes (map exchanged b.frames)
   l = w.leading
@@ -81,6 +86,13 @@ module _ (plan : Scenario) (s : SessionState) (b b' : Book) (h : IsUnderway plan
   both : HeardLives plan l.missed l.leads (emergencies_noted s.notes) (begun_noted s.notes) b.switch b.switched b'.frames
   both = subst (λ (fs : List SentFrame). HeardLives plan l.missed l.leads (emergencies_noted s.notes) (begun_noted s.notes) b.switch b.switched fs) (sym frames) (l.lives, l.heard, w.forwarded.listed, w.forwarded.begun, w.forwarded.numbered, w.packets.rows)
 
+  -- and what was remembered over them
+  recalled_book : RecalledBook plan b' l.missed l.leads
+  recalled_book =
+      let r = stands.remembers in
+      let both = subst (λ (gs : List SentFrame). (toured : TouredTo plan (map exchanged gs) (tour_of s.master) l.leads) × RecalledIn plan toured (state_of s.master b.switch s.ring)) (sym frames) (r.toured, r.recalled) in
+      record { tour = tour_of s.master; missed_is = l.shows.missed_is; toured = both.0; state = state_of s.master b.switch s.ring; recalled = both.1; events = sym kept.switch }
+
   -- however it ends
   pub led_book : (ending result : Ending) (settled : Bool) → EndsSo s ending → OnTrue settled (IsLeftBy s.master) → OnFalse settled (ending ≡ endings.BudgetSpent) → (result ≡ ending) ⊎ (result ≡ endings.NoMemory) → (result ≢ endings.NoMemory → b'.slaves ≡ session_rows s) → LedBook plan b' result
   led_book ending result settled so left cut answers rows = record {
@@ -99,6 +111,7 @@ module _ (plan : Scenario) (s : SessionState) (b b' : Book) (h : IsUnderway plan
     begun = λ ok. subst (λ (es : List SwitchEvent). BeginsAll plan both.0 es) (sym kept.switch) both.3;
     numbered = λ ok. subst (λ (ns : List ℕ). NumbersAll plan both.0 b'.switch ns) (sym kept.switched) (subst (λ (es : List SwitchEvent). NumbersAll plan both.0 es b.switched) (sym kept.switch) both.4);
     forwards = λ ok. subst (λ z. AreNumbered (λ k. frames_begun both.0 k) z) (sym (ap begun_in (rows ok) ∙ begun_of_rows s.recover s.ring.nodes s.notes same)) both.5;
+    recalled = λ ok. recalled_book;
     rests = elim answers [
       | inl is ↦ subst (λ (e : Ending). RestBy lens e l.leads b'.slaves) (sym is) (rest_by ending settled so left cut (λ ok. rows (λ none. ok (sym is ∙ none))))
       | inr none ↦ subst (λ (e : Ending). RestBy lens e l.leads b'.slaves) (sym none) tt

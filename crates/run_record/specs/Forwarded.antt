@@ -1,5 +1,5 @@
 -- WHAT CAME IN OF SLAVES, what began at their ports and which of these went down, as the events of a book's switch have it.
-use Rattle.std.specs.Prelude.{◌≡◌, ℕ, List, [], length, map}
+use Rattle.std.specs.Prelude.{◌≡◌, ℕ, List, length, map}
 use Rattle.eoe_switch.specs.declared.switching.SwitchEvent.{SwitchEvent}
 use Rattle.master_node.specs.of_life_runs.Led.{Exchanged, Leads}
 use Rattle.master_node.specs.Joined.{HasUnfinished, stand_before}
@@ -34,7 +34,3 @@ pub record Forwards (plan : Scenario) (m : MasterNode) (notes : List Notes) (fs 
   pub leading : Leading plan m notes fs
   pub forwarded : IsForwarded plan m leading.lives b.switch b.switched
   pub packets : PacketsNoted plan m notes leading.lives
-
--- before its first frame, with any book whose switch has no event yet
-abbrev pub ForwardsFirst : Scenario → MasterNode → List Notes → Type 0
-ForwardsFirst plan m notes = (b : Book) → b.switch ≡ [] → b.switched ≡ [] → Forwards plan m notes [] b

@@ -17,6 +17,7 @@ use Rattle.master_node.specs.of_master_tour.Toured.{Tour}
 use Rattle.packets_begun.specs.Numbers.{Numbered, frames_begun}
 use Rattle.packets_begun.specs.Over.{AreBegun}
 use Rattle.port_events.specs.Listed.{Listed}
+use Rattle.recalled_runs.specs.Recalled.{State, RecalledIn}
 use Rattle.run_book.specs.declared.book.Book.{Book}
 use Rattle.run_book.specs.declared.book.Ending.{Ending}
 use Rattle.run_book.specs.declared.book.Ending.TheVariants as endings
@@ -99,11 +100,21 @@ RestBy lens endings.NoMemory leads rows = ⊤
 RestBy lens endings.PortFault leads rows = ⊤
 RestBy lens endings.Unfinished leads rows = ⊤
 
+-- THE VISITS OF A BOOK, none of them in vain by what its master remembered over its frames, with just the events of the book
+pub record RecalledBook (plan : Scenario) (book : Book) (missed : ℕ) (leads : List Leads) : Type 0 where
+  pub tour : Tour
+  pub missed_is : tour.missed ≡ missed
+  pub toured : TouredTo plan (map exchanged book.frames) tour leads
+  pub state : State
+  pub recalled : RecalledIn plan toured state
+  pub events : state.events ≡ book.switch
+
 -- THE BOOK OF A RUN and the lives that its frames lead to: each slave was given up at just the frames that the book has; of its script just the services
 -- stand in the book that came into hand, each with its frame, and each reply is that of its row; of the mails that its life accepted just the emergencies
 -- stand there, each with the frame that brought it; and nothing is left of it where the run is over. The frames are the visits of one tour. And the packets of
 -- the host are those that the events of the switch make, and these events are just those that the frames list; of the slaves' ports just the packets began that
--- came into hand; and each event has its number, by the frame that made it; and just the packets that came into hand stand in the book of each slave, numbered
+-- came into hand; and each event has its number, by the frame that made it; and just the packets that came into hand stand in the book of each slave, numbered.
+-- And no visit of the tour is in vain, by what the master remembered
 pub record LedBook (plan : Scenario) (book : Book) (ending : Ending) : Type 0 where
   pub missed : ℕ
   pub leads : List Leads
@@ -121,3 +132,4 @@ pub record LedBook (plan : Scenario) (book : Book) (ending : Ending) : Type 0 wh
   pub begun : ending ≢ endings.NoMemory → BeginsAll plan lives book.switch
   pub numbered : ending ≢ endings.NoMemory → NumbersAll plan lives book.switch book.switched
   pub forwards : ending ≢ endings.NoMemory → AreNumbered (λ k. frames_begun lives k) (begun_in book.slaves)
+  pub recalled : ending ≢ endings.NoMemory → RecalledBook plan book missed leads

@@ -17,6 +17,8 @@ use Rattle.run_notes.specs.declared.notes.Notes.{Notes}
 use Rattle.mailbox_mail.specs.declared.mail.Mail.{Mail}
 use Rattle.run_notes.specs.declared.standing.AskedMail.{AskedMail}
 use Rattle.master_node.specs.declared.node.MasterNode.{MasterNode}
+use Rattle.master_node.specs.Eager.{recalls}
+use Rattle.master_node.specs.Resting.{AllRest}
 use Rattle.master_node.specs.Shows.{MasterShows}
 use Rattle.master_node.specs.Wants.{AllPlaced, AllLeft}
 use Rattle.master_node.specs.of_master_tour.Goes.{is_live}
@@ -24,7 +26,7 @@ use Rattle.master_node.specs.of_life_runs.Led.{Exchanged, Leads}
 use Rattle.master_node.specs.of_frame_view.View.{Lens}
 use Rattle.run_record.specs.Led.{exchanged, Leading, AreLed}
 use Rattle.run_record.specs.Replay.{first_ring, behind, IsRecorded}
-use Rattle.run_record.specs.Forwarded.{Forwards}
+use Rattle.run_record.specs.Recalling.{RunStands}
 use Rattle.run_notes.specs.Switched.{IsSwitched}
 use Rattle.run_notes.specs.Slaves.{first_notes, home_of, slave_row, slave_rows, KeepsRest}
 
@@ -112,10 +114,16 @@ LedOn s f = (plan : Scenario) (fs : List Exchanged) → has_live s.master ≡ tr
 abbrev pub SwitchesOn : SessionState → Book → SessionState → Book → Type 0
 SwitchesOn s b s' b' = (host : List (ArrayVec ℕ)) → IsSwitched s.ports host s.ring.number s.master.lan b → IsSwitched s'.ports host s'.ring.number s'.master.lan b'
 
--- ONE FRAME MORE IS LED, where some slave is live: a master that leads goes on so, what is noted of give-ups goes with it, and so do the events of its switch
-abbrev pub ForwardsOn : SessionState → Book → SessionState → Book → SentFrame → Type 0
-ForwardsOn s b s' b' f = (plan : Scenario) (fs : List Exchanged) (host : List (ArrayVec ℕ)) → s.recover ≡ plan.recover → s.ports ≡ ports_of plan.slaves → length fs ≡ s.ring.number → has_live s.master ≡ true → IsSwitched s.ports host s.ring.number s.master.lan b →
-    Forwards plan s.master s.notes fs b → Forwards plan s'.master s'.notes (fs ++ exchanged f ∷ []) b'
+-- NOT ALL IS DONE: where the master wants nothing of any slave, and no packet of the host is left, some live slave isn't at rest
+abbrev pub StillWants : SessionState → Type 0
+StillWants s = (lens : ℕ → Lens) (recover retry missed : ℕ) (leads : List Leads) → MasterShows lens recover retry s.master missed leads → AllRest lens s.master.lan 0 (recalls s.master) leads →
+    nat_lt s.master.lan.entered (length s.master.lan.host) ≡ false → are_at_rest (session_rows s) ≡ true → ⊥
+
+-- ONE FRAME MORE IS LED, where some slave is live and not all is done: a master that leads goes on so, what is noted of give-ups goes with it, and so do the events
+-- of its switch; and it makes no visit in vain, by what it remembers
+abbrev pub RunGoesOn : SessionState → Book → SessionState → Book → SentFrame → Type 0
+RunGoesOn s b s' b' f = (plan : Scenario) (fs : List Exchanged) (host : List (ArrayVec ℕ)) → s.recover ≡ plan.recover → s.ports ≡ ports_of plan.slaves → length fs ≡ s.ring.number → has_live s.master ≡ true → StillWants s →
+    IsSwitched s.ports host s.ring.number s.master.lan b → RunStands plan s.master s.notes fs b s.ring → RunStands plan s'.master s'.notes (fs ++ exchanged f ∷ []) b' s'.ring
 
 -- ONE STEP: one frame more stands in the book, as the ring before gives it, and the ring is the one behind that frame
 pub record Steps (s : SessionState) (b : Book) (s' : SessionState) (b' : Book) (f : SentFrame) : Type 0 where
@@ -131,7 +139,7 @@ pub record Steps (s : SessionState) (b : Book) (s' : SessionState) (b' : Book) (
   pub serving : s'.serving ≡ s.serving
   pub rest : KeepsRest s.ports b b'
   pub switch : SwitchesOn s b s' b'
-  pub forwards : ForwardsOn s b s' b' f
+  pub goes_on : RunGoesOn s b s' b' f
 
 -- a mail as it is passed on, with the key of its asker
 abbrev pub asked_mail : ℕ → Mail → AskedMail

@@ -12,22 +12,24 @@ ghost use Rattle.master_node.specs.of_life_runs.Led.{Exchanged, Turn, led_behind
 ghost use Rattle.master_node.specs.Brought.{HasBrought};
 ghost use Rattle.master_node.specs.Arrivals.{completed_at, ComeIn};
 ghost use Rattle.master_node.specs.Downs.{GoDown};
+ghost use Rattle.master_node.specs.Eager.{AllVisit, recalls};
 ghost use Rattle.master_node.specs.Happened.{HasHappened, HappensSo};
 ghost use Rattle.master_node.specs.Joined.{HasUnfinished, stand_before, stand_under, unfinished_after};
 ghost use Rattle.port_events.specs.Listed.{unfinished_of};
 ghost use Rattle.port_events.specs.of_packets_heard.Heard.{Joined, mails_by};
 ghost use Rattle.master_node.specs.Listed.{listed};
 ghost use Rattle.master_node.specs.Origins.{forwards_at};
+ghost use Rattle.master_node.specs.Recalled.{AllRecall};
 ghost use Rattle.master_node.specs.Shows.{MasterShows, MasterUnder};
 ghost use Rattle.master_node.specs.Toured.{tour_of};
 ghost use Rattle.master_node.specs.of_segment_model.Returned.{Returns};
 ghost use Rattle.segment_ring.specs.declared.wire.Fate.TheVariants as Fates;
 ghost use Rattle.visit_orders.specs.Toured.{tour_behind, lives_behind};
 ghost use Rattle.run_book.specs.Ports.{ports_of};
-ghost use Rattle.run_record.specs.Forwarded.{ForwardsFirst};
+ghost use Rattle.run_record.specs.Recalling.{RunBegins};
 ghost use Rattle.run_notes.specs.Switched.{SameSwitch};
 ghost use Rattle.run_record.specs.Replay.{first_ring};
-ghost use Rattle.run_record.specs.Session.{budget_of, smaller_bound, rests_at, session_rows, first_session, are_at_rest, some_given_up, has_live, IsLeftBy, Steps, Stops, Asks};
+ghost use Rattle.run_record.specs.Session.{budget_of, smaller_bound, rests_at, session_rows, first_session, are_at_rest, some_given_up, has_live, IsLeftBy, StillWants, Steps, Stops, Asks};
 ghost use Rattle.run_notes.specs.Slaves.{slave_row, slave_rows, KeepsRest};
 
 use datagrams::FrameBuf;
@@ -217,6 +219,10 @@ fn tell(master: &mut MasterNode, fate: Fate, back: &FrameBuf)
         (fate ≡ Fates.Pass → Returns (seen lens f.sent) (seen lens back.now.items)) → tour_of master.new ≡ tour_behind retry f.fate (lives_behind lens recover retry missed number f us) (tour_of master.old) master.old.tour.visit.items }
     ensures brought { fate ≡ Fates.Pass → (lens : ℕ → Lens) (recover retry missed : ℕ) (octets : List ℕ) (us : List Turn) → MasterUnder lens recover retry master.old octets missed us → Returns (seen lens octets) (seen lens back.now.items) →
         HasBrought master.new us (seen lens back.now.items) }
+    ensures recalls { fate ≡ Fates.Pass → (lens : ℕ → Lens) (recover retry missed : ℕ) (octets : List ℕ) (us : List Turn) → MasterUnder lens recover retry master.old octets missed us → Returns (seen lens octets) (seen lens back.now.items) →
+        AllVisit (seen lens octets) (recalls master.old) us → AllRecall lens (seen lens back.now.items) us (recalls master.old) (recalls master.new) }
+    ensures kept { (after : ℕ) → fate ≡ Fates.Lost after → (lens : ℕ → Lens) (recover retry missed : ℕ) (octets : List ℕ) (us : List Turn) → MasterUnder lens recover retry master.old octets missed us →
+        AllRecall lens [] us (recalls master.old) (recalls master.new) }
     ensures happened { HappensSo master.old.lan master.new.lan }
     ensures joined { (lens : ℕ → Lens) (recover retry missed number : ℕ) (us : List Turn) (js : List Joined) (f : Exchanged) → f.fate ≡ fate → f.back ≡ back.now.items → MasterUnder lens recover retry master.old f.sent missed us → (fate ≡ Fates.Pass → Returns (seen lens f.sent) (seen lens back.now.items)) →
         HasUnfinished master.old (map stand_under us) (unfinished_of js) → HasUnfinished master.new (map stand_before (lives_behind lens recover retry missed number f us)) (unfinished_after (λ u. mails_by lens f f.fate u) us (unfinished_of js)) }
@@ -236,7 +242,7 @@ impl Session {
     pub fn begin(alloc: Global, plan: &Scenario, grams: u32) -> Result<Session, NoMemory>
         requires { IsPlan plan.now }
         ensures session { IfOk result (λ session. session ≡ first_session plan.now grams session.master) }
-        ensures forwards { IfOk result (λ session. ForwardsFirst plan.now session.master session.notes) }
+        ensures begins { IfOk result (λ session. RunBegins plan.now session.master session.notes) }
         ensures switch { IfOk result (λ session. HasHappened (ports_of plan.now.slaves) plan.now.host [] session.master.lan) }
     {
         Ok(Session {
@@ -255,6 +261,7 @@ impl Session {
     pub fn settled(&self) -> bool
         ensures rest { OnTrue result (are_at_rest (session_rows self.now) ≡ true) }
         ensures left { OnTrue result (IsLeftBy self.now.master) }
+        ensures wants { OnFalse result (StillWants self.now) }
         ensures busy { OnFalse result ((are_at_rest (session_rows self.now) ≡ false) ⊎ (has_live self.now.master ≡ true)) }
     {
         if self.master.wants() {

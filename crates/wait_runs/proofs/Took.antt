@@ -1,5 +1,5 @@
 -- What begins is in hand: a state service, or the first mail of a service by mails.
-use Rattle.std.proofs.Common.{◌≡◌, ℕ, ◌+◌, Bool, true, false, Option, Some, None, List, [], ◌∷◌, ◌++◌, length, refl, sym, ap, ◌∙◌, subst, arith, length-append}
+use Rattle.std.proofs.Common.{◌≡◌, ℕ, ◌+◌, Bool, true, false, Option, Some, None, List, [], ◌∷◌, ◌++◌, length, refl, sym, ap, ◌∙◌, subst, arith, length-append, if◌then◌else◌}
 use Rattle.std.specs.Prelude.{◌&&◌}
 use Rattle.exchange_model.specs.Exchange.{Exchange, Speech, IsLawful, given, plain}
 use Rattle.exchange_model.specs.Rows.{Row, begun}

@@ -14,12 +14,12 @@ use Rattle.eager_runs.proofs.Walk.{Holds, Laws, Step, frames, starts, stays}
 use Rattle.eager_runs.proofs.eager_run_law.Goals as goal
 
 pub returns : goal.returns
-returns c = λ plan fs t leads s is known room due toured recalled went rest host.
+returns c = λ plan fs t leads s is known room toured recalled went rest host.
     let laws : Laws plan = record {
       lived = λ fs missed as' led round. c.run_lives_law.ensures plan is known fs missed as' led round;
       opens = λ fs as' x. c.plan_met_law.ensures.opens plan fs as' x;
-      rooms = room;
-      due = due;
+      rooms = λ place spec at k service has. c.room_law.ensures.scripts plan room place spec at k service has;
+      due = c.plan_due_law.ensures plan is known;
       apart = apart_from [] 0 plan.slaves is.stations;
     } in
     let first = first_of_plan plan.services plan.slaves plan.paces is.laid.paces is.laid.pace in

@@ -1,5 +1,6 @@
-use Rattle.std.proofs.Common.{◌≡◌, ◌⊎◌, inl, inr, ℕ, Bool, true, false, map, sym, ◌∙◌, subst, rules}
+use Rattle.std.proofs.Common.{◌≡◌, ◌⊎◌, inl, inr, ℕ, Bool, true, false, map, sym, ap, ◌∙◌, subst, rules}
 use Rattle.std.specs.Bool.{OnFalse}
+use Rattle.std.proofs.lemmas.Bool.{OnFalse_at}
 use Rattle.master_node.specs.Toured.{tour_of}
 use Rattle.master_node.specs.Wants.{AllCounted}
 use Rattle.run_book.specs.declared.book.Book.{Book}
@@ -8,7 +9,7 @@ use Rattle.run_record.specs.Session.{SessionState, session_rows, are_at_rest, ha
 use Rattle.run_record.specs.Ran.{IsUnderway, EndsSo, EndsAs}
 use Rattle.run_record.proofs.Underway.{begun, still_left, many, stepped_on, stopped, has_frames, ended, ran_so, ran_as}
 use Rattle.run_record.specs.Led.{exchanged, Leading}
-use Rattle.run_record.proofs.Leads.{one_frame_more, one_led_more, none_led, same_led, first_leading}
+use Rattle.run_record.proofs.Leads.{stands_more, one_led_more, none_led, same_led, stands_first}
 use Rattle.std.proofs.lemmas.List.{length-map}
 use Rattle.run_record.proofs.Ends.{some_live}
 use Rattle.run_record.proofs.Overs.{led_book}
@@ -39,7 +40,7 @@ pub returns-in_err-step-clause-cut : goal.returns-in_err-step-clause-cut
 returns-in_err-step-clause-cut c =
     let plan = c.args.plan.now in
     let s = c.loop-settled.session in
-    let leading = c.loop-settled.invariant.forwards.leading in
+    let leading = c.loop-settled.invariant.stands.forwards.leading in
     any_err c.from_residual-in_err-step.result
     (elim c.in_err-step.ensures.err.frames [
       | inl same ↦ same_led plan c.loop-settled.book.frames c.step.new.book.frames same (record { missed = leading.missed; leads = leading.leads; lives = leading.lives; tour = tour_of s.master; toured = leading.toured })
@@ -61,7 +62,8 @@ loop-settled-init c =
       left = c.settled-settled.ensures.left;
       busy = c.settled-settled.ensures.busy;
       switched = switched_new plan 0 s c.args.book.now begins.session new begins.switch;
-      forwards = first_leading plan s.master s.notes c.args.book.now.frames c.args.book.now new.frames (begins.forwards c.args.book.now new.switch new.switched);
+      wants = c.settled-settled.ensures.wants;
+      stands = stands_first plan s.master s.notes s.ring c.args.book.now.frames c.args.book.now new.frames (ap (λ (z : SessionState). z.ring) begins.session) (begins.begins c.args.book.now new.switch new.switched);
     }
 
 pub loop-settled-preserved : goal.loop-settled-preserved
@@ -70,6 +72,7 @@ loop-settled-preserved c =
     let under = c.loop-settled.invariant.underway in
     let no : c.spent.result ≡ false = search rules in
     let step = c.in_ok-step.ensures.ok in
+    let goes : c.loop-settled.settled ≡ false = search rules in
     record {
       underway = stepped_on c.args.plan.now 0 s c.loop-settled.book c.step.new.self c.step.new.book step.0 under (still_left s.ring.number s.budget c.spent.result c.spent.ensures.value no under.few) step.1;
       serving = step.1.rest.serving ∙ c.loop-settled.invariant.serving;
@@ -79,9 +82,11 @@ loop-settled-preserved c =
       left = c.settled-settled-in-loop-settled.ensures.left;
       busy = c.settled-settled-in-loop-settled.ensures.busy;
       switched = step.1.switch c.args.plan.now.host c.loop-settled.invariant.switched;
-      forwards = one_frame_more c.args.plan.now c.step.new.self.master c.step.new.self.notes c.loop-settled.book.frames step.0 c.step.new.book.frames c.step.new.book step.1.put
-          (step.1.forwards c.args.plan.now (map exchanged c.loop-settled.book.frames) c.args.plan.now.host under.recover under.ports (length-map c.loop-settled.book.frames exchanged ∙ many c.args.plan.now 0 s c.loop-settled.book under)
-          (live_so c.args.plan.now s c.loop-settled.book c.loop-settled.settled under c.loop-settled.invariant.forwards.leading (search rules) c.loop-settled.invariant.busy) c.loop-settled.invariant.switched c.loop-settled.invariant.forwards);
+      wants = c.settled-settled-in-loop-settled.ensures.wants;
+      stands = stands_more c.args.plan.now c.step.new.self.master c.step.new.self.notes c.step.new.self.ring c.loop-settled.book.frames step.0 c.step.new.book.frames c.step.new.book step.1.put
+          (step.1.goes_on c.args.plan.now (map exchanged c.loop-settled.book.frames) c.args.plan.now.host under.recover under.ports (length-map c.loop-settled.book.frames exchanged ∙ many c.args.plan.now 0 s c.loop-settled.book under)
+          (live_so c.args.plan.now s c.loop-settled.book c.loop-settled.settled under c.loop-settled.invariant.stands.forwards.leading goes c.loop-settled.invariant.busy) (OnFalse_at goes c.loop-settled.invariant.wants) c.loop-settled.invariant.switched
+          c.loop-settled.invariant.stands);
     }
 
 pub returns-clause-frames : goal.returns-clause-frames
@@ -103,5 +108,5 @@ pub returns-clause-led : goal.returns-clause-led
 returns-clause-led c =
     let s = c.loop-settled.session in
     let invariant = c.loop-settled.invariant in
-    led_book c.args.plan.now s c.loop-settled.book c.finish.new.book invariant.underway invariant.forwards invariant.switched c.finish.ensures.frames c.finish.ensures.same c.finish.ensures.many c.ending_of-ending.result c.finish.result c.loop-settled.settled
+    led_book c.args.plan.now s c.loop-settled.book c.finish.new.book invariant.underway invariant.stands invariant.switched c.finish.ensures.frames c.finish.ensures.same c.finish.ensures.many c.ending_of-ending.result c.finish.result c.loop-settled.settled
     c.ending_of-ending.ensures.ends invariant.left c.ending_of-ending.ensures.cut c.finish.ensures.answers c.finish.ensures.rows

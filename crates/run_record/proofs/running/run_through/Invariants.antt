@@ -1,7 +1,7 @@
 use Rattle.std.proofs.Common.{◌≡◌, ◌⊎◌, ◌-◌, true, false, map, []}
 use Rattle.std.specs.Bool.{OnTrue, OnFalse}
-use Rattle.run_record.specs.Session.{session_rows, are_at_rest, has_live, IsLeftBy}
-use Rattle.run_record.specs.Forwarded.{Forwards}
+use Rattle.run_record.specs.Session.{session_rows, are_at_rest, has_live, IsLeftBy, StillWants}
+use Rattle.run_record.specs.Recalling.{RunStands}
 use Rattle.run_record.specs.Led.{exchanged}
 use Rattle.run_record.specs.Ran.{IsUnderway}
 use Rattle.run_notes.specs.Switched.{IsSwitched}
@@ -17,7 +17,8 @@ invariant-loop-settled l = record {
   left : OnTrue l.settled (IsLeftBy l.session.master);
   busy : OnFalse l.settled ((are_at_rest (session_rows l.session) ≡ false) ⊎ (has_live l.session.master ≡ true));
   switched : IsSwitched l.session.ports l.plan.host l.session.ring.number l.session.master.lan l.book;
-  forwards : Forwards l.plan l.session.master l.session.notes (map exchanged l.book.frames) l.book;
+  wants : OnFalse l.settled (StillWants l.session);
+  stands : RunStands l.plan l.session.master l.session.notes (map exchanged l.book.frames) l.book l.session.ring;
 }
 
 abbrev pub decreases-loop-settled : goal.decreases-loop-settled

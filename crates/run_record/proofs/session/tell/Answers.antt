@@ -74,3 +74,15 @@ returns-in-Pass-clause-counts c = c.returned.ensures.counts
 
 pub returns-in-Lost-clause-counts : goal.returns-in-Lost-clause-counts
 returns-in-Lost-clause-counts c = c.lost.ensures.counts
+
+pub returns-in-Pass-clause-recalls : goal.returns-in-Pass-clause-recalls
+returns-in-Pass-clause-recalls c = λ pass lens recover retry missed octets us under back visits. c.returned.ensures.recalls lens recover retry missed octets us under back visits
+
+pub returns-in-Lost-clause-recalls : goal.returns-in-Lost-clause-recalls
+returns-in-Lost-clause-recalls c = λ pass. absurd (let bad : Fates.Lost c.in-Lost.after ≡ Fates.Pass = sym c.in-Lost.is ∙ pass in cc)
+
+pub returns-in-Pass-clause-kept : goal.returns-in-Pass-clause-kept
+returns-in-Pass-clause-kept c = λ after lost. absurd (let bad : Fates.Pass ≡ Fates.Lost after = sym c.in-Pass.is ∙ lost in cc)
+
+pub returns-in-Lost-clause-kept : goal.returns-in-Lost-clause-kept
+returns-in-Lost-clause-kept c = λ after lost lens recover retry missed octets us under. c.lost.ensures.recalls lens recover retry missed octets us under

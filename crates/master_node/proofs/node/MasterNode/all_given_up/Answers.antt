@@ -6,6 +6,11 @@ use Rattle.master_node.specs.Downs.{down_by, downs_in, gives_at}
 use Rattle.master_node.proofs.Tells.{node_refl, node_then}
 use Rattle.master_node.proofs.Happenings.{happens_none, happens_then, happens_more}
 use Rattle.master_node.proofs.Downs.{lists_none, lists_then, lists_as, downs_next}
+use Rattle.std.proofs.Common.{subst, take, ◌∷◌, []}
+use Rattle.std.proofs.lemmas.List.{take_more}
+use Rattle.master_node.specs.Dropped.{Drops, gave_at}
+use Rattle.master_node.specs.Serving.{mails_in}
+use Rattle.master_node.proofs.Droppeds.{drops_on, drops_start}
 use Rattle.master_node.proofs.node.MasterNode.all_given_up.Goals as goal
 
 pub loop-k-init : goal.loop-k-init
@@ -14,6 +19,7 @@ loop-k-init c = record {
   kept = node_refl c.args.self.now;
   lan = happens_none 0 _ _ refl;
   tour = refl;
+  mails = drops_start _ (mails_in c.args.self.now);
   listed = lists_none _ _ _ refl refl;
 }
 
@@ -30,6 +36,10 @@ loop-k-preserved c =
       kept = node_then _ _ _ step.kept inv.kept;
       lan = happens_then k 1 _ _ _ inv.lan step.lan;
       tour = step.tour ∙ inv.tour;
+      mails = subst (λ z. Drops (λ p. gave_at m.tour.stops.items p) z (mails_in m) (mails_in c.given_up_at.new.self)) (sym (take_more m.tour.visit.items k 0 inside))
+          (drops_on _ (take k m.tour.visit.items) (get_or m.tour.visit.items k 0) (mails_in m) (mails_in c.loop-k.self) (mails_in c.given_up_at.new.self) inv.mails
+          (subst (λ z. Drops (λ p. gave_at z.stops.items p) (get_or m.tour.visit.items k 0 ∷ []) (mails_in c.loop-k.self) (mails_in c.given_up_at.new.self)) inv.tour
+          (subst (λ z. Drops (λ p. gave_at c.loop-k.self.tour.stops.items p) (get_or z k 0 ∷ []) (mails_in c.loop-k.self) (mails_in c.given_up_at.new.self)) (sym same) step.mails)));
       listed = lists_as _ _ _ _ (downs_next m.lan.ports.items (λ p. gives_at m.tour.stops.items p) m.tour.visit.items k 0 inside)
           (lists_then _ _ _ _ _ inv.listed
           (lists_as _ _ _ _ (λ i. down_by (port_by (slice_get (sym inv.listed.ports i).items (get_or (same i) k 0))) (gives_at (sym inv.tour i).stops.items (get_or (same i) k 0))) step.listed));
@@ -44,3 +54,11 @@ returns-clause-listed c =
     lists_as _ _ _ _
     (ap (λ z. downs_in m.lan.ports.items (λ p. gives_at m.tour.stops.items p) z) (sym (take_all c.loop-k.k m.tour.visit.items (omega (arith, c.loop-k-test.false, c.len-k-end.ensures.value)))))
     c.loop-k.invariant.listed
+
+pub returns-clause-tour : goal.returns-clause-tour
+returns-clause-tour c = c.loop-k.invariant.tour
+
+pub returns-clause-mails : goal.returns-clause-mails
+returns-clause-mails c =
+    let m = c.args.self.now in
+    subst (λ z. Drops (λ p. gave_at m.tour.stops.items p) z (mails_in m) (mails_in c.loop-k.self)) (take_all c.loop-k.k m.tour.visit.items (omega (arith, c.loop-k-test.false, c.len-k-end.ensures.value))) c.loop-k.invariant.mails

@@ -15,6 +15,9 @@ use Rattle.master_node.specs.Listing.{ListsOne, events_in}
 use Rattle.master_node.specs.declared.event.Event.{Event}
 use Rattle.master_tour.proofs.Walks.{steps_set}
 use Rattle.master_node.proofs.Listing.{events_of_list}
+use Rattle.std.specs.Prelude.{map}
+use Rattle.master_node.specs.Serving.{waits_of}
+use Rattle.master_node.proofs.Servings.{posts_set}
 use Rattle.master_node.proofs.node.MasterNode.begun.Goals as goal
 
 pub returns-in-None-clause-begun : goal.returns-in-None-clause-begun
@@ -90,3 +93,9 @@ returns-in-None-clause-events c = omega arith
 
 pub returns-in-Some-clause-events : goal.returns-in-Some-clause-events
 returns-in-Some-clause-events c = let e = ap (λ z. z.count) c.pass_by.ensures.list in let f = c.put.ensures.few in omega (arith, e, f)
+
+pub returns-in-Some-clause-mails : goal.returns-in-Some-clause-mails
+returns-in-Some-clause-mails c =
+    let m = c.args.self.now in
+    let k : c.args.place < length m.posts.items = omega (arith, c.requires, m.posts.ok.0) in
+    ap (λ z. map waits_of z.items) c.pass_by.ensures.posts ∙ posts_set m.posts.items c.args.place c.index_mut.result.now _ k c.index_mut.ensures.value (ap (λ z. z.items) c.begin-origin.ensures.mails)

@@ -79,3 +79,6 @@ returns-then-began-clause-events c = c.begun.ensures.events
 
 pub returns-else-began-clause-events : goal.returns-else-began-clause-events
 returns-else-began-clause-events c = omega arith
+
+pub returns-then-began-clause-mails : goal.returns-then-began-clause-mails
+returns-then-began-clause-mails c = c.begun.ensures.mails

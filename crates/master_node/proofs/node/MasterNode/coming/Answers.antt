@@ -42,3 +42,9 @@ returns-in-Open-clause-free c =
     let r = c.coming_open.result in
     some_both (λ s. s.stand ≡ Stand.Open) (λ s. is_some r ≡ true → is_free_side s.side ≡ true) (λ s. is_some r ≡ true → (s.stand ≡ Stand.Open) × (is_free_side s.side ≡ true)) (slice_get m.tour.stops.items c.args.place) (λ s o f e. (o, f e))
     (some_here (λ s. s.stand ≡ Stand.Open) m.tour.stops.items c.args.place c.index-stop.result.now l c.index-stop.ensures c.in-Open.is) c.coming_open.ensures.free
+
+pub returns-in-Open-clause-states : goal.returns-in-Open-clause-states
+returns-in-Open-clause-states c = c.coming_open.ensures.states
+
+pub returns-in-Open-clause-oldest : goal.returns-in-Open-clause-oldest
+returns-in-Open-clause-oldest c = c.coming_open.ensures.oldest

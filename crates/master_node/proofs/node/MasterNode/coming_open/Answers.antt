@@ -1,5 +1,5 @@
-use Rattle.std.proofs.Common.{◌≡◌, ◌<◌, true, false, Some, sym, ◌∙◌, arith, length, rules}
-use Rattle.std.specs.Prelude.{is_some}
+use Rattle.std.proofs.Common.{◌≡◌, ◌<◌, true, false, Some, [], sym, ap, ◌∙◌, arith, length, rules}
+use Rattle.std.specs.Prelude.{is_some, nat_lt}
 use Rattle.master_side.specs.Free.{is_free_side}
 use Rattle.master_tour.specs.declared.stop.Stand.{Stand}
 use Rattle.master_node.specs.Coming.{IsComing, next_of}
@@ -8,6 +8,9 @@ use Rattle.master_node.specs.declared.coming.Coming.{Coming}
 use Rattle.master_node.proofs.Lists.{some_here}
 use Rattle.master_node.proofs.Restings.{never}
 use Rattle.master_node.proofs.Starts.{none_waiting, some_waiting, waits_other}
+use Rattle.master_node.specs.Passes.{IsNextState, MailWaits, waits_in}
+use Rattle.master_node.specs.Serving.{mails_in}
+use Rattle.master_node.proofs.Mailings.{mail_waits, next_state, none_waits, waits_here}
 use Rattle.master_node.proofs.node.MasterNode.coming_open.Goals as goal
 
 pub returns-then-not-is_free-clause-none : goal.returns-then-not-is_free-clause-none
@@ -72,3 +75,21 @@ returns-clause-free c =
     let l : c.args.place < length m.tour.stops.items = omega (arith, c.requires, m.paired, m.tour.stops.ok.0) in
     let free : c.is_free.result ≡ true = search rules in
     some_here (λ s. is_some c.scripted.result ≡ true → is_free_side s.side ≡ true) m.tour.stops.items c.args.place c.index-stop.result.now l c.index-stop.ensures (λ e. sym c.is_free.ensures.is ∙ free)
+
+pub returns-clause-states : goal.returns-clause-states
+returns-clause-states c =
+    let m = c.args.self.now in
+    let l : c.args.place < length m.tour.stops.items = omega (arith, c.requires, m.paired, m.tour.stops.ok.0) in
+    some_here (λ s. IsNextState (next_of s) c.scripted.result) m.tour.stops.items c.args.place c.index-stop.result.now l c.index-stop.ensures (next_state _ c.scripted.result c.scripted.ensures.comes)
+
+pub returns-clause-oldest : goal.returns-clause-oldest
+returns-clause-oldest c = mail_waits _ _ c.scripted.result c.scripted.ensures.comes
+
+pub returns-then-has_mail-clause-oldest : goal.returns-then-has_mail-clause-oldest
+returns-then-has_mail-clause-oldest c = λ e.
+    let m = c.args.self.now in
+    let k : c.args.place < length m.posts.items = omega (arith, c.requires, m.posts.ok.0) in
+    let p = c.index.result.now in
+    let some : c.has_mail.result ≡ true = search rules in
+    let none = c.has_mail.ensures.1 (none_waits p (sym (waits_here m.posts.items c.args.place p k c.index.ensures) ∙ e)) in
+    absurd (let w : true ≡ false = sym some ∙ none in cc)

@@ -16,6 +16,10 @@ use Rattle.master_node.specs.Toured.{IsBare}
 use Rattle.master_node.proofs.Toureds.{Visiting}
 use Rattle.master_node.specs.Listing.{Before}
 use Rattle.master_node.specs.Made.{Makes}
+use Rattle.served_runs.specs.Served.{Serves}
+use Rattle.master_node.specs.Passes.{BeginsFrame, IsPassing}
+use Rattle.master_node.specs.Serving.{run_lead}
+use Rattle.master_node.proofs.Roundings.{Rounds}
 use Rattle.master_node.proofs.node.MasterNode.fill.Given as goal
 
 abbrev pub invariant-loop : goal.invariant-loop
@@ -27,3 +31,5 @@ invariant-loop l =
     × Happens l.counter l.initial.self.lan l.self.lan × Makes l.initial.self.lan l.self.lan
     × (All WaitsNone l.initial.self.posts.items → IsBare l.initial.self → length l.initial.into.items ≡ 16 → All WaitsNone l.self.posts.items × EagerOn l.initial.self l.self)
     × (l.self.list.count ≤ l.initial.self.list.count + l.counter)
+    × ((lens : ℕ → Lens) (recover made : ℕ) (ws : List Serves) → AreDistinct (map (λ w. lived_of (run_lead w)) ws) → ((left : List ℕ) → IsPassing lens recover made left l.initial.self l.initial.into.items ws) → BeginsFrame l.initial.self l.initial.into.items (map run_lead ws) →
+    Rounds (map run_lead ws) (λ left m octets. IsPassing lens recover made left m octets ws) l.counter l.self l.into.items)

@@ -6,6 +6,10 @@ use Rattle.master_node.specs.Forwards.{port_by}
 use Rattle.master_node.proofs.Downs.{lists_as, lists_from, lists_none, down_not, here_is}
 use Rattle.master_node.proofs.Tells.{node_then, node_told, node_refl}
 use Rattle.master_node.proofs.Happenings.{happens_none, happens_from}
+use Rattle.std.proofs.Common.{subst, ◌∷◌, []}
+use Rattle.master_tour.specs.Walks.{StepsAt}
+use Rattle.master_node.specs.Serving.{mails_in}
+use Rattle.master_node.proofs.Droppeds.{drops_none, drops_one}
 use Rattle.master_node.proofs.node.MasterNode.given_up.Goals as goal
 
 pub returns-clause-kept : goal.returns-clause-kept
@@ -42,3 +46,18 @@ returns-then-not-is_given_up-clause-listed c =
     (ap (λ z. z && holds_at (λ s. not (is_live s.stand)) m.tour.stops.items p)
     (here_is (λ s. is_given_up s.news) m.tour.stops.items p c.index.result.now false l c.index.ensures (sym c.is_given_up.ensures ∙ c.if-not-is_given_up.true))))
     refl
+
+pub returns-clause-mails : goal.returns-clause-mails
+returns-clause-mails c =
+    let m = c.args.self.now in
+    let p = c.args.place in
+    let l : p < length m.tour.stops.items = omega (arith, c.requires, m.paired, m.tour.stops.ok.0) in
+    drops_one _ p (mails_in m) _ (here_is (λ s. is_given_up s.news) m.tour.stops.items p c.index.result.now true l c.index.ensures (sym c.is_given_up.ensures ∙ c.if-not-is_given_up.false))
+    (subst (λ z. StepsAt (λ ks ls. ls ≡ []) p (mails_in m) z) (sym c.down_where.ensures.mails) c.dropped.ensures.mails)
+
+pub returns-then-not-is_given_up-clause-mails : goal.returns-then-not-is_given_up-clause-mails
+returns-then-not-is_given_up-clause-mails c =
+    let m = c.args.self.now in
+    let p = c.args.place in
+    let l : p < length m.tour.stops.items = omega (arith, c.requires, m.paired, m.tour.stops.ok.0) in
+    drops_none _ p (mails_in m) (mails_in m) (here_is (λ s. is_given_up s.news) m.tour.stops.items p c.index.result.now false l c.index.ensures (sym c.is_given_up.ensures ∙ c.if-not-is_given_up.true)) refl

@@ -5,6 +5,8 @@ use Rattle.master_node.specs.Downs.{is_given_up}
 use Rattle.master_node.proofs.Downs.{lists_none, down_not, holds_beyond}
 use Rattle.master_node.proofs.Tells.{node_refl}
 use Rattle.master_node.proofs.Happenings.{happens_none}
+use Rattle.master_node.specs.Serving.{mails_in}
+use Rattle.master_node.proofs.Droppeds.{drops_none}
 use Rattle.master_node.proofs.node.MasterNode.given_up_at.Goals as goal
 
 pub returns-else-place-len-clause-kept : goal.returns-else-place-len-clause-kept
@@ -19,3 +21,10 @@ returns-else-place-len-clause-listed c =
     let p = c.args.place in
     let l : length m.tour.stops.items ≤ p = omega (arith, c.if-place-len.false, c.len.ensures, m.paired, m.tour.stops.ok.0) in
     lists_none _ _ _ (down_not _ _ (ap (λ z. z && holds_at (λ s. not (is_live s.stand)) m.tour.stops.items p) (holds_beyond (λ s. is_given_up s.news) m.tour.stops.items p l))) refl
+
+pub returns-else-place-len-clause-mails : goal.returns-else-place-len-clause-mails
+returns-else-place-len-clause-mails c =
+    let m = c.args.self.now in
+    let p = c.args.place in
+    let l : length m.tour.stops.items ≤ p = omega (arith, c.if-place-len.false, c.len.ensures, m.paired, m.tour.stops.ok.0) in
+    drops_none _ p (mails_in m) (mails_in m) (holds_beyond (λ s. is_given_up s.news) m.tour.stops.items p l) refl

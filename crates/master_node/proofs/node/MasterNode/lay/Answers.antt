@@ -10,6 +10,10 @@ use Rattle.master_tour.proofs.Walks.{each_same}
 use Rattle.master_node.proofs.Lists.{steps_each}
 use Rattle.master_node.specs.Origins.{LaysFrom}
 use Rattle.master_node.specs.Starts.{LaysPacket, WaitsFor}
+use Rattle.std.proofs.Common.{◌≡◌, None}
+use Rattle.master_node.specs.Passes.{LaysMail, waits_behind, waits_in}
+use Rattle.master_node.specs.Serving.{mails_in}
+use Rattle.master_node.proofs.Mailings.{waits_stay}
 use Rattle.master_node.proofs.node.MasterNode.lay.Goals as goal
 
 pub returns-in-None-clause-laid : goal.returns-in-None-clause-laid
@@ -64,3 +68,24 @@ pub returns-in-Some-clause-sure : goal.returns-in-Some-clause-sure
 returns-in-Some-clause-sure c = λ w.
     let m = c.args.self.now in
     subst (λ z. StepsAt (λ s t. LaysPacket z t.side.hand.laying.laid) c.args.place m.tour.stops.items c.lay_coming.new.self.tour.stops.items) (sym c.in-Some.is) (c.lay_coming.ensures.sure (subst (λ z. WaitsFor m.lan c.args.place z) c.in-Some.is w))
+
+pub returns-in-None-clause-mails : goal.returns-in-None-clause-mails
+returns-in-None-clause-mails c =
+    let m = c.args.self.now in
+    let k : c.args.place < length m.posts.items = omega (arith, c.requires, m.posts.ok.0) in
+    subst (λ z. StepsAt (λ ks ls. ls ≡ waits_behind z ks) c.args.place (mails_in m) (mails_in m)) (sym c.in-None.is) (waits_stay None c.args.place m.posts.items (mails_in m) (λ ks. refl) k refl)
+
+pub returns-in-Some-clause-mails : goal.returns-in-Some-clause-mails
+returns-in-Some-clause-mails c =
+    subst (λ z. StepsAt (λ ks ls. ls ≡ waits_behind z ks) c.args.place (mails_in c.args.self.now) (mails_in c.lay_coming.new.self)) (sym c.in-Some.is) c.lay_coming.ensures.mails
+
+pub returns-in-None-clause-ready : goal.returns-in-None-clause-ready
+returns-in-None-clause-ready c =
+    let m = c.args.self.now in
+    let l : c.args.place < length m.tour.stops.items = omega (arith, c.requires, m.paired, m.tour.stops.ok.0) in
+    subst (λ z. StepsAt (λ s t. LaysMail z t.side.out.len (waits_in (mails_in m) c.args.place) t.side.hand.laying) c.args.place m.tour.stops.items m.tour.stops.items) (sym c.in-None.is) (steps_same _ c.args.place m.tour.stops.items l (λ s. tt))
+
+pub returns-in-Some-clause-ready : goal.returns-in-Some-clause-ready
+returns-in-Some-clause-ready c =
+    let m = c.args.self.now in
+    subst (λ z. StepsAt (λ s t. LaysMail z t.side.out.len (waits_in (mails_in m) c.args.place) t.side.hand.laying) c.args.place m.tour.stops.items c.lay_coming.new.self.tour.stops.items) (sym c.in-Some.is) c.lay_coming.ensures.ready

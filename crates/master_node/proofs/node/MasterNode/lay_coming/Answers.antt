@@ -10,6 +10,10 @@ use Rattle.master_node.specs.Origins.{LaysFrom}
 use Rattle.master_node.specs.declared.coming.Coming.{Coming}
 use Rattle.std.proofs.Common.{◌∙◌}
 use Rattle.master_node.specs.Starts.{LaysPacket, WaitsFor}
+use Rattle.std.proofs.Common.{◌≡◌, refl}
+use Rattle.master_node.specs.Passes.{LaysMail, waits_behind, waits_in}
+use Rattle.master_node.specs.Serving.{mails_in}
+use Rattle.master_node.proofs.Mailings.{waits_stay}
 use Rattle.master_node.proofs.node.MasterNode.lay_coming.Goals as goal
 
 pub returns-in-Packet-clause-laid : goal.returns-in-Packet-clause-laid
@@ -112,3 +116,48 @@ returns-in-State-clause-sure c = λ w.
     let l : c.args.place < length m.tour.stops.items = omega (arith, c.requires, m.paired, m.tour.stops.ok.0) in
     subst (λ z. StepsAt (λ s t. LaysPacket (Some z) t.side.hand.laying.laid) c.args.place m.tour.stops.items c.lay_state.new.self.tour.stops.items) (sym c.in-State.is)
     (subst (λ z. StepsAt (λ s t. ⊤) c.args.place m.tour.stops.items z.stops.items) (sym c.lay_state.ensures.tour.0) (steps_same _ c.args.place m.tour.stops.items l (λ s. tt)))
+
+pub returns-in-Packet-clause-mails : goal.returns-in-Packet-clause-mails
+returns-in-Packet-clause-mails c =
+    let m = c.args.self.now in
+    let k : c.args.place < length m.posts.items = omega (arith, c.requires, m.posts.ok.0) in
+    subst (λ z. StepsAt (λ ks ls. ls ≡ waits_behind (Some z) ks) c.args.place (mails_in m) (mails_in c.lay_packet.new.self)) (sym c.in-Packet.is) (waits_stay (Some Coming.Packet) c.args.place m.posts.items (mails_in c.lay_packet.new.self) (λ ks. refl) k c.lay_packet.ensures.mails)
+
+pub returns-in-Packet-clause-ready : goal.returns-in-Packet-clause-ready
+returns-in-Packet-clause-ready c =
+    let m = c.args.self.now in
+    subst (λ z. StepsAt (λ s t. LaysMail (Some z) t.side.out.len (waits_in (mails_in m) c.args.place) t.side.hand.laying) c.args.place m.tour.stops.items c.lay_packet.new.self.tour.stops.items) (sym c.in-Packet.is)
+    (steps_map _ _ c.args.place m.tour.stops.items c.lay_packet.new.self.tour.stops.items (λ s t k. tt) c.lay_packet.ensures.laid)
+
+pub returns-in-Script-clause-mails : goal.returns-in-Script-clause-mails
+returns-in-Script-clause-mails c =
+    let m = c.args.self.now in
+    let k : c.args.place < length m.posts.items = omega (arith, c.requires, m.posts.ok.0) in
+    subst (λ z. StepsAt (λ ks ls. ls ≡ waits_behind (Some z) ks) c.args.place (mails_in m) (mails_in c.lay_script.new.self)) (sym c.in-Script.is) (waits_stay (Some Coming.Script) c.args.place m.posts.items (mails_in c.lay_script.new.self) (λ ks. refl) k c.lay_script.ensures.mails)
+
+pub returns-in-Script-clause-ready : goal.returns-in-Script-clause-ready
+returns-in-Script-clause-ready c =
+    let m = c.args.self.now in
+    subst (λ z. StepsAt (λ s t. LaysMail (Some z) t.side.out.len (waits_in (mails_in m) c.args.place) t.side.hand.laying) c.args.place m.tour.stops.items c.lay_script.new.self.tour.stops.items) (sym c.in-Script.is)
+    (steps_map _ _ c.args.place m.tour.stops.items c.lay_script.new.self.tour.stops.items (λ s t k. tt) c.lay_script.ensures.laid)
+
+pub returns-in-State-clause-mails : goal.returns-in-State-clause-mails
+returns-in-State-clause-mails c =
+    let m = c.args.self.now in
+    let k : c.args.place < length m.posts.items = omega (arith, c.requires, m.posts.ok.0) in
+    subst (λ z. StepsAt (λ ks ls. ls ≡ waits_behind (Some z) ks) c.args.place (mails_in m) (mails_in c.lay_state.new.self)) (sym c.in-State.is) (waits_stay (Some (Coming.State c.in-State.field-0)) c.args.place m.posts.items (mails_in c.lay_state.new.self) (λ ks. refl) k c.lay_state.ensures.mails)
+
+pub returns-in-State-clause-ready : goal.returns-in-State-clause-ready
+returns-in-State-clause-ready c =
+    let m = c.args.self.now in
+    subst (λ z. StepsAt (λ s t. LaysMail (Some z) t.side.out.len (waits_in (mails_in m) c.args.place) t.side.hand.laying) c.args.place m.tour.stops.items c.lay_state.new.self.tour.stops.items) (sym c.in-State.is)
+    (steps_map _ _ c.args.place m.tour.stops.items c.lay_state.new.self.tour.stops.items (λ s t k. tt) c.lay_state.ensures.origins)
+
+pub returns-in-Mail-clause-mails : goal.returns-in-Mail-clause-mails
+returns-in-Mail-clause-mails c =
+    subst (λ z. StepsAt (λ ks ls. ls ≡ waits_behind (Some z) ks) c.args.place (mails_in c.args.self.now) (mails_in c.lay_mail.new.self)) (sym c.in-Mail.is) c.lay_mail.ensures.mails
+
+pub returns-in-Mail-clause-ready : goal.returns-in-Mail-clause-ready
+returns-in-Mail-clause-ready c =
+    let m = c.args.self.now in
+    subst (λ z. StepsAt (λ s t. LaysMail (Some z) t.side.out.len (waits_in (mails_in m) c.args.place) t.side.hand.laying) c.args.place m.tour.stops.items c.lay_mail.new.self.tour.stops.items) (sym c.in-Mail.is) c.lay_mail.ensures.ready

@@ -3,6 +3,7 @@ use Rattle.master_hand.specs.declared.laying.Laid.{Laid}
 use Rattle.master_node.specs.Begins.{IsOldest}
 use Rattle.master_tour.proofs.Walks.{steps_set}
 use Rattle.master_node.proofs.Kepts.{stop_side}
+use Rattle.master_node.proofs.Servings.{posts_set}
 use Rattle.master_node.proofs.node.MasterNode.lay_packet.Goals as goal
 
 pub returns-in-Some-clause-laid : goal.returns-in-Some-clause-laid
@@ -53,3 +54,15 @@ returns-in-Some-clause-sure c = λ n.
 
 pub returns-in-None-clause-sure : goal.returns-in-None-clause-sure
 returns-in-None-clause-sure c = λ n. absurd (n (c.oldest.ensures.none c.in-None.is))
+
+pub returns-in-Some-clause-mails : goal.returns-in-Some-clause-mails
+returns-in-Some-clause-mails c =
+    let m = c.args.self.now in
+    let k : c.args.place < length m.posts.items = omega (arith, c.requires, m.posts.ok.0) in
+    posts_set m.posts.items c.args.place c.index_mut-post.result.now _ k c.index_mut-post.ensures.value refl
+
+pub returns-in-None-clause-mails : goal.returns-in-None-clause-mails
+returns-in-None-clause-mails c =
+    let m = c.args.self.now in
+    let k : c.args.place < length m.posts.items = omega (arith, c.requires, m.posts.ok.0) in
+    posts_set m.posts.items c.args.place c.index_mut-post.result.now _ k c.index_mut-post.ensures.value refl

@@ -3,6 +3,7 @@ use Rattle.master_tour.proofs.Walks.{steps_set}
 use Rattle.master_node.proofs.Kepts.{stop_side}
 use Rattle.std.proofs.Common.{ap}
 use Rattle.master_node.specs.declared.event.Origin.{Origin}
+use Rattle.master_node.proofs.Servings.{posts_set}
 use Rattle.master_node.proofs.node.MasterNode.lay_script.Goals as goal
 
 pub returns-clause-laid : goal.returns-clause-laid
@@ -18,3 +19,9 @@ returns-clause-origins c =
     let k : c.args.place < length m.posts.items = omega (arith, c.requires, m.posts.ok.0) in
     steps_set _ c.args.place m.tour.stops.items c.index_mut.result.now _ l c.index_mut.ensures.value
     (steps_set _ c.args.place m.posts.items c.index_mut-post.result.now _ k c.index_mut-post.ensures.value (record { counts = refl; origin = ap (λ z. Origin.Script z) c.number-number.ensures }))
+
+pub returns-clause-mails : goal.returns-clause-mails
+returns-clause-mails c =
+    let m = c.args.self.now in
+    let k : c.args.place < length m.posts.items = omega (arith, c.requires, m.posts.ok.0) in
+    posts_set m.posts.items c.args.place c.index_mut-post.result.now _ k c.index_mut-post.ensures.value refl

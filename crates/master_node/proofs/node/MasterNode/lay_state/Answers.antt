@@ -2,6 +2,7 @@ use Rattle.std.proofs.Common.{◌<◌, refl, ap, arith, length}
 use Rattle.master_tour.proofs.Walks.{steps_set}
 use Rattle.master_node.specs.declared.event.Origin.{Origin}
 use Rattle.master_node.proofs.Listing.{steps_stay}
+use Rattle.master_node.proofs.Servings.{posts_set}
 use Rattle.master_node.proofs.node.MasterNode.lay_state.Goals as goal
 
 pub returns-clause-origins : goal.returns-clause-origins
@@ -11,3 +12,9 @@ returns-clause-origins c =
     let k : c.args.place < length m.posts.items = omega (arith, c.requires, m.posts.ok.0) in
     steps_stay _ c.args.place m.tour.stops.items c.index.result.now l c.index.ensures
     (steps_set _ c.args.place m.posts.items c.index_mut-post.result.now _ k c.index_mut-post.ensures.value (refl, ap (λ z. Origin.Script z) c.number-number.ensures))
+
+pub returns-clause-mails : goal.returns-clause-mails
+returns-clause-mails c =
+    let m = c.args.self.now in
+    let k : c.args.place < length m.posts.items = omega (arith, c.requires, m.posts.ok.0) in
+    posts_set m.posts.items c.args.place c.index_mut-post.result.now _ k c.index_mut-post.ensures.value refl

@@ -29,6 +29,21 @@ use Rattle.master_node.specs.Shows.{is_led, is_live_turn, is_live_lead, side_sho
 use Rattle.master_tour.specs.Goes.{is_live}
 use Rattle.master_node.proofs.Downs.{lists_all, lists_as, downs_few, downs_same, goes_at, gone_is, live_is, under_live, both_true}
 use Rattle.master_node.proofs.Recalled.{recalls_lost}
+use Rattle.std.proofs.Common.{suc}
+use Rattle.counters_kept.proofs.Lives.{stands_kept}
+use Rattle.life_runs.specs.of_life_frames.Shares.{AllThree}
+use Rattle.master_tour.specs.Stands.{StandShows}
+use Rattle.served_runs.specs.Served.{served_behind}
+use Rattle.master_node.specs.Serving.{IsServed, IsServedUnder, mails_in, run_lead, waits_of}
+use Rattle.master_node.specs.Shows.{GoesOn}
+use Rattle.master_node.proofs.Downs.{given_is}
+use Rattle.master_node.proofs.Joineds.{pair_both}
+use Rattle.master_node.proofs.Serveds.{distinct_served, long_served, opens_served, three_both}
+use Rattle.master_tour.specs.Made.{is_in}
+use Rattle.master_tour.specs.Goes.{holds_at}
+use Rattle.master_node.specs.Dropped.{gave_at}
+use Rattle.master_node.specs.Passes.{waits_in}
+use Rattle.master_node.proofs.ServedLosts as Losts
 use Rattle.master_node.proofs.node.MasterNode.lost.Goals as goal
 
 pub returns-clause-leads : goal.returns-clause-leads
@@ -118,3 +133,50 @@ pub returns-clause-recalls : goal.returns-clause-recalls
 returns-clause-recalls c = λ lens recover retry missed octets us u.
     let m = c.args.self.now in
     recalls_lost lens recover octets (not (nat_lt m.tour.missed m.tour.retry)) us m.tour.stops.items c.lost.new.self.stops.items c.all_given_up.new.self.tour.stops.items u.each c.lost.ensures.recalled c.all_given_up.ensures.kept.each
+
+pub returns-clause-served : goal.returns-clause-served
+returns-clause-served c = λ lens recover retry missed made after octets vs f p b u.
+    let m = c.args.self.now in
+    let n = c.all_given_up.new.self in
+    let t1 = c.lost.new.self in
+    let e = c.lost.ensures in
+    let k = c.all_given_up.ensures in
+    let ss = m.tour.stops.items in
+    let ts = t1.stops.items in
+    let gives = not (nat_lt missed retry) in
+    let given = not (nat_lt m.tour.missed m.tour.retry) in
+    let comes : nat_lt m.tour.missed m.tour.retry ≡ nat_lt missed retry = λ i. nat_lt (u.missed_is i) (u.retry_is i) in
+    let three = e.shown lens octets (λ spot. speech_at lens spot) is_followed is_passed made recover (map (λ v. v.turn.lived) vs) (three_both _ _ (λ v. v.turn.lived) (λ v x s i. (i.served.lives, i.way)) vs m.posts.items ss u.each) in
+    let toured = pair_both _ _ ss ts e.stays (pair_both _ _ ss ts (e.passing lens octets) (pair_both _ _ ss ts e.counts e.pace)) in
+    let gave = Losts.gave_all (λ v q s. IsServedUnder lens recover octets made v q s) _ (λ t. is_given_up t.news) (λ s. s.under) given
+    (λ v q s t i y.
+    let l = v.turn.lived.life in
+    let spot = v.turn.lived.spot in
+    let follows = y.0 (speech_at lens spot) is_followed is_passed made recover spot [] l i.served.lives.planned.stands i.way i.served.lives.shown in
+    given_is (speech_at lens spot) recover made spot (seen lens octets) (given && s.under) l t.news follows.told) vs m.posts.items ss ts u.each (e.lives lens octets) in
+    let drops = k.mails in
+    let waits = λ (j : ℕ). drops.each j ∙ Losts.waits_lost given (gave_at ts j) (is_in j t1.visit.items) (holds_at (λ s. s.under) ss j) (waits_in (mails_in m) j) (gave j) (λ y. ap (λ z. is_in j z.items) e.tour.0 ∙ u.carried j y) in
+    let each = Losts.all_lost lens recover retry gives made f octets after p b given _ _ vs m.posts.items n.posts.items ss ts u.each drops.long waits three toured
+    (λ v q r s t i w a z.
+    let l = v.turn.lived.life in
+    let spot = v.turn.lived.spot in
+    let x = speech_at lens spot in
+    let shown = i.served.lives.shown in
+    Losts.served_lost lens recover retry gives made f octets after p b given v q r s t (ap not comes) i a
+    (z.1.0 x made recover spot v.kept l i.served.lives.planned.stands i.way shown (stands_kept s.stand v.kept l (λ o. (subst (λ y. StandShows (λ d g. side_shows lens recover s spot d g) spot y l) o shown.stood).0) i.served.kept) i.served.passing)
+    (z.1.1.0 x made recover spot l shown) z.1.1.1 z.0.0 w) in
+    let there = subst (λ z. AllThree (λ w q t. IsServed lens recover (suc made) w q t) (map (served_behind lens recover retry gives made f) vs) n.posts.items z.stops.items) (sym k.tour) each in
+    record {
+      each = there;
+      distinct = distinct_served lens recover retry gives made f vs (Losts.lost_spot lens recover retry gives made f octets after p b) u.distinct;
+      goes = subst (λ z. GoesOn z.again z.visit.items z.opened (map run_lead (map (served_behind lens recover retry gives made f) vs))) (sym k.tour)
+          (Losts.goes_lost lens recover retry made f octets after p b (nat_lt missed retry) t1.again m.tour.visit.items t1.visit.items m.tour.opened t1.opened vs ts (e.tour.1 ∙ comes) (ap (λ z. z.items) e.tour.0)
+          (e.opened ∙ ap (λ (z : Bool). if z then m.tour.opened else opened_behind (λ s. is_opened s.stand) m.tour.opened ts) comes)
+          (long_served lens recover retry (suc made) _ n.posts.items ts each) (opens_served lens recover retry (suc made) _ n.posts.items ts each) u.goes);
+      missed_is = ap (λ z. z.missed) k.tour ∙ e.tour.2 ∙ missed_is lens recover retry f after missed m.tour.missed m.tour.retry p u.missed_is u.retry_is;
+      retry_is = ap (λ z. z.retry) k.tour ∙ e.tour.3 ∙ u.retry_is;
+      again = λ y. subst (λ z. FitAgain z.visit.items z.stops.items) (sym k.tour)
+          (subst (λ z. FitAgain z.items ts) (sym e.tour.0) (again_lost _ (λ s w h. h (sym e.tour.1 ∙ ap (λ z. z.again) (sym k.tour) ∙ y)) ss ts m.tour.visit.items e.again u.fits));
+      made_is = k.kept.tour.made ∙ u.made_is;
+      early = u.early;
+    }

@@ -19,7 +19,7 @@ use Rattle.master_node.proofs.Lists.{each_trans}
 use Rattle.master_tour.specs.Sizes.{frame_size}
 use Rattle.master_node.specs.Rooms.{FitAgain, area_at}
 use Rattle.master_node.proofs.Fits.{again_on, side_sends}
-use Rattle.master_node.proofs.Leaves.{areas_from, area_planned, fit_under}
+use Rattle.master_node.proofs.Leaves.{areas_from, area_planned, fit_under, visits_are}
 use Rattle.master_hand.specs.Shown.{knows}
 use Rattle.master_side.specs.Recall.{recall_by}
 use Rattle.master_node.specs.Eager.{StopTakesUp, recall_of}
@@ -30,6 +30,19 @@ use Rattle.std.proofs.Common.{[]}
 use Rattle.master_node.specs.Begins.{begun_for}
 use Rattle.master_node.specs.Starts.{HasStarted}
 use Rattle.master_node.proofs.Starts.{all_start}
+use Rattle.std.proofs.Common.{suc}
+use Rattle.life_runs.specs.of_life_frames.Shares.{AllBoth, AreDistinct}
+use Rattle.master_hand.specs.Shown.{awaits_reply}
+use Rattle.served_runs.specs.Served.{Serves}
+use Rattle.master_node.specs.Passes.{IsPassing}
+use Rattle.master_node.specs.Serving.{IsServed, run_lead, run_turn}
+use Rattle.master_node.specs.Shows.{GoesUnder, turned_of}
+use Rattle.life_runs.specs.of_life_frames.Shares.{AllFrom, AllThree}
+use Rattle.master_hand.specs.Laying.{scripted}
+use Rattle.master_node.specs.Shows.{IsLived}
+use Rattle.master_node.proofs.Serveds.{long_served, three_both}
+use Rattle.master_node.proofs.ServedSents as Served
+use Rattle.master_node.proofs.ServedVisits.{Alike}
 use Rattle.master_node.proofs.node.MasterNode.make.Goals as goal
 
 pub returns-clause-led : goal.returns-clause-led
@@ -142,3 +155,94 @@ returns-clause-eager c = λ lens recover retry missed as' x.
           subst (λ z. FitAgain z ts) (sym (ap (λ z. z.items) (e.again was))) (again_on _ (λ s t p. side_sends s t p.0 p.1) ss ts m.tour.visit.items e.each (x.again was));
     }) e.empty in
     each_comp _ _ (λ s t. (recall_of t ≡ recall_of s) × StopTakesUp t) (λ s t u p q. (q.0 ∙ ap (λ z. recall_by z.paused z.duty z.turn (knows z.hand.course)) p.0, q.1 (λ v. absurd (true_false t.under v p.5)))) ss ts c.fill.new.self.tour.stops.items e.each on
+
+pub returns-clause-serves : goal.returns-clause-serves
+returns-clause-serves c = λ lens recover retry missed made ws some small x.
+    let m = c.args.self.now in
+    let e = c.begin.ensures in
+    let t1 = c.begin.new.self in
+    let ss = m.tour.stops.items in
+    let ts = t1.stops.items in
+    let index = m.made % 256 in
+    let as' = map run_lead ws in
+    let lives = map (λ w. lived_of (run_lead w)) ws in
+    let flat : map lived_of as' ≡ lives = Served.map_map lived_of run_lead ws in
+    let nothing : ℕ → Option (Service Asked) = λ k. None in
+    let before = three_both (λ w p s. IsServed lens recover made w p s) _ (λ w. lived_of (run_lead w)) (λ w p s h. (h.lives, Served.waits_alike s.stand _ s.side.passing w.lead.lived.life h.passing)) ws m.posts.items ss x.each in
+    let leads = three_both (λ w p s. IsServed lens recover made w p s) (λ a s. IsLived lens recover (lived_of a) s) run_lead (λ w p s h. h.lives) ws m.posts.items ss x.each in
+    let many : length ts ≡ length as' = e.long ∙ long_served lens recover retry made ws m.posts.items ss x.each in
+    let alive : (k : ℕ) → holds_at (λ s. is_live s.stand) ts k ≡ holds_at is_live_lead as' k =
+    λ k. each_holds _ (λ s. is_live s.stand) (λ s t p. ap is_live p.1) ss ts e.each k ∙ both_holds (λ a s. IsLived lens recover (lived_of a) s) is_live_lead (λ s. is_live s.stand) (λ a s l. stand_lives lens recover a.lived s l) as' ss leads k in
+    let goes = goes_begun m.tour.again t1.again m.tour.visit.items t1.visit.items m.tour.opened t1.opened as' e.tour.0 e.tour.1 (λ a. ap (λ z. z.items) (e.again a)) x.goes in
+    let alike = each_map _ (λ s t. Alike s t) ss ts
+    (λ s t p. record {
+      script = ap (λ z. scripted z.hand.laying) p.0;
+      place = p.2;
+      stand = p.1;
+      passing = ap (λ z. z.passing) p.0;
+      awaits = λ w. ap (λ z. awaits_reply z.hand.course z.hand.which z.hand.clients) p.0 ∙ w;
+      read = (ap (λ z. z.read_at) p.0, ap (λ z. z.pace) p.0);
+      out = ap (λ z. z.out.len) p.0;
+    }) e.each in
+    let f = c.fill.ensures.serves lens recover made ws x.distinct
+    (λ left. record {
+      begun = nothing;
+      frame = subst (λ n. FrameMade (λ ds i a s. StopFills lens recover made nothing index left ds i a s) c.begin.new.frame.items n lives ts) (sym e.count) (e.made (speech_at lens) is_followed is_passed made recover index lens left lives nothing (λ k. refl) before);
+      each = Served.firsts_serving lens recover made left 0 ws m.posts.items ss ts x.each alike;
+    })
+    (record {
+      count = e.count;
+      passed = e.tour.5;
+      short = e.empty;
+      begins = begins_live (λ s. is_live s.stand) t1.again t1.visit.items t1.opened ts as' many alive goes;
+      some = each_any _ (λ s. is_live s.stand) (λ s t p. ap is_live p.1) ss ts e.each ∙ some;
+      lives = alive;
+      again = goes.comes;
+      anew = λ a. e.anew (sym e.tour.0 ∙ a);
+    }) in
+    let left = f.0 in
+    let filling = f.1 in
+    let ends = f.2 in
+    let on = c.fill.ensures.on in
+    let into = c.fill.new.into.items in
+    let visits = λ (a : m.tour.again ≡ true). ap (λ z. z.items) (e.again a) in
+    let v = c.fill.ensures.visited (record {
+      count = e.count;
+      passed = e.tour.5;
+      under = each_none _ (λ s. s.under) (λ s t p. p.5) ss ts e.each;
+      again = λ a. (goes.comes a).once;
+      anew = λ a. e.anew (sym e.tour.0 ∙ a);
+      fits = λ a.
+          let was = sym e.tour.0 ∙ a in
+          subst (λ z. FitAgain z ts) (sym (visits was)) (again_on _ (λ s t p. side_sends s t p.0 p.1) ss ts m.tour.visit.items e.each (x.again was));
+    }) e.empty in
+    let t2 = c.fill.new.self.tour in
+    let yes = c.finish-some.ensures.some ∙ some_not t2.count ends.some in
+    let begun = filling.begun in
+    let z = c.finish-some.ensures.made yes (speech_at lens) is_followed is_passed made recover (c.fill.new.self.made % 256) lens left lives begun filling.frame in
+    let octets = c.finish-some.new.frame.items in
+    let is = sent_is lens octets z.datagrams z.frame in
+    let sent = Served.served_all lens recover made begun octets z.datagrams is left 0 ws z.lives c.fill.new.self.posts.items t2.stops.items filling.each z.each in
+    let us = turns lens recover made begun octets z.datagrams is as' z.lives t2.stops.items in
+    let sends = subst (λ y. AllThree (λ a b s. Served.Sends lens recover made begun octets z.datagrams is a b s) y z.lives t2.stops.items) (sym flat) z.each in
+    let bare = Steps.from_map _ (λ n a s. is_in n left ≡ true → s.under ≡ false) (λ i a s w. w.bare) 0 as' t2.stops.items
+    (from_map lived_of (λ i a s. StopFills lens recover made begun (c.fill.new.self.made % 256) left filling.frame.datagrams i a s) 0 as' t2.stops.items (subst (λ y. AllFrom (λ i a s. StopFills lens recover made begun (c.fill.new.self.made % 256) left filling.frame.datagrams i a s) 0 y t2.stops.items) (sym flat) filling.frame.each)) in
+    let turned : map turned_of us ≡ map (λ q. q.turn.lived) sent.sent = ap (map turned_of) (sym sent.turns_are) ∙ Served.map_map turned_of run_turn sent.sent in (
+      sent.sent,
+      record { datagrams = z.datagrams; frame = z.frame; each = sent.each },
+      record {
+        each = sent.under;
+        distinct = subst (λ y. AreDistinct y) turned (distinct_same as' us (same_all lens recover made begun octets z.datagrams is as' z.lives t2.stops.items sends) (subst (λ y. AreDistinct y) (sym flat) x.distinct));
+        goes = subst (λ y. GoesUnder t2.visit.items t2.opened y) (sym sent.turns_are)
+            (goes_under lens recover made begun octets z.datagrams is t1.again t2.visit.items t1.visit.items t2.opened left as' z.lives t2.stops.items sends bare ends.apart ends.comes
+            (subst (λ w. GoesOn t1.again t1.visit.items w as') (sym on.opened) goes));
+        missed_is = on.missed ∙ e.tour.3 ∙ x.missed_is;
+        retry_is = on.retry ∙ e.tour.4 ∙ x.retry_is;
+        sent = sent_some lens octets z.datagrams z.frame;
+        fits = fit_under into _ c.fill.new.self c.fill.ensures.begun.1.fits v;
+        carried = λ k y. subst (λ w. is_in k w ≡ true) (sym (visits_are into _ c.fill.new.self v)) (v.carries.only k y);
+        made_is = refl;
+        early = small;
+      },
+      on.made ∙ x.made_is,
+    )

@@ -1,5 +1,5 @@
-use Rattle.std.proofs.Common.{◌⊎◌, inl, ◌≡◌, ◌∙◌, ◌+◌, ◌%◌, refl, sym, ap, subst, arith}
-use Rattle.std.specs.Prelude.{map, false, nat_lt, IfSome, slice_get}
+use Rattle.std.proofs.Common.{ℕ, ◌⊎◌, inl, ◌≡◌, ◌∙◌, ◌+◌, ◌%◌, refl, sym, ap, subst, arith}
+use Rattle.std.specs.Prelude.{map, false, is_some, nat_lt, IfSome, slice_get}
 use Rattle.std.proofs.lemmas.Bool.{le-ltb, lt-ltb}
 use Rattle.master_node.proofs.Lefts.{true_false}
 use Rattle.master_node.specs.Toured.{StaysPut, TakesPart}
@@ -51,12 +51,20 @@ use Rattle.master_node.proofs.Begins.{at_other, at_place}
 use Rattle.master_node.proofs.Fills.{from_each, from_map}
 use Rattle.master_node.proofs.Lists.{steps_got, steps_some}
 use Rattle.master_node.proofs.Starts.{Asks, ComesSo, LeavesNone, Readies, from_both, from_steps, leaves_none, readies, some_so, started_here, started_same, started_there, waits_yet}
-use Rattle.std.specs.Prelude.{None, is_some}
-use Rattle.master_side.specs.Free.{is_free_side}
+use Rattle.std.specs.Prelude.{None}
 use Rattle.master_tour.specs.First.{FitsFirst}
 use Rattle.master_tour.specs.declared.stop.Stand.{Stand}
-use Rattle.master_node.specs.Coming.{wish_of}
 use Rattle.master_node.proofs.Unvisited.{Lacking, Roomed, Roomy, Went, roomy, some_wish, steps_behind, without}
+use Rattle.master_hand.specs.Shown.{awaits_reply}
+use Rattle.master_side.specs.Free.{is_free_side}
+use Rattle.master_tour.specs.Walks.{EachPair}
+use Rattle.master_node.specs.Coming.{next_of, wish_of}
+use Rattle.master_node.specs.Kept.{StopKept, StopStays}
+use Rattle.master_node.specs.Passes.{IsNextState, IsServing, LaysMail, waits_in}
+use Rattle.master_node.specs.Serving.{mails_in, run_lead}
+use Rattle.master_node.specs.Passes.{ThreeFrom}
+use Rattle.master_node.proofs.ServedVisits as Served
+use Rattle.master_node.proofs.FreeKept as Frees
 use Rattle.master_node.proofs.node.MasterNode.visit.Goals as goal
 
 pub returns-then-not-fits-clause-led : goal.returns-then-not-fits-clause-led
@@ -332,3 +340,75 @@ returns-then-not-fits-clause-events c = omega arith
 
 pub returns-clause-events : goal.returns-clause-events
 returns-clause-events c = let e = ap (λ z. z.count) c.lay.ensures.list in let f = c.came.ensures.events in omega (arith, e, f)
+
+pub returns-then-not-fits-clause-serves : goal.returns-then-not-fits-clause-serves
+returns-then-not-fits-clause-serves c = λ lens recover made left next ws d at over fewer f.
+    let m = c.args.self.now in
+    let e = c.fits.ensures in
+    let s0 = m.tour.stops.items in
+    let s1 = c.fits.new.self.stops.items in
+    let alike = steps_each _ (λ s t. Served.Alike s t) c.args.place s0 s1 (λ s. Served.alike_same s)
+    (λ s t p. record { script = p.1.0.3; place = p.0.1; stand = p.1.0.1; passing = p.1.0.2; awaits = p.1.1.1; read = p.1.1.0; out = p.1.0.0.out_is }) (steps_both _ _ c.args.place s0 s1 e.lives (steps_both _ _ c.args.place s0 s1 e.step e.read)) in
+    record {
+      begun = f.begun;
+      frame = subst (λ n. FrameMade (λ ds i a s. StopFills lens recover made f.begun (m.made % 256) left ds i a s) c.args.into.now.items n (map (λ w. lived_of (run_lead w)) ws) s1) (sym e.count)
+          (e.made (speech_at lens) is_followed is_passed made recover (m.made % 256) m.tour.count lens left (map (λ w. lived_of (run_lead w)) ws) c.args.into.now.items f.begun d at f.frame);
+      each = Served.three_each (λ i w ks s. IsServing lens f.begun made left i w ks s) (λ i w ks s. IsServing lens f.begun made left i w ks s) (λ s t. Served.Alike s t) (λ i w ks s t h k. Served.serving_alike lens f.begun made left i w ks s t h k)
+          0 ws (mails_in m) s0 s1 f.each alike;
+    }
+
+pub returns-clause-serves : goal.returns-clause-serves
+returns-clause-serves c = λ lens recover made left next ws d at over fewer f.
+    let m = c.args.self.now in
+    let e = c.fits.ensures in
+    let v = c.visit-began.ensures in
+    let place = c.args.place in
+    let coming = c.coming-coming.result in
+    let r = c.visit-began.result in
+    let s0 = m.tour.stops.items in
+    let s1 = c.fits.new.self.stops.items in
+    let s2 = c.lay.new.self.tour.stops.items in
+    let s3 = c.visit-began.new.self.stops.items in
+    let s4 = c.came.new.self.tour.stops.items in
+    let got = waits_in (mails_in m) place in
+    let lives = map (λ w. lived_of (run_lead w)) ws in
+    let index = m.made % 256 in
+    let rooms : (s : Stop InHand Impl.ghosts) → s.side.out.len ≡ s.side.hand.laying.areas.out = λ s. s.side.room ∙ ap (λ z. z.out) (sym s.side.hand.one_slave) in
+    let frees : (n : ℕ) (s t : Stop InHand Impl.ghosts) → StopKept n s t → is_free_side t.side ≡ is_free_side s.side = λ n s t k. Frees.free_kept n s t k in
+    let alike = steps_each _ (λ s t. Served.Alike s t) place s0 s1 (λ s. Served.alike_same s)
+    (λ s t p. record { script = p.1.0.3; place = p.0.1; stand = p.1.0.1; passing = p.1.0.2; awaits = p.1.1.1; read = p.1.1.0; out = p.1.0.0.out_is }) (steps_both _ _ place s0 s1 e.lives (steps_both _ _ place s0 s1 e.step e.read)) in
+    let ahead = steps_map _ (λ s t. Served.Ahead coming t) place s0 s1
+    (λ s t p. record {
+      next = subst (λ z. IsNextState (slice_get z.script z.number) coming) (sym p.1.0.3) p.0.0;
+      free = λ y. (p.1.0.1 ∙ (p.0.1 y).0, ap (λ z. is_free_side z) (p.1.1 (p.0.1 y).1 (ap is_some c.wish_of-wish.ensures ∙ Served.wish_some coming y)) ∙ (p.0.1 y).1);
+    })
+    (steps_some _ _ place s0 s1 (steps_both _ _ place s0 s1 e.step e.still) (Served.some_pair _ _ (slice_get s0 place) c.coming-coming.ensures.states c.coming-coming.ensures.free)) in
+    let readied = steps_map _ (λ s t. Served.Readied coming got s t) place s1 s2 (λ s t p. record { stays = p.0.0; laid = p.0.1; mail = p.1 }) (steps_both _ _ place s1 s2 c.lay.ensures.laid c.lay.ensures.ready) in
+    let visited = subst (λ z. StepsAt (λ s t. Served.Visited lens recover made z r s t) place s2 s3) c.wish_of-wish.ensures
+    (steps_map _ (λ s t. Served.Visited lens recover made c.wish_of-wish.result r s t) place s2 s3
+    (λ s t p. record {
+      began = record { place = p.0.4; out = p.1.0.0.out_is; ready = p.1.1.0.0; script = p.1.1.0.1; unpassed = p.1.1.0.2 };
+      did = p.1.1.1.0;
+      stand = p.1.0.1;
+      read = p.1.1.1.1.0;
+      passes = λ spot l n planned waits shown stood begins y.
+          let h = p.0.0 (speech_at lens spot) is_followed is_passed made recover spot lens l planned.out_is planned.back_is planned.stands waits shown in
+          Served.passes_on (speech_at lens spot) made l n (wish_begun r c.wish_of-wish.result (ready_of s.side.hand.laying)) h.hold (awaits_reply t.side.hand.course t.side.hand.which t.side.hand.clients) t.stand t.side.passing h.took begins
+          (p.1.1.1.1.1 (speech_at lens spot) made recover spot h.hold l shown stood h.took) y;
+    })
+    (steps_both _ _ place s2 s3 v.lives (steps_both _ _ place s2 s3 v.step (steps_both _ _ place s2 s3 v.began (steps_both _ _ place s2 s3 v.did (steps_both _ _ place s2 s3 v.read v.passing)))))) in
+    let came = c.came.ensures.came in
+    let begun = Served.now lens recover made coming r place got s0 s1 s2 s3 s4 rooms frees ahead readied visited came f.begun in
+    let same = ap (λ n. n % 256) (c.came.ensures.kept.0.made ∙ c.lay.ensures.kept.0.made) in
+    let before = e.made (speech_at lens) is_followed is_passed made recover index m.tour.count lens left lives c.args.into.now.items f.begun d at f.frame in
+    let made_frame = Served.frame lens recover made coming r place got s0 s1 s2 s3 s4 rooms frees ahead readied visited came index f.begun left next lives c.args.into.now.items c.visit-began.new.frame.items m.tour.count c.lay.new.self.tour.count c.visit-began.new.self.count
+    (c.lay.ensures.kept.0.count ∙ e.count) before
+    (λ g. v.made (speech_at lens) is_followed is_passed made recover lens left next lives f.begun begun d at over fewer (subst (λ z. IfSome (slice_get s2 place) (λ s. ComesAt f.begun begun s.place (wish_begun r z (ready_of s.side.hand.laying)))) (sym c.wish_of-wish.ensures) (Served.comes lens recover made coming r place got s0 s1 s2 s3 s4 rooms frees ahead readied visited came f.begun)) g) in
+    let all = Served.three_each (λ i w ks s. IsServing lens f.begun made left i w ks s) (λ i w ks s. IsServing lens f.begun made left i w ks s) (λ s t. Served.Alike s t) (λ i w ks s t h k. Served.serving_alike lens f.begun made left i w ks s t h k) 0 ws (mails_in m) s0 s1 f.each alike in
+    record {
+      begun = begun;
+      frame = subst (λ n. FrameMade (λ ds i a s. StopFills lens recover made begun (c.came.new.self.made % 256) next ds i a s) c.visit-began.new.frame.items n lives s4) (sym c.came.ensures.kept.0.count)
+          (subst (λ k. FrameMade (λ ds i a s. StopFills lens recover made begun k next ds i a s) c.visit-began.new.frame.items c.visit-began.new.self.count lives s4) (sym same) made_frame);
+      each = subst (λ z. ThreeFrom (λ i w ks s. IsServing lens begun made next i w ks s) 0 ws z s4) (sym c.came.ensures.mails)
+          (Served.serving lens recover made coming r place got s0 s1 s2 s3 s4 rooms frees ahead readied visited came f.begun index left next before.datagrams fewer c.coming-coming.ensures.oldest ws (mails_in m) (mails_in c.lay.new.self) at over d before.each all c.lay.ensures.mails refl);
+    }

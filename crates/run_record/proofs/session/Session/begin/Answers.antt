@@ -6,7 +6,7 @@ use Rattle.slave_server.specs.Spec.{node_of}
 use Rattle.slave_server.specs.declared.server.SlaveServer.{SlaveServer}
 use Rattle.run_notes.specs.Slaves.{home_of}
 use Rattle.run_notes.proofs.Firsts.{length_first}
-use Rattle.run_record.proofs.Leads.{first_forwards}
+use Rattle.run_record.proofs.Leads.{first_stands}
 use Rattle.run_record.proofs.session.Session.begin.Goals as goal
 
 pub invariant_of-result : goal.invariant_of-result
@@ -24,8 +24,9 @@ invariant_of-result c =
       c.in_ok-new.ensures.posts ∙ sym nodes,
     )
 
-pub returns-clause-forwards : goal.returns-clause-forwards
-returns-clause-forwards c = first_forwards c.args.plan.now _ _ c.in_ok-new.ensures.leads c.in_ok-new-2.ensures.notes c.in_ok-new.ensures.tour c.in_ok-new.ensures.ports c.in_ok-new.ensures.joined c.in_ok-new.ensures.counts
+pub returns-clause-begins : goal.returns-clause-begins
+returns-clause-begins c =
+    first_stands c.args.plan.now _ _ c.in_ok-new.ensures.leads c.in_ok-new-2.ensures.notes c.in_ok-new.ensures.tour c.in_ok-new.ensures.ports c.in_ok-new.ensures.joined c.in_ok-new.ensures.counts c.in_ok-new.ensures.knows
 
 pub returns-clause-switch : goal.returns-clause-switch
 returns-clause-switch c = c.in_ok-new.ensures.begins

@@ -1,6 +1,6 @@
 use Rattle.std.proofs.Common.{◌≡◌, inl, inr, true, false, sym, ap, ◌∙◌, subst, rules}
 use Rattle.std.proofs.lemmas.Bool.{OnTrue_at, OnTrue_from, OnFalse_at, OnFalse_from}
-use Rattle.run_record.specs.Session.{SessionState, has_live, IsLeftBy}
+use Rattle.run_record.specs.Session.{SessionState, has_live, IsLeftBy, StillWants}
 use Rattle.run_record.proofs.session.Session.settled.Goals as goal
 
 pub returns-then-wants-clause-busy : goal.returns-then-wants-clause-busy
@@ -18,3 +18,11 @@ returns-clause-rest c = OnTrue_from c.are_at_rest.result _ (λ e. sym c.are_at_r
 
 pub returns-clause-busy : goal.returns-clause-busy
 returns-clause-busy c = OnFalse_from c.are_at_rest.result _ (λ e. inl (sym c.are_at_rest.ensures ∙ e))
+
+pub returns-then-wants-clause-wants : goal.returns-then-wants-clause-wants
+returns-then-wants-clause-wants c =
+    let yes : c.wants.result ≡ true = search rules in
+    subst StillWants c.self.view_is (λ lens recover retry missed leads shows rests none settled. (let no : true ≡ false = sym yes ∙ c.wants.ensures.rests lens recover retry missed leads shows rests none in cc))
+
+pub returns-clause-wants : goal.returns-clause-wants
+returns-clause-wants c = OnFalse_from c.are_at_rest.result _ (λ e. (λ lens recover retry missed leads shows rests none settled. (let no : true ≡ false = sym settled ∙ (sym c.are_at_rest.ensures ∙ e) in cc)))

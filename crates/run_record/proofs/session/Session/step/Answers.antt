@@ -8,10 +8,13 @@ use Rattle.run_book.specs.declared.book.SentFrame.{SentFrame}
 use Rattle.master_node.specs.Happened.{events_of}
 use Rattle.master_node.specs.of_life_runs.First.{lens_of}
 use Rattle.run_record.specs.Led.{exchanged, Leading}
-use Rattle.run_record.specs.Forwarded.{Forwards}
-use Rattle.run_record.proofs.Leads.{forwards_on, led_on, returned}
+use Rattle.run_record.proofs.Leads.{led_on, next_frame, returned, stands_on}
+use Rattle.run_record.proofs.Recalling.{rests_enter}
+use Rattle.run_record.specs.Recalling.{RunStands}
+use Rattle.master_node.specs.Wants.{AllCounted}
+use Rattle.master_node.proofs.Counts.{counted}
 use Rattle.run_record.specs.Replay.{behind, IsRecorded}
-use Rattle.run_record.specs.Session.{SessionState, has_live}
+use Rattle.run_record.specs.Session.{SessionState, StillWants, has_live}
 use Rattle.run_notes.specs.Slaves.{SameFrames, KeepsRest}
 use Rattle.run_notes.proofs.Kept.{rest_more}
 use Rattle.run_notes.specs.Switched.{IsSwitched, NotesSwitch}
@@ -80,15 +83,17 @@ returns-clause-ok c =
             (subst (λ (n : ℕ). NotesSwitch n (c.self.inside.number + 1) c.tell.new.master.lan.happened c.put_frame.new.book c.note_behind.new.book) same both.1.1.1.0)
             (subst (λ (n : ℕ). IsSwitched ports host n c.self.inside.master.lan c.args.book.now) (sym number)
             (subst (λ (s : SessionState). IsSwitched s.ports host s.ring.number s.master.lan c.args.book.now) (sym c.self.view_is) x))));
-        forwards = λ plan fs host recover many counts live x w.
+        goes_on = λ plan fs host recover many counts live wants x z.
             let live : has_live c.self.inside.master ≡ true = ap (λ (s : SessionState). has_live s.master) c.self.view_is ∙ live in
-            let mine : Forwards plan c.self.inside.master c.self.inside.log.notes fs c.args.book.now = subst (λ (s : SessionState). Forwards plan s.master s.notes fs c.args.book.now) (sym c.self.view_is) w in
+            let view : RunStands plan c.self.inside.master c.self.inside.log.notes fs c.args.book.now c.self.inside.ring = subst (λ (s : SessionState). RunStands plan s.master s.notes fs c.args.book.now s.ring) (sym c.self.view_is) z in
+            let mine = view.forwards in
             let number = c.self.invariant.0 in
             let l : Leading plan c.self.inside.master c.self.inside.log.notes fs = mine.leading in
             let now : IsSwitched ports host c.self.inside.number c.self.inside.master.lan c.args.book.now =
             subst (λ (n : ℕ). IsSwitched ports host n c.self.inside.master.lan c.args.book.now) (sym number) (subst (λ (s : SessionState). IsSwitched s.ports host s.ring.number s.master.lan c.args.book.now) (sym c.self.view_is) x) in
             let all : ports ≡ ports_of plan.slaves = before ∙ many in
-            forwards_on c.self.inside.master c.next.new.self c.tell.new.master (exchanged f) c.next.result c.next.ensures.idle c.next.ensures.begun c.next.ensures.toured c.next.ensures.asks plan fs live c.self.inside.log.notes l
+            let stood = subst (λ (n : ℕ). (switched n c.args.book.now.switch).switch ≡ c.self.inside.master.lan.switch) all (switch_stood ports host c.self.inside.number c.self.inside.master.lan c.args.book.now now) in
+            stands_on c.self.inside.master c.next.new.self c.tell.new.master (exchanged f) c.next.result c.next.ensures.idle c.next.ensures.begun c.next.ensures.toured c.next.ensures.asks plan fs live c.self.inside.log.notes l
             (λ number us frame under. c.tell.ensures.leads (lens_of plan.slaves) plan.recover plan.retry l.missed number us (exchanged f) refl refl under
             (λ pass. returned (lens_of plan.slaves) c.self.inside.ring (exchanged f) number l.leads us c.exchange-fate.ensures.fate c.exchange-fate.ensures.back frame pass))
             (λ number us frame under. c.tell.ensures.toured (lens_of plan.slaves) plan.recover plan.retry l.missed number us (exchanged f) refl refl under
@@ -113,10 +118,17 @@ returns-clause-ok c =
             c.next.ensures.happened c.in_ok-note_before.ensures.switch c.put_frame.ensures.switch c.tell.ensures.happened
             (subst (λ (n : ℕ). NotesSwitch n (c.self.inside.number + 1) c.tell.new.master.lan.happened c.put_frame.new.book c.note_behind.new.book) same both.1.1.1.0) now)
             mine.forwarded
-            (subst (λ (n : ℕ). (switched n c.args.book.now.switch).switch ≡ c.self.inside.master.lan.switch) all (switch_stood ports host c.self.inside.number c.self.inside.master.lan c.args.book.now now))
+            stood
             (subst (λ (n : ℕ). (switched n (c.args.book.now.switch ++ events_of c.next.new.self.lan.happened)).switch ≡ c.next.new.self.lan.switch) all
             (switch_stands ports host c.self.inside.number c.self.inside.master.lan c.next.new.self.lan c.args.book.now c.next.ensures.happened now))
-            mine.packets c.tell.ensures.counts (let a = c.self.invariant.1 in let b = c.self.invariant.2 in omega (arith, a, b)) c.note_before.ensures.slaves.notes c.in_ok-note_before.ensures.begun both.1.1.1.1;
+            mine.packets c.tell.ensures.counts (let a = c.self.invariant.1 in let b = c.self.invariant.2 in omega (arith, a, b)) c.note_before.ensures.slaves.notes c.in_ok-note_before.ensures.begun both.1.1.1.1
+            c.self.inside.ring c.exchange-fate.new.self view.remembers c.exchange-fate.ensures.wire c.next.ensures.visits c.next.ensures.takes c.next.ensures.recalled
+            (λ pass us frame under visits. c.tell.ensures.recalls pass (lens_of plan.slaves) plan.recover plan.retry l.missed c.next.new.into.items us under
+            (returned (lens_of plan.slaves) c.self.inside.ring (exchanged f) (length fs) l.leads us c.exchange-fate.ensures.fate c.exchange-fate.ensures.back frame pass) visits)
+            (λ after lost us under. c.tell.ensures.kept after lost (lens_of plan.slaves) plan.recover plan.retry l.missed c.next.new.into.items us under)
+            (rests_enter plan c.self.inside.master c.self.inside.ring c.self.inside.log.notes c.self.inside.log.recover fs l c.args.book.now.switch c.args.book.now.switched mine.forwarded stood (subst StillWants (sym c.self.view_is) wants)
+            (subst (λ (n : ℕ). AllCounted n l.leads) (sym (ap (λ (s : SessionState). s.recover) c.self.view_is ∙ recover)) (counted (lens_of plan.slaves) plan plan.retry fs l.missed l.leads l.lives)) c.next.new.self.lan.happened
+            (λ rests may. c.next.ensures.enters (next_frame c.self.inside.master c.next.result c.next.ensures.idle live) (lens_of plan.slaves) plan.recover plan.retry l.missed l.leads l.shows rests may));
       },
     ))
     (on_ok_both _ _ c.note_behind.result c.note_behind.ensures.gave (on_ok_both _ _ c.note_behind.result c.note_behind.ensures.told (on_ok_both _ _ c.note_behind.result c.note_behind.ensures.heard (on_ok_both _ _ c.note_behind.result c.note_behind.ensures.switch c.note_behind.ensures.rows))))

@@ -1,0 +1,32 @@
+-- What a run comes to whose budget is as many frames as the bound, where no file and no sink has a fault.
+use Rattle.std.specs.Prelude.{◌≡◌, ◌≤◌, ◌⊎◌, ℕ, List, Option, Ok}
+use Rattle.ec_outside.specs.Files.{Table}
+use Rattle.segment_plan.specs.Bound.{bound_of}
+use Rattle.segment_plan.specs.declared.plan.Scenario.{Scenario}
+use Rattle.scenario.specs.Document.{plan_of}
+use Rattle.run_book.specs.declared.book.Book.{Book}
+use Rattle.run_book.specs.declared.book.Ending.TheVariants as endings
+use Rattle.promised_run.specs.Few.{AreFewLost}
+use Rattle.promised_run.specs.Promised.{IsPromised, LeavesNothing}
+use Rattle.promised_run.specs.Session.{budget_of}
+use Rattle.ecmbx_words.specs.declared.form.Form.TheVariants as forms
+use Rattle.ecmbx_words.specs.declared.status.Status.{Status}
+use Rattle.ecmbx_words.specs.declared.status.Status.TheVariants as statuses
+use Rattle.ecmbx_words.specs.Form.{form_in}
+use Rattle.ecmbx_call.specs.Causes.{IsFound}
+
+-- words that ask for a run
+abbrev pub IsRunning : List (List ℕ) → Type 0
+IsRunning words = (form_in words ≡ forms.Run) ⊎ (form_in words ≡ forms.RunSaved)
+
+-- A RUN THAT IS COMPLETE: all is done, or a slave was given up and nothing is left of those that weren't given up for good; and where no more frames in a row are
+-- lost than the retry limit, all is done
+pub record IsComplete (plan : Scenario) (book : Book) (status : Status) : Type 0 where
+  pub promise : IsPromised plan book
+  pub ends : ((status ≡ statuses.Done) × LeavesNothing plan book promise.led.leads endings.Done) ⊎ ((status ≡ statuses.GivenUp) × LeavesNothing plan book promise.led.leads endings.GivenUp)
+  pub few : AreFewLost plan.lose plan.retry → status ≡ statuses.Done
+
+-- the run of a scenario that is found is complete, with a budget of as many frames as the bound, unless memory runs out
+abbrev pub CompletesTo : List (List ℕ) → Option Table → Scenario → Book → Status → Type 0
+CompletesTo words table plan book status =
+    (octets : List ℕ) → IsRunning words → IsFound words table octets → plan_of octets ≡ Ok plan → bound_of plan 0 ≤ budget_of plan 0 → (status ≡ statuses.NoMemory) ⊎ IsComplete plan book status

@@ -1,0 +1,20 @@
+//! How many mails a slave answers one mail with, whatever the mail is and in whatever state its servers are. Definitions and laws over the models, no
+//! running code: the functions here do nothing, and their contracts state the laws.
+#![tactic(auto)]
+
+ghost use Rattle.std.specs.Prelude.{◌≡◌, ◌≤◌, ℕ, true, false, length};
+ghost use Rattle.link_mails.specs.Body.{Body};
+ghost use Rattle.slave_model.specs.Application.{Parts, ArePartsLawful, station_valid};
+ghost use Rattle.slave_model.specs.Product.{serve};
+ghost use Rattle.slave_model.specs.Profile.{Profile, IsProfile};
+ghost use Rattle.slave_model.specs.Server.{Server};
+ghost use Rattle.few_replies.specs.Most.{Tells, AreEnough, begins_packet, is_packet_free};
+
+/// A SLAVE ANSWERS ONE MAIL WITH FEW: of whatever protocol it is, valid or not, in each AL state and whatever transfers are unfinished, it gives no more
+/// mails than the parts of an information, the fragments of an element, those of a packet that goes back, or an answer with an emergency. Only a
+/// download to the entry 2F01:01, which sends a packet, is apart; and where none was begun, none is unfinished behind the mail.
+pub fn few_replies<T, F, I>()
+    ensures few { (o : Parts T F I) (p : Profile) (information element most : ℕ) → ArePartsLawful o → IsProfile p → Tells o information element → AreEnough p information element most →
+        (al : ℕ) (j : Server T F I) (b : Body) → station_valid o j.app ≡ true → is_packet_free j ≡ true → begins_packet b ≡ false → length (serve o p al j b).1 ≤ most }
+    ensures free { (o : Parts T F I) (p : Profile) (al : ℕ) (j : Server T F I) (b : Body) → is_packet_free j ≡ true → begins_packet b ≡ false → is_packet_free (serve o p al j b).0 ≡ true }
+{}

@@ -1,0 +1,31 @@
+-- A run that isn't cut off and gives no slave up ends with all done.
+use Rattle.std.proofs.Common.{◌≡◌, ◌≢◌, ◌≤◌, refl, sym, subst}
+use Rattle.promised_run.specs.Bounded.{IsBounded}
+use Rattle.promised_run.proofs.Few.{outlived}
+use Rattle.run_book.specs.declared.book.Book.{Book}
+use Rattle.run_book.specs.declared.book.Ending.{Ending}
+use Rattle.run_book.specs.declared.book.Ending.TheVariants as endings
+use Rattle.run_record.specs.Led.{LedBook}
+use Rattle.run_record.specs.Ran.{HasFrames, EndsAs}
+use Rattle.run_record.specs.Session.{budget_of}
+use Rattle.segment_plan.specs.Bound.{bound_of}
+use Rattle.segment_plan.specs.declared.plan.Scenario.{Scenario}
+
+ends_done : (plan : Scenario) (book : Book) (ending : Ending) → EndsAs plan book ending → ending ≢ endings.BudgetSpent → ending ≢ endings.GivenUp → ending ≢ endings.NoMemory → ending ≡ endings.Done
+ends_done plan book endings.Done ends cut given memory = refl
+ends_done plan book endings.GivenUp ends cut given memory = absurd (given refl)
+ends_done plan book endings.BudgetSpent ends cut given memory = absurd (cut refl)
+ends_done plan book endings.NoMemory ends cut given memory = absurd (memory refl)
+ends_done plan book endings.PortFault ends cut given memory = absurd ends
+ends_done plan book endings.Unfinished ends cut given memory = absurd ends
+
+-- by the law of the bound, whichever way it ended
+pub bounded : (plan : Scenario) (book : Book) (ending : Ending) → ((e : Ending) → EndsAs plan book e → LedBook plan book e → bound_of plan 0 ≤ budget_of plan 0 → e ≢ endings.BudgetSpent) → HasFrames plan book → EndsAs plan book ending → book.ending ≡ ending → LedBook plan book ending →
+    IsBounded plan book
+bounded plan book ending law frames ends is led =
+    let mine : EndsAs plan book book.ending = subst (λ (e : Ending). EndsAs plan book e) (sym is) ends in
+    let led : LedBook plan book book.ending = subst (λ (e : Ending). LedBook plan book e) (sym is) led in
+    record {
+      uncut = λ enough. law book.ending mine led enough;
+      done = λ enough few memory. ends_done plan book book.ending mine (law book.ending mine led enough) (outlived plan book frames mine led few memory).ending memory;
+    }
