@@ -376,7 +376,7 @@ refuses_one Protocol.EoE b = quiet_or (eoe_quiet (heard_by EoeOctets.eoe_mail_he
     quiet_or false = omega arith
 
 -- no download to the entry is unfinished where none was before
-not_true : (b : Bool) → not b ≡ true → b ≡ false
+pub not_true : (b : Bool) → not b ≡ true → b ≡ false
 not_true true e = absurd (cc)
 not_true false e = refl
 

@@ -6,7 +6,7 @@ use Rattle.std.proofs.lemmas.List.Elements.{All-nil, All-cons, All-head, All-tai
 use Rattle.eoe_model.specs.Client as EoeClient
 use Rattle.life_runs.specs.First.{script_for}
 use Rattle.master_hand.specs.Spoken.{net}
-use Rattle.scenario.specs.of_scenario_bodies.Suited.{Suits}
+use Rattle.scenario.specs.of_scenario_services.Suited.{Suits}
 use Rattle.scenario.specs.of_scenario_services.Reading.{FitsSlave}
 use Rattle.segment_plan.specs.Bound.{smaller}
 use Rattle.segment_plan.specs.Sound.{IsService, IsAddressed}

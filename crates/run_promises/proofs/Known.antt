@@ -4,7 +4,7 @@ use Rattle.std.specs.Prelude.{IfSome, slice_get}
 use Rattle.std.proofs.lemmas.List.Elements.{All-weaker}
 use Rattle.plan_ring.specs.Lives.{IsKnown, StateFits, RowFits}
 use Rattle.scenario.specs.Told.{IsTold}
-use Rattle.scenario.specs.of_scenario_bodies.Suited.{Suits}
+use Rattle.scenario.specs.of_scenario_services.Suited.{Suits}
 use Rattle.scenario.specs.of_scenario_services.Reading.{FitsSlave}
 use Rattle.script_runs.specs.of_segment_plan.declared.plan.Scenario.{Scenario}
 use Rattle.script_runs.specs.of_segment_plan.declared.service.Service as Plan

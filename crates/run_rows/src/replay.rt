@@ -1,8 +1,10 @@
 ghost use Rattle.segment_plan.specs.Sound.{IsPlan};
 
 use crate::checksum::Checksum;
+use crate::measure::{Measured, Uncounted, count_frames};
 use datagrams::FrameBuf;
-use ec_fields::NoMemory;
+use ec_fields::{NoMemory, Rows};
+use eoe_switch::SwitchEvent;
 use master_node::{MasterNode, Next};
 use run_book::{Book, Ending, SentFrame};
 use run_record::run;
@@ -15,9 +17,17 @@ use std::alloc::Global;
 #[derive(Clone, Copy, Debug)]
 pub enum Replayed {
     /// Each of its frames was made again. The checksum is that of all frames and what came back of them, in order.
-    Same { frames: usize, checksum: u32 },
+    Same {
+        frames: usize,
+        checksum: u32,
+        measured: Measured,
+    },
     /// The first frame that is another.
-    Other { frame: usize },
+    Other {
+        frame: usize,
+    },
+    /// Each was, but they don't count by the measure.
+    Uncounted(Uncounted),
     /// The octets are no scenario.
     Unread,
     /// Want of memory.
@@ -43,26 +53,61 @@ fn is_made_again(master: &mut MasterNode, row: &SentFrame) -> bool {
     true
 }
 
-// Whether a new master, given the recorded fates and backs, makes the recorded frames.
-fn made_again(alloc: Global, plan: &Scenario, rows: &[SentFrame]) -> Result<Replayed, NoMemory>
+// The numbers of the frames with which a packet of the host came in.
+fn entries(alloc: Global, book: &Book) -> Result<Rows<u32>, NoMemory> {
+    let mut numbers = Rows::new(alloc);
+    for (at, event) in book.switch.as_slice().iter().enumerate() {
+        if let (SwitchEvent::Arrive { port: 0, .. }, Some(number)) = (
+            event,
+            book.switched.get(at),
+        ) {
+            numbers.add(*number)?;
+        }
+    }
+    Ok(numbers)
+}
+
+// The checksum of the recorded frames, or the first that a new master, given the recorded fates and backs, doesn't make.
+fn made_again(
+    alloc: Global,
+    plan: &Scenario,
+    rows: &[SentFrame],
+) -> Result<Result<u32, usize>, NoMemory>
     requires { IsPlan plan.now }
 {
     let mut master = MasterNode::new(alloc, plan)?;
     let mut checksum = Checksum::new();
     for (frame, row) in rows.iter().enumerate() {
         if !is_made_again(&mut master, row) {
-            return Ok(Replayed::Other { frame });
+            return Ok(Err(frame));
         }
         checksum.add(row.sent.bytes());
         checksum.add(row.back.bytes());
     }
-    Ok(Replayed::Same {
-        frames: rows.len(),
-        checksum: checksum.value(),
-    })
+    Ok(Ok(checksum.value()))
 }
 
-/// Runs a scenario, and makes its run again.
+// A run that is made again, and counted.
+fn counted(alloc: Global, plan: &Scenario, book: &Book) -> Result<Replayed, NoMemory>
+    requires { IsPlan plan.now }
+{
+    let rows = book.frames.as_slice();
+    let checksum = match made_again(alloc, plan, rows)? {
+        Ok(checksum) => checksum,
+        Err(frame) => return Ok(Replayed::Other { frame }),
+    };
+    let entries = entries(alloc, book)?;
+    match count_frames(alloc, plan, rows, entries.as_slice()) {
+        Ok(measured) => Ok(Replayed::Same {
+            frames: rows.len(),
+            checksum,
+            measured,
+        }),
+        Err(uncounted) => Ok(Replayed::Uncounted(uncounted)),
+    }
+}
+
+/// Runs a scenario, makes its run again, and counts its frames.
 pub fn replay(alloc: Global, octets: &[u8]) -> Replayed {
     let plan = match read(alloc, octets) {
         Ok(plan) => plan,
@@ -73,7 +118,7 @@ pub fn replay(alloc: Global, octets: &[u8]) -> Replayed {
     if run(alloc, &plan, &mut book) == Ending::NoMemory {
         return Replayed::NoMemory;
     }
-    match made_again(alloc, &plan, book.frames.as_slice()) {
+    match counted(alloc, &plan, &book) {
         Ok(replayed) => replayed,
         Err(NoMemory) => Replayed::NoMemory,
     }

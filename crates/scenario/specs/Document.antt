@@ -9,7 +9,7 @@ use Rattle.scenario_keys.specs.declared.refusal.Rule.TheVariants.{NotToml}
 use Rattle.scenario_keys.specs.declared.refusal.Refusal.{Refusal}
 use Rattle.scenario_keys.specs.Reading.{◌>>=◌, refuse, wanted}
 use Rattle.scenario_document.specs.Tables.{tables_of}
-use Rattle.scenario_whole.specs.Whole.{whole}
+use Rattle.scenario_document.specs.Whole.{whole}
 
 -- the TOML document that octets write
 unfoldable pub document_of : List ℕ → Result Members Refusal

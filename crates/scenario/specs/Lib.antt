@@ -1,4 +1,3 @@
-pub use Rattle.scenario_document.specs.of_scenario_bodies as of_scenario_bodies
 pub use Rattle.scenario_document.specs.of_scenario_services as of_scenario_services
 pub mod Document
 pub use Rattle.scenario_document.specs.Told

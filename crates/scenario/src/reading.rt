@@ -9,9 +9,8 @@ ghost use Rattle.scenario_keys.specs.Rules.{Answers};
 ghost use Rattle.scenario_document.specs.Told.{IsTold};
 ghost use Rattle.scenario.specs.Document.{document_of, plan_of};
 
-use scenario_document::tables;
+use scenario_document::{tables, whole};
 use scenario_keys::{Place, ReadErr, Rule, Stop, refused};
-use scenario_whole::whole;
 use segment_plan::Scenario;
 use std::alloc::Global;
 use std::str;

@@ -1,4 +1,6 @@
-pub use Rattle.scenario_services.specs.of_scenario_bodies as of_scenario_bodies
 pub use Rattle.scenario_services.specs as of_scenario_services
+pub mod Losses
+pub mod Top
 pub mod Tables
 pub mod Told
+pub mod Whole

@@ -6,9 +6,9 @@ use Rattle.scenario_keys.specs.declared.place.Place.TheVariants as places
 use Rattle.scenario_keys.specs.declared.refusal.Refusal.{Refusal}
 use Rattle.scenario_keys.specs.Reading.{◌>>=◌}
 use Rattle.scenario_keys.specs.Keys.{only_keys, integer_at, integer_or}
-use Rattle.scenario_tables.specs.Tables.{optional_tables_at}
-use Rattle.scenario_top.specs.Losses.{lose_at}
-use Rattle.scenario_top.specs.Top.{version_at, budget_at, slave_tables_at, packets_of}
+use Rattle.scenario_values.specs.Tables.{optional_tables_at}
+use Rattle.scenario_document.specs.Losses.{lose_at}
+use Rattle.scenario_document.specs.Top.{version_at, budget_at, slave_tables_at, packets_of}
 use Rattle.scenario_slaves.specs.Slaves.{slaves_of, paces_of}
 use Rattle.scenario_services.specs.Services.{services_of}
 

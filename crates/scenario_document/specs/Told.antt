@@ -1,8 +1,8 @@
 -- What holds of a plan that was read, beside the ranges of its numbers.
 use Rattle.std.specs.Prelude.{All}
 use Rattle.segment_plan.specs.declared.plan.Scenario.{Scenario}
-use Rattle.scenario_slaves.specs.of_scenario_plain.Plain.{HasMac}
-use Rattle.scenario_slaves.specs.of_scenario_slave.Distinct.{IsDistinct}
+use Rattle.scenario_slaves.specs.Plain.{HasMac}
+use Rattle.scenario_slaves.specs.Distinct.{IsDistinct}
 use Rattle.scenario_services.specs.Reading.{FitsSlave}
 
 -- a plan whose slaves have each file's name and each IDN once and a MAC address of 6 octets, and each of whose services suits its slave

@@ -5,11 +5,13 @@ ghost use Rattle.scenario_keys.specs.Reading.{Gives};
 ghost use Rattle.scenario_document.specs.Told.{IsTold};
 ghost use Rattle.scenario_document.specs.Tables.{tables_of};
 
+use crate::host::packets;
+use crate::losses::lose;
+use crate::top::{budget, slave_tables, version};
 use scenario_keys::{Place, Stop, integer_or, needed_integer, only_known};
 use scenario_services::services;
 use scenario_slaves::{paces, slaves};
-use scenario_tables::tables_or_none;
-use scenario_top::{budget, lose, packets, slave_tables, version};
+use scenario_values::tables_or_none;
 use segment_plan::Scenario;
 use std::alloc::Global;
 use toml::Table;

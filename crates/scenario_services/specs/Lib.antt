@@ -1,3 +1,6 @@
-pub use Rattle.scenario_bodies.specs as of_scenario_bodies
+pub mod Actions
+pub mod Sdo
+pub mod Bodies
+pub mod Suited
 pub mod Services
 pub mod Reading

@@ -3,7 +3,7 @@ use Rattle.std.specs.Prelude.{ℕ, List, length, slice_get, IfSome}
 use Rattle.segment_plan.specs.declared.slave.SlaveSpec.{SlaveSpec}
 use Rattle.segment_plan.specs.declared.service.Service.{Service}
 use Rattle.segment_plan.specs.Sound.{IsAddressed}
-use Rattle.scenario_bodies.specs.Suited.{Suits}
+use Rattle.scenario_services.specs.Suited.{Suits}
 
 -- a service that suits the slave to which it is addressed
 abbrev pub FitsSlave : List SlaveSpec → ℕ × Service → Type 0

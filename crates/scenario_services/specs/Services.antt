@@ -11,9 +11,9 @@ use Rattle.scenario_keys.specs.declared.refusal.Rule.TheVariants.{UnknownSlave}
 use Rattle.scenario_keys.specs.declared.refusal.Refusal.{Refusal}
 use Rattle.scenario_keys.specs.Reading.{◌>>=◌, wanted, each}
 use Rattle.scenario_keys.specs.Keys.{text_at}
-use Rattle.scenario_actions.specs.declared.actions.Action.{Action}
-use Rattle.scenario_actions.specs.Actions.{given_action, only_keys_of, action_at}
-use Rattle.scenario_bodies.specs.Bodies.{body_of}
+use Rattle.scenario_services.specs.declared.actions.Action.{Action}
+use Rattle.scenario_services.specs.Actions.{given_action, only_keys_of, action_at}
+use Rattle.scenario_services.specs.Bodies.{body_of}
 
 -- the slave of a name
 abbrev pub slave_named : List ℕ → List SlaveSpec → Option ℕ

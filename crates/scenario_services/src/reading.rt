@@ -2,13 +2,14 @@ ghost use Rattle.std.specs.Prelude.{◌≡◌, ◌≤◌, ◌<◌, map, length, 
 ghost use Rattle.toml.specs.View.{table_view};
 ghost use Rattle.segment_plan.specs.Sound.{IsSlave, IsService, IsAddressed};
 ghost use Rattle.scenario_keys.specs.Reading.{Gives};
-ghost use Rattle.scenario_bodies.specs.Suited.{Appends, sent_to};
+ghost use Rattle.scenario_services.specs.Suited.{Appends, sent_to};
 ghost use Rattle.scenario_services.specs.Reading.{FitsSlave, IsRead};
 ghost use Rattle.scenario_services.specs.Services.{slave_named, target_at, addressed_body, service_of, services_of};
 
+use crate::actions::Action;
+use crate::bodies::add_body;
+use crate::key::{needed_action, only_known_of, said_action};
 use ec_fields::Rows;
-use scenario_actions::{Action, needed_action, only_known_of, said_action};
-use scenario_bodies::add_body;
 use scenario_keys::{Place, Rule, Stop, needed_text, refused};
 use segment_plan::{Service, SlaveSpec};
 use std::alloc::Global;

@@ -1,4 +1,8 @@
-pub use Rattle.scenario_plain.specs as of_scenario_plain
-pub use Rattle.scenario_slave.specs as of_scenario_slave
-pub use Rattle.scenario_slave.specs.Distinct
+pub mod Protocols
+pub mod Settings
+pub mod Plain
+pub mod Files
+pub mod Idns
+pub mod Distinct
+pub mod Slave
 pub mod Slaves

@@ -5,8 +5,8 @@ use Rattle.segment_plan.specs.declared.slave.SlaveSpec.{SlaveSpec}
 use Rattle.scenario_keys.specs.declared.place.Place.TheVariants as places
 use Rattle.scenario_keys.specs.declared.refusal.Refusal.{Refusal}
 use Rattle.scenario_keys.specs.Reading.{each}
-use Rattle.scenario_settings.specs.Settings.{pace_at}
-use Rattle.scenario_slave.specs.Slave.{slave_of}
+use Rattle.scenario_slaves.specs.Settings.{pace_at}
+use Rattle.scenario_slaves.specs.Slave.{slave_of}
 
 -- the slaves in ring order
 abbrev pub slaves_of : ℕ → List Members → Result (List SlaveSpec) Refusal

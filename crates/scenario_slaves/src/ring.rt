@@ -2,14 +2,14 @@ ghost use Rattle.std.specs.Prelude.{◌≡◌, ◌≤◌, map, length, IfOk, All
 ghost use Rattle.toml.specs.View.{table_view};
 ghost use Rattle.segment_plan.specs.Sound.{IsSlave, IsPace};
 ghost use Rattle.scenario_keys.specs.Reading.{Gives};
-ghost use Rattle.scenario_plain.specs.Plain.{HasMac};
-ghost use Rattle.scenario_slave.specs.Distinct.{IsDistinct};
+ghost use Rattle.scenario_slaves.specs.Plain.{HasMac};
+ghost use Rattle.scenario_slaves.specs.Distinct.{IsDistinct};
 ghost use Rattle.scenario_slaves.specs.Slaves.{slaves_of, paces_of};
 
+use crate::settings::pace;
+use crate::slave::slave;
 use ec_fields::Rows;
 use scenario_keys::{Place, Stop, put};
-use scenario_settings::pace;
-use scenario_slave::slave;
 use segment_plan::SlaveSpec;
 use std::alloc::Global;
 use toml::Table;

@@ -1,6 +1,6 @@
 use Rattle.std.proofs.lemmas.Result.{err_from_is_err_and}
 use Rattle.toml.specs.View.{table_view}
-use Rattle.scenario_settings.specs.Settings.{pace_at}
+use Rattle.scenario_slaves.specs.Settings.{pace_at}
 use Rattle.scenario_keys.specs.declared.place.Place.TheVariants.{Slave}
 use Rattle.segment_plan.specs.Sound.{IsPace}
 use Rattle.scenario_keys.proofs.Each.{goes_on, ends}

@@ -1,7 +1,7 @@
 use Rattle.std.proofs.lemmas.Result.{err_from_is_err_and}
 use Rattle.toml.specs.View.{table_view}
-use Rattle.scenario_slave.specs.Slave.{slave_of}
-use Rattle.scenario_slave.specs.Distinct.{IsRead}
+use Rattle.scenario_slaves.specs.Slave.{slave_of}
+use Rattle.scenario_slaves.specs.Distinct.{IsRead}
 use Rattle.scenario_keys.proofs.Each.{goes_on, ends}
 use Rattle.scenario_slaves.proofs.ring.slaves.Goals as goal
 

@@ -1,0 +1,2 @@
+mod Calms
+mod Sums

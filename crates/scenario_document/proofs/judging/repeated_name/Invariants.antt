@@ -1,0 +1,6 @@
+use Rattle.std.proofs.Common.{◌≡◌, [], drop, take}
+use Rattle.segment_plan.specs.Sound.{repeated_from, is_same_name}
+use Rattle.scenario_document.proofs.judging.repeated_name.Given as goal
+
+abbrev pub invariant-loop-i : goal.invariant-loop-i
+invariant-loop-i l = repeated_from is_same_name (take l.i l.slaves) l.i (drop l.i l.slaves) ≡ repeated_from is_same_name [] 0 l.slaves

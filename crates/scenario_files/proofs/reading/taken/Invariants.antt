@@ -1,6 +1,0 @@
-use Rattle.std.proofs.Common.{◌≡◌, ◌≤◌, ◌*◌, take}
-use Rattle.segment_plan.specs.Sound.{taken}
-use Rattle.scenario_files.proofs.reading.taken.Given as goal
-
-abbrev pub invariant-loop-value : goal.invariant-loop-value
-invariant-loop-value l = (l.taken ≡ taken (take l.value-index l.files)) × (l.taken ≤ 1024 * l.value-index)

@@ -1,6 +1,0 @@
-//! The IDNs of a scenario's slaves: read from their tables, or refused.
-#![tactic(auto)]
-
-mod reading;
-
-pub use reading::idns;

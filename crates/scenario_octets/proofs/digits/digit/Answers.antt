@@ -1,6 +1,0 @@
-use Rattle.std.proofs.Common.{slice_index_or, ap, ◌∙◌}
-use Rattle.scenario_octets.proofs.Pairs.{value_in, values}
-use Rattle.scenario_octets.proofs.digits.digit.Goals as goal
-
-pub returns : goal.returns
-returns c = ap (λ k. slice_index_or values k 0) c.from.ensures ∙ value_in c.args.character c.ranges.character.fits

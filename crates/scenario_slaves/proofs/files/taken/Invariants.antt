@@ -1,0 +1,6 @@
+use Rattle.std.proofs.Common.{◌≡◌, ◌≤◌, ◌*◌, take}
+use Rattle.segment_plan.specs.Sound.{taken}
+use Rattle.scenario_slaves.proofs.files.taken.Given as goal
+
+abbrev pub invariant-loop-value : goal.invariant-loop-value
+invariant-loop-value l = (l.taken ≡ taken (take l.value-index l.files)) × (l.taken ≤ 1024 * l.value-index)

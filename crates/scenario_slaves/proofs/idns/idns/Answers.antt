@@ -1,0 +1,22 @@
+use Rattle.std.proofs.Common.{List, ◌+◌, [], ◌∷◌, ◌++◌, map, sym, subst}
+use Rattle.std.proofs.lemmas.Result.{err_from_is_err_and}
+use Rattle.toml.specs.View.{table_view}
+use Rattle.idn_table.specs.declared.spec.IdnSpec.{IdnSpec}
+use Rattle.scenario_keys.specs.declared.place.Place.TheVariants.{Idn}
+use Rattle.segment_plan.specs.Sound.{IsIdn}
+use Rattle.scenario_slaves.specs.Idns.{idn_of}
+use Rattle.scenario_slaves.proofs.NewIdns.{are_new_idns-push}
+use Rattle.scenario_keys.proofs.Each.{HasRead, goes_on, ends}
+use Rattle.scenario_slaves.proofs.idns.idns.Goals as goal
+
+pub returns-in_err-row-clause-gives : goal.returns-in_err-row-clause-gives
+returns-in_err-row-clause-gives c =
+    let p = err_from_is_err_and c.from_residual.result c.from_residual.ensures.1 in
+    rw (p.1, p.2) (ends IsIdn (λ before (y : IdnSpec). before ++ y ∷ []) (λ k before ms. idn_of before (Idn c.args.slave k) ms) [] (λ t. table_view t.now) c.args.tables.now c.loop-i.i c.loop-i.rows c.loop-i.rows c.index-tables-i.result c.in_err-row.field-0.0 c.loop-i-test.true c.index-tables-i.is (rw c.as_slice.ensures at c.in_err-row.ensures.gives) c.loop-i.invariant.0)
+
+pub loop-i-preserved : goal.loop-i-preserved
+loop-i-preserved c = (
+  subst (λ (state : List IdnSpec). HasRead IsIdn (λ before (y : IdnSpec). before ++ y ∷ []) (λ k before ms. idn_of before (Idn c.args.slave k) ms) [] (map (λ t. table_view t.now) c.args.tables.now) (c.loop-i.i + 1) state c.put.new.rows) (sym c.in_ok-put.ensures.ok)
+      (goes_on IsIdn (λ before (y : IdnSpec). before ++ y ∷ []) (λ k before ms. idn_of before (Idn c.args.slave k) ms) [] (λ t. table_view t.now) c.args.tables.now c.loop-i.i c.loop-i.rows c.loop-i.rows c.index-tables-i.result c.in_ok-row.row c.put.new.rows c.loop-i-test.true c.index-tables-i.is (rw c.as_slice.ensures at c.in_ok-row.ensures.gives) c.in_ok-row.ensures.sound c.in_ok-put.ensures.ok c.loop-i.invariant.0),
+  rw c.in_ok-put.ensures.ok (are_new_idns-push [] c.loop-i.rows c.in_ok-row.row c.loop-i.invariant.1 (rw c.as_slice.ensures at c.in_ok-row.ensures.new)),
+)

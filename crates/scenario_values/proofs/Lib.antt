@@ -1,0 +1,4 @@
+pub mod Pairs
+pub mod Fit
+pub mod Rising
+pub mod SoundObjects

@@ -1,0 +1,17 @@
+use Rattle.std.proofs.lemmas.Result.{err_from_is_err_and}
+use Rattle.toml.specs.View.{table_view}
+use Rattle.scenario_keys.specs.declared.place.Place.TheVariants.{Entry}
+use Rattle.std.proofs.Common.{None}
+use Rattle.scenario_values.specs.Entries.{kind_behind, entry_of}
+use Rattle.segment_plan.specs.Sound.{IsEntry}
+use Rattle.scenario_keys.proofs.Each.{goes_on, ends}
+use Rattle.scenario_values.proofs.entries.entries.Goals as goal
+
+pub returns-in_err-row-clause-gives : goal.returns-in_err-row-clause-gives
+returns-in_err-row-clause-gives c =
+    let p = err_from_is_err_and c.from_residual.result c.from_residual.ensures.1 in
+    rw (p.1, p.2) (ends IsEntry (λ _ e. kind_behind c.args.code e) (λ k before ms. entry_of before (Entry c.args.slave c.args.object k) ms) None (λ t. table_view t.now) c.args.tables.now c.loop-i.i c.loop-i.before c.loop-i.rows c.index-tables-i.result c.in_err-row.field-0.0 c.loop-i-test.true c.index-tables-i.is c.in_err-row.ensures.gives c.loop-i.invariant)
+
+pub loop-i-preserved : goal.loop-i-preserved
+loop-i-preserved c =
+    rw c.kind_behind-before.ensures (goes_on IsEntry (λ _ e. kind_behind c.args.code e) (λ k before ms. entry_of before (Entry c.args.slave c.args.object k) ms) None (λ t. table_view t.now) c.args.tables.now c.loop-i.i c.loop-i.before c.loop-i.rows c.index-tables-i.result c.in_ok-row.row c.put.new.rows c.loop-i-test.true c.index-tables-i.is c.in_ok-row.ensures.gives c.in_ok-row.ensures.sound c.in_ok-put.ensures.ok c.loop-i.invariant)

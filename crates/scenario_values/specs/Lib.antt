@@ -1,0 +1,5 @@
+pub mod Octets
+pub mod Tables
+pub mod Bounds
+pub mod Entries
+pub mod Objects
