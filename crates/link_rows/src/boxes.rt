@@ -78,6 +78,9 @@ fn taken_once(alloc: Global) -> Result<String> {
     slave_box.look(&mut esc);
     slave_box.serve(&mut esc, &mut server, 2);
     let first = server.taken;
+    if first > 1 {
+        bail!("taken more than once");
+    }
     let again = write(&mut esc, 0x1000, &mut area);
     slave_box.step(&mut esc, &mut server, 2);
     let second = server.taken;
