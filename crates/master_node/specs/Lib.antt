@@ -44,6 +44,8 @@ pub mod Eager
 pub mod Resting
 pub mod Serving
 pub mod Passes
+pub mod Handed
+pub mod Events
 pub mod Dropped
 pub mod Entering
 pub mod Starts

@@ -57,6 +57,7 @@ impl MasterNode {
     ghost use Rattle.master_node.specs.Appends.{AppendsMail};
     ghost use Rattle.master_node.specs.Serving.{FitsAt, IsAsked, ServedShows, ServedUnder, mails_in, run_lead};
     ghost use Rattle.master_node.specs.Passes.{BeginsFrame, EndsFrame, IsPassing};
+    ghost use Rattle.master_node.specs.Handed.{work_from};
     ghost use Rattle.served_runs.specs.Served.{Keyed, Serves, ServedTurn, IsServedFrame, MayAsk, asked_at};
     ghost use Rattle.master_node.specs.Shows.{WaitsNone};
     ghost use Rattle.master_node.specs.Kept.{TourKept, TourOn};
@@ -178,6 +179,7 @@ impl MasterNode {
         ensures events { self.new.list.count ≤ self.old.list.count + 1 }
         ensures lists { StepsAt (λ p q. ListsOne place coming self.old self.new p q) place self.old.posts.items self.new.posts.items }
         ensures mails { mails_in self.new ≡ mails_in self.old }
+        ensures works { StepsAt (λ p q. q.work ≡ work_from coming p) place self.old.posts.items self.new.posts.items }
     {
         match coming {
             None => {}
@@ -208,6 +210,7 @@ impl MasterNode {
         ensures events { self.new.list.count ≤ self.old.list.count + 1 }
         ensures lists { StepsAt (λ p q. ListsOne place (where_began began coming) self.old self.new p q) place self.old.posts.items self.new.posts.items }
         ensures mails { mails_in self.new ≡ mails_in self.old }
+        ensures works { StepsAt (λ p q. q.work ≡ work_from (where_began began coming) p) place self.old.posts.items self.new.posts.items }
     {
         if began {
             self.begun(place, coming);
