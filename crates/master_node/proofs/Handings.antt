@@ -3,6 +3,7 @@ use Rattle.std.proofs.Common.{◌≡◌, ℕ, Bool, true, false, Option, None, S
 use Rattle.std.specs.Prelude.{is_some, map, slice_get, if◌then◌else◌}
 use Rattle.life_runs.specs.Led.{Comes}
 use Rattle.master_duty.specs.Reply.{Reply}
+use Rattle.master_duty.specs.of_segment_model.Ends as Ends
 use Rattle.master_duty.specs.of_state_exchange.Stated.{Service}
 use Rattle.master_hand.specs.Spoken.{Asked, is_passed, passed}
 use Rattle.master_side.specs.Passing.{passing_behind}
@@ -19,6 +20,7 @@ use Rattle.master_node.specs.declared.post.Post.{Post}
 use Rattle.master_node.specs.declared.post.Work.{Work}
 use Rattle.master_node.proofs.Servings.{keyed}
 use Rattle.master_node.proofs.Handeds.{hand_is}
+use Rattle.master_node.specs.Events.{TellsJust}
 
 -- THE OLDEST IS LAID READY under the key of its asker
 pub oldest_so : (p : Post) (a : Waiting.Asked) → Some a ≡ slice_get p.mails.items 0 → IsOldestWork (waits_of p) (Work.Passed a.key)
@@ -67,7 +69,7 @@ takes_other l m work hand b other none own h = record {
 }
   where
     by : (q : Asked) → is_passed q ≡ false → passing_behind is_passed l.era.passing (Some (Service.Mails q)) ≡ None
-    by q e = ap (λ (z : Bool). if z then Some _ else l.era.passing) e ∙ none
+    by q e = ap (λ (z : Bool). if z then Some Ends.Passing.Waiting else l.era.passing) e ∙ none
 
     behind : (c : Option (Service Asked)) → ((q : Asked) → c ≡ Some (Service.Mails q) → is_passed q ≡ false) → passing_behind is_passed l.era.passing c ≡ None
     behind None f = none

@@ -1,11 +1,16 @@
 -- A MAIL THAT IS PASSED ON IS TOLD UNDER THE KEY OF ITS ASKER just while the life of its slave has it in hand.
-use Rattle.std.specs.Prelude.{◌≡◌, ◌&&◌, ℕ, Bool, true, false, nat_lt, if◌then◌else◌, is_some, Option, Some, None, List, [], ◌∷◌, ⊤}
+use Rattle.std.specs.Prelude.{◌≡◌, ◌&&◌, ◌||◌, not, ℕ, zero, suc, Bool, true, false, nat_lt, if◌then◌else◌, is_some, Option, Some, None, List, [], ◌∷◌, ⊤}
 use Rattle.master_duty.specs.Reply.{Reply}
 use Rattle.master_duty.specs.of_state_exchange.Stated.{Service}
 use Rattle.master_duty.specs.of_task_model.Accounts.{Duty}
 use Rattle.master_hand.specs.Spoken.{Asked, is_passed}
+use Rattle.master_hand.specs.declared.hand.InHand.{InHand}
 use Rattle.master_side.specs.Passing.{passing_behind}
+use Rattle.master_side.specs.declared.hand.Hand.{Ghosts}
 use Rattle.master_side.specs.of_link_mails.Body.{Body}
+use Rattle.master_tour.specs.Goes.{holds_at}
+use Rattle.master_tour.specs.Made.{is_in}
+use Rattle.master_tour.specs.declared.stop.Stop.{Stop}
 use Rattle.master_tour.specs.of_life_model.Lives
 use Rattle.master_tour.specs.of_life_model.Lives.{Life}
 use Rattle.served_runs.specs.Served.{Keyed, Serves}
@@ -90,3 +95,21 @@ IsHanding begun w work =
 pub record StaysNamed (old new : Work) (goes : Bool) : Type 0 where
   pub named : (key : ℕ) → new ≡ Work.Passed key → (old ≡ Work.Passed key) × (goes ≡ true)
   pub stays : (key : ℕ) → old ≡ Work.Passed key → goes ≡ true → new ≡ Work.Passed key
+
+-- what the post of the slave at a place has in hand; nothing where none stands
+abbrev pub work_at : List Post → ℕ → Work
+work_at [] k = Work.Nothing
+work_at (p ∷ ps) zero = p.work
+work_at (p ∷ ps) (suc k) = work_at ps k
+
+-- whether a mail that is passed on isn't over, by the side of the slave at a place
+abbrev pub passing_at : {G : Ghosts InHand} → List (Stop InHand G) → ℕ → Bool
+passing_at ss k = holds_at (λ s. is_some s.side.passing) ss k
+
+-- OF THE SLAVES AT THESE PLACES a mail that is over is in hand no more; of them and of all others each goes on that isn't
+pub record EndsWork (goes : ℕ → Bool) (places : List ℕ) (ps qs : List Post) : Type 0 where
+  pub each : (k : ℕ) → StaysNamed (work_at ps k) (work_at qs k) (not (is_in k places) || goes k)
+
+-- of the slaves at these places that were given up nothing is in hand any more, and of all others the same is
+pub record DropsWork (gave : ℕ → Bool) (places : List ℕ) (ps qs : List Post) : Type 0 where
+  pub each : (k : ℕ) → work_at qs k ≡ (if gave k && is_in k places then Work.Nothing else work_at ps k)
