@@ -19,8 +19,6 @@ use Rattle.master_node.specs.declared.post.Asked as Waiting
 use Rattle.master_node.specs.declared.post.Post.{Post}
 use Rattle.master_node.specs.declared.post.Work.{Work}
 use Rattle.master_node.proofs.Servings.{keyed}
-use Rattle.master_node.proofs.Handeds.{hand_is}
-use Rattle.master_node.specs.Events.{TellsJust}
 
 -- THE OLDEST IS LAID READY under the key of its asker
 pub oldest_so : (p : Post) (a : Waiting.Asked) → Some a ≡ slice_get p.mails.items 0 → IsOldestWork (waits_of p) (Work.Passed a.key)

@@ -39,6 +39,7 @@ pub mod Serveds
 pub mod Mailings
 pub mod Handeds
 pub mod Handings
+pub mod Endings
 pub mod Mailed
 pub mod FreeKept
 pub mod ServedVisits
