@@ -28,6 +28,10 @@ stays_then old mid new g h a b = record {
 pub stays_as : (old new : Work) (g h : Bool) → g ≡ h → StaysNamed old new g → StaysNamed old new h
 stays_as old new g h e a = record { named = λ key f. (let p = a.named key f in (p.0, sym e ∙ p.1)); stays = λ key f t. a.stays key f (e ∙ t) }
 
+-- whether it goes on may be told otherwise, of a mail that is in hand
+pub stays_where : (old new : Work) (g h : Bool) → ((key : ℕ) → old ≡ Work.Passed key → g ≡ h) → StaysNamed old new g → StaysNamed old new h
+stays_where old new g h e a = record { named = λ key f. (let p = a.named key f in (p.0, sym (e key p.0) ∙ p.1)); stays = λ key f t. a.stays key f (e key f ∙ t) }
+
 -- what is in hand of no mail that is passed on may go, and so may a mail that is over
 pub stays_same : (w : Work) → StaysNamed w w true
 stays_same w = record { named = λ key e. (e, refl); stays = λ key e t. e }

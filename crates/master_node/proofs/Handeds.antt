@@ -78,7 +78,7 @@ module _ (x : Speech Body Asked Reply) (frame : ℕ) (spot : Spot) (ns : List (N
   behind_so came l stand = life_back x acknowledged is_followed is_passed frame spot ns back came l stand
 
   -- an open slave stays so, where no change of state is in hand
-  stays_open : (came : Option (Bool × Option Found)) (l : Life Body Asked Reply) (stand : Lives.Stand) → stand ≡ Lives.Stand.Open → l.stand ≡ Lives.Stand.Open → l.era.account.hand ≡ None →
+  pub stays_open : (came : Option (Bool × Option Found)) (l : Life Body Asked Reply) (stand : Lives.Stand) → stand ≡ Lives.Stand.Open → l.stand ≡ Lives.Stand.Open → l.era.account.hand ≡ None →
       ((behind_so came l stand).stand ≡ Lives.Stand.Open) × ((behind_so came l stand).era.account.hand ≡ None)
   stays_open came l (Lives.Stand.Opens o) e o' h = absurd (cc)
   stays_open came l Lives.Stand.Gone e o' h = absurd (cc)
@@ -114,6 +114,13 @@ module _ (x : Speech Body Asked Reply) (frame : ℕ) (spot : Spot) (ns : List (N
       go : (stage : Accounts.Stage) → (Lives.reopens_at l duty.target stage).era.passing ≡ l.era.passing
       go Accounts.Stage.Drains = refl
       go (Accounts.Stage.Goes phase) = by (Lives.returns_to_init duty.target)
+
+  -- how far the mail of an open slave comes
+  pub back_passing : (came : Option (Bool × Option Found)) (l : Life Body Asked Reply) (stand : Lives.Stand) → stand ≡ Lives.Stand.Open → (behind_so came l stand).era.passing ≡ passes x acknowledged is_followed is_passed l.era.passing ns
+  back_passing came l (Lives.Stand.Opens o) e = absurd (cc)
+  back_passing came l Lives.Stand.Gone e = absurd (cc)
+  back_passing None l Lives.Stand.Open e = reopens_passing _ (account_back spot.station frame l.era.account (own spot.station back)).hand
+  back_passing (Some got) l Lives.Stand.Open e = reopens_passing _ (account_back spot.station frame l.era.account (own spot.station back)).hand
 
   passes_some : (p : Option Ends.Passing) → is_some (passes x acknowledged is_followed is_passed p ns) ≡ true → is_some p ≡ true
   passes_some None t = t

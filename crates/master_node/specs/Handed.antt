@@ -1,4 +1,4 @@
--- A MAIL THAT IS PASSED ON IS TOLD UNDER THE KEY OF ITS ASKER just while the life of its slave has it in hand.
+-- WHAT A POST HAS IN HAND of a mail that is passed on: as it is laid ready, as it comes into hand, and behind a frame.
 use Rattle.std.specs.Prelude.{◌≡◌, ◌&&◌, ◌||◌, not, ℕ, zero, suc, Bool, true, false, nat_lt, if◌then◌else◌, is_some, Option, Some, None, List, [], ◌∷◌, ⊤}
 use Rattle.master_duty.specs.Reply.{Reply}
 use Rattle.master_duty.specs.of_state_exchange.Stated.{Service}
@@ -15,30 +15,11 @@ use Rattle.master_tour.specs.of_life_model.Lives
 use Rattle.master_tour.specs.of_life_model.Lives.{Life}
 use Rattle.served_runs.specs.Served.{Keyed, Serves}
 use Rattle.served_runs.specs.Told.{Passed}
+pub use Rattle.master_node.specs.Named.{IsHanded, IsNamed, StaysNamed, is_left}
 use Rattle.master_node.specs.Serving.{waits_of}
 use Rattle.master_node.specs.declared.coming.Coming.{Coming}
 use Rattle.master_node.specs.declared.post.Post.{Post}
 use Rattle.master_node.specs.declared.post.Work.{Work}
-
--- THE MAIL IN HAND was asked under this key, and nothing else is in hand of its slave
-pub record IsNamed (key : ℕ) (hand : Option Passed) (l : Life Body Asked Reply) : Type 0 where
-  pub opened : l.stand ≡ Lives.Stand.Open
-  pub passing : is_some l.era.passing ≡ true
-  pub alone : l.era.account.hand ≡ None
-  pub passed : Passed
-  pub is : hand ≡ Some passed
-  pub key_is : passed.key ≡ key
-
--- the epoch is over: its slave is to be returned to Init, or is gone
-abbrev pub is_left : Lives.Stand → Bool
-is_left (Lives.Stand.Opens o) = o.again && nat_lt o.step 3
-is_left Lives.Stand.Open = false
-is_left Lives.Stand.Gone = true
-
--- A POST HAS A MAIL IN HAND that is passed on under the key of its asker, just while the life of its slave has one in an epoch that isn't over
-pub record IsHanded (work : Work) (hand : Option Passed) (l : Life Body Asked Reply) : Type 0 where
-  pub named : (key : ℕ) → work ≡ Work.Passed key → IsNamed key hand l
-  pub only : is_left l.stand ≡ false → is_some l.era.passing ≡ true → (key : ℕ) × (work ≡ Work.Passed key)
 
 -- the oldest mail, under the key of its asker
 abbrev pub IsOldestWork : List Keyed → Work → Type 0
@@ -90,11 +71,6 @@ pub record HasBegun (old : Life Body Asked Reply) (begun : Option (Service Asked
 abbrev pub IsHanding : (ℕ → Option (Service Asked)) → Serves → Work → Type 0
 IsHanding begun w work =
     (l : Life Body Asked Reply) → HasBegun w.lead.lived.life (begun w.lead.lived.spot.place) l → IsHanded work (hand_behind w.waits w.hand (begun w.lead.lived.spot.place)) l
-
--- THE POST BEHIND A FRAME: a mail that is passed on stays in hand just while it isn't over
-pub record StaysNamed (old new : Work) (goes : Bool) : Type 0 where
-  pub named : (key : ℕ) → new ≡ Work.Passed key → (old ≡ Work.Passed key) × (goes ≡ true)
-  pub stays : (key : ℕ) → old ≡ Work.Passed key → goes ≡ true → new ≡ Work.Passed key
 
 -- what the post of the slave at a place has in hand; nothing where none stands
 abbrev pub work_at : List Post → ℕ → Work

@@ -42,6 +42,7 @@ pub mod Listing
 pub mod Arrivals
 pub mod Eager
 pub mod Resting
+pub mod Named
 pub mod Serving
 pub mod Passes
 pub mod Handed
