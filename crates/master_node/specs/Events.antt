@@ -1,20 +1,29 @@
 -- WHAT HAPPENS TO A SLAVE BY A FRAME, as its life has it: which events its master lists of it.
-use Rattle.std.specs.Prelude.{◌≡◌, ◌≤◌, ◌&&◌, not, nat_lt, ℕ, zero, suc, Bool, true, false, is_some, if◌then◌else◌, Option, Some, None, List, [], ◌∷◌, ◌++◌, map, length, Ok, Err}
+use Rattle.std.specs.Prelude.{◌≡◌, ◌≤◌, ◌-◌, ◌%◌, ◌&&◌, not, nat_lt, ℕ, zero, suc, Bool, true, false, is_some, if◌then◌else◌, Option, Some, None, List, [], ◌∷◌, ◌++◌, map, filter, length, Ok, Err}
 use Rattle.mailbox_mail.specs.declared.outcome.ReplyKind.{ReplyKind}
 use Rattle.master_duty.specs.Reply.{Reply}
 use Rattle.master_duty.specs.of_exchange_model.Rows.{Row}
 use Rattle.master_duty.specs.of_segment_model.Ends.{Outcome, Passing}
+use Rattle.master_duty.specs.of_segment_model.Slaves.{Datagram}
+use Rattle.master_duty.specs.of_state_exchange.Stated.{Service}
 use Rattle.master_duty.specs.of_task_model.Accounts.{Change}
 use Rattle.master_hand.specs.Brings.{emergencies_in}
-use Rattle.master_hand.specs.Spoken.{Asked}
+use Rattle.master_hand.specs.Spoken.{Asked, is_passed}
 use Rattle.master_side.specs.of_link_mails.Body.{Body}
+use Rattle.master_tour.specs.Brings.{accepted_in}
+use Rattle.master_tour.specs.Made.{is_in}
+use Rattle.master_tour.specs.Orders.{AreOnce}
 use Rattle.master_tour.specs.of_life_model.Lives
 use Rattle.master_tour.specs.of_life_model.Lives.{Life}
 use Rattle.served_runs.specs.Served.{Serves, ServedTurn}
 use Rattle.served_runs.specs.Told.{Passed, replies_in}
 use Rattle.master_node.specs.Handed.{is_left}
-use Rattle.master_node.specs.Listing.{events_in}
+use Rattle.master_node.specs.Begins.{begun_of}
+use Rattle.master_node.specs.Listing.{events_in, forwards_behind, number_at, origin_of}
+use Rattle.master_node.specs.Origins.{forwards_at}
+use Rattle.master_node.specs.Serving.{run_lead, run_turn}
 use Rattle.master_node.specs.declared.event.Event.{Event}
+use Rattle.master_node.specs.declared.event.Origin.{Origin}
 use Rattle.master_node.specs.declared.node.MasterNode.{MasterNode}
 
 -- each reply is told under the key of the asker, without address and counter
@@ -107,3 +116,64 @@ told_in tells (p ∷ ps) = tells p ++ told_in tells ps
 -- JUST THESE EVENTS ARE LISTED, of the slaves that the frame carried, in the order of its visits, where the list has room for them
 abbrev pub TellsJust : (ℕ → List Event) → MasterNode → MasterNode → Type 0
 TellsJust tells m n = m.list.before ≤ 16 → events_in n ≡ told_in tells m.tour.visit.items
+
+-- WHAT A FRAME THAT CAME BACK BRINGS of one slave of a serving
+abbrev pub back_of : List (Datagram Body) → ℕ → ServedTurn → Serves → List Event
+back_of back place v w = back_told place v.hand (accepted_in v.turn.lived.spot v.turn.lived.life back) v.turn.lived.life w.lead.lived.life
+
+-- and a lost one
+abbrev pub lost_of : ℕ → ServedTurn → Serves → List Event
+lost_of place v w = lost_told place v.turn.lived.life w.lead.lived.life
+
+-- those events that are told to who asked: a reply, and that no more follows
+abbrev pub is_gateway : Event → Bool
+is_gateway (Event.GatewayReply key mail) = true
+is_gateway (Event.GatewayDone key) = true
+is_gateway (Event.Began slave origin) = false
+is_gateway (Event.Answered slave kind) = false
+is_gateway (Event.Emergency slave octets) = false
+is_gateway (Event.GivenUp slave) = false
+is_gateway (Event.Cleared slave own) = false
+is_gateway (Event.Opened slave) = false
+
+-- OF EACH SLAVE a mail is told that is passed on: its replies under the key of its asker, and its end
+abbrev pub gateway_of : List (Datagram Body) → ℕ → ServedTurn → Serves → List Event
+gateway_of back place v w =
+    filter is_gateway (passed_told place v.hand v.turn.lived.life.era.passing w.lead.lived.life.era.passing (accepted_in v.turn.lived.spot v.turn.lived.life back))
+
+-- JUST THESE ARE TOLD to who asked, of the slaves that the frame carried, in the order of its visits, where the list has room for all events
+abbrev pub TellsGateway : (ℕ → List Event) → MasterNode → MasterNode → Type 0
+TellsGateway tells m n = m.list.before ≤ 16 → filter is_gateway (events_in n) ≡ told_in tells m.tour.visit.items
+
+-- where a service comes from that came into hand of a slave of a serving: a mail has the number of those that were asked before it
+abbrev pub origin_for : ℕ → ℕ → ℕ → Service Asked → Origin
+origin_for number forwards oldest (Service.Mails q) = if is_passed q then Origin.Gateway oldest else origin_of number forwards (Service.Mails q)
+origin_for number forwards oldest (Service.State target) = Origin.Script number
+
+-- it is listed as begun, if something did
+abbrev pub begun_told : ℕ → ℕ → ℕ → ℕ → Option (Service Asked) → List Event
+begun_told place number forwards oldest None = []
+begun_told place number forwards oldest (Some s) = Event.Began place (origin_for number forwards oldest s) ∷ []
+
+-- the number of the oldest mail that waits for a slave, among all that were asked of it; the count has 32 bits
+abbrev pub oldest_of : Serves → ℕ
+oldest_of w = (length w.asked - length w.waits) % 4294967296
+
+-- of the slave at a place
+abbrev pub oldest_in : List Serves → ℕ → ℕ
+oldest_in [] k = 0
+oldest_in (w ∷ ws) zero = oldest_of w
+oldest_in (w ∷ ws) (suc k) = oldest_in ws k
+
+-- what came into hand of the slave at a place, as it is listed
+abbrev pub begun_in : (ℕ → ℕ) → List Serves → List ServedTurn → ℕ → List Event
+begun_in forwards ws vs k = begun_told k (number_at (map run_lead ws) k) (forwards k) (oldest_in ws k) (begun_of (map run_turn vs) k)
+
+-- JUST THE SERVICES THAT CAME INTO HAND ARE LISTED as begun while mails are passed on, of the slaves that were visited, in order, each slave once; and so many
+-- packets came into hand of each slave then
+pub record ServedBegin (forwards : ℕ → ℕ) (ws : List Serves) (vs : List ServedTurn) (m : MasterNode) : Type 0 where
+  pub visited : List ℕ
+  pub once : AreOnce visited
+  pub listed : events_in m ≡ told_in (begun_in forwards ws vs) visited
+  pub others : (k : ℕ) → is_in k visited ≡ false → begun_of (map run_turn vs) k ≡ None
+  pub counts : (k : ℕ) → forwards_at m.posts.items k ≡ forwards_behind (forwards k) (begun_of (map run_turn vs) k)

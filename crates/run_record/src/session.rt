@@ -29,6 +29,7 @@ ghost use Rattle.run_book.specs.Ports.{ports_of};
 ghost use Rattle.run_record.specs.Recalling.{RunBegins};
 ghost use Rattle.run_notes.specs.Switched.{SameSwitch};
 ghost use Rattle.run_record.specs.Replay.{first_ring};
+ghost use Rattle.run_record.specs.Served.{ServingAsks, ServingBegins, ServingGoesOn};
 ghost use Rattle.run_record.specs.Session.{budget_of, smaller_bound, rests_at, session_rows, first_session, are_at_rest, some_given_up, has_live, IsLeftBy, StillWants, Steps, Stops, Asks};
 ghost use Rattle.run_notes.specs.Slaves.{slave_row, slave_rows, KeepsRest};
 
@@ -244,6 +245,7 @@ impl Session {
         ensures session { IfOk result (λ session. session ≡ first_session plan.now grams session.master) }
         ensures begins { IfOk result (λ session. RunBegins plan.now session.master session.notes) }
         ensures switch { IfOk result (λ session. HasHappened (ports_of plan.now.slaves) plan.now.host [] session.master.lan) }
+        ensures serves { IfOk result (λ session. ServingBegins plan.now session) }
     {
         Ok(Session {
             master: MasterNode::new(alloc, plan)?,
@@ -332,6 +334,7 @@ impl Session {
         requires { slave < length self.old.ring.nodes }
         ensures asked { IfOk result (Asks slave key mail.now self.old self.new) }
         ensures full { OnOk result ((result ≡ Ok false) ↔ (slice_get self.old.waiting slave ≡ Some 64)) }
+        ensures serves { OnOk result (ServingAsks slave key mail.now self.old self.new) }
         ensures err { OnErr result (self.new ≡ self.old) }
     {
         let body = Octets::copy_of(alloc, mail.body.as_slice())?;
@@ -349,6 +352,7 @@ impl Session {
     pub fn step(&mut self, alloc: Global, book: &mut Book) -> Result<(), NoMemory>
         requires { self.old.ring.number < self.old.budget }
         ensures ok { OnOk result ((f : Recorded) × Steps self.old book.old self.new book.new f) }
+        ensures serves { OnOk result ((f : Recorded) × (book.new.frames ≡ book.old.frames ++ f ∷ []) × ServingGoesOn self.old self.new f) }
         ensures err { OnErr result (Stops self.old book.old book.new) }
     {
         let frame = self.number;
