@@ -5,3 +5,4 @@ pub mod Account
 pub mod Desk
 pub mod Serving
 pub mod Served
+pub mod Replies

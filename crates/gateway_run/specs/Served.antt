@@ -12,6 +12,7 @@ use Rattle.run_record.specs.Ran.{StopsAs}
 use Rattle.gateway_run.specs.declared.desk.Request.{Request}
 use Rattle.gateway_run.specs.Account.{Owing, Course, AreSpelled}
 use Rattle.gateway_run.specs.Heard.{heard_as, AreHeard, AreSent, AreSentBut, IsOwed, IsRightly}
+use Rattle.gateway_run.specs.Replies.{Answers}
 use Rattle.gateway_run.specs.Serving.{Told}
 
 -- the datagrams of a serving: they are those that the port heard, and no more than so many; each that was sent goes to who asked, and each
@@ -34,7 +35,8 @@ pub record IsBroken (first last : Told) (book : Book) : Type 0 where
   pub sent : AreSentBut first.sent last.sent book.replies
 
 -- WHAT WAS SENT IS WHAT WAS OWED, in order: the datagrams of the book, and behind them those that are still owed, which are none unless the port
--- failed, are those of a course of the plan's session over the frames and the datagrams heard of the book
+-- failed, are those of a course of the plan's session over the frames and the datagrams heard of the book; and each datagram got what is its own: nothing, one error, or
+-- the first replies of its own row, all of them where that is over
 pub record HasAccount (plan : Scenario) (count : ℕ) (book : Book) (ending : Ending) : Type 0 where
   pub session : SessionState
   pub requests : List Request
@@ -44,6 +46,7 @@ pub record HasAccount (plan : Scenario) (count : ℕ) (book : Book) (ending : En
   pub spelled : AreSpelled (map heard_as book.grams) owed (book.replies ++ later)
   pub rows : book.slaves ≡ session_rows session
   pub all : ending ≢ endings.PortFault → later ≡ []
+  pub answers : Answers plan session book.frames book.grams requests owed
 
 -- what goes with an ending
 abbrev pub GoesWith : ℕ → Told → Told → Book → Ending → Type 0

@@ -13,6 +13,7 @@ use Rattle.run_record.specs.Ran.{HasSent, IsUnderway}
 use Rattle.gateway_run.specs.Heard.{heard_as, AreHeard, AreSent, AreSentBut, IsOwed, IsRightly}
 use Rattle.gateway_run.specs.Account.{Owing, Course, AreSpelled}
 use Rattle.gateway_run.specs.Desk.{IsSound}
+use Rattle.gateway_run.specs.Replies.{Answers}
 use Rattle.gateway_run.specs.declared.stop.Stop.{Stop}
 use Rattle.gateway_run.specs.declared.stop.Stop.TheVariants as stops
 use Rattle.gateway_run.specs.declared.turn.Serving.{Serving}
@@ -42,6 +43,7 @@ pub record IsOn (plan : Scenario) (count : ℕ) (v : Serving) (b : Book) : Type 
   pub owed : List Owing
   pub course : Course plan count v.session b.frames b.grams v.desk.requests.items owed
   pub spelled : AreSpelled (map heard_as b.grams) owed (b.replies ++ v.desk.outbox.items)
+  pub answers : Answers plan v.session b.frames b.grams v.desk.requests.items owed
 
 -- a serving and its port, by what the port told first: the book has what was heard and sent since
 pub record IsServing (plan : Scenario) (count : ℕ) (first now : Told) (v : Serving) (b : Book) : Type 0 where
