@@ -206,3 +206,9 @@ pub none_beyond : (ps : List Post) (place : ℕ) → length ps ≤ place → (ke
 none_beyond [] place l key e = absurd (let bad : Work.Nothing ≡ Work.Passed key = e in cc)
 none_beyond (p ∷ ps) zero l key e = absurd (omega (arith, l))
 none_beyond (p ∷ ps) (suc place) l key e = none_beyond ps place (omega (arith, l)) key e
+
+-- a slave that wasn't visited has nothing in the frame
+pub unvisited : (under there : Bool) → (under ≡ true → there ≡ true) → not there ≡ true → under ≡ false
+unvisited true true h n = absurd (let bad : false ≡ true = n in cc)
+unvisited true false h n = absurd (let bad : false ≡ true = h refl in cc)
+unvisited false there h n = refl
