@@ -394,6 +394,7 @@ impl MasterNode {
         ensures posts { vec_len self.new.posts ≡ vec_len self.old.posts }
         ensures waits { waiting_at self.old.posts.items slave < 64 → StepsAt (λ p q. AppendsMail key mail.now p.mails.items q.mails.items) slave self.old.posts.items self.new.posts.items }
         ensures stays { result ≡ false → StepsAt (λ p q. q ≡ p) slave self.old.posts.items self.new.posts.items }
+        ensures works { StepsAt (λ p q. q.work ≡ p.work) slave self.old.posts.items self.new.posts.items }
         ensures kept { (self.new.tour ≡ self.old.tour) × (self.new.lan ≡ self.old.lan) × (self.new.made ≡ self.old.made) }
         ensures served { (lens : ℕ → Lens) (recover retry missed made : ℕ) (ws : List Serves) → waiting_at self.old.posts.items slave < 64 → FitsAt lens slave (length mail.now.body.items) ws → ServedShows lens recover retry self.old missed made ws →
             (k : Keyed) × IsAsked key mail.now k × MayAsk lens slave k ws × ServedShows lens recover retry self.new missed made (asked_at slave k ws) }
