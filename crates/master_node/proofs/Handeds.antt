@@ -31,7 +31,7 @@ use Rattle.master_node.specs.declared.post.Work.{Work}
 use Rattle.master_node.proofs.Mailed.{next_passing}
 
 -- no script passes a mail on
-abbrev passed_in : Option Asked → Bool
+abbrev pub passed_in : Option Asked → Bool
 passed_in None = false
 passed_in (Some q) = is_passed q
 
@@ -39,7 +39,7 @@ none_set : (b : Bool) (block : List ℕ) → passed_in (if b then None else Some
 none_set true block = refl
 none_set false block = refl
 
-none_in : (room : ℕ) (s : Plan.Service) → passed_in (asked_of room s) ≡ false
+pub none_in : (room : ℕ) (s : Plan.Service) → passed_in (asked_of room s) ≡ false
 none_in room (Plan.Service.Sdo service) = refl
 none_in room (Plan.Service.ReadFile name pass) = refl
 none_in room (Plan.Service.WriteFile name pass bytes) = refl
