@@ -1,5 +1,5 @@
 -- WHAT HAPPENS TO A SLAVE BY A FRAME, as its life has it: which events its master lists of it.
-use Rattle.std.specs.Prelude.{◌≡◌, ◌≤◌, ◌-◌, ◌%◌, ◌&&◌, not, nat_lt, ℕ, zero, suc, Bool, true, false, is_some, if◌then◌else◌, Option, Some, None, List, [], ◌∷◌, ◌++◌, map, filter, length, Ok, Err}
+use Rattle.std.specs.Prelude.{◌≡◌, ◌≤◌, ◌+◌, ◌-◌, ◌%◌, ◌&&◌, not, nat_lt, ℕ, zero, suc, Bool, true, false, is_some, if◌then◌else◌, Option, Some, None, List, [], ◌∷◌, ◌++◌, map, filter, length, Ok, Err}
 use Rattle.mailbox_mail.specs.declared.outcome.ReplyKind.{ReplyKind}
 use Rattle.master_duty.specs.Reply.{Reply}
 use Rattle.master_duty.specs.of_exchange_model.Rows.{Row}
@@ -8,7 +8,15 @@ use Rattle.master_duty.specs.of_segment_model.Slaves.{Datagram}
 use Rattle.master_duty.specs.of_state_exchange.Stated.{Service}
 use Rattle.master_duty.specs.of_task_model.Accounts.{Change}
 use Rattle.master_hand.specs.Brings.{emergencies_in}
+use Rattle.mailbox_mail.specs.declared.mail.Mail.{Mail}
 use Rattle.master_hand.specs.Spoken.{Asked, is_passed}
+use Rattle.master_hand.specs.declared.found.Brought.{Brought}
+use Rattle.master_hand.specs.declared.found.Found.{Found}
+use Rattle.master_hand.specs.declared.hand.InHand.{InHand}
+use Rattle.master_side.specs.declared.hand.Hand.{Ghosts}
+use Rattle.master_side.specs.declared.hand.Heard.{Heard}
+use Rattle.master_side.specs.declared.passing.Passing as Side
+use Rattle.master_tour.specs.declared.stop.Stop.{Stop}
 use Rattle.master_side.specs.of_link_mails.Body.{Body}
 use Rattle.master_tour.specs.Brings.{accepted_in}
 use Rattle.master_tour.specs.Made.{is_in}
@@ -25,6 +33,8 @@ use Rattle.master_node.specs.Serving.{run_lead, run_turn}
 use Rattle.master_node.specs.declared.event.Event.{Event}
 use Rattle.master_node.specs.declared.event.Origin.{Origin}
 use Rattle.master_node.specs.declared.node.MasterNode.{MasterNode}
+use Rattle.master_node.specs.declared.post.Post.{Post}
+use Rattle.master_node.specs.declared.post.Work.{Work}
 
 -- each reply is told under the key of the asker, without address and counter
 abbrev pub replies_told : ℕ → List Body → List Event
@@ -177,3 +187,49 @@ pub record ServedBegin (forwards : ℕ → ℕ) (ws : List Serves) (vs : List Se
   pub listed : events_in m ≡ told_in (begun_in forwards ws vs) visited
   pub others : (k : ℕ) → is_in k visited ≡ false → begun_of (map run_turn vs) k ≡ None
   pub counts : (k : ℕ) → forwards_at m.posts.items k ≡ forwards_behind (forwards k) (begun_of (map run_turn vs) k)
+
+-- the mail that replies, where the mail heard last was a reply of one that is passed on
+abbrev pub reply_by : Brought → Mail → Option Mail
+reply_by Brought.Reply m = Some m
+reply_by Brought.Nothing m = None
+reply_by Brought.Emergency m = None
+reply_by Brought.Packet m = None
+
+-- of what was found
+abbrev pub reply_kept : Found → Option Mail
+reply_kept f = reply_by f.brought f.mail
+
+-- it is told, without address and counter
+abbrev pub reply_told : ℕ → Option Mail → List Event
+reply_told key None = []
+reply_told key (Some m) = Event.GatewayReply key (record m { address = 0; counter = 0 }) ∷ []
+
+-- where a mail was heard
+abbrev pub heard_told : ℕ → Option Heard → Found → List Event
+heard_told key None f = []
+heard_told key (Some what) f = reply_told key (reply_kept f)
+
+-- a mail that its side has forgotten gets no further reply
+abbrev pub over_told : ℕ → Option Side.Passing → List Event
+over_told key None = Event.GatewayDone key ∷ []
+over_told key (Some passing) = []
+
+-- WHAT IS TOLD TO WHO ASKED, by what a post has in hand and its slave's side
+abbrev pub gateway_by : {G : Ghosts InHand} → Work → Stop InHand G → List Event
+gateway_by (Work.Passed key) s = heard_told key s.side.heard s.side.hand.found ++ over_told key s.side.passing
+gateway_by Work.Nothing s = []
+gateway_by Work.Mails s = []
+gateway_by Work.State s = []
+gateway_by Work.Packet s = []
+
+-- of the slave at a place
+abbrev pub gateway_at : {G : Ghosts InHand} → List Post → List (Stop InHand G) → ℕ → List Event
+gateway_at [] ss k = []
+gateway_at (p ∷ ps) [] k = []
+gateway_at (p ∷ ps) (s ∷ ss) zero = gateway_by p.work s
+gateway_at (p ∷ ps) (s ∷ ss) (suc k) = gateway_at ps ss k
+
+-- A STEP TELLS THIS BESIDES, where the list has room for so many events more
+pub record TellsBesides (room : ℕ) (es : List Event) (m n : MasterNode) : Type 0 where
+  pub told : m.list.count + room ≤ 97 → filter is_gateway (events_in n) ≡ filter is_gateway (events_in m) ++ es
+  pub few : n.list.count ≤ m.list.count + room

@@ -330,6 +330,8 @@ impl MasterNode {
         ensures happened { HappensSo self.old.lan self.new.lan }
         ensures made { (self.new.lan.ports ≡ self.old.lan.ports) × AreOfMaking self.new.lan.happened }
         ensures serves { result ≡ Next.Frame → (lens : ℕ → Lens) (recover retry missed made : ℕ) (ws : List Serves) → suc made < 2 ^ 32 → ServedShows lens recover retry self.old missed made ws →
+            (vs : List ServedTurn) × IsServedFrame lens made into.new.items ws vs × ServedUnder lens recover retry self.new into.new.items missed made vs }
+        ensures services { result ≡ Next.Frame → (lens : ℕ → Lens) (recover retry missed made : ℕ) (ws : List Serves) → suc made < 2 ^ 32 → ServedShows lens recover retry self.old missed made ws →
             (vs : List ServedTurn) × IsServedFrame lens made into.new.items ws vs × ServedUnder lens recover retry self.new into.new.items missed made vs × ServedBegin (λ k. forwards_at self.old.posts.items k) ws vs self.new }
     {
         self.list.clear();

@@ -40,7 +40,7 @@ impl MasterNode {
     ghost use Rattle.master_node.specs.Shows.{MasterShows, MasterUnder};
     ghost use Rattle.master_node.specs.Serving.{TellsOnly, ServedShows, ServedUnder, mails_in};
     ghost use Rattle.master_node.specs.Dropped.{Drops, gave_at};
-    ghost use Rattle.master_node.specs.Events.{TellsGateway, TellsJust, back_of, gateway_of, lost_of, told_at};
+    ghost use Rattle.master_node.specs.Events.{TellsBesides, TellsGateway, TellsJust, back_of, gateway_at, gateway_of, lost_of, told_at, told_in};
     ghost use Rattle.master_node.specs.Handed.{DropsWork, EndsWork, passing_at, work_at};
     ghost use Rattle.master_node.specs.declared.post.Work.{Work};
     ghost use Rattle.master_tour.specs.Walks.{StepsAt};
@@ -62,6 +62,7 @@ impl MasterNode {
         ensures lan { self.new.lan ≡ self.old.lan }
         ensures tells { TellsOnly self.old self.new }
         ensures works { StepsAt (λ p q. q.work ≡ Work.Nothing) place self.old.posts.items self.new.posts.items }
+        ensures gateway { TellsBesides 1 [] self.old self.new }
     {
         let post = &mut self.posts[place];
         post.work = Work::Nothing;
@@ -81,6 +82,7 @@ impl MasterNode {
         ensures listed { Lists (arrive_by (port_by (slice_get self.old.lan.ports.items place)) (kept_at self.old.tour.stops.items place)) self.old.lan self.new.lan }
         ensures tells { TellsOnly self.old self.new }
         ensures works { EndsWork (λ k. passing_at self.old.tour.stops.items k) [] self.old.posts.items self.new.posts.items }
+        ensures gateway { TellsBesides 1 [] self.old self.new }
     {
         let hand = &self.tour.stops[place].side.hand;
         if let Some(octets) = hand.emergency() {
@@ -119,6 +121,7 @@ impl MasterNode {
         ensures lan { self.new.lan ≡ self.old.lan }
         ensures tells { TellsOnly self.old self.new }
         ensures works { ((key : ℕ) → work_at self.old.posts.items place ≡ Work.Passed key → ⊥) → EndsWork (λ k. passing_at self.old.tour.stops.items k) [] self.old.posts.items self.new.posts.items }
+        ensures gateway { TellsBesides 1 [] self.old self.new }
     {
         if let Some(kind) = self.tour.stops[place].side.hand.answer() {
             self.answered(place, kind);
@@ -154,6 +157,7 @@ impl MasterNode {
         ensures lan { self.new.lan ≡ self.old.lan }
         ensures tells { TellsOnly self.old self.new }
         ensures works { ((key : ℕ) → work_at self.old.posts.items place ≡ Work.Passed key → ⊥) → EndsWork (λ k. passing_at self.old.tour.stops.items k) [] self.old.posts.items self.new.posts.items }
+        ensures gateway { TellsBesides 1 [] self.old self.new }
     {
         if self.tour.stops[place].side.is_free() {
             self.answered(place, ReplyKind::Handed);
@@ -183,6 +187,7 @@ impl MasterNode {
         ensures lan { self.new.lan ≡ self.old.lan }
         ensures tells { TellsOnly self.old self.new }
         ensures works { ((key : ℕ) → work_at self.old.posts.items place ≡ Work.Passed key → ⊥) → EndsWork (λ k. passing_at self.old.tour.stops.items k) [] self.old.posts.items self.new.posts.items }
+        ensures gateway { TellsBesides 1 [] self.old self.new }
     {
         match self.tour.stops[place].side.duty {
             Some(Met::Reached) => self.answered(place, ReplyKind::Done),
@@ -224,6 +229,7 @@ impl MasterNode {
         ensures lan { self.new.lan ≡ self.old.lan }
         ensures tells { TellsOnly self.old self.new }
         ensures works { EndsWork (λ k. passing_at self.old.tour.stops.items k) [] self.old.posts.items self.new.posts.items }
+        ensures gateway { TellsBesides 2 [] self.old self.new }
     {
         let slave = place as u32;
         let own = self.has_state(place);
@@ -263,6 +269,7 @@ impl MasterNode {
         ensures listed { Lists (arrive_by (port_by (slice_get self.old.lan.ports.items place)) (heard_at self.old.tour.stops.items place)) self.old.lan self.new.lan }
         ensures tells { TellsOnly self.old self.new }
         ensures works { EndsWork (λ k. passing_at self.old.tour.stops.items k) (place ∷ []) self.old.posts.items self.new.posts.items }
+        ensures gateway { TellsBesides 5 (gateway_at self.old.posts.items self.old.tour.stops.items place) self.old self.new }
     {
         let what = self.tour.stops[place].side.heard;
         self.heard_where(place, what);
@@ -278,6 +285,7 @@ impl MasterNode {
         ensures listed { Lists (arrive_by (port_by (slice_get self.old.lan.ports.items place)) (heard_at self.old.tour.stops.items place)) self.old.lan self.new.lan }
         ensures tells { TellsOnly self.old self.new }
         ensures works { EndsWork (λ k. passing_at self.old.tour.stops.items k) (place ∷ []) self.old.posts.items self.new.posts.items }
+        ensures gateway { TellsBesides 5 (gateway_at self.old.posts.items self.old.tour.stops.items place) self.old self.new }
     {
         if place < self.posts.len() {
             self.back(place);
@@ -292,6 +300,7 @@ impl MasterNode {
         ensures listed { Lists (arrivals_in self.old.lan.ports.items (λ p. heard_at self.old.tour.stops.items p) self.old.tour.visit.items) self.old.lan self.new.lan }
         ensures tells { TellsOnly self.old self.new }
         ensures works { EndsWork (λ k. passing_at self.old.tour.stops.items k) self.old.tour.visit.items self.old.posts.items self.new.posts.items }
+        ensures gateway { TellsBesides 80 (told_in (gateway_at self.old.posts.items self.old.tour.stops.items) self.old.tour.visit.items) self.old self.new }
     {
         for k in 0..self.tour.visit.len() {
             let place = self.tour.visit.as_slice()[k];
