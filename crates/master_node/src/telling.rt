@@ -40,6 +40,7 @@ impl MasterNode {
     ghost use Rattle.master_node.specs.Shows.{MasterShows, MasterUnder};
     ghost use Rattle.master_node.specs.Serving.{TellsOnly, ServedShows, ServedUnder, mails_in};
     ghost use Rattle.master_node.specs.Dropped.{Drops, gave_at};
+    ghost use Rattle.master_tour.specs.Orders.{AreOnce};
     ghost use Rattle.master_node.specs.Events.{TellsBesides, TellsGateway, TellsJust, back_of, gateway_at, gateway_of, lost_of, told_at, told_in};
     ghost use Rattle.master_node.specs.Handed.{DropsWork, EndsWork, passing_at, work_at};
     ghost use Rattle.master_node.specs.declared.post.Work.{Work};
@@ -300,7 +301,7 @@ impl MasterNode {
         ensures listed { Lists (arrivals_in self.old.lan.ports.items (λ p. heard_at self.old.tour.stops.items p) self.old.tour.visit.items) self.old.lan self.new.lan }
         ensures tells { TellsOnly self.old self.new }
         ensures works { EndsWork (λ k. passing_at self.old.tour.stops.items k) self.old.tour.visit.items self.old.posts.items self.new.posts.items }
-        ensures gateway { TellsBesides 80 (told_in (gateway_at self.old.posts.items self.old.tour.stops.items) self.old.tour.visit.items) self.old self.new }
+        ensures gateway { AreOnce self.old.tour.visit.items → TellsBesides 80 (told_in (gateway_at self.old.posts.items self.old.tour.stops.items) self.old.tour.visit.items) self.old self.new }
     {
         for k in 0..self.tour.visit.len() {
             let place = self.tour.visit.as_slice()[k];

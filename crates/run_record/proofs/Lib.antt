@@ -20,3 +20,5 @@ pub mod Rows
 pub mod Steps
 pub mod SwitchFirst
 pub mod Underway
+pub mod ServedSpots
+pub mod ServedAsks

@@ -15,6 +15,8 @@ use Rattle.run_book.specs.declared.book.SentFrame.{SentFrame}
 use Rattle.run_notes.specs.declared.standing.AskedMail.{AskedMail}
 use Rattle.run_record.specs.Led.{exchanged}
 use Rattle.run_record.specs.Session.{SessionState, has_live}
+use Rattle.run_notes.specs.Slaves.{home_of}
+use Rattle.segment_plan.specs.Sound.{IsPlan}
 use Rattle.segment_plan.specs.declared.plan.Scenario.{Scenario}
 use Rattle.served_runs.specs.Served.{Keyed, Serves, ServedTurn, IsServedFrame, IsServedLed, all_serve, served_behind}
 
@@ -67,7 +69,7 @@ ServingGoesOn s s' f = (plan : Scenario) (fs : List Exchanged) → length fs ≡
 -- A MAIL IS ASKED that fits the mailbox of its slave, where fewer wait than may: the serving goes on with it
 abbrev pub ServingAsks : ℕ → ℕ → Mail → SessionState → SessionState → Type 0
 ServingAsks slave key mail s s' =
-    (plan : Scenario) (fs : List Exchanged) (home : ℕ × ℕ) → slice_get s.homes slave ≡ Some home → 6 + length mail.body.items ≤ home.1 → slice_get s.waiting slave ≢ Some 64 → Serving plan s fs → Serving plan s' fs
+    (plan : Scenario) (fs : List Exchanged) (home : ℕ × ℕ) → IsPlan plan → s.homes ≡ map home_of plan.slaves → slice_get s.homes slave ≡ Some home → 6 + length mail.body.items ≤ home.1 → slice_get s.waiting slave ≢ Some 64 → Serving plan s fs → Serving plan s' fs
 
 -- before its first frame
 abbrev pub ServingBegins : Scenario → SessionState → Type 0
