@@ -2,11 +2,14 @@
 use Rattle.std.specs.Prelude.{◌≡◌, ◌≤◌, ◌+◌, ◌-◌, ◌%◌, ◌&&◌, not, nat_lt, ℕ, zero, suc, Bool, true, false, is_some, if◌then◌else◌, Option, Some, None, List, [], ◌∷◌, ◌++◌, map, filter, length, Ok, Err}
 use Rattle.mailbox_mail.specs.declared.outcome.ReplyKind.{ReplyKind}
 use Rattle.master_duty.specs.Reply.{Reply}
+use Rattle.life_runs.specs.Led.{speech_at}
+use Rattle.life_runs.specs.of_frame_view.View.{Lens}
+use Rattle.master_duty.specs.of_exchange_model.Exchange.{Speech}
 use Rattle.master_duty.specs.of_exchange_model.Rows.{Row}
 use Rattle.master_duty.specs.of_segment_model.Ends.{Outcome, Passing}
 use Rattle.master_duty.specs.of_segment_model.Slaves.{Datagram}
 use Rattle.master_duty.specs.of_state_exchange.Stated.{Service}
-use Rattle.master_duty.specs.of_task_model.Accounts.{Change}
+use Rattle.master_duty.specs.of_task_model.Accounts.{Change, is_free}
 use Rattle.master_hand.specs.Brings.{emergencies_in}
 use Rattle.mailbox_mail.specs.declared.mail.Mail.{Mail}
 use Rattle.master_hand.specs.Spoken.{Asked, is_passed}
@@ -21,12 +24,13 @@ use Rattle.master_side.specs.of_link_mails.Body.{Body}
 use Rattle.master_tour.specs.Brings.{accepted_in}
 use Rattle.master_tour.specs.Made.{is_in}
 use Rattle.master_tour.specs.Orders.{AreOnce}
+use Rattle.master_tour.specs.Stands.{is_open}
 use Rattle.master_tour.specs.of_life_model.Lives
 use Rattle.master_tour.specs.of_life_model.Lives.{Life}
 use Rattle.served_runs.specs.Served.{Serves, ServedTurn}
 use Rattle.served_runs.specs.Told.{Passed, replies_in}
 use Rattle.master_node.specs.Handed.{is_left}
-use Rattle.master_node.specs.Begins.{begun_of}
+use Rattle.master_node.specs.Begins.{begun_of, is_other}
 use Rattle.master_node.specs.Listing.{events_in, forwards_behind, number_at, origin_of}
 use Rattle.master_node.specs.Origins.{forwards_at}
 use Rattle.master_node.specs.Serving.{run_lead, run_turn}
@@ -101,10 +105,27 @@ stand_told place (Lives.Stand.Opens o) Lives.Stand.Gone = []
 stand_told place Lives.Stand.Open stand = []
 stand_told place Lives.Stand.Gone stand = []
 
--- WHAT A FRAME THAT CAME BACK BRINGS of a slave, by its life before and behind it, the mails that were accepted of it, and the mail in hand
-abbrev pub back_told : ℕ → Option Passed → List Body → Life Body Asked Reply → Life Body Asked Reply → List Event
-back_told place hand ms l m =
+-- the newest service is a packet
+abbrev pub has_packet : Option (Row Body Asked Reply) → Bool
+has_packet None = false
+has_packet (Some row) = not (is_other row.service)
+
+-- a packet of an open slave is over once the write of its last fragment is done
+abbrev pub handed_told : ℕ → Bool → Bool → List Event
+handed_told place false true = Event.Answered place ReplyKind.Handed ∷ []
+handed_told place false false = []
+handed_told place true free = []
+
+-- where one is in hand
+abbrev pub packet_told : ℕ → Bool → Bool → Bool → List Event
+packet_told place true was is = handed_told place was is
+packet_told place false was is = []
+
+-- WHAT A FRAME THAT CAME BACK BRINGS of a slave, by its life before and behind it, in this speech, the mails that were accepted of it, and the mail in hand
+abbrev pub back_told : Speech Body Asked Reply → ℕ → Option Passed → List Body → Life Body Asked Reply → Life Body Asked Reply → List Event
+back_told x place hand ms l m =
     emergencies_told place (emergencies_in ms) ++ passed_told place hand l.era.passing m.era.passing ms ++ answer_told place (kind_of l.era.side.now) (kind_of m.era.side.now) ++
+    packet_told place (is_open l.stand && has_packet l.era.side.now) (is_free x l.era.side l.era.side.now) (is_free x m.era.side m.era.side.now) ++
     changes_told place (length l.era.account.over) m.era.account.over ++ stand_told place l.stand m.stand
 
 -- WHAT A LOST ONE BRINGS: the slave was given up, or nothing happened
@@ -128,8 +149,8 @@ abbrev pub TellsJust : (ℕ → List Event) → MasterNode → MasterNode → Ty
 TellsJust tells m n = m.list.before ≤ 16 → events_in n ≡ told_in tells m.tour.visit.items
 
 -- WHAT A FRAME THAT CAME BACK BRINGS of one slave of a serving
-abbrev pub back_of : List (Datagram Body) → ℕ → ServedTurn → Serves → List Event
-back_of back place v w = back_told place v.hand (accepted_in v.turn.lived.spot v.turn.lived.life back) v.turn.lived.life w.lead.lived.life
+abbrev pub back_of : (ℕ → Lens) → List (Datagram Body) → ℕ → ServedTurn → Serves → List Event
+back_of lens back place v w = back_told (speech_at lens v.turn.lived.spot) place v.hand (accepted_in v.turn.lived.spot v.turn.lived.life back) v.turn.lived.life w.lead.lived.life
 
 -- and a lost one
 abbrev pub lost_of : ℕ → ServedTurn → Serves → List Event
