@@ -30,7 +30,7 @@ use Rattle.master_tour.specs.of_life_model.Lives.{Life}
 use Rattle.served_runs.specs.Served.{Serves, ServedTurn}
 use Rattle.served_runs.specs.Told.{Passed, replies_in}
 use Rattle.master_node.specs.Handed.{is_left}
-use Rattle.master_node.specs.Begins.{begun_of, is_other}
+use Rattle.master_node.specs.Begins.{begun_for, begun_of, is_other}
 use Rattle.master_node.specs.Listing.{events_in, forwards_behind, number_at, origin_of}
 use Rattle.master_node.specs.Origins.{forwards_at}
 use Rattle.master_node.specs.Serving.{run_lead, run_turn}
@@ -254,3 +254,12 @@ gateway_at (p ∷ ps) (s ∷ ss) (suc k) = gateway_at ps ss k
 pub record TellsBesides (room : ℕ) (es : List Event) (m n : MasterNode) : Type 0 where
   pub told : m.list.count + room ≤ 97 → filter is_gateway (events_in n) ≡ filter is_gateway (events_in m) ++ es
   pub few : n.list.count ≤ m.list.count + room
+
+-- WHAT IS LISTED SO FAR while a frame of a serving is made, where the visits of these places are still to come
+pub record ServedListed (forwards : ℕ → ℕ) (left : List ℕ) (begun : ℕ → Option (Service Asked)) (ws : List Serves) (m : MasterNode) : Type 0 where
+  pub visited : List ℕ
+  pub once : AreOnce visited
+  pub over : (k : ℕ) → is_in k visited ≡ true → is_in k left ≡ false
+  pub listed : events_in m ≡ told_in (λ k. begun_told k (number_at (map run_lead ws) k) (forwards k) (oldest_in ws k) (begun_for begun (map run_lead ws) k)) visited
+  pub others : (k : ℕ) → is_in k visited ≡ false → begun_for begun (map run_lead ws) k ≡ None
+  pub counts : (k : ℕ) → forwards_at m.posts.items k ≡ forwards_behind (forwards k) (begun_for begun (map run_lead ws) k)
