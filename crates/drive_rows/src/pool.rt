@@ -1,27 +1,68 @@
-use block_pool::{Pool, PoolFull};
-use std::test::Fail;
+use crate::shown::shown;
+use anyhow::{Result, bail};
+use block_pool::Pool;
+use row_table::{Bench, Words};
+use std::alloc::Global;
 
-// A region of three blocks and two chains, and what each step leaves free.
-#[test]
-fn blocks_are_taken_and_given_back(rt: HostRuntime) -> Result<(), Fail> {
-    let mut pool = Pool::new(rt.alloc(), 3, 2)?;
+/// A region of three blocks and two chains.
+#[derive(Drop)]
+pub struct PoolBench;
+
+// One chain of 128 octets and one more: the free blocks behind each, the length, and its octets from a place on.
+fn one_chain(alloc: Global, at: usize) -> Result<String> {
+    let mut pool = Pool::new(alloc, 3, 2)?;
     let octets = [7; 129];
-    let first = pool.begin().ok_or("no place")?;
-    assert_eq!(rt; pool.append(&first, &octets[..128]), Ok(()));
-    assert_eq!(rt; pool.free(), 2);
-    assert_eq!(rt; pool.append(&first, &octets[..1]), Ok(()));
-    assert_eq!(rt; (pool.free(), pool.len(&first)), (1, 129));
-    let second = pool.begin().ok_or("no place")?;
-    assert_eq!(rt; pool.append(&second, &octets), Err(PoolFull));
-    assert_eq!(rt; (pool.free(), pool.len(&second)), (1, 0));
-    assert_eq!(rt; pool.append(&second, &octets[..128]), Ok(()));
-    assert_eq!(rt; pool.free(), 0);
-    assert!(rt; pool.begin().is_none());
+    let Some(first) = pool.begin() else {
+        bail!("no place");
+    };
+    let Ok(()) = pool.append(&first, &octets[..128]) else {
+        bail!("full too early");
+    };
+    let free = pool.free();
+    let Ok(()) = pool.append(&first, &octets[..1]) else {
+        bail!("full too early");
+    };
+    let (left, len) = (pool.free(), pool.len(&first));
     let mut into = [0; 4];
-    assert_eq!(rt; pool.read_at(&first, 126, &mut into), 3);
-    assert_eq!(rt; into, [7, 7, 7, 0]);
+    let count = pool.read_at(&first, at, &mut into);
+    shown(alloc, &(free, left, len, count, into))
+}
+
+// Two chains, of 129 octets and 128: what is refused to the second, the free blocks, whether a third begins, and both behind the first's end.
+fn two_chains(alloc: Global) -> Result<String> {
+    let mut pool = Pool::new(alloc, 3, 2)?;
+    let octets = [7; 129];
+    let Some(first) = pool.begin() else {
+        bail!("no place");
+    };
+    let Ok(()) = pool.append(&first, &octets) else {
+        bail!("full too early");
+    };
+    let Some(second) = pool.begin() else {
+        bail!("no place");
+    };
+    let Err(full) = pool.append(&second, &octets) else {
+        bail!("not full");
+    };
+    let (left, len) = (pool.free(), pool.len(&second));
+    let Ok(()) = pool.append(&second, &octets[..128]) else {
+        bail!("full too early");
+    };
+    let none = pool.free();
+    if pool.begin().is_some() {
+        bail!("a third place");
+    }
     pool.close(first);
-    assert_eq!(rt; pool.free(), 2);
-    assert!(rt; pool.begin().is_some());
-    Ok(())
+    let (free, anew) = (pool.free(), pool.begin().is_some());
+    shown(alloc, &(full, left, len, none, free, anew))
+}
+
+impl Bench for PoolBench {
+    fn found(&mut self, alloc: Global, asked: &mut Words<'_>) -> Result<String> {
+        match asked.word()? {
+            "one" => one_chain(alloc, asked.count()?),
+            "two" => two_chains(alloc),
+            call => bail!("no call: {call}"),
+        }
+    }
 }

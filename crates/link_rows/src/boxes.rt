@@ -1,11 +1,13 @@
 ghost use Rattle.std.specs.Prelude.{◌<◌, ◌^◌, length};
 ghost use Rattle.esc_registers.specs.Access.{KeepsLengths};
 
+use anyhow::{Result, bail};
 use datagrams::{Command, Head};
-use ec_fields::NoMemory;
 use esc_registers::Esc;
 use mailbox_mail::{Mail, MailFault, error_mail};
 use mailbox_slave::{Server, SlaveBox};
+use row_table::{Bench, Words};
+use std::alloc::Global;
 
 // A server that refuses each mail by a mailbox error.
 #[derive(Drop)]
@@ -59,27 +61,41 @@ fn write(esc: &mut Esc, ado: u16, octets: &mut [u8]) -> u16
     head.counter
 }
 
-// The mail is taken once, and its repetition is removed.
-#[test]
-fn a_mail_is_taken_once(rt: HostRuntime) -> Result<(), NoMemory> {
-    let mut esc = Esc::new(rt.alloc(), 64, 64)?;
+// A mail that is written twice: the working counters, how many mails the server took behind each step, and what is left.
+fn taken_once(alloc: Global) -> Result<String> {
+    let mut esc = Esc::new(alloc, 64, 64)?;
     let mut slave_box = SlaveBox::new();
     let mut server = Refusing {
         taken: 0,
         answers: false,
     };
     let mut manager = MANAGER;
-    assert_eq!(rt; write(&mut esc, 0x0800, &mut manager), 1);
+    let enabled = write(&mut esc, 0x0800, &mut manager);
     let mut area = [0; 64];
     area[5] = 0x13;
-    assert_eq!(rt; write(&mut esc, 0x1000, &mut area), 1);
-    assert_eq!(rt; write(&mut esc, 0x1000, &mut area), 0);
+    let written = write(&mut esc, 0x1000, &mut area);
+    let full = write(&mut esc, 0x1000, &mut area);
     slave_box.look(&mut esc);
     slave_box.serve(&mut esc, &mut server, 2);
-    assert_eq!(rt; server.taken, 1);
-    assert_eq!(rt; write(&mut esc, 0x1000, &mut area), 1);
+    let first = server.taken;
+    let again = write(&mut esc, 0x1000, &mut area);
     slave_box.step(&mut esc, &mut server, 2);
-    assert_eq!(rt; server.taken, 1);
-    assert!(rt; esc.out_area().is_none() && esc.in_full() && !slave_box.at_rest());
-    Ok(())
+    let second = server.taken;
+    let (out, answer, rest) = (esc.out_area().is_none(), esc.in_full(), slave_box.at_rest());
+    Ok(format!(in alloc;
+        "{enabled} {written} {full} {first} {again} {second} {out} {answer} {rest}"
+    )?)
+}
+
+/// The box of a slave.
+#[derive(Drop)]
+pub struct BoxBench;
+
+impl Bench for BoxBench {
+    fn found(&mut self, alloc: Global, asked: &mut Words<'_>) -> Result<String> {
+        match asked.word()? {
+            "twice" => taken_once(alloc),
+            call => bail!("no call: {call}"),
+        }
+    }
 }

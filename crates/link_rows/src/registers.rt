@@ -1,95 +1,22 @@
+ghost use Rattle.esc_registers.specs.Access.{KeepsLengths};
+
+use anyhow::{Result, bail};
 use arrayvec::ArrayVec;
 use datagrams::{Command, Head};
-use ec_fields::NoMemory;
 use esc_registers::Esc;
+use row_table::{Bench, Words, digits_of};
+use std::alloc::Global;
 
-const OUT: &[u8] = &[0x00, 0x10, 0x04, 0x00, 0x26, 0x00, 0x01, 0x00];
-
-const IN: &[u8] = &[0x00, 0x18, 0x04, 0x00, 0x22, 0x00, 0x01, 0x00];
-
-const MAIL: &[u8] = &[1, 2, 3, 4];
-
-// One datagram: its command, ADP, ADO and body, and with which ADP, body and counter it comes back.
-type Pass<'a> = (Command, u16, u16, &'a [u8], u16, &'a [u8], u16);
-
-const ROWS: [Pass<'static>; 36] = [
-    (Command::Fprd, 0, 0x0130, &[9; 6], 0, &[1, 0, 0, 0, 0, 0], 1),
-    (Command::Apwr, 5, 0x0010, &[1, 16], 6, &[1, 16], 0),
-    (Command::Aprw, 0xFFFF, 0x0010, &[1, 16], 0, &[1, 16], 0),
-    (Command::Apwr, 0, 0x0010, &[1, 16], 1, &[1, 16], 1),
-    (Command::Aprd, 0, 0x0010, &[0, 0], 1, &[1, 16], 1),
-    (Command::Fprd, 0x1002, 0x0010, &[0, 0], 0x1002, &[0, 0], 0),
-    (Command::Fprw, 0x1001, 0x0010, &[1, 16], 0x1001, &[1, 16], 3),
-    (Command::Brd, 0, 0x0010, &[0, 0], 0, &[0, 0], 0),
-    (Command::Bwr, 0x1001, 0x0010, &[0, 0], 0x1001, &[0, 0], 0),
-    (Command::Armw, 0, 0x0010, &[0, 0], 0, &[0, 0], 0),
-    (Command::Fpwr, 0x1001, 0x0010, &[7], 0x1001, &[7], 0),
-    (Command::Fpwr, 0x1001, 0x1000, MAIL, 0x1001, MAIL, 0),
-    (Command::Fpwr, 0x1001, 0x0800, OUT, 0x1001, OUT, 1),
-    (Command::Fpwr, 0x1001, 0x0808, IN, 0x1001, IN, 1),
-    (Command::Fprd, 0x1001, 0x0800, &[0; 8], 0x1001, OUT, 1),
-    (
-        Command::Fpwr,
-        0x1001,
-        0x1000,
-        &[1, 2, 3],
-        0x1001,
-        &[1, 2, 3],
-        0,
-    ),
-    (Command::Fprd, 0x1001, 0x1000, MAIL, 0x1001, MAIL, 0),
-    (Command::Fprw, 0x1001, 0x1000, MAIL, 0x1001, MAIL, 2),
-    (Command::Fpwr, 0x1001, 0x1000, &[0; 4], 0x1001, &[0; 4], 0),
-    (Command::Fprd, 0x1001, 0x0805, &[0], 0x1001, &[8], 1),
-    (Command::Fpwr, 0x1001, 0x0805, &[0], 0x1001, &[0], 0),
-    (Command::Fprd, 0x1001, 0x080D, &[9], 0x1001, &[0], 1),
-    (Command::Fprd, 0x1001, 0x1800, MAIL, 0x1001, MAIL, 0),
-    (Command::Fpwr, 0x1001, 0x1800, MAIL, 0x1001, MAIL, 0),
-    (Command::Fpwr, 0x1001, 0x080E, &[3], 0x1001, &[3], 1),
-    (Command::Fprw, 0x1001, 0x080E, &[1], 0x1001, &[3], 3),
-    (Command::Fprd, 0x1001, 0x080F, &[9], 0x1001, &[0], 1),
-    (Command::Fpwr, 0x1001, 0x0807, &[2], 0x1001, &[2], 0),
-    (Command::Fprw, 0x1001, 0x0130, &[9, 9], 0x1001, &[1, 0], 1),
-    (Command::Fprd, 0x1001, 0x0134, &[9, 9], 0x1001, &[0, 0], 1),
-    (Command::Fpwr, 0x1001, 0x0134, &[9, 9], 0x1001, &[9, 9], 0),
-    (Command::Fpwr, 0x1001, 0x0120, &[2, 0], 0x1001, &[2, 0], 1),
-    (Command::Fprd, 0x1001, 0x0120, &[0, 0], 0x1001, &[2, 0], 1),
-    (Command::Fpwr, 0x1001, 0x0806, &[0], 0x1001, &[0], 1),
-    (Command::Fprd, 0x1001, 0x0805, &[9], 0x1001, &[0], 1),
-    (Command::Fprd, 0x1001, 0x0804, &[9], 0x1001, &[9], 0),
-];
-
-#[test]
-fn accesses_each_row_of_the_table(rt: HostRuntime) -> Result<(), NoMemory> {
-    let mut esc = Esc::new(rt.alloc(), 4, 4)?;
-    assert_eq!(rt; esc.al_request(), None);
-    for (at, (command, adp, ado, sent, next, back, counter)) in ROWS.iter().enumerate() {
-        let mut body: ArrayVec<u8, 8> = ArrayVec::new();
-        let fits = body.try_extend_from_slice(sent).is_ok();
-        assert!(rt; fits);
-        let mut head = Head {
-            command: *command,
-            adp: *adp,
-            ado: *ado,
-            len: body.len() as u16,
-            ..Head::default()
-        };
-        esc.pass(&mut head, body.as_mut_slice());
-        assert_eq!(rt; head.adp, *next, "row {at}");
-        assert_eq!(rt; head.counter, *counter, "row {at}");
-        assert_eq!(rt; body.as_slice(), *back, "row {at}");
-    }
-    assert_eq!(rt; esc.al_request(), Some(2));
-    assert_eq!(rt; esc.al_request(), None);
-    Ok(())
+/// The registers of a slave.
+#[derive(Drop)]
+pub struct EscBench {
+    esc: Esc,
 }
 
-#[test]
-fn offers_a_mail_once(rt: HostRuntime) -> Result<(), NoMemory> {
-    let mut esc = Esc::new(rt.alloc(), 64, 64)?;
-    let mail = mailbox_mail::error_mail(2);
-    esc.place_in(&mail);
-    assert_eq!(rt; esc.in_full(), true);
+// A write of manager 1 with this octet in its activate register: the working counter, from 0xFFFF on.
+fn manager_written(esc: &mut Esc, activate: u8) -> u16
+    ensures { KeepsLengths esc.old esc.new }
+{
     let mut head = Head {
         command: Command::Fpwr,
         ado: 0x0808,
@@ -97,22 +24,13 @@ fn offers_a_mail_once(rt: HostRuntime) -> Result<(), NoMemory> {
         counter: 0xFFFF,
         ..Head::default()
     };
-    esc.pass(
-        &mut head,
-        &mut [0x00, 0x18, 0x40, 0x00, 0x22, 0x00, 0x00, 0x00],
-    );
-    assert_eq!(rt; head.counter, 0);
-    assert_eq!(rt; esc.in_full(), true);
-    esc.pass(
-        &mut head,
-        &mut [0x00, 0x18, 0x40, 0x00, 0x22, 0x00, 0x03, 0x00],
-    );
-    assert_eq!(rt; esc.in_full(), false);
-    assert_eq!(rt; esc.repeat_asked(), true);
-    esc.acknowledge();
-    assert_eq!(rt; esc.repeat_asked(), false);
-    assert_eq!(rt; esc.out_area().is_none(), true);
-    esc.place_in(&mail);
+    let mut body = [0x00, 0x18, 0x40, 0x00, 0x22, 0x00, activate, 0x00];
+    esc.pass(&mut head, &mut body);
+    head.counter
+}
+
+// A read of mailbox 1, twice: the working counter of both, and what stands first in the area.
+fn area_read(alloc: Global, esc: &mut Esc) -> Result<String> {
     let mut area = [0; 64];
     let mut read = Head {
         command: Command::Fprd,
@@ -122,8 +40,77 @@ fn offers_a_mail_once(rt: HostRuntime) -> Result<(), NoMemory> {
     };
     esc.pass(&mut read, &mut area);
     esc.pass(&mut read, &mut area);
-    assert_eq!(rt; read.counter, 1);
-    assert_eq!(rt; &area[..10], [4, 0, 0, 0, 0, 0, 1, 0, 2, 0].as_slice());
-    assert_eq!(rt; esc.areas_right(), false);
-    Ok(())
+    let (counter, digits) = (read.counter, digits_of(alloc, &area[..10])?);
+    Ok(format!(in alloc; "{counter} {digits}")?)
+}
+
+// A mail is offered: whether mailbox 1 is full behind it and behind its manager is disabled.
+fn offered(alloc: Global) -> Result<String> {
+    let mut esc = Esc::new(alloc, 64, 64)?;
+    esc.place_in(&mailbox_mail::error_mail(2));
+    let placed = esc.in_full();
+    let counter = manager_written(&mut esc, 0);
+    let kept = esc.in_full();
+    let _ = manager_written(&mut esc, 3);
+    let (full, asked) = (esc.in_full(), esc.repeat_asked());
+    esc.acknowledge();
+    let (still, out) = (esc.repeat_asked(), esc.out_area().is_none());
+    Ok(format!(in alloc; "{placed} {counter} {kept} {full} {asked} {still} {out}")?)
+}
+
+// A mail is offered where the managers are enabled, and read once.
+fn read_once(alloc: Global) -> Result<String> {
+    let mut esc = Esc::new(alloc, 64, 64)?;
+    let _ = manager_written(&mut esc, 3);
+    esc.acknowledge();
+    esc.place_in(&mailbox_mail::error_mail(2));
+    let read = area_read(alloc, &mut esc)?;
+    let right = esc.areas_right();
+    Ok(format!(in alloc; "{read} {right}")?)
+}
+
+impl EscBench {
+    /// Areas of 4 octets.
+    pub fn new(alloc: Global) -> Result<EscBench> {
+        let esc = Esc::new(alloc, 4, 4)?;
+        Ok(EscBench { esc })
+    }
+
+    // A datagram passes: ADP, working counter and octets as it comes back.
+    fn pass(&mut self, alloc: Global, asked: &mut Words<'_>) -> Result<String> {
+        let (command, adp, ado) = (asked.small()?, asked.short()?, asked.short()?);
+        let octets = asked.octets(alloc)?;
+        let mut body: ArrayVec<u8, 8> = ArrayVec::new();
+        if body.try_extend_from_slice(octets.bytes()).is_err() {
+            bail!("a longer body");
+        }
+        let mut head = Head {
+            command: Command::of(command),
+            adp,
+            ado,
+            len: body.len() as u16,
+            ..Head::default()
+        };
+        self.esc.pass(&mut head, body.as_mut_slice());
+        let (adp, counter, digits) = (head.adp, head.counter, digits_of(alloc, body.as_slice())?);
+        Ok(format!(in alloc; "{adp} {counter} {digits}")?)
+    }
+
+    // The AL control word that was written.
+    fn request(&mut self, alloc: Global) -> Result<String> {
+        let word = self.esc.al_request();
+        Ok(format!(in alloc; "{word:?}")?)
+    }
+}
+
+impl Bench for EscBench {
+    fn found(&mut self, alloc: Global, asked: &mut Words<'_>) -> Result<String> {
+        match asked.word()? {
+            "pass" => self.pass(alloc, asked),
+            "request" => self.request(alloc),
+            "offered" => offered(alloc),
+            "read_once" => read_once(alloc),
+            call => bail!("no call: {call}"),
+        }
+    }
 }

@@ -1,249 +1,151 @@
 use al_state::{
-    Al, Asked, BringUp, Climb, ClimbNext, access, bring_new, came_back, cleared, climb_new, next,
-    reopen_new, request, status, written,
+    Al, BringUp, Climb, access, bring_new, came_back, cleared, climb_new, next, reopen_new,
+    request, status, written,
 };
+use anyhow::{Result, bail};
 use arrayvec::ArrayVec;
-use datagrams::{Command, Head};
-use std::process::Abort;
+use datagrams::Head;
+use row_table::{Bench, Words, digits_of};
+use std::alloc::Global;
 
-fn asked(from: u8, control: u16, boot: bool, areas: bool) -> (Asked, Al) {
-    let mut al = Al {
-        state: from,
-        error: 0,
-    };
-    let outcome = request(&mut al, control, boot, areas);
-    (outcome, al)
+/// Changes of an AL state.
+#[derive(Drop)]
+pub struct StateBench;
+
+/// A climb of the master's.
+#[derive(Drop)]
+pub struct ClimbBench {
+    climb: Climb,
 }
 
-// 0 is a change that is made, else the AL status code.
-#[test]
-fn changes_between_each_pair_of_states(rt: HostRuntime) {
-    for (from, codes) in [
-        (
-            1,
-            [
-                (1, 0),
-                (2, 0),
-                (3, 0),
-                (4, 0x11),
-                (8, 0x11),
-                (0, 0x12),
-                (5, 0x12),
-            ],
-        ),
-        (
-            2,
-            [
-                (1, 0),
-                (2, 0),
-                (3, 0x11),
-                (4, 0),
-                (8, 0x11),
-                (6, 0x12),
-                (7, 0x12),
-            ],
-        ),
-        (
-            3,
-            [
-                (1, 0),
-                (2, 0x11),
-                (3, 0),
-                (4, 0x11),
-                (8, 0x11),
-                (9, 0x12),
-                (15, 0x12),
-            ],
-        ),
-        (
-            4,
-            [
-                (1, 0),
-                (2, 0),
-                (3, 0x11),
-                (4, 0),
-                (8, 0),
-                (10, 0x12),
-                (12, 0x12),
-            ],
-        ),
-        (
-            8,
-            [
-                (1, 0),
-                (2, 0),
-                (3, 0x11),
-                (4, 0),
-                (8, 0),
-                (11, 0x12),
-                (13, 0x12),
-            ],
-        ),
-    ] {
-        for (to, code) in codes {
-            let (outcome, al) = asked(from, to, true, true);
-            if code == 0 {
-                assert_eq!(rt; outcome, Asked::Changed, "{from} to {to}");
-                assert_eq!(rt; al.state as u16, to, "{from} to {to}");
-                assert_eq!(rt; al.error, 0, "{from} to {to}");
-            } else {
-                assert_eq!(rt; outcome, Asked::Refused(code), "{from} to {to}");
-                assert_eq!(rt;
-                    al,
-                    Al {
-                        state: from,
-                        error: code
-                    },
-                    "{from} to {to}"
-                );
-            }
+/// A slave's bring-up.
+#[derive(Drop)]
+pub struct BringBench {
+    up: BringUp,
+}
+
+// A change from a state with its error: what the control word came to, and the state and error behind it.
+fn changed(alloc: Global, asked: &mut Words<'_>) -> Result<String> {
+    let mut al = Al {
+        state: asked.small()?,
+        error: asked.short()?,
+    };
+    let (control, boot, areas) = (asked.short()?, asked.flag()?, asked.flag()?);
+    let outcome = request(&mut al, control, boot, areas);
+    let Al { state, error } = al;
+    Ok(format!(in alloc; "{outcome:?} {state} {error}")?)
+}
+
+impl Bench for StateBench {
+    fn found(&mut self, alloc: Global, asked: &mut Words<'_>) -> Result<String> {
+        match asked.word()? {
+            "change" => changed(alloc, asked),
+            call => bail!("no call: {call}"),
         }
     }
-    assert_eq!(rt; asked(1, 3, false, false).0, Asked::Refused(0x13));
-    assert_eq!(rt; asked(3, 3, false, true).0, Asked::Refused(0x13));
-    assert_eq!(rt; asked(1, 3, true, false).0, Asked::Refused(0x15));
-    assert_eq!(rt; asked(1, 2, true, false).0, Asked::Refused(0x16));
-    assert_eq!(rt; asked(2, 4, true, false).0, Asked::Changed);
 }
 
-#[test]
-fn acknowledges_before_it_changes(rt: HostRuntime) {
-    let standing = Al {
-        state: 2,
-        error: 0x11,
-    };
-    let mut al = standing;
-    assert_eq!(rt; request(&mut al, 4, true, true), Asked::Ignored);
-    assert_eq!(rt; al, standing);
-    assert_eq!(rt; request(&mut al, 0x18, true, true), Asked::Refused(0x11));
-    assert_eq!(rt; request(&mut al, 0x14, true, true), Asked::Changed);
-    assert_eq!(rt; al, Al { state: 4, error: 0 });
-}
-
-// From PreOp to Op: refused, and the write of the acknowledge is lost once.
-#[test]
-fn climbs_to_a_refusal(rt: HostRuntime) {
-    let mut climb = climb_new(2, 8);
-    assert_eq!(rt; next(&climb), ClimbNext::Write(0x0008));
-    written(&mut climb);
-    assert_eq!(rt; next(&climb), ClimbNext::ReadStatus);
-    status(&mut climb, 0x0002, 0);
-    assert_eq!(rt; next(&climb), ClimbNext::ReadStatus);
-    status(&mut climb, 0x0012, 0x0011);
-    assert_eq!(rt; next(&climb), ClimbNext::Write(0x0012));
-    assert_eq!(rt; next(&climb), ClimbNext::Write(0x0012));
-    written(&mut climb);
-    status(&mut climb, 0x0012, 0x0017);
-    assert_eq!(rt; next(&climb), ClimbNext::ReadStatus);
-    status(&mut climb, 0x0002, 0);
-    assert_eq!(rt; next(&climb), ClimbNext::Refused(0x0011));
-    let mut other = climb_new(2, 4);
-    written(&mut other);
-    status(&mut other, 0x0004, 0);
-    assert_eq!(rt; other, Climb::Arrived);
-}
-
-// The datagram of the access in hand.
-fn accesses(rt: &impl Abort, up: &BringUp, command: Command, adp: u16, ado: u16, octets: &[u8]) {
-    let mut head = Head::default();
-    let mut body = ArrayVec::new();
-    access(up, 7, &mut head, &mut body);
-    assert!(rt; octets.len() <= 8);
-    let wanted = Head {
-        command,
-        index: 7,
-        adp,
-        ado,
-        len: octets.len() as u16,
-        ..Head::default()
-    };
-    assert_eq!(rt; head, wanted);
-    assert_eq!(rt; body.as_slice(), octets);
-}
-
-// The slave at ring position 1 with the station 1002 and areas of 128 and 64 octets.
-#[test]
-fn brings_a_slave_up(rt: HostRuntime) {
-    let mut up = bring_new(1, 0x1002, 128, 64, 2);
-    let steps: [(Command, u16, u16, &[u8]); 6] = [
-        (Command::Apwr, 0xFFFF, 0x0010, &[0x02, 0x10]),
-        (
-            Command::Fpwr,
-            0x1002,
-            0x0800,
-            &[0x00, 0x10, 0x80, 0x00, 0x26, 0x00, 0x01, 0x00],
-        ),
-        (
-            Command::Fpwr,
-            0x1002,
-            0x0808,
-            &[0x00, 0x18, 0x40, 0x00, 0x22, 0x00, 0x01, 0x00],
-        ),
-        (Command::Fpwr, 0x1002, 0x0120, &[0x02, 0x00]),
-        (Command::Fprd, 0x1002, 0x0130, &[0; 6]),
-        (Command::Fprd, 0x1002, 0x0130, &[0; 6]),
-    ];
-    for (command, adp, ado, octets) in steps {
-        accesses(&rt, &up, command, adp, ado, octets);
-        assert_eq!(rt; came_back(&mut up, 1, octets), false);
+impl ClimbBench {
+    /// From Init to PreOp.
+    pub fn new() -> ClimbBench {
+        ClimbBench {
+            climb: climb_new(1, 2),
+        }
     }
-    assert_eq!(rt; cleared(&up), false);
-    assert_eq!(rt; came_back(&mut up, 1, &[0x12, 0, 0, 0, 0x16, 0]), false);
-    assert_eq!(rt; came_back(&mut up, 0, &[2, 0, 0, 0, 0, 0]), false);
-    assert_eq!(rt; came_back(&mut up, 1, &[2]), false);
-    assert_eq!(rt; came_back(&mut up, 1, &[2, 0, 0, 0, 0, 0]), true);
+
+    // Another climb in its place.
+    fn renew(&mut self, alloc: Global, from: u8, target: u8) -> Result<String> {
+        self.climb = climb_new(from, target);
+        Ok(format!(in alloc; "new")?)
+    }
+
+    // What is next.
+    fn next(&self, alloc: Global) -> Result<String> {
+        let next = next(&self.climb);
+        Ok(format!(in alloc; "{next:?}")?)
+    }
+
+    // The write is over.
+    fn written(&mut self, alloc: Global) -> Result<String> {
+        written(&mut self.climb);
+        self.next(alloc)
+    }
+
+    // A status that was read.
+    fn status(&mut self, alloc: Global, word: u16, code: u16) -> Result<String> {
+        status(&mut self.climb, word, code);
+        self.next(alloc)
+    }
 }
 
-// The same slave, opened again to Bootstrap: it is watched until one slave shows Init without an error.
-#[test]
-fn opens_a_slave_again(rt: HostRuntime) {
-    let mut up = reopen_new(1, 0x1002, 128, 64, 3);
-    let status: [(u16, &[u8]); 3] = [
-        (1, &[0x02, 0, 0, 0, 0, 0]),
-        (0, &[0x01, 0, 0, 0, 0, 0]),
-        (1, &[0x11, 0, 0, 0, 0x11, 0]),
-    ];
-    accesses(&rt, &up, Command::Apwr, 0xFFFF, 0x0120, &[0x11, 0x00]);
-    assert_eq!(rt; came_back(&mut up, 0, &[0x11, 0x00]), false);
-    for (counter, octets) in status {
-        accesses(&rt, &up, Command::Aprd, 0xFFFF, 0x0130, &[0; 6]);
-        assert_eq!(rt; came_back(&mut up, counter, octets), false);
-        assert_eq!(rt; cleared(&up), false);
+impl Bench for ClimbBench {
+    fn found(&mut self, alloc: Global, asked: &mut Words<'_>) -> Result<String> {
+        match asked.word()? {
+            "new" => self.renew(alloc, asked.small()?, asked.small()?),
+            "next" => self.next(alloc),
+            "written" => self.written(alloc),
+            "status" => self.status(alloc, asked.short()?, asked.short()?),
+            call => bail!("no call: {call}"),
+        }
     }
-    assert_eq!(rt; came_back(&mut up, 1, &[0x01, 0, 0, 0, 0, 0]), false);
-    let steps: [(Command, u16, u16, &[u8]); 7] = [
-        (Command::Apwr, 0xFFFF, 0x0010, &[0x02, 0x10]),
-        (
-            Command::Fpwr,
-            0x1002,
-            0x0800,
-            &[0x00, 0x10, 0x80, 0x00, 0x26, 0x00, 0x00, 0x00],
-        ),
-        (
-            Command::Fpwr,
-            0x1002,
-            0x0808,
-            &[0x00, 0x18, 0x40, 0x00, 0x22, 0x00, 0x00, 0x00],
-        ),
-        (
-            Command::Fpwr,
-            0x1002,
-            0x0800,
-            &[0x00, 0x10, 0x80, 0x00, 0x26, 0x00, 0x01, 0x00],
-        ),
-        (
-            Command::Fpwr,
-            0x1002,
-            0x0808,
-            &[0x00, 0x18, 0x40, 0x00, 0x22, 0x00, 0x01, 0x00],
-        ),
-        (Command::Fpwr, 0x1002, 0x0120, &[0x03, 0x00]),
-        (Command::Fprd, 0x1002, 0x0130, &[0; 6]),
-    ];
-    for (command, adp, ado, octets) in steps {
-        assert_eq!(rt; cleared(&up), true);
-        accesses(&rt, &up, command, adp, ado, octets);
-        assert_eq!(rt; came_back(&mut up, 1, octets), false);
+}
+
+impl BringBench {
+    /// The slave at ring position 1 with the station 1002 and areas of 128 and 64 octets, to PreOp.
+    pub fn new() -> BringBench {
+        BringBench {
+            up: bring_new(1, 0x1002, 128, 64, 2),
+        }
     }
-    assert_eq!(rt; came_back(&mut up, 1, &[3, 0, 0, 0, 0, 0]), true);
+
+    // The same slave, opened again to Bootstrap.
+    fn reopen(&mut self, alloc: Global) -> Result<String> {
+        self.up = reopen_new(1, 0x1002, 128, 64, 3);
+        Ok(format!(in alloc; "new")?)
+    }
+
+    // The datagram of the access in hand: command, ADP, ADO and body, where all else is as it is to be.
+    fn access(&self, alloc: Global) -> Result<String> {
+        let mut head = Head::default();
+        let mut body = ArrayVec::new();
+        access(&self.up, 7, &mut head, &mut body);
+        let (command, adp, ado) = (head.command, head.adp, head.ado);
+        let plain = Head {
+            command,
+            index: 7,
+            adp,
+            ado,
+            len: body.len() as u16,
+            ..Head::default()
+        };
+        if head != plain {
+            bail!("another head");
+        }
+        let digits = digits_of(alloc, body.as_slice())?;
+        Ok(format!(in alloc; "{command:?} {adp} {ado} {digits}")?)
+    }
+
+    // The access came back: whether the slave is up.
+    fn came(&mut self, alloc: Global, counter: u16, body: &[u8]) -> Result<String> {
+        let up = came_back(&mut self.up, counter, body);
+        Ok(format!(in alloc; "{up}")?)
+    }
+
+    // Whether Init was seen.
+    fn cleared(&self, alloc: Global) -> Result<String> {
+        let cleared = cleared(&self.up);
+        Ok(format!(in alloc; "{cleared}")?)
+    }
+}
+
+impl Bench for BringBench {
+    fn found(&mut self, alloc: Global, asked: &mut Words<'_>) -> Result<String> {
+        match asked.word()? {
+            "reopen" => self.reopen(alloc),
+            "access" => self.access(alloc),
+            "came" => self.came(alloc, asked.short()?, asked.octets(alloc)?.bytes()),
+            "cleared" => self.cleared(alloc),
+            call => bail!("no call: {call}"),
+        }
+    }
 }
