@@ -1,38 +1,53 @@
-ghost use Rattle.std.specs.Prelude.{◌≡◌, ◌≤◌, length};
+ghost use Rattle.std.specs.Prelude.{◌≡◌, IfOk, None};
 
+use anyhow::{Result, bail};
 use ec_fields::buffer_of;
 use file_store::{FileSpec, PoolFull, Store};
-use std::process::Abort;
-use std::test::Fail;
+use row_table::{Bench, Words};
+use std::alloc::Global;
 
-// A file that may be read and written under the password 7, and is busy twice.
-fn spec(name: &[u8], boot: bool) -> FileSpec
-    requires { length name.now ≤ 32 }
-    ensures { result.busy ≡ 2 }
+/// A store with the file `fw`, which may be read and written under the password 7, and is busy twice.
+#[derive(Drop)]
+pub struct StoreBench;
+
+// A store of so many blocks, whose file has these octets.
+fn store_with(alloc: Global, blocks: u32, boot: bool, bytes: &[u8]) -> Result<Store>
+    ensures { IfOk result (λ store. store.part ≡ None) }
 {
-    FileSpec {
-        name: buffer_of(name),
+    if blocks > 1024 {
+        bail!("no such store");
+    }
+    let mut store = Store::new(alloc, blocks)?;
+    if bytes.len().div_ceil(128) > store.free() as usize {
+        bail!("no room");
+    }
+    let spec = FileSpec {
+        name: buffer_of(b"fw"),
         pass: 7,
         read: true,
         write: true,
         boot,
         busy: 2,
-    }
+    };
+    store.insert(spec, bytes)?;
+    Ok(store)
 }
 
-// A new version of the file `fw`, where the blocks allow it.
-fn write(rt: &impl Abort, store: &mut Store, bytes: &[u8]) -> Result<(), PoolFull> {
-    assert!(rt; store.allowed(b"fw", 7, true, 2).is_none());
+// A new version of the file, where the blocks allow it.
+fn write(store: &mut Store, bytes: &[u8]) -> Result<Result<(), PoolFull>> {
+    if store.allowed(b"fw", 7, true, 2).is_some() {
+        bail!("no such file");
+    }
     store.begin(b"fw");
     if let Err(full) = store.append(bytes) {
         store.drop_part();
-        return Err(full);
+        return Ok(Err(full));
     }
     store.commit();
-    Ok(())
+    Ok(Ok(()))
 }
 
-// What the file `fw` has at a place, one octet.
+// What the file has at a place, one octet.
 fn octet(store: &Store, at: usize) -> Option<u8> {
     let mut into = [0; 1];
     if store.read_at(b"fw", at, &mut into) == 0 {
@@ -41,54 +56,56 @@ fn octet(store: &Store, at: usize) -> Option<u8> {
     Some(into[0])
 }
 
-#[test]
-fn a_version_is_seen_once_it_is_committed(rt: HostRuntime) -> Result<(), Fail> {
-    let old = [1; 128];
-    let new = [2; 129];
-    let mut store = Store::new(rt.alloc(), 2)?;
-    assert_eq!(rt; store.insert(spec(b"fw", false), &old), Ok(()));
-    assert_eq!(rt; (store.free(), store.len(b"fw")), (1, 128));
-    assert!(rt; store.allowed(b"fw", 7, true, 2).is_none());
-    assert_eq!(rt; store.busy(b"fw"), 2);
+// A version of 129 octets over two blocks, of which the file has one: how its parts are appended, and what is seen before and behind its end.
+fn version(alloc: Global) -> Result<String> {
+    let mut store = store_with(alloc, 2, false, &[1; 128])?;
+    let (free, len) = (store.free(), store.len(b"fw"));
+    if store.allowed(b"fw", 7, true, 2).is_some() {
+        bail!("no such file");
+    }
+    let busy = store.busy(b"fw");
     store.begin(b"fw");
-    assert_eq!(rt; store.append(&new[..128]), Ok(()));
-    assert_eq!(rt; (store.free(), octet(&store, 0)), (0, Some(1)));
-    assert_eq!(rt; store.append(&new[128..]), Err(PoolFull));
+    let part = store.append(&[2; 128]);
+    let (left, old) = (store.free(), octet(&store, 0));
+    let more = store.append(&[2]);
     store.commit();
-    assert_eq!(rt; (store.free(), octet(&store, 127)), (1, Some(2)));
-    assert_eq!(rt; octet(&store, 128), None);
-    Ok(())
+    let (behind, new, none) = (store.free(), octet(&store, 127), octet(&store, 128));
+    Ok(format!(in alloc;
+        "{free} {len} {busy} {part:?} {left} {old:?} {more:?} {behind} {new:?} {none:?}"
+    )?)
 }
 
-// 100 versions one block too large leave the free blocks as they were, and one of exactly the free blocks is done.
-#[test]
-fn blocks_of_a_dropped_version_are_free_at_once(rt: HostRuntime) -> Result<(), Fail> {
+// So many versions of 257 octets and one of 256, over two free blocks: what the last of each came to, the free blocks, and one octet.
+fn dropped(alloc: Global, count: u32, at: usize) -> Result<String> {
     let octets = [3; 257];
-    let mut store = Store::new(rt.alloc(), 3)?;
-    assert_eq!(rt; store.insert(spec(b"fw", false), &[9]), Ok(()));
-    for _ in 0..100 {
-        assert_eq!(rt; write(&rt, &mut store, &octets), Err(PoolFull));
-        assert_eq!(rt; (store.free(), octet(&store, 0)), (2, Some(9)));
+    let mut store = store_with(alloc, 3, false, &[9])?;
+    for _ in 0..count {
+        let written = write(&mut store, &octets)?;
+        if written != Err(PoolFull) || store.free() != 2 || octet(&store, 0) != Some(9) {
+            bail!("not as before");
+        }
     }
-    assert_eq!(rt; write(&rt, &mut store, &octets[..256]), Ok(()));
-    assert_eq!(rt; (store.free(), octet(&store, 255)), (1, Some(3)));
-    Ok(())
+    let written = write(&mut store, &octets[..256])?;
+    let (free, last) = (store.free(), octet(&store, at));
+    Ok(format!(in alloc; "{written:?} {free} {last:?}")?)
 }
 
-#[test]
-fn a_file_refuses_by_the_first_code(rt: HostRuntime) -> Result<(), Fail> {
-    let cases: [(bool, &[u8], u32, u8, Option<u32>); 6] = [
-        (false, b"fw", 7, 2, None),
-        (true, b"fw", 7, 3, None),
-        (false, b"none", 8, 2, Some(0x8001)),
-        (true, b"fw", 8, 2, Some(0x8008)),
-        (false, b"fw", 8, 3, Some(0x8009)),
-        (false, b"fw", 8, 2, Some(0x8002)),
-    ];
-    for (boot, name, pass, al, code) in cases {
-        let mut store = Store::new(rt.alloc(), 1)?;
-        assert_eq!(rt; store.insert(spec(b"fw", boot), &[]), Ok(()));
-        assert_eq!(rt; store.allowed(name, pass, false, al), code);
+// The code by which the file refuses, or another file.
+fn refused(alloc: Global, asked: &mut Words<'_>) -> Result<String> {
+    let (boot, name) = (asked.flag()?, asked.word()?.as_bytes());
+    let (pass, al) = (asked.number()?, asked.small()?);
+    let store = store_with(alloc, 1, boot, &[])?;
+    let code = store.allowed(name, pass, false, al);
+    Ok(format!(in alloc; "{code:?}")?)
+}
+
+impl Bench for StoreBench {
+    fn found(&mut self, alloc: Global, asked: &mut Words<'_>) -> Result<String> {
+        match asked.word()? {
+            "version" => version(alloc),
+            "dropped" => dropped(alloc, asked.number()?, asked.count()?),
+            "refused" => refused(alloc, asked),
+            call => bail!("no call: {call}"),
+        }
     }
-    Ok(())
 }

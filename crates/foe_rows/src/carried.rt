@@ -2,7 +2,7 @@ use crate::client::names_file;
 use crate::stage::{Course, Stage};
 use anyhow::{Result, bail};
 use ec_fields::Octets;
-use row_table::{Bench, digits_of, octets_in};
+use row_table::{Bench, Words, digits_of};
 use std::alloc::Global;
 
 /// A client and a server over one store, and the client's last mail.
@@ -76,34 +76,31 @@ impl CarriedBench {
     }
 
     // A new stage, by the lengths of its mailboxes, its blocks and how often its file is busy.
-    fn begin(&mut self, alloc: Global, words: &str) -> Result<String> {
-        let mut words = words.split(' ');
-        match (words.next(), words.next(), words.next(), words.next()) {
-            (Some(out), Some(back), Some(blocks), Some(busy)) => {
-                let (out, back) = (out.parse()?, back.parse()?);
-                self.stage = Stage::new(alloc, out, back, blocks.parse()?, busy.parse()?)?;
-                Ok(format!(in alloc; "new")?)
-            }
-            _ => bail!("no stage"),
-        }
+    fn begin(&mut self, alloc: Global, asked: &mut Words<'_>) -> Result<String> {
+        let (out, back) = (asked.short()?, asked.short()?);
+        let (blocks, busy) = (asked.number()?, asked.small()?);
+        self.stage = Stage::new(alloc, out, back, blocks, busy)?;
+        Ok(format!(in alloc; "new")?)
+    }
+
+    // How many blocks are free, and the length of the file.
+    fn stored(&self, alloc: Global) -> Result<String> {
+        let (free, len) = (self.stage.store.free(), self.stage.store.len(b"a"));
+        Ok(format!(in alloc; "{free} {len}")?)
     }
 }
 
 impl Bench for CarriedBench {
-    fn found(&mut self, alloc: Global, asked: &str) -> Result<String> {
-        let mut words = asked.splitn(2, ' ');
-        match (words.next(), words.next()) {
-            (Some("new"), Some(words)) => self.begin(alloc, words),
-            (Some("write"), Some(text)) => self.write(alloc, octets_in(alloc, text)?.bytes()),
-            (Some("read"), Some(text)) => self.read(alloc, b"a", octets_in(alloc, text)?.bytes()),
-            (Some("read_other"), Some(name)) => self.read(alloc, name.as_bytes(), &[]),
-            (Some("arrive"), Some(len)) => self.arrive(alloc, len.parse()?),
-            (Some("last"), None) => digits_of(alloc, self.last.bytes()),
-            (Some("stored"), None) => {
-                let (free, len) = (self.stage.store.free(), self.stage.store.len(b"a"));
-                Ok(format!(in alloc; "{free} {len}")?)
-            }
-            _ => bail!("no call: {asked}"),
+    fn found(&mut self, alloc: Global, asked: &mut Words<'_>) -> Result<String> {
+        match asked.word()? {
+            "new" => self.begin(alloc, asked),
+            "write" => self.write(alloc, asked.octets(alloc)?.bytes()),
+            "read" => self.read(alloc, b"a", asked.octets(alloc)?.bytes()),
+            "read_other" => self.read(alloc, asked.word()?.as_bytes(), &[]),
+            "arrive" => self.arrive(alloc, asked.count()?),
+            "last" => digits_of(alloc, self.last.bytes()),
+            "stored" => self.stored(alloc),
+            call => bail!("no call: {call}"),
         }
     }
 }

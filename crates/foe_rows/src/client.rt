@@ -1,13 +1,14 @@
 ghost use Rattle.std.specs.Prelude.{◌≡◌, true};
 ghost use Rattle.std.specs.Bool.{OnTrue};
 ghost use Rattle.foe_codec.specs.Message.{is_name};
+ghost use Rattle.foe_client.specs.Talk.{awaits_nothing};
 
 use anyhow::{Result, bail};
 use arrayvec::ArrayVec;
 use ec_fields::{Octets, buffer_of};
 use foe_client::FoeClient;
 use mailbox_mail::{Kind, Mail, Took, error_mail};
-use row_table::{Bench, digits_of, octets_in};
+use row_table::{Bench, Words, digits_of};
 use std::alloc::Global;
 
 /// A client that is told what comes.
@@ -23,6 +24,16 @@ pub fn names_file(name: &[u8]) -> bool
     1 <= name.len() && name.len() <= 32
 }
 
+// The reply of a service that ended, and its value.
+fn ended_of(alloc: Global, client: &FoeClient) -> Result<String>
+    requires { awaits_nothing client.now.awaits ≡ true }
+{
+    let mut value = Octets::new(alloc);
+    client.value(&mut value)?;
+    let (reply, digits) = (client.reply(), digits_of(alloc, value.bytes())?);
+    Ok(format!(in alloc; "Done {reply:?} {digits}")?)
+}
+
 impl ClientBench {
     /// A client through mailboxes of 64 octets.
     pub fn new(alloc: Global) -> Result<ClientBench> {
@@ -30,25 +41,36 @@ impl ClientBench {
         Ok(ClientBench { client })
     }
 
-    // A new service at the client.
-    fn begin(&mut self, alloc: Global, words: [&str; 3]) -> Result<String> {
-        let [call, name, rest] = words;
-        if !names_file(name.as_bytes()) {
-            bail!("no name: {name}");
+    // A new read at the client.
+    fn start_read(&mut self, alloc: Global, name: &[u8], pass: u32) -> Result<String> {
+        if !names_file(name) {
+            bail!("no name");
         }
-        match (call, rest.split_once(' ')) {
-            ("start_read", None) => self.client.start_read(name.as_bytes(), rest.parse()?),
-            ("start_write", Some((pass, text))) => {
-                let octets = octets_in(alloc, text)?;
-                if octets.len() > 131_072 {
-                    bail!("a file of more octets");
-                }
-                self.client
-                    .start_write(name.as_bytes(), pass.parse()?, octets.bytes());
-            }
-            _ => bail!("no call: {call}"),
-        }
+        self.client.start_read(name, pass);
         Ok(format!(in alloc; "begun")?)
+    }
+
+    // A new write at the client.
+    fn start_write(&mut self, alloc: Global, asked: &mut Words<'_>) -> Result<String> {
+        let (name, pass) = (asked.word()?.as_bytes(), asked.number()?);
+        let octets = asked.octets(alloc)?;
+        if !names_file(name) || octets.len() > 131_072 {
+            bail!("no file");
+        }
+        self.client.start_write(name, pass, octets.bytes());
+        Ok(format!(in alloc; "begun")?)
+    }
+
+    // A new client in its place.
+    fn renew(&mut self, alloc: Global) -> Result<String> {
+        *self = ClientBench::new(alloc)?;
+        Ok(format!(in alloc; "new")?)
+    }
+
+    // Whether a mail goes.
+    fn has_next(&self, alloc: Global) -> Result<String> {
+        let has = self.client.has_next();
+        Ok(format!(in alloc; "{has}")?)
     }
 
     // The one mail that goes, by its length and its first octets.
@@ -71,52 +93,38 @@ impl ClientBench {
     fn take(&mut self, alloc: Global, mail: &Mail, told: bool) -> Result<String> {
         let took = self.client.take(mail);
         match took {
-            Took::Done if told => {
-                let mut value = Octets::new(alloc);
-                self.client.value(&mut value)?;
-                let (reply, digits) = (self.client.reply(), digits_of(alloc, value.bytes())?);
-                Ok(format!(in alloc; "{took:?} {reply:?} {digits}")?)
-            }
+            Took::Done if told => ended_of(alloc, &self.client),
             _ => Ok(format!(in alloc; "{took:?}")?),
         }
     }
 
     // The same of a mail by its octets.
-    fn take_body(&mut self, alloc: Global, text: &str, told: bool) -> Result<String> {
-        let octets = octets_in(alloc, text)?;
+    fn take_body(&mut self, alloc: Global, octets: &[u8], told: bool) -> Result<String> {
         if octets.len() > 1480 {
-            bail!("no mail: {text}");
+            bail!("no mail");
         }
         let mail = Mail {
             address: 0,
             kind: Kind::FoE,
             counter: 1,
-            body: buffer_of(octets.bytes()),
+            body: buffer_of(octets),
         };
         self.take(alloc, &mail, told)
     }
 }
 
 impl Bench for ClientBench {
-    fn found(&mut self, alloc: Global, asked: &str) -> Result<String> {
-        let mut words = asked.splitn(3, ' ');
-        match (words.next(), words.next(), words.next()) {
-            (Some("new"), None, None) => {
-                *self = ClientBench::new(alloc)?;
-                Ok(format!(in alloc; "new")?)
-            }
-            (Some("has_next"), None, None) => {
-                let has = self.client.has_next();
-                Ok(format!(in alloc; "{has}")?)
-            }
-            (Some("send"), Some(head), None) => self.send(alloc, head.parse()?),
-            (Some("take"), Some(text), None) => self.take_body(alloc, text, false),
-            (Some("end"), Some(text), None) => self.take_body(alloc, text, true),
-            (Some("end_by_error"), Some(detail), None) => {
-                self.take(alloc, &error_mail(detail.parse()?), true)
-            }
-            (Some(call), Some(name), Some(rest)) => self.begin(alloc, [call, name, rest]),
-            _ => bail!("no call: {asked}"),
+    fn found(&mut self, alloc: Global, asked: &mut Words<'_>) -> Result<String> {
+        match asked.word()? {
+            "new" => self.renew(alloc),
+            "has_next" => self.has_next(alloc),
+            "send" => self.send(alloc, asked.count()?),
+            "take" => self.take_body(alloc, asked.octets(alloc)?.bytes(), false),
+            "end" => self.take_body(alloc, asked.octets(alloc)?.bytes(), true),
+            "end_by_error" => self.take(alloc, &error_mail(asked.short()?), true),
+            "start_read" => self.start_read(alloc, asked.word()?.as_bytes(), asked.number()?),
+            "start_write" => self.start_write(alloc, asked),
+            call => bail!("no call: {call}"),
         }
     }
 }

@@ -3,7 +3,7 @@ use anyhow::{Result, bail};
 use file_store::Store;
 use foe_server::FoeServer;
 use mailbox_mail::Kind;
-use row_table::{Bench, digits_of, octets_in};
+use row_table::{Bench, Words, digits_of};
 use std::alloc::Global;
 use std::marker::Model;
 
@@ -57,31 +57,36 @@ impl ServerBench {
     }
 }
 
+impl ServerBench {
+    // A new server in its place.
+    fn renew(&mut self, alloc: Global, asked: &mut Words<'_>) -> Result<String> {
+        let (blocks, busy) = (asked.number()?, asked.small()?);
+        let octets = asked.octets(alloc)?;
+        *self = ServerBench::with(alloc, blocks, busy, octets.bytes())?;
+        Ok(format!(in alloc; "new")?)
+    }
+
+    // How many blocks are free, and the length of the file.
+    fn stored(&self, alloc: Global) -> Result<String> {
+        let (free, len) = (self.store.free(), self.store.len(b"a"));
+        Ok(format!(in alloc; "{free} {len}")?)
+    }
+}
+
+// A number.
+fn number(alloc: Global, number: usize) -> Result<String> {
+    Ok(format!(in alloc; "{number}")?)
+}
+
 impl Bench for ServerBench {
-    fn found(&mut self, alloc: Global, asked: &str) -> Result<String> {
-        let mut words = asked.split(' ');
-        match (words.next(), words.next(), words.next(), words.next()) {
-            (Some("new"), Some(blocks), Some(busy), Some(text)) => {
-                let octets = octets_in(alloc, text)?;
-                *self = ServerBench::with(alloc, blocks.parse()?, busy.parse()?, octets.bytes())?;
-                Ok(format!(in alloc; "new")?)
-            }
-            (Some("take"), Some(text), None, None) => {
-                self.take(alloc, octets_in(alloc, text)?.bytes())
-            }
-            (Some("stored"), None, None, None) => {
-                let (free, len) = (self.store.free(), self.store.len(b"a"));
-                Ok(format!(in alloc; "{free} {len}")?)
-            }
-            (Some("free"), None, None, None) => {
-                let free = self.store.free();
-                Ok(format!(in alloc; "{free}")?)
-            }
-            (Some("len"), None, None, None) => {
-                let len = self.store.len(b"a");
-                Ok(format!(in alloc; "{len}")?)
-            }
-            _ => bail!("no call: {asked}"),
+    fn found(&mut self, alloc: Global, asked: &mut Words<'_>) -> Result<String> {
+        match asked.word()? {
+            "new" => self.renew(alloc, asked),
+            "take" => self.take(alloc, asked.octets(alloc)?.bytes()),
+            "stored" => self.stored(alloc),
+            "free" => number(alloc, self.store.free() as usize),
+            "len" => number(alloc, self.store.len(b"a")),
+            call => bail!("no call: {call}"),
         }
     }
 }

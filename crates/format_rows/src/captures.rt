@@ -1,7 +1,7 @@
 use anyhow::{Result, bail};
 use ec_fields::Octets;
 use pcap_frames::{PcapFault, Stamp, read, write_head, write_packet};
-use row_table::{Bench, digits_of, octets_in};
+use row_table::{Bench, Words, digits_of};
 use std::alloc::Global;
 
 /// Captures: one that is saved, whole and cut, and octets from outside.
@@ -67,18 +67,20 @@ impl CaptureBench {
     }
 }
 
+// What octets read as.
+fn outcome_of(alloc: Global, octets: &[u8]) -> Result<String> {
+    let read = outcome(alloc, octets);
+    Ok(format!(in alloc; "{read:?}")?)
+}
+
 impl Bench for CaptureBench {
-    fn found(&mut self, alloc: Global, asked: &str) -> Result<String> {
-        let mut words = asked.split(' ');
-        match (words.next(), words.next(), words.next()) {
-            (Some("save"), Some(packets), None) => self.save(alloc, packets.parse()?),
-            (Some("cut"), Some(from), Some(to)) => self.cut(alloc, from.parse()?, to.parse()?),
-            (Some("packet"), Some(at), None) => self.packet(alloc, at.parse()?),
-            (Some("read"), Some(text), None) => {
-                let read = outcome(alloc, octets_in(alloc, text)?.bytes());
-                Ok(format!(in alloc; "{read:?}")?)
-            }
-            _ => bail!("no call: {asked}"),
+    fn found(&mut self, alloc: Global, asked: &mut Words<'_>) -> Result<String> {
+        match asked.word()? {
+            "save" => self.save(alloc, asked.number()?),
+            "cut" => self.cut(alloc, asked.count()?, asked.count()?),
+            "packet" => self.packet(alloc, asked.count()?),
+            "read" => outcome_of(alloc, asked.octets(alloc)?.bytes()),
+            call => bail!("no call: {call}"),
         }
     }
 }

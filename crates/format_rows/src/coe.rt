@@ -5,7 +5,7 @@ ghost use Rattle.coe_codec.specs.Writing.{HasSpelling};
 use anyhow::{Result, bail};
 use coe_codec::{Coe, read, write};
 use ec_fields::buffer_of;
-use row_table::{Bench, digits_of, octets_in};
+use row_table::{Bench, Words, digits_of};
 use std::alloc::Global;
 
 /// CoE messages: `read OCTETS` is what a body reads as, `back OCTETS` what is written of that.
@@ -43,22 +43,25 @@ fn written_back(alloc: Global, octets: &[u8]) -> Result<String>
     digits_of(alloc, body.as_slice())
 }
 
+// What a body reads as.
+fn read_as(alloc: Global, octets: &[u8]) -> Result<String>
+    requires { length octets.now ≤ 1480 }
+{
+    let message = read(octets);
+    Ok(format!(in alloc; "{message:?}")?)
+}
+
 impl Bench for CoeBench {
-    fn found(&mut self, alloc: Global, asked: &str) -> Result<String> {
-        let Some((call, text)) = asked.split_once(' ') else {
-            bail!("no call: {asked}");
-        };
-        let octets = octets_in(alloc, text)?;
+    fn found(&mut self, alloc: Global, asked: &mut Words<'_>) -> Result<String> {
+        let call = asked.word()?;
+        let octets = asked.octets(alloc)?;
         if octets.len() > 1480 {
-            bail!("too long: {asked}");
+            bail!("too long");
         }
         match call {
-            "read" => {
-                let message = read(octets.bytes());
-                Ok(format!(in alloc; "{message:?}")?)
-            }
+            "read" => read_as(alloc, octets.bytes()),
             "back" => written_back(alloc, octets.bytes()),
-            _ => bail!("no call: {asked}"),
+            _ => bail!("no call: {call}"),
         }
     }
 }

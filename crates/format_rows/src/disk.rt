@@ -1,7 +1,7 @@
 use anyhow::{Result, bail};
 use ec_fields::Octets;
 use ec_outside::{Files, Loaded};
-use row_table::{Bench, digits_of, octets_in};
+use row_table::{Bench, Words, digits_of};
 use std::alloc::Global;
 
 /// Files, and what was loaded last.
@@ -27,18 +27,27 @@ impl<F: Files + Drop> DiskBench<F> {
             other => Ok(format!(in alloc; "{other:?}")?),
         }
     }
+
+    // Saves a file.
+    fn save(&mut self, alloc: Global, name: &str, bytes: &[u8]) -> Result<String> {
+        let saved = self.files.save(name, bytes);
+        Ok(format!(in alloc; "{saved:?}")?)
+    }
+
+    /// What is found for a call and its further words.
+    pub fn called(&mut self, alloc: Global, call: &str, asked: &mut Words<'_>) -> Result<String> {
+        let name = asked.word()?;
+        match call {
+            "load" => self.load(alloc, name, asked.count()?),
+            "save" => self.save(alloc, name, asked.octets(alloc)?.bytes()),
+            _ => bail!("no call: {call}"),
+        }
+    }
 }
 
 impl<F: Files + Drop> Bench for DiskBench<F> {
-    fn found(&mut self, alloc: Global, asked: &str) -> Result<String> {
-        let mut words = asked.split(' ');
-        match (words.next(), words.next(), words.next()) {
-            (Some("load"), Some(name), Some(limit)) => self.load(alloc, name, limit.parse()?),
-            (Some("save"), Some(name), Some(text)) => {
-                let saved = self.files.save(name, octets_in(alloc, text)?.bytes());
-                Ok(format!(in alloc; "{saved:?}")?)
-            }
-            _ => bail!("no call: {asked}"),
-        }
+    fn found(&mut self, alloc: Global, asked: &mut Words<'_>) -> Result<String> {
+        let call = asked.word()?;
+        self.called(alloc, call, asked)
     }
 }

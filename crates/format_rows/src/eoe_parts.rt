@@ -9,7 +9,7 @@ use eoe::{
     Came, Eoe, Fragment, FragmentView, Fragmenter, Joined, Packet, Reassembler, cut, first_block,
     is_block, read, write,
 };
-use row_table::{Bench, digits_of, octets_in};
+use row_table::{Bench, Words, digits_of};
 use std::alloc::Global;
 
 /// EoE messages, and a packet that is cut and joined again.
@@ -64,48 +64,42 @@ fn written_back(alloc: Global, octets: &[u8]) -> Result<String>
     digits_of(alloc, body.as_slice())
 }
 
+// What a body reads as.
+fn read_as(alloc: Global, octets: &[u8]) -> Result<String>
+    requires { length octets.now ≤ 1480 }
+{
+    let message = read(octets);
+    Ok(format!(in alloc; "{message:?}")?)
+}
+
+// Whether octets are an address block.
+fn block_of(alloc: Global, octets: &[u8]) -> Result<String> {
+    let holds = is_block(octets);
+    Ok(format!(in alloc; "{holds}")?)
+}
+
 // A message, or an address block.
 fn found_in(alloc: Global, call: &str, octets: &[u8]) -> Result<String> {
     if octets.len() > 1480 {
         bail!("too long");
     }
     match call {
-        "read" => {
-            let message = read(octets);
-            Ok(format!(in alloc; "{message:?}")?)
-        }
+        "read" => read_as(alloc, octets),
         "back" => written_back(alloc, octets),
-        "block" => {
-            let holds = is_block(octets);
-            Ok(format!(in alloc; "{holds}")?)
-        }
+        "block" => block_of(alloc, octets),
         _ => bail!("no call: {call}"),
     }
 }
 
-// The head of a fragment in five words, and its octets.
-fn head_in(words: &str) -> Result<(Head, &str)> {
-    let mut words = words.split(' ');
-    match (
-        words.next(),
-        words.next(),
-        words.next(),
-        words.next(),
-        words.next(),
-        words.next(),
-    ) {
-        (Some(number), Some(offset), Some(frame), Some(last), Some(stamped), Some(octets)) => {
-            let head = Head {
-                number: number.parse()?,
-                offset: offset.parse()?,
-                frame: frame.parse()?,
-                last: last.parse()?,
-                stamped: stamped.parse()?,
-            };
-            Ok((head, octets))
-        }
-        _ => bail!("no fragment"),
-    }
+// The head of a fragment in five words.
+fn head_in(asked: &mut Words<'_>) -> Result<Head> {
+    Ok(Head {
+        number: asked.small()?,
+        offset: asked.small()?,
+        frame: asked.small()?,
+        last: asked.flag()?,
+        stamped: asked.flag()?,
+    })
 }
 
 impl EoeBench {
@@ -131,6 +125,12 @@ impl EoeBench {
         Ok(format!(in alloc; "begun")?)
     }
 
+    // No fragment is awaited.
+    fn afresh(&mut self, alloc: Global) -> Result<String> {
+        self.joined = Reassembler::new();
+        Ok(format!(in alloc; "begun")?)
+    }
+
     // The next fragment, and what it is to the reassembler.
     fn next(&mut self, alloc: Global) -> Result<String> {
         let Some(fragment) = self.fragments.next() else {
@@ -148,9 +148,9 @@ impl EoeBench {
     }
 
     // A fragment of 32 octets at most, and the length of the packet that it completes.
-    fn take(&mut self, alloc: Global, words: &str) -> Result<String> {
-        let (head, text) = head_in(words)?;
-        let octets = octets_in(alloc, text)?;
+    fn take(&mut self, alloc: Global, asked: &mut Words<'_>) -> Result<String> {
+        let head = head_in(asked)?;
+        let octets = asked.octets(alloc)?;
         if octets.len() > 32 {
             bail!("a fragment of more octets");
         }
@@ -173,9 +173,9 @@ impl EoeBench {
     }
 
     // The same in place, and the length of the last packet that was completed so.
-    fn take_into(&mut self, alloc: Global, words: &str) -> Result<String> {
-        let (head, text) = head_in(words)?;
-        let octets = octets_in(alloc, text)?;
+    fn take_into(&mut self, alloc: Global, asked: &mut Words<'_>) -> Result<String> {
+        let head = head_in(asked)?;
+        let octets = asked.octets(alloc)?;
         let fragment = FragmentView {
             last: head.last,
             stamped: head.stamped,
@@ -195,19 +195,15 @@ impl EoeBench {
 }
 
 impl Bench for EoeBench {
-    fn found(&mut self, alloc: Global, asked: &str) -> Result<String> {
-        match asked.split_once(' ') {
-            None if asked == "next" => self.next(alloc),
-            None if asked == "first_block" => digits_of(alloc, first_block().as_slice()),
-            None if asked == "afresh" => {
-                self.joined = Reassembler::new();
-                Ok(format!(in alloc; "begun")?)
-            }
-            Some(("cut", text)) => self.begin(alloc, octets_in(alloc, text)?.bytes()),
-            Some(("take", words)) => self.take(alloc, words),
-            Some(("take_into", words)) => self.take_into(alloc, words),
-            Some((call, text)) => found_in(alloc, call, octets_in(alloc, text)?.bytes()),
-            None => bail!("no call: {asked}"),
+    fn found(&mut self, alloc: Global, asked: &mut Words<'_>) -> Result<String> {
+        match asked.word()? {
+            "next" => self.next(alloc),
+            "first_block" => digits_of(alloc, first_block().as_slice()),
+            "afresh" => self.afresh(alloc),
+            "cut" => self.begin(alloc, asked.octets(alloc)?.bytes()),
+            "take" => self.take(alloc, asked),
+            "take_into" => self.take_into(alloc, asked),
+            call => found_in(alloc, call, asked.octets(alloc)?.bytes()),
         }
     }
 }

@@ -1,6 +1,6 @@
 use anyhow::{Result, bail};
 use ec_fields::{Octets, Rows, Transfer, bits, put_bits, put_u16, put_u32, u8_at, u16_at, u32_at};
-use row_table::{Bench, digits_of, octets_in};
+use row_table::{Bench, Words, digits_of};
 use std::alloc::Global;
 
 /// Octets, rows and fields.
@@ -57,31 +57,49 @@ fn bits_in(alloc: Global, word: u16, at: u32, count: u32) -> Result<String> {
     Ok(format!(in alloc; "{found}")?)
 }
 
+// What is asked of octets.
+fn grown_asked(alloc: Global, asked: &mut Words<'_>) -> Result<String> {
+    let first = asked.octets(alloc)?;
+    let more = asked.octets(alloc)?;
+    grown(alloc, &first, &more)
+}
+
+// What is asked of rows.
+fn rows_asked(alloc: Global, asked: &mut Words<'_>) -> Result<String> {
+    let (first, second) = (asked.count()?, asked.count()?);
+    rows_of(alloc, first, second, asked.count()?)
+}
+
+// What is asked of a transfer.
+fn transfer_asked(alloc: Global, asked: &mut Words<'_>) -> Result<String> {
+    let first = asked.octets(alloc)?;
+    let second = asked.octets(alloc)?;
+    let third = asked.octets(alloc)?;
+    transferred(alloc, &first, &second, &third)
+}
+
+// What is asked of bits.
+fn bits_asked(alloc: Global, asked: &mut Words<'_>) -> Result<String> {
+    let (word, at) = (asked.short()?, asked.number()?);
+    bits_in(alloc, word, at, asked.number()?)
+}
+
+// The word with 5 in three bits.
+fn bits_put(alloc: Global, word: u16) -> Result<String> {
+    let put = put_bits(word, 12, 3, 5);
+    Ok(format!(in alloc; "{put}")?)
+}
+
 impl Bench for FieldBench {
-    fn found(&mut self, alloc: Global, asked: &str) -> Result<String> {
-        let mut words = asked.split(' ');
-        match (words.next(), words.next(), words.next(), words.next()) {
-            (Some("octets"), Some(first), Some(more), None) => {
-                grown(alloc, &octets_in(alloc, first)?, &octets_in(alloc, more)?)
-            }
-            (Some("rows"), Some(first), Some(second), Some(other)) => {
-                rows_of(alloc, first.parse()?, second.parse()?, other.parse()?)
-            }
-            (Some("transfer"), Some(first), Some(second), Some(third)) => transferred(
-                alloc,
-                &octets_in(alloc, first)?,
-                &octets_in(alloc, second)?,
-                &octets_in(alloc, third)?,
-            ),
-            (Some("put"), Some(word), Some(long), None) => put(alloc, word.parse()?, long.parse()?),
-            (Some("bits"), Some(word), Some(at), Some(count)) => {
-                bits_in(alloc, word.parse()?, at.parse()?, count.parse()?)
-            }
-            (Some("put_bits"), Some(word), None, None) => {
-                let put = put_bits(word.parse()?, 12, 3, 5);
-                Ok(format!(in alloc; "{put}")?)
-            }
-            _ => bail!("no call: {asked}"),
+    fn found(&mut self, alloc: Global, asked: &mut Words<'_>) -> Result<String> {
+        match asked.word()? {
+            "octets" => grown_asked(alloc, asked),
+            "rows" => rows_asked(alloc, asked),
+            "transfer" => transfer_asked(alloc, asked),
+            "put" => put(alloc, asked.short()?, asked.number()?),
+            "bits" => bits_asked(alloc, asked),
+            "put_bits" => bits_put(alloc, asked.short()?),
+            call => bail!("no call: {call}"),
         }
     }
 }

@@ -2,7 +2,7 @@ ghost use Rattle.std.specs.Prelude.{◌≡◌, ◌∷◌, []};
 
 use anyhow::{Result, bail};
 use datagrams::{Body, Command, FrameBuf, Head, add, add_with, begin, fault, finish, read};
-use row_table::{Bench, digits_of, octets_in};
+use row_table::{Bench, Words, digits_of};
 use std::alloc::Global;
 
 /// Frames: the fault of octets, and a frame that is built datagram by datagram.
@@ -59,14 +59,11 @@ fn fault_of(alloc: Global, octets: &[u8]) -> Result<String> {
 }
 
 impl Bench for FrameBench {
-    fn found(&mut self, alloc: Global, asked: &str) -> Result<String> {
-        let mut words = asked.split(' ');
-        match (words.next(), words.next(), words.next()) {
-            (Some("requests"), Some(first), Some(second)) => {
-                requests(alloc, first.parse()?, second.parse()?)
-            }
-            (Some("fault"), Some(text), None) => fault_of(alloc, octets_in(alloc, text)?.bytes()),
-            _ => bail!("no call: {asked}"),
+    fn found(&mut self, alloc: Global, asked: &mut Words<'_>) -> Result<String> {
+        match asked.word()? {
+            "requests" => requests(alloc, asked.short()?, asked.short()?),
+            "fault" => fault_of(alloc, asked.octets(alloc)?.bytes()),
+            call => bail!("no call: {call}"),
         }
     }
 }

@@ -1,7 +1,7 @@
 use anyhow::{Result, bail};
 use ec_fields::{Octets, buffer_of};
 use mailbox_mail::{Kind, Mail, error_mail, next_counter, read, read_into, write, write_head};
-use row_table::{Bench, digits_of, octets_in};
+use row_table::{Bench, Words, digits_of};
 use std::alloc::Global;
 
 /// Mails in areas of octets.
@@ -68,20 +68,26 @@ fn read_twice(alloc: Global, area: &[u8]) -> Result<String> {
     Ok(format!(in alloc; "{mail:?}")?)
 }
 
+// A mail by its counter and body, whose head alone is written or all of it.
+fn write_asked(alloc: Global, asked: &mut Words<'_>, heads: bool) -> Result<String> {
+    let counter = asked.small()?;
+    let body = asked.octets(alloc)?;
+    if heads {
+        headed(alloc, counter, &body)
+    } else {
+        written(alloc, counter, &body)
+    }
+}
+
 impl Bench for MailBench {
-    fn found(&mut self, alloc: Global, asked: &str) -> Result<String> {
-        let mut words = asked.split(' ');
-        match (words.next(), words.next(), words.next()) {
-            (Some("read"), Some(text), None) => read_twice(alloc, octets_in(alloc, text)?.bytes()),
-            (Some("write"), Some(counter), Some(text)) => {
-                written(alloc, counter.parse()?, &octets_in(alloc, text)?)
-            }
-            (Some("head"), Some(counter), Some(text)) => {
-                headed(alloc, counter.parse()?, &octets_in(alloc, text)?)
-            }
-            (Some("next"), Some(counter), None) => counted(alloc, counter.parse()?),
-            (Some("error"), Some(detail), None) => refused(alloc, detail.parse()?),
-            _ => bail!("no call: {asked}"),
+    fn found(&mut self, alloc: Global, asked: &mut Words<'_>) -> Result<String> {
+        match asked.word()? {
+            "read" => read_twice(alloc, asked.octets(alloc)?.bytes()),
+            "write" => write_asked(alloc, asked, false),
+            "head" => write_asked(alloc, asked, true),
+            "next" => counted(alloc, asked.small()?),
+            "error" => refused(alloc, asked.short()?),
+            call => bail!("no call: {call}"),
         }
     }
 }

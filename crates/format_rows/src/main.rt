@@ -30,31 +30,55 @@ use std::fs;
 use std::rt::Files;
 use switch::SwitchBench;
 
-// The tables of the formats.
-fn tell_formats<R: AllocGlobal + Files + Print>(rt: &R) -> Result<()> {
+// The tables of fields and mails, and of the mailbox protocols' messages.
+fn tell_messages<R: AllocGlobal + Files + Print>(rt: &R) -> Result<()> {
     tell(rt, "fields", &mut FieldBench)?;
     tell(rt, "mails", &mut MailBench)?;
     tell(rt, "coe", &mut CoeBench)?;
     tell(rt, "foe", &mut FoeBench)?;
-    tell(rt, "soe", &mut SoeBench)?;
+    tell(rt, "soe", &mut SoeBench)
+}
+
+// The tables of Ethernet's formats.
+fn tell_packets<R: AllocGlobal + Files + Print>(rt: &R) -> Result<()> {
     tell(rt, "eoe", &mut EoeBench::new())?;
     tell(rt, "frames", &mut FrameBench)?;
     tell(rt, "captures", &mut CaptureBench::new(rt.alloc()))
 }
 
-fn main(rt: HostRuntime) -> Result<()> {
-    tell_formats(&rt)?;
-    let alloc = rt.alloc();
-    tell(&rt, "switch", &mut SwitchBench::new(alloc)?)?;
-    tell(&rt, "outside", &mut OutsideBench::new(alloc)?)?;
-    tell(
-        &rt,
-        "disk",
-        &mut DiskBench::new(alloc, DiskFiles::new(&rt))?,
-    )?;
-    fs::remove_file(&rt, "kept.bin")?;
-    if StdSink::new(&rt).put(b"a line of the sink\n").is_err() {
+// The table of the switch.
+fn tell_switch<R: AllocGlobal + Files + Print>(rt: &R) -> Result<()> {
+    let mut bench = SwitchBench::new(rt.alloc())?;
+    tell(rt, "switch", &mut bench)
+}
+
+// The table of files and sinks in memory.
+fn tell_outside<R: AllocGlobal + Files + Print>(rt: &R) -> Result<()> {
+    let mut bench = OutsideBench::new(rt.alloc())?;
+    tell(rt, "outside", &mut bench)
+}
+
+// The table of files on the disk, of which the one that is saved is removed behind it.
+fn tell_disk<R: AllocGlobal + Files + Print>(rt: &R) -> Result<()> {
+    let mut bench = DiskBench::new(rt.alloc(), DiskFiles::new(rt))?;
+    tell(rt, "disk", &mut bench)?;
+    fs::remove_file(rt, "kept.bin")?;
+    Ok(())
+}
+
+// A line by the sink of the standard output.
+fn tell_sink<R: Print>(rt: &R) -> Result<()> {
+    if StdSink::new(rt).put(b"a line of the sink\n").is_err() {
         println!(rt; "the sink failed")?;
     }
     Ok(())
+}
+
+fn main(rt: HostRuntime) -> Result<()> {
+    tell_messages(&rt)?;
+    tell_packets(&rt)?;
+    tell_switch(&rt)?;
+    tell_outside(&rt)?;
+    tell_disk(&rt)?;
+    tell_sink(&rt)
 }

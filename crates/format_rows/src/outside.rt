@@ -2,7 +2,7 @@ use crate::disk::DiskBench;
 use anyhow::{Result, bail};
 use ec_fields::Rows;
 use ec_outside::{MemFiles, MemSink, Sink, SureSink};
-use row_table::{Bench, digits_of, octets_in};
+use row_table::{Bench, Words, digits_of};
 use std::alloc::Global;
 
 /// Files and sinks in memory.
@@ -40,44 +40,51 @@ impl OutsideBench {
         }
     }
 
-    // A call of the sinks, or a file as it stands.
-    fn told(&mut self, alloc: Global, call: &str, text: &str) -> Result<String> {
+    // Files of which these calls fail.
+    fn set_files(&mut self, alloc: Global, text: &str) -> Result<String> {
+        let files = MemFiles::new(alloc, numbers(alloc, text)?);
+        self.disk = DiskBench::new(alloc, files)?;
+        Ok(format!(in alloc; "new")?)
+    }
+
+    // A sink of which these calls fail.
+    fn set_sink(&mut self, alloc: Global, text: &str) -> Result<String> {
+        self.sink = MemSink::new(alloc, numbers(alloc, text)?);
+        Ok(format!(in alloc; "new")?)
+    }
+
+    // One more file.
+    fn add(&mut self, alloc: Global, name: &str, bytes: &[u8]) -> Result<String> {
+        self.disk.files.add(name, bytes)?;
+        Ok(format!(in alloc; "added")?)
+    }
+
+    // What is found for a call of the sinks.
+    fn called(&mut self, alloc: Global, call: &str, asked: &mut Words<'_>) -> Result<String> {
         match call {
-            "get" => self.file(alloc, text),
-            "put" => {
-                let put = self.sink.put(octets_in(alloc, text)?.bytes());
-                Ok(format!(in alloc; "{put:?}")?)
-            }
-            "put_surely" => {
-                let put = self.sure.put(octets_in(alloc, text)?.bytes());
-                Ok(format!(in alloc; "{put:?}")?)
-            }
-            "sink" => {
-                self.sink = MemSink::new(alloc, numbers(alloc, text)?);
-                Ok(format!(in alloc; "new")?)
-            }
-            "files" => {
-                let files = MemFiles::new(alloc, numbers(alloc, text)?);
-                self.disk = DiskBench::new(alloc, files)?;
-                Ok(format!(in alloc; "new")?)
-            }
-            _ => bail!("no call: {call}"),
+            "sink" => self.set_sink(alloc, asked.word()?),
+            "put" => put(alloc, &mut self.sink, asked.octets(alloc)?.bytes()),
+            "put_surely" => put(alloc, &mut self.sure, asked.octets(alloc)?.bytes()),
+            "written" => digits_of(alloc, self.sink.bytes()),
+            "surely_written" => digits_of(alloc, self.sure.bytes()),
+            _ => self.disk.called(alloc, call, asked),
         }
     }
 }
 
+// Whether a sink takes octets.
+fn put<S: Sink>(alloc: Global, sink: &mut S, bytes: &[u8]) -> Result<String> {
+    let put = sink.put(bytes);
+    Ok(format!(in alloc; "{put:?}")?)
+}
+
 impl Bench for OutsideBench {
-    fn found(&mut self, alloc: Global, asked: &str) -> Result<String> {
-        let mut words = asked.split(' ');
-        match (words.next(), words.next(), words.next()) {
-            (Some("written"), None, None) => digits_of(alloc, self.sink.bytes()),
-            (Some("surely_written"), None, None) => digits_of(alloc, self.sure.bytes()),
-            (Some("add"), Some(name), Some(text)) => {
-                self.disk.files.add(name, octets_in(alloc, text)?.bytes())?;
-                Ok(format!(in alloc; "added")?)
-            }
-            (Some(call), Some(text), None) => self.told(alloc, call, text),
-            _ => self.disk.found(alloc, asked),
+    fn found(&mut self, alloc: Global, asked: &mut Words<'_>) -> Result<String> {
+        match asked.word()? {
+            "files" => self.set_files(alloc, asked.word()?),
+            "get" => self.file(alloc, asked.word()?),
+            "add" => self.add(alloc, asked.word()?, asked.octets(alloc)?.bytes()),
+            call => self.called(alloc, call, asked),
         }
     }
 }

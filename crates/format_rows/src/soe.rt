@@ -2,7 +2,7 @@ ghost use Rattle.std.specs.Prelude.{◌≤◌, length};
 
 use anyhow::{Result, bail};
 use arrayvec::ArrayVec;
-use row_table::{Bench, digits_of, octets_in};
+use row_table::{Bench, Words, digits_of};
 use soe_codec::{read, write};
 use std::alloc::Global;
 
@@ -22,22 +22,25 @@ fn written_back(alloc: Global, octets: &[u8]) -> Result<String>
     digits_of(alloc, body.as_slice())
 }
 
+// What a body reads as.
+fn read_as(alloc: Global, octets: &[u8]) -> Result<String>
+    requires { length octets.now ≤ 1480 }
+{
+    let message = read(octets);
+    Ok(format!(in alloc; "{message:?}")?)
+}
+
 impl Bench for SoeBench {
-    fn found(&mut self, alloc: Global, asked: &str) -> Result<String> {
-        let Some((call, text)) = asked.split_once(' ') else {
-            bail!("no call: {asked}");
-        };
-        let octets = octets_in(alloc, text)?;
+    fn found(&mut self, alloc: Global, asked: &mut Words<'_>) -> Result<String> {
+        let call = asked.word()?;
+        let octets = asked.octets(alloc)?;
         if octets.len() > 1480 {
-            bail!("too long: {asked}");
+            bail!("too long");
         }
         match call {
-            "read" => {
-                let message = read(octets.bytes());
-                Ok(format!(in alloc; "{message:?}")?)
-            }
+            "read" => read_as(alloc, octets.bytes()),
             "back" => written_back(alloc, octets.bytes()),
-            _ => bail!("no call: {asked}"),
+            _ => bail!("no call: {call}"),
         }
     }
 }

@@ -4,7 +4,7 @@ use anyhow::{Result, bail};
 use ec_fields::buffer_of;
 use eoe::Packet;
 use eoe_switch::Switch;
-use row_table::{Bench, digits_of, octets_in};
+use row_table::{Bench, Words, digits_of};
 use std::alloc::Global;
 use std::marker::Model;
 
@@ -27,12 +27,12 @@ impl Model for SwitchBench {
 }
 
 // A packet of at least 14 octets.
-fn packet_in(alloc: Global, text: &str) -> Result<Packet>
+fn packet_in(alloc: Global, asked: &mut Words<'_>) -> Result<Packet>
     ensures { IfOk result (λ packet. 14 ≤ length packet.items) }
 {
-    let octets = octets_in(alloc, text)?;
+    let octets = asked.octets(alloc)?;
     if octets.len() < 14 || octets.len() > 1514 {
-        bail!("no packet: {text}");
+        bail!("no packet");
     }
     Ok(buffer_of(octets.bytes()))
 }
@@ -55,8 +55,9 @@ impl SwitchBench {
     }
 
     // The ports that take a packet and those that drop it, as sums of powers of two.
-    fn arrive(&mut self, alloc: Global, port: u32, text: &str) -> Result<String> {
-        let packet = packet_in(alloc, text)?;
+    fn arrive(&mut self, alloc: Global, asked: &mut Words<'_>) -> Result<String> {
+        let port = asked.number()?;
+        let packet = packet_in(alloc, asked)?;
         if port >= self.ports {
             bail!("no such port");
         }
@@ -84,21 +85,23 @@ impl SwitchBench {
             None => Ok(format!(in alloc; "none")?),
         }
     }
+
+    // How many packets wait at a port.
+    fn waiting(&self, alloc: Global, port: u32) -> Result<String> {
+        let waiting = self.switch.waiting(port);
+        Ok(format!(in alloc; "{waiting}")?)
+    }
 }
 
 impl Bench for SwitchBench {
-    fn found(&mut self, alloc: Global, asked: &str) -> Result<String> {
-        let mut words = asked.split(' ');
-        match (words.next(), words.next(), words.next()) {
-            (Some("new"), Some(ports), None) => self.begin(alloc, ports.parse()?),
-            (Some("arrive"), Some(port), Some(text)) => self.arrive(alloc, port.parse()?, text),
-            (Some("down"), Some(port), None) => self.down(alloc, port.parse()?),
-            (Some("begun"), Some(port), None) => self.begun(alloc, port.parse()?),
-            (Some("waiting"), Some(port), None) => {
-                let waiting = self.switch.waiting(port.parse()?);
-                Ok(format!(in alloc; "{waiting}")?)
-            }
-            _ => bail!("no call: {asked}"),
+    fn found(&mut self, alloc: Global, asked: &mut Words<'_>) -> Result<String> {
+        match asked.word()? {
+            "new" => self.begin(alloc, asked.number()?),
+            "arrive" => self.arrive(alloc, asked),
+            "down" => self.down(alloc, asked.number()?),
+            "begun" => self.begun(alloc, asked.number()?),
+            "waiting" => self.waiting(alloc, asked.number()?),
+            call => bail!("no call: {call}"),
         }
     }
 }

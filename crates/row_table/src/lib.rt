@@ -3,6 +3,8 @@
 
 mod octets;
 mod table;
+mod words;
 
 pub use octets::{digits_of, octets_in};
 pub use table::{Bench, tell};
+pub use words::Words;

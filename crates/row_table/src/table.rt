@@ -1,3 +1,4 @@
+use crate::words::Words;
 use anyhow::{Result, bail};
 use std::alloc::Global;
 use std::fs;
@@ -6,7 +7,20 @@ use std::rt::Files;
 /// What the rows of a table are asked of, one behind the other.
 pub trait Bench {
     /// What is found for a row.
-    fn found(&mut self, alloc: Global, asked: &str) -> Result<String>;
+    fn found(&mut self, alloc: Global, asked: &mut Words<'_>) -> Result<String>;
+}
+
+// What is wrong with a row, if it doesn't hold.
+fn wrong_at<B: Bench>(alloc: Global, line: &str, bench: &mut B) -> Result<Option<String>> {
+    let Some((asked, wanted)) = line.split_once(" = ") else {
+        bail!("no row: {line}");
+    };
+    let mut words = Words::of(asked);
+    let found = bench.found(alloc, &mut words)?;
+    if found.as_str() == wanted && words.is_read() {
+        return Ok(None);
+    }
+    Ok(Some(format!(in alloc; "{asked}: {found} and not {wanted}")?))
 }
 
 // How many rows of a table hold, or the first that doesn't.
@@ -16,12 +30,8 @@ fn told<B: Bench>(alloc: Global, name: &str, table: &str, bench: &mut B) -> Resu
         if line.starts_with('#') {
             continue;
         }
-        let Some((asked, wanted)) = line.split_once(" = ") else {
-            bail!("no row: {line}");
-        };
-        let found = bench.found(alloc, asked)?;
-        if found.as_str() != wanted {
-            return Ok(format!(in alloc; "{name}: {asked}: {found} and not {wanted}")?);
+        if let Some(wrong) = wrong_at(alloc, line, bench)? {
+            return Ok(format!(in alloc; "{name}: {wrong}")?);
         }
         count = count.saturating_add(1);
     }

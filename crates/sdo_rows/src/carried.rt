@@ -2,7 +2,7 @@ use crate::stage::Stage;
 use anyhow::{Result, bail};
 use ec_fields::{Octets, Rows};
 use object_dictionary::{EntrySpec, Objects, SdoService};
-use row_table::{Bench, digits_of, octets_in};
+use row_table::{Bench, Words, digits_of, octets_in};
 use std::alloc::Global;
 
 /// A client and a server over a dictionary with two strings of 8,000 octets at 2003, one of 1 to 8,000 at 2002:01 and one of 1 at 2002:02.
@@ -60,9 +60,8 @@ impl CarriedBench {
     }
 
     // A service's reply, and by how many mails, where its value is this.
-    fn carry(&mut self, alloc: Global, service: SdoService, text: &str) -> Result<String> {
+    fn carry(&mut self, alloc: Global, service: SdoService, value: &Octets) -> Result<String> {
         let course = self.stage.carry(alloc, &service)?;
-        let value = octets_in(alloc, text)?;
         let (kind, mails) = (course.kind, course.mails);
         if course.value.bytes() != value.bytes() {
             let digits = digits_of(alloc, course.value.bytes())?;
@@ -72,29 +71,44 @@ impl CarriedBench {
     }
 }
 
+impl CarriedBench {
+    // A service that brings a value.
+    fn bring(&mut self, alloc: Global, asked: &mut Words<'_>, all: bool) -> Result<String> {
+        let (index, sub) = (asked.short()?, asked.small()?);
+        let bytes = asked.octets(alloc)?;
+        let service = if all {
+            SdoService::DownloadAll {
+                index,
+                from: sub,
+                bytes,
+            }
+        } else {
+            SdoService::Download { index, sub, bytes }
+        };
+        self.carry(alloc, service, &Octets::new(alloc))
+    }
+
+    // A service that fetches a value.
+    fn fetch(&mut self, alloc: Global, asked: &mut Words<'_>, all: bool) -> Result<String> {
+        let (index, sub) = (asked.short()?, asked.small()?);
+        let value = asked.octets(alloc)?;
+        let service = if all {
+            SdoService::UploadAll { index, from: sub }
+        } else {
+            SdoService::Upload { index, sub }
+        };
+        self.carry(alloc, service, &value)
+    }
+}
+
 impl Bench for CarriedBench {
-    fn found(&mut self, alloc: Global, asked: &str) -> Result<String> {
-        let mut words = asked.split(' ');
-        match (words.next(), words.next(), words.next(), words.next()) {
-            (Some("download"), Some(index), Some(sub), Some(text)) => {
-                let (index, sub) = (index.parse()?, sub.parse()?);
-                let bytes = octets_in(alloc, text)?;
-                self.carry(alloc, SdoService::Download { index, sub, bytes }, "-")
-            }
-            (Some("upload"), Some(index), Some(sub), Some(text)) => {
-                let (index, sub) = (index.parse()?, sub.parse()?);
-                self.carry(alloc, SdoService::Upload { index, sub }, text)
-            }
-            (Some("download_all"), Some(index), Some(from), Some(text)) => {
-                let (index, from) = (index.parse()?, from.parse()?);
-                let bytes = octets_in(alloc, text)?;
-                self.carry(alloc, SdoService::DownloadAll { index, from, bytes }, "-")
-            }
-            (Some("upload_all"), Some(index), Some(from), Some(text)) => {
-                let (index, from) = (index.parse()?, from.parse()?);
-                self.carry(alloc, SdoService::UploadAll { index, from }, text)
-            }
-            _ => bail!("no call: {asked}"),
+    fn found(&mut self, alloc: Global, asked: &mut Words<'_>) -> Result<String> {
+        match asked.word()? {
+            "download" => self.bring(alloc, asked, false),
+            "download_all" => self.bring(alloc, asked, true),
+            "upload" => self.fetch(alloc, asked, false),
+            "upload_all" => self.fetch(alloc, asked, true),
+            call => bail!("no call: {call}"),
         }
     }
 }

@@ -1,10 +1,13 @@
+ghost use Rattle.std.specs.Prelude.{◌≡◌, true};
+ghost use Rattle.coe_client.specs.Talk.{is_replied};
+
 use anyhow::{Result, bail};
 use arrayvec::ArrayVec;
 use coe_client::CoeClient;
 use ec_fields::{Octets, buffer_of};
 use mailbox_mail::{Kind, Mail, ReplyKind, Took};
 use object_dictionary::SdoService;
-use row_table::{Bench, digits_of, octets_in};
+use row_table::{Bench, Words, digits_of};
 use std::alloc::Global;
 
 /// A client that is told what comes.
@@ -24,6 +27,16 @@ fn told_of(alloc: Global, reply: ReplyKind, value: &[u8]) -> Result<String> {
     }
 }
 
+// The reply of a service that ended.
+fn ended_of(alloc: Global, client: &CoeClient) -> Result<String>
+    requires { is_replied client.now.awaits ≡ true }
+{
+    let reply = client.reply();
+    let mut value = Octets::new(alloc);
+    client.value(&mut value)?;
+    told_of(alloc, reply, value.bytes())
+}
+
 impl ClientBench {
     /// A client through mailboxes of 64 octets.
     pub fn new(alloc: Global) -> Result<ClientBench> {
@@ -32,8 +45,9 @@ impl ClientBench {
     }
 
     // A download of an entry.
-    fn download(&mut self, alloc: Global, index: u16, sub: u8, text: &str) -> Result<String> {
-        let bytes = octets_in(alloc, text)?;
+    fn download(&mut self, alloc: Global, asked: &mut Words<'_>) -> Result<String> {
+        let (index, sub) = (asked.short()?, asked.small()?);
+        let bytes = asked.octets(alloc)?;
         if bytes.len() > 16_384 {
             bail!("a value of more octets");
         }
@@ -42,13 +56,22 @@ impl ClientBench {
         Ok(format!(in alloc; "begun")?)
     }
 
-    // A service that asks.
-    fn begin(&mut self, alloc: Global, service: SdoService) -> Result<String> {
-        if !matches!(service, SdoService::Upload { .. } | SdoService::List { .. }) {
-            bail!("no service that asks");
-        }
-        self.client.start(&service);
+    // A list of objects.
+    fn list(&mut self, alloc: Global, kind: u16) -> Result<String> {
+        self.client.start(&SdoService::List { kind });
         Ok(format!(in alloc; "begun")?)
+    }
+
+    // An upload of an entry.
+    fn upload(&mut self, alloc: Global, index: u16, sub: u8) -> Result<String> {
+        self.client.start(&SdoService::Upload { index, sub });
+        Ok(format!(in alloc; "begun")?)
+    }
+
+    // A new client in its place.
+    fn renew(&mut self, alloc: Global) -> Result<String> {
+        *self = ClientBench::new(alloc)?;
+        Ok(format!(in alloc; "new")?)
     }
 
     // The one mail that goes, by its length and its first octets.
@@ -68,61 +91,46 @@ impl ClientBench {
     }
 
     // What a mail is to the client, and where it ends the service and is asked for, the reply.
-    fn take(&mut self, alloc: Global, text: &str, told: bool) -> Result<String> {
-        let octets = octets_in(alloc, text)?;
-        if octets.len() > 1480 {
-            bail!("no mail: {text}");
-        }
-        let mail = Mail {
-            address: 0,
-            kind: Kind::CoE,
-            counter: 1,
-            body: buffer_of(octets.bytes()),
-        };
-        let took = self.client.take(&mail);
+    fn take(&mut self, alloc: Global, octets: &[u8], told: bool) -> Result<String> {
+        let took = self.client.take(&mail_of(octets)?);
         match took {
-            Took::Done if told => {
-                let reply = self.client.reply();
-                let mut value = Octets::new(alloc);
-                self.client.value(&mut value)?;
-                told_of(alloc, reply, value.bytes())
-            }
+            Took::Done if told => ended_of(alloc, &self.client),
             _ => Ok(format!(in alloc; "{took:?}")?),
         }
     }
 }
 
+// A mail of CoE.
+fn mail_of(octets: &[u8]) -> Result<Mail> {
+    if octets.len() > 1480 {
+        bail!("no mail");
+    }
+    Ok(Mail {
+        address: 0,
+        kind: Kind::CoE,
+        counter: 1,
+        body: buffer_of(octets),
+    })
+}
+
+// A word for a fact.
+fn said(alloc: Global, holds: bool) -> Result<String> {
+    Ok(format!(in alloc; "{holds}")?)
+}
+
 impl Bench for ClientBench {
-    fn found(&mut self, alloc: Global, asked: &str) -> Result<String> {
-        let mut words = asked.split(' ');
-        match (words.next(), words.next(), words.next(), words.next()) {
-            (Some("new"), None, None, None) => {
-                *self = ClientBench::new(alloc)?;
-                Ok(format!(in alloc; "new")?)
-            }
-            (Some("has_next"), None, None, None) => {
-                let has = self.client.has_next();
-                Ok(format!(in alloc; "{has}")?)
-            }
-            (Some("is_done"), None, None, None) => {
-                let done = self.client.is_done();
-                Ok(format!(in alloc; "{done}")?)
-            }
-            (Some("send"), Some(head), None, None) => self.send(alloc, head.parse()?),
-            (Some("take"), Some(text), None, None) => self.take(alloc, text, false),
-            (Some("end"), Some(text), None, None) => self.take(alloc, text, true),
-            (Some("list"), Some(kind), None, None) => {
-                let kind = kind.parse()?;
-                self.begin(alloc, SdoService::List { kind })
-            }
-            (Some("upload"), Some(index), Some(sub), None) => {
-                let (index, sub) = (index.parse()?, sub.parse()?);
-                self.begin(alloc, SdoService::Upload { index, sub })
-            }
-            (Some("download"), Some(index), Some(sub), Some(text)) => {
-                self.download(alloc, index.parse()?, sub.parse()?, text)
-            }
-            _ => bail!("no call: {asked}"),
+    fn found(&mut self, alloc: Global, asked: &mut Words<'_>) -> Result<String> {
+        match asked.word()? {
+            "new" => self.renew(alloc),
+            "has_next" => said(alloc, self.client.has_next()),
+            "is_done" => said(alloc, self.client.is_done()),
+            "send" => self.send(alloc, asked.count()?),
+            "take" => self.take(alloc, asked.octets(alloc)?.bytes(), false),
+            "end" => self.take(alloc, asked.octets(alloc)?.bytes(), true),
+            "list" => self.list(alloc, asked.short()?),
+            "upload" => self.upload(alloc, asked.short()?, asked.small()?),
+            "download" => self.download(alloc, asked),
+            call => bail!("no call: {call}"),
         }
     }
 }

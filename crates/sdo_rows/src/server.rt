@@ -3,7 +3,7 @@ use anyhow::{Result, bail};
 use arrayvec::ArrayVec;
 use coe_server::CoeServer;
 use mailbox_mail::Kind;
-use row_table::{Bench, digits_of, octets_in};
+use row_table::{Bench, Words, digits_of};
 use std::alloc::Global;
 
 /// A server through mailboxes of 64 octets, over one entry and the emergency's.
@@ -38,25 +38,23 @@ impl ServerBench {
     }
 
     // Whether a mail counts as a service, and the body of its answer.
-    fn take(&mut self, alloc: Global, text: &str) -> Result<String> {
-        let octets = octets_in(alloc, text)?;
+    fn take(&mut self, alloc: Global, octets: &[u8]) -> Result<String> {
         if octets.len() > 1480 {
-            bail!("no mail: {text}");
+            bail!("no mail");
         }
-        let counts = self.server.take(&mut self.objects, 2, octets.bytes());
+        let counts = self.server.take(&mut self.objects, 2, octets);
         let answer = self.next(alloc)?;
         Ok(format!(in alloc; "{counts} {answer}")?)
     }
 }
 
 impl Bench for ServerBench {
-    fn found(&mut self, alloc: Global, asked: &str) -> Result<String> {
-        let mut words = asked.split(' ');
-        match (words.next(), words.next()) {
-            (Some("take"), Some(text)) => self.take(alloc, text),
-            (Some("next"), None) => self.next(alloc),
-            (Some("stored"), None) => digits_of(alloc, self.objects.bytes.as_slice()),
-            _ => bail!("no call: {asked}"),
+    fn found(&mut self, alloc: Global, asked: &mut Words<'_>) -> Result<String> {
+        match asked.word()? {
+            "take" => self.take(alloc, asked.octets(alloc)?.bytes()),
+            "next" => self.next(alloc),
+            "stored" => digits_of(alloc, self.objects.bytes.as_slice()),
+            call => bail!("no call: {call}"),
         }
     }
 }

@@ -2,7 +2,7 @@ use anyhow::{Result, bail};
 use arrayvec::ArrayVec;
 use coe_values::{Slot, Values};
 use ec_fields::Transfer;
-use row_table::{Bench, digits_of};
+use row_table::{Bench, Words, digits_of};
 use std::alloc::Global;
 
 /// The two values of a server, whose memory they share.
@@ -38,10 +38,10 @@ fn rounds(alloc: Global, count: u32) -> Result<String> {
 }
 
 impl Bench for ValueBench {
-    fn found(&mut self, alloc: Global, asked: &str) -> Result<String> {
-        match asked.split_once(' ') {
-            Some(("rounds", count)) => rounds(alloc, count.parse()?),
-            _ => bail!("no call: {asked}"),
+    fn found(&mut self, alloc: Global, asked: &mut Words<'_>) -> Result<String> {
+        match asked.word()? {
+            "rounds" => rounds(alloc, asked.number()?),
+            call => bail!("no call: {call}"),
         }
     }
 }
