@@ -1,0 +1,14 @@
+//! A slave against frames from outside, octet by octet, by a table of rows.
+#![tactic(auto)]
+
+mod quiet;
+mod words;
+
+use anyhow::Result;
+use row_table::tell;
+use words::NodeBench;
+
+fn main(rt: HostRuntime) -> Result<()> {
+    let mut bench = NodeBench::new(rt.alloc())?;
+    tell(&rt, "words", &mut bench)
+}
