@@ -20,12 +20,22 @@ struct Lines {
     failing: Rows<u64>,
 }
 
-// A datagram of a peer, in hexadecimal digits.
-fn gram_in(alloc: Global, ip: &str, port: &str, digits: &str) -> Result<PortItem> {
+// The address and the port of a peer, and the digits behind them.
+fn peer_in(text: &str) -> Result<(Peer, &str)> {
+    let Some((ip, text)) = text.split_once(' ') else {
+        bail!("no port");
+    };
+    let (port, digits) = text.split_once(' ').unwrap_or((text, ""));
     let from = Peer {
         ip: ip.parse()?,
         port: port.parse()?,
     };
+    Ok((from, digits))
+}
+
+// A datagram of a peer, in hexadecimal digits.
+fn gram_in(alloc: Global, text: &str) -> Result<PortItem> {
+    let (from, digits) = peer_in(text)?;
     let octets = hex::decode(alloc, digits)?;
     let bytes = Octets::copy_of(alloc, octets.as_slice())?;
     Ok(PortItem::Gram { from, bytes })
@@ -33,15 +43,11 @@ fn gram_in(alloc: Global, ip: &str, port: &str, digits: &str) -> Result<PortItem
 
 // Reads a line: `count NUMBER`, `fail NUMBER`, `gram IP PORT DIGITS` or `pause`.
 fn read_line(alloc: Global, line: &str, lines: &mut Lines) -> Result<()> {
-    let mut words = line.split_whitespace();
-    match (words.next(), words.next(), words.next(), words.next()) {
-        (Some("count"), Some(number), None, None) => lines.count = number.parse()?,
-        (Some("fail"), Some(number), None, None) => lines.failing.add(number.parse()?)?,
-        (Some("gram"), Some(ip), Some(port), digits) => {
-            let item = gram_in(alloc, ip, port, digits.unwrap_or(""))?;
-            lines.items.add(item)?;
-        }
-        (Some("pause"), None, None, None) => lines.items.add(PortItem::Pause)?,
+    match line.split_once(' ') {
+        Some(("count", number)) => lines.count = number.parse()?,
+        Some(("fail", number)) => lines.failing.add(number.parse()?)?,
+        Some(("gram", text)) => lines.items.add(gram_in(alloc, text)?)?,
+        None if line == "pause" => lines.items.add(PortItem::Pause)?,
         _ => bail!("no line of a port: {line}"),
     }
     Ok(())

@@ -20,30 +20,41 @@ struct Lines {
     failing: Rows<u64>,
 }
 
-// A datagram of a peer, in hexadecimal digits.
-fn gram_in(alloc: Global, ip: &str, port: &str, digits: &str) -> Result<PortItem> {
+// The address and the port of a peer, and the digits behind them.
+fn peer_in(text: &str) -> Result<(Peer, &str)> {
+    let Some((ip, text)) = text.split_once(' ') else {
+        bail!("no port");
+    };
+    let (port, digits) = text.split_once(' ').unwrap_or((text, ""));
     let from = Peer {
         ip: ip.parse()?,
         port: port.parse()?,
     };
+    Ok((from, digits))
+}
+
+// A datagram of a peer, in hexadecimal digits.
+fn gram_in(alloc: Global, text: &str) -> Result<PortItem> {
+    let (from, digits) = peer_in(text)?;
     let octets = hex::decode(alloc, digits)?;
     let bytes = Octets::copy_of(alloc, octets.as_slice())?;
     Ok(PortItem::Gram { from, bytes })
 }
 
+// Adds a file by its name and its octets, in hexadecimal digits.
+fn add_file(alloc: Global, text: &str, files: &mut MemFiles) -> Result<()> {
+    let (name, digits) = text.split_once(' ').unwrap_or((text, ""));
+    let octets = hex::decode(alloc, digits)?;
+    files.add(name, octets.as_slice())?;
+    Ok(())
+}
+
 // Reads a line that isn't a word of the call: `file NAME DIGITS`, `fail NUMBER` or `gram IP PORT DIGITS`.
 fn read_other(alloc: Global, line: &str, lines: &mut Lines) -> Result<()> {
-    let mut words = line.split_whitespace();
-    match (words.next(), words.next(), words.next(), words.next()) {
-        (Some("file"), Some(name), digits, None) => {
-            let octets = hex::decode(alloc, digits.unwrap_or(""))?;
-            lines.files.add(name, octets.as_slice())?;
-        }
-        (Some("fail"), Some(number), None, None) => lines.failing.add(number.parse()?)?,
-        (Some("gram"), Some(ip), Some(port), digits) => {
-            let item = gram_in(alloc, ip, port, digits.unwrap_or(""))?;
-            lines.items.add(item)?;
-        }
+    match line.split_once(' ') {
+        Some(("file", text)) => add_file(alloc, text, &mut lines.files)?,
+        Some(("fail", number)) => lines.failing.add(number.parse()?)?,
+        Some(("gram", text)) => lines.items.add(gram_in(alloc, text)?)?,
         _ => bail!("no line of a call: {line}"),
     }
     Ok(())
