@@ -78,7 +78,8 @@ without_one h (Ask.WriteRequest bit) true = inl refl
 without_one h Ask.ReadAcknowledge true = inl refl
 without_one h Ask.Other true = inl refl
 
-without : {M : Type 0} (station : ℕ) (h : Halves M) (gs : List (Gram M)) → ((halves_without station h gs).inn.state ≡ h.inn.state) ⊎ ((halves_without station h gs).inn.state ≡ InState.Doubt)
+-- a lost frame leaves the inward half or breaks it
+pub without : {M : Type 0} (station : ℕ) (h : Halves M) (gs : List (Gram M)) → ((halves_without station h gs).inn.state ≡ h.inn.state) ⊎ ((halves_without station h gs).inn.state ≡ InState.Doubt)
 without station h [] = inl refl
 without {M} station h (g ∷ gs) = go (without_one h g.ask (g.station == station)) (without station (if g.station == station then halves_lost h g.ask else h) gs)
   where

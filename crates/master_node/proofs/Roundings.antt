@@ -1,18 +1,39 @@
 -- THE VISITS OF A FRAME, one after the other, whatever a visit keeps of the slaves.
-use Rattle.std.proofs.Common.{◌≡◌, ◌⊎◌, inl, inr, ◌<◌, ◌≤◌, ◌+◌, ℕ, zero, suc, Bool, true, false, Option, List, [], ◌∷◌, ◌++◌, refl, sym, ap, ◌∙◌, subst, arith, length}
+use Rattle.std.proofs.Common.{◌≡◌, ◌⊎◌, inl, inr, ◌<◌, ◌≤◌, ◌+◌, ℕ, zero, suc, Bool, true, false, Option, Some, None, List, [], ◌∷◌, ◌++◌, refl, sym, ap, ◌∙◌, subst, arith, length}
 use Rattle.std.specs.Prelude.{nat_lt}
 use Rattle.std.specs.List.{list_any}
 use Rattle.std.proofs.lemmas.Bool.{lt-ltb, le-ltb}
 use Rattle.life_runs.specs.Led.{Leads}
-use Rattle.master_tour.specs.Goes.{is_live, holds_at, BeginsLive}
+use Rattle.master_tour.specs.Goes.{is_live, holds_at, BeginsLive, Passes}
 use Rattle.master_tour.specs.Made.{is_in}
 use Rattle.master_tour.specs.Orders.{visits_left, AreOnce, IsNextOf, IsCarried}
 use Rattle.master_node.specs.Kept.{TourOn}
 use Rattle.master_node.specs.Passes.{BeginsFrame, EndsFrame}
 use Rattle.master_node.specs.Shows.{HoldsFirst, IsAlone, ComeAgain, is_live_lead}
 use Rattle.master_node.specs.declared.node.MasterNode.{MasterNode}
-use Rattle.master_node.proofs.Filleds.{NoneYet, SameTour}
 use Rattle.master_node.proofs.Lefts.{true_false, without, without_not, without_fewer, without_other, below, below_in, in_first, in_last, in_more, not_in, once_more, left_alone}
+
+-- where the tour stands, but for the visits that were passed
+pub record SameTour (m n : MasterNode) : Type 0 where
+  pub stops : n.tour.stops ≡ m.tour.stops
+  pub count : n.tour.count ≡ m.tour.count
+  pub again : n.tour.again ≡ m.tour.again
+  pub visit : n.tour.visit ≡ m.tour.visit
+  pub opened : n.tour.opened ≡ m.tour.opened
+  pub last : n.tour.last ≡ m.tour.last
+  pub made : n.made ≡ m.made
+  pub posts : n.posts ≡ m.posts
+  pub list : n.list ≡ m.list
+  pub lan : n.lan ≡ m.lan
+
+-- before any datagram stands in the frame
+pub record NoneYet (m : MasterNode) (octets : List ℕ) (as' : List Leads) : Type 0 where
+  pub count : m.tour.count ≡ 0
+  pub passed : m.tour.passed ≡ 0
+  pub short : length octets ≡ 16
+  pub begins : BeginsLive (λ s. is_live s.stand) m.tour.again m.tour.visit.items m.tour.opened m.tour.stops.items
+  pub some : list_any (λ s. is_live s.stand) m.tour.stops.items ≡ true
+  pub lives : (k : ℕ) → holds_at (λ s. is_live s.stand) m.tour.stops.items k ≡ holds_at is_live_lead as' k
 
 -- BEHIND SO MANY VISITS
 pub record Rounds (as' : List Leads) (F : List ℕ → MasterNode → List ℕ → Type 0) (n : ℕ) (m : MasterNode) (octets : List ℕ) : Type 0 where
@@ -250,3 +271,23 @@ module _ (as' : List Leads) (F : List ℕ → MasterNode → List ℕ → Type 0
           comes = subst (λ z. ComeAgain is_live_lead z.items m2.tour.opened as') (sym (visit ∙ k.visit)) (subst (λ z. ComeAgain is_live_lead m.tour.visit.items z as') (sym opened2) (record { once = f.once; first = f.first l; alone = f.alone }));
         };
       }
+
+-- one step after the other
+pub on_same : (m : MasterNode) → TourOn m m
+on_same m = record { again = refl; opened = refl; last = refl; missed = refl; retry = refl; made = refl }
+
+pub on_on : (m n o : MasterNode) → TourOn m n → TourOn n o → TourOn m o
+on_on m n o a b = record { again = b.again ∙ a.again; opened = b.opened ∙ a.opened; last = b.last ∙ a.last; missed = b.missed ∙ a.missed; retry = b.retry ∙ a.retry; made = b.made ∙ a.made }
+
+-- a place that passes is one
+pub passes_some : {S : Type 0} (test : S → Bool) (ss : List S) (o : Option ℕ) → o ≡ None → Passes test ss o → ⊥
+passes_some test ss None e p = p
+passes_some test ss (Some k) e p = cc
+
+pub passes_at : {S : Type 0} (test : S → Bool) (ss : List S) (o : Option ℕ) (k : ℕ) → o ≡ Some k → Passes test ss o → holds_at test ss k ≡ true
+passes_at test ss None k e p = absurd p
+passes_at test ss (Some j) k e p = let f : j ≡ k = cc in subst (λ z. holds_at test ss z ≡ true) f p
+
+pub some_count : (n : ℕ) → (n ≡ 0 → ⊥) → 1 ≤ n
+some_count zero h = absurd (h refl)
+some_count (suc n) h = omega arith

@@ -35,7 +35,7 @@ use Rattle.master_node.specs.Rooms.{FitAgain}
 use Rattle.master_node.specs.Shows.{GoesOn, lived_of, side_shows}
 use Rattle.master_node.specs.declared.node.MasterNode.{MasterNode}
 use Rattle.master_node.specs.declared.post.Post.{Post}
-use Rattle.master_node.proofs.Filleds.{SameTour}
+use Rattle.master_node.proofs.Roundings.{SameTour}
 use Rattle.master_node.proofs.Mailed as Mailed
 use Rattle.master_node.proofs.Mailed.{next_passing}
 use Rattle.master_node.proofs.Sents.{took_of, turns}

@@ -46,7 +46,7 @@ use Rattle.master_tour.specs.Orders.{last_behind}
 use Rattle.master_tour.specs.Toured.{goes_on, lost_on}
 use Rattle.master_node.specs.declared.node.MasterNode.{MasterNode}
 use Rattle.master_node.proofs.Leaves.{few_stops, leaves_none, leaves_one, leaves_out, left_of, none_left, visit_live}
-use Rattle.master_node.proofs.Filleds.{SameTour}
+use Rattle.master_node.proofs.Roundings.{SameTour}
 use Rattle.master_node.proofs.Lefts.{true_false, in_here, in_there, in_last, in_first, not_in}
 use Rattle.master_node.proofs.Lists.{steps_trans, steps_holds, both_holds, both_length}
 

@@ -12,6 +12,7 @@ use Rattle.task_model.specs.Accounts.{Pick}
 use Rattle.life_model.specs.Own.{own}
 use Rattle.life_model.specs.Lives.{Stand, Life, Spot, life_next, life_lost, gives_up, reopening}
 use Rattle.life_measure.specs.Tally.{broken}
+use Rattle.life_measure.proofs.Halving.{without}
 use Rattle.life_measure.specs.Repairs.{Way, way_of, stand_way, half_way, whole_way, StandsAt}
 use Rattle.run_frames.specs.Goes.{is_same}
 
@@ -39,7 +40,7 @@ pub is_same_way : (v w : Option Way) → w ≡ v → is_same v w ≡ true
 is_same_way v w e = ap (is_same v) e ∙ itself v
 
 -- WHAT COMES INTO HAND leaves it
-begins_same : {M Q R : Type 0} (x : Speech M Q R) (frame : ℕ) (d : Side M Q R) (now : Option (Row M Q R)) (begin : Option Q) → (side_begins x frame d now begin).halves.inn ≡ d.halves.inn
+pub begins_same : {M Q R : Type 0} (x : Speech M Q R) (frame : ℕ) (d : Side M Q R) (now : Option (Row M Q R)) (begin : Option Q) → (side_begins x frame d now begin).halves.inn ≡ d.halves.inn
 begins_same x frame d now None = refl
 begins_same x frame d None (Some q) = go (x.valid q)
   where
@@ -52,7 +53,7 @@ begins_same x frame d (Some r) (Some q) = go (x.valid q && is_over x d.halves.ou
     go true = refl
     go false = refl
 
-holds_same : {M Q R : Type 0} (d : Side M Q R) (ms : List M) → (side_holds d ms).halves.inn ≡ d.halves.inn
+pub holds_same : {M Q R : Type 0} (d : Side M Q R) (ms : List M) → (side_holds d ms).halves.inn ≡ d.halves.inn
 holds_same d [] = refl
 holds_same d (m ∷ ms) = refl
 
@@ -65,27 +66,6 @@ next_same x acknowledged more passed frame l Stand.Open pick = record {
 }
 
 -- A LOST FRAME
-without_one : {M : Type 0} (h : Halves M) (ask : Ask M) (b : Bool) → ((if b then halves_lost h ask else h).inn.state ≡ h.inn.state) ⊎ ((if b then halves_lost h ask else h).inn.state ≡ InState.Doubt)
-without_one h ask false = inl refl
-without_one h (Ask.WriteMail m) true = inl refl
-without_one h Ask.ReadMail true = inr refl
-without_one h (Ask.WriteRequest bit) true = inl refl
-without_one h Ask.ReadAcknowledge true = inl refl
-without_one h Ask.Other true = inl refl
-
-without : {M : Type 0} (station : ℕ) (h : Halves M) (gs : List (Gram M)) → ((halves_without station h gs).inn.state ≡ h.inn.state) ⊎ ((halves_without station h gs).inn.state ≡ InState.Doubt)
-without station h [] = inl refl
-without {M} station h (g ∷ gs) = go (without_one h g.ask (g.station == station)) (without station (if g.station == station then halves_lost h g.ask else h) gs)
-  where
-    k : Halves M
-    k = if g.station == station then halves_lost h g.ask else h
-
-    go : (k.inn.state ≡ h.inn.state) ⊎ (k.inn.state ≡ InState.Doubt) → ((halves_without station k gs).inn.state ≡ k.inn.state) ⊎ ((halves_without station k gs).inn.state ≡ InState.Doubt) →
-        ((halves_without station k gs).inn.state ≡ h.inn.state) ⊎ ((halves_without station k gs).inn.state ≡ InState.Doubt)
-    go (inl e) (inl f) = inl (f ∙ e)
-    go (inr e) (inl f) = inr (f ∙ e)
-    go e (inr f) = inr f
-
 -- what is broken takes no longer than a reopening, in a ring of any size
 pub record IsBroken {M Q R : Type 0} (m : Life M Q R) : Type 0 where
   pub whole : (slaves pace : ℕ) → whole_way slaves pace (way_of slaves pace m) ≤ broken slaves pace

@@ -1,4 +1,4 @@
-mod Access
+pub mod Access
 mod Answering
 mod Back
 mod Bringing

@@ -34,6 +34,7 @@ use Rattle.segment_ring.specs.Ring.{is_in_pace}
 use Rattle.segment_ring.specs.declared.wire.Fate.{Fate}
 use Rattle.segment_ring.specs.declared.wire.Fate.TheVariants.{Pass, Lost}
 use Rattle.run_frames.specs.Goes.{stepped_behind}
+use Rattle.run_frames.proofs.Access.{begins_same, holds_same}
 use Rattle.slave_lives.specs.Lived.{Behind, RingFrame, LivesEra, fate_of, is_reached, node_met, node_behind, frame_of, returned, IsForOpen}
 use Rattle.slave_lives.specs.Nodes.{stepped}
 use Rattle.slave_lives.specs.Opening.{Plan}
@@ -50,23 +51,6 @@ use Rattle.slave_clocks.specs.Stands.{Asked}
 use Rattle.slave_clocks.proofs.Ways.{clock_out}
 
 -- ---- what comes into hand leaves the inward half
-begins_same : {M Q R : Type 0} (x : Speech M Q R) (frame : ℕ) (d : Side M Q R) (now : Option (Row M Q R)) (begin : Option Q) → (side_begins x frame d now begin).halves.inn ≡ d.halves.inn
-begins_same x frame d now None = refl
-begins_same x frame d None (Some q) = go (x.valid q)
-  where
-    go : (b : Bool) → (if b then record d { now = Some (begun q frame) } else d).halves.inn ≡ d.halves.inn
-    go true = refl
-    go false = refl
-begins_same x frame d (Some r) (Some q) = go (x.valid q && is_over x d.halves.out.holding d.fresh r)
-  where
-    go : (b : Bool) → (if b then record d { past = d.past ++ r ∷ []; now = Some (begun q frame) } else d).halves.inn ≡ d.halves.inn
-    go true = refl
-    go false = refl
-
-holds_same : {M Q R : Type 0} (d : Side M Q R) (ms : List M) → (side_holds d ms).halves.inn ≡ d.halves.inn
-holds_same d [] = refl
-holds_same d (m ∷ ms) = refl
-
 next_inn : {M Q R : Type 0} (x : Speech M Q R) (frame : ℕ) (d : Side M Q R) (c : Choice Q) → (side_next x frame d c).halves.inn ≡ d.halves.inn
 next_inn x frame d c = let e = side_begins x frame d d.now c.begin in holds_same e (next_mail x e.now e.halves.out.holding c.hold) ∙ begins_same x frame d d.now c.begin
 

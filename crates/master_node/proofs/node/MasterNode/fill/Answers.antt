@@ -2,7 +2,7 @@ use Rattle.std.proofs.Common.{◌≡◌, ◌∙◌, ◌+◌, true, false, Bool, 
 use Rattle.std.specs.Prelude.{if◌then◌else◌}
 use Rattle.master_tour.specs.Goes.{is_live, holds_at}
 use Rattle.master_node.specs.Filling.{IsFilling}
-use Rattle.master_node.proofs.Filleds.{fills_first, fills_last, fills_same, fills_more, fills_still, on_same, on_on, passes_some, passes_at, some_count}
+use Rattle.master_node.proofs.Filleds.{fills_first, fills_last, fills_same, fills_more, fills_still}
 use Rattle.master_tour.specs.Walks.{EachPair}
 use Rattle.master_tour.proofs.Walks.{each_same}
 use Rattle.master_node.proofs.Lists.{each_trans}
@@ -14,7 +14,7 @@ use Rattle.master_node.proofs.Made.{makes_none, makes_then}
 use Rattle.std.specs.Prelude.{map}
 use Rattle.master_node.specs.Passes.{IsPassing}
 use Rattle.master_node.specs.Serving.{run_lead}
-use Rattle.master_node.proofs.Roundings.{rounds_first, rounds_last, rounds_more, rounds_same, rounds_still}
+use Rattle.master_node.proofs.Roundings.{rounds_first, rounds_last, rounds_more, rounds_same, rounds_still, on_same, on_on, passes_some, passes_at, some_count}
 use Rattle.master_node.proofs.ServedSents.{many_serve, passing_same}
 use Rattle.master_node.proofs.node.MasterNode.fill.Goals as goal
 
