@@ -40,6 +40,10 @@ impl MasterNode {
     ghost use Rattle.master_node.specs.Shows.{MasterShows, MasterUnder};
     ghost use Rattle.master_node.specs.Serving.{TellsOnly, ServedShows, ServedUnder, mails_in};
     ghost use Rattle.master_node.specs.Dropped.{Drops, gave_at};
+    ghost use Rattle.master_tour.specs.Orders.{AreOnce};
+    ghost use Rattle.master_node.specs.Events.{TellsBesides, TellsGateway, TellsJust, back_of, gateway_at, gateway_of, lost_of, told_at, told_in};
+    ghost use Rattle.master_node.specs.Handed.{DropsWork, EndsWork, passing_at, work_at};
+    ghost use Rattle.master_node.specs.declared.post.Work.{Work};
     ghost use Rattle.master_tour.specs.Walks.{StepsAt};
     ghost use Rattle.std.specs.Prelude.{◌∷◌};
     ghost use Rattle.served_runs.specs.Served.{ServedTurn, served_behind};
@@ -47,7 +51,7 @@ impl MasterNode {
     ghost use Rattle.master_tour.specs.Toured.{goes_on, lost_on};
     ghost use Rattle.master_node.specs.Shows.{is_opening_lead};
     ghost use Rattle.master_node.specs.Toured.{tour_of};
-    ghost use Rattle.std.specs.Prelude.{[]};
+    ghost use Rattle.std.specs.Prelude.{[], true};
     ghost use Rattle.master_node.specs.Eager.{AllVisit, recalls};
     ghost use Rattle.master_node.specs.Recalled.{AllRecall};
 
@@ -58,6 +62,8 @@ impl MasterNode {
         ensures kept { NodeKept self.old self.new }
         ensures lan { self.new.lan ≡ self.old.lan }
         ensures tells { TellsOnly self.old self.new }
+        ensures works { StepsAt (λ p q. q.work ≡ Work.Nothing) place self.old.posts.items self.new.posts.items }
+        ensures gateway { TellsBesides 1 [] self.old self.new }
     {
         let post = &mut self.posts[place];
         post.work = Work::Nothing;
@@ -76,6 +82,8 @@ impl MasterNode {
         ensures lan { Happens 1 self.old.lan self.new.lan }
         ensures listed { Lists (arrive_by (port_by (slice_get self.old.lan.ports.items place)) (kept_at self.old.tour.stops.items place)) self.old.lan self.new.lan }
         ensures tells { TellsOnly self.old self.new }
+        ensures works { EndsWork (λ k. passing_at self.old.tour.stops.items k) [] self.old.posts.items self.new.posts.items }
+        ensures gateway { TellsBesides 1 [] self.old self.new }
     {
         let hand = &self.tour.stops[place].side.hand;
         if let Some(octets) = hand.emergency() {
@@ -98,6 +106,7 @@ impl MasterNode {
         ensures kept { NodeKept self.old self.new }
         ensures lan { self.new.lan ≡ self.old.lan }
         ensures tells { TellsOnly self.old self.new }
+        ensures works { EndsWork (λ k. passing_at self.old.tour.stops.items k) [] self.old.posts.items self.new.posts.items }
     {
         if let Some(mail) = self.tour.stops[place].side.hand.replied() {
             let mail = bare(mail);
@@ -112,6 +121,8 @@ impl MasterNode {
         ensures kept { NodeKept self.old self.new }
         ensures lan { self.new.lan ≡ self.old.lan }
         ensures tells { TellsOnly self.old self.new }
+        ensures works { ((key : ℕ) → work_at self.old.posts.items place ≡ Work.Passed key → ⊥) → EndsWork (λ k. passing_at self.old.tour.stops.items k) [] self.old.posts.items self.new.posts.items }
+        ensures gateway { TellsBesides 1 [] self.old self.new }
     {
         if let Some(kind) = self.tour.stops[place].side.hand.answer() {
             self.answered(place, kind);
@@ -126,6 +137,7 @@ impl MasterNode {
         ensures lan { Happens 1 self.old.lan self.new.lan }
         ensures listed { Lists (arrive_by (port_by (slice_get self.old.lan.ports.items place)) (kept_at self.old.tour.stops.items place)) self.old.lan self.new.lan }
         ensures tells { TellsOnly self.old self.new }
+        ensures works { EndsWork (λ k. passing_at self.old.tour.stops.items k) [] self.old.posts.items self.new.posts.items }
     {
         self.emitted(place);
         if matches!(what, Heard::Emission) {
@@ -145,6 +157,8 @@ impl MasterNode {
         ensures kept { NodeKept self.old self.new }
         ensures lan { self.new.lan ≡ self.old.lan }
         ensures tells { TellsOnly self.old self.new }
+        ensures works { ((key : ℕ) → work_at self.old.posts.items place ≡ Work.Passed key → ⊥) → EndsWork (λ k. passing_at self.old.tour.stops.items k) [] self.old.posts.items self.new.posts.items }
+        ensures gateway { TellsBesides 1 [] self.old self.new }
     {
         if self.tour.stops[place].side.is_free() {
             self.answered(place, ReplyKind::Handed);
@@ -158,6 +172,7 @@ impl MasterNode {
         ensures kept { NodeKept self.old self.new }
         ensures lan { self.new.lan ≡ self.old.lan }
         ensures tells { TellsOnly self.old self.new }
+        ensures works { EndsWork (λ k. passing_at self.old.tour.stops.items k) (place ∷ []) self.old.posts.items self.new.posts.items }
     {
         if self.tour.stops[place].side.passing.is_none() {
             self.answered(place, ReplyKind::Handed);
@@ -172,6 +187,8 @@ impl MasterNode {
         ensures kept { NodeKept self.old self.new }
         ensures lan { self.new.lan ≡ self.old.lan }
         ensures tells { TellsOnly self.old self.new }
+        ensures works { ((key : ℕ) → work_at self.old.posts.items place ≡ Work.Passed key → ⊥) → EndsWork (λ k. passing_at self.old.tour.stops.items k) [] self.old.posts.items self.new.posts.items }
+        ensures gateway { TellsBesides 1 [] self.old self.new }
     {
         match self.tour.stops[place].side.duty {
             Some(Met::Reached) => self.answered(place, ReplyKind::Done),
@@ -187,6 +204,7 @@ impl MasterNode {
         ensures kept { NodeKept self.old self.new }
         ensures lan { self.new.lan ≡ self.old.lan }
         ensures tells { TellsOnly self.old self.new }
+        ensures works { EndsWork (λ k. passing_at self.old.tour.stops.items k) (place ∷ []) self.old.posts.items self.new.posts.items }
     {
         match self.posts[place].work {
             Work::Nothing | Work::Mails => {}
@@ -199,6 +217,7 @@ impl MasterNode {
     // Whether a change of state is in hand.
     fn has_state(&self, place: usize) -> bool
         requires { place < vec_len self.now.posts }
+        ensures { result ≡ true → work_at self.now.posts.items place ≡ Work.State }
     {
         matches!(self.posts[place].work, Work::State)
     }
@@ -210,6 +229,8 @@ impl MasterNode {
         ensures kept { NodeKept self.old self.new }
         ensures lan { self.new.lan ≡ self.old.lan }
         ensures tells { TellsOnly self.old self.new }
+        ensures works { EndsWork (λ k. passing_at self.old.tour.stops.items k) [] self.old.posts.items self.new.posts.items }
+        ensures gateway { TellsBesides 2 [] self.old self.new }
     {
         let slave = place as u32;
         let own = self.has_state(place);
@@ -233,6 +254,7 @@ impl MasterNode {
         ensures lan { Happens 1 self.old.lan self.new.lan }
         ensures listed { Lists (arrive_by (port_by (slice_get self.old.lan.ports.items place)) (packets_of what (kept_at self.old.tour.stops.items place))) self.old.lan self.new.lan }
         ensures tells { TellsOnly self.old self.new }
+        ensures works { EndsWork (λ k. passing_at self.old.tour.stops.items k) [] self.old.posts.items self.new.posts.items }
     {
         if let Some(what) = what {
             self.heard(place, what);
@@ -247,6 +269,8 @@ impl MasterNode {
         ensures lan { Happens 1 self.old.lan self.new.lan }
         ensures listed { Lists (arrive_by (port_by (slice_get self.old.lan.ports.items place)) (heard_at self.old.tour.stops.items place)) self.old.lan self.new.lan }
         ensures tells { TellsOnly self.old self.new }
+        ensures works { EndsWork (λ k. passing_at self.old.tour.stops.items k) (place ∷ []) self.old.posts.items self.new.posts.items }
+        ensures gateway { TellsBesides 5 (gateway_at self.old.posts.items self.old.tour.stops.items place) self.old self.new }
     {
         let what = self.tour.stops[place].side.heard;
         self.heard_where(place, what);
@@ -261,6 +285,8 @@ impl MasterNode {
         ensures lan { Happens 1 self.old.lan self.new.lan }
         ensures listed { Lists (arrive_by (port_by (slice_get self.old.lan.ports.items place)) (heard_at self.old.tour.stops.items place)) self.old.lan self.new.lan }
         ensures tells { TellsOnly self.old self.new }
+        ensures works { EndsWork (λ k. passing_at self.old.tour.stops.items k) (place ∷ []) self.old.posts.items self.new.posts.items }
+        ensures gateway { TellsBesides 5 (gateway_at self.old.posts.items self.old.tour.stops.items place) self.old self.new }
     {
         if place < self.posts.len() {
             self.back(place);
@@ -274,6 +300,8 @@ impl MasterNode {
         ensures lan { Happens 16 self.old.lan self.new.lan }
         ensures listed { Lists (arrivals_in self.old.lan.ports.items (λ p. heard_at self.old.tour.stops.items p) self.old.tour.visit.items) self.old.lan self.new.lan }
         ensures tells { TellsOnly self.old self.new }
+        ensures works { EndsWork (λ k. passing_at self.old.tour.stops.items k) self.old.tour.visit.items self.old.posts.items self.new.posts.items }
+        ensures gateway { AreOnce self.old.tour.visit.items → TellsBesides 80 (told_in (gateway_at self.old.posts.items self.old.tour.stops.items) self.old.tour.visit.items) self.old self.new }
     {
         for k in 0..self.tour.visit.len() {
             let place = self.tour.visit.as_slice()[k];
@@ -299,6 +327,10 @@ impl MasterNode {
         ensures counts { (k : ℕ) → forwards_at self.new.posts.items k ≡ forwards_at self.old.posts.items k }
         ensures recalls { (lens : ℕ → Lens) (recover retry missed : ℕ) (octets : List ℕ) (us : List Turn) → MasterUnder lens recover retry self.old octets missed us → Returns (seen lens octets) (seen lens frame.now.items) →
             AllVisit (seen lens octets) (recalls self.old) us → AllRecall lens (seen lens frame.now.items) us (recalls self.old) (recalls self.new) }
+        ensures gateway { (lens : ℕ → Lens) (recover retry missed made : ℕ) (octets : List ℕ) (vs : List ServedTurn) (f : Exchanged) → f.fate ≡ Fate.Pass → f.back ≡ frame.now.items → ServedUnder lens recover retry self.old octets missed made vs → Returns (seen lens octets) (seen lens frame.now.items) →
+            TellsGateway (λ k. told_at (gateway_of (seen lens frame.now.items)) 0 vs (map (served_behind lens recover retry (gives_up_at lens recover retry missed) made f) vs) k) self.old self.new }
+        ensures told { (lens : ℕ → Lens) (recover retry missed made : ℕ) (octets : List ℕ) (vs : List ServedTurn) (f : Exchanged) → f.fate ≡ Fate.Pass → f.back ≡ frame.now.items → ServedUnder lens recover retry self.old octets missed made vs → Returns (seen lens octets) (seen lens frame.now.items) →
+            TellsJust (λ k. told_at (back_of lens (seen lens frame.now.items)) 0 vs (map (served_behind lens recover retry (gives_up_at lens recover retry missed) made f) vs) k) self.old self.new }
     {
         self.list.ends();
         self.lan.begins();
@@ -314,6 +346,7 @@ impl MasterNode {
         ensures lan { self.new.lan ≡ self.old.lan }
         ensures tour { self.new.tour ≡ self.old.tour }
         ensures mails { StepsAt (λ ks ls. ls ≡ []) place (mails_in self.old) (mails_in self.new) }
+        ensures works { StepsAt (λ p q. q.work ≡ Work.Nothing) place self.old.posts.items self.new.posts.items }
     {
         self.posts[place].drop_all();
     }
@@ -327,6 +360,7 @@ impl MasterNode {
         ensures tour { self.new.tour ≡ self.old.tour }
         ensures mails { mails_in self.new ≡ mails_in self.old }
         ensures listed { Lists (down_by (port_by (slice_get self.old.lan.ports.items place)) (holds_at (λ s. not (is_live s.stand)) self.old.tour.stops.items place)) self.old.lan self.new.lan }
+        ensures works { self.new.posts ≡ self.old.posts }
     {
         if !self.tour.stops[place].is_live() {
             self.lan.down(place);
@@ -342,6 +376,7 @@ impl MasterNode {
         ensures tour { self.new.tour ≡ self.old.tour }
         ensures mails { Drops (λ p. gave_at self.old.tour.stops.items p) (place ∷ []) (mails_in self.old) (mails_in self.new) }
         ensures listed { Lists (down_by (port_by (slice_get self.old.lan.ports.items place)) (gives_at self.old.tour.stops.items place)) self.old.lan self.new.lan }
+        ensures works { DropsWork (λ p. gave_at self.old.tour.stops.items p) (place ∷ []) self.old.posts.items self.new.posts.items }
     {
         if !is_given_up(self.tour.stops[place].news) {
             return;
@@ -361,6 +396,7 @@ impl MasterNode {
         ensures tour { self.new.tour ≡ self.old.tour }
         ensures mails { Drops (λ p. gave_at self.old.tour.stops.items p) (place ∷ []) (mails_in self.old) (mails_in self.new) }
         ensures listed { Lists (down_by (port_by (slice_get self.old.lan.ports.items place)) (gives_at self.old.tour.stops.items place)) self.old.lan self.new.lan }
+        ensures works { DropsWork (λ p. gave_at self.old.tour.stops.items p) (place ∷ []) self.old.posts.items self.new.posts.items }
     {
         if place < self.posts.len() {
             self.given_up(place);
@@ -375,6 +411,7 @@ impl MasterNode {
         ensures tour { self.new.tour ≡ self.old.tour }
         ensures mails { Drops (λ p. gave_at self.old.tour.stops.items p) self.old.tour.visit.items (mails_in self.old) (mails_in self.new) }
         ensures listed { Lists (downs_in self.old.lan.ports.items (λ p. gives_at self.old.tour.stops.items p) self.old.tour.visit.items) self.old.lan self.new.lan }
+        ensures works { DropsWork (λ p. gave_at self.old.tour.stops.items p) self.old.tour.visit.items self.old.posts.items self.new.posts.items }
     {
         for k in 0..self.tour.visit.len() {
             let place = self.tour.visit.as_slice()[k];
@@ -398,6 +435,8 @@ impl MasterNode {
             ServedShows lens recover retry self.new (missed_behind lens recover retry f.fate missed) (suc made) (map (served_behind lens recover retry (gives_up_at lens recover retry missed) made f) vs) }
         ensures counts { (k : ℕ) → forwards_at self.new.posts.items k ≡ forwards_at self.old.posts.items k }
         ensures recalls { (lens : ℕ → Lens) (recover retry missed : ℕ) (octets : List ℕ) (us : List Turn) → MasterUnder lens recover retry self.old octets missed us → AllRecall lens [] us (recalls self.old) (recalls self.new) }
+        ensures told { (lens : ℕ → Lens) (recover retry missed made after : ℕ) (octets : List ℕ) (vs : List ServedTurn) (f : Exchanged) → f.fate ≡ Fate.Lost after → f.sent ≡ octets → ServedUnder lens recover retry self.old octets missed made vs →
+            TellsJust (λ k. told_at lost_of 0 vs (map (served_behind lens recover retry (gives_up_at lens recover retry missed) made f) vs) k) self.old self.new }
     {
         self.list.ends();
         self.lan.begins();
