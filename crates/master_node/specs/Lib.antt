@@ -46,7 +46,6 @@ pub mod Named
 pub mod Serving
 pub mod Passes
 pub mod Handed
-pub mod Events
 pub mod Dropped
 pub mod Entering
 pub mod Starts

@@ -57,7 +57,6 @@ impl MasterNode {
     ghost use Rattle.master_node.specs.Appends.{AppendsMail};
     ghost use Rattle.master_node.specs.Serving.{FitsAt, IsAsked, ServedShows, ServedUnder, mails_in, run_lead};
     ghost use Rattle.master_node.specs.Passes.{BeginsFrame, EndsFrame, IsPassing};
-    ghost use Rattle.master_node.specs.Events.{ServedBegin};
     ghost use Rattle.master_node.specs.Handed.{work_from};
     ghost use Rattle.served_runs.specs.Served.{Keyed, Serves, ServedTurn, IsServedFrame, MayAsk, asked_at};
     ghost use Rattle.master_node.specs.Shows.{WaitsNone};
@@ -331,8 +330,6 @@ impl MasterNode {
         ensures made { (self.new.lan.ports ≡ self.old.lan.ports) × AreOfMaking self.new.lan.happened }
         ensures serves { result ≡ Next.Frame → (lens : ℕ → Lens) (recover retry missed made : ℕ) (ws : List Serves) → suc made < 2 ^ 32 → ServedShows lens recover retry self.old missed made ws →
             (vs : List ServedTurn) × IsServedFrame lens made into.new.items ws vs × ServedUnder lens recover retry self.new into.new.items missed made vs }
-        ensures services { result ≡ Next.Frame → (lens : ℕ → Lens) (recover retry missed made : ℕ) (ws : List Serves) → suc made < 2 ^ 32 → ServedShows lens recover retry self.old missed made ws →
-            (vs : List ServedTurn) × IsServedFrame lens made into.new.items ws vs × ServedUnder lens recover retry self.new into.new.items missed made vs × ServedBegin (λ k. forwards_at self.old.posts.items k) ws vs self.new }
     {
         self.list.clear();
         self.lan.begins();
