@@ -37,6 +37,9 @@ pub mod Eagers
 pub mod Servings
 pub mod Serveds
 pub mod Mailings
+pub mod Handeds
+pub mod Handings
+pub mod Endings
 pub mod Mailed
 pub mod FreeKept
 pub mod ServedVisits

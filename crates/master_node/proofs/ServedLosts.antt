@@ -33,10 +33,13 @@ use Rattle.master_tour.specs.of_life_model.Lives
 use Rattle.master_tour.specs.of_life_model.Lives.{Life, Spot, life_lost}
 use Rattle.master_tour.proofs.Backs.{seen_aims}
 use Rattle.served_runs.specs.Served.{Keyed, ServedTurn, served_behind}
+use Rattle.master_node.specs.Handed.{work_at}
 use Rattle.master_node.specs.Passes.{waits_in}
 use Rattle.master_node.specs.Serving.{IsServed, IsServedUnder, MayPass, run_lead, run_turn, waits_of}
 use Rattle.master_node.specs.Shows.{ComeAgain, GoesOn, GoesUnder, HoldsFirst, IsLived, is_led, is_live_lead, is_opening_lead, side_shows}
 use Rattle.master_node.specs.declared.post.Post.{Post}
+use Rattle.master_node.specs.declared.post.Work.{Work}
+use Rattle.master_node.proofs.Handeds.{lost_handed}
 use Rattle.master_node.proofs.Goings.{ahead_again, ahead_behind, comes_again}
 use Rattle.master_node.proofs.Serveds.{open_stand}
 use Rattle.master_node.proofs.Droppeds.{and_false}
@@ -91,9 +94,9 @@ module _ (lens : ℕ → Lens) (recover retry : ℕ) where
         ((ns : List (News Body)) → IsLived lens recover (lived_lost (speech_at lens v.turn.lived.spot) acknowledged is_followed is_passed given recover made (seen lens octets) v.turn.lived (record { under = s.under; at = s.at }) ns) t) →
         StandPassing t.stand (awaits_reply t.side.hand.course t.side.hand.which t.side.hand.clients) t.side.passing
         (given_where (given && s.under) recover v.turn.lived.spot made (life_lost (speech_at lens v.turn.lived.spot) acknowledged is_followed is_passed v.turn.lived.spot (news_lost s.side.station v.kept (seen lens octets)) (seen lens octets) v.turn.lived.life v.turn.lived.life.stand)) →
-        CountsLost made s t v.turn.lived.life → t.side.pace ≡ s.side.pace → scripted t.side.hand.laying ≡ scripted s.side.hand.laying → waits_of q ≡ (if given && s.under then [] else waits_of p) →
+        CountsLost made s t v.turn.lived.life → t.side.pace ≡ s.side.pace → scripted t.side.hand.laying ≡ scripted s.side.hand.laying → waits_of q ≡ (if given && s.under then [] else waits_of p) → q.work ≡ (if given && s.under then Work.Nothing else p.work) →
         IsServed lens recover (suc made) (served_behind lens recover retry gives made (lost_so_far f octets after) v) q t
-    lost_served given f octets after v p q s t g i lives passes counts pace script waits =
+    lost_served given f octets after v p q s t g i lives passes counts pace script waits works =
         let l = v.turn.lived.life in
         let spot = v.turn.lived.spot in
         let x = speech_at lens spot in
@@ -105,6 +108,7 @@ module _ (lens : ℕ → Lens) (recover retry : ℕ) where
         let stands = open_stand (λ d b. side_shows lens recover s spot d b) spot s.stand l h.lives.shown.stood in
         let under : l.stand ≡ Lives.Stand.Open → Under spot.station s.at s.under s.side.carried l.era.side.halves (duty_access l.era.account.hand) sent = λ o.
         subst (λ z. Under z s.at s.under s.side.carried l.era.side.halves (duty_access l.era.account.hand) sent) station (subst (λ z. StandUnder lens s.side.station s.at s.under s.side.carried z l sent) (stands o) i.way) in
+        let work_is : q.work ≡ (if gives && v.turn.share.under then Work.Nothing else p.work) = works ∙ (λ j. if (g j && sym i.under j) then Work.Nothing else p.work) in
         let kept = lost_life x acknowledged is_followed is_passed s.at s.under s.side.carried spot news sent v.kept l (seen_aims lens octets spot.station (subst (λ z. nat_le 1 z ≡ true) station s.named)) under h.kept in
         record {
           lives = subst (λ z. IsLived lens recover z t) (λ j. lived_lost x acknowledged is_followed is_passed (g j) recover made sent v.turn.lived (share j) news) (lives news);
@@ -118,6 +122,7 @@ module _ (lens : ℕ → Lens) (recover retry : ℕ) where
           pace = pace ∙ h.pace;
           waits = waits ∙ (λ j. if (g j && sym i.under j) then [] else h.waits j);
           fits = left_fits (λ k. MayPass (lens spot.station).out k) (gives && v.turn.share.under) v.waits h.fits;
+          handed = lost_handed x spot v.kept sent (gives && v.turn.share.under) recover made l p.work q.work v.hand h.handed (λ e. work_is ∙ ap (λ (z : Bool). if z then Work.Nothing else p.work) e) (λ e. work_is ∙ ap (λ (z : Bool). if z then Work.Nothing else p.work) e);
         }
 
     module _ (f : Exchanged) (octets : List ℕ) (after : ℕ) (is : f.fate ≡ Lost after) (b : f.sent ≡ octets) where
@@ -125,29 +130,29 @@ module _ (lens : ℕ → Lens) (recover retry : ℕ) where
           ((ns : List (News Body)) → IsLived lens recover (lived_lost (speech_at lens v.turn.lived.spot) acknowledged is_followed is_passed given recover made (seen lens octets) v.turn.lived (record { under = s.under; at = s.at }) ns) t) →
           StandPassing t.stand (awaits_reply t.side.hand.course t.side.hand.which t.side.hand.clients) t.side.passing
           (given_where (given && s.under) recover v.turn.lived.spot made (life_lost (speech_at lens v.turn.lived.spot) acknowledged is_followed is_passed v.turn.lived.spot (news_lost s.side.station v.kept (seen lens octets)) (seen lens octets) v.turn.lived.life v.turn.lived.life.stand)) →
-          CountsLost made s t v.turn.lived.life → t.side.pace ≡ s.side.pace → scripted t.side.hand.laying ≡ scripted s.side.hand.laying → waits_of q ≡ (if given && s.under then [] else waits_of p) → IsServed lens recover (suc made) (served_behind lens recover retry gives made f v) q t
-      served_lost given v p q s t g i lives passes counts pace script waits =
-          subst (λ (z : Exchanged). IsServed lens recover (suc made) (served_behind lens recover retry gives made z v) q t) (sym (so_is f octets after is b)) (lost_served given f octets after v p q s t g i lives passes counts pace script waits)
+          CountsLost made s t v.turn.lived.life → t.side.pace ≡ s.side.pace → scripted t.side.hand.laying ≡ scripted s.side.hand.laying → waits_of q ≡ (if given && s.under then [] else waits_of p) → q.work ≡ (if given && s.under then Work.Nothing else p.work) → IsServed lens recover (suc made) (served_behind lens recover retry gives made f v) q t
+      served_lost given v p q s t g i lives passes counts pace script waits works =
+          subst (λ (z : Exchanged). IsServed lens recover (suc made) (served_behind lens recover retry gives made z v) q t) (sym (so_is f octets after is b)) (lost_served given f octets after v p q s t g i lives passes counts pace script waits works)
 
       -- all of them
       pub all_lost : {G : Ghosts InHand} (given : Bool) (T : Lived Asked Reply → Stop InHand G → Stop InHand G → Type 0) (E : Stop InHand G → Stop InHand G → Type 0) (vs : List ServedTurn) (ps qs : List Post) (ss ts : List (Stop InHand G)) →
-          AllThree (λ v p s. IsServedUnder lens recover octets made v p s) vs ps ss → length (map waits_of qs) ≡ length (map waits_of ps) → ((k : ℕ) → waits_in (map waits_of qs) k ≡ (if given && holds_at (λ s. s.under) ss k then [] else waits_in (map waits_of ps) k)) →
+          AllThree (λ v p s. IsServedUnder lens recover octets made v p s) vs ps ss → length (map waits_of qs) ≡ length (map waits_of ps) → ((k : ℕ) → waits_in (map waits_of qs) k ≡ (if given && holds_at (λ s. s.under) ss k then [] else waits_in (map waits_of ps) k)) → ((k : ℕ) → work_at qs k ≡ (if given && holds_at (λ s. s.under) ss k then Work.Nothing else work_at ps k)) →
           AllThree T (map (λ v. v.turn.lived) vs) ss ts → EachPair E ss ts →
-          ((v : ServedTurn) (p q : Post) (s t : Stop InHand G) → IsServedUnder lens recover octets made v p s → waits_of q ≡ (if given && s.under then [] else waits_of p) → T v.turn.lived s t → E s t → IsServed lens recover (suc made) (served_behind lens recover retry gives made f v) q t) →
+          ((v : ServedTurn) (p q : Post) (s t : Stop InHand G) → IsServedUnder lens recover octets made v p s → waits_of q ≡ (if given && s.under then [] else waits_of p) → q.work ≡ (if given && s.under then Work.Nothing else p.work) → T v.turn.lived s t → E s t → IsServed lens recover (suc made) (served_behind lens recover retry gives made f v) q t) →
           AllThree (λ w q t. IsServed lens recover (suc made) w q t) (map (served_behind lens recover retry gives made f) vs) qs ts
-      all_lost given T E [] [] [] [] [] i n w t e h = tt
-      all_lost given T E [] [] [] [] (y ∷ ts) i n w t e h = absurd e
-      all_lost given T E [] [] (q ∷ qs) [] ts i n w t e h = absurd (omega (arith, n))
-      all_lost given T E [] [] qs (s ∷ ss) ts i n w t e h = absurd i
-      all_lost given T E [] (p ∷ ps) qs [] ts i n w t e h = absurd i
-      all_lost given T E [] (p ∷ ps) qs (s ∷ ss) ts i n w t e h = absurd i
-      all_lost given T E (v ∷ vs) [] qs [] ts i n w t e h = absurd i
-      all_lost given T E (v ∷ vs) [] qs (s ∷ ss) ts i n w t e h = absurd i
-      all_lost given T E (v ∷ vs) (p ∷ ps) qs [] ts i n w t e h = absurd i
-      all_lost given T E (v ∷ vs) (p ∷ ps) [] (s ∷ ss) ts i n w t e h = absurd (omega (arith, n))
-      all_lost given T E (v ∷ vs) (p ∷ ps) (q ∷ qs) (s ∷ ss) [] i n w t e h = absurd e
-      all_lost given T E (v ∷ vs) (p ∷ ps) (q ∷ qs) (s ∷ ss) (y ∷ ts) i n w t e h =
-          (h v p q s y i.0 (w zero) t.0 e.0, all_lost given T E vs ps qs ss ts i.1 (omega (arith, n)) (λ k. w (suc k)) t.1 e.1 h)
+      all_lost given T E [] [] [] [] [] i n w o t e h = tt
+      all_lost given T E [] [] [] [] (y ∷ ts) i n w o t e h = absurd e
+      all_lost given T E [] [] (q ∷ qs) [] ts i n w o t e h = absurd (omega (arith, n))
+      all_lost given T E [] [] qs (s ∷ ss) ts i n w o t e h = absurd i
+      all_lost given T E [] (p ∷ ps) qs [] ts i n w o t e h = absurd i
+      all_lost given T E [] (p ∷ ps) qs (s ∷ ss) ts i n w o t e h = absurd i
+      all_lost given T E (v ∷ vs) [] qs [] ts i n w o t e h = absurd i
+      all_lost given T E (v ∷ vs) [] qs (s ∷ ss) ts i n w o t e h = absurd i
+      all_lost given T E (v ∷ vs) (p ∷ ps) qs [] ts i n w o t e h = absurd i
+      all_lost given T E (v ∷ vs) (p ∷ ps) [] (s ∷ ss) ts i n w o t e h = absurd (omega (arith, n))
+      all_lost given T E (v ∷ vs) (p ∷ ps) (q ∷ qs) (s ∷ ss) [] i n w o t e h = absurd e
+      all_lost given T E (v ∷ vs) (p ∷ ps) (q ∷ qs) (s ∷ ss) (y ∷ ts) i n w o t e h =
+          (h v p q s y i.0 (w zero) (o zero) t.0 e.0, all_lost given T E vs ps qs ss ts i.1 (omega (arith, n)) (λ k. w (suc k)) (λ k. o (suc k)) t.1 e.1 h)
 
       pub lost_spot : (v : ServedTurn) → (served_behind lens recover retry gives made f v).lead.lived.spot ≡ v.turn.lived.spot
       lost_spot v = ap (λ (z : Fate). (served_behind lens recover retry gives made (record { sent = f.sent; fate = z; back = f.back }) v).lead.lived.spot) is
@@ -219,3 +224,7 @@ gave_all R E a u g h (v ∷ vs) (p ∷ ps) (s ∷ ss) (t ∷ ts) r e (suc k) = g
 -- whose mails wait no more
 pub waits_lost : (given gave i u : Bool) (ks : List Keyed) → gave ≡ (given && u) → (u ≡ true → i ≡ true) → (if gave && i then [] else ks) ≡ (if given && u then [] else ks)
 waits_lost given gave i u ks e c = ap (λ (z : Bool). if z then [] else ks) (ap (λ z. z && i) e ∙ carried_and given u i c)
+
+-- and of which nothing is in hand
+pub works_lost : (given gave i u : Bool) (work : Work) → gave ≡ (given && u) → (u ≡ true → i ≡ true) → (if gave && i then Work.Nothing else work) ≡ (if given && u then Work.Nothing else work)
+works_lost given gave i u work e c = ap (λ (z : Bool). if z then Work.Nothing else work) (ap (λ z. z && i) e ∙ carried_and given u i c)

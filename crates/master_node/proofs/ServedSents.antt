@@ -7,7 +7,7 @@ use Rattle.counters_kept.specs.Lives.{LifeKept}
 use Rattle.counters_kept.proofs.Lives.{next_life}
 use Rattle.life_runs.specs.of_frame_view.View.{Lens}
 use Rattle.life_runs.specs.of_frame_view.Seen.{seen, datagrams_seen}
-use Rattle.life_runs.specs.of_life_frames.Shares.{Lived, AllThree}
+use Rattle.life_runs.specs.of_life_frames.Shares.{Lived, AllBoth, AllThree}
 use Rattle.life_runs.specs.Led.{speech_at}
 use Rattle.mailbox_master.specs.Any.{in_area_len}
 use Rattle.master_duty.specs.Reply.{Reply}
@@ -29,12 +29,16 @@ use Rattle.segment_plan.specs.declared.service.Service as Plan
 use Rattle.served_runs.specs.Served.{AllServedTurn, IsServedTurn, Keyed, Serves, ServedComes, ServedTurn}
 use Rattle.served_runs.specs.Told.{Passed}
 use Rattle.master_node.specs.Filling.{StopFills}
+use Rattle.master_node.specs.Handed.{IsHanding}
+use Rattle.master_node.specs.Named.{IsHanded, is_left}
 use Rattle.master_node.specs.Passes.{IsPassing, IsServing, ThreeFrom}
 use Rattle.master_node.specs.Serving.{IsServed, IsServedUnder, MayPass, ServedShows, mails_in, run_lead, run_turn, waits_of}
 use Rattle.master_node.specs.Rooms.{FitAgain}
 use Rattle.master_node.specs.Shows.{GoesOn, lived_of, side_shows}
 use Rattle.master_node.specs.declared.node.MasterNode.{MasterNode}
 use Rattle.master_node.specs.declared.post.Post.{Post}
+use Rattle.master_node.specs.declared.post.Work.{Work}
+use Rattle.master_node.proofs.Handeds.{begun_is, hand_is}
 use Rattle.master_node.proofs.Roundings.{SameTour}
 use Rattle.master_node.proofs.Mailed as Mailed
 use Rattle.master_node.proofs.Mailed.{next_passing}
@@ -71,6 +75,7 @@ passing_same lens recover made ws left m n octets k f = record {
       (subst (λ z. FrameMade (λ ds i a s. StopFills lens recover made f.begun (z % 256) left ds i a s) octets m.tour.count (map (λ w. lived_of (run_lead w)) ws) m.tour.stops.items) (sym k.made) f.frame));
   each = subst (λ z. ThreeFrom (λ i w ks s. IsServing lens f.begun made left i w ks s) 0 ws (mails_in n) z.items) (sym k.stops)
       (subst (λ z. ThreeFrom (λ i w ks s. IsServing lens f.begun made left i w ks s) 0 ws (map waits_of z.items) m.tour.stops.items) (sym k.posts) f.each);
+  handed = subst (λ z. AllBoth (λ w p. IsHanding f.begun w p.work) ws z.items) (sym k.posts) f.handed;
 }
 
 -- the master of a serving shows the same where its tour, its posts and the frame's number are the same
@@ -134,6 +139,25 @@ module _ {G : Ghosts InHand} (lens : ℕ → Lens) (recover made : ℕ) where
   firsts_serving left i (w ∷ ws) (p ∷ ps) (s ∷ ss) (t ∷ ts) h k =
       (serving_alike lens (λ n. None) made left i w (waits_of p) s t (first_serving left i w p s h.0) k.0, firsts_serving left (suc i) ws ps ss ts h.1 k.1)
 
+-- what a post has in hand, where nothing came
+first_handing : (w : Serves) (work : Work) → IsHanded work w.hand w.lead.lived.life → IsHanding (λ k. None) w work
+first_handing w work h = λ l b. record {
+  named = λ key e. (let n = h.named key e in
+      record { opened = b.stand ∙ n.opened; passing = ap (λ (z : Option _). is_some z) b.passing ∙ n.passing; alone = b.duty ∙ n.alone; passed = n.passed; is = n.is; key_is = n.key_is });
+  only = λ n t. h.only (ap is_left (sym b.stand) ∙ n) (ap (λ (z : Option _). is_some z) (sym b.passing) ∙ t);
+}
+
+module _ {G : Ghosts InHand} (lens : ℕ → Lens) (recover made : ℕ) where
+  pub firsts_handing : (ws : List Serves) (ps : List Post) (ss : List (Stop InHand G)) → AllThree (λ w p s. IsServed lens recover made w p s) ws ps ss → AllBoth (λ w p. IsHanding (λ k. None) w p.work) ws ps
+  firsts_handing [] [] [] h = tt
+  firsts_handing [] [] (s ∷ ss) h = absurd h
+  firsts_handing [] (p ∷ ps) [] h = absurd h
+  firsts_handing [] (p ∷ ps) (s ∷ ss) h = absurd h
+  firsts_handing (w ∷ ws) [] [] h = absurd h
+  firsts_handing (w ∷ ws) [] (s ∷ ss) h = absurd h
+  firsts_handing (w ∷ ws) (p ∷ ps) [] h = absurd h
+  firsts_handing (w ∷ ws) (p ∷ ps) (s ∷ ss) h = (first_handing w p.work h.0.handed, firsts_handing ws ps ss h.1)
+
 -- the mails that still wait fit as they did
 came_fits : (R : Keyed → Type 0) (room : ℕ) (script : List Plan.Service) (waits left : List Keyed) (hand behind : Option Passed) (n m : ℕ) (b : Option (Service Asked)) → ServedComes room script waits hand n b m left behind → All R waits → All R left
 came_fits R room script waits left hand behind n m b ServedComes.none a = a
@@ -170,8 +194,8 @@ module _ {G : Ghosts InHand} (lens : ℕ → Lens) (recover made : ℕ) (begun :
     counts = refl;
   }
 
-  under_is : (left : List ℕ) (i : ℕ) (w : Serves) (b : Lived Asked Reply) (p : Post) (s : Stop InHand G) (h : IsServing lens begun made left i w (waits_of p) s) → Sends w.lead.lived b s → IsServedUnder lens recover octets made (turn_so w h.hand b p s) p s
-  under_is left i w b p s h t =
+  under_is : (left : List ℕ) (i : ℕ) (w : Serves) (b : Lived Asked Reply) (p : Post) (s : Stop InHand G) (h : IsServing lens begun made left i w (waits_of p) s) → IsHanding begun w p.work → Sends w.lead.lived b s → IsServedUnder lens recover octets made (turn_so w h.hand b p s) p s
+  under_is left i w b p s h o t =
       let a = w.lead.lived in
       record {
         served = record {
@@ -186,6 +210,9 @@ module _ {G : Ghosts InHand} (lens : ℕ → Lens) (recover made : ℕ) (begun :
           waits = refl;
           fits = subst (λ (z : Spot). All (λ k. MayPass (lens z.station).out k) (waits_of p)) (sym t.next.spot)
               (came_fits (λ k. MayPass (lens a.spot.station).out k) (lens a.spot.station).out w.lead.script w.waits (waits_of p) w.hand h.hand w.lead.number s.side.hand.laying.number (begun a.spot.place) h.comes h.fits);
+          handed = subst (λ z. IsHanded p.work z b.life)
+              (sym (hand_is (lens a.spot.station).out w.lead.script w.waits (waits_of p) w.hand h.hand w.lead.number s.side.hand.laying.number (begun a.spot.place) h.comes))
+              (o b.life (begun_is (speech_at lens a.spot) made a.life b.life (begun a.spot.place) t.next.pick t.next.life t.wish t.took h.free));
         };
         under = refl;
         at = refl;
@@ -202,17 +229,17 @@ module _ {G : Ghosts InHand} (lens : ℕ → Lens) (recover made : ℕ) (begun :
     pub each : AllServedTurn lens made ds ws sent
     pub under : AllThree (λ v p s. IsServedUnder lens recover octets made v p s) sent ps ss
 
-  pub served_all : (left : List ℕ) (i : ℕ) (ws : List Serves) (bs : List (Lived Asked Reply)) (ps : List Post) (ss : List (Stop InHand G)) → ThreeFrom (λ j w ks s. IsServing lens begun made left j w ks s) i ws (map waits_of ps) ss →
+  pub served_all : (left : List ℕ) (i : ℕ) (ws : List Serves) (bs : List (Lived Asked Reply)) (ps : List Post) (ss : List (Stop InHand G)) → ThreeFrom (λ j w ks s. IsServing lens begun made left j w ks s) i ws (map waits_of ps) ss → AllBoth (λ w p. IsHanding begun w p.work) ws ps →
       AllThree (λ a b s. Sends a b s) (map (λ w. lived_of (run_lead w)) ws) bs ss → Served ws bs ps ss
-  served_all left i [] [] [] [] h t = record { sent = []; turns_are = refl; each = tt; under = tt }
-  served_all left i [] (b ∷ bs) ps ss h t = absurd t
-  served_all left i [] [] (p ∷ ps) [] h t = absurd h
-  served_all left i [] [] (p ∷ ps) (s ∷ ss) h t = absurd h
-  served_all left i [] [] [] (s ∷ ss) h t = absurd t
-  served_all left i (w ∷ ws) [] ps ss h t = absurd t
-  served_all left i (w ∷ ws) (b ∷ bs) ps [] h t = absurd t
-  served_all left i (w ∷ ws) (b ∷ bs) [] (s ∷ ss) h t = absurd h
-  served_all left i (w ∷ ws) (b ∷ bs) (p ∷ ps) (s ∷ ss) h t =
-      let r = served_all left (suc i) ws bs ps ss h.1 t.1 in
+  served_all left i [] [] [] [] h o t = record { sent = []; turns_are = refl; each = tt; under = tt }
+  served_all left i [] (b ∷ bs) ps ss h o t = absurd t
+  served_all left i [] [] (p ∷ ps) [] h o t = absurd h
+  served_all left i [] [] (p ∷ ps) (s ∷ ss) h o t = absurd h
+  served_all left i [] [] [] (s ∷ ss) h o t = absurd t
+  served_all left i (w ∷ ws) [] ps ss h o t = absurd t
+  served_all left i (w ∷ ws) (b ∷ bs) ps [] h o t = absurd t
+  served_all left i (w ∷ ws) (b ∷ bs) [] (s ∷ ss) h o t = absurd h
+  served_all left i (w ∷ ws) (b ∷ bs) (p ∷ ps) (s ∷ ss) h o t =
+      let r = served_all left (suc i) ws bs ps ss h.1 o.1 t.1 in
       let v = turn_so w h.0.hand b p s in
-      record { sent = v ∷ r.sent; turns_are = ap (λ z. run_turn v ∷ z) r.turns_are; each = (turn_is left i w b p s h.0 t.0, r.each); under = (under_is left i w b p s h.0 t.0, r.under) }
+      record { sent = v ∷ r.sent; turns_are = ap (λ z. run_turn v ∷ z) r.turns_are; each = (turn_is left i w b p s h.0 t.0, r.each); under = (under_is left i w b p s h.0 o.0 t.0, r.under) }

@@ -4,7 +4,7 @@ use Rattle.std.specs.Prelude.{◌&&◌, is_some, is_none, map, All, IfSome, slic
 use Rattle.std.proofs.lemmas.Bool.{eq-eqb, eqb-true}
 use Rattle.datagrams.specs.Datagram as Raw
 use Rattle.life_runs.specs.of_frame_view.View.{Lens}
-use Rattle.life_runs.specs.of_life_frames.Shares.{Lived, AllFrom, AreDistinct, IsElsewhere}
+use Rattle.life_runs.specs.of_life_frames.Shares.{Lived, AllBoth, AllFrom, AreDistinct, IsElsewhere}
 use Rattle.life_runs.specs.Led.{speech_at}
 use Rattle.mailbox_master.specs.Any.{in_area_len}
 use Rattle.master_duty.specs.Reply.{Reply}
@@ -39,11 +39,17 @@ use Rattle.master_node.specs.Coming.{CameBy, IsLaid, next_of, wish_of}
 use Rattle.master_node.specs.Filling.{StopFills}
 use Rattle.master_node.specs.Kept.{StopKept, StopStays}
 use Rattle.master_node.specs.Passes.{BeginsFree, IsNextState, IsServing, LaysMail, MailWaits, ThreeFrom, waits_behind, waits_in}
-use Rattle.master_node.specs.Serving.{MayPass, run_lead}
+use Rattle.master_node.specs.Handed.{HasBegun, IsHanding, LaysWork, hand_behind, work_from}
+use Rattle.master_node.specs.Listing.{where_began}
+use Rattle.master_node.specs.Named.{IsHanded}
+use Rattle.master_node.specs.Serving.{MayPass, run_lead, waits_of}
 use Rattle.master_node.specs.Shows.{lived_of, side_shows}
 use Rattle.master_node.specs.declared.coming.Coming.{Coming}
+use Rattle.master_node.specs.declared.post.Post.{Post}
+use Rattle.master_node.specs.declared.post.Work.{Work}
 use Rattle.master_node.proofs.Cames.{NumberBehind, got_inside}
 use Rattle.master_node.proofs.Fills.{begun_at, begun_comes, begun_here, fills_kept, frame_each}
+use Rattle.master_node.proofs.Handings.{handing_on}
 use Rattle.master_node.proofs.Kepts.{lives_kept, stop_same}
 use Rattle.master_node.proofs.Lists.{steps_each, steps_got, steps_map, steps_mid, steps_trans}
 use Rattle.master_node.proofs.Mailed.{next_passing, none_begun, none_came, served_came, stand_awaits, stand_same}
@@ -428,3 +434,65 @@ module _ {G : Ghosts InHand} (lens : ℕ → Lens) (recover made : ℕ) (coming 
         ThreeFrom (λ i w ks s. IsServing lens begun made left i w ks s) 0 ws kss s1 → StepsAt (λ ks ls. ls ≡ waits_behind coming ks) place kss lss → waits_in kss place ≡ got → ThreeFrom After 0 ws lss s4
     serving ws kss lss at over d f p q g =
         step 0 place place ws kss lss s1 s4 (omega arith) at over d (three_with (λ w. lived_of (run_lead w)) (λ i a s. StopFills lens recover made begun index left ds i a s) (λ i w ks s. IsServing lens begun made left i w ks s) 0 ws kss s1 f p) q g all_go all_here
+
+    -- WHAT THE POSTS HAVE IN HAND: that of the visited slave goes on by what came into hand
+    pub record Moved (p q : Post) : Type 0 where
+      pub mid : Post
+      pub lays : LaysWork coming p mid
+      pub works : q.work ≡ work_from (where_began result coming) mid
+
+    hands_here : (i : ℕ) (w : Serves) (p q : Post) (ls : List Keyed) (s v : Stop InHand G) → is_in i left ≡ true → w.lead.lived.spot.place ≡ here → Before i w (waits_of p) s → waits_of p ≡ got → Goes lens recover made coming result got (slice_get s2 place) s v → After i w ls v → Moved p q →
+        IsHanding begun w p.work → IsHanding (now begun) w q.work
+    hands_here i w p q ls s v at e before all_got g after moved handing =
+        let h = before.1 in
+        let a = w.lead.lived in
+        let t = g.second in
+        let stays = g.ready.readied.stays in
+        let room = (lens a.spot.station).out in
+        let none : begun a.spot.place ≡ None = h.still at in
+        let same = none_came room w.lead.script w.waits (waits_of p) w.hand h.hand w.lead.number s.side.hand.laying.number (begun a.spot.place) h.comes none in
+        let now_is : now begun a.spot.place ≡ came_of (Some t) = begun_here begun here what a.spot.place e ∙ ap came_of g.seen.is in
+        let long : t.side.out.len ≡ room = ap (λ z. z.len) stays.side.side.out_is ∙ sym h.room in
+        let mail = subst (λ z. LaysMail coming room z t.side.hand.laying) (sym all_got) (subst (λ z. LaysMail coming z got t.side.hand.laying) long g.ready.readied.mail) in
+        handing_on w p moved.mid q t.side.hand.laying room (waits_of p) t.stand (is_free_side t.side) (now begun a.spot.place) same.waits_are refl after.free
+        (λ l b. subst (λ z. IsHanded p.work (hand_behind w.waits w.hand z) l) none (handing l (subst (λ z. HasBegun a.life z l) (sym none) b)))
+        coming result now_is g.seen.visited.did g.ready.readied.laid mail (subst (λ z. MailWaits z coming) (sym all_got) waits) (subst (λ z. All (λ k. MayPass room k) z) (sym same.waits_are) h.fits) moved.lays moved.works
+
+    hands_there : (i : ℕ) (w : Serves) (work : Work) → (w.lead.lived.spot.place == here) ≡ false → IsHanding begun w work → IsHanding (now begun) w work
+    hands_there i w work d handing = λ l b.
+        let e = (begun_comes begun here what).elsewhere w.lead.lived.spot.place d in
+        subst (λ z. IsHanded work (hand_behind w.waits w.hand z) l) (sym e) (handing l (subst (λ z. HasBegun w.lead.lived.life z l) e b))
+
+    -- none of the slaves behind stands there
+    hands_others : (spot : Spot) → spot.place ≡ here → (ws : List Serves) (ps : List Post) → IsElsewhere spot (map (λ w. lived_of (run_lead w)) ws) → AllBoth (λ w p. IsHanding begun w p.work) ws ps → AllBoth (λ w p. IsHanding (now begun) w p.work) ws ps
+    hands_others spot e [] [] d a = tt
+    hands_others spot e [] (p ∷ ps) d a = absurd a
+    hands_others spot e (w ∷ ws) [] d a = absurd a
+    hands_others spot e (w ∷ ws) (p ∷ ps) d a =
+        (hands_there 0 w p.work (apart here w.lead.lived.spot.place (subst (λ z. (z == w.lead.lived.spot.place) ≡ false) e d.0.place)) a.0, hands_others spot e ws ps d.1 a.1)
+
+    hands : (i n m : ℕ) (ws : List Serves) (ps qs : List Post) (lss : List (List Keyed)) (ss ts : List (Stop InHand G)) → m ≡ i + n → is_in m left ≡ true → AreDistinct (map (λ w. lived_of (run_lead w)) ws) → ThreeFrom Before i ws (map waits_of ps) ss → waits_in (map waits_of ps) n ≡ got →
+        StepsAt (λ s v. Goes lens recover made coming result got (slice_get s2 place) s v) n ss ts → StepsAt (λ s t. s.place ≡ here) n ss ts → ThreeFrom After i ws lss ts → StepsAt (λ p q. Moved p q) n ps qs → AllBoth (λ w p. IsHanding begun w p.work) ws ps →
+        AllBoth (λ w p. IsHanding (now begun) w p.work) ws qs
+    hands i n m ws [] qs lss ss ts e at d b g r o a k h = absurd (no_step _ n qs k)
+    hands i n m ws (p ∷ ps) [] lss ss ts e at d b g r o a k h = absurd (no_end _ n p ps k)
+    hands i n m [] (p ∷ ps) (q ∷ qs) lss ss ts e at d b g r o a k h = absurd h
+    hands i n m (w ∷ ws) (p ∷ ps) (q ∷ qs) lss [] ts e at d b g r o a k h = absurd b
+    hands i n m (w ∷ ws) (p ∷ ps) (q ∷ qs) lss (s ∷ ss) [] e at d b g r o a k h = absurd (no_end _ n s ss r)
+    hands i n m (w ∷ ws) (p ∷ ps) (q ∷ qs) [] (s ∷ ss) (t ∷ ts) e at d b g r o a k h = absurd a
+    hands i zero m (w ∷ ws) (p ∷ ps) (q ∷ qs) (ls ∷ lss) (s ∷ ss) (t ∷ ts) e at d b g r o a k h =
+        let f : m ≡ i = omega (arith, e) in
+        let spot : w.lead.lived.spot.place ≡ here = sym b.0.1.place ∙ o.0 in (
+          hands_here i w p q ls s t (subst (λ z. is_in z left ≡ true) f at) spot b.0 g r.0 a.0 k.0 h.0,
+          subst (λ z. AllBoth (λ w p. IsHanding (now begun) w p.work) ws z) (sym k.1) (hands_others w.lead.lived.spot spot ws ps d.0 h.1),
+        )
+    hands i (suc n) m (w ∷ ws) (p ∷ ps) (q ∷ qs) (ls ∷ lss) (s ∷ ss) (t ∷ ts) e at d b g r o a k h = (
+      subst (λ z. IsHanding (now begun) w z.work) (sym k.0) (hands_there i w p.work (stands_at (suc i) n ws (map waits_of ps) ss ts w.lead.lived.spot d.0 b.1 o.1) h.0),
+      hands (suc i) n m ws ps qs lss ss ts (omega (arith, e)) at d.1 b.1 g r.1 o.1 a.1 k.1 h.1,
+    )
+
+    pub handing : (ws : List Serves) (ps qs : List Post) (lss : List (List Keyed)) → is_in place left ≡ true → AreDistinct (map (λ w. lived_of (run_lead w)) ws) → AllFrom (λ i a s. StopFills lens recover made begun index left ds i a s) 0 (map (λ w. lived_of (run_lead w)) ws) s1 →
+        ThreeFrom (λ i w ks s. IsServing lens begun made left i w ks s) 0 ws (map waits_of ps) s1 → waits_in (map waits_of ps) place ≡ got → ThreeFrom After 0 ws lss s4 → StepsAt (λ p q. Moved p q) place ps qs → AllBoth (λ w p. IsHanding begun w p.work) ws ps →
+        AllBoth (λ w p. IsHanding (now begun) w p.work) ws qs
+    handing ws ps qs lss at d f p g a k h =
+        hands 0 place place ws ps qs lss s1 s4 (omega arith) at d (three_with (λ w. lived_of (run_lead w)) (λ i a s. StopFills lens recover made begun index left ds i a s) (λ i w ks s. IsServing lens begun made left i w ks s) 0 ws (map waits_of ps) s1 f p) g all_go all_here a k h

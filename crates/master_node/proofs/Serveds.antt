@@ -1,6 +1,6 @@
 -- WHAT A MASTER SHOWS OF THE SLAVES OF A SERVING behind a frame that came back.
 use Rattle.std.proofs.Common.{◌≡◌, ◌≤◌, ◌<◌, ℕ, zero, suc, ◌+◌, ◌-◌, ◌%◌, ◌^◌, Bool, true, false, Option, None, Some, List, [], ◌∷◌, refl, sym, ap, ◌∙◌, subst, length, arith}
-use Rattle.std.specs.Prelude.{map, nat_le, if◌then◌else◌}
+use Rattle.std.specs.Prelude.{◌||◌, is_some, map, nat_le, if◌then◌else◌}
 use Rattle.std.proofs.Math.Nat.{add-mod_right, mod-eq_of_lt}
 use Rattle.counters_kept.proofs.Lives.{back_life}
 use Rattle.life_runs.specs.Led.{Exchanged, led_behind, speech_at}
@@ -10,38 +10,51 @@ use Rattle.life_runs.specs.of_life_frames.Frames.{Share, AreApart}
 use Rattle.life_runs.specs.of_life_frames.Shares.{Lived, AllBoth, AllThree, AreDistinct, IsElsewhere, came_at, lived_back}
 use Rattle.life_runs.specs.of_segment_ring.declared.wire.Fate.{Fate}
 use Rattle.life_runs.specs.of_segment_ring.declared.wire.Fate.TheVariants.{Pass}
+use Rattle.mailbox_master.specs.of_link_model.Link.{Halves}
 use Rattle.master_duty.specs.Reply.{Reply}
-use Rattle.master_duty.specs.of_segment_model.Record.{News}
+use Rattle.master_duty.specs.of_exchange_model.Exchange.{Speech}
+use Rattle.master_duty.specs.of_segment_model.Ends as Ends
+use Rattle.master_duty.specs.of_segment_model.Record.{Kept, News}
 use Rattle.master_duty.specs.of_segment_model.Returned.{Returns}
 use Rattle.master_duty.specs.of_segment_model.Seats.{Side}
-use Rattle.master_duty.specs.of_segment_model.Slaves.{Datagram, Found}
+use Rattle.master_duty.specs.of_segment_model.Slaves.{Access, Datagram, Found}
 use Rattle.master_duty.specs.of_task_model.Accounts as Accounts
 use Rattle.master_duty.specs.of_task_model.Accounts.{Account, duty_access}
 use Rattle.master_hand.specs.Laying.{scripted}
 use Rattle.master_hand.specs.Shown.{awaits_reply}
 use Rattle.master_hand.specs.Spoken.{Asked, acknowledged, is_followed, is_passed}
 use Rattle.master_hand.specs.declared.hand.InHand.{InHand}
-use Rattle.master_side.specs.Passing.{counts_at, news_back}
+use Rattle.master_side.specs.Passing.{PassingShows, counts_at, news_back}
+use Rattle.master_side.specs.declared.carried.Carried.{Carried}
 use Rattle.master_side.specs.declared.hand.Hand.{Ghosts}
+use Rattle.master_side.specs.declared.passing.Passing.{Passing}
 use Rattle.master_side.specs.of_link_mails.Body.{Body}
 use Rattle.master_tour.specs.Counting.{StandCounts, StopCounts}
 use Rattle.master_tour.specs.Goes.{is_opened, holds_at, opened_behind}
 use Rattle.master_tour.specs.Passing.{StandPassing}
 use Rattle.master_tour.specs.Stands.{StandShows, StandUnder, is_opening}
-use Rattle.master_tour.specs.Under.{Under}
+use Rattle.master_tour.specs.Brings.{accepted_in}
+use Rattle.master_tour.specs.Under.{Under, mine}
 use Rattle.master_tour.specs.Walks.{EachPair}
 use Rattle.master_tour.specs.declared.stop.Stand.{Stand}
 use Rattle.master_tour.specs.declared.stop.Stop.{Stop}
 use Rattle.master_tour.specs.of_life_model.Lives
-use Rattle.master_tour.specs.of_life_model.Lives.{Life, Spot, era_back, life_back, opens_state, reopening, reopens, reopens_at, returns_to_init}
+use Rattle.master_tour.specs.of_life_model.Lives.{Life, Spot, era_back, life_back, opens_state, passes, reopening, reopens, reopens_at, returns_to_init}
 use Rattle.master_tour.proofs.Backs.{seen_aims}
-use Rattle.master_tour.proofs.Unders.{under_back}
+use Rattle.master_tour.proofs.Passings.{nothing_told}
+use Rattle.master_tour.proofs.Unders.{SameAim, under_back}
 use Rattle.counters_kept.specs.of_news_kept.Counts.{counts_on}
 use Rattle.served_runs.specs.Served.{Serves, ServedTurn, served_behind}
+use Rattle.master_node.specs.Handed.{work_at}
+use Rattle.master_node.specs.Named.{IsHanded, StaysNamed}
 use Rattle.master_node.specs.Serving.{IsServed, IsServedUnder, run_lead, run_turn, waits_of}
 use Rattle.master_node.specs.Shows.{GoesOn, GoesUnder, IsLived, is_opening_lead, lived_of, side_shows}
 use Rattle.master_node.specs.declared.post.Post.{Post}
+use Rattle.master_node.specs.declared.post.Work.{Work}
+use Rattle.master_node.proofs.Endings.{stays_where}
 use Rattle.master_node.proofs.Goings.{ahead_behind}
+use Rattle.master_node.proofs.Handeds.{back_handed, back_passing, stays_open}
+use Rattle.master_node.proofs.ServedSents.{waits_alike}
 
 -- the number of the frame under way is one less than that of the next
 pub back_made : (m made : ℕ) → m ≡ suc made → suc made < 2 ^ 32 → (m + (2 ^ 32 - 1)) % 2 ^ 32 ≡ made
@@ -57,6 +70,24 @@ open_stand shows spot Stand.Gone l s e = absurd (let t = sym s ∙ e in cc)
 
 counts_is : (stand : Stand) (at : Option ℕ) (pace made : ℕ) (counts : Bool) → stand ≡ Stand.Open → StandCounts stand at pace made counts → counts_at at pace made ≡ counts
 counts_is stand at pace made counts e k = (subst (λ z. StandCounts z at pace made counts) e k).is
+
+-- how far a mail comes by news
+abbrev passes_on : Speech Body Asked Reply → Option Ends.Passing → List (News Body) → Option Ends.Passing
+passes_on x p ns = passes x acknowledged is_followed is_passed p ns
+
+-- no further where the frame had nothing of its slave
+none_told : (x : Speech Body Asked Reply) (station : ℕ) (kept : Kept) (counts : Bool) (back : List (Datagram Body)) (awaits : Bool) (passing : Option Passing) (p : Option Ends.Passing) → SameAim station back → mine station back ≡ [] → PassingShows awaits passing p →
+    passes_on x p (news_back station kept counts back) ≡ p
+none_told x station kept counts back awaits passing p a e s = (nothing_told x acknowledged is_followed is_passed station kept counts back awaits passing p a e s).is ∙ sym s.is
+
+still_told : {T : Type 0} (f : Option T → Option T) (station at : ℕ) (under : Bool) (carried : Carried) (h : Halves Body) (due : Option Access) (back : List (Datagram Body)) (p : Option T) → under ≡ false → Under station at under carried h due back →
+    (mine station back ≡ [] → f p ≡ p) → f p ≡ p
+still_told f station at under carried h due back p n (Under.none k e) g = g e
+still_told f station at under carried h due back p n (Under.has b k i e m) g = absurd (let bad = sym n ∙ k in cc)
+
+goes_by : (b p l : Bool) → (b ≡ true → l ≡ true) → l ≡ p → (b || p) ≡ l
+goes_by true p l on alike = sym (on refl)
+goes_by false p l on alike = sym alike
 
 module _ (lens : ℕ → Lens) (spot : Spot) (made : ℕ) where
   -- but of an open slave the news of a frame count for nothing
@@ -120,9 +151,9 @@ module _ (lens : ℕ → Lens) (recover retry : ℕ) where
         StandPassing t.stand (awaits_reply t.side.hand.course t.side.hand.which t.side.hand.clients) t.side.passing
         (life_back (speech_at lens v.turn.lived.spot) acknowledged is_followed is_passed made v.turn.lived.spot (news_back s.side.station v.kept (counts_at s.side.read_at s.side.pace made) (seen lens back)) (seen lens back)
         (came_at s.under s.at (seen lens back)) v.turn.lived.life v.turn.lived.life.stand) →
-        CountsBehind made (seen lens back) s t v.turn.lived.life → t.side.pace ≡ s.side.pace → scripted t.side.hand.laying ≡ scripted s.side.hand.laying → waits_of q ≡ waits_of p →
+        CountsBehind made (seen lens back) s t v.turn.lived.life → t.side.pace ≡ s.side.pace → scripted t.side.hand.laying ≡ scripted s.side.hand.laying → waits_of q ≡ waits_of p → (b : Bool) → (b ≡ true → s.under ≡ false) → StaysNamed p.work q.work (b || is_some t.side.passing) →
         IsServed lens recover (suc made) (served_behind lens recover retry gives made (passed_so f back) v) q t
-    served_so f octets back v p q s t i r lives passes counts pace script waits =
+    served_so f octets back v p q s t i r lives passes counts pace script waits b still works =
         let l = v.turn.lived.life in
         let spot = v.turn.lived.spot in
         let x = speech_at lens spot in
@@ -137,20 +168,34 @@ module _ (lens : ℕ → Lens) (recover retry : ℕ) where
         subst (λ z. Under z s.at s.under s.side.carried l.era.side.halves (duty_access l.era.account.hand) (seen lens back)) station
         (under_back s.side.station s.at s.under s.side.carried l.era.side.halves (duty_access l.era.account.hand) (seen lens octets) (seen lens back) r
         (subst (λ z. StandUnder lens s.side.station s.at s.under s.side.carried z l (seen lens octets)) (stands o) i.way)) in
+        let came = came_at v.turn.share.under v.turn.share.at (seen lens back) in
+        let lived = subst (λ z. IsLived lens recover (lived_back x acknowledged is_followed is_passed made (seen lens back) v.turn.lived z news) t) share (lives news) in
+        let passing = subst (λ (z : Share). StandPassing t.stand (awaits_reply t.side.hand.course t.side.hand.which t.side.hand.clients) t.side.passing
+        (life_back x acknowledged is_followed is_passed made spot news (seen lens back) (came_at z.under z.at (seen lens back)) l l.stand)) share
+        (subst (λ z. StandPassing t.stand (awaits_reply t.side.hand.course t.side.hand.which t.side.hand.clients) t.side.passing z) (news_same lens spot made _ news (seen lens back) (came_at s.under s.at (seen lens back)) l same) passes) in
+        let goes : (key : ℕ) → p.work ≡ Work.Passed key → (b || is_some t.side.passing) ≡ is_some (life_back x acknowledged is_followed is_passed made spot news (seen lens back) came l l.stand).era.passing = λ key e.
+        (let n = h.handed.named key e in
+        let opens = stays_open x made spot news (seen lens back) came l l.stand n.opened n.opened n.alone in
+        let alike = waits_alike t.stand _ t.side.passing _ passing (open_stand _ spot t.stand _ lived.shown.stood opens.0) in
+        let on : b ≡ true → is_some (life_back x acknowledged is_followed is_passed made spot news (seen lens back) came l l.stand).era.passing ≡ true = λ y.
+        ap (λ (z : Option _). is_some z) (back_passing x made spot news (seen lens back) came l l.stand n.opened
+        ∙ still_told (λ z. passes_on x z news) spot.station s.at s.under s.side.carried l.era.side.halves (duty_access l.era.account.hand) (seen lens back) l.era.passing (still y) (under n.opened)
+        (λ none. none_told x spot.station v.kept v.counts (seen lens back) _ s.side.passing l.era.passing (seen_aims lens back spot.station (subst (λ z. nat_le 1 z ≡ true) station s.named)) none
+        (subst (λ z. StandPassing z (awaits_reply s.side.hand.course s.side.hand.which s.side.hand.clients) s.side.passing l) (stands n.opened) h.passing))) ∙ n.passing in
+        goes_by b _ _ on alike) in
         record {
-          lives = subst (λ z. IsLived lens recover (lived_back x acknowledged is_followed is_passed made (seen lens back) v.turn.lived z news) t) share (lives news);
+          lives = lived;
           script = ap (λ z. z.script) script ∙ h.script;
           number = ap (λ z. z.number) script ∙ h.number;
           short = h.short;
-          passing = subst (λ (z : Share). StandPassing t.stand (awaits_reply t.side.hand.course t.side.hand.which t.side.hand.clients) t.side.passing
-              (life_back x acknowledged is_followed is_passed made spot news (seen lens back) (came_at z.under z.at (seen lens back)) l l.stand)) share
-              (subst (λ z. StandPassing t.stand (awaits_reply t.side.hand.course t.side.hand.which t.side.hand.clients) t.side.passing z) (news_same lens spot made _ news (seen lens back) (came_at s.under s.at (seen lens back)) l same) passes);
+          passing = passing;
           kept = back_life x acknowledged is_followed is_passed made s.at s.under s.side.carried spot news (seen lens back) (came_at v.turn.share.under v.turn.share.at (seen lens back)) v.kept l
               (seen_aims lens back spot.station (subst (λ z. nat_le 1 z ≡ true) station s.named)) under h.kept;
           counts = subst (λ z. StandCounts t.stand t.side.read_at t.side.pace (suc made) z) (λ j. counts_on l.stand (station j) (h.pace j) made (seen lens back) v.counts) (counts v.counts h.counts);
           pace = pace ∙ h.pace;
           waits = waits ∙ h.waits;
           fits = h.fits;
+          handed = back_handed x made spot news (seen lens back) came l p.work q.work v.hand (accepted_in spot l (seen lens back)) h.handed (stays_where p.work q.work (b || is_some t.side.passing) _ goes works);
         }
 
     pub served_back : {G : Ghosts InHand} (f : Exchanged) (octets back : List ℕ) (v : ServedTurn) (p q : Post) (s t : Stop InHand G) → f.fate ≡ Pass → f.back ≡ back → IsServedUnder lens recover octets made v p s → Returns (seen lens octets) (seen lens back) →
@@ -158,30 +203,31 @@ module _ (lens : ℕ → Lens) (recover retry : ℕ) where
         StandPassing t.stand (awaits_reply t.side.hand.course t.side.hand.which t.side.hand.clients) t.side.passing
         (life_back (speech_at lens v.turn.lived.spot) acknowledged is_followed is_passed made v.turn.lived.spot (news_back s.side.station v.kept (counts_at s.side.read_at s.side.pace made) (seen lens back)) (seen lens back)
         (came_at s.under s.at (seen lens back)) v.turn.lived.life v.turn.lived.life.stand) →
-        CountsBehind made (seen lens back) s t v.turn.lived.life → t.side.pace ≡ s.side.pace → scripted t.side.hand.laying ≡ scripted s.side.hand.laying → waits_of q ≡ waits_of p →
+        CountsBehind made (seen lens back) s t v.turn.lived.life → t.side.pace ≡ s.side.pace → scripted t.side.hand.laying ≡ scripted s.side.hand.laying → waits_of q ≡ waits_of p → (still : Bool) → (still ≡ true → s.under ≡ false) → StaysNamed p.work q.work (still || is_some t.side.passing) →
         IsServed lens recover (suc made) (served_behind lens recover retry gives made f v) q t
-    served_back f octets back v p q s t is b i r lives passes counts pace script waits =
-        subst (λ (z : Exchanged). IsServed lens recover (suc made) (served_behind lens recover retry gives made z v) q t) (sym (so_is f back is b)) (served_so f octets back v p q s t i r lives passes counts pace script waits)
+    served_back f octets back v p q s t is b i r lives passes counts pace script waits still unread works =
+        subst (λ (z : Exchanged). IsServed lens recover (suc made) (served_behind lens recover retry gives made z v) q t) (sym (so_is f back is b)) (served_so f octets back v p q s t i r lives passes counts pace script waits still unread works)
 
     module _ (f : Exchanged) where
       -- all of them
-      pub all_served : {G : Ghosts InHand} (octets : List ℕ) (T : Lived Asked Reply → Stop InHand G → Stop InHand G → Type 0) (E : Stop InHand G → Stop InHand G → Type 0) (vs : List ServedTurn) (ps qs : List Post) (ss ts : List (Stop InHand G)) →
+      pub all_served : {G : Ghosts InHand} (octets : List ℕ) (T : Lived Asked Reply → Stop InHand G → Stop InHand G → Type 0) (E : Stop InHand G → Stop InHand G → Type 0) (still : ℕ → Bool) (vs : List ServedTurn) (ps qs : List Post) (ss ts : List (Stop InHand G)) →
+          ((k : ℕ) → still k ≡ true → holds_at (λ s. s.under) ss k ≡ false) → ((k : ℕ) → StaysNamed (work_at ps k) (work_at qs k) (still k || holds_at (λ t. is_some t.side.passing) ts k)) →
           AllThree (λ v p s. IsServedUnder lens recover octets made v p s) vs ps ss → map waits_of qs ≡ map waits_of ps → AllThree T (map (λ v. v.turn.lived) vs) ss ts → EachPair E ss ts →
-          ((v : ServedTurn) (p q : Post) (s t : Stop InHand G) → IsServedUnder lens recover octets made v p s → waits_of q ≡ waits_of p → T v.turn.lived s t → E s t → IsServed lens recover (suc made) (served_behind lens recover retry gives made f v) q t) →
+          ((v : ServedTurn) (p q : Post) (s t : Stop InHand G) → IsServedUnder lens recover octets made v p s → waits_of q ≡ waits_of p → (b : Bool) → (b ≡ true → s.under ≡ false) → StaysNamed p.work q.work (b || is_some t.side.passing) → T v.turn.lived s t → E s t → IsServed lens recover (suc made) (served_behind lens recover retry gives made f v) q t) →
           AllThree (λ w q t. IsServed lens recover (suc made) w q t) (map (served_behind lens recover retry gives made f) vs) qs ts
-      all_served octets T E [] [] [] [] [] i w t e h = tt
-      all_served octets T E [] [] [] [] (y ∷ ts) i w t e h = absurd e
-      all_served octets T E [] [] (q ∷ qs) [] ts i w t e h = absurd (cc)
-      all_served octets T E [] [] qs (s ∷ ss) ts i w t e h = absurd i
-      all_served octets T E [] (p ∷ ps) qs [] ts i w t e h = absurd i
-      all_served octets T E [] (p ∷ ps) qs (s ∷ ss) ts i w t e h = absurd i
-      all_served octets T E (v ∷ vs) [] qs [] ts i w t e h = absurd i
-      all_served octets T E (v ∷ vs) [] qs (s ∷ ss) ts i w t e h = absurd i
-      all_served octets T E (v ∷ vs) (p ∷ ps) qs [] ts i w t e h = absurd i
-      all_served octets T E (v ∷ vs) (p ∷ ps) [] (s ∷ ss) ts i w t e h = absurd (cc)
-      all_served octets T E (v ∷ vs) (p ∷ ps) (q ∷ qs) (s ∷ ss) [] i w t e h = absurd e
-      all_served octets T E (v ∷ vs) (p ∷ ps) (q ∷ qs) (s ∷ ss) (y ∷ ts) i w t e h =
-          (h v p q s y i.0 (ap (first (waits_of p)) w) t.0 e.0, all_served octets T E vs ps qs ss ts i.1 (ap rest w) t.1 e.1 h)
+      all_served octets T E still [] [] [] [] [] u g i w t e h = tt
+      all_served octets T E still [] [] [] [] (y ∷ ts) u g i w t e h = absurd e
+      all_served octets T E still [] [] (q ∷ qs) [] ts u g i w t e h = absurd (cc)
+      all_served octets T E still [] [] qs (s ∷ ss) ts u g i w t e h = absurd i
+      all_served octets T E still [] (p ∷ ps) qs [] ts u g i w t e h = absurd i
+      all_served octets T E still [] (p ∷ ps) qs (s ∷ ss) ts u g i w t e h = absurd i
+      all_served octets T E still (v ∷ vs) [] qs [] ts u g i w t e h = absurd i
+      all_served octets T E still (v ∷ vs) [] qs (s ∷ ss) ts u g i w t e h = absurd i
+      all_served octets T E still (v ∷ vs) (p ∷ ps) qs [] ts u g i w t e h = absurd i
+      all_served octets T E still (v ∷ vs) (p ∷ ps) [] (s ∷ ss) ts u g i w t e h = absurd (cc)
+      all_served octets T E still (v ∷ vs) (p ∷ ps) (q ∷ qs) (s ∷ ss) [] u g i w t e h = absurd e
+      all_served octets T E still (v ∷ vs) (p ∷ ps) (q ∷ qs) (s ∷ ss) (y ∷ ts) u g i w t e h =
+          (h v p q s y i.0 (ap (first (waits_of p)) w) (still zero) (u zero) (g zero) t.0 e.0, all_served octets T E (λ k. still (suc k)) vs ps qs ss ts (λ k. u (suc k)) (λ k. g (suc k)) i.1 (ap rest w) t.1 e.1 h)
         where
           first : {A : Type 0} → A → List A → A
           first a [] = a

@@ -29,11 +29,13 @@ use Rattle.master_tour.specs.declared.stop.Stop.{Stop}
 use Rattle.served_runs.specs.Served.{Keyed, Serves, MayAsk, asked_at, all_serve, new_serves}
 use Rattle.master_node.specs.Appends.{AppendsMail}
 use Rattle.master_node.specs.Lives.{waiting_at}
+use Rattle.master_node.specs.Named.{IsHanded}
 use Rattle.master_node.specs.Serving.{FitsAt, IsAsked, IsPaced, IsServed, MayPass, TellsOnly, run_lead, waits_of}
 use Rattle.master_node.specs.Shows.{IsLead, WaitsNone, lived_of}
 use Rattle.master_node.specs.declared.node.MasterNode.{MasterNode}
 use Rattle.master_node.specs.declared.post.Asked.{Asked}
 use Rattle.master_node.specs.declared.post.Post.{Post}
+use Rattle.master_node.specs.declared.post.Work.{Work}
 
 abbrev EachOf : {T : Type 0} → (T → Type 0) → List T → Type 0
 EachOf P [] = ⊤
@@ -65,9 +67,9 @@ module _ {G : Ghosts InHand} (lens : ℕ → Lens) (recover made key : ℕ) (mai
     pub may : MayAsk lens place asks ws
     pub each : AllThree (λ w p s. IsServed lens recover made w p s) (asked_at place asks ws) qs ss
 
-  one_more : (w : Serves) (p q : Post) (s : Stop InHand G) (a : AppendsMail key mail p.mails.items q.mails.items) → 6 + length mail.body.items ≤ (lens w.lead.lived.spot.station).out → IsServed lens recover made w p s →
+  one_more : (w : Serves) (p q : Post) (s : Stop InHand G) (a : AppendsMail key mail p.mails.items q.mails.items) → q.work ≡ p.work → 6 + length mail.body.items ≤ (lens w.lead.lived.spot.station).out → IsServed lens recover made w p s →
       IsServed lens recover made (record w { asked = w.asked ++ keyed a.asked ∷ []; waits = w.waits ++ keyed a.asked ∷ [] }) q s
-  one_more w p q s a f h = record {
+  one_more w p q s a o f h = record {
     lives = h.lives;
     script = h.script;
     number = h.number;
@@ -78,10 +80,11 @@ module _ {G : Ghosts InHand} (lens : ℕ → Lens) (recover made key : ℕ) (mai
     pace = h.pace;
     waits = ap (map keyed) a.waits ∙ keyed_more p.mails.items (a.asked ∷ []) ∙ ap (λ z. z ++ keyed a.asked ∷ []) h.waits;
     fits = All-push (λ k. MayPass (lens w.lead.lived.spot.station).out k) w.waits (keyed a.asked) h.fits (a.bare.0, a.bare.1, subst (λ z. 6 + length z ≤ (lens w.lead.lived.spot.station).out) (sym a.body) f);
+    handed = subst (λ z. IsHanded z w.hand w.lead.lived.life) (sym o) h.handed;
   }
 
   pub asked_so : (place : ℕ) (ws : List Serves) (ps qs : List Post) (ss : List (Stop InHand G)) → waiting_at ps place < 64 → FitsAt lens place (length mail.body.items) ws → AllThree (λ w p s. IsServed lens recover made w p s) ws ps ss →
-      StepsAt (λ p q. AppendsMail key mail p.mails.items q.mails.items) place ps qs → AsksSo place ws qs ss
+      StepsAt (λ p q. AppendsMail key mail p.mails.items q.mails.items × (q.work ≡ p.work)) place ps qs → AsksSo place ws qs ss
   asked_so zero [] ps qs ss l f h e = absurd f
   asked_so (suc place) [] ps qs ss l f h e = absurd f
   asked_so zero (w ∷ ws) [] qs [] l f h e = absurd h
@@ -93,12 +96,12 @@ module _ {G : Ghosts InHand} (lens : ℕ → Lens) (recover made key : ℕ) (mai
   asked_so zero (w ∷ ws) (p ∷ ps) (q ∷ qs) [] l f h e = absurd h
   asked_so (suc place) (w ∷ ws) (p ∷ ps) (q ∷ qs) [] l f h e = absurd h
   asked_so zero (w ∷ ws) (p ∷ ps) (q ∷ qs) (s ∷ ss) l f h e =
-      let a = e.0 in
+      let a = e.0.0 in
       record {
         asks = record { key = a.asked.key; mail = a.asked.mail };
         is = record { key_is = a.key_is; bare = a.bare; kind = a.kind; body = a.body };
         may = (subst (λ z. length z < 64) h.0.waits (subst (λ n. n < 64) (sym (keyed_long p.mails.items)) l), subst (λ z. 6 + length z ≤ (lens w.lead.lived.spot.station).out) (sym a.body) f);
-        each = (one_more w p q s a f h.0, subst (λ z. AllThree (λ w p s. IsServed lens recover made w p s) ws z ss) (sym e.1) h.1);
+        each = (one_more w p q s a e.0.1 f h.0, subst (λ z. AllThree (λ w p s. IsServed lens recover made w p s) ws z ss) (sym e.1) h.1);
       }
   asked_so (suc place) (w ∷ ws) (p ∷ ps) (q ∷ qs) (s ∷ ss) l f h e =
       let a = asked_so place ws ps qs ss l f h.1 e.1 in
@@ -144,6 +147,10 @@ pub leads_kept : (rows : List (ℕ × Plan.Service)) (place : ℕ) (specs : List
 leads_kept rows place [] = tt
 leads_kept rows place (s ∷ ss) = (λ e. new_kept, leads_kept rows (suc place) ss)
 
+none_some : {T : Type 0} (o : Option T) → o ≡ None → is_some o ≡ true → ⊥
+none_some None e t = absurd (cc)
+none_some (Some x) e t = absurd (cc)
+
 plain_passing : (stand : Stand) (awaits : Bool) (p : Option Passing) (l : Life Body Talk.Asked Reply) → p ≡ None → l.era.passing ≡ None → StandPassing stand awaits p l
 plain_passing (Stand.Opening up) awaits p l e f = λ n. record { is = f ∙ sym (ap passing_seen e); awaited = λ t. absurd (none p e t) }
   where
@@ -163,8 +170,8 @@ none_counts Stand.Open at pace e = subst (λ z. CountsAt z pace 0 true) (sym e) 
 none_counts Stand.Gone at pace e = tt
 
 module _ {G : Ghosts InHand} (lens : ℕ → Lens) (recover : ℕ) where
-  first_served : (pace : ℕ) (a : Leads) (p : Post) (s : Stop InHand G) → IsLead lens recover a s → IsPaced pace s → WaitsNone p → LifeKept nothing_kept a.lived.life → IsServed lens recover 0 (new_serves pace a) p s
-  first_served pace a p s l n w k = record {
+  first_served : (pace : ℕ) (a : Leads) (p : Post) (s : Stop InHand G) → IsLead lens recover a s → IsPaced pace s → WaitsNone p → p.work ≡ Work.Nothing → LifeKept nothing_kept a.lived.life → IsServed lens recover 0 (new_serves pace a) p s
+  first_served pace a p s l n w o k = record {
     lives = l.lives;
     script = l.script;
     number = l.number;
@@ -175,15 +182,16 @@ module _ {G : Ghosts InHand} (lens : ℕ → Lens) (recover : ℕ) where
     pace = n.1;
     waits = ap (map keyed) w;
     fits = All-nil (λ k. MayPass (lens a.lived.spot.station).out k);
+    handed = record { named = λ key e. absurd (let bad = sym o ∙ e in cc); only = λ i t. absurd (none_some a.lived.life.era.passing l.own t) };
   }
 
-  pub firsts_served : (paces : List ℕ) (as' : List Leads) (ps : List Post) (ss : List (Stop InHand G)) → AllBoth (λ a s. IsLead lens recover a s) as' ss → AllBoth (λ pace s. IsPaced pace s) paces ss → All WaitsNone ps → length ps ≡ length ss →
+  pub firsts_served : (paces : List ℕ) (as' : List Leads) (ps : List Post) (ss : List (Stop InHand G)) → AllBoth (λ a s. IsLead lens recover a s) as' ss → AllBoth (λ pace s. IsPaced pace s) paces ss → All WaitsNone ps → All (λ p. p.work ≡ Work.Nothing) ps → length ps ≡ length ss →
       EachOf (λ a. LifeKept nothing_kept a.lived.life) as' → AllThree (λ w p s. IsServed lens recover 0 w p s) (all_serve paces as') ps ss
-  firsts_served [] [] [] [] l n w e k = tt
-  firsts_served (pace ∷ paces) [] [] [] l n w e k = absurd n
-  firsts_served paces [] (p ∷ ps) [] l n w e k = absurd (omega (arith, e))
-  firsts_served paces [] ps (s ∷ ss) l n w e k = absurd l
-  firsts_served paces (a ∷ as') ps [] l n w e k = absurd l
-  firsts_served paces (a ∷ as') [] (s ∷ ss) l n w e k = absurd (omega (arith, e))
-  firsts_served [] (a ∷ as') (p ∷ ps) (s ∷ ss) l n w e k = absurd n
-  firsts_served (pace ∷ paces) (a ∷ as') (p ∷ ps) (s ∷ ss) l n w e k = (first_served pace a p s l.0 n.0 (All-head WaitsNone p ps w) k.0, firsts_served paces as' ps ss l.1 n.1 (All-tail WaitsNone p ps w) (omega (arith, e)) k.1)
+  firsts_served [] [] [] [] l n w o e k = tt
+  firsts_served (pace ∷ paces) [] [] [] l n w o e k = absurd n
+  firsts_served paces [] (p ∷ ps) [] l n w o e k = absurd (omega (arith, e))
+  firsts_served paces [] ps (s ∷ ss) l n w o e k = absurd l
+  firsts_served paces (a ∷ as') ps [] l n w o e k = absurd l
+  firsts_served paces (a ∷ as') [] (s ∷ ss) l n w o e k = absurd (omega (arith, e))
+  firsts_served [] (a ∷ as') (p ∷ ps) (s ∷ ss) l n w o e k = absurd n
+  firsts_served (pace ∷ paces) (a ∷ as') (p ∷ ps) (s ∷ ss) l n w o e k = (first_served pace a p s l.0 n.0 (All-head WaitsNone p ps w) (All-head (λ p. p.work ≡ Work.Nothing) p ps o) k.0, firsts_served paces as' ps ss l.1 n.1 (All-tail WaitsNone p ps w) (All-tail (λ p. p.work ≡ Work.Nothing) p ps o) (omega (arith, e)) k.1)

@@ -42,8 +42,10 @@ pub mod Listing
 pub mod Arrivals
 pub mod Eager
 pub mod Resting
+pub mod Named
 pub mod Serving
 pub mod Passes
+pub mod Handed
 pub mod Dropped
 pub mod Entering
 pub mod Starts

@@ -4,6 +4,7 @@ use Rattle.std.specs.List.{list_any}
 use Rattle.counters_kept.specs.Lives.{LifeKept}
 use Rattle.life_runs.specs.Led.{Leads}
 use Rattle.life_runs.specs.of_frame_view.View.{Lens}
+use Rattle.life_runs.specs.of_life_frames.Shares.{AllBoth}
 use Rattle.master_duty.specs.Reply.{Reply}
 use Rattle.master_duty.specs.of_state_exchange.Stated as Stated
 use Rattle.master_hand.specs.Laying.{Waiting, ready_of}
@@ -25,6 +26,7 @@ use Rattle.segment_plan.specs.declared.service.Service.{Service}
 use Rattle.served_runs.specs.Served.{Keyed, Serves, ServedComes}
 use Rattle.served_runs.specs.Told.{Passed}
 use Rattle.master_node.specs.Filling.{StopFills}
+use Rattle.master_node.specs.Handed.{IsHanding}
 use Rattle.master_node.specs.Serving.{MayPass, mails_in, run_lead}
 use Rattle.master_node.specs.Shows.{ComeAgain, is_live_lead, lived_of}
 use Rattle.master_node.specs.declared.coming.Coming.{Coming}
@@ -108,6 +110,7 @@ module _ (lens : ℕ → Lens) where
       pub begun : ℕ → Option (Stated.Service Asked)
       pub frame : FrameMade (λ ds i a s. StopFills lens recover made begun (m.made % 256) left ds i a s) octets m.tour.count (map (λ w. lived_of (run_lead w)) ws) m.tour.stops.items
       pub each : ThreeFrom (λ i w ks s. IsServing begun made left i w ks s) 0 ws (mails_in m) m.tour.stops.items
+      pub handed : AllBoth (λ w p. IsHanding begun w p.work) ws m.posts.items
 
 -- BEFORE THE FIRST VISIT no datagram stands in the frame, some slave is live, and the first that is visited is
 pub record BeginsFrame (m : MasterNode) (octets : List ℕ) (as' : List Leads) : Type 0 where

@@ -16,6 +16,7 @@ use Rattle.master_tour.specs.Passing.{StandPassing}
 use Rattle.master_tour.specs.Stands.{StandUnder}
 use Rattle.master_tour.specs.declared.stop.Stop.{Stop}
 use Rattle.served_runs.specs.Served.{Keyed, Serves, ServedTurn}
+use Rattle.master_node.specs.Named.{IsHanded}
 use Rattle.master_node.specs.Rooms.{FitAgain, FitUnder}
 use Rattle.master_node.specs.Shows.{GoesOn, GoesUnder, IsLived, lead_of, lived_of}
 use Rattle.master_node.specs.declared.node.MasterNode.{MasterNode}
@@ -56,7 +57,8 @@ module _ (lens : ℕ → Lens) where
 
   module _ (recover : ℕ) where
     -- THE SLAVE BEFORE THE FRAME OF THIS NUMBER: its life and its script, as in a run; a mail that is passed on has come as far as the life has it; the
-    -- record's counters are those of the life, and whether an empty read counts is what its side knows; and the mails that wait, each as it may be passed on
+    -- record's counters are those of the life, and whether an empty read counts is what its side knows; the mails that wait, each as it may be passed on; and the
+    -- mail in hand, under the key of its asker
     pub record IsServed {G : Ghosts InHand} (made : ℕ) (w : Serves) (p : Post) (s : Stop InHand G) : Type 0 where
       pub lives : IsLived lens recover w.lead.lived s
       pub script : s.side.hand.laying.script ≡ w.lead.script
@@ -68,6 +70,7 @@ module _ (lens : ℕ → Lens) where
       pub pace : s.side.pace ≡ w.pace
       pub waits : waits_of p ≡ w.waits
       pub fits : All (λ k. MayPass (lens w.lead.lived.spot.station).out k) w.waits
+      pub handed : IsHanded p.work w.hand w.lead.lived.life
 
     -- THE SLAVE WHILE THAT FRAME IS UNDER WAY: besides, its share of the frame, and what the frame has of it
     pub record IsServedUnder {G : Ghosts InHand} (octets : List ℕ) (made : ℕ) (v : ServedTurn) (p : Post) (s : Stop InHand G) : Type 0 where

@@ -57,6 +57,7 @@ impl MasterNode {
     ghost use Rattle.master_node.specs.Appends.{AppendsMail};
     ghost use Rattle.master_node.specs.Serving.{FitsAt, IsAsked, ServedShows, ServedUnder, mails_in, run_lead};
     ghost use Rattle.master_node.specs.Passes.{BeginsFrame, EndsFrame, IsPassing};
+    ghost use Rattle.master_node.specs.Handed.{work_from};
     ghost use Rattle.served_runs.specs.Served.{Keyed, Serves, ServedTurn, IsServedFrame, MayAsk, asked_at};
     ghost use Rattle.master_node.specs.Shows.{WaitsNone};
     ghost use Rattle.master_node.specs.Kept.{TourKept, TourOn};
@@ -178,6 +179,7 @@ impl MasterNode {
         ensures events { self.new.list.count ≤ self.old.list.count + 1 }
         ensures lists { StepsAt (λ p q. ListsOne place coming self.old self.new p q) place self.old.posts.items self.new.posts.items }
         ensures mails { mails_in self.new ≡ mails_in self.old }
+        ensures works { StepsAt (λ p q. q.work ≡ work_from coming p) place self.old.posts.items self.new.posts.items }
     {
         match coming {
             None => {}
@@ -208,6 +210,7 @@ impl MasterNode {
         ensures events { self.new.list.count ≤ self.old.list.count + 1 }
         ensures lists { StepsAt (λ p q. ListsOne place (where_began began coming) self.old self.new p q) place self.old.posts.items self.new.posts.items }
         ensures mails { mails_in self.new ≡ mails_in self.old }
+        ensures works { StepsAt (λ p q. q.work ≡ work_from (where_began began coming) p) place self.old.posts.items self.new.posts.items }
     {
         if began {
             self.begun(place, coming);
@@ -390,6 +393,7 @@ impl MasterNode {
         ensures posts { vec_len self.new.posts ≡ vec_len self.old.posts }
         ensures waits { waiting_at self.old.posts.items slave < 64 → StepsAt (λ p q. AppendsMail key mail.now p.mails.items q.mails.items) slave self.old.posts.items self.new.posts.items }
         ensures stays { result ≡ false → StepsAt (λ p q. q ≡ p) slave self.old.posts.items self.new.posts.items }
+        ensures works { StepsAt (λ p q. q.work ≡ p.work) slave self.old.posts.items self.new.posts.items }
         ensures kept { (self.new.tour ≡ self.old.tour) × (self.new.lan ≡ self.old.lan) × (self.new.made ≡ self.old.made) }
         ensures served { (lens : ℕ → Lens) (recover retry missed made : ℕ) (ws : List Serves) → waiting_at self.old.posts.items slave < 64 → FitsAt lens slave (length mail.now.body.items) ws → ServedShows lens recover retry self.old missed made ws →
             (k : Keyed) × IsAsked key mail.now k × MayAsk lens slave k ws × ServedShows lens recover retry self.new missed made (asked_at slave k ws) }

@@ -96,6 +96,7 @@ impl Post {
         ensures full { (result ≡ false) ↔ (length self.old.mails.items ≡ 64) }
         ensures same { result ≡ false → self.new ≡ self.old }
         ensures appends { length self.old.mails.items < 64 → AppendsMail key mail.now self.old.mails.items self.new.mails.items }
+        ensures work { self.new.work ≡ self.old.work }
     {
         if self.mails.is_full() {
             return false;
@@ -130,6 +131,7 @@ impl Post {
         ensures origin { result ≡ self.old.origin }
         ensures forwards { self.new.forwards ≡ counted_by self.old.origin self.old.forwards }
         ensures mails { self.new.mails ≡ self.old.mails }
+        ensures work { self.new.work ≡ self.old.next }
     {
         self.work = self.next;
         self.answer = None;

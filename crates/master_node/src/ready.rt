@@ -26,6 +26,8 @@ impl MasterNode {
     ghost use Rattle.master_side.specs.Free.{is_free_side};
     ghost use Rattle.master_node.specs.Origins.{LaysFrom};
     ghost use Rattle.master_node.specs.Begins.{IsOldest, LaysOldest, PacketFirst};
+    ghost use Rattle.master_node.specs.Handed.{LaysWork};
+    ghost use Rattle.master_side.specs.declared.carried.Target.{Target};
     ghost use Rattle.master_node.specs.Serving.{mails_in};
     ghost use Rattle.master_node.specs.Passes.{IsNextState, IsReady, LaysMail, MailWaits, waits_behind, waits_in};
 
@@ -87,6 +89,7 @@ impl MasterNode {
         ensures list { self.new.list ≡ self.old.list }
         ensures origins { StepsAt (λ s t. StepsAt (λ p q. LaysFrom (Some Coming.Packet) s.side.hand.laying.number p q) place self.old.posts.items self.new.posts.items) place self.old.tour.stops.items self.new.tour.stops.items }
         ensures mails { mails_in self.new ≡ mails_in self.old }
+        ensures works { StepsAt (λ p q. LaysWork (Some Coming.Packet) p q) place self.old.posts.items self.new.posts.items }
     {
         let post = &mut self.posts[place];
         post.next = Work::Packet;
@@ -108,6 +111,7 @@ impl MasterNode {
         ensures origins { StepsAt (λ s t. StepsAt (λ p q. LaysFrom (Some Coming.Mail) s.side.hand.laying.number p q) place self.old.posts.items self.new.posts.items) place self.old.tour.stops.items self.new.tour.stops.items }
         ensures mails { StepsAt (λ ks ls. ls ≡ waits_behind (Some Coming.Mail) ks) place (mails_in self.old) (mails_in self.new) }
         ensures ready { StepsAt (λ s t. IsReady t.side.out.len (waits_in (mails_in self.old) place) t.side.hand.laying) place self.old.tour.stops.items self.new.tour.stops.items }
+        ensures works { StepsAt (λ p q. LaysWork (Some Coming.Mail) p q) place self.old.posts.items self.new.posts.items }
     {
         let post = &mut self.posts[place];
         post.origin = Origin::Gateway(post.oldest());
@@ -127,6 +131,7 @@ impl MasterNode {
         ensures list { self.new.list ≡ self.old.list }
         ensures origins { StepsAt (λ s t. StepsAt (λ p q. LaysFrom (Some Coming.Script) s.side.hand.laying.number p q) place self.old.posts.items self.new.posts.items) place self.old.tour.stops.items self.new.tour.stops.items }
         ensures mails { mails_in self.new ≡ mails_in self.old }
+        ensures works { StepsAt (λ p q. LaysWork (Some Coming.Script) p q) place self.old.posts.items self.new.posts.items }
     {
         let side = &mut self.tour.stops[place].side;
         let number = side.hand.number();
@@ -146,6 +151,7 @@ impl MasterNode {
         ensures list { self.new.list ≡ self.old.list }
         ensures origins { StepsAt (λ s t. StepsAt (λ p q. (q.forwards ≡ p.forwards) × (q.origin ≡ Origin.Script s.side.hand.laying.number)) place self.old.posts.items self.new.posts.items) place self.old.tour.stops.items self.new.tour.stops.items }
         ensures mails { mails_in self.new ≡ mails_in self.old }
+        ensures works { (target : Target) → StepsAt (λ p q. LaysWork (Some (Coming.State target)) p q) place self.old.posts.items self.new.posts.items }
     {
         let number = self.tour.stops[place].side.hand.number();
         let post = &mut self.posts[place];
@@ -166,6 +172,7 @@ impl MasterNode {
         ensures origins { StepsAt (λ s t. StepsAt (λ p q. LaysFrom (Some coming) s.side.hand.laying.number p q) place self.old.posts.items self.new.posts.items) place self.old.tour.stops.items self.new.tour.stops.items }
         ensures mails { StepsAt (λ ks ls. ls ≡ waits_behind (Some coming) ks) place (mails_in self.old) (mails_in self.new) }
         ensures ready { StepsAt (λ s t. LaysMail (Some coming) t.side.out.len (waits_in (mails_in self.old) place) t.side.hand.laying) place self.old.tour.stops.items self.new.tour.stops.items }
+        ensures works { StepsAt (λ p q. LaysWork (Some coming) p q) place self.old.posts.items self.new.posts.items }
     {
         match coming {
             Coming::Packet => self.lay_packet(place),
@@ -189,6 +196,7 @@ impl MasterNode {
         ensures origins { StepsAt (λ s t. StepsAt (λ p q. LaysFrom coming s.side.hand.laying.number p q) place self.old.posts.items self.new.posts.items) place self.old.tour.stops.items self.new.tour.stops.items }
         ensures mails { StepsAt (λ ks ls. ls ≡ waits_behind coming ks) place (mails_in self.old) (mails_in self.new) }
         ensures ready { StepsAt (λ s t. LaysMail coming t.side.out.len (waits_in (mails_in self.old) place) t.side.hand.laying) place self.old.tour.stops.items self.new.tour.stops.items }
+        ensures works { StepsAt (λ p q. LaysWork coming p q) place self.old.posts.items self.new.posts.items }
     {
         match coming {
             None => {}

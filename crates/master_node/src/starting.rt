@@ -7,6 +7,7 @@ ghost use Rattle.master_node.specs.Lives.{waiting_of};
 ghost use Rattle.segment_plan.specs.Sound.{IsPlan, IsSlave, IsPace};
 ghost use Rattle.master_node.specs.First.{IsNewSide, IsFirst};
 ghost use Rattle.master_node.specs.Origins.{CountsNone};
+ghost use Rattle.master_node.specs.declared.post.Work.{Work};
 ghost use Rattle.master_node.specs.Shows.{WaitsNone};
 
 use crate::copies::script_of;
@@ -93,6 +94,7 @@ fn posts_of(alloc: Global, count: usize) -> Result<Vec<Post>, NoMemory>
     ensures quiet { IfOk result (λ posts. All WaitsNone posts.items) }
     ensures waiting { IfOk result (λ posts. map waiting_of posts.items ≡ replicate count 0) }
     ensures counts { IfOk result (λ posts. All CountsNone posts.items) }
+    ensures works { IfOk result (λ posts. All (λ p. p.work ≡ Work.Nothing) posts.items) }
 {
     let mut posts = Vec::new(alloc);
     for _ in 0..count {

@@ -8,10 +8,14 @@ use Rattle.master_node.proofs.Arrivals.{arrivals_next, heard_kept}
 use Rattle.master_node.proofs.Downs.{lists_none, lists_then, lists_as}
 use Rattle.master_node.proofs.Happenings.{happens_none, happens_then, happens_more}
 use Rattle.master_node.proofs.Servings.{tells_refl, tells_then}
+use Rattle.std.proofs.Common.{subst, take, ◌∷◌, []}
+use Rattle.std.proofs.lemmas.List.{take_more}
+use Rattle.master_node.specs.Handed.{EndsWork, passing_at}
+use Rattle.master_node.proofs.Endings.{ends_from, ends_same, ends_then}
 use Rattle.master_node.proofs.node.MasterNode.all_back.Goals as goal
 
 pub loop-k-init : goal.loop-k-init
-loop-k-init c = record { posts = refl; kept = node_refl c.args.self.now; tells = tells_refl c.args.self.now; lan = happens_none 0 _ _ refl; listed = lists_none _ _ _ refl refl }
+loop-k-init c = record { posts = refl; kept = node_refl c.args.self.now; tells = tells_refl c.args.self.now; works = ends_same _ c.args.self.now.posts.items; lan = happens_none 0 _ _ refl; listed = lists_none _ _ _ refl refl }
 
 pub loop-k-preserved : goal.loop-k-preserved
 loop-k-preserved c =
@@ -27,6 +31,10 @@ loop-k-preserved c =
       posts = step.posts ∙ inv.posts;
       kept = node_then _ _ _ step.kept inv.kept;
       tells = tells_then _ _ _ step.tells inv.tells;
+      works = subst (λ z. EndsWork (λ j. passing_at m.tour.stops.items j) z m.posts.items c.back_at.new.self.posts.items) (sym (take_more m.tour.visit.items k 0 inside))
+          (ends_then (λ j. passing_at m.tour.stops.items j) (take k m.tour.visit.items) (get_or m.tour.visit.items k 0 ∷ []) m.posts.items c.loop-k.self.posts.items c.back_at.new.self.posts.items inv.works
+          (ends_from _ (λ j. passing_at c.loop-k.self.tour.stops.items j) (get_or m.tour.visit.items k 0 ∷ []) _ _ (λ j. ap (λ z. passing_at z.stops.items j) inv.tells.tour)
+          (subst (λ z. EndsWork (λ j. passing_at c.loop-k.self.tour.stops.items j) (get_or z k 0 ∷ []) c.loop-k.self.posts.items c.back_at.new.self.posts.items) (sym same) step.works)));
       lan = happens_then k 1 _ _ _ inv.lan step.lan;
       listed = lists_as _ _ _ _ (arrivals_next m.lan.ports.items (λ p. heard_at m.tour.stops.items p) m.tour.visit.items k 0 inside)
           (lists_then _ _ _ _ _ inv.listed
@@ -45,3 +53,8 @@ returns-clause-listed c =
     lists_as _ _ _ _
     (ap (λ z. arrivals_in m.lan.ports.items (λ p. heard_at m.tour.stops.items p) z) (sym (take_all c.loop-k.k m.tour.visit.items (omega (arith, c.loop-k-test.false, c.len-k-end.ensures.value)))))
     c.loop-k.invariant.listed
+
+pub returns-clause-works : goal.returns-clause-works
+returns-clause-works c =
+    let m = c.args.self.now in
+    subst (λ z. EndsWork (λ j. passing_at m.tour.stops.items j) z m.posts.items c.loop-k.self.posts.items) (take_all c.loop-k.k m.tour.visit.items (omega (arith, c.loop-k-test.false, c.len-k-end.ensures.value))) c.loop-k.invariant.works

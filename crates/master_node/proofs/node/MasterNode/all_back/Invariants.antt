@@ -1,6 +1,7 @@
 use Rattle.std.proofs.Common.{◌≡◌, vec_len, take}
 use Rattle.master_node.specs.Arrivals.{arrivals_in, heard_at}
 use Rattle.master_node.specs.Downs.{Lists}
+use Rattle.master_node.specs.Handed.{EndsWork, passing_at}
 use Rattle.master_node.specs.Happened.{Happens}
 use Rattle.master_node.specs.Kept.{NodeKept}
 use Rattle.master_node.specs.Serving.{TellsOnly}
@@ -11,6 +12,7 @@ invariant-loop-k l = record {
   posts : vec_len l.self.posts ≡ vec_len l.initial.self.posts;
   kept : NodeKept l.initial.self l.self;
   tells : TellsOnly l.initial.self l.self;
+  works : EndsWork (λ k. passing_at l.initial.self.tour.stops.items k) (take l.k l.initial.self.tour.visit.items) l.initial.self.posts.items l.self.posts.items;
   lan : Happens l.k l.initial.self.lan l.self.lan;
   listed : Lists (arrivals_in l.initial.self.lan.ports.items (λ p. heard_at l.initial.self.tour.stops.items p) (take l.k l.initial.self.tour.visit.items)) l.initial.self.lan l.self.lan;
 }

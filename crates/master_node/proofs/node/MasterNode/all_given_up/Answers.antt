@@ -11,6 +11,8 @@ use Rattle.std.proofs.lemmas.List.{take_more}
 use Rattle.master_node.specs.Dropped.{Drops, gave_at}
 use Rattle.master_node.specs.Serving.{mails_in}
 use Rattle.master_node.proofs.Droppeds.{drops_on, drops_start}
+use Rattle.master_node.specs.Handed.{DropsWork}
+use Rattle.master_node.proofs.Endings.{drop_on, drop_start}
 use Rattle.master_node.proofs.node.MasterNode.all_given_up.Goals as goal
 
 pub loop-k-init : goal.loop-k-init
@@ -19,6 +21,7 @@ loop-k-init c = record {
   kept = node_refl c.args.self.now;
   lan = happens_none 0 _ _ refl;
   tour = refl;
+  works = drop_start _ c.args.self.now.posts.items;
   mails = drops_start _ (mails_in c.args.self.now);
   listed = lists_none _ _ _ refl refl;
 }
@@ -36,6 +39,10 @@ loop-k-preserved c =
       kept = node_then _ _ _ step.kept inv.kept;
       lan = happens_then k 1 _ _ _ inv.lan step.lan;
       tour = step.tour ∙ inv.tour;
+      works = subst (λ z. DropsWork (λ p. gave_at m.tour.stops.items p) z m.posts.items c.given_up_at.new.self.posts.items) (sym (take_more m.tour.visit.items k 0 inside))
+          (drop_on _ (take k m.tour.visit.items) (get_or m.tour.visit.items k 0 ∷ []) m.posts.items c.loop-k.self.posts.items c.given_up_at.new.self.posts.items inv.works
+          (subst (λ z. DropsWork (λ p. gave_at z.stops.items p) (get_or m.tour.visit.items k 0 ∷ []) c.loop-k.self.posts.items c.given_up_at.new.self.posts.items) inv.tour
+          (subst (λ z. DropsWork (λ p. gave_at c.loop-k.self.tour.stops.items p) (get_or z k 0 ∷ []) c.loop-k.self.posts.items c.given_up_at.new.self.posts.items) (sym same) step.works)));
       mails = subst (λ z. Drops (λ p. gave_at m.tour.stops.items p) z (mails_in m) (mails_in c.given_up_at.new.self)) (sym (take_more m.tour.visit.items k 0 inside))
           (drops_on _ (take k m.tour.visit.items) (get_or m.tour.visit.items k 0) (mails_in m) (mails_in c.loop-k.self) (mails_in c.given_up_at.new.self) inv.mails
           (subst (λ z. Drops (λ p. gave_at z.stops.items p) (get_or m.tour.visit.items k 0 ∷ []) (mails_in c.loop-k.self) (mails_in c.given_up_at.new.self)) inv.tour
@@ -62,3 +69,8 @@ pub returns-clause-mails : goal.returns-clause-mails
 returns-clause-mails c =
     let m = c.args.self.now in
     subst (λ z. Drops (λ p. gave_at m.tour.stops.items p) z (mails_in m) (mails_in c.loop-k.self)) (take_all c.loop-k.k m.tour.visit.items (omega (arith, c.loop-k-test.false, c.len-k-end.ensures.value))) c.loop-k.invariant.mails
+
+pub returns-clause-works : goal.returns-clause-works
+returns-clause-works c =
+    let m = c.args.self.now in
+    subst (λ z. DropsWork (λ p. gave_at m.tour.stops.items p) z m.posts.items c.loop-k.self.posts.items) (take_all c.loop-k.k m.tour.visit.items (omega (arith, c.loop-k-test.false, c.len-k-end.ensures.value))) c.loop-k.invariant.works

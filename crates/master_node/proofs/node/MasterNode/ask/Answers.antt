@@ -1,5 +1,5 @@
 use Rattle.std.proofs.Common.{◌≡◌, ◌<◌, ◌∙◌, sym, arith, length}
-use Rattle.master_tour.proofs.Walks.{steps_set}
+use Rattle.master_tour.proofs.Walks.{steps_both, steps_set}
 use Rattle.master_node.specs.Appends.{AppendsMail}
 use Rattle.master_node.proofs.Places.{waiting_here}
 use Rattle.std.proofs.Common.{subst}
@@ -24,10 +24,15 @@ returns-clause-stays c = λ r.
     let l : c.args.slave < length c.args.self.now.posts.items = omega (arith, c.requires, c.args.self.now.posts.ok.0) in
     steps_set (λ p q. q ≡ p) c.args.slave c.args.self.now.posts.items c.index_mut.result.now c.ask.new.self l c.index_mut.ensures.value (c.ask.ensures.same r)
 
+pub returns-clause-works : goal.returns-clause-works
+returns-clause-works c =
+    let l : c.args.slave < length c.args.self.now.posts.items = omega (arith, c.requires, c.args.self.now.posts.ok.0) in
+    steps_set (λ p q. q.work ≡ p.work) c.args.slave c.args.self.now.posts.items c.index_mut.result.now c.ask.new.self l c.index_mut.ensures.value c.ask.ensures.work
+
 pub returns-clause-served : goal.returns-clause-served
 returns-clause-served c = λ lens recover retry missed made ws r f h.
     let m = c.args.self.now in
-    let a = asked_so lens recover made c.args.key c.args.mail.now c.args.slave ws m.posts.items _ m.tour.stops.items r f h.each (returns-clause-waits c r) in (
+    let a = asked_so lens recover made c.args.key c.args.mail.now c.args.slave ws m.posts.items _ m.tour.stops.items r f h.each (steps_both _ _ c.args.slave m.posts.items _ (returns-clause-waits c r) (returns-clause-works c)) in (
       a.asks,
       a.is,
       a.may,

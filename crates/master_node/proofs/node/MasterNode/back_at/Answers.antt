@@ -7,6 +7,9 @@ use Rattle.master_node.proofs.Arrivals.{arrive_none, heard_beyond}
 use Rattle.master_node.proofs.Downs.{lists_none}
 use Rattle.master_node.proofs.Happenings.{happens_none}
 use Rattle.master_node.proofs.Servings.{tells_refl}
+use Rattle.std.proofs.Common.{◌≡◌}
+use Rattle.master_node.specs.declared.post.Work.{Work}
+use Rattle.master_node.proofs.Endings.{ends_free, ends_told, none_beyond}
 use Rattle.master_node.proofs.node.MasterNode.back_at.Goals as goal
 
 pub returns-else-place-len-clause-kept : goal.returns-else-place-len-clause-kept
@@ -24,3 +27,8 @@ returns-else-place-len-clause-listed c =
 
 pub returns-else-place-len-clause-tells : goal.returns-else-place-len-clause-tells
 returns-else-place-len-clause-tells c = tells_refl _
+
+pub returns-else-place-len-clause-works : goal.returns-else-place-len-clause-works
+returns-else-place-len-clause-works c =
+    let m = c.args.self.now in
+    ends_free _ c.args.place m.posts.items m.posts.items (λ key e. absurd (none_beyond m.posts.items c.args.place (omega (arith, c.if-place-len.false, c.len.ensures, m.posts.ok.0)) key e)) (ends_told _ _ _ refl)

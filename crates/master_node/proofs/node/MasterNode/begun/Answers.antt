@@ -18,6 +18,8 @@ use Rattle.master_node.proofs.Listing.{events_of_list}
 use Rattle.std.specs.Prelude.{map}
 use Rattle.master_node.specs.Serving.{waits_of}
 use Rattle.master_node.proofs.Servings.{posts_set}
+use Rattle.master_node.specs.Handed.{work_from}
+use Rattle.std.proofs.Common.{◌≡◌, None}
 use Rattle.master_node.proofs.node.MasterNode.begun.Goals as goal
 
 pub returns-in-None-clause-begun : goal.returns-in-None-clause-begun
@@ -99,3 +101,18 @@ returns-in-Some-clause-mails c =
     let m = c.args.self.now in
     let k : c.args.place < length m.posts.items = omega (arith, c.requires, m.posts.ok.0) in
     ap (λ z. map waits_of z.items) c.pass_by.ensures.posts ∙ posts_set m.posts.items c.args.place c.index_mut.result.now _ k c.index_mut.ensures.value (ap (λ z. z.items) c.begin-origin.ensures.mails)
+
+pub returns-in-None-clause-works : goal.returns-in-None-clause-works
+returns-in-None-clause-works c =
+    let m = c.args.self.now in
+    let k : c.args.place < length m.posts.items = omega (arith, c.requires, m.posts.ok.0) in
+    subst (λ z. StepsAt (λ p q. q.work ≡ work_from z p) c.args.place m.posts.items m.posts.items) (sym c.in-None.is) (steps_same (λ p q. q.work ≡ work_from None p) c.args.place m.posts.items k (λ p. refl))
+
+pub returns-in-Some-clause-works : goal.returns-in-Some-clause-works
+returns-in-Some-clause-works c =
+    let m = c.args.self.now in
+    let k : c.args.place < length m.posts.items = omega (arith, c.requires, m.posts.ok.0) in
+    let n = c.pass_by.new.self in
+    subst (λ z. StepsAt (λ p q. q.work ≡ work_from z p) c.args.place m.posts.items n.posts.items) (sym c.in-Some.is)
+    (subst (λ z. StepsAt (λ p q. q.work ≡ work_from (Some c.in-Some.what) p) c.args.place m.posts.items z.items) (sym c.pass_by.ensures.posts)
+    (steps_set (λ p q. q.work ≡ work_from (Some c.in-Some.what) p) c.args.place m.posts.items c.index_mut.result.now _ k c.index_mut.ensures.value c.begin-origin.ensures.work))

@@ -12,6 +12,8 @@ use Rattle.master_node.proofs.Happenings.{happens_none}
 use Rattle.master_node.proofs.Made.{makes_none}
 use Rattle.std.proofs.Common.{append-nil}
 use Rattle.master_node.specs.Listing.{ListsOne, events_in, where_began}
+use Rattle.master_node.specs.Handed.{work_from}
+use Rattle.std.proofs.Common.{◌≡◌, None}
 use Rattle.master_node.proofs.node.MasterNode.came.Goals as goal
 
 pub returns-then-began-clause-came : goal.returns-then-began-clause-came
@@ -82,3 +84,13 @@ returns-else-began-clause-events c = omega arith
 
 pub returns-then-began-clause-mails : goal.returns-then-began-clause-mails
 returns-then-began-clause-mails c = c.begun.ensures.mails
+
+pub returns-then-began-clause-works : goal.returns-then-began-clause-works
+returns-then-began-clause-works c =
+    subst (λ z. StepsAt (λ p q. q.work ≡ work_from (where_began z c.args.coming) p) c.args.place c.args.self.now.posts.items c.begun.new.self.posts.items) (sym c.if-began.true) c.begun.ensures.works
+
+pub returns-else-began-clause-works : goal.returns-else-began-clause-works
+returns-else-began-clause-works c =
+    let m = c.args.self.now in
+    let k : c.args.place < length m.posts.items = omega (arith, c.requires, m.posts.ok.0) in
+    subst (λ z. StepsAt (λ p q. q.work ≡ work_from (where_began z c.args.coming) p) c.args.place m.posts.items m.posts.items) (sym c.if-began.false) (steps_same (λ p q. q.work ≡ work_from None p) c.args.place m.posts.items k (λ p. refl))

@@ -8,6 +8,7 @@ use Rattle.master_node.proofs.Downs.{lists_as, lists_none}
 use Rattle.master_node.proofs.Tells.{node_told}
 use Rattle.master_node.proofs.Happenings.{happens_none}
 use Rattle.master_node.proofs.Servings.{tells_told}
+use Rattle.master_node.proofs.Endings.{ends_told}
 use Rattle.master_node.proofs.node.MasterNode.emitted.Goals as goal
 
 pub returns-in-Some-packet-clause-kept : goal.returns-in-Some-packet-clause-kept
@@ -42,3 +43,9 @@ returns-in-Some-packet-clause-tells c = tells_told _ _ refl refl refl
 
 pub returns-in_default-packet-clause-tells : goal.returns-in_default-packet-clause-tells
 returns-in_default-packet-clause-tells c = tells_told _ _ refl refl refl
+
+pub returns-in-Some-packet-clause-works : goal.returns-in-Some-packet-clause-works
+returns-in-Some-packet-clause-works c = ends_told _ _ _ refl
+
+pub returns-in_default-packet-clause-works : goal.returns-in_default-packet-clause-works
+returns-in_default-packet-clause-works c = ends_told _ _ _ refl

@@ -10,6 +10,8 @@ use Rattle.std.proofs.Common.{subst, ◌∷◌, []}
 use Rattle.master_tour.specs.Walks.{StepsAt}
 use Rattle.master_node.specs.Serving.{mails_in}
 use Rattle.master_node.proofs.Droppeds.{drops_none, drops_one}
+use Rattle.master_node.specs.declared.post.Work.{Work}
+use Rattle.master_node.proofs.Endings.{drop_none, drop_one}
 use Rattle.master_node.proofs.node.MasterNode.given_up.Goals as goal
 
 pub returns-clause-kept : goal.returns-clause-kept
@@ -61,3 +63,18 @@ returns-then-not-is_given_up-clause-mails c =
     let p = c.args.place in
     let l : p < length m.tour.stops.items = omega (arith, c.requires, m.paired, m.tour.stops.ok.0) in
     drops_none _ p (mails_in m) (mails_in m) (here_is (λ s. is_given_up s.news) m.tour.stops.items p c.index.result.now false l c.index.ensures (sym c.is_given_up.ensures ∙ c.if-not-is_given_up.true)) refl
+
+pub returns-clause-works : goal.returns-clause-works
+returns-clause-works c =
+    let m = c.args.self.now in
+    let p = c.args.place in
+    let l : p < length m.tour.stops.items = omega (arith, c.requires, m.paired, m.tour.stops.ok.0) in
+    drop_one _ p m.posts.items _ (here_is (λ s. is_given_up s.news) m.tour.stops.items p c.index.result.now true l c.index.ensures (sym c.is_given_up.ensures ∙ c.if-not-is_given_up.false))
+    (subst (λ z. StepsAt (λ v w. w.work ≡ Work.Nothing) p m.posts.items z.items) (sym c.down_where.ensures.works) c.dropped.ensures.works)
+
+pub returns-then-not-is_given_up-clause-works : goal.returns-then-not-is_given_up-clause-works
+returns-then-not-is_given_up-clause-works c =
+    let m = c.args.self.now in
+    let p = c.args.place in
+    let l : p < length m.tour.stops.items = omega (arith, c.requires, m.paired, m.tour.stops.ok.0) in
+    drop_none _ p m.posts.items m.posts.items (here_is (λ s. is_given_up s.news) m.tour.stops.items p c.index.result.now false l c.index.ensures (sym c.is_given_up.ensures ∙ c.if-not-is_given_up.true)) refl

@@ -7,6 +7,7 @@ use Rattle.master_node.proofs.Tells.{node_refl}
 use Rattle.master_node.proofs.Happenings.{happens_none}
 use Rattle.master_node.specs.Serving.{mails_in}
 use Rattle.master_node.proofs.Droppeds.{drops_none}
+use Rattle.master_node.proofs.Endings.{drop_none}
 use Rattle.master_node.proofs.node.MasterNode.given_up_at.Goals as goal
 
 pub returns-else-place-len-clause-kept : goal.returns-else-place-len-clause-kept
@@ -28,3 +29,10 @@ returns-else-place-len-clause-mails c =
     let p = c.args.place in
     let l : length m.tour.stops.items ≤ p = omega (arith, c.if-place-len.false, c.len.ensures, m.paired, m.tour.stops.ok.0) in
     drops_none _ p (mails_in m) (mails_in m) (holds_beyond (λ s. is_given_up s.news) m.tour.stops.items p l) refl
+
+pub returns-else-place-len-clause-works : goal.returns-else-place-len-clause-works
+returns-else-place-len-clause-works c =
+    let m = c.args.self.now in
+    let p = c.args.place in
+    let l : length m.tour.stops.items ≤ p = omega (arith, c.if-place-len.false, c.len.ensures, m.paired, m.tour.stops.ok.0) in
+    drop_none _ p m.posts.items m.posts.items (holds_beyond (λ s. is_given_up s.news) m.tour.stops.items p l) refl

@@ -6,6 +6,7 @@ use Rattle.master_node.proofs.Tells.{node_refl}
 use Rattle.master_node.proofs.Arrivals.{arrive_none}
 use Rattle.master_node.proofs.Downs.{lists_as, lists_none}
 use Rattle.master_node.proofs.Servings.{tells_refl}
+use Rattle.master_node.proofs.Endings.{ends_told}
 use Rattle.master_node.proofs.node.MasterNode.heard_where.Goals as goal
 
 pub returns-in_default-clause-kept : goal.returns-in_default-clause-kept
@@ -24,3 +25,6 @@ returns-in_default-clause-listed c =
 
 pub returns-in_default-clause-tells : goal.returns-in_default-clause-tells
 returns-in_default-clause-tells c = tells_refl _
+
+pub returns-in_default-clause-works : goal.returns-in_default-clause-works
+returns-in_default-clause-works c = ends_told _ _ _ refl

@@ -14,6 +14,7 @@ use Rattle.std.proofs.Common.{◌≡◌, None}
 use Rattle.master_node.specs.Passes.{LaysMail, waits_behind, waits_in}
 use Rattle.master_node.specs.Serving.{mails_in}
 use Rattle.master_node.proofs.Mailings.{waits_stay}
+use Rattle.master_node.specs.Handed.{LaysWork}
 use Rattle.master_node.proofs.node.MasterNode.lay.Goals as goal
 
 pub returns-in-None-clause-laid : goal.returns-in-None-clause-laid
@@ -89,3 +90,13 @@ pub returns-in-Some-clause-ready : goal.returns-in-Some-clause-ready
 returns-in-Some-clause-ready c =
     let m = c.args.self.now in
     subst (λ z. StepsAt (λ s t. LaysMail z t.side.out.len (waits_in (mails_in m) c.args.place) t.side.hand.laying) c.args.place m.tour.stops.items c.lay_coming.new.self.tour.stops.items) (sym c.in-Some.is) c.lay_coming.ensures.ready
+
+pub returns-in-None-clause-works : goal.returns-in-None-clause-works
+returns-in-None-clause-works c =
+    let m = c.args.self.now in
+    let k : c.args.place < length m.posts.items = omega (arith, c.requires, m.posts.ok.0) in
+    subst (λ z. StepsAt (λ p q. LaysWork z p q) c.args.place m.posts.items m.posts.items) (sym c.in-None.is) (steps_same (λ p q. LaysWork None p q) c.args.place m.posts.items k (λ p. record { work = refl; next = tt }))
+
+pub returns-in-Some-clause-works : goal.returns-in-Some-clause-works
+returns-in-Some-clause-works c =
+    subst (λ z. StepsAt (λ p q. LaysWork z p q) c.args.place c.args.self.now.posts.items c.lay_coming.new.self.posts.items) (sym c.in-Some.is) c.lay_coming.ensures.works

@@ -14,6 +14,7 @@ use Rattle.std.proofs.Common.{◌≡◌, refl}
 use Rattle.master_node.specs.Passes.{LaysMail, waits_behind, waits_in}
 use Rattle.master_node.specs.Serving.{mails_in}
 use Rattle.master_node.proofs.Mailings.{waits_stay}
+use Rattle.master_node.specs.Handed.{LaysWork}
 use Rattle.master_node.proofs.node.MasterNode.lay_coming.Goals as goal
 
 pub returns-in-Packet-clause-laid : goal.returns-in-Packet-clause-laid
@@ -161,3 +162,19 @@ pub returns-in-Mail-clause-ready : goal.returns-in-Mail-clause-ready
 returns-in-Mail-clause-ready c =
     let m = c.args.self.now in
     subst (λ z. StepsAt (λ s t. LaysMail (Some z) t.side.out.len (waits_in (mails_in m) c.args.place) t.side.hand.laying) c.args.place m.tour.stops.items c.lay_mail.new.self.tour.stops.items) (sym c.in-Mail.is) c.lay_mail.ensures.ready
+
+pub returns-in-Packet-clause-works : goal.returns-in-Packet-clause-works
+returns-in-Packet-clause-works c =
+    subst (λ z. StepsAt (λ p q. LaysWork (Some z) p q) c.args.place c.args.self.now.posts.items c.lay_packet.new.self.posts.items) (sym c.in-Packet.is) c.lay_packet.ensures.works
+
+pub returns-in-Script-clause-works : goal.returns-in-Script-clause-works
+returns-in-Script-clause-works c =
+    subst (λ z. StepsAt (λ p q. LaysWork (Some z) p q) c.args.place c.args.self.now.posts.items c.lay_script.new.self.posts.items) (sym c.in-Script.is) c.lay_script.ensures.works
+
+pub returns-in-Mail-clause-works : goal.returns-in-Mail-clause-works
+returns-in-Mail-clause-works c =
+    subst (λ z. StepsAt (λ p q. LaysWork (Some z) p q) c.args.place c.args.self.now.posts.items c.lay_mail.new.self.posts.items) (sym c.in-Mail.is) c.lay_mail.ensures.works
+
+pub returns-in-State-clause-works : goal.returns-in-State-clause-works
+returns-in-State-clause-works c =
+    subst (λ z. StepsAt (λ p q. LaysWork (Some z) p q) c.args.place c.args.self.now.posts.items c.lay_state.new.self.posts.items) (sym c.in-State.is) (c.lay_state.ensures.works c.in-State.field-0)

@@ -6,6 +6,8 @@ use Rattle.std.proofs.Common.{◌≡◌, ◌∙◌, ◌+◌, ◌≤◌, Some, No
 use Rattle.master_node.specs.declared.coming.Coming.{Coming}
 use Rattle.master_node.specs.Passes.{IsReady}
 use Rattle.master_node.proofs.Mailings.{ready_none, ready_so, waits_here, waits_set, waits_taken}
+use Rattle.master_node.specs.Handed.{LaysWork}
+use Rattle.master_node.proofs.Handings.{oldest_none, oldest_so}
 use Rattle.master_node.proofs.node.MasterNode.lay_mail.Goals as goal
 
 pub returns-in-Some-clause-laid : goal.returns-in-Some-clause-laid
@@ -69,3 +71,18 @@ returns-in_default-clause-ready c =
     let none : c.take.result ≡ None = cc in
     steps_same (λ s t. IsReady t.side.out.len _ t.side.hand.laying) c.args.place m.tour.stops.items l
     (λ s. subst (λ z. IsReady s.side.out.len z s.side.hand.laying) (sym (waits_here m.posts.items c.args.place p k c.index_mut-post.ensures.value)) (ready_none s.side.out.len p s.side.hand.laying (sym c.take.ensures.oldest ∙ none)))
+
+pub returns-in-Some-clause-works : goal.returns-in-Some-clause-works
+returns-in-Some-clause-works c =
+    let m = c.args.self.now in
+    let k : c.args.place < length m.posts.items = omega (arith, c.requires, m.posts.ok.0) in
+    let p = c.index_mut-post.result.now in
+    steps_set (λ p q. LaysWork (Some Coming.Mail) p q) c.args.place m.posts.items p _ k c.index_mut-post.ensures.value (record { work = c.take.ensures.work; next = oldest_so p c.in-Some.asked (sym c.in-Some.is ∙ c.take.ensures.oldest) })
+
+pub returns-in_default-clause-works : goal.returns-in_default-clause-works
+returns-in_default-clause-works c =
+    let m = c.args.self.now in
+    let k : c.args.place < length m.posts.items = omega (arith, c.requires, m.posts.ok.0) in
+    let p = c.index_mut-post.result.now in
+    let none : c.take.result ≡ None = cc in
+    steps_set (λ p q. LaysWork (Some Coming.Mail) p q) c.args.place m.posts.items p _ k c.index_mut-post.ensures.value (record { work = c.take.ensures.work; next = oldest_none p _ (sym c.take.ensures.oldest ∙ none) })

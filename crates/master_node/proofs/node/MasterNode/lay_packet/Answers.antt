@@ -4,6 +4,8 @@ use Rattle.master_node.specs.Begins.{IsOldest}
 use Rattle.master_tour.proofs.Walks.{steps_set}
 use Rattle.master_node.proofs.Kepts.{stop_side}
 use Rattle.master_node.proofs.Servings.{posts_set}
+use Rattle.master_node.specs.Handed.{LaysWork}
+use Rattle.master_node.specs.declared.coming.Coming.{Coming}
 use Rattle.master_node.proofs.node.MasterNode.lay_packet.Goals as goal
 
 pub returns-in-Some-clause-laid : goal.returns-in-Some-clause-laid
@@ -66,3 +68,15 @@ returns-in-None-clause-mails c =
     let m = c.args.self.now in
     let k : c.args.place < length m.posts.items = omega (arith, c.requires, m.posts.ok.0) in
     posts_set m.posts.items c.args.place c.index_mut-post.result.now _ k c.index_mut-post.ensures.value refl
+
+pub returns-in-Some-clause-works : goal.returns-in-Some-clause-works
+returns-in-Some-clause-works c =
+    let m = c.args.self.now in
+    let k : c.args.place < length m.posts.items = omega (arith, c.requires, m.posts.ok.0) in
+    steps_set (λ p q. LaysWork (Some Coming.Packet) p q) c.args.place m.posts.items c.index_mut-post.result.now _ k c.index_mut-post.ensures.value (record { work = refl; next = refl })
+
+pub returns-in-None-clause-works : goal.returns-in-None-clause-works
+returns-in-None-clause-works c =
+    let m = c.args.self.now in
+    let k : c.args.place < length m.posts.items = omega (arith, c.requires, m.posts.ok.0) in
+    steps_set (λ p q. LaysWork (Some Coming.Packet) p q) c.args.place m.posts.items c.index_mut-post.result.now _ k c.index_mut-post.ensures.value (record { work = refl; next = refl })

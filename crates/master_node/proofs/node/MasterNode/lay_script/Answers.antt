@@ -4,6 +4,9 @@ use Rattle.master_node.proofs.Kepts.{stop_side}
 use Rattle.std.proofs.Common.{ap}
 use Rattle.master_node.specs.declared.event.Origin.{Origin}
 use Rattle.master_node.proofs.Servings.{posts_set}
+use Rattle.master_node.specs.Handed.{LaysWork}
+use Rattle.master_node.specs.declared.coming.Coming.{Coming}
+use Rattle.std.proofs.Common.{Some}
 use Rattle.master_node.proofs.node.MasterNode.lay_script.Goals as goal
 
 pub returns-clause-laid : goal.returns-clause-laid
@@ -25,3 +28,9 @@ returns-clause-mails c =
     let m = c.args.self.now in
     let k : c.args.place < length m.posts.items = omega (arith, c.requires, m.posts.ok.0) in
     posts_set m.posts.items c.args.place c.index_mut-post.result.now _ k c.index_mut-post.ensures.value refl
+
+pub returns-clause-works : goal.returns-clause-works
+returns-clause-works c =
+    let m = c.args.self.now in
+    let k : c.args.place < length m.posts.items = omega (arith, c.requires, m.posts.ok.0) in
+    steps_set (λ p q. LaysWork (Some Coming.Script) p q) c.args.place m.posts.items c.index_mut-post.result.now _ k c.index_mut-post.ensures.value (record { work = refl; next = refl })

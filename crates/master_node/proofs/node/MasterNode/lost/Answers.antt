@@ -44,6 +44,7 @@ use Rattle.master_tour.specs.Goes.{holds_at}
 use Rattle.master_node.specs.Dropped.{gave_at}
 use Rattle.master_node.specs.Passes.{waits_in}
 use Rattle.master_node.proofs.ServedLosts as Losts
+use Rattle.master_node.specs.Handed.{work_at}
 use Rattle.master_node.proofs.node.MasterNode.lost.Goals as goal
 
 pub returns-clause-leads : goal.returns-clause-leads
@@ -156,15 +157,16 @@ returns-clause-served c = λ lens recover retry missed made after octets vs f p 
     given_is (speech_at lens spot) recover made spot (seen lens octets) (given && s.under) l t.news follows.told) vs m.posts.items ss ts u.each (e.lives lens octets) in
     let drops = k.mails in
     let waits = λ (j : ℕ). drops.each j ∙ Losts.waits_lost given (gave_at ts j) (is_in j t1.visit.items) (holds_at (λ s. s.under) ss j) (waits_in (mails_in m) j) (gave j) (λ y. ap (λ z. is_in j z.items) e.tour.0 ∙ u.carried j y) in
-    let each = Losts.all_lost lens recover retry gives made f octets after p b given _ _ vs m.posts.items n.posts.items ss ts u.each drops.long waits three toured
-    (λ v q r s t i w a z.
+    let works = λ (j : ℕ). k.works.each j ∙ Losts.works_lost given (gave_at ts j) (is_in j t1.visit.items) (holds_at (λ s. s.under) ss j) (work_at m.posts.items j) (gave j) (λ y. ap (λ z. is_in j z.items) e.tour.0 ∙ u.carried j y) in
+    let each = Losts.all_lost lens recover retry gives made f octets after p b given _ _ vs m.posts.items n.posts.items ss ts u.each drops.long waits works three toured
+    (λ v q r s t i w o a z.
     let l = v.turn.lived.life in
     let spot = v.turn.lived.spot in
     let x = speech_at lens spot in
     let shown = i.served.lives.shown in
     Losts.served_lost lens recover retry gives made f octets after p b given v q r s t (ap not comes) i a
     (z.1.0 x made recover spot v.kept l i.served.lives.planned.stands i.way shown (stands_kept s.stand v.kept l (λ o. (subst (λ y. StandShows (λ d g. side_shows lens recover s spot d g) spot y l) o shown.stood).0) i.served.kept) i.served.passing)
-    (z.1.1.0 x made recover spot l shown) z.1.1.1 z.0.0 w) in
+    (z.1.1.0 x made recover spot l shown) z.1.1.1 z.0.0 w o) in
     let there = subst (λ z. AllThree (λ w q t. IsServed lens recover (suc made) w q t) (map (served_behind lens recover retry gives made f) vs) n.posts.items z.stops.items) (sym k.tour) each in
     record {
       each = there;

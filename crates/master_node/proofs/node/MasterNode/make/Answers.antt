@@ -189,6 +189,7 @@ returns-clause-serves c = λ lens recover retry missed made ws some small x.
       begun = nothing;
       frame = subst (λ n. FrameMade (λ ds i a s. StopFills lens recover made nothing index left ds i a s) c.begin.new.frame.items n lives ts) (sym e.count) (e.made (speech_at lens) is_followed is_passed made recover index lens left lives nothing (λ k. refl) before);
       each = Served.firsts_serving lens recover made left 0 ws m.posts.items ss ts x.each alike;
+      handed = Served.firsts_handing lens recover made ws m.posts.items ss x.each;
     })
     (record {
       count = e.count;
@@ -222,7 +223,7 @@ returns-clause-serves c = λ lens recover retry missed made ws some small x.
     let z = c.finish-some.ensures.made yes (speech_at lens) is_followed is_passed made recover (c.fill.new.self.made % 256) lens left lives begun filling.frame in
     let octets = c.finish-some.new.frame.items in
     let is = sent_is lens octets z.datagrams z.frame in
-    let sent = Served.served_all lens recover made begun octets z.datagrams is left 0 ws z.lives c.fill.new.self.posts.items t2.stops.items filling.each z.each in
+    let sent = Served.served_all lens recover made begun octets z.datagrams is left 0 ws z.lives c.fill.new.self.posts.items t2.stops.items filling.each filling.handed z.each in
     let us = turns lens recover made begun octets z.datagrams is as' z.lives t2.stops.items in
     let sends = subst (λ y. AllThree (λ a b s. Served.Sends lens recover made begun octets z.datagrams is a b s) y z.lives t2.stops.items) (sym flat) z.each in
     let bare = Steps.from_map _ (λ n a s. is_in n left ≡ true → s.under ≡ false) (λ i a s w. w.bare) 0 as' t2.stops.items

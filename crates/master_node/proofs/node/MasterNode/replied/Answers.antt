@@ -1,6 +1,7 @@
 use Rattle.std.proofs.Common.{refl}
 use Rattle.master_node.proofs.Tells.{node_refl, node_told}
 use Rattle.master_node.proofs.Servings.{tells_refl, tells_told}
+use Rattle.master_node.proofs.Endings.{ends_told}
 use Rattle.master_node.proofs.node.MasterNode.replied.Goals as goal
 
 pub returns-in-Some-clause-kept : goal.returns-in-Some-clause-kept
@@ -14,3 +15,9 @@ returns-in-Some-clause-tells c = tells_told _ _ refl refl refl
 
 pub returns-in_default-clause-tells : goal.returns-in_default-clause-tells
 returns-in_default-clause-tells c = tells_refl _
+
+pub returns-in-Some-clause-works : goal.returns-in-Some-clause-works
+returns-in-Some-clause-works c = ends_told _ _ _ refl
+
+pub returns-in_default-clause-works : goal.returns-in_default-clause-works
+returns-in_default-clause-works c = ends_told _ _ _ refl

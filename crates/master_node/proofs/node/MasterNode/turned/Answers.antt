@@ -1,6 +1,8 @@
 use Rattle.std.proofs.Common.{refl}
 use Rattle.master_node.proofs.Tells.{node_refl, node_told}
 use Rattle.master_node.proofs.Servings.{tells_refl, tells_told}
+use Rattle.master_node.proofs.Endings.{ends_other, ends_told}
+use Rattle.std.proofs.Common.{sym, ◌∙◌}
 use Rattle.master_node.proofs.node.MasterNode.turned.Goals as goal
 
 pub returns-in-Some-Cleared-clause-kept : goal.returns-in-Some-Cleared-clause-kept
@@ -26,3 +28,19 @@ returns-clause-tells c = tells_refl _
 
 pub returns-2-clause-tells : goal.returns-2-clause-tells
 returns-2-clause-tells c = tells_refl _
+
+pub returns-in-Some-Cleared-clause-works : goal.returns-in-Some-Cleared-clause-works
+returns-in-Some-Cleared-clause-works c = ends_told _ _ _ refl
+
+pub returns-else-own-clause-works : goal.returns-else-own-clause-works
+returns-else-own-clause-works c = ends_told _ _ _ refl
+
+pub returns-clause-works : goal.returns-clause-works
+returns-clause-works c = ends_told _ _ _ refl
+
+pub returns-2-clause-works : goal.returns-2-clause-works
+returns-2-clause-works c = ends_told _ _ _ refl
+
+pub returns-then-own-clause-works : goal.returns-then-own-clause-works
+returns-then-own-clause-works c =
+    ends_other _ c.args.place c.args.self.now.posts.items c.answered.new.self.posts.items c.answered.ensures.works (λ key e. (let state = c.has_state-own.ensures c.if-own.true in let bad = sym state ∙ e in absurd (cc)))
