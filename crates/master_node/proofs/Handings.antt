@@ -93,15 +93,15 @@ next_own : (room : ℕ) (o : Option Plan.Service) (q : Asked) → asked_next roo
 next_own room None q e = absurd (cc)
 next_own room (Some s) q e = ap passed_in (sym e) ∙ none_in room s
 
-own_script : (lay : Waiting) (q : Asked) → lay.laid ≡ Laid.Script → ready_of lay ≡ Some q → is_passed q ≡ false
+pub own_script : (lay : Waiting) (q : Asked) → lay.laid ≡ Laid.Script → ready_of lay ≡ Some q → is_passed q ≡ false
 own_script lay q l e = next_own lay.areas.out (slice_get lay.script lay.number) q (sym (ap (λ z. ready_by z lay) l) ∙ e)
 
-own_packet : (lay : Waiting) (q : Asked) → (lay.laid ≡ Laid.Packet) ⊎ (lay.laid ≡ Laid.Nothing) → ready_of lay ≡ Some q → is_passed q ≡ false
+pub own_packet : (lay : Waiting) (q : Asked) → (lay.laid ≡ Laid.Packet) ⊎ (lay.laid ≡ Laid.Nothing) → ready_of lay ≡ Some q → is_passed q ≡ false
 own_packet lay q (inl l) e = (let same : Some (net (EoeClient.packet lay.packet lay.frame)) ≡ Some q = sym (ap (λ z. ready_by z lay) l) ∙ e in let is : net (EoeClient.packet lay.packet lay.frame) ≡ q = cc in ap is_passed (sym is))
 own_packet lay q (inr l) e = absurd (let bad : None ≡ Some q = sym (ap (λ z. ready_by z lay) l) ∙ e in cc)
 
 -- what came by a wish was ready
-begins_some : (stand : Stand) (free : Bool) (ready : Option Asked) → true ≡ stand_begins stand (begins_by free (Some Wish.Mails) ready) → is_some ready ≡ true
+pub begins_some : (stand : Stand) (free : Bool) (ready : Option Asked) → true ≡ stand_begins stand (begins_by free (Some Wish.Mails) ready) → is_some ready ≡ true
 begins_some (Stand.Opening up) free ready e = absurd (let bad : true ≡ false = e in cc)
 begins_some Stand.Gone free ready e = absurd (let bad : true ≡ false = e in cc)
 begins_some Stand.Open true ready e = sym e

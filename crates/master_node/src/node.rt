@@ -241,8 +241,8 @@ impl MasterNode {
         ensures made { Makes self.old.lan self.new.lan }
         ensures eager { All WaitsNone self.old.posts.items → holds_at (λ s. s.under) self.old.tour.stops.items place ≡ false → EagerOn self.old self.new }
         ensures events { self.new.list.count ≤ self.old.list.count + 1 }
-        ensures serves { (lens : ℕ → Lens) (recover made : ℕ) (left next : List ℕ) (ws : List Serves) → AreDistinct (map (λ w. lived_of (run_lead w)) ws) → is_in place left ≡ true → is_in place next ≡ false → ((k : ℕ) → is_in k next ≡ true → is_in k left ≡ true) →
-            IsPassing lens recover made left self.old into.old.items ws → IsPassing lens recover made (if result then next else left) self.new into.new.items ws }
+        ensures serves { (lens : ℕ → Lens) (recover made : ℕ) (forwards : ℕ → ℕ) (left next : List ℕ) (ws : List Serves) → self.old.list.count < 97 → AreDistinct (map (λ w. lived_of (run_lead w)) ws) → is_in place left ≡ true → is_in place next ≡ false → ((k : ℕ) → is_in k next ≡ true → is_in k left ≡ true) →
+            IsPassing lens recover made forwards left self.old into.old.items ws → IsPassing lens recover made forwards (if result then next else left) self.new into.new.items ws }
     {
         let index = (self.made % 256) as u8;
         let coming = self.coming(place);
@@ -268,8 +268,8 @@ impl MasterNode {
         ensures lan { Happens 16 self.old.lan self.new.lan }
         ensures made { Makes self.old.lan self.new.lan }
         ensures eager { All WaitsNone self.old.posts.items → IsBare self.old → length into.old.items ≡ 16 → EagerOn self.old self.new }
-        ensures serves { (lens : ℕ → Lens) (recover made : ℕ) (ws : List Serves) → AreDistinct (map (λ w. lived_of (run_lead w)) ws) → ((left : List ℕ) → IsPassing lens recover made left self.old into.old.items ws) → BeginsFrame self.old into.old.items (map run_lead ws) →
-            (left : List ℕ) × IsPassing lens recover made left self.new into.new.items ws × EndsFrame left self.new (map run_lead ws) }
+        ensures serves { (lens : ℕ → Lens) (recover made : ℕ) (forwards : ℕ → ℕ) (ws : List Serves) → AreDistinct (map (λ w. lived_of (run_lead w)) ws) → ((left : List ℕ) → IsPassing lens recover made forwards left self.old into.old.items ws) → BeginsFrame self.old into.old.items (map run_lead ws) →
+            (left : List ℕ) × IsPassing lens recover made forwards left self.new into.new.items ws × EndsFrame left self.new (map run_lead ws) }
     {
         for _ in 0..SLAVES {
             let Some(place) = self.tour.due() else {
@@ -296,8 +296,8 @@ impl MasterNode {
         ensures lan { Happens 16 self.old.lan self.new.lan }
         ensures made { Makes self.old.lan self.new.lan }
         ensures eager { (lens : ℕ → Lens) (recover retry missed : ℕ) (as' : List Leads) → MasterShows lens recover retry self.old missed as' → EagerFrom self.old self.new }
-        ensures serves { (lens : ℕ → Lens) (recover retry missed made : ℕ) (ws : List Serves) → list_any (λ s. is_live s.stand) self.old.tour.stops.items ≡ true → suc made < 2 ^ 32 → ServedShows lens recover retry self.old missed made ws →
-            (vs : List ServedTurn) × IsServedFrame lens made into.new.items ws vs × ServedUnder lens recover retry (record self.new { made = suc made }) into.new.items missed made vs × (self.new.made ≡ made) }
+        ensures serves { (lens : ℕ → Lens) (recover retry missed made : ℕ) (forwards : ℕ → ℕ) (ws : List Serves) → list_any (λ s. is_live s.stand) self.old.tour.stops.items ≡ true → suc made < 2 ^ 32 → IsUnlisted forwards self.old → ServedShows lens recover retry self.old missed made ws →
+            (vs : List ServedTurn) × IsServedFrame lens made into.new.items ws vs × ServedUnder lens recover retry (record self.new { made = suc made }) into.new.items missed made vs × (self.new.made ≡ made) × ServedBegin forwards ws vs self.new }
     {
         self.tour.begin(into);
         self.fill(into);

@@ -45,6 +45,7 @@ use Rattle.master_node.specs.Dropped.{gave_at}
 use Rattle.master_node.specs.Passes.{waits_in}
 use Rattle.master_node.proofs.ServedLosts as Losts
 use Rattle.master_node.specs.Handed.{work_at}
+use Rattle.master_node.proofs.Numbereds.{numbers_behind}
 use Rattle.master_node.proofs.node.MasterNode.lost.Goals as goal
 
 pub returns-clause-leads : goal.returns-clause-leads
@@ -181,4 +182,5 @@ returns-clause-served c = λ lens recover retry missed made after octets vs f p 
           (subst (λ z. FitAgain z.items ts) (sym e.tour.0) (again_lost _ (λ s w h. h (sym e.tour.1 ∙ ap (λ z. z.again) (sym k.tour) ∙ y)) ss ts m.tour.visit.items e.again u.fits));
       made_is = k.kept.tour.made ∙ u.made_is;
       early = u.early;
+      numbered = numbers_behind (served_behind lens recover retry gives made f) (λ v. length v.asked) (λ w. length w.asked) (λ v. refl) vs m.posts.items n.posts.items u.numbered k.kept.numbered;
     }
