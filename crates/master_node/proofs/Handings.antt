@@ -1,6 +1,6 @@
 -- WHAT A POST HAS IN HAND of a mail that is passed on, as the life of its slave does.
-use Rattle.std.proofs.Common.{◌≡◌, ℕ, Bool, true, false, Option, None, Some, List, [], ◌∷◌, refl, sym, ap, ◌∙◌, subst}
-use Rattle.std.specs.Prelude.{◌⊎◌, inl, inr, is_some, map, slice_get, All, if◌then◌else◌}
+use Rattle.std.proofs.Common.{◌≡◌, ◌⊎◌, inl, inr, ℕ, Bool, true, false, Option, None, Some, List, [], ◌∷◌, refl, sym, ap, ◌∙◌, subst}
+use Rattle.std.specs.Prelude.{is_some, map, slice_get, All, if◌then◌else◌}
 use Rattle.std.proofs.lemmas.List.Elements.{All-head}
 use Rattle.master_duty.specs.Reply.{Reply}
 use Rattle.master_duty.specs.of_segment_model.Ends as Ends
