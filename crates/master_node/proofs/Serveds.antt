@@ -181,7 +181,7 @@ module _ (lens : ℕ → Lens) (recover retry : ℕ) where
         ap (λ (z : Option _). is_some z) (back_passing x made spot news (seen lens back) came l l.stand n.opened
         ∙ still_told (λ z. passes_on x z news) spot.station s.at s.under s.side.carried l.era.side.halves (duty_access l.era.account.hand) (seen lens back) l.era.passing (still y) (under n.opened)
         (λ none. none_told x spot.station v.kept v.counts (seen lens back) _ s.side.passing l.era.passing (seen_aims lens back spot.station (subst (λ z. nat_le 1 z ≡ true) station s.named)) none
-        (subst (λ z. StandPassing z _ s.side.passing l) (stands n.opened) h.passing))) ∙ n.passing in
+        (subst (λ z. StandPassing z (awaits_reply s.side.hand.course s.side.hand.which s.side.hand.clients) s.side.passing l) (stands n.opened) h.passing))) ∙ n.passing in
         goes_by b _ _ on alike) in
         record {
           lives = lived;

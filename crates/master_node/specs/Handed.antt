@@ -78,6 +78,10 @@ work_at [] k = Work.Nothing
 work_at (p ∷ ps) zero = p.work
 work_at (p ∷ ps) (suc k) = work_at ps k
 
+-- no mail is in hand of the slave at a place that is passed on
+abbrev pub NonePassed : List Post → ℕ → Type 0
+NonePassed ps k = (key : ℕ) → work_at ps k ≡ Work.Passed key → ⊥
+
 -- whether a mail that is passed on isn't over, by the side of the slave at a place
 abbrev pub passing_at : {G : Ghosts InHand} → List (Stop InHand G) → ℕ → Bool
 passing_at ss k = holds_at (λ s. is_some s.side.passing) ss k

@@ -45,9 +45,9 @@ pub mod Eager
 pub mod Resting
 pub mod Named
 pub mod Serving
+pub mod Events
 pub mod Passes
 pub mod Handed
-pub mod Events
 pub mod Dropped
 pub mod Entering
 pub mod Starts

@@ -40,7 +40,7 @@ impl MasterNode {
     ghost use Rattle.master_node.specs.Shows.{MasterShows, MasterUnder};
     ghost use Rattle.master_node.specs.Serving.{TellsOnly, ServedShows, ServedUnder, mails_in};
     ghost use Rattle.master_node.specs.Dropped.{Drops, gave_at};
-    ghost use Rattle.master_node.specs.Handed.{DropsWork, EndsWork, passing_at, work_at};
+    ghost use Rattle.master_node.specs.Handed.{DropsWork, EndsWork, NonePassed, passing_at, work_at};
     ghost use Rattle.master_node.specs.declared.post.Work.{Work};
     ghost use Rattle.master_tour.specs.Walks.{StepsAt};
     ghost use Rattle.std.specs.Prelude.{◌∷◌};
@@ -117,7 +117,7 @@ impl MasterNode {
         ensures kept { NodeKept self.old self.new }
         ensures lan { self.new.lan ≡ self.old.lan }
         ensures tells { TellsOnly self.old self.new }
-        ensures works { ((key : ℕ) → work_at self.old.posts.items place ≡ Work.Passed key → ⊥) → EndsWork (λ k. passing_at self.old.tour.stops.items k) [] self.old.posts.items self.new.posts.items }
+        ensures works { NonePassed self.old.posts.items place → EndsWork (λ k. passing_at self.old.tour.stops.items k) [] self.old.posts.items self.new.posts.items }
     {
         if let Some(kind) = self.tour.stops[place].side.hand.answer() {
             self.answered(place, kind);
@@ -152,7 +152,7 @@ impl MasterNode {
         ensures kept { NodeKept self.old self.new }
         ensures lan { self.new.lan ≡ self.old.lan }
         ensures tells { TellsOnly self.old self.new }
-        ensures works { ((key : ℕ) → work_at self.old.posts.items place ≡ Work.Passed key → ⊥) → EndsWork (λ k. passing_at self.old.tour.stops.items k) [] self.old.posts.items self.new.posts.items }
+        ensures works { NonePassed self.old.posts.items place → EndsWork (λ k. passing_at self.old.tour.stops.items k) [] self.old.posts.items self.new.posts.items }
     {
         if self.tour.stops[place].side.is_free() {
             self.answered(place, ReplyKind::Handed);
@@ -181,7 +181,7 @@ impl MasterNode {
         ensures kept { NodeKept self.old self.new }
         ensures lan { self.new.lan ≡ self.old.lan }
         ensures tells { TellsOnly self.old self.new }
-        ensures works { ((key : ℕ) → work_at self.old.posts.items place ≡ Work.Passed key → ⊥) → EndsWork (λ k. passing_at self.old.tour.stops.items k) [] self.old.posts.items self.new.posts.items }
+        ensures works { NonePassed self.old.posts.items place → EndsWork (λ k. passing_at self.old.tour.stops.items k) [] self.old.posts.items self.new.posts.items }
     {
         match self.tour.stops[place].side.duty {
             Some(Met::Reached) => self.answered(place, ReplyKind::Done),

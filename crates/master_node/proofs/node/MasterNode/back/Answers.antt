@@ -1,4 +1,4 @@
-use Rattle.std.proofs.Common.{◌<◌, ◌∙◌, ap, arith, length}
+use Rattle.std.proofs.Common.{ℕ, ◌<◌, ◌∙◌, ◌∷◌, [], ap, arith, length}
 use Rattle.std.specs.Prelude.{slice_get}
 use Rattle.master_node.specs.Arrivals.{arrive_by}
 use Rattle.master_node.specs.Forwards.{port_by}
@@ -7,7 +7,6 @@ use Rattle.master_node.proofs.Downs.{lists_as, lists_on}
 use Rattle.master_node.proofs.Tells.{node_then}
 use Rattle.master_node.proofs.Happenings.{happens_on}
 use Rattle.master_node.proofs.Servings.{tells_then}
-use Rattle.std.proofs.Common.{◌∷◌, [], ap, ◌∙◌}
 use Rattle.master_node.specs.Handed.{passing_at}
 use Rattle.master_node.proofs.Endings.{ends_from, ends_then}
 use Rattle.master_node.proofs.node.MasterNode.back.Goals as goal
@@ -33,8 +32,8 @@ returns-clause-works c =
     let m = c.args.self.now in
     let n1 = c.heard_where.new.self in
     let n2 = c.over.new.self in
-    let goes1 = λ k. ap (λ z. passing_at z.stops.items k) c.heard_where.ensures.tells.tour in
-    let goes2 = λ k. ap (λ z. passing_at z.stops.items k) c.over.ensures.tells.tour ∙ goes1 k in
+    let goes1 = λ (k : ℕ). ap (λ z. passing_at z.stops.items k) c.heard_where.ensures.tells.tour in
+    let goes2 = λ (k : ℕ). ap (λ z. passing_at z.stops.items k) c.over.ensures.tells.tour ∙ goes1 k in
     ends_then (λ k. passing_at m.tour.stops.items k) (c.args.place ∷ []) [] m.posts.items n2.posts.items c.turned.new.self.posts.items
     (ends_then (λ k. passing_at m.tour.stops.items k) [] (c.args.place ∷ []) m.posts.items n1.posts.items n2.posts.items c.heard_where.ensures.works
     (ends_from _ (λ k. passing_at n1.tour.stops.items k) (c.args.place ∷ []) _ _ goes1 c.over.ensures.works))

@@ -1,8 +1,7 @@
 use Rattle.master_node.proofs.Tells.{node_refl}
 use Rattle.master_node.proofs.Servings.{tells_refl}
-use Rattle.std.proofs.Common.{◌≡◌, ◌<◌, length, arith, refl}
-use Rattle.std.proofs.Common.{true, false, sym, ◌∙◌}
-use Rattle.std.specs.Prelude.{is_some}
+use Rattle.std.proofs.Common.{◌<◌, length, arith, refl, ap, ◌∙◌, true, false}
+use Rattle.std.specs.Prelude.{is_some, not}
 use Rattle.master_node.proofs.Endings.{ends_free, ends_here, ends_told}
 use Rattle.master_node.proofs.Downs.{here_is}
 use Rattle.master_node.proofs.node.MasterNode.passed.Goals as goal
@@ -17,10 +16,10 @@ pub returns-then-is_none-clause-works : goal.returns-then-is_none-clause-works
 returns-then-is_none-clause-works c =
     let m = c.args.self.now in
     let l : c.args.place < length m.tour.stops.items = omega (arith, c.requires, m.paired, m.tour.stops.ok.0) in
-    ends_here _ c.args.place m.posts.items c.answered.new.self.posts.items c.answered.ensures.works (here_is (λ s. is_some s.side.passing) m.tour.stops.items c.args.place c.index.result.now false l c.index.ensures (let e = c.if-is_none.true in cc))
+    ends_here _ c.args.place m.posts.items c.answered.new.self.posts.items c.answered.ensures.works (here_is (λ s. is_some s.side.passing) m.tour.stops.items c.args.place c.index.result.now false l c.index.ensures (c.is_none.ensures ∙ ap not c.if-is_none.true))
 
 pub returns-else-is_none-clause-works : goal.returns-else-is_none-clause-works
 returns-else-is_none-clause-works c =
     let m = c.args.self.now in
     let l : c.args.place < length m.tour.stops.items = omega (arith, c.requires, m.paired, m.tour.stops.ok.0) in
-    ends_free _ c.args.place m.posts.items m.posts.items (λ key e. here_is (λ s. is_some s.side.passing) m.tour.stops.items c.args.place c.index.result.now true l c.index.ensures (let f = c.if-is_none.false in cc)) (ends_told _ _ _ refl)
+    ends_free _ c.args.place m.posts.items m.posts.items (λ key e. here_is (λ s. is_some s.side.passing) m.tour.stops.items c.args.place c.index.result.now true l c.index.ensures (c.is_none.ensures ∙ ap not c.if-is_none.false)) (ends_told _ _ _ refl)

@@ -23,7 +23,7 @@ use Rattle.master_node.specs.Joined.{IsUnfinished, StopCompleted, stand_before, 
 use Rattle.master_node.proofs.Joineds.{back_unfinished, completed_at as completed_at_stop, three_on, three_kept, three_map, three_of, three_after, pair_both, completed_kept}
 use Rattle.master_node.proofs.Lefts.{true_false}
 use Rattle.master_node.proofs.Happenings.{happens_so}
-use Rattle.std.proofs.Common.{◌≡◌, ℕ, sym}
+use Rattle.std.proofs.Common.{◌≡◌, ℕ, sym, true}
 use Rattle.master_node.specs.Arrivals.{arrivals_in, heard_at, completed_at}
 use Rattle.master_node.proofs.Arrivals.{arrivals_few, arrivals_same, heard_few, heard_completed}
 use Rattle.master_node.proofs.Downs.{lists_all, lists_as}
@@ -163,7 +163,7 @@ returns-clause-served c = λ lens recover retry missed made octets vs f p b u r.
     let still = λ (j : ℕ). not (is_in j c.returned.new.self.visit.items) in
     let unread = λ (j : ℕ) (y : still j ≡ true). unvisited (holds_at (λ s. s.under) ss j) (is_in j c.returned.new.self.visit.items) (λ x. ap (λ z. is_in j z.items) e.tour.0 ∙ u.carried j x) y in
     let each = all_served lens recover retry gives made f octets _ _ still vs m.posts.items n.posts.items ss ts unread c.all_back.ensures.works.each u.each tells.mails three toured
-    (λ v k q s t i w b n o a z.
+    (λ v k q s t i w d n o a z.
     let l = v.turn.lived.life in
     let spot = v.turn.lived.spot in
     let x = speech_at lens spot in
@@ -171,7 +171,7 @@ returns-clause-served c = λ lens recover retry missed made octets vs f p b u r.
     served_back lens recover retry gives made f octets c.args.frame.now.items v k q s t p b i r a
     (subst (λ j. StandPassing t.stand (awaits_reply t.side.hand.course t.side.hand.which t.side.hand.clients) t.side.passing (life_back x acknowledged is_followed is_passed made spot (news_back s.side.station v.kept (counts_at s.side.read_at s.side.pace j) back) back (came_at s.under s.at back) l l.stand)) number
     (z.1.0 x made recover spot v.kept l i.served.lives.planned.stands i.way shown (stands_kept s.stand v.kept l (λ o. (subst (λ y. StandShows (λ d g. side_shows lens recover s spot d g) spot y l) o shown.stood).0) i.served.kept) i.served.passing))
-    (subst (λ j. CountsOn j back s t l) number (z.1.1.0 x recover spot l i.way shown)) z.1.1.1 z.0.0 w b n o) in
+    (subst (λ j. CountsOn j back s t l) number (z.1.1.0 x recover spot l i.way shown)) z.1.1.1 z.0.0 w d n o) in
     let there = subst (λ z. AllThree (λ w q t. IsServed lens recover (suc made) w q t) (map (served_behind lens recover retry gives made f) vs) n.posts.items z.stops.items) (sym tells.tour) each in
     record {
       each = there;
