@@ -83,7 +83,7 @@ told_push : (tells : ℕ → List Event) (ps : List ℕ) (p : ℕ) → told_in t
 told_push tells [] p = append-nil (tells p)
 told_push tells (q ∷ ps) p = ap (λ z. tells q ++ z) (told_push tells ps p) ∙ sym (append_assoc (tells q) (told_in tells ps) (tells p))
 
-told_same : (f g : ℕ → List Event) (ps : List ℕ) → ((k : ℕ) → is_in k ps ≡ true → f k ≡ g k) → told_in f ps ≡ told_in g ps
+pub told_same : (f g : ℕ → List Event) (ps : List ℕ) → ((k : ℕ) → is_in k ps ≡ true → f k ≡ g k) → told_in f ps ≡ told_in g ps
 told_same f g [] h = refl
 told_same f g (q ∷ ps) h =
     let here = h q (in_here q q ps (eq-eqb q q refl)) in
@@ -252,7 +252,7 @@ pub listed_visit : (tells : ℕ → ℕ → Option (Service Asked) → List Even
     StepsAt (λ q r. (events_in n ≡ events_in m ++ tells place q.forwards b) × (r.forwards ≡ forwards_behind q.forwards b)) place m.posts.items n.posts.items
 listed_visit tells place coming b m l n e few told lists =
     steps_trans (λ p q. ToldSo tells place coming b p q) (λ p q. ListsOne place coming l n p q) (λ q r. (events_in n ≡ events_in m ++ tells place q.forwards b) × (r.forwards ≡ forwards_behind q.forwards b)) place m.posts.items l.posts.items n.posts.items
-    (λ p q r x y. (y.listed (subst (λ w. w.count < 97) (sym e) few) ∙ (λ i. events_by m l e i ++ x.1.0 i), y.counts ∙ ap (λ w. counted_from coming q.origin w) x.0 ∙ x.1.1)) told lists
+    (λ p q r x y. (y.listed (subst (λ w. w.count < 97) (sym e) few) ∙ (λ i. events_by m l e i ++ x.1 i), y.counts ∙ ap (λ w. counted_from coming q.origin w) x.0 ∙ x.2)) told lists
 
 -- ---- a step
 

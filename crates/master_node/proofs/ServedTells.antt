@@ -158,7 +158,7 @@ module _ {G : Ghosts InHand} (lens : ℕ → Lens) (recover made : ℕ) (coming 
       (spot_at (map run_lead ws) place ≡ Some here) × StepsAt (λ p q. ToldSo (served_tells ws) place (where_began result coming) what p q) place ps qs × Lays ps qs (number_at (map run_lead ws) place)
   told_visit ws ps qs ss us ts at h k g r o x =
       let v = told_at lens recover made coming result got stop here what is begun left waits (λ k. Lays ps qs k) 0 place place ws ps ss ts (omega arith) at h k g r o (steps_first (λ s. Lays ps qs s.side.hand.laying.number) _ place ss us ts x r) in
-      (v.spot, steps_map _ (λ p q. ToldSo (served_tells ws) place (where_began result coming) what p q) place ps qs (λ p q y. (y.1.counts, v.told place p.forwards q.origin y.1.origin (subst (λ z. IsGateway coming z q.origin) y.0 y.1.gateway)))
+      (v.spot, steps_map _ (λ p q. ToldSo (served_tells ws) place (where_began result coming) what p q) place ps qs (λ p q y. (let z = v.told place p.forwards q.origin y.1.origin (subst (λ z. IsGateway coming z q.origin) y.0 y.1.gateway) in (y.1.counts, z.0, z.1)))
       (steps_some (λ p. p.oldest ≡ oldest_in ws place) (λ p q. LaysFrom coming (number_at (map run_lead ws) place) p q) place ps qs v.laid v.oldest), v.laid)
 
 -- ---- the turns of a frame

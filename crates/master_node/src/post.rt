@@ -124,6 +124,7 @@ impl Post {
         ensures mails { self.new.mails.items ≡ drop 1 self.old.mails.items }
         ensures work { self.new.work ≡ self.old.work }
         ensures forwards { self.new.forwards ≡ self.old.forwards }
+        ensures origin { self.new.origin ≡ self.old.origin }
         ensures numbered { StaysNumbered self.old self.new }
     {
         let asked = self.mails.pop_front()?;

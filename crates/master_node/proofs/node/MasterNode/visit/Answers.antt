@@ -145,7 +145,7 @@ returns-clause-led c = λ lens recover made from left next as' room rows quiet d
       listing = listed_step (run_tells as') from.forwards left next f.begun as' m c.came.new.self place (here coming r place s0 s1 s2 s3 s4 rooms coms fitted laid began came) (what coming r place s0 s1 s2 s3 s4 rooms coms fitted laid began came) d (spot coming r place s0 s1 s2 s3 s4 rooms coms fitted laid began came lens f.begun left as' f.among) at over fewer
           (listed_visit (run_tells as') place (where_began r coming) (what coming r place s0 s1 s2 s3 s4 rooms coms fitted laid began came) m _ c.came.new.self c.lay.ensures.list rows
           (steps_map _ (λ p q. ToldSo (run_tells as') place (where_began r coming) (what coming r place s0 s1 s2 s3 s4 rooms coms fitted laid began came) p q) place m.posts.items c.lay.new.self.posts.items
-          (λ p q h. (h.counts, told coming r place s0 s1 s2 s3 s4 rooms coms fitted laid began came (number_at as' place) p.forwards q.origin h.origin))
+          (λ p q h. (let z = told coming r place s0 s1 s2 s3 s4 rooms coms fitted laid began came (number_at as' place) p.forwards q.origin h.origin in (h.counts, z.0, z.1)))
           (laid_from coming (number_at as' place) place m.posts.items c.lay.new.self.posts.items s0 s1 s2 (number_here lens f.begun left (λ s t. Fitted s t) (λ s t k. k.script) 0 place place as' s0 s1 (omega arith) at f.among fitted) c.lay.ensures.origins))
           c.came.ensures.lists) f.listing;
       starts = record {
