@@ -1,8 +1,7 @@
 -- THE NUMBER OF THE OLDEST MAIL goes on with the posts.
-use Rattle.std.proofs.Common.{◌≡◌, ◌≤◌, ◌<◌, ◌-◌, ◌%◌, ◌+◌, ℕ, zero, suc, Some, List, [], ◌∷◌, ◌++◌, refl, sym, ap, ◌∙◌, subst, arith, length, get_or, set}
-use Rattle.std.specs.Prelude.{All, drop, map, slice_get}
+use Rattle.std.proofs.Common.{◌≡◌, ◌≤◌, ◌<◌, ◌-◌, ◌%◌, ◌+◌, ℕ, zero, suc, List, [], ◌∷◌, ◌++◌, refl, sym, ap, ◌∙◌, subst, arith, length, get_or, set}
+use Rattle.std.specs.Prelude.{All, map}
 use Rattle.std.proofs.lemmas.List.Elements.{All-head, All-tail}
-use Rattle.std.proofs.Math.Nat.{mod-add-mod}
 use Rattle.life_runs.specs.Led.{Leads}
 use Rattle.life_runs.specs.of_life_frames.Shares.{AllBoth, AllThree}
 use Rattle.master_side.specs.of_mailbox_mail.declared.mail.Mail.{Mail}
@@ -21,32 +20,6 @@ numbers_same p q o m = λ asked h. record {
   few = subst (λ z. length z ≤ asked) (sym m) h.few;
   oldest = o ∙ h.oldest ∙ ap (λ z. (asked - length z) % 4294967296) (sym m);
 }
-
--- the oldest comes into hand
-pub numbers_taken : (p q : Post) (a : Asked) → Some a ≡ slice_get p.mails.items 0 → q.mails.items ≡ drop 1 p.mails.items → q.oldest ≡ (p.oldest + 1) % 4294967296 → StaysNumbered p q
-numbers_taken p q a e m o = λ asked h. go asked p.mails.items e m h.few h.oldest
-  where
-    go : (asked : ℕ) (as' : List Asked) → Some a ≡ slice_get as' 0 → q.mails.items ≡ drop 1 as' → length as' ≤ asked → p.oldest ≡ (asked - length as') % 4294967296 → IsNumbered asked q
-    go asked [] e m l h = absurd (cc)
-    go asked (b ∷ bs) e m l h =
-        let many : length q.mails.items ≡ length bs = ap length m in
-        let left : asked - suc (length bs) + 1 ≡ asked - length q.mails.items = omega (arith, l, many) in
-        record {
-          few = omega (arith, l, many);
-          oldest = o ∙ ap (λ z. (z + 1) % 4294967296) h ∙ mod-add-mod (asked - suc (length bs)) 4294967296 1 ∙ ap (λ z. z % 4294967296) left;
-        }
-
--- all that wait are dropped
-pub numbers_dropped : (p q : Post) → q.mails.items ≡ [] → q.oldest ≡ (p.oldest + length p.mails.items) % 4294967296 → StaysNumbered p q
-numbers_dropped p q m o = λ asked h.
-    let none : length q.mails.items ≡ 0 = ap length m in
-    let l = h.few in
-    let n = length p.mails.items in
-    let left : asked - n + n ≡ asked - length q.mails.items = omega (arith, l, none) in
-    record {
-      few = omega (arith, none);
-      oldest = o ∙ ap (λ z. (z + n) % 4294967296) h.oldest ∙ mod-add-mod (asked - n) 4294967296 n ∙ ap (λ z. z % 4294967296) left;
-    }
 
 -- one post is put back
 pub numbers_set : (ps : List Post) (place : ℕ) (v w : Post) → place < length ps → v ≡ get_or ps place v → StaysNumbered v w → EachPair (λ p q. StaysNumbered p q) ps (set ps place w)

@@ -1,4 +1,4 @@
-use Rattle.std.proofs.Common.{◌≡◌, ◌+◌, Bool, [], sym, ap, ◌∙◌, arith}
+use Rattle.std.proofs.Common.{◌≡◌, ◌+◌, Bool, [], refl, sym, ap, ◌∙◌, arith, length}
 use Rattle.std.specs.Prelude.{map, not, nat_lt, if◌then◌else◌}
 use Rattle.life_runs.specs.Led.{speech_at, gives_up_at, led_behind}
 use Rattle.master_tour.specs.Orders.{last_behind}
