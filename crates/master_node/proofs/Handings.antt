@@ -32,7 +32,7 @@ use Rattle.master_node.specs.declared.post.Asked as Queue
 use Rattle.master_node.specs.declared.post.Post.{Post}
 use Rattle.master_node.specs.declared.post.Work.{Work}
 use Rattle.master_node.proofs.Handeds.{none_in, passed_in}
-use Rattle.master_node.proofs.Servings.{keyed}
+use Rattle.master_node.proofs.Servings.{keyed, none_some}
 
 -- THE OLDEST IS LAID READY under the key of its asker
 pub oldest_so : (p : Post) (a : Queue.Asked) → Some a ≡ slice_get p.mails.items 0 → IsOldestWork (waits_of p) (Work.Passed a.key)
@@ -48,11 +48,6 @@ oldest_none p work e = go p.mails.items e
     go : (as' : List Queue.Asked) → slice_get as' 0 ≡ None → IsOldestWork (map keyed as') work
     go [] f = tt
     go (b ∷ bs) f = absurd (cc)
-
--- some is none of nothing
-none_some : {T : Type 0} (o : Option T) → o ≡ None → is_some o ≡ true → ⊥
-none_some None e t = absurd (cc)
-none_some (Some x) e t = absurd (cc)
 
 -- THE OLDEST MAIL COMES INTO HAND
 pub takes_mail : (l m : Life Body Asked Reply) (k : Keyed) (rest : List Keyed) (hand : Option Passed) → l.stand ≡ Lives.Stand.Open → HasBegun l (Some (Service.Mails (passed k.mail))) m →

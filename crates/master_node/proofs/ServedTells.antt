@@ -30,14 +30,13 @@ use Rattle.master_node.specs.declared.coming.Coming.{Coming}
 use Rattle.master_node.specs.declared.event.Event.{Event}
 use Rattle.master_node.specs.declared.event.Origin.{Origin}
 use Rattle.master_node.specs.declared.node.MasterNode.{MasterNode}
-use Rattle.master_node.specs.declared.post.Asked as Queue
 use Rattle.master_node.specs.declared.post.Post.{Post}
 use Rattle.master_node.proofs.Begins.{spot_at, steps_any}
 use Rattle.master_node.proofs.Handings.{begins_some, own_packet, own_script}
 use Rattle.master_node.proofs.Listing.{Came, ToldSo, events_by, from_same, next_came, packet_came, told_same}
-use Rattle.master_node.proofs.Lists.{steps_map, steps_some}
+use Rattle.master_node.proofs.Lists.{no_end, no_step, steps_map, steps_some}
 use Rattle.master_node.proofs.Mailed.{none_came}
-use Rattle.master_node.proofs.Servings.{keyed}
+use Rattle.master_node.proofs.Servings.{keyed_long}
 use Rattle.master_node.proofs.ServedVisits.{Goes}
 
 -- ---- what came into hand was listed so
@@ -91,11 +90,6 @@ steps_first Q P (suc i) (x ∷ xs) [] (z ∷ zs) e f = absurd e
 steps_first Q P zero (x ∷ xs) (y ∷ ys) (z ∷ zs) e f = (e.0, f.1)
 steps_first Q P (suc i) (x ∷ xs) (y ∷ ys) (z ∷ zs) e f = (f.0, steps_first Q P i xs ys zs e.1 f.1)
 
--- how many wait
-keyed_long : (as' : List Queue.Asked) → length (map keyed as') ≡ length as'
-keyed_long [] = refl
-keyed_long (a ∷ as') = ap suc (keyed_long as')
-
 module _ {G : Ghosts InHand} (lens : ℕ → Lens) (recover made : ℕ) (coming : Option Coming) (result : Bool) (got : List Keyed) (stop : Option (Stop InHand G)) (here : ℕ) (what : Option (Service Asked))
     (is : (t : Stop InHand G) → stop ≡ Some t → what ≡ wish_begun result (wish_of coming) (ready_of t.side.hand.laying)) (begun : ℕ → Option (Service Asked)) (left : List ℕ) (waits : MailWaits got coming) (X : ℕ → Type 0) where
   -- AT A PLACE stands this slave, and what came into hand of it is told by its numbers
@@ -125,14 +119,6 @@ module _ {G : Ghosts InHand} (lens : ℕ → Lens) (recover made : ℕ) (coming 
             (subst (λ z. All (λ q. MayPass room q) z) (sym same.waits_are) h.fits) f k);
       }
 
-  no_step : {S : Type 0} (R : S → S → Type 0) (n : ℕ) (ts : List S) → StepsAt R n [] ts → ⊥
-  no_step R zero ts r = r
-  no_step R (suc n) ts r = r
-
-  no_end : {S : Type 0} (R : S → S → Type 0) (n : ℕ) (s : S) (ss : List S) → StepsAt R n (s ∷ ss) [] → ⊥
-  no_end R zero s ss r = r
-  no_end R (suc n) s ss r = r
-
   told_at : (i n m : ℕ) (ws : List Serves) (ps : List Post) (ss ts : List (Stop InHand G)) → m ≡ i + n → is_in m left ≡ true → ThreeFrom (λ j w ks s. IsServing lens begun made left j w ks s) i ws (map waits_of ps) ss → AllBoth (λ w p. IsNumbered (length w.asked) p) ws ps →
       waits_in (map waits_of ps) n ≡ got → StepsAt (λ s v. Goes lens recover made coming result got stop s v) n ss ts → StepsAt (λ s v. s.place ≡ here) n ss ts → StepsAt (λ s v. X s.side.hand.laying.number) n ss ts → Visits n ws ps
   told_at i n m ws ps [] ts e at h k g r o x = absurd (no_step _ n ts r)
@@ -157,9 +143,12 @@ module _ {G : Ghosts InHand} (lens : ℕ → Lens) (recover made : ℕ) (coming 
       StepsAt (λ s v. Goes lens recover made coming result got stop s v) place ss ts → StepsAt (λ s v. s.place ≡ here) place ss ts → StepsAt (λ s t. Lays ps qs s.side.hand.laying.number) place ss us →
       (spot_at (map run_lead ws) place ≡ Some here) × StepsAt (λ p q. ToldSo (served_tells ws) place (where_began result coming) what p q) place ps qs × Lays ps qs (number_at (map run_lead ws) place)
   told_visit ws ps qs ss us ts at h k g r o x =
-      let v = told_at lens recover made coming result got stop here what is begun left waits (λ k. Lays ps qs k) 0 place place ws ps ss ts (omega arith) at h k g r o (steps_first (λ s. Lays ps qs s.side.hand.laying.number) _ place ss us ts x r) in
-      (v.spot, steps_map _ (λ p q. ToldSo (served_tells ws) place (where_began result coming) what p q) place ps qs (λ p q y. (let z = v.told place p.forwards q.origin y.1.origin (subst (λ z. IsGateway coming z q.origin) y.0 y.1.gateway) in (y.1.counts, z.0, z.1)))
-      (steps_some (λ p. p.oldest ≡ oldest_in ws place) (λ p q. LaysFrom coming (number_at (map run_lead ws) place) p q) place ps qs v.laid v.oldest), v.laid)
+      let v = told_at lens recover made coming result got stop here what is begun left waits (λ k. Lays ps qs k) 0 place place ws ps ss ts (omega arith) at h k g r o (steps_first (λ s. Lays ps qs s.side.hand.laying.number) _ place ss us ts x r) in (
+        v.spot,
+        steps_map _ (λ p q. ToldSo (served_tells ws) place (where_began result coming) what p q) place ps qs (λ p q y. (let z = v.told place p.forwards q.origin y.1.origin (subst (λ z. IsGateway coming z q.origin) y.0 y.1.gateway) in (y.1.counts, z.0, z.1)))
+            (steps_some (λ p. p.oldest ≡ oldest_in ws place) (λ p q. LaysFrom coming (number_at (map run_lead ws) place) p q) place ps qs v.laid v.oldest),
+        v.laid,
+      )
 
 -- ---- the turns of a frame
 

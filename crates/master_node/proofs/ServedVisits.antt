@@ -51,7 +51,7 @@ use Rattle.master_node.proofs.Cames.{NumberBehind, got_inside}
 use Rattle.master_node.proofs.Fills.{begun_at, begun_comes, begun_here, fills_kept, frame_each}
 use Rattle.master_node.proofs.Handings.{handing_on}
 use Rattle.master_node.proofs.Kepts.{lives_kept, stop_same}
-use Rattle.master_node.proofs.Lists.{steps_each, steps_got, steps_map, steps_mid, steps_trans}
+use Rattle.master_node.proofs.Lists.{no_end, no_step, steps_each, steps_got, steps_map, steps_mid, steps_trans}
 use Rattle.master_node.proofs.Mailed.{next_passing, none_begun, none_came, served_came, stand_awaits, stand_same}
 use Rattle.master_node.proofs.Visits.{Began, SomeKept}
 
@@ -393,14 +393,6 @@ module _ {G : Ghosts InHand} (lens : ℕ → Lens) (recover made : ℕ) (coming 
     others spot p i (w ∷ ws) (ks ∷ kss) [] e m = absurd m
     others spot p i (w ∷ ws) (ks ∷ kss) (s ∷ ss) e m =
         (other i w ks s (apart here w.lead.lived.spot.place (subst (λ z. (z == w.lead.lived.spot.place) ≡ false) p e.0.place)) m.0.1, others spot p (suc i) ws kss ss e.1 m.1)
-
-    no_step : {S : Type 0} (R : S → S → Type 0) (n : ℕ) (ts : List S) → StepsAt R n [] ts → ⊥
-    no_step R zero ts r = r
-    no_step R (suc n) ts r = r
-
-    no_end : {S : Type 0} (R : S → S → Type 0) (n : ℕ) (s : S) (ss : List S) → StepsAt R n (s ∷ ss) [] → ⊥
-    no_end R zero s ss r = r
-    no_end R (suc n) s ss r = r
 
     -- the place is that of the slave that goes on
     stands_at : (i n : ℕ) (ws : List Serves) (kss : List (List Keyed)) (ss ts : List (Stop InHand G)) (spot : Spot) → IsElsewhere spot (map (λ w. lived_of (run_lead w)) ws) → ThreeFrom Before i ws kss ss → StepsAt (λ s t. s.place ≡ here) n ss ts → (spot.place == here) ≡ false

@@ -43,7 +43,7 @@ returns-clause-served c =
     let t = c.in_ok-tour.tour in
     let h = returns-clause-leads c in
     let each = firsts_served (lens_of plan.slaves) plan.recover plan.paces leads c.in_ok-posts.posts.items t.stops.items h.each c.in_ok-tour.ensures.paced c.in_ok-posts.ensures.quiet c.in_ok-posts.ensures.works
-          (omega (arith, c.in_ok-posts.posts.ok.0, t.stops.ok.0, c.in_ok-posts.ensures.many, c.in_ok-tour.ensures.many, c.len.ensures)) (leads_kept plan.services 0 plan.slaves) in
+    (omega (arith, c.in_ok-posts.posts.ok.0, t.stops.ok.0, c.in_ok-posts.ensures.many, c.in_ok-tour.ensures.many, c.len.ensures)) (leads_kept plan.services 0 plan.slaves) in
     record {
       each = each;
       distinct = subst (λ z. AreDistinct z) (sym (lives_all plan.paces leads)) h.distinct;
