@@ -1,12 +1,12 @@
 -- WHICH SERVICES ARE LISTED as begun while a frame of a serving is made: just those that came into hand, a mail with its number among all that were asked.
-use Rattle.std.proofs.Common.{◌≡◌, ◌<◌, ◌+◌, ◌-◌, ◌%◌, ℕ, zero, suc, Bool, true, false, Option, None, Some, List, [], ◌∷◌, refl, sym, ap, ◌∙◌, subst, arith, length}
+use Rattle.std.proofs.Common.{◌≡◌, ◌+◌, ◌-◌, ◌%◌, ℕ, zero, suc, Bool, true, false, Option, None, Some, List, [], ◌∷◌, refl, sym, ap, ◌∙◌, subst, arith, length}
 use Rattle.std.specs.Prelude.{is_some, map, slice_get, All, IfSome, if◌then◌else◌}
 use Rattle.std.proofs.lemmas.List.Elements.{All-head}
 use Rattle.life_runs.specs.of_frame_view.View.{Lens}
 use Rattle.life_runs.specs.of_life_frames.Shares.{AllBoth}
 use Rattle.master_duty.specs.of_state_exchange.Stated.{Service}
 use Rattle.master_hand.specs.Laying.{Waiting, ready_by, ready_of}
-use Rattle.master_hand.specs.Spoken.{Asked, is_passed, passed}
+use Rattle.master_hand.specs.Spoken.{Asked, is_passed}
 use Rattle.master_hand.specs.declared.hand.InHand.{InHand}
 use Rattle.master_side.specs.Free.{begins_by, is_free_side}
 use Rattle.master_side.specs.Shown.{wish_begun, wished}
@@ -21,7 +21,7 @@ use Rattle.served_runs.specs.Served.{Keyed, Serves, ServedTurn}
 use Rattle.master_node.specs.Begins.{begun_for, begun_of}
 use Rattle.master_node.specs.Coming.{IsLaid, wish_of}
 use Rattle.master_node.specs.Events.{ServedBegin, begun_told, oldest_in, served_tells}
-use Rattle.master_node.specs.Listing.{HasListed, began_by, began_from, counted_from, events_in, forwards_behind, number_at, origin_of, where_began}
+use Rattle.master_node.specs.Listing.{HasListed, began_from, counted_from, events_in, forwards_behind, number_at, origin_of, where_began}
 use Rattle.master_node.specs.Numbered.{IsNumbered}
 use Rattle.master_node.specs.Origins.{IsFrom, IsGateway, LaysFrom, forwards_at}
 use Rattle.master_node.specs.Passes.{IsServing, LaysMail, MailWaits, ThreeFrom, waits_in}
@@ -31,7 +31,7 @@ use Rattle.master_node.specs.declared.event.Event.{Event}
 use Rattle.master_node.specs.declared.event.Origin.{Origin}
 use Rattle.master_node.specs.declared.node.MasterNode.{MasterNode}
 use Rattle.master_node.specs.declared.post.Post.{Post}
-use Rattle.master_node.proofs.Begins.{spot_at, steps_any}
+use Rattle.master_node.proofs.Begins.{spot_at}
 use Rattle.master_node.proofs.Handings.{begins_some, own_packet, own_script}
 use Rattle.master_node.proofs.Listing.{Came, ToldSo, events_by, from_same, next_came, packet_came, told_same}
 use Rattle.master_node.proofs.Lists.{no_end, no_step, steps_map, steps_some}

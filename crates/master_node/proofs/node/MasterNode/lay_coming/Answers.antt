@@ -8,7 +8,6 @@ use Rattle.master_node.proofs.Kepts.{stop_same, tour_same}
 use Rattle.master_node.proofs.Lists.{steps_same, steps_map}
 use Rattle.master_node.specs.Origins.{LaysFrom}
 use Rattle.master_node.specs.declared.coming.Coming.{Coming}
-use Rattle.std.proofs.Common.{◌∙◌}
 use Rattle.master_node.specs.Starts.{LaysPacket, WaitsFor}
 use Rattle.std.proofs.Common.{◌≡◌, refl}
 use Rattle.master_node.specs.Passes.{LaysMail, waits_behind, waits_in}

@@ -23,7 +23,7 @@ use Rattle.master_node.proofs.Joineds.{lost_unfinished, three_on, three_kept, th
 use Rattle.master_node.specs.Rooms.{FitAgain}
 use Rattle.master_node.proofs.Fits.{again_lost}
 use Rattle.master_node.proofs.Happenings.{happens_so}
-use Rattle.std.proofs.Common.{ℕ, true}
+use Rattle.std.proofs.Common.{ℕ}
 use Rattle.master_node.specs.Downs.{downs_in, gives_at, goes_down, is_given_up}
 use Rattle.master_node.specs.Shows.{is_led, is_live_turn, is_live_lead, side_shows}
 use Rattle.master_tour.specs.Goes.{is_live}
@@ -34,7 +34,7 @@ use Rattle.counters_kept.proofs.Lives.{stands_kept}
 use Rattle.life_runs.specs.of_life_frames.Shares.{AllThree}
 use Rattle.master_tour.specs.Stands.{StandShows}
 use Rattle.served_runs.specs.Served.{served_behind}
-use Rattle.master_node.specs.Serving.{IsServed, IsServedUnder, mails_in, run_lead, waits_of}
+use Rattle.master_node.specs.Serving.{IsServed, IsServedUnder, mails_in, run_lead}
 use Rattle.master_node.specs.Shows.{GoesOn}
 use Rattle.master_node.proofs.Downs.{given_is}
 use Rattle.master_node.proofs.Joineds.{pair_both}

@@ -31,11 +31,8 @@ use Rattle.std.proofs.Common.{[]}
 use Rattle.master_node.specs.Begins.{begun_for}
 use Rattle.master_node.specs.Starts.{HasStarted}
 use Rattle.master_node.proofs.Starts.{all_start}
-use Rattle.std.proofs.Common.{suc}
-use Rattle.life_runs.specs.of_life_frames.Shares.{AllBoth, AreDistinct}
+use Rattle.life_runs.specs.of_life_frames.Shares.{AreDistinct}
 use Rattle.master_hand.specs.Shown.{awaits_reply}
-use Rattle.served_runs.specs.Served.{Serves}
-use Rattle.master_node.specs.Passes.{IsPassing}
 use Rattle.master_node.specs.Serving.{IsServed, run_lead, run_turn}
 use Rattle.master_node.specs.Shows.{GoesUnder, turned_of}
 use Rattle.life_runs.specs.of_life_frames.Shares.{AllFrom, AllThree}

@@ -57,10 +57,9 @@ use Rattle.master_tour.specs.declared.stop.Stand.{Stand}
 use Rattle.master_node.proofs.Unvisited.{Lacking, Roomed, Roomy, Went, roomy, some_wish, steps_behind, without}
 use Rattle.master_hand.specs.Shown.{awaits_reply}
 use Rattle.master_side.specs.Free.{is_free_side}
-use Rattle.master_tour.specs.Walks.{EachPair}
-use Rattle.master_node.specs.Coming.{next_of, wish_of}
-use Rattle.master_node.specs.Kept.{StopKept, StopStays}
-use Rattle.master_node.specs.Passes.{IsNextState, IsServing, LaysMail, waits_in}
+use Rattle.master_node.specs.Coming.{wish_of}
+use Rattle.master_node.specs.Kept.{StopKept}
+use Rattle.master_node.specs.Passes.{IsNextState, IsServing, waits_in}
 use Rattle.master_node.specs.Serving.{mails_in, run_lead}
 use Rattle.master_node.specs.Passes.{ThreeFrom}
 use Rattle.master_node.proofs.ServedVisits as Served
