@@ -2,6 +2,7 @@ pub mod Places
 pub mod Ports
 pub mod Script
 pub mod Lists
+pub mod Numbereds
 pub mod Kepts
 pub mod Goings
 pub mod Firsts
@@ -43,6 +44,7 @@ pub mod Endings
 pub mod Mailed
 pub mod FreeKept
 pub mod ServedVisits
+pub mod ServedTells
 pub mod Roundings
 pub mod ServedSents
 pub mod Droppeds
