@@ -40,6 +40,7 @@ pub mod Mailings
 pub mod Handeds
 pub mod Handings
 pub mod Endings
+mod Besides
 pub mod Mailed
 pub mod FreeKept
 pub mod ServedVisits

@@ -39,6 +39,7 @@ pub mod Made
 pub mod Begins
 pub mod Origins
 pub mod Listing
+pub mod Besides
 pub mod Arrivals
 pub mod Eager
 pub mod Resting

@@ -40,6 +40,7 @@ impl MasterNode {
     ghost use Rattle.master_node.specs.Shows.{MasterShows, MasterUnder};
     ghost use Rattle.master_node.specs.Serving.{TellsOnly, ServedShows, ServedUnder, mails_in};
     ghost use Rattle.master_node.specs.Dropped.{Drops, gave_at};
+    ghost use Rattle.master_node.specs.Besides.{TellsBesides};
     ghost use Rattle.master_node.specs.Handed.{DropsWork, EndsWork, NonePassed, passing_at, work_at};
     ghost use Rattle.master_node.specs.declared.post.Work.{Work};
     ghost use Rattle.master_tour.specs.Walks.{StepsAt};
@@ -61,6 +62,7 @@ impl MasterNode {
         ensures lan { self.new.lan ≡ self.old.lan }
         ensures tells { TellsOnly self.old self.new }
         ensures works { StepsAt (λ p q. q.work ≡ Work.Nothing) place self.old.posts.items self.new.posts.items }
+        ensures gateway { TellsBesides 1 [] self.old self.new }
     {
         let post = &mut self.posts[place];
         post.work = Work::Nothing;
@@ -80,6 +82,7 @@ impl MasterNode {
         ensures listed { Lists (arrive_by (port_by (slice_get self.old.lan.ports.items place)) (kept_at self.old.tour.stops.items place)) self.old.lan self.new.lan }
         ensures tells { TellsOnly self.old self.new }
         ensures works { EndsWork (λ k. passing_at self.old.tour.stops.items k) [] self.old.posts.items self.new.posts.items }
+        ensures gateway { TellsBesides 1 [] self.old self.new }
     {
         let hand = &self.tour.stops[place].side.hand;
         if let Some(octets) = hand.emergency() {
@@ -118,6 +121,7 @@ impl MasterNode {
         ensures lan { self.new.lan ≡ self.old.lan }
         ensures tells { TellsOnly self.old self.new }
         ensures works { NonePassed self.old.posts.items place → EndsWork (λ k. passing_at self.old.tour.stops.items k) [] self.old.posts.items self.new.posts.items }
+        ensures gateway { TellsBesides 1 [] self.old self.new }
     {
         if let Some(kind) = self.tour.stops[place].side.hand.answer() {
             self.answered(place, kind);
@@ -153,6 +157,7 @@ impl MasterNode {
         ensures lan { self.new.lan ≡ self.old.lan }
         ensures tells { TellsOnly self.old self.new }
         ensures works { NonePassed self.old.posts.items place → EndsWork (λ k. passing_at self.old.tour.stops.items k) [] self.old.posts.items self.new.posts.items }
+        ensures gateway { TellsBesides 1 [] self.old self.new }
     {
         if self.tour.stops[place].side.is_free() {
             self.answered(place, ReplyKind::Handed);
@@ -182,6 +187,7 @@ impl MasterNode {
         ensures lan { self.new.lan ≡ self.old.lan }
         ensures tells { TellsOnly self.old self.new }
         ensures works { NonePassed self.old.posts.items place → EndsWork (λ k. passing_at self.old.tour.stops.items k) [] self.old.posts.items self.new.posts.items }
+        ensures gateway { TellsBesides 1 [] self.old self.new }
     {
         match self.tour.stops[place].side.duty {
             Some(Met::Reached) => self.answered(place, ReplyKind::Done),
@@ -223,6 +229,7 @@ impl MasterNode {
         ensures lan { self.new.lan ≡ self.old.lan }
         ensures tells { TellsOnly self.old self.new }
         ensures works { EndsWork (λ k. passing_at self.old.tour.stops.items k) [] self.old.posts.items self.new.posts.items }
+        ensures gateway { TellsBesides 2 [] self.old self.new }
     {
         let slave = place as u32;
         let own = self.has_state(place);
