@@ -1,7 +1,6 @@
 -- What a mail brings besides a reply.
 use Rattle.std.specs.Prelude.{◌≡◌, ℕ, List, [], ◌∷◌, ◌++◌, Option, Some, None}
 use Rattle.coe_client.specs.of_coe_model.Mails as CoeMails
-use Rattle.mailbox_mail.specs.declared.mail.Mail.{Mail}
 use Rattle.master_side.specs.of_link_mails.Body.{Body}
 use Rattle.master_hand.specs.Spoken.{heard_sdo}
 use Rattle.master_hand.specs.declared.found.Brought.{Brought}
@@ -38,12 +37,3 @@ emergency_kept f = kept_by f.brought f.emergency.items
 -- WHAT IS KEPT OF THE MAIL HEARD LAST: its octets, just where it was an emergency
 abbrev pub Brings : Found → Body → Type 0
 Brings f b = emergency_kept f ≡ emergency_in b
-
--- the mail that replies, where the mail heard last was a reply of one that is passed on
-abbrev pub reply_by : Brought → Mail → Option Mail
-reply_by Brought.Reply m = Some m
-reply_by _ m = None
-
--- of what was found
-abbrev pub reply_kept : Found → Option Mail
-reply_kept f = reply_by f.brought f.mail

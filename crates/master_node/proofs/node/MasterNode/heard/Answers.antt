@@ -4,6 +4,10 @@ use Rattle.std.proofs.Common.{[], ap, sym, ◌∙◌, ◌≡◌, ◌<◌, ℕ, l
 use Rattle.master_node.specs.declared.post.Work.{Work}
 use Rattle.master_node.specs.Handed.{passing_at, work_at}
 use Rattle.master_node.proofs.Endings.{ends_from, ends_then, not_passed}
+use Rattle.std.proofs.Common.{Some, inl, inr}
+use Rattle.master_side.specs.declared.hand.Heard.{Heard}
+use Rattle.master_node.specs.Besides.{heard_by, heard_room}
+use Rattle.master_node.proofs.Besides.{besides_as, besides_then, heard_emission, heard_least, heard_other, told_none, told_same}
 use Rattle.master_node.proofs.node.MasterNode.heard.Goals as goal
 
 pub returns-in-Passed-clause-kept : goal.returns-in-Passed-clause-kept
