@@ -24,7 +24,6 @@ use Rattle.master_side.specs.Carried.{Meant, is_clear, is_by_half}
 use Rattle.master_side.specs.declared.carried.Carried.{Carried}
 use Rattle.master_side.specs.declared.hand.Hand.{Ghosts}
 use Rattle.master_side.specs.of_link_mails.Body.{Body}
-use Rattle.master_tour.specs.of_life_model.Lives
 use Rattle.master_tour.specs.of_life_model.Own.{own}
 use Rattle.master_tour.specs.Stands.{StandShows, StandUnder}
 use Rattle.master_tour.specs.Under.{Grams, mine, Under}

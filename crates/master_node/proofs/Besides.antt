@@ -12,7 +12,7 @@ use Rattle.master_side.specs.declared.hand.Hand.{Ghosts}
 use Rattle.master_side.specs.declared.hand.Heard.{Heard}
 use Rattle.master_side.specs.declared.passing.Passing.{Passing}
 use Rattle.master_tour.specs.declared.stop.Stop.{Stop}
-use Rattle.master_node.specs.Besides.{TellsBesides, gateway_at, gateway_by, heard_by, heard_room, is_gateway, over_by, over_room, over_told, told_by, told_in, turned_room}
+use Rattle.master_node.specs.Besides.{TellsBesides, gateway_at, gateway_by, heard_by, heard_room, is_gateway, over_by, over_room, over_told, told_by, turned_room}
 use Rattle.master_node.specs.Handed.{IsLeft, work_at}
 use Rattle.master_node.specs.Listing.{events_in}
 use Rattle.master_node.specs.Named.{StaysNamed}
@@ -84,11 +84,6 @@ pub told_both : {G : Ghosts InHand} (f g : Stop InHand G → List Event) (ss : L
 told_both f g [] k = refl
 told_both f g (t ∷ ss) zero = refl
 told_both f g (t ∷ ss) (suc k) = told_both f g ss k
-
--- of one slave more
-pub told_push : (tells : ℕ → List Event) (ps : List ℕ) (p : ℕ) → told_in tells (ps ++ p ∷ []) ≡ told_in tells ps ++ tells p
-told_push tells [] p = append-nil (tells p)
-told_push tells (q ∷ ps) p = ap (λ z. tells q ++ z) (told_push tells ps p) ∙ sym (append_assoc (tells q) (told_in tells ps) (tells p))
 
 -- A REPLY, as it is told
 pub bare_is : (m b : Mail) → b.address ≡ 0 → b.counter ≡ 0 → b.kind ≡ m.kind → b.body.items ≡ m.body.items → b ≡ record m { address = 0; counter = 0 }

@@ -1,42 +1,34 @@
 -- Which ports go down behind a lost frame.
 use Rattle.std.proofs.Common.{◌≡◌, ℕ, zero, suc, ◌+◌, ◌<◌, ◌≤◌, List, [], ◌∷◌, ◌++◌, Bool, true, false, Option, Some, None, refl, sym, ap, subst, ◌∙◌, arith, length, take, get_or, append_assoc, append-nil, add-one, length-append}
-use Rattle.std.specs.Prelude.{◌&&◌, not, nat_lt, if◌then◌else◌, map, slice_get}
+use Rattle.std.specs.Prelude.{◌&&◌, not, nat_lt, map, slice_get}
 use Rattle.std.proofs.lemmas.List.{length-map}
 use Rattle.std.proofs.Math.Seq.{take-suc}
 use Rattle.eoe_switch.specs.declared.switching.SwitchEvent.{SwitchEvent}
 use Rattle.life_runs.specs.of_frame_view.View.{Lens}
-use Rattle.life_runs.specs.of_frame_view.Seen.{seen}
-use Rattle.life_runs.specs.of_life_frames.Shares.{Lived, AllBoth, given_where}
-use Rattle.life_runs.specs.Led.{Exchanged, Turn, Leads, speech_at, led_behind}
-use Rattle.life_runs.specs.of_segment_ring.declared.wire.Fate.{Fate}
+use Rattle.life_runs.specs.of_life_frames.Shares.{AllBoth, given_where}
 use Rattle.master_duty.specs.Reply.{Reply}
 use Rattle.master_duty.specs.of_exchange_model.Exchange.{Speech}
-use Rattle.master_duty.specs.of_segment_model.Record.{News}
 use Rattle.master_duty.specs.of_segment_model.Slaves.{Datagram}
 use Rattle.master_duty.specs.of_segment_model.Seats.{Side}
 use Rattle.master_duty.specs.of_task_model.Accounts.{Account}
 use Rattle.master_hand.specs.Spoken.{Asked, acknowledged, is_followed, is_passed}
-use Rattle.master_hand.specs.declared.hand.InHand.{InHand}
 use Rattle.master_side.specs.of_link_mails.Body.{Body}
-use Rattle.master_side.specs.declared.hand.Hand.{Ghosts}
 use Rattle.master_side.specs.declared.carried.Carried.{Carried}
 use Rattle.master_tour.specs.Goes.{is_live, holds_at}
 use Rattle.master_tour.specs.Stands.{StandShows, StandUnder, turned, turned_by, is_opening, is_open}
 use Rattle.master_tour.specs.Walks.{EachPair}
 use Rattle.master_tour.specs.declared.stop.Stand.{Stand}
-use Rattle.master_tour.specs.declared.stop.Stop.{Stop}
 use Rattle.master_tour.specs.declared.stop.Turned.{Turned}
 use Rattle.master_tour.specs.of_life_model.Lives as Lives
 use Rattle.master_tour.specs.of_life_model.Lives.{Life, Spot, life_lost}
 use Rattle.master_tour.proofs.Goes.{holds_here}
 use Rattle.master_tour.proofs.Openings.{lt_self, lt_more}
-use Rattle.master_node.specs.Downs.{Lists, down_by, downs_in, is_given_up, gives_at, goes_down}
+use Rattle.master_node.specs.Downs.{Lists, down_by, downs_in, is_given_up}
 use Rattle.master_node.specs.Forwards.{port_by}
 use Rattle.master_node.specs.Happened.{events_of}
-use Rattle.master_node.specs.Shows.{IsUnder, is_led, is_live_turn, is_live_lead, side_shows}
+use Rattle.master_node.specs.Shows.{is_led}
 use Rattle.master_node.specs.declared.happened.Happening.{Happening}
 use Rattle.master_node.specs.declared.lan.Lan.{Lan}
-use Rattle.master_node.proofs.Behinds.{life_lost_is}
 use Rattle.master_node.proofs.Happenings.{events_push}
 
 -- ---- what is listed, one after the other

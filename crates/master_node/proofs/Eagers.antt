@@ -1,17 +1,16 @@
 -- WHAT A MASTER REMEMBERS STAYS while a frame is made, and each slave takes up its mail at its visit.
-use Rattle.std.proofs.Common.{◌≡◌, ℕ, zero, suc, Bool, true, false, Option, Some, None, List, [], ◌∷◌, refl, sym, ap, ◌∙◌, subst}
-use Rattle.std.specs.Prelude.{map, option_map, ◌<◌, length}
+use Rattle.std.proofs.Common.{◌≡◌, ℕ, zero, suc, Bool, true, Option, Some, None, List, [], ◌∷◌, refl, sym, ap, ◌∙◌, subst}
+use Rattle.std.specs.Prelude.{map, option_map}
 use Rattle.mailbox_mail.specs.declared.mail.Mail.{Mail}
 use Rattle.mailbox_master.specs.Any.{in_half_of}
 use Rattle.mailbox_master.specs.Seat.{seat_half}
 use Rattle.mailbox_master.specs.of_link_model.Link.{Halves}
 use Rattle.life_runs.specs.of_frame_view.View.{Lens}
-use Rattle.life_runs.specs.of_frame_view.Seen.{seen}
 use Rattle.life_runs.specs.of_life_frames.Shares.{AllBoth}
 use Rattle.life_runs.specs.Led.{Turn, speech_at}
 use Rattle.master_duty.specs.Reply.{Reply}
 use Rattle.master_duty.specs.of_exchange_model.Exchange.{Speech}
-use Rattle.master_duty.specs.of_exchange_model.Rows.{Row, left}
+use Rattle.master_duty.specs.of_exchange_model.Rows.{left}
 use Rattle.master_duty.specs.of_segment_model.Seats
 use Rattle.master_duty.specs.of_segment_model.Seats.{next_mail, first_left}
 use Rattle.master_duty.specs.of_task_model.Accounts.{Account}
@@ -30,8 +29,7 @@ use Rattle.master_tour.specs.Stands.{StandShows}
 use Rattle.master_tour.specs.Walks.{EachPair, StepsAt}
 use Rattle.master_tour.specs.declared.stop.Stand.{Stand}
 use Rattle.master_tour.specs.declared.stop.Stop.{Stop}
-use Rattle.master_tour.specs.of_life_model.Lives
-use Rattle.master_node.specs.Eager.{AllTakeUp, NoneLeft, StopGoes, StopTakesUp, TakesUp, recall_of}
+use Rattle.master_node.specs.Eager.{AllTakeUp, StopGoes, StopTakesUp, TakesUp, recall_of}
 use Rattle.master_node.specs.Kept.{StopKept}
 use Rattle.master_node.specs.Shows.{IsUnder, side_shows}
 

@@ -14,7 +14,7 @@ use Rattle.master_node.specs.Begins.{begun_for}
 use Rattle.master_node.specs.Starts.{HasStarted}
 use Rattle.master_node.specs.Filling.{IsAmong, StopFills, IsFilling, IsEmpty, IsFilled}
 use Rattle.master_node.specs.Kept.{TourOn}
-use Rattle.master_node.specs.Listing.{Before}
+use Rattle.master_node.specs.Listing.{Before, run_tells}
 use Rattle.master_node.specs.Shows.{WaitsNone, HoldsFirst, IsAlone, ComeAgain, lived_of, is_live_lead}
 use Rattle.master_node.specs.declared.node.MasterNode.{MasterNode}
 use Rattle.master_node.proofs.Begins.{begun_on}
@@ -90,7 +90,7 @@ module _ (lens : ℕ → Lens) (recover made : ℕ) (from : Before) (as' : List 
         (subst (λ z. FrameMade (λ ds i a s. StopFills lens recover made f.begun (z % 256) left ds i a s) octets m.tour.count (map lived_of as') m.tour.stops.items) (sym k.made) f.frame));
     among = subst (λ z. AllFrom (λ i a s. IsAmong lens f.begun left i a s) 0 as' z.items) (sym k.stops) f.among;
     packets = begun_on from.switch left f.begun as' m.lan n.lan k.lan f.packets;
-    listing = listed_on from.forwards left f.begun as' m n k.list k.posts f.listing;
+    listing = listed_on (run_tells as') from.forwards left f.begun as' m n k.list k.posts f.listing;
     starts = record {
       visited = f.starts.visited;
       each = subst (λ z. AllFrom (λ i a s. HasStarted lens z f.starts.visited i (begun_for f.begun as' i) a s) 0 as' n.tour.stops.items) (sym k.lan)

@@ -1,16 +1,13 @@
 -- THE SLAVES OF A LOST FRAME have room in the next.
-use Rattle.std.proofs.Common.{◌≡◌, ◌≤◌, ◌<◌, ◌+◌, ◌==◌, ℕ, zero, suc, Bool, true, false, Option, Some, None, List, [], ◌∷◌, ◌++◌, length, drop, refl, sym, ap, ◌∙◌, subst, arith}
+use Rattle.std.proofs.Common.{◌≡◌, ◌≤◌, ◌<◌, ◌+◌, ℕ, zero, suc, Bool, true, false, List, [], ◌∷◌, ◌++◌, length, drop, refl, sym, ap, ◌∙◌, subst, arith}
 use Rattle.std.specs.Prelude.{IfSome, slice_get}
 use Rattle.std.proofs.lemmas.Bool.{eq-eqb}
-use Rattle.al_state.specs.declared.bringing.BringUp.{BringUp}
 use Rattle.mailbox_master.specs.Any.{in_half_of}
 use Rattle.master_hand.specs.declared.hand.InHand.{InHand}
 use Rattle.master_side.specs.Again.{HasNoRoom, IsOnWay, Repeats}
 use Rattle.master_side.specs.Carried.{choice_of, is_read}
 use Rattle.master_side.specs.Sent.{gram_len}
-use Rattle.master_side.specs.declared.carried.Carried.{Carried}
 use Rattle.master_side.specs.declared.hand.Hand.{Ghosts}
-use Rattle.master_side.specs.declared.side.Side.{Side}
 use Rattle.master_tour.specs.Made.{is_in}
 use Rattle.master_tour.specs.Rooms.{LosesAgain, Looks, StandOnWay, StandRepeats, StopOnWay, StopRepeats, Visits, stand_len, stop_len}
 use Rattle.master_tour.specs.Walks.{StepsAt, EachPair}

@@ -2,7 +2,7 @@
 use Rattle.std.proofs.Common.{◌≡◌, ℕ, Bool, true, false, Option, Some, None, List, [], ◌∷◌, refl, sym, ap, ◌∙◌, subst}
 use Rattle.std.specs.Prelude.{◌&&◌}
 use Rattle.life_runs.specs.of_frame_view.View.{Lens}
-use Rattle.life_runs.specs.Led.{Leads, speech_at}
+use Rattle.life_runs.specs.Led.{speech_at}
 use Rattle.mailbox_master.specs.of_link_model.Mails.{LinkMail}
 use Rattle.master_duty.specs.Reply.{Reply}
 use Rattle.master_duty.specs.of_exchange_model.Exchange.{Speech}
@@ -12,7 +12,7 @@ use Rattle.master_duty.specs.of_segment_model.Seats
 use Rattle.master_duty.specs.of_segment_model.Seats.{Choice, first_left, is_none_left, next_mail, side_holds, side_next}
 use Rattle.master_duty.specs.of_task_model.Accounts.{Account, Pick, account_begins, is_acknowledged, is_free, mails_begin}
 use Rattle.master_hand.specs.Shown.{knows}
-use Rattle.master_hand.specs.Spoken.{Asked, acknowledged, is_followed, is_passed}
+use Rattle.master_hand.specs.Spoken.{Asked, acknowledged}
 use Rattle.master_hand.specs.declared.hand.InHand.{InHand}
 use Rattle.master_side.specs.Carried.{in_hand}
 use Rattle.master_side.specs.declared.hand.Hand.{Ghosts}

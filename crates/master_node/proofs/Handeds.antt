@@ -1,6 +1,6 @@
 -- THE MAIL IN HAND that is passed on, over a frame, by the life of its slave.
-use Rattle.std.proofs.Common.{◌≡◌, ◌==◌, ◌≤◌, ◌<◌, ℕ, zero, suc, Bool, true, false, Option, None, Some, List, [], ◌∷◌, ◌++◌, ◌+◌, refl, sym, ap, ◌∙◌, subst, arith, length, append-nil}
-use Rattle.std.specs.Prelude.{◌&&◌, is_some, nat_lt, map, slice_get, if◌then◌else◌}
+use Rattle.std.proofs.Common.{◌≡◌, ◌==◌, ℕ, suc, Bool, true, false, Option, None, Some, List, [], ◌∷◌, ◌++◌, ◌+◌, refl, sym, ap, ◌∙◌, subst, arith, length}
+use Rattle.std.specs.Prelude.{◌&&◌, is_some, nat_lt, map, if◌then◌else◌}
 use Rattle.std.proofs.lemmas.Bool.Decides.{nat_tests}
 use Rattle.life_runs.specs.Led.{Comes}
 use Rattle.life_runs.specs.of_life_frames.Shares.{given_where}
@@ -12,7 +12,7 @@ use Rattle.master_duty.specs.of_segment_model.Slaves.{Datagram, Found}
 use Rattle.master_duty.specs.of_state_exchange.Stated.{Service}
 use Rattle.master_duty.specs.of_task_model.Accounts as Accounts
 use Rattle.master_duty.specs.of_task_model.Accounts.{Account, Pick, account_back}
-use Rattle.master_hand.specs.Spoken.{Asked, acknowledged, is_followed, is_passed, net, passed}
+use Rattle.master_hand.specs.Spoken.{Asked, acknowledged, is_followed, is_passed, net}
 use Rattle.master_hand.specs.Talk.{asked_of}
 use Rattle.master_hand.specs.of_eoe_model.Client as EoeClient
 use Rattle.master_side.specs.Passing.{news_lost}
@@ -25,7 +25,7 @@ use Rattle.master_tour.specs.of_life_model.Own.{own}
 use Rattle.segment_plan.specs.declared.service.Service as Plan
 use Rattle.served_runs.specs.Served.{Keyed, ServedComes}
 use Rattle.served_runs.specs.Told.{Passed, told_on}
-use Rattle.master_node.specs.Handed.{HasBegun, IsDuty, IsHanded, IsNamed, StaysNamed, hand_behind, is_left, newest}
+use Rattle.master_node.specs.Handed.{HasBegun, IsDuty, IsHanded, StaysNamed, hand_behind, is_left, newest}
 use Rattle.master_node.specs.Passes.{BeginsFree}
 use Rattle.master_node.specs.declared.post.Work.{Work}
 use Rattle.master_node.proofs.Mailed.{next_passing}

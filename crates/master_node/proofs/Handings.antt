@@ -32,7 +32,7 @@ use Rattle.master_node.specs.declared.post.Asked as Queue
 use Rattle.master_node.specs.declared.post.Post.{Post}
 use Rattle.master_node.specs.declared.post.Work.{Work}
 use Rattle.master_node.proofs.Handeds.{none_in, passed_in}
-use Rattle.master_node.proofs.Servings.{keyed}
+use Rattle.master_node.proofs.Servings.{keyed, none_some}
 
 -- THE OLDEST IS LAID READY under the key of its asker
 pub oldest_so : (p : Post) (a : Queue.Asked) → Some a ≡ slice_get p.mails.items 0 → IsOldestWork (waits_of p) (Work.Passed a.key)
@@ -48,11 +48,6 @@ oldest_none p work e = go p.mails.items e
     go : (as' : List Queue.Asked) → slice_get as' 0 ≡ None → IsOldestWork (map keyed as') work
     go [] f = tt
     go (b ∷ bs) f = absurd (cc)
-
--- some is none of nothing
-none_some : {T : Type 0} (o : Option T) → o ≡ None → is_some o ≡ true → ⊥
-none_some None e t = absurd (cc)
-none_some (Some x) e t = absurd (cc)
 
 -- THE OLDEST MAIL COMES INTO HAND
 pub takes_mail : (l m : Life Body Asked Reply) (k : Keyed) (rest : List Keyed) (hand : Option Passed) → l.stand ≡ Lives.Stand.Open → HasBegun l (Some (Service.Mails (passed k.mail))) m →
@@ -93,15 +88,15 @@ next_own : (room : ℕ) (o : Option Plan.Service) (q : Asked) → asked_next roo
 next_own room None q e = absurd (cc)
 next_own room (Some s) q e = ap passed_in (sym e) ∙ none_in room s
 
-own_script : (lay : Waiting) (q : Asked) → lay.laid ≡ Laid.Script → ready_of lay ≡ Some q → is_passed q ≡ false
+pub own_script : (lay : Waiting) (q : Asked) → lay.laid ≡ Laid.Script → ready_of lay ≡ Some q → is_passed q ≡ false
 own_script lay q l e = next_own lay.areas.out (slice_get lay.script lay.number) q (sym (ap (λ z. ready_by z lay) l) ∙ e)
 
-own_packet : (lay : Waiting) (q : Asked) → (lay.laid ≡ Laid.Packet) ⊎ (lay.laid ≡ Laid.Nothing) → ready_of lay ≡ Some q → is_passed q ≡ false
+pub own_packet : (lay : Waiting) (q : Asked) → (lay.laid ≡ Laid.Packet) ⊎ (lay.laid ≡ Laid.Nothing) → ready_of lay ≡ Some q → is_passed q ≡ false
 own_packet lay q (inl l) e = (let same : Some (net (EoeClient.packet lay.packet lay.frame)) ≡ Some q = sym (ap (λ z. ready_by z lay) l) ∙ e in let is : net (EoeClient.packet lay.packet lay.frame) ≡ q = cc in ap is_passed (sym is))
 own_packet lay q (inr l) e = absurd (let bad : None ≡ Some q = sym (ap (λ z. ready_by z lay) l) ∙ e in cc)
 
 -- what came by a wish was ready
-begins_some : (stand : Stand) (free : Bool) (ready : Option Asked) → true ≡ stand_begins stand (begins_by free (Some Wish.Mails) ready) → is_some ready ≡ true
+pub begins_some : (stand : Stand) (free : Bool) (ready : Option Asked) → true ≡ stand_begins stand (begins_by free (Some Wish.Mails) ready) → is_some ready ≡ true
 begins_some (Stand.Opening up) free ready e = absurd (let bad : true ≡ false = e in cc)
 begins_some Stand.Gone free ready e = absurd (let bad : true ≡ false = e in cc)
 begins_some Stand.Open true ready e = sym e

@@ -19,6 +19,7 @@ use Rattle.master_tour.proofs.Mades.{lives_on}
 use Rattle.master_tour.proofs.Walks.{each_same}
 use Rattle.master_node.specs.declared.node.MasterNode.{MasterNode}
 use Rattle.master_node.specs.Shows.{WaitsNone, side_shows, IsLived}
+use Rattle.master_node.specs.Numbered.{StaysNumbered}
 use Rattle.master_node.specs.Origins.{forwards_at}
 use Rattle.master_node.specs.Kept.{SideKept, StopKept, StopStays, TourKept, NodeKept}
 use Rattle.master_node.proofs.Lists.{each_trans}
@@ -106,12 +107,13 @@ tour_on m n o a b = record {
 }
 
 -- the master stays where its tour does
-pub node_same : (m n : MasterNode) → n.tour ≡ m.tour → n.made ≡ m.made → (All WaitsNone m.posts.items → All WaitsNone n.posts.items) → ((k : ℕ) → forwards_at n.posts.items k ≡ forwards_at m.posts.items k) → NodeKept m n
-node_same m n e f q h = record {
+pub node_same : (m n : MasterNode) → n.tour ≡ m.tour → n.made ≡ m.made → (All WaitsNone m.posts.items → All WaitsNone n.posts.items) → ((k : ℕ) → forwards_at n.posts.items k ≡ forwards_at m.posts.items k) → EachPair (λ p q. StaysNumbered p q) m.posts.items n.posts.items → NodeKept m n
+node_same m n e f q h x = record {
   each = subst (λ z. EachPair (λ s t. StopStays s t) m.tour.stops.items z.stops.items) (sym e) (each_same (λ s t. StopStays s t) m.tour.stops.items (λ s. stop_same s));
   tour = tour_same m n e f;
   quiet = q;
   counts = h;
+  numbered = x;
 }
 
 pub node_on : (m n o : MasterNode) → NodeKept m n → NodeKept n o → NodeKept m o
@@ -120,6 +122,7 @@ node_on m n o a b = record {
   tour = tour_on m n o a.tour b.tour;
   quiet = λ q. b.quiet (a.quiet q);
   counts = λ k. b.counts k ∙ a.counts k;
+  numbered = each_trans (λ p q. StaysNumbered p q) m.posts.items n.posts.items o.posts.items (λ p q r x y k h. y k (x k h)) a.numbered b.numbered;
 }
 
 -- what a stop shows stays

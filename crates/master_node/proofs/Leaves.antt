@@ -1,5 +1,5 @@
 -- What a frame leaves out of its visit.
-use Rattle.std.proofs.Common.{◌≡◌, ◌<◌, ◌≤◌, ◌+◌, ◌-◌, ℕ, zero, suc, Bool, true, false, Option, Some, None, List, [], ◌∷◌, ◌++◌, refl, sym, ap, ◌∙◌, subst, arith, length, length-append, append-nil}
+use Rattle.std.proofs.Common.{◌≡◌, ◌≤◌, ◌-◌, ℕ, zero, suc, Bool, true, false, Option, None, List, [], ◌∷◌, ◌++◌, refl, sym, ap, ◌∙◌, subst, arith, length, length-append, append-nil}
 use Rattle.std.specs.Prelude.{cond, filter, map, nat_lt, if◌then◌else◌}
 use Rattle.life_runs.specs.of_life_frames.Shares.{AllFrom, Lived}
 use Rattle.master_tour.specs.of_life_model.Lives.{Spot}

@@ -2,6 +2,7 @@ pub mod Places
 pub mod Ports
 pub mod Script
 pub mod Lists
+pub mod Numbereds
 pub mod Kepts
 pub mod Goings
 pub mod Firsts
@@ -44,6 +45,7 @@ mod Besides
 pub mod Mailed
 pub mod FreeKept
 pub mod ServedVisits
+pub mod ServedTells
 pub mod Roundings
 pub mod ServedSents
 pub mod Droppeds

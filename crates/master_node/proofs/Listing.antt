@@ -24,7 +24,7 @@ use Rattle.master_node.specs.Begins.{begun_for, begun_of}
 use Rattle.master_node.specs.Coming.{IsComing, IsLaid, next_of, wish_of}
 use Rattle.master_node.specs.Filling.{IsAmong}
 use Rattle.master_node.specs.Listed.{listed_last}
-use Rattle.master_node.specs.Listing.{ListsOne, HasListed, IsUnlisted, ServicesBegin, began_by, began_from, began_in, counted_from, events_in, forwards_behind, number_at, where_began}
+use Rattle.master_node.specs.Listing.{ListsOne, HasListed, IsUnlisted, ServicesBegin, began_by, began_from, counted_from, events_in, forwards_behind, number_at, run_tells, told_in, where_began}
 use Rattle.master_node.specs.Origins.{CountsNone, IsFrom, LaysFrom, forwards_at}
 use Rattle.master_node.specs.Shows.{lived_of}
 use Rattle.master_node.specs.declared.coming.Coming.{Coming}
@@ -79,22 +79,20 @@ steps_stay P (suc i) (x ∷ xs) v l e p = (refl, steps_stay P i xs v (omega (ari
 
 -- ---- what is listed
 
-began_push : (numbers forwards : ℕ → ℕ) (b : ℕ → Option (Service Asked)) (ps : List ℕ) (p : ℕ) → began_in numbers forwards b (ps ++ p ∷ []) ≡ began_in numbers forwards b ps ++ began_by p (numbers p) (forwards p) (b p)
-began_push numbers forwards b [] p = append-nil (began_by p (numbers p) (forwards p) (b p))
-began_push numbers forwards b (q ∷ ps) p =
-    ap (λ z. began_by q (numbers q) (forwards q) (b q) ++ z) (began_push numbers forwards b ps p)
-    ∙ sym (append_assoc (began_by q (numbers q) (forwards q) (b q)) (began_in numbers forwards b ps) (began_by p (numbers p) (forwards p) (b p)))
+pub told_push : (tells : ℕ → List Event) (ps : List ℕ) (p : ℕ) → told_in tells (ps ++ p ∷ []) ≡ told_in tells ps ++ tells p
+told_push tells [] p = append-nil (tells p)
+told_push tells (q ∷ ps) p = ap (λ z. tells q ++ z) (told_push tells ps p) ∙ sym (append_assoc (tells q) (told_in tells ps) (tells p))
 
-began_same : (numbers forwards : ℕ → ℕ) (b c : ℕ → Option (Service Asked)) (ps : List ℕ) → ((k : ℕ) → is_in k ps ≡ true → c k ≡ b k) → began_in numbers forwards b ps ≡ began_in numbers forwards c ps
-began_same numbers forwards b c [] h = refl
-began_same numbers forwards b c (q ∷ ps) h =
-    let here = sym (h q (in_here q q ps (eq-eqb q q refl))) in
-    let rest = began_same numbers forwards b c ps (λ k e. h k (in_last k (q ∷ []) ps e)) in
-    λ i. began_by q (numbers q) (forwards q) (here i) ++ rest i
+pub told_same : (f g : ℕ → List Event) (ps : List ℕ) → ((k : ℕ) → is_in k ps ≡ true → f k ≡ g k) → told_in f ps ≡ told_in g ps
+told_same f g [] h = refl
+told_same f g (q ∷ ps) h =
+    let here = h q (in_here q q ps (eq-eqb q q refl)) in
+    let rest = told_same f g ps (λ k e. h k (in_last k (q ∷ []) ps e)) in
+    λ i. here i ++ rest i
 
 -- before the first visit
-pub listed_nothing : (forwards : ℕ → ℕ) (left : List ℕ) (as' : List Leads) (m : MasterNode) → IsUnlisted forwards m → HasListed forwards left (λ j. None) as' m
-listed_nothing forwards left as' m u = record {
+pub listed_nothing : (tells : ℕ → ℕ → Option (Service Asked) → List Event) (forwards : ℕ → ℕ) (left : List ℕ) (as' : List Leads) (m : MasterNode) → IsUnlisted forwards m → HasListed tells forwards left (λ j. None) as' m
+listed_nothing tells forwards left as' m u = record {
   visited = [];
   once = tt;
   over = λ k e. absurd (cc);
@@ -109,8 +107,8 @@ events_of_list a b e = λ i. listed_last (e i).rows.items (e i).first (e i).coun
 pub events_by : (m n : MasterNode) → n.list ≡ m.list → events_in n ≡ events_in m
 events_by m n e = λ i. listed_last (e i).rows.items (e i).first (e i).count
 
-pub listed_on : (forwards : ℕ → ℕ) (left : List ℕ) (begun : ℕ → Option (Service Asked)) (as' : List Leads) (m n : MasterNode) → n.list ≡ m.list → n.posts ≡ m.posts → HasListed forwards left begun as' m → HasListed forwards left begun as' n
-listed_on forwards left begun as' m n e f x = record {
+pub listed_on : (tells : ℕ → ℕ → Option (Service Asked) → List Event) (forwards : ℕ → ℕ) (left : List ℕ) (begun : ℕ → Option (Service Asked)) (as' : List Leads) (m n : MasterNode) → n.list ≡ m.list → n.posts ≡ m.posts → HasListed tells forwards left begun as' m → HasListed tells forwards left begun as' n
+listed_on tells forwards left begun as' m n e f x = record {
   visited = x.visited;
   once = x.once;
   over = x.over;
@@ -120,26 +118,26 @@ listed_on forwards left begun as' m n e f x = record {
 }
 
 -- THE VISIT of the slave at a place goes on with it
-pub listed_step : (forwards : ℕ → ℕ) (left next : List ℕ) (begun : ℕ → Option (Service Asked)) (as' : List Leads) (m n : MasterNode) (p h : ℕ) (b : Option (Service Asked)) → AreDistinct (map lived_of as') → spot_at as' p ≡ Some h →
+pub listed_step : (tells : ℕ → ℕ → Option (Service Asked) → List Event) (forwards : ℕ → ℕ) (left next : List ℕ) (begun : ℕ → Option (Service Asked)) (as' : List Leads) (m n : MasterNode) (p h : ℕ) (b : Option (Service Asked)) → AreDistinct (map lived_of as') → spot_at as' p ≡ Some h →
     is_in p left ≡ true → is_in p next ≡ false → ((k : ℕ) → is_in k next ≡ true → is_in k left ≡ true) →
-    StepsAt (λ q r. (events_in n ≡ events_in m ++ began_by p (number_at as' p) q.forwards b) × (r.forwards ≡ forwards_behind q.forwards b)) p m.posts.items n.posts.items →
-    HasListed forwards left begun as' m → HasListed forwards next (begun_at begun h b) as' n
-listed_step forwards left next begun as' m n p h b d e at over fewer steps x =
+    StepsAt (λ q r. (events_in n ≡ events_in m ++ tells p q.forwards b) × (r.forwards ≡ forwards_behind q.forwards b)) p m.posts.items n.posts.items →
+    HasListed tells forwards left begun as' m → HasListed tells forwards next (begun_at begun h b) as' n
+listed_step tells forwards left next begun as' m n p h b d e at over fewer steps x =
     let now = begun_at begun h b in
-    let numbers = λ (k : ℕ). number_at as' k in
     let new : is_in p x.visited ≡ false = not_in p x.visited (λ w. true_false (is_in p left) at (x.over p w)) in
     let apart : (k : ℕ) → is_in k x.visited ≡ true → k ≡ p → ⊥ = λ k w q. true_false (is_in p x.visited) (subst (λ z. is_in z x.visited ≡ true) q w) new in
-    let first = first_counts (λ f. events_in n ≡ events_in m ++ began_by p (number_at as' p) f b) (λ f. forwards_behind f b) p m.posts.items n.posts.items steps in
+    let first = first_counts (λ f. events_in n ≡ events_in m ++ tells p f b) (λ f. forwards_behind f b) p m.posts.items n.posts.items steps in
     let none : begun_for begun as' p ≡ None = x.others p new in
     let before : forwards_at m.posts.items p ≡ forwards p = x.counts p ∙ ap (λ z. forwards_behind (forwards p) z) none in
     let is : begun_for now as' p ≡ b = at_place begun h b as' p e in
-    let was : began_in numbers forwards (begun_for begun as') x.visited ≡ began_in numbers forwards (begun_for now as') x.visited = began_same numbers forwards (begun_for begun as') (begun_for now as') x.visited (λ k w. at_other begun h b as' p k d e (apart k w)) in
+    let was : told_in (λ k. tells k (forwards k) (begun_for begun as' k)) x.visited ≡ told_in (λ k. tells k (forwards k) (begun_for now as' k)) x.visited =
+    told_same _ _ x.visited (λ k w. ap (λ z. tells k (forwards k) z) (sym (at_other begun h b as' p k d e (apart k w)))) in
     record {
       visited = x.visited ++ p ∷ [];
       once = once_more p x.visited x.once new;
       over = λ k w.
           in_more k p x.visited (is_in k next ≡ false) (λ u. not_in k next (λ v. true_false (is_in k left) (fewer k v) (x.over k u))) (λ q. subst (λ z. is_in z next ≡ false) (sym q) over) w;
-      listed = first.0 ∙ (λ i. (x.listed ∙ was) i ++ began_by p (numbers p) (before i) (sym is i)) ∙ sym (began_push numbers forwards (begun_for now as') x.visited p);
+      listed = first.0 ∙ (λ i. (x.listed ∙ was) i ++ tells p (before i) (sym is i)) ∙ sym (told_push (λ k. tells k (forwards k) (begun_for now as' k)) x.visited p);
       others = λ k w.
           let out : is_in k x.visited ≡ false = not_in k x.visited (λ v. true_false (is_in k (x.visited ++ p ∷ [])) (in_first k x.visited (p ∷ []) v) w) in
           let not_p : k ≡ p → ⊥ = λ q. true_false (is_in k (x.visited ++ p ∷ [])) (in_last k x.visited (p ∷ []) (in_here k p [] (eq-eqb k p q))) w in
@@ -158,11 +156,11 @@ listed_step forwards left next begun as' m n p h b d e at over fewer steps x =
 
 -- the turns of a frame
 pub services_begin : (forwards : ℕ → ℕ) (left : List ℕ) (begun : ℕ → Option (Service Asked)) (as' : List Leads) (us : List Turn) (m n : MasterNode) → ((k : ℕ) → begun_of us k ≡ begun_for begun as' k) → n.list ≡ m.list → n.posts ≡ m.posts →
-    HasListed forwards left begun as' m → ServicesBegin forwards as' us n
+    HasListed (run_tells as') forwards left begun as' m → ServicesBegin forwards as' us n
 services_begin forwards left begun as' us m n h e f x = record {
   visited = x.visited;
   once = x.once;
-  listed = events_by m n e ∙ x.listed ∙ began_same (number_at as') forwards (begun_for begun as') (begun_of us) x.visited (λ k w. h k);
+  listed = events_by m n e ∙ x.listed ∙ told_same _ _ x.visited (λ k w. ap (λ z. run_tells as' k (forwards k) z) (sym (h k)));
   others = λ k w. h k ∙ x.others k w;
   counts = λ k. ap (λ z. forwards_at z.items k) f ∙ x.counts k ∙ ap (λ z. forwards_behind (forwards k) z) (sym (h k));
 }
@@ -194,15 +192,15 @@ script_came place number forwards room Plan.Service.GetIp r = (refl, refl)
 script_came place number forwards room (Plan.Service.State state) r = absurd (cc)
 script_came place number forwards room (Plan.Service.Forward packet) r = absurd (cc)
 
-next_came : (place number forwards room : ℕ) (next : Option Plan.Service) → is_some (asked_next room next) ≡ true → Came place number forwards (Origin.Script number) true (Some Coming.Script) (wished Wish.Mails (asked_next room next))
+pub next_came : (place number forwards room : ℕ) (next : Option Plan.Service) → is_some (asked_next room next) ≡ true → Came place number forwards (Origin.Script number) true (Some Coming.Script) (wished Wish.Mails (asked_next room next))
 next_came place number forwards room None r = absurd (cc)
 next_came place number forwards room (Some s) r = script_came place number forwards room s r
 
-packet_came : (place number forwards : ℕ) (w : Waiting) → (w.laid ≡ Laid.Packet) ⊎ (w.laid ≡ Laid.Nothing) → is_some (ready_of w) ≡ true → Came place number forwards (Origin.Forward forwards) true (Some Coming.Packet) (wished Wish.Mails (ready_of w))
+pub packet_came : (place number forwards : ℕ) (w : Waiting) → (w.laid ≡ Laid.Packet) ⊎ (w.laid ≡ Laid.Nothing) → is_some (ready_of w) ≡ true → Came place number forwards (Origin.Forward forwards) true (Some Coming.Packet) (wished Wish.Mails (ready_of w))
 packet_came place number forwards w (inl e) r = subst (λ z. Came place number forwards (Origin.Forward forwards) true (Some Coming.Packet) (wished Wish.Mails (ready_by z w))) (sym e) (refl, refl)
 packet_came place number forwards w (inr e) r = absurd (let f = sym (ap (λ z. is_some (ready_by z w)) e) ∙ r in cc)
 
-from_same : (place number forwards : ℕ) (o p : Origin) (result : Bool) (coming : Option Coming) (b : Option (Service Asked)) → o ≡ p → Came place number forwards p result coming b → Came place number forwards o result coming b
+pub from_same : (place number forwards : ℕ) (o p : Origin) (result : Bool) (coming : Option Coming) (b : Option (Service Asked)) → o ≡ p → Came place number forwards p result coming b → Came place number forwards o result coming b
 from_same place number forwards o p result coming b e c = subst (λ z. Came place number forwards z result coming b) (sym e) c
 
 pub came_so : {G : Ghosts InHand} (place number forwards : ℕ) (o : Origin) (coming : Option Coming) (result : Bool) (s : Stop InHand G) → IsComing (next_of s) coming → IsLaid coming s.side.hand.laying.laid → (takes_ready result (wish_of coming) ≡ true → is_some (ready_of s.side.hand.laying) ≡ true) →
@@ -244,15 +242,17 @@ laid_from coming number place ps qs s0 s1 s2 e h =
     (steps_trans (λ s t. t.side.hand.laying.number ≡ number) (λ s t. StepsAt (λ p q. LaysFrom coming s.side.hand.laying.number p q) place ps qs) (λ s t. so) place s0 s1 s2
     (λ s t u a b. subst (λ z. StepsAt (λ p q. LaysFrom coming z p q) place ps qs) a b) e h)
 
+-- as it is told of what came into hand, with where it was laid ready from
+abbrev pub ToldSo : (ℕ → ℕ → Option (Service Asked) → List Event) → ℕ → Option Coming → Option (Service Asked) → Post → Post → Type 0
+ToldSo tells place coming b p q = (q.forwards ≡ p.forwards) × (began_from place coming q.origin ≡ tells place p.forwards b) × (counted_from coming q.origin p.forwards ≡ forwards_behind p.forwards b)
+
 -- and what was listed then
-pub listed_visit : (place number : ℕ) (coming : Option Coming) (result : Bool) (b : Option (Service Asked)) (m l n : MasterNode) → l.list ≡ m.list → m.list.count < 97 → StepsAt (λ p q. LaysFrom coming number p q) place m.posts.items l.posts.items →
-    StepsAt (λ p q. ListsOne place (where_began result coming) l n p q) place l.posts.items n.posts.items → ((forwards : ℕ) (o : Origin) → IsFrom coming number forwards o → Came place number forwards o result coming b) →
-    StepsAt (λ q r. (events_in n ≡ events_in m ++ began_by place number q.forwards b) × (r.forwards ≡ forwards_behind q.forwards b)) place m.posts.items n.posts.items
-listed_visit place number coming result b m l n e few laid lists is =
-    steps_trans (λ p q. LaysFrom coming number p q) (λ p q. ListsOne place (where_began result coming) l n p q) (λ q r. (events_in n ≡ events_in m ++ began_by place number q.forwards b) × (r.forwards ≡ forwards_behind q.forwards b)) place m.posts.items l.posts.items n.posts.items
-    (λ p q r x y.
-    let z = is p.forwards q.origin x.origin in
-    (y.listed (subst (λ w. w.count < 97) (sym e) few) ∙ (λ i. events_by m l e i ++ z.0 i), y.counts ∙ ap (λ w. counted_from (where_began result coming) q.origin w) x.counts ∙ z.1)) laid lists
+pub listed_visit : (tells : ℕ → ℕ → Option (Service Asked) → List Event) (place : ℕ) (coming : Option Coming) (b : Option (Service Asked)) (m l n : MasterNode) → l.list ≡ m.list → m.list.count < 97 → StepsAt (λ p q. ToldSo tells place coming b p q) place m.posts.items l.posts.items →
+    StepsAt (λ p q. ListsOne place coming l n p q) place l.posts.items n.posts.items →
+    StepsAt (λ q r. (events_in n ≡ events_in m ++ tells place q.forwards b) × (r.forwards ≡ forwards_behind q.forwards b)) place m.posts.items n.posts.items
+listed_visit tells place coming b m l n e few told lists =
+    steps_trans (λ p q. ToldSo tells place coming b p q) (λ p q. ListsOne place coming l n p q) (λ q r. (events_in n ≡ events_in m ++ tells place q.forwards b) × (r.forwards ≡ forwards_behind q.forwards b)) place m.posts.items l.posts.items n.posts.items
+    (λ p q r x y. (y.listed (subst (λ w. w.count < 97) (sym e) few) ∙ (λ i. events_by m l e i ++ x.1 i), y.counts ∙ ap (λ w. counted_from coming q.origin w) x.0 ∙ x.2)) told lists
 
 -- ---- a step
 

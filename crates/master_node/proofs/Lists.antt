@@ -7,6 +7,15 @@ use Rattle.master_tour.specs.Goes.{holds_at}
 use Rattle.master_tour.specs.Walks.{EachPair, StepsAt}
 use Rattle.master_tour.proofs.Walks.{each_same}
 
+-- none goes on where none stands, and one stays one
+pub no_step : {S : Type 0} (R : S → S → Type 0) (n : ℕ) (ts : List S) → StepsAt R n [] ts → ⊥
+no_step R zero ts r = r
+no_step R (suc n) ts r = r
+
+pub no_end : {S : Type 0} (R : S → S → Type 0) (n : ℕ) (s : S) (ss : List S) → StepsAt R n (s ∷ ss) [] → ⊥
+no_end R zero s ss r = r
+no_end R (suc n) s ss r = r
+
 -- one has gone on, and the others are as they were
 pub steps_each : {S : Type 0} (P T : S → S → Type 0) (i : ℕ) (xs ys : List S) → ((x : S) → T x x) → ((x y : S) → P x y → T x y) → StepsAt P i xs ys → EachPair T xs ys
 steps_each P T zero [] ys r h e = absurd e

@@ -1,6 +1,6 @@
 -- Each packet that waits at a port of the switch has its addresses and its EtherType.
-use Rattle.std.proofs.Common.{◌≡◌, ◌≤◌, ◌==◌, ℕ, zero, suc, ◌+◌, List, [], ◌∷◌, ◌++◌, Bool, true, false, Option, Some, None, refl, sym, ap, ◌∙◌, subst, length}
-use Rattle.std.specs.Prelude.{◌&&◌, drop, if◌then◌else◌, nat_le, nat_lt, slice_get, slice_set}
+use Rattle.std.proofs.Common.{◌≡◌, ◌≤◌, ◌==◌, ℕ, zero, suc, ◌+◌, List, [], ◌∷◌, ◌++◌, Bool, true, false, Option, Some, None, refl, ap, ◌∙◌, subst, length}
+use Rattle.std.specs.Prelude.{drop, if◌then◌else◌, nat_le, nat_lt, slice_get, slice_set}
 use Rattle.arrayvec.specs.ArrayVec.{ArrayVec}
 use Rattle.eoe_switch.specs.Ports.{AtPort, is_target, offered}
 use Rattle.eoe_switch.specs.Switch.{Switched, begun_at, changed, downed_at, first_ports, ports_behind, queue_of}

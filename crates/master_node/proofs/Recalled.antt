@@ -38,7 +38,7 @@ use Rattle.master_tour.proofs.Backs.{seen_aims}
 use Rattle.master_tour.proofs.Unders.{SameAim, under_back}
 use Rattle.master_node.specs.Eager.{AllVisit, AsksVisit, EachSo, IsClear, VisitAsks, next_visit, recall_of, stage_visit, turn_visit}
 use Rattle.master_node.specs.Kept.{StopStays}
-use Rattle.master_node.specs.Recalled.{AllKnow, AllRecall, IsFull, RecallsBack, paused_behind, turn_behind}
+use Rattle.master_node.specs.Recalled.{AllRecall, IsFull, RecallsBack, paused_behind, turn_behind}
 use Rattle.master_node.specs.Shows.{IsUnder, side_shows}
 use Rattle.master_node.proofs.Eagers.{recall_kept}
 use Rattle.master_node.proofs.Restings.{no_hand}

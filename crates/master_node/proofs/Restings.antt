@@ -1,5 +1,5 @@
 -- WHERE EACH SLAVE RESTS, by its life, its stop rests too.
-use Rattle.std.proofs.Common.{◌≡◌, inl, inr, ℕ, zero, suc, ◌+◌, Bool, true, false, Option, Some, None, List, [], ◌∷◌, length, get_or, ◌<◌, refl, ap, sym, ◌∙◌, subst, arith}
+use Rattle.std.proofs.Common.{◌≡◌, inl, inr, ℕ, zero, suc, ◌+◌, true, false, Option, Some, None, List, [], ◌∷◌, length, get_or, ◌<◌, refl, ap, sym, ◌∙◌, subst, arith}
 use Rattle.std.specs.Prelude.{IfSome, slice_get, option_map, is_some, map}
 use Rattle.mailbox_mail.specs.declared.mail.Mail.{Mail}
 use Rattle.life_runs.specs.of_frame_view.View.{Lens}
@@ -16,7 +16,6 @@ use Rattle.master_side.specs.of_link_mails.Body.{Body, link_mail}
 use Rattle.master_tour.specs.Stands.{StandShows}
 use Rattle.master_tour.specs.declared.stop.Stand.{Stand}
 use Rattle.master_tour.specs.declared.stop.Stop.{Stop}
-use Rattle.master_tour.specs.of_life_model.Lives
 use Rattle.master_node.specs.Eager.{recall_of}
 use Rattle.master_node.specs.Resting.{AllRest, IsResting, StandRests, StopRests}
 use Rattle.master_node.specs.Shows.{IsLead, side_shows}

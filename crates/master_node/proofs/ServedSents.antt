@@ -28,9 +28,11 @@ use Rattle.master_tour.specs.of_life_model.Lives.{Life, Spot}
 use Rattle.segment_plan.specs.declared.service.Service as Plan
 use Rattle.served_runs.specs.Served.{AllServedTurn, IsServedTurn, Keyed, Serves, ServedComes, ServedTurn}
 use Rattle.served_runs.specs.Told.{Passed}
+use Rattle.master_node.specs.Events.{served_tells}
 use Rattle.master_node.specs.Filling.{StopFills}
 use Rattle.master_node.specs.Handed.{IsHanding}
 use Rattle.master_node.specs.Named.{IsHanded, is_left}
+use Rattle.master_node.specs.Numbered.{IsNumbered}
 use Rattle.master_node.specs.Passes.{IsPassing, IsServing, ThreeFrom}
 use Rattle.master_node.specs.Serving.{IsServed, IsServedUnder, MayPass, ServedShows, mails_in, run_lead, run_turn, waits_of}
 use Rattle.master_node.specs.Rooms.{FitAgain}
@@ -40,6 +42,7 @@ use Rattle.master_node.specs.declared.post.Post.{Post}
 use Rattle.master_node.specs.declared.post.Work.{Work}
 use Rattle.master_node.proofs.Filleds.{SameTour}
 use Rattle.master_node.proofs.Handeds.{begun_is, hand_is}
+use Rattle.master_node.proofs.Listing.{listed_on}
 use Rattle.master_node.proofs.Mailed as Mailed
 use Rattle.master_node.proofs.Mailed.{next_passing}
 use Rattle.master_node.proofs.Sents.{took_of, turns}
@@ -64,11 +67,11 @@ map_long f [] = refl
 map_long f (x ∷ xs) = ap suc (map_long f xs)
 
 -- while a frame is made there is a slave for each place
-pub many_serve : (lens : ℕ → Lens) (recover made : ℕ) (ws : List Serves) (left : List ℕ) (m : MasterNode) (octets : List ℕ) → IsPassing lens recover made left m octets ws → length m.tour.stops.items ≡ length (map run_lead ws)
-many_serve lens recover made ws left m octets f = three_long (λ i w ks s. IsServing lens f.begun made left i w ks s) 0 ws (mails_in m) m.tour.stops.items f.each ∙ sym (map_long run_lead ws)
+pub many_serve : (lens : ℕ → Lens) (recover made : ℕ) (forwards : ℕ → ℕ) (ws : List Serves) (left : List ℕ) (m : MasterNode) (octets : List ℕ) → IsPassing lens recover made forwards left m octets ws → length m.tour.stops.items ≡ length (map run_lead ws)
+many_serve lens recover made forwards ws left m octets f = three_long (λ i w ks s. IsServing lens f.begun made left i w ks s) 0 ws (mails_in m) m.tour.stops.items f.each ∙ sym (map_long run_lead ws)
 
-pub passing_same : (lens : ℕ → Lens) (recover made : ℕ) (ws : List Serves) (left : List ℕ) (m n : MasterNode) (octets : List ℕ) → SameTour m n → IsPassing lens recover made left m octets ws → IsPassing lens recover made left n octets ws
-passing_same lens recover made ws left m n octets k f = record {
+pub passing_same : (lens : ℕ → Lens) (recover made : ℕ) (forwards : ℕ → ℕ) (ws : List Serves) (left : List ℕ) (m n : MasterNode) (octets : List ℕ) → SameTour m n → IsPassing lens recover made forwards left m octets ws → IsPassing lens recover made forwards left n octets ws
+passing_same lens recover made forwards ws left m n octets k f = record {
   begun = f.begun;
   frame = subst (λ z. FrameMade (λ ds i a s. StopFills lens recover made f.begun (n.made % 256) left ds i a s) octets n.tour.count (map (λ w. lived_of (run_lead w)) ws) z.items) (sym k.stops)
       (subst (λ z. FrameMade (λ ds i a s. StopFills lens recover made f.begun (n.made % 256) left ds i a s) octets z (map (λ w. lived_of (run_lead w)) ws) m.tour.stops.items) (sym k.count)
@@ -76,6 +79,8 @@ passing_same lens recover made ws left m n octets k f = record {
   each = subst (λ z. ThreeFrom (λ i w ks s. IsServing lens f.begun made left i w ks s) 0 ws (mails_in n) z.items) (sym k.stops)
       (subst (λ z. ThreeFrom (λ i w ks s. IsServing lens f.begun made left i w ks s) 0 ws (map waits_of z.items) m.tour.stops.items) (sym k.posts) f.each);
   handed = subst (λ z. AllBoth (λ w p. IsHanding f.begun w p.work) ws z.items) (sym k.posts) f.handed;
+  numbered = subst (λ z. AllBoth (λ w p. IsNumbered (length w.asked) p) ws z.items) (sym k.posts) f.numbered;
+  listing = listed_on (served_tells ws) forwards left f.begun (map run_lead ws) m n k.list k.posts f.listing;
 }
 
 -- the master of a serving shows the same where its tour, its posts and the frame's number are the same
@@ -89,6 +94,7 @@ served_same lens recover retry missed made ws m n e f g x = record {
   again = λ a. subst (λ z. FitAgain z.visit.items z.stops.items) (sym e) (x.again (ap (λ z. z.again) (sym e) ∙ a));
   made_is = g ∙ x.made_is;
   early = x.early;
+  numbered = subst (λ z. AllBoth (λ w p. IsNumbered (length w.asked) p) ws z.items) (sym f) x.numbered;
 }
 
 -- a mail that is passed on is in hand where the life has it
@@ -228,18 +234,20 @@ module _ {G : Ghosts InHand} (lens : ℕ → Lens) (recover made : ℕ) (begun :
     pub turns_are : map run_turn sent ≡ turns lens recover made begun octets ds is (map run_lead ws) bs ss
     pub each : AllServedTurn lens made ds ws sent
     pub under : AllThree (λ v p s. IsServedUnder lens recover octets made v p s) sent ps ss
+    pub numbered : AllBoth (λ v p. IsNumbered (length v.asked) p) sent ps
 
   pub served_all : (left : List ℕ) (i : ℕ) (ws : List Serves) (bs : List (Lived Asked Reply)) (ps : List Post) (ss : List (Stop InHand G)) → ThreeFrom (λ j w ks s. IsServing lens begun made left j w ks s) i ws (map waits_of ps) ss → AllBoth (λ w p. IsHanding begun w p.work) ws ps →
+      AllBoth (λ w p. IsNumbered (length w.asked) p) ws ps →
       AllThree (λ a b s. Sends a b s) (map (λ w. lived_of (run_lead w)) ws) bs ss → Served ws bs ps ss
-  served_all left i [] [] [] [] h o t = record { sent = []; turns_are = refl; each = tt; under = tt }
-  served_all left i [] (b ∷ bs) ps ss h o t = absurd t
-  served_all left i [] [] (p ∷ ps) [] h o t = absurd h
-  served_all left i [] [] (p ∷ ps) (s ∷ ss) h o t = absurd h
-  served_all left i [] [] [] (s ∷ ss) h o t = absurd t
-  served_all left i (w ∷ ws) [] ps ss h o t = absurd t
-  served_all left i (w ∷ ws) (b ∷ bs) ps [] h o t = absurd t
-  served_all left i (w ∷ ws) (b ∷ bs) [] (s ∷ ss) h o t = absurd h
-  served_all left i (w ∷ ws) (b ∷ bs) (p ∷ ps) (s ∷ ss) h o t =
-      let r = served_all left (suc i) ws bs ps ss h.1 o.1 t.1 in
+  served_all left i [] [] [] [] h o k t = record { sent = []; turns_are = refl; each = tt; under = tt; numbered = tt }
+  served_all left i [] (b ∷ bs) ps ss h o k t = absurd t
+  served_all left i [] [] (p ∷ ps) [] h o k t = absurd h
+  served_all left i [] [] (p ∷ ps) (s ∷ ss) h o k t = absurd h
+  served_all left i [] [] [] (s ∷ ss) h o k t = absurd t
+  served_all left i (w ∷ ws) [] ps ss h o k t = absurd t
+  served_all left i (w ∷ ws) (b ∷ bs) ps [] h o k t = absurd t
+  served_all left i (w ∷ ws) (b ∷ bs) [] (s ∷ ss) h o k t = absurd h
+  served_all left i (w ∷ ws) (b ∷ bs) (p ∷ ps) (s ∷ ss) h o k t =
+      let r = served_all left (suc i) ws bs ps ss h.1 o.1 k.1 t.1 in
       let v = turn_so w h.0.hand b p s in
-      record { sent = v ∷ r.sent; turns_are = ap (λ z. run_turn v ∷ z) r.turns_are; each = (turn_is left i w b p s h.0 t.0, r.each); under = (under_is left i w b p s h.0 o.0 t.0, r.under) }
+      record { sent = v ∷ r.sent; turns_are = ap (λ z. run_turn v ∷ z) r.turns_are; each = (turn_is left i w b p s h.0 t.0, r.each); under = (under_is left i w b p s h.0 o.0 t.0, r.under); numbered = (k.0, r.numbered) }

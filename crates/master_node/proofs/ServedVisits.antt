@@ -51,7 +51,7 @@ use Rattle.master_node.proofs.Cames.{NumberBehind, got_inside}
 use Rattle.master_node.proofs.Fills.{begun_at, begun_comes, begun_here, fills_kept, frame_each}
 use Rattle.master_node.proofs.Handings.{handing_on}
 use Rattle.master_node.proofs.Kepts.{lives_kept, stop_same}
-use Rattle.master_node.proofs.Lists.{steps_each, steps_got, steps_map, steps_mid, steps_trans}
+use Rattle.master_node.proofs.Lists.{no_end, no_step, steps_each, steps_got, steps_map, steps_mid, steps_trans}
 use Rattle.master_node.proofs.Mailed.{next_passing, none_begun, none_came, served_came, stand_awaits, stand_same}
 use Rattle.master_node.proofs.Visits.{Began, SomeKept}
 
@@ -134,22 +134,22 @@ pub record Visited {G : Ghosts InHand} (lens : ℕ → Lens) (recover made : ℕ
   pub read : ReadStays s t
   pub passes : PassesOn lens recover made (wish_begun result wish (ready_of s.side.hand.laying)) s t
 
-record Ready {G : Ghosts InHand} (coming : Option Coming) (got : List Keyed) (s t : Stop InHand G) : Type 0 where
-  ahead : Ahead coming s
-  readied : Readied coming got s t
+pub record Ready {G : Ghosts InHand} (coming : Option Coming) (got : List Keyed) (s t : Stop InHand G) : Type 0 where
+  pub ahead : Ahead coming s
+  pub readied : Readied coming got s t
 
-record Seen {G : Ghosts InHand} (lens : ℕ → Lens) (recover made : ℕ) (coming : Option Coming) (result : Bool) (stop : Option (Stop InHand G)) (s t : Stop InHand G) : Type 0 where
-  is : stop ≡ Some s
-  next : IsNextState (next_of s) coming
-  visited : Visited lens recover made (wish_of coming) result s t
+pub record Seen {G : Ghosts InHand} (lens : ℕ → Lens) (recover made : ℕ) (coming : Option Coming) (result : Bool) (stop : Option (Stop InHand G)) (s t : Stop InHand G) : Type 0 where
+  pub is : stop ≡ Some s
+  pub next : IsNextState (next_of s) coming
+  pub visited : Visited lens recover made (wish_of coming) result s t
 
-record Goes {G : Ghosts InHand} (lens : ℕ → Lens) (recover made : ℕ) (coming : Option Coming) (result : Bool) (got : List Keyed) (stop : Option (Stop InHand G)) (s v : Stop InHand G) : Type 0 where
-  second : Stop InHand G
-  third : Stop InHand G
-  ready : Ready coming got s second
-  seen : Seen lens recover made coming result stop second third
-  came : CameBy result coming third v
-  kept : SomeKept third v
+pub record Goes {G : Ghosts InHand} (lens : ℕ → Lens) (recover made : ℕ) (coming : Option Coming) (result : Bool) (got : List Keyed) (stop : Option (Stop InHand G)) (s v : Stop InHand G) : Type 0 where
+  pub second : Stop InHand G
+  pub third : Stop InHand G
+  pub ready : Ready coming got s second
+  pub seen : Seen lens recover made coming result stop second third
+  pub came : CameBy result coming third v
+  pub kept : SomeKept third v
 
 record Behind {G : Ghosts InHand} (lens : ℕ → Lens) (recover made : ℕ) (coming : Option Coming) (result : Bool) (stop : Option (Stop InHand G)) (s v : Stop InHand G) : Type 0 where
   third : Stop InHand G
@@ -240,11 +240,11 @@ module _ {G : Ghosts InHand} (lens : ℕ → Lens) (recover made : ℕ) (coming 
     (frees : (n : ℕ) (s t : Stop InHand G) → StopKept n s t → is_free_side t.side ≡ is_free_side s.side) (ahead : StepsAt (λ s t. Ahead coming t) place s0 s1) (readied : StepsAt (λ s t. Readied coming got s t) place s1 s2)
     (visited : StepsAt (λ s t. Visited lens recover made (wish_of coming) result s t) place s2 s3) (came : StepsAt (λ s t. CameBy result coming s t) place s3 s4) where
   -- what came into hand, and where
-  abbrev came_of : Option (Stop InHand G) → Option (Service Asked)
+  abbrev pub came_of : Option (Stop InHand G) → Option (Service Asked)
   came_of None = None
   came_of (Some s) = wish_begun result (wish_of coming) (ready_of s.side.hand.laying)
 
-  abbrev place_of : Option (Stop InHand G) → ℕ
+  abbrev pub place_of : Option (Stop InHand G) → ℕ
   place_of None = 0
   place_of (Some s) = s.place
 
@@ -295,12 +295,12 @@ module _ {G : Ghosts InHand} (lens : ℕ → Lens) (recover made : ℕ) (coming 
       kept
 
   -- THE SLAVE GOES ON
-  all_go : StepsAt (λ s v. Goes lens recover made coming result got (slice_get s2 place) s v) place s1 s4
+  pub all_go : StepsAt (λ s v. Goes lens recover made coming result got (slice_get s2 place) s v) place s1 s4
   all_go = steps_trans (λ s u. Ready coming got s u) (λ s v. Behind lens recover made coming result (slice_get s2 place) s v) (λ s v. Goes lens recover made coming result got (slice_get s2 place) s v) place s1 s2 s4
       (λ s t v a b. record { second = t; third = b.third; ready = a; seen = b.seen; came = b.came; kept = kept_is coming result t b.third v b.seen.next b.seen.visited.began.script b.came }) all_ready
       (steps_trans (λ s t. Seen lens recover made coming result (slice_get s2 place) s t) (λ s t. CameBy result coming s t) (λ s v. Behind lens recover made coming result (slice_get s2 place) s v) place s2 s3 s4 (λ t u v a b. record { third = u; seen = a; came = b }) all_seen came)
 
-  all_here : StepsAt (λ s v. s.place ≡ here) place s1 s4
+  pub all_here : StepsAt (λ s v. s.place ≡ here) place s1 s4
   all_here = steps_map (λ s v. Goes lens recover made coming result got (slice_get s2 place) s v) (λ s v. s.place ≡ here) place s1 s4 (λ s v g. sym g.ready.readied.stays.place ∙ sym (ap place_of g.seen.is)) all_go
 
   module _ (begun : ℕ → Option (Service Asked)) (index : ℕ) (left next : List ℕ) (ds : List Raw.Datagram) (fewer : (k : ℕ) → is_in k next ≡ true → is_in k left ≡ true) (waits : MailWaits got coming) where
@@ -393,14 +393,6 @@ module _ {G : Ghosts InHand} (lens : ℕ → Lens) (recover made : ℕ) (coming 
     others spot p i (w ∷ ws) (ks ∷ kss) [] e m = absurd m
     others spot p i (w ∷ ws) (ks ∷ kss) (s ∷ ss) e m =
         (other i w ks s (apart here w.lead.lived.spot.place (subst (λ z. (z == w.lead.lived.spot.place) ≡ false) p e.0.place)) m.0.1, others spot p (suc i) ws kss ss e.1 m.1)
-
-    no_step : {S : Type 0} (R : S → S → Type 0) (n : ℕ) (ts : List S) → StepsAt R n [] ts → ⊥
-    no_step R zero ts r = r
-    no_step R (suc n) ts r = r
-
-    no_end : {S : Type 0} (R : S → S → Type 0) (n : ℕ) (s : S) (ss : List S) → StepsAt R n (s ∷ ss) [] → ⊥
-    no_end R zero s ss r = r
-    no_end R (suc n) s ss r = r
 
     -- the place is that of the slave that goes on
     stands_at : (i n : ℕ) (ws : List Serves) (kss : List (List Keyed)) (ss ts : List (Stop InHand G)) (spot : Spot) → IsElsewhere spot (map (λ w. lived_of (run_lead w)) ws) → ThreeFrom Before i ws kss ss → StepsAt (λ s t. s.place ≡ here) n ss ts → (spot.place == here) ≡ false

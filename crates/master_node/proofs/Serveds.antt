@@ -46,7 +46,7 @@ use Rattle.master_tour.proofs.Unders.{SameAim, under_back}
 use Rattle.counters_kept.specs.of_news_kept.Counts.{counts_on}
 use Rattle.served_runs.specs.Served.{Serves, ServedTurn, served_behind}
 use Rattle.master_node.specs.Handed.{work_at}
-use Rattle.master_node.specs.Named.{IsHanded, StaysNamed}
+use Rattle.master_node.specs.Named.{StaysNamed}
 use Rattle.master_node.specs.Serving.{IsServed, IsServedUnder, run_lead, run_turn, waits_of}
 use Rattle.master_node.specs.Shows.{GoesOn, GoesUnder, IsLived, is_opening_lead, lived_of, side_shows}
 use Rattle.master_node.specs.declared.post.Post.{Post}

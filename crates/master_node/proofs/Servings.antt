@@ -48,7 +48,7 @@ keyed_more : (as' bs : List Asked) → map keyed (as' ++ bs) ≡ map keyed as' +
 keyed_more [] bs = refl
 keyed_more (a ∷ as') bs = ap (λ z. keyed a ∷ z) (keyed_more as' bs)
 
-keyed_long : (as' : List Asked) → length (map keyed as') ≡ length as'
+pub keyed_long : (as' : List Asked) → length (map keyed as') ≡ length as'
 keyed_long [] = refl
 keyed_long (a ∷ as') = ap suc (keyed_long as')
 
@@ -147,7 +147,7 @@ pub leads_kept : (rows : List (ℕ × Plan.Service)) (place : ℕ) (specs : List
 leads_kept rows place [] = tt
 leads_kept rows place (s ∷ ss) = (λ e. new_kept, leads_kept rows (suc place) ss)
 
-none_some : {T : Type 0} (o : Option T) → o ≡ None → is_some o ≡ true → ⊥
+pub none_some : {T : Type 0} (o : Option T) → o ≡ None → is_some o ≡ true → ⊥
 none_some None e t = absurd (cc)
 none_some (Some x) e t = absurd (cc)
 

@@ -12,12 +12,13 @@ use Rattle.master_node.specs.Shows.{WaitsNone}
 use Rattle.master_node.specs.Kept.{StopStays, NodeKept}
 use Rattle.master_node.proofs.Kepts.{stop_same, node_same, node_on}
 use Rattle.master_node.proofs.Lists.{steps_each}
+use Rattle.master_node.proofs.Numbereds.{numbers_stay}
 
 pub node_refl : (m : MasterNode) → NodeKept m m
-node_refl m = node_same m m refl refl (λ q. q) (λ k. refl)
+node_refl m = node_same m m refl refl (λ q. q) (λ k. refl) (numbers_stay m.posts.items m.posts.items refl)
 
 pub node_told : (m n : MasterNode) → n.tour ≡ m.tour → n.made ≡ m.made → n.posts ≡ m.posts → NodeKept m n
-node_told m n e f p = node_same m n e f (λ q. subst (λ z. All WaitsNone z.items) (sym p) q) (λ k. ap (λ z. forwards_at z.items k) p)
+node_told m n e f p = node_same m n e f (λ q. subst (λ z. All WaitsNone z.items) (sym p) q) (λ k. ap (λ z. forwards_at z.items k) p) (numbers_stay m.posts.items n.posts.items (ap (λ z. z.items) p))
 
 pub node_then : (m n o : MasterNode) → NodeKept n o → NodeKept m n → NodeKept m o
 node_then m n o b a = node_on m n o a b

@@ -9,21 +9,18 @@ use Rattle.master_tour.specs.declared.tour.Tour as Tours
 use Rattle.master_side.specs.declared.hand.Hand.{Ghosts}
 use Rattle.master_tour.specs.Goes.{is_live, holds_at}
 use Rattle.master_tour.specs.Made.{is_in}
-use Rattle.std.specs.Prelude.{filter, cond}
-use Rattle.std.proofs.Common.{◌-◌, append-nil, drop, length-append}
+use Rattle.std.proofs.Common.{◌-◌, drop}
 use Rattle.std.specs.Prelude.{IfSome, slice_get}
 use Rattle.master_tour.specs.Rooms.{StopRepeats, stop_len}
 use Rattle.master_tour.proofs.Walks.{steps_both}
-use Rattle.master_node.specs.Rooms.{FitFrom, FitUnder, IsSentStop, Takes, len_in}
-use Rattle.master_node.proofs.Fits.{again_here, fit_else, fit_ends, fit_less, fit_more, fit_most, fit_wider, stays_here, way_here}
+use Rattle.master_node.specs.Rooms.{FitFrom, IsSentStop, Takes, len_in}
+use Rattle.master_node.proofs.Fits.{again_here, fit_else, fit_ends, fit_less, fit_more, fit_most, stays_here, way_here}
 use Rattle.master_node.proofs.Lists.{steps_map}
 use Rattle.std.proofs.lemmas.Bool.{ltb-true, ltb-false}
-use Rattle.master_side.specs.Again.{HasNoRoom, area_of, larger}
-use Rattle.master_node.specs.Rooms.{LeavesFull, area_at, area_in}
-use Rattle.master_tour.specs.Orders.{places_from, round_left, start_of}
-use Rattle.master_tour.specs.Toured.{LeavesOut}
+use Rattle.master_side.specs.Again.{HasNoRoom}
+use Rattle.master_node.specs.Rooms.{LeavesFull, area_in}
 use Rattle.master_tour.specs.Orders.{visits_left, visited_of, is_fixed, AreOnce, IsCarried}
-use Rattle.master_tour.specs.Toured.{Tour, HaveFrom, Carries, AreFirst, IsOfTour, has_number, visit_of, visit_on}
+use Rattle.master_tour.specs.Toured.{Tour, HaveFrom, Carries, IsOfTour, has_number, visit_of, visit_on}
 use Rattle.master_tour.specs.Walks.{StepsAt, EachPair}
 use Rattle.master_tour.specs.declared.stop.Stop.{Stop}
 use Rattle.master_tour.proofs.Firsts.{visits_once, visited_same}
@@ -32,20 +29,12 @@ use Rattle.master_node.specs.Toured.{stop_share, turn_share, again_of, tour_of, 
 use Rattle.master_node.specs.Shows.{IsUnder}
 use Rattle.life_runs.specs.of_frame_view.View.{Lens}
 use Rattle.life_runs.specs.of_life_frames.Shares.{AllBoth}
-use Rattle.life_runs.specs.Led.{Leads, Turn}
-use Rattle.life_runs.specs.of_life_frames.Shares.{AllFrom, Lived}
-use Rattle.master_tour.specs.of_life_model.Lives.{Spot}
-use Rattle.mailbox_master.specs.Any.{in_area_len}
-use Rattle.master_duty.specs.Reply.{Reply}
-use Rattle.master_hand.specs.Spoken.{Asked}
-use Rattle.master_tour.specs.Made.{IsPlanned}
-use Rattle.master_node.specs.Shows.{lived_of}
-use Rattle.std.specs.Prelude.{map}
+use Rattle.life_runs.specs.Led.{Turn}
 use Rattle.master_tour.specs.Goes.{opened_behind}
 use Rattle.master_tour.specs.Orders.{last_behind}
 use Rattle.master_tour.specs.Toured.{goes_on, lost_on}
 use Rattle.master_node.specs.declared.node.MasterNode.{MasterNode}
-use Rattle.master_node.proofs.Leaves.{few_stops, leaves_none, leaves_one, leaves_out, left_of, none_left, visit_live}
+use Rattle.master_node.proofs.Leaves.{leaves_none, leaves_one, leaves_out, left_of, none_left, visit_live}
 use Rattle.master_node.proofs.Filleds.{SameTour}
 use Rattle.master_node.proofs.Lefts.{true_false, in_here, in_there, in_last, in_first, not_in}
 use Rattle.master_node.proofs.Lists.{steps_trans, steps_holds, both_holds, both_length}

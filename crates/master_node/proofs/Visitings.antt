@@ -1,11 +1,10 @@
 -- WHAT A FRAME ASKS A SLAVE that it carries, by what its master remembers of the visits.
-use Rattle.std.proofs.Common.{◌≡◌, ◌≤◌, ◌+◌, ◌==◌, ℕ, zero, suc, Bool, true, false, List, [], ◌∷◌, ◌++◌, Option, Some, None, refl, sym, ap, ◌∙◌, subst}
+use Rattle.std.proofs.Common.{◌≡◌, ◌+◌, ◌==◌, ℕ, suc, Bool, true, false, List, [], ◌∷◌, ◌++◌, Option, Some, None, refl, sym, ap, ◌∙◌, subst}
 use Rattle.std.proofs.lemmas.Bool.{eqb-true}
 use Rattle.std.specs.Prelude.{cond, ◌&&◌, not, if◌then◌else◌, is_some, option_map, map, length}
 use Rattle.life_measure.specs.Visits.{Visit, mails_visit, drain_visit}
 use Rattle.life_runs.specs.of_frame_view.View.{Lens}
 use Rattle.life_runs.specs.of_frame_view.Seen.{seen}
-use Rattle.life_runs.specs.of_life_frames.Frames.{Share}
 use Rattle.life_runs.specs.of_life_frames.Shares.{AllBoth}
 use Rattle.life_runs.specs.of_state_model.States.{Phase}
 use Rattle.life_runs.specs.Led.{Turn}
@@ -14,11 +13,9 @@ use Rattle.mailbox_master.specs.Any.{in_half_of}
 use Rattle.mailbox_master.specs.Seat.{seat_half}
 use Rattle.mailbox_master.specs.of_link_model.Frames.{Ask, in_ask}
 use Rattle.mailbox_master.specs.of_link_model.Link.{Halves}
-use Rattle.mailbox_master.specs.of_link_model.Mails.{LinkMail}
-use Rattle.mailbox_master.specs.of_link_model.Master.{InHalf, InState}
+use Rattle.mailbox_master.specs.of_link_model.Master.{InState}
 use Rattle.master_duty.specs.Stages.{errand_of, stage_of, phase_of, climb_errand}
 use Rattle.master_duty.specs.declared.duty.Duty as Duties
-use Rattle.master_duty.specs.declared.stage.Met.{Met}
 use Rattle.master_duty.specs.declared.stage.Errand.{Errand}
 use Rattle.master_duty.specs.declared.stage.Stage as Stages
 use Rattle.master_duty.specs.of_segment_model.Record.{is_for}
@@ -43,7 +40,7 @@ use Rattle.master_tour.specs.declared.stop.Stand.{Stand}
 use Rattle.master_tour.specs.declared.stop.Stop.{Stop}
 use Rattle.master_node.proofs.Asking.{AreFor, seen_for}
 use Rattle.master_node.proofs.Lefts.{in_first}
-use Rattle.master_node.specs.Eager.{AllVisit, AsksVisit, AsksAccess, AsksSo, EachSo, IsClear, Recall, VisitAsks, next_visit, recall_of, stage_visit, turn_visit}
+use Rattle.master_node.specs.Eager.{AllVisit, AsksVisit, AsksSo, EachSo, Recall, VisitAsks, next_visit, recall_of, stage_visit, turn_visit}
 use Rattle.master_node.specs.Rooms.{FitFrom, HoldsAt, IsSentStop, len_in}
 use Rattle.master_node.specs.Shows.{IsUnder, side_shows}
 use Rattle.master_node.specs.Toured.{stop_share}

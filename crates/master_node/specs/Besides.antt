@@ -89,11 +89,6 @@ told_by tells (s ∷ ss) (suc k) = told_by tells ss k
 abbrev pub gateway_at : MasterNode → ℕ → List Event
 gateway_at m k = told_by (λ s. gateway_by (work_at m.posts.items k) s) m.tour.stops.items k
 
--- what is told of the slaves at these places, in order
-abbrev pub told_in : (ℕ → List Event) → List ℕ → List Event
-told_in tells [] = []
-told_in tells (p ∷ ps) = tells p ++ told_in tells ps
-
 -- how many events a mail that was heard brings at most: an emergency, and a reply or an answer
 abbrev pub heard_room : Work → ℕ
 heard_room Work.Nothing = 1

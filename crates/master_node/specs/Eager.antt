@@ -1,6 +1,6 @@
 -- A MASTER MAKES NO VISIT IN VAIN where more could go on: what it remembers of a slave's visits, what the datagram of a visit asks, and that behind a visit
 -- no mail is left that could be held.
-use Rattle.std.specs.Prelude.{◌≡◌, ℕ, Bool, true, false, is_some, Option, Some, None, List, [], ◌∷◌, map, ⊤}
+use Rattle.std.specs.Prelude.{◌≡◌, ℕ, Bool, true, is_some, Option, Some, None, List, [], ◌∷◌, map, ⊤}
 use Rattle.life_measure.specs.Visits.{Visit, mails_visit, drain_visit}
 use Rattle.life_runs.specs.of_frame_view.View.{Lens}
 use Rattle.life_runs.specs.Led.{Turn, speech_at}

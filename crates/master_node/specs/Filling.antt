@@ -13,7 +13,7 @@ use Rattle.master_tour.specs.Made.{StopMade, FrameMade, is_in}
 use Rattle.master_tour.specs.declared.stop.Stop.{Stop}
 use Rattle.master_duty.specs.of_state_exchange.Stated.{Service}
 use Rattle.master_node.specs.Begins.{HasBegun}
-use Rattle.master_node.specs.Listing.{Before, HasListed}
+use Rattle.master_node.specs.Listing.{Before, HasListed, run_tells}
 use Rattle.master_node.specs.Starts.{HaveStarted}
 use Rattle.master_node.specs.declared.node.MasterNode.{MasterNode}
 use Rattle.master_tour.specs.Goes.{is_live, holds_at, BeginsLive}
@@ -44,7 +44,7 @@ module _ (lens : ℕ → Lens) where
         pub frame : FrameMade (λ ds i a s. StopFills begun (m.made % 256) left ds i a s) octets m.tour.count (map lived_of as') m.tour.stops.items
         pub among : AllFrom (λ i a s. IsAmong begun left i a s) 0 as' m.tour.stops.items
         pub packets : HasBegun from.switch left begun as' m.lan
-        pub listing : HasListed from.forwards left begun as' m
+        pub listing : HasListed (run_tells as') from.forwards left begun as' m
         pub starts : HaveStarted lens m.lan begun as' m.tour.stops.items
 
       -- BEFORE THE FIRST VISIT: no datagram stands in the frame, some slave is live, and the first that is visited is

@@ -8,6 +8,7 @@ use Rattle.master_side.specs.declared.side.Side.{Side}
 use Rattle.master_tour.specs.Walks.{EachPair}
 use Rattle.master_tour.specs.declared.stop.Stop.{Stop}
 use Rattle.master_node.specs.declared.node.MasterNode.{MasterNode}
+use Rattle.master_node.specs.Numbered.{StaysNumbered}
 use Rattle.master_node.specs.Origins.{forwards_at}
 use Rattle.master_node.specs.Shows.{WaitsNone}
 
@@ -62,9 +63,10 @@ pub record TourOn (m n : MasterNode) : Type 0 where
   pub retry : n.tour.retry ≡ m.tour.retry
   pub made : n.made ≡ m.made
 
--- THE MASTER: its slaves, its tour, that no mail waits to be passed on, and how many packets came into hand of each slave
+-- THE MASTER: its slaves, its tour, that no mail waits to be passed on, how many packets came into hand of each slave, and which number its oldest mail has
 pub record NodeKept (m n : MasterNode) : Type 0 where
   pub each : EachPair (λ s t. StopStays s t) m.tour.stops.items n.tour.stops.items
   pub tour : TourKept m n
   pub quiet : All WaitsNone m.posts.items → All WaitsNone n.posts.items
   pub counts : (k : ℕ) → forwards_at n.posts.items k ≡ forwards_at m.posts.items k
+  pub numbered : EachPair (λ p q. StaysNumbered p q) m.posts.items n.posts.items

@@ -13,6 +13,7 @@ pub use Rattle.master_duty.specs.of_segment_model as of_segment_model
 pub use Rattle.life_runs.specs.of_segment_ring as of_segment_ring
 pub use Rattle.master_duty.specs.of_task_model as of_task_model
 pub mod Listed
+pub mod Numbered
 pub mod Lives
 pub mod Ported
 pub mod Scripts
@@ -45,6 +46,7 @@ pub mod Eager
 pub mod Resting
 pub mod Named
 pub mod Serving
+pub mod Events
 pub mod Passes
 pub mod Handed
 pub mod Dropped

@@ -8,6 +8,7 @@ use Rattle.master_tour.specs.Made.{is_in}
 use Rattle.master_tour.specs.Orders.{AreOnce}
 use Rattle.master_node.specs.Begins.{begun_for, begun_of, is_other}
 use Rattle.master_node.specs.Listed.{listed_last}
+use Rattle.master_node.specs.Numbered.{StaysNumbered}
 use Rattle.master_node.specs.Origins.{counted_by, forwards_at, one_more}
 use Rattle.master_node.specs.declared.coming.Coming.{Coming}
 use Rattle.master_node.specs.declared.event.Event.{Event}
@@ -43,6 +44,7 @@ counted_from (Some what) origin n = counted_by origin n
 pub record ListsOne (place : ℕ) (coming : Option Coming) (m n : MasterNode) (p q : Post) : Type 0 where
   pub listed : m.list.count < 97 → events_in n ≡ events_in m ++ began_from place coming p.origin
   pub counts : q.forwards ≡ counted_from coming p.origin p.forwards
+  pub numbered : StaysNumbered p q
 
 -- where a service comes from, by the number of the script's next, and how many packets came into hand before: of its port where it is a packet, and else of
 -- its script
@@ -67,10 +69,18 @@ number_at [] k = 0
 number_at (a ∷ as') zero = a.number
 number_at (a ∷ as') (suc k) = number_at as' k
 
+-- what is told of the slaves at these places, in order
+abbrev pub told_in : (ℕ → List Event) → List ℕ → List Event
+told_in tells [] = []
+told_in tells (p ∷ ps) = tells p ++ told_in tells ps
+
 -- THE SERVICES THAT CAME INTO HAND of the slaves at these places, in order, as they are listed
 abbrev pub began_in : (ℕ → ℕ) → (ℕ → ℕ) → (ℕ → Option (Service Asked)) → List ℕ → List Event
-began_in numbers forwards begun [] = []
-began_in numbers forwards begun (p ∷ ps) = began_by p (numbers p) (forwards p) (begun p) ++ began_in numbers forwards begun ps
+began_in numbers forwards begun ps = told_in (λ p. began_by p (numbers p) (forwards p) (begun p)) ps
+
+-- of the slave at a place of a run, by how many packets came into hand before
+abbrev pub run_tells : List Leads → ℕ → ℕ → Option (Service Asked) → List Event
+run_tells as' k forwards b = began_by k (number_at as' k) forwards b
 
 -- before the first visit of a frame nothing is listed
 pub record IsUnlisted (forwards : ℕ → ℕ) (m : MasterNode) : Type 0 where
@@ -78,12 +88,12 @@ pub record IsUnlisted (forwards : ℕ → ℕ) (m : MasterNode) : Type 0 where
   pub none : events_in m ≡ []
   pub counts : (k : ℕ) → forwards_at m.posts.items k ≡ forwards k
 
--- WHAT IS LISTED SO FAR while a frame is made, where the visits of these places are still to come
-pub record HasListed (forwards : ℕ → ℕ) (left : List ℕ) (begun : ℕ → Option (Service Asked)) (as' : List Leads) (m : MasterNode) : Type 0 where
+-- WHAT IS LISTED SO FAR while a frame is made, as it is told of what came into hand of a slave, where the visits of these places are still to come
+pub record HasListed (tells : ℕ → ℕ → Option (Service Asked) → List Event) (forwards : ℕ → ℕ) (left : List ℕ) (begun : ℕ → Option (Service Asked)) (as' : List Leads) (m : MasterNode) : Type 0 where
   pub visited : List ℕ
   pub once : AreOnce visited
   pub over : (k : ℕ) → is_in k visited ≡ true → is_in k left ≡ false
-  pub listed : events_in m ≡ began_in (number_at as') forwards (begun_for begun as') visited
+  pub listed : events_in m ≡ told_in (λ k. tells k (forwards k) (begun_for begun as' k)) visited
   pub others : (k : ℕ) → is_in k visited ≡ false → begun_for begun as' k ≡ None
   pub counts : (k : ℕ) → forwards_at m.posts.items k ≡ forwards_behind (forwards k) (begun_for begun as' k)
 

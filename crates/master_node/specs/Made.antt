@@ -1,5 +1,5 @@
 -- WHAT IS LISTED WHILE A FRAME IS MADE: a packet of the host that comes in, and packets that begin.
-use Rattle.std.specs.Prelude.{◌≡◌, ℕ, List, ◌++◌, All, ⊤}
+use Rattle.std.specs.Prelude.{◌≡◌, List, ◌++◌, All, ⊤}
 use Rattle.eoe_switch.specs.declared.switching.SwitchEvent.{SwitchEvent}
 use Rattle.eoe_switch.specs.declared.switching.SwitchEvent.TheVariants.{Arrive, Begun, Down}
 use Rattle.master_node.specs.declared.happened.Happening.{Happening}

@@ -1,5 +1,6 @@
 -- WHERE A SERVICE COMES FROM, with its number among those of its slave from there, and how many packets came into hand.
 use Rattle.std.specs.Prelude.{◌≡◌, ℕ, zero, suc, ◌+◌, ◌%◌, Option, Some, None, List, [], ◌∷◌, ⊤}
+use Rattle.master_node.specs.Numbered.{StaysNumbered}
 use Rattle.master_node.specs.declared.coming.Coming.{Coming}
 use Rattle.master_node.specs.declared.event.Origin.{Origin}
 use Rattle.master_node.specs.declared.post.Post.{Post}
@@ -32,7 +33,17 @@ IsFrom (Some Coming.Mail) number forwards origin = ⊤
 IsFrom (Some Coming.Script) number forwards origin = origin ≡ Origin.Script number
 IsFrom (Some (Coming.State target)) number forwards origin = origin ≡ Origin.Script number
 
+-- a mail that is passed on has the number of the oldest that waits
+abbrev pub IsGateway : Option Coming → ℕ → Origin → Type 0
+IsGateway None oldest origin = ⊤
+IsGateway (Some Coming.Packet) oldest origin = ⊤
+IsGateway (Some Coming.Mail) oldest origin = origin ≡ Origin.Gateway oldest
+IsGateway (Some Coming.Script) oldest origin = ⊤
+IsGateway (Some (Coming.State target)) oldest origin = ⊤
+
 -- IT IS LAID READY at a slave's post with where it comes from, and nothing came into hand by that
 pub record LaysFrom (coming : Option Coming) (number : ℕ) (p q : Post) : Type 0 where
   pub counts : q.forwards ≡ p.forwards
   pub origin : IsFrom coming number p.forwards q.origin
+  pub gateway : IsGateway coming p.oldest q.origin
+  pub numbered : StaysNumbered p q

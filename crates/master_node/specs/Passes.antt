@@ -25,8 +25,11 @@ use Rattle.master_tour.specs.of_life_model.Lives.{Life}
 use Rattle.segment_plan.specs.declared.service.Service.{Service}
 use Rattle.served_runs.specs.Served.{Keyed, Serves, ServedComes}
 use Rattle.served_runs.specs.Told.{Passed}
+use Rattle.master_node.specs.Events.{served_tells}
 use Rattle.master_node.specs.Filling.{StopFills}
 use Rattle.master_node.specs.Handed.{IsHanding}
+use Rattle.master_node.specs.Listing.{HasListed}
+use Rattle.master_node.specs.Numbered.{IsNumbered}
 use Rattle.master_node.specs.Serving.{MayPass, mails_in, run_lead}
 use Rattle.master_node.specs.Shows.{ComeAgain, is_live_lead, lived_of}
 use Rattle.master_node.specs.declared.coming.Coming.{Coming}
@@ -104,13 +107,15 @@ module _ (lens : ℕ → Lens) where
     pub pace : s.side.pace ≡ w.pace
     pub fits : All (λ k. MayPass (lens w.lead.lived.spot.station).out k) w.waits
 
-  module _ (recover made : ℕ) where
-    -- THE MASTER WHILE A FRAME IS MADE, where the visits of these places are still to come
+  module _ (recover made : ℕ) (forwards : ℕ → ℕ) where
+    -- THE MASTER WHILE A FRAME IS MADE, where the visits of these places are still to come, and so many packets had come into hand of each slave before it
     pub record IsPassing (left : List ℕ) (m : MasterNode) (octets : List ℕ) (ws : List Serves) : Type 0 where
       pub begun : ℕ → Option (Stated.Service Asked)
       pub frame : FrameMade (λ ds i a s. StopFills lens recover made begun (m.made % 256) left ds i a s) octets m.tour.count (map (λ w. lived_of (run_lead w)) ws) m.tour.stops.items
       pub each : ThreeFrom (λ i w ks s. IsServing begun made left i w ks s) 0 ws (mails_in m) m.tour.stops.items
       pub handed : AllBoth (λ w p. IsHanding begun w p.work) ws m.posts.items
+      pub numbered : AllBoth (λ w p. IsNumbered (length w.asked) p) ws m.posts.items
+      pub listing : HasListed (served_tells ws) forwards left begun (map run_lead ws) m
 
 -- BEFORE THE FIRST VISIT no datagram stands in the frame, some slave is live, and the first that is visited is
 pub record BeginsFrame (m : MasterNode) (octets : List ℕ) (as' : List Leads) : Type 0 where
@@ -122,6 +127,7 @@ pub record BeginsFrame (m : MasterNode) (octets : List ℕ) (as' : List Leads) :
   pub lives : (k : ℕ) → holds_at (λ s. is_live s.stand) m.tour.stops.items k ≡ holds_at is_live_lead as' k
   pub again : m.tour.again ≡ true → ComeAgain is_live_lead m.tour.visit.items m.tour.opened as'
   pub anew : m.tour.again ≡ false → m.tour.visit.items ≡ []
+  pub listed : m.list.count ≡ 0
 
 -- BEHIND THE LAST the frame has a datagram; in the first bring-up it has none but of the slave that is brought up
 pub record EndsFrame (left : List ℕ) (m : MasterNode) (as' : List Leads) : Type 0 where

@@ -1,5 +1,5 @@
 -- WHAT A FRAME THAT CAME BACK LEAVES TO REMEMBER of a slave's visits, by what was remembered before.
-use Rattle.std.specs.Prelude.{◌≡◌, ◌==◌, ℕ, Bool, true, false, Option, Some, List, [], ◌∷◌, ⊤}
+use Rattle.std.specs.Prelude.{◌≡◌, ◌==◌, ℕ, Bool, true, false, Some, List, [], ◌∷◌, ⊤}
 use Rattle.life_measure.specs.Visits.{Visit}
 use Rattle.life_runs.specs.of_frame_view.View.{Lens}
 use Rattle.life_runs.specs.of_life_frames.Shares.{AllThree}

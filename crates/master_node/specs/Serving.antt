@@ -4,7 +4,7 @@ use Rattle.counters_kept.specs.Lives.{LifeKept}
 use Rattle.life_runs.specs.Led.{Leads, Turn}
 use Rattle.life_runs.specs.of_frame_view.View.{Lens}
 use Rattle.life_runs.specs.of_frame_view.Seen.{seen}
-use Rattle.life_runs.specs.of_life_frames.Shares.{AllThree, AreDistinct}
+use Rattle.life_runs.specs.of_life_frames.Shares.{AllBoth, AllThree, AreDistinct}
 use Rattle.master_hand.specs.Shown.{awaits_reply}
 use Rattle.master_hand.specs.declared.hand.InHand.{InHand}
 use Rattle.master_side.specs.declared.hand.Hand.{Ghosts}
@@ -17,6 +17,7 @@ use Rattle.master_tour.specs.Stands.{StandUnder}
 use Rattle.master_tour.specs.declared.stop.Stop.{Stop}
 use Rattle.served_runs.specs.Served.{Keyed, Serves, ServedTurn}
 use Rattle.master_node.specs.Named.{IsHanded}
+use Rattle.master_node.specs.Numbered.{IsNumbered}
 use Rattle.master_node.specs.Rooms.{FitAgain, FitUnder}
 use Rattle.master_node.specs.Shows.{GoesOn, GoesUnder, IsLived, lead_of, lived_of}
 use Rattle.master_node.specs.declared.node.MasterNode.{MasterNode}
@@ -80,7 +81,7 @@ module _ (lens : ℕ → Lens) where
       pub way : StandUnder lens s.side.station s.at s.under s.side.carried s.stand v.turn.lived.life (seen lens octets)
 
     module _ (retry : ℕ) where
-      -- THE MASTER BEFORE THE FRAME OF THIS NUMBER: it leads these slaves, behind so many lost frames in a row
+      -- THE MASTER BEFORE THE FRAME OF THIS NUMBER: it leads these slaves, behind so many lost frames in a row, and numbers the mails that were asked of each
       pub record ServedShows (m : MasterNode) (missed made : ℕ) (ws : List Serves) : Type 0 where
         pub each : AllThree (λ w p s. IsServed made w p s) ws m.posts.items m.tour.stops.items
         pub distinct : AreDistinct (map (λ w. lived_of (run_lead w)) ws)
@@ -90,6 +91,7 @@ module _ (lens : ℕ → Lens) where
         pub again : m.tour.again ≡ true → FitAgain m.tour.visit.items m.tour.stops.items
         pub made_is : m.made ≡ made
         pub early : made < 2 ^ 32
+        pub numbered : AllBoth (λ w p. IsNumbered (length w.asked) p) ws m.posts.items
 
       -- THE MASTER WHILE THAT FRAME IS UNDER WAY; the slaves of which that has a datagram come again, should it be lost
       pub record ServedUnder (m : MasterNode) (octets : List ℕ) (missed made : ℕ) (vs : List ServedTurn) : Type 0 where
@@ -103,6 +105,7 @@ module _ (lens : ℕ → Lens) where
         pub carried : (k : ℕ) → holds_at (λ s. s.under) m.tour.stops.items k ≡ true → is_in k m.tour.visit.items ≡ true
         pub made_is : m.made ≡ suc made
         pub early : suc made < 2 ^ 32
+        pub numbered : AllBoth (λ v p. IsNumbered (length v.asked) p) vs m.posts.items
 
 -- A SLAVE BEFORE THE FIRST FRAME has this pace, and no read of it was done
 abbrev pub IsPaced : {G : Ghosts InHand} → ℕ → Stop InHand G → Type 0

@@ -57,6 +57,7 @@ impl MasterNode {
     ghost use Rattle.master_node.specs.Appends.{AppendsMail};
     ghost use Rattle.master_node.specs.Serving.{FitsAt, IsAsked, ServedShows, ServedUnder, mails_in, run_lead};
     ghost use Rattle.master_node.specs.Passes.{BeginsFrame, EndsFrame, IsPassing};
+    ghost use Rattle.master_node.specs.Events.{ServedBegin};
     ghost use Rattle.master_node.specs.Handed.{work_from};
     ghost use Rattle.served_runs.specs.Served.{Keyed, Serves, ServedTurn, IsServedFrame, MayAsk, asked_at};
     ghost use Rattle.master_node.specs.Shows.{WaitsNone};
@@ -240,8 +241,8 @@ impl MasterNode {
         ensures made { Makes self.old.lan self.new.lan }
         ensures eager { All WaitsNone self.old.posts.items → holds_at (λ s. s.under) self.old.tour.stops.items place ≡ false → EagerOn self.old self.new }
         ensures events { self.new.list.count ≤ self.old.list.count + 1 }
-        ensures serves { (lens : ℕ → Lens) (recover made : ℕ) (left next : List ℕ) (ws : List Serves) → AreDistinct (map (λ w. lived_of (run_lead w)) ws) → is_in place left ≡ true → is_in place next ≡ false → ((k : ℕ) → is_in k next ≡ true → is_in k left ≡ true) →
-            IsPassing lens recover made left self.old into.old.items ws → IsPassing lens recover made (if result then next else left) self.new into.new.items ws }
+        ensures serves { (lens : ℕ → Lens) (recover made : ℕ) (forwards : ℕ → ℕ) (left next : List ℕ) (ws : List Serves) → self.old.list.count < 97 → AreDistinct (map (λ w. lived_of (run_lead w)) ws) → is_in place left ≡ true → is_in place next ≡ false → ((k : ℕ) → is_in k next ≡ true → is_in k left ≡ true) →
+            IsPassing lens recover made forwards left self.old into.old.items ws → IsPassing lens recover made forwards (if result then next else left) self.new into.new.items ws }
     {
         let index = (self.made % 256) as u8;
         let coming = self.coming(place);
@@ -267,8 +268,8 @@ impl MasterNode {
         ensures lan { Happens 16 self.old.lan self.new.lan }
         ensures made { Makes self.old.lan self.new.lan }
         ensures eager { All WaitsNone self.old.posts.items → IsBare self.old → length into.old.items ≡ 16 → EagerOn self.old self.new }
-        ensures serves { (lens : ℕ → Lens) (recover made : ℕ) (ws : List Serves) → AreDistinct (map (λ w. lived_of (run_lead w)) ws) → ((left : List ℕ) → IsPassing lens recover made left self.old into.old.items ws) → BeginsFrame self.old into.old.items (map run_lead ws) →
-            (left : List ℕ) × IsPassing lens recover made left self.new into.new.items ws × EndsFrame left self.new (map run_lead ws) }
+        ensures serves { (lens : ℕ → Lens) (recover made : ℕ) (forwards : ℕ → ℕ) (ws : List Serves) → AreDistinct (map (λ w. lived_of (run_lead w)) ws) → ((left : List ℕ) → IsPassing lens recover made forwards left self.old into.old.items ws) → BeginsFrame self.old into.old.items (map run_lead ws) →
+            (left : List ℕ) × IsPassing lens recover made forwards left self.new into.new.items ws × EndsFrame left self.new (map run_lead ws) }
     {
         for _ in 0..SLAVES {
             let Some(place) = self.tour.due() else {
@@ -295,8 +296,8 @@ impl MasterNode {
         ensures lan { Happens 16 self.old.lan self.new.lan }
         ensures made { Makes self.old.lan self.new.lan }
         ensures eager { (lens : ℕ → Lens) (recover retry missed : ℕ) (as' : List Leads) → MasterShows lens recover retry self.old missed as' → EagerFrom self.old self.new }
-        ensures serves { (lens : ℕ → Lens) (recover retry missed made : ℕ) (ws : List Serves) → list_any (λ s. is_live s.stand) self.old.tour.stops.items ≡ true → suc made < 2 ^ 32 → ServedShows lens recover retry self.old missed made ws →
-            (vs : List ServedTurn) × IsServedFrame lens made into.new.items ws vs × ServedUnder lens recover retry (record self.new { made = suc made }) into.new.items missed made vs × (self.new.made ≡ made) }
+        ensures serves { (lens : ℕ → Lens) (recover retry missed made : ℕ) (forwards : ℕ → ℕ) (ws : List Serves) → list_any (λ s. is_live s.stand) self.old.tour.stops.items ≡ true → suc made < 2 ^ 32 → IsUnlisted forwards self.old → ServedShows lens recover retry self.old missed made ws →
+            (vs : List ServedTurn) × IsServedFrame lens made into.new.items ws vs × ServedUnder lens recover retry (record self.new { made = suc made }) into.new.items missed made vs × (self.new.made ≡ made) × ServedBegin forwards ws vs self.new }
     {
         self.tour.begin(into);
         self.fill(into);
@@ -310,7 +311,8 @@ impl MasterNode {
     /// what is remembered of its visits; and behind its visit no mail is left that could be held. Where each slave was given up for good or rests and no packet
     /// waits at any port, a packet of the host comes in, if one is left. The packets that came into hand are just those that leave their ports of the switch, each the oldest there.
     /// Just the services that came into hand are listed as begun, each with where it comes from and its number there.
-    /// Of a slave that has no datagram in the frame nothing came into hand. While mails are passed on the frame is just so that of a serving.
+    /// Of a slave that has no datagram in the frame nothing came into hand. While mails are passed on the frame is just so that of a serving, and a mail that
+    /// came into hand is listed by its number among all that were asked of its slave.
     pub fn next(&mut self, into: &mut FrameBuf) -> Next
         ensures idle { (result ≡ Next.Idle) ↔ (list_any (λ s. is_live s.stand) self.old.tour.stops.items ≡ false) }
         ensures posts { vec_len self.new.posts ≡ vec_len self.old.posts }
@@ -330,6 +332,8 @@ impl MasterNode {
         ensures made { (self.new.lan.ports ≡ self.old.lan.ports) × AreOfMaking self.new.lan.happened }
         ensures serves { result ≡ Next.Frame → (lens : ℕ → Lens) (recover retry missed made : ℕ) (ws : List Serves) → suc made < 2 ^ 32 → ServedShows lens recover retry self.old missed made ws →
             (vs : List ServedTurn) × IsServedFrame lens made into.new.items ws vs × ServedUnder lens recover retry self.new into.new.items missed made vs }
+        ensures services { result ≡ Next.Frame → (lens : ℕ → Lens) (recover retry missed made : ℕ) (ws : List Serves) → suc made < 2 ^ 32 → ServedShows lens recover retry self.old missed made ws →
+            (vs : List ServedTurn) × IsServedFrame lens made into.new.items ws vs × ServedUnder lens recover retry self.new into.new.items missed made vs × ServedBegin (λ k. forwards_at self.old.posts.items k) ws vs self.new }
     {
         self.list.clear();
         self.lan.begins();

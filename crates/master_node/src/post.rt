@@ -66,6 +66,7 @@ pub fn bare(mail: &Mail) -> Mail
 impl Post {
     ghost use Rattle.std.specs.Prelude.{◌≡◌, ◌<◌, length};
     ghost use Rattle.master_node.specs.Appends.{AppendsMail};
+    ghost use Rattle.master_node.specs.Numbered.{StaysNumbered};
     ghost use Rattle.master_node.specs.Origins.{counted_by};
 
     /// Nothing is in hand and no mail waits. The memory for 64 mails is taken here.
@@ -97,6 +98,7 @@ impl Post {
         ensures same { result ≡ false → self.new ≡ self.old }
         ensures appends { length self.old.mails.items < 64 → AppendsMail key mail.now self.old.mails.items self.new.mails.items }
         ensures work { self.new.work ≡ self.old.work }
+        ensures oldest { self.new.oldest ≡ self.old.oldest }
     {
         if self.mails.is_full() {
             return false;
@@ -110,7 +112,9 @@ impl Post {
     }
 
     /// The number of the oldest mail that waits.
-    pub fn oldest(&self) -> u32 {
+    pub fn oldest(&self) -> u32
+        ensures { result ≡ self.now.oldest }
+    {
         self.oldest
     }
 
@@ -120,6 +124,8 @@ impl Post {
         ensures mails { self.new.mails.items ≡ drop 1 self.old.mails.items }
         ensures work { self.new.work ≡ self.old.work }
         ensures forwards { self.new.forwards ≡ self.old.forwards }
+        ensures origin { self.new.origin ≡ self.old.origin }
+        ensures numbered { StaysNumbered self.old self.new }
     {
         let asked = self.mails.pop_front()?;
         self.oldest = self.oldest.wrapping_add(1);
@@ -132,6 +138,7 @@ impl Post {
         ensures forwards { self.new.forwards ≡ counted_by self.old.origin self.old.forwards }
         ensures mails { self.new.mails ≡ self.old.mails }
         ensures work { self.new.work ≡ self.old.next }
+        ensures oldest { self.new.oldest ≡ self.old.oldest }
     {
         self.work = self.next;
         self.answer = None;
@@ -148,6 +155,7 @@ impl Post {
         ensures work { self.new.work ≡ Work.Nothing }
         ensures answer { self.new.answer ≡ None }
         ensures forwards { self.new.forwards ≡ self.old.forwards }
+        ensures numbered { StaysNumbered self.old self.new }
     {
         self.oldest = self.oldest.wrapping_add(self.mails.len() as u32);
         self.mails.clear();

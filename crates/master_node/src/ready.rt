@@ -24,6 +24,7 @@ impl MasterNode {
     ghost use Rattle.master_tour.specs.declared.stop.Stand.{Stand};
     ghost use Rattle.std.specs.Prelude.{None, is_some, true};
     ghost use Rattle.master_side.specs.Free.{is_free_side};
+    ghost use Rattle.master_node.specs.Numbered.{StaysNumbered};
     ghost use Rattle.master_node.specs.Origins.{LaysFrom};
     ghost use Rattle.master_node.specs.Begins.{IsOldest, LaysOldest, PacketFirst};
     ghost use Rattle.master_node.specs.Handed.{LaysWork};
@@ -149,7 +150,7 @@ impl MasterNode {
         ensures quiet { All WaitsNone self.old.posts.items → All WaitsNone self.new.posts.items }
         ensures lan { self.new.lan ≡ self.old.lan }
         ensures list { self.new.list ≡ self.old.list }
-        ensures origins { StepsAt (λ s t. StepsAt (λ p q. (q.forwards ≡ p.forwards) × (q.origin ≡ Origin.Script s.side.hand.laying.number)) place self.old.posts.items self.new.posts.items) place self.old.tour.stops.items self.new.tour.stops.items }
+        ensures origins { StepsAt (λ s t. StepsAt (λ p q. (q.forwards ≡ p.forwards) × (q.origin ≡ Origin.Script s.side.hand.laying.number) × StaysNumbered p q) place self.old.posts.items self.new.posts.items) place self.old.tour.stops.items self.new.tour.stops.items }
         ensures mails { mails_in self.new ≡ mails_in self.old }
         ensures works { (target : Target) → StepsAt (λ p q. LaysWork (Some (Coming.State target)) p q) place self.old.posts.items self.new.posts.items }
     {

@@ -95,6 +95,7 @@ fn posts_of(alloc: Global, count: usize) -> Result<Vec<Post>, NoMemory>
     ensures waiting { IfOk result (λ posts. map waiting_of posts.items ≡ replicate count 0) }
     ensures counts { IfOk result (λ posts. All CountsNone posts.items) }
     ensures works { IfOk result (λ posts. All (λ p. p.work ≡ Work.Nothing) posts.items) }
+    ensures oldest { IfOk result (λ posts. All (λ p. p.oldest ≡ 0) posts.items) }
 {
     let mut posts = Vec::new(alloc);
     for _ in 0..count {

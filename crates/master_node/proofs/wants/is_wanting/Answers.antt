@@ -1,4 +1,4 @@
-use Rattle.std.proofs.Common.{◌≡◌, true, false, Option, Some, None, ◌∙◌, sym, ap, rules}
+use Rattle.std.proofs.Common.{◌≡◌, true, false, ◌∙◌, sym, ap, rules}
 use Rattle.std.specs.Option.{option_copied}
 use Rattle.std.proofs.lemmas.Bool.{OnTrue_at, OnFalse_from}
 use Rattle.master_node.proofs.Quiets.{not_some}

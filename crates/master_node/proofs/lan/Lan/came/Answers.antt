@@ -1,5 +1,5 @@
-use Rattle.std.proofs.Common.{◌≡◌, List, arith, sym, ap, refl, ◌∙◌, true, false, length}
-use Rattle.std.specs.Prelude.{nat_lt, ◌∷◌, [], ℕ}
+use Rattle.std.proofs.Common.{◌≡◌, arith, sym, ap, refl, ◌∙◌, true, false, length}
+use Rattle.std.specs.Prelude.{nat_lt, ◌∷◌, []}
 use Rattle.std.proofs.lemmas.Bool.Decides.{nat_tests}
 use Rattle.master_node.specs.Arrivals.{arrive_by}
 use Rattle.master_node.proofs.Arrivals.{arrive_one, arrive_short}

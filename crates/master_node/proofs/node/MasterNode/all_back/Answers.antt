@@ -15,10 +15,12 @@ use Rattle.master_node.proofs.Endings.{ends_from, ends_same, ends_then}
 use Rattle.std.proofs.Common.{Bool, true, ◌++◌, ◌*◌, ◌+◌}
 use Rattle.std.specs.Prelude.{not, ◌||◌}
 use Rattle.master_tour.specs.Made.{is_in}
-use Rattle.master_node.specs.Besides.{gateway_at, told_in}
+use Rattle.master_node.specs.Besides.{gateway_at}
+use Rattle.master_node.specs.Listing.{told_in}
 use Rattle.master_node.specs.Handed.{work_at}
 use Rattle.master_node.proofs.Endings.{stays_as}
-use Rattle.master_node.proofs.Besides.{besides_as, besides_none, besides_then, gateway_kept, once_fresh, told_push}
+use Rattle.master_node.proofs.Besides.{besides_as, besides_none, besides_then, gateway_kept, once_fresh}
+use Rattle.master_node.proofs.Listing.{told_push}
 use Rattle.master_node.proofs.node.MasterNode.all_back.Goals as goal
 
 pub loop-k-init : goal.loop-k-init

@@ -1,6 +1,7 @@
 use Rattle.std.proofs.Common.{◌≡◌, ◌*◌, vec_len, take}
 use Rattle.master_tour.specs.Orders.{AreOnce}
-use Rattle.master_node.specs.Besides.{TellsBesides, gateway_at, told_in}
+use Rattle.master_node.specs.Besides.{TellsBesides, gateway_at}
+use Rattle.master_node.specs.Listing.{told_in}
 use Rattle.master_node.specs.Arrivals.{arrivals_in, heard_at}
 use Rattle.master_node.specs.Downs.{Lists}
 use Rattle.master_node.specs.Handed.{EndsWork, passing_at}

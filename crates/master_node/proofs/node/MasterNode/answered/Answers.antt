@@ -4,6 +4,7 @@ use Rattle.master_node.proofs.Kepts.{node_same}
 use Rattle.master_node.proofs.Lists.{all_set}
 use Rattle.master_node.proofs.Servings.{posts_set}
 use Rattle.master_node.proofs.Listing.{forwards_set}
+use Rattle.master_node.proofs.Numbereds.{numbers_same, numbers_set}
 use Rattle.std.proofs.Common.{◌≡◌, ◌<◌, length, arith, refl}
 use Rattle.master_tour.proofs.Walks.{steps_set}
 use Rattle.master_node.specs.declared.post.Work.{Work}
@@ -15,6 +16,7 @@ returns-clause-kept c =
     let r = c.requires in
     let k = m.posts.ok.0 in
     node_same m _ refl refl (λ q. all_set WaitsNone m.posts.items c.args.place c.index_mut-post.result.now _ (omega (arith, r, k)) c.index_mut-post.ensures.value (λ p. p) q) (forwards_set m.posts.items c.args.place c.index_mut-post.result.now _ (omega (arith, r, k)) c.index_mut-post.ensures.value refl)
+    (numbers_set m.posts.items c.args.place c.index_mut-post.result.now _ (omega (arith, r, k)) c.index_mut-post.ensures.value (numbers_same c.index_mut-post.result.now _ refl refl))
 
 pub returns-clause-tells : goal.returns-clause-tells
 returns-clause-tells c =

@@ -6,6 +6,7 @@ use Rattle.std.proofs.Common.{subst}
 use Rattle.life_runs.specs.of_life_frames.Shares.{AreDistinct}
 use Rattle.master_node.specs.Shows.{GoesOn, lived_of}
 use Rattle.master_node.proofs.Servings.{asked_so, leads_same}
+use Rattle.master_node.proofs.Numbereds.{numbers_asked}
 use Rattle.master_node.proofs.node.MasterNode.ask.Goals as goal
 
 pub returns-clause-full : goal.returns-clause-full
@@ -32,6 +33,8 @@ returns-clause-works c =
 pub returns-clause-served : goal.returns-clause-served
 returns-clause-served c = λ lens recover retry missed made ws r f h.
     let m = c.args.self.now in
+    let l : c.args.slave < length m.posts.items = omega (arith, c.requires, m.posts.ok.0) in
+    let stays = steps_set (λ p q. q.oldest ≡ p.oldest) c.args.slave m.posts.items c.index_mut.result.now c.ask.new.self l c.index_mut.ensures.value c.ask.ensures.oldest in
     let a = asked_so lens recover made c.args.key c.args.mail.now c.args.slave ws m.posts.items _ m.tour.stops.items r f h.each (steps_both _ _ c.args.slave m.posts.items _ (returns-clause-waits c r) (returns-clause-works c)) in (
       a.asks,
       a.is,
@@ -45,5 +48,6 @@ returns-clause-served c = λ lens recover retry missed made ws r f h.
         again = h.again;
         made_is = h.made_is;
         early = h.early;
+        numbered = numbers_asked c.args.key c.args.mail.now a.asks c.args.slave ws m.posts.items _ (steps_both _ _ c.args.slave m.posts.items _ (returns-clause-waits c r) stays) h.numbered;
       },
     )

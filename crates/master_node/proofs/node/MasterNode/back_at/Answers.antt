@@ -7,8 +7,6 @@ use Rattle.master_node.proofs.Arrivals.{arrive_none, heard_beyond}
 use Rattle.master_node.proofs.Downs.{lists_none}
 use Rattle.master_node.proofs.Happenings.{happens_none}
 use Rattle.master_node.proofs.Servings.{tells_refl}
-use Rattle.std.proofs.Common.{◌≡◌}
-use Rattle.master_node.specs.declared.post.Work.{Work}
 use Rattle.master_node.proofs.Endings.{ends_free, ends_told, none_beyond}
 use Rattle.std.proofs.Common.{[], sym}
 use Rattle.master_node.specs.Besides.{gateway_by}

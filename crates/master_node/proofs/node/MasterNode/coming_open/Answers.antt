@@ -1,5 +1,5 @@
-use Rattle.std.proofs.Common.{◌≡◌, ◌<◌, true, false, Some, [], sym, ap, ◌∙◌, arith, length, rules}
-use Rattle.std.specs.Prelude.{is_some, nat_lt}
+use Rattle.std.proofs.Common.{◌≡◌, ◌<◌, true, false, Some, sym, ◌∙◌, arith, length, rules}
+use Rattle.std.specs.Prelude.{is_some}
 use Rattle.master_side.specs.Free.{is_free_side}
 use Rattle.master_tour.specs.declared.stop.Stand.{Stand}
 use Rattle.master_node.specs.Coming.{IsComing, next_of}
@@ -8,8 +8,7 @@ use Rattle.master_node.specs.declared.coming.Coming.{Coming}
 use Rattle.master_node.proofs.Lists.{some_here}
 use Rattle.master_node.proofs.Restings.{never}
 use Rattle.master_node.proofs.Starts.{none_waiting, some_waiting, waits_other}
-use Rattle.master_node.specs.Passes.{IsNextState, MailWaits, waits_in}
-use Rattle.master_node.specs.Serving.{mails_in}
+use Rattle.master_node.specs.Passes.{IsNextState}
 use Rattle.master_node.proofs.Mailings.{mail_waits, next_state, none_waits, waits_here}
 use Rattle.master_node.proofs.node.MasterNode.coming_open.Goals as goal
 

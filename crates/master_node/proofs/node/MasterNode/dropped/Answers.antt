@@ -3,6 +3,7 @@ use Rattle.master_node.specs.Shows.{WaitsNone}
 use Rattle.master_node.proofs.Kepts.{node_same}
 use Rattle.master_node.proofs.Lists.{all_set}
 use Rattle.master_node.proofs.Listing.{forwards_set}
+use Rattle.master_node.proofs.Numbereds.{numbers_set}
 use Rattle.master_node.proofs.Droppeds.{drops_set}
 use Rattle.std.proofs.Common.{◌≡◌, ◌<◌, length, arith}
 use Rattle.master_tour.proofs.Walks.{steps_set}
@@ -15,6 +16,7 @@ returns-clause-kept c =
     let r = c.requires in
     let k = m.posts.ok.0 in
     node_same m _ refl refl (λ q. all_set WaitsNone m.posts.items c.args.place c.index_mut.result.now c.drop_all.new.self (omega (arith, r, k)) c.index_mut.ensures.value (λ p. c.drop_all.ensures.mails) q) (forwards_set m.posts.items c.args.place c.index_mut.result.now c.drop_all.new.self (omega (arith, r, k)) c.index_mut.ensures.value c.drop_all.ensures.forwards)
+    (numbers_set m.posts.items c.args.place c.index_mut.result.now c.drop_all.new.self (omega (arith, r, k)) c.index_mut.ensures.value c.drop_all.ensures.numbered)
 
 pub returns-clause-mails : goal.returns-clause-mails
 returns-clause-mails c =

@@ -31,5 +31,5 @@ invariant-loop l =
     × Happens l.counter l.initial.self.lan l.self.lan × Makes l.initial.self.lan l.self.lan
     × (All WaitsNone l.initial.self.posts.items → IsBare l.initial.self → length l.initial.into.items ≡ 16 → All WaitsNone l.self.posts.items × EagerOn l.initial.self l.self)
     × (l.self.list.count ≤ l.initial.self.list.count + l.counter)
-    × ((lens : ℕ → Lens) (recover made : ℕ) (ws : List Serves) → AreDistinct (map (λ w. lived_of (run_lead w)) ws) → ((left : List ℕ) → IsPassing lens recover made left l.initial.self l.initial.into.items ws) → BeginsFrame l.initial.self l.initial.into.items (map run_lead ws) →
-    Rounds (map run_lead ws) (λ left m octets. IsPassing lens recover made left m octets ws) l.counter l.self l.into.items)
+    × ((lens : ℕ → Lens) (recover made : ℕ) (forwards : ℕ → ℕ) (ws : List Serves) → AreDistinct (map (λ w. lived_of (run_lead w)) ws) → ((left : List ℕ) → IsPassing lens recover made forwards left l.initial.self l.initial.into.items ws) → BeginsFrame l.initial.self l.initial.into.items (map run_lead ws) →
+    Rounds (map run_lead ws) (λ left m octets. IsPassing lens recover made forwards left m octets ws) l.counter l.self l.into.items)

@@ -1,8 +1,7 @@
 use Rattle.master_node.proofs.Tells.{node_then}
 use Rattle.master_node.proofs.Servings.{tells_then}
-use Rattle.std.proofs.Common.{[], ap, sym, ◌∙◌, ◌≡◌, ◌<◌, ℕ, length, arith}
-use Rattle.master_node.specs.declared.post.Work.{Work}
-use Rattle.master_node.specs.Handed.{passing_at, work_at}
+use Rattle.std.proofs.Common.{[], ap, sym, ◌∙◌, ◌<◌, length, arith}
+use Rattle.master_node.specs.Handed.{passing_at}
 use Rattle.master_node.proofs.Endings.{ends_from, ends_then, not_passed}
 use Rattle.std.proofs.Common.{Some, inl, inr}
 use Rattle.master_side.specs.declared.hand.Heard.{Heard}

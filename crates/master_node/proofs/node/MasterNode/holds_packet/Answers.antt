@@ -1,4 +1,4 @@
-use Rattle.std.proofs.Common.{◌≡◌, ◌<◌, ◌∙◌, true, false, sym, subst, length, arith}
+use Rattle.std.proofs.Common.{◌<◌, ◌∙◌, sym, subst, length, arith}
 use Rattle.master_tour.specs.declared.stop.Stand.{Stand}
 use Rattle.master_node.specs.Resting.{StandRests, StopRests}
 use Rattle.master_node.proofs.Restings.{if_here, never}

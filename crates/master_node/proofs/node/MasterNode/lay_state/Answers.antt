@@ -6,6 +6,7 @@ use Rattle.master_node.proofs.Servings.{posts_set}
 use Rattle.master_node.specs.Handed.{LaysWork}
 use Rattle.master_node.specs.declared.coming.Coming.{Coming}
 use Rattle.std.proofs.Common.{Some}
+use Rattle.master_node.proofs.Numbereds.{numbers_same}
 use Rattle.master_node.proofs.node.MasterNode.lay_state.Goals as goal
 
 pub returns-clause-origins : goal.returns-clause-origins
@@ -14,7 +15,7 @@ returns-clause-origins c =
     let l : c.args.place < length m.tour.stops.items = omega (arith, c.requires, m.paired, m.tour.stops.ok.0) in
     let k : c.args.place < length m.posts.items = omega (arith, c.requires, m.posts.ok.0) in
     steps_stay _ c.args.place m.tour.stops.items c.index.result.now l c.index.ensures
-    (steps_set _ c.args.place m.posts.items c.index_mut-post.result.now _ k c.index_mut-post.ensures.value (refl, ap (λ z. Origin.Script z) c.number-number.ensures))
+    (steps_set _ c.args.place m.posts.items c.index_mut-post.result.now _ k c.index_mut-post.ensures.value (refl, ap (λ z. Origin.Script z) c.number-number.ensures, numbers_same c.index_mut-post.result.now _ refl refl))
 
 pub returns-clause-mails : goal.returns-clause-mails
 returns-clause-mails c =

@@ -1,4 +1,4 @@
-use Rattle.std.proofs.Common.{◌≡◌, ◌+◌, Bool, [], sym, ap, ◌∙◌, arith}
+use Rattle.std.proofs.Common.{◌≡◌, ◌+◌, Bool, [], refl, sym, ap, ◌∙◌, arith, length}
 use Rattle.std.specs.Prelude.{map, not, nat_lt, if◌then◌else◌}
 use Rattle.life_runs.specs.Led.{speech_at, gives_up_at, led_behind}
 use Rattle.master_tour.specs.Orders.{last_behind}
@@ -23,7 +23,7 @@ use Rattle.master_node.proofs.Joineds.{lost_unfinished, three_on, three_kept, th
 use Rattle.master_node.specs.Rooms.{FitAgain}
 use Rattle.master_node.proofs.Fits.{again_lost}
 use Rattle.master_node.proofs.Happenings.{happens_so}
-use Rattle.std.proofs.Common.{ℕ, true}
+use Rattle.std.proofs.Common.{ℕ}
 use Rattle.master_node.specs.Downs.{downs_in, gives_at, goes_down, is_given_up}
 use Rattle.master_node.specs.Shows.{is_led, is_live_turn, is_live_lead, side_shows}
 use Rattle.master_tour.specs.Goes.{is_live}
@@ -34,7 +34,7 @@ use Rattle.counters_kept.proofs.Lives.{stands_kept}
 use Rattle.life_runs.specs.of_life_frames.Shares.{AllThree}
 use Rattle.master_tour.specs.Stands.{StandShows}
 use Rattle.served_runs.specs.Served.{served_behind}
-use Rattle.master_node.specs.Serving.{IsServed, IsServedUnder, mails_in, run_lead, waits_of}
+use Rattle.master_node.specs.Serving.{IsServed, IsServedUnder, mails_in, run_lead}
 use Rattle.master_node.specs.Shows.{GoesOn}
 use Rattle.master_node.proofs.Downs.{given_is}
 use Rattle.master_node.proofs.Joineds.{pair_both}
@@ -45,6 +45,7 @@ use Rattle.master_node.specs.Dropped.{gave_at}
 use Rattle.master_node.specs.Passes.{waits_in}
 use Rattle.master_node.proofs.ServedLosts as Losts
 use Rattle.master_node.specs.Handed.{work_at}
+use Rattle.master_node.proofs.Numbereds.{numbers_behind}
 use Rattle.master_node.proofs.node.MasterNode.lost.Goals as goal
 
 pub returns-clause-leads : goal.returns-clause-leads
@@ -181,4 +182,5 @@ returns-clause-served c = λ lens recover retry missed made after octets vs f p 
           (subst (λ z. FitAgain z.items ts) (sym e.tour.0) (again_lost _ (λ s w h. h (sym e.tour.1 ∙ ap (λ z. z.again) (sym k.tour) ∙ y)) ss ts m.tour.visit.items e.again u.fits));
       made_is = k.kept.tour.made ∙ u.made_is;
       early = u.early;
+      numbered = numbers_behind (served_behind lens recover retry gives made f) (λ v. length v.asked) (λ w. length w.asked) (λ v. refl) vs m.posts.items n.posts.items u.numbered k.kept.numbered;
     }

@@ -10,6 +10,7 @@ use Rattle.master_node.specs.Filling.{IsAmong, StopFills}
 use Rattle.master_node.specs.Shows.{IsLead, GoesOn, lived_of, is_live_lead}
 use Rattle.master_node.proofs.Begins.{begun_nothing, nothing_for, packets_begin}
 use Rattle.master_node.proofs.Fills.{from_map}
+use Rattle.master_node.specs.Listing.{run_tells}
 use Rattle.master_node.proofs.Listing.{listed_nothing, services_begin}
 use Rattle.master_node.proofs.Lists.{both_map, both_holds, both_length}
 use Rattle.master_node.proofs.Sents.{stand_lives, each_holds, each_any, begins_live, both_from, lead_among, turns, turns_all, begun_turns, under_all, same_all, distinct_same, goes_under, sent_is, sent_some, sent_many, goes_begun, some_not}
@@ -30,11 +31,8 @@ use Rattle.std.proofs.Common.{[]}
 use Rattle.master_node.specs.Begins.{begun_for}
 use Rattle.master_node.specs.Starts.{HasStarted}
 use Rattle.master_node.proofs.Starts.{all_start}
-use Rattle.std.proofs.Common.{suc}
-use Rattle.life_runs.specs.of_life_frames.Shares.{AllBoth, AreDistinct}
+use Rattle.life_runs.specs.of_life_frames.Shares.{AreDistinct}
 use Rattle.master_hand.specs.Shown.{awaits_reply}
-use Rattle.served_runs.specs.Served.{Serves}
-use Rattle.master_node.specs.Passes.{IsPassing}
 use Rattle.master_node.specs.Serving.{IsServed, run_lead, run_turn}
 use Rattle.master_node.specs.Shows.{GoesUnder, turned_of}
 use Rattle.life_runs.specs.of_life_frames.Shares.{AllFrom, AllThree}
@@ -42,6 +40,9 @@ use Rattle.master_hand.specs.Laying.{scripted}
 use Rattle.master_node.specs.Shows.{IsLived}
 use Rattle.master_node.proofs.Serveds.{long_served, three_both}
 use Rattle.master_node.proofs.ServedSents as Served
+use Rattle.master_node.specs.Begins.{begun_of}
+use Rattle.master_node.specs.Events.{served_tells}
+use Rattle.master_node.proofs.ServedTells.{served_begin}
 use Rattle.master_node.proofs.ServedVisits.{Alike}
 use Rattle.master_node.proofs.node.MasterNode.make.Goals as goal
 
@@ -66,7 +67,7 @@ returns-clause-led c = λ lens recover retry missed number from as' room taken u
         frame = subst (λ n. FrameMade (λ ds i a s. StopFills lens recover number nothing index left ds i a s) c.begin.new.frame.items n lives ts) (sym e.count) (e.made (speech_at lens) is_followed is_passed number recover index lens left lives nothing (λ k. refl) before);
         among = both_from (λ a s. IsLead lens recover a s) _ (λ i a s. IsAmong lens nothing left i a s) (λ i a s t l p. lead_among lens recover left i a s t l p.0 p.2) 0 as' ss ts x.each e.each;
         packets = begun_nothing from.switch left as' m.lan taken;
-        listing = listed_nothing from.forwards left as' _ (record { few = unlisted.few; none = unlisted.none; counts = unlisted.counts });
+        listing = listed_nothing (run_tells as') from.forwards left as' _ (record { few = unlisted.few; none = unlisted.none; counts = unlisted.counts });
         starts = record {
           visited = [];
           each = both_from (λ a s. IsLead lens recover a s) _ (λ i a s. HasStarted lens m.lan [] i (begun_for nothing as' i) a s)
@@ -157,7 +158,7 @@ returns-clause-eager c = λ lens recover retry missed as' x.
     each_comp _ _ (λ s t. (recall_of t ≡ recall_of s) × StopTakesUp t) (λ s t u p q. (q.0 ∙ ap (λ z. recall_by z.paused z.duty z.turn (knows z.hand.course)) p.0, q.1 (λ v. absurd (true_false t.under v p.5)))) ss ts c.fill.new.self.tour.stops.items e.each on
 
 pub returns-clause-serves : goal.returns-clause-serves
-returns-clause-serves c = λ lens recover retry missed made ws some small x.
+returns-clause-serves c = λ lens recover retry missed made forwards ws some small unlisted x.
     let m = c.args.self.now in
     let e = c.begin.ensures in
     let t1 = c.begin.new.self in
@@ -184,12 +185,14 @@ returns-clause-serves c = λ lens recover retry missed made ws some small x.
       read = (ap (λ z. z.read_at) p.0, ap (λ z. z.pace) p.0);
       out = ap (λ z. z.out.len) p.0;
     }) e.each in
-    let f = c.fill.ensures.serves lens recover made ws x.distinct
+    let f = c.fill.ensures.serves lens recover made forwards ws x.distinct
     (λ left. record {
       begun = nothing;
       frame = subst (λ n. FrameMade (λ ds i a s. StopFills lens recover made nothing index left ds i a s) c.begin.new.frame.items n lives ts) (sym e.count) (e.made (speech_at lens) is_followed is_passed made recover index lens left lives nothing (λ k. refl) before);
       each = Served.firsts_serving lens recover made left 0 ws m.posts.items ss ts x.each alike;
       handed = Served.firsts_handing lens recover made ws m.posts.items ss x.each;
+      numbered = x.numbered;
+      listing = listed_nothing (served_tells ws) forwards left as' _ (record { few = unlisted.few; none = unlisted.none; counts = unlisted.counts });
     })
     (record {
       count = e.count;
@@ -200,6 +203,7 @@ returns-clause-serves c = λ lens recover retry missed made ws some small x.
       lives = alive;
       again = goes.comes;
       anew = λ a. e.anew (sym e.tour.0 ∙ a);
+      listed = unlisted.few;
     }) in
     let left = f.0 in
     let filling = f.1 in
@@ -223,7 +227,7 @@ returns-clause-serves c = λ lens recover retry missed made ws some small x.
     let z = c.finish-some.ensures.made yes (speech_at lens) is_followed is_passed made recover (c.fill.new.self.made % 256) lens left lives begun filling.frame in
     let octets = c.finish-some.new.frame.items in
     let is = sent_is lens octets z.datagrams z.frame in
-    let sent = Served.served_all lens recover made begun octets z.datagrams is left 0 ws z.lives c.fill.new.self.posts.items t2.stops.items filling.each filling.handed z.each in
+    let sent = Served.served_all lens recover made begun octets z.datagrams is left 0 ws z.lives c.fill.new.self.posts.items t2.stops.items filling.each filling.handed filling.numbered z.each in
     let us = turns lens recover made begun octets z.datagrams is as' z.lives t2.stops.items in
     let sends = subst (λ y. AllThree (λ a b s. Served.Sends lens recover made begun octets z.datagrams is a b s) y z.lives t2.stops.items) (sym flat) z.each in
     let bare = Steps.from_map _ (λ n a s. is_in n left ≡ true → s.under ≡ false) (λ i a s w. w.bare) 0 as' t2.stops.items
@@ -244,6 +248,8 @@ returns-clause-serves c = λ lens recover retry missed made ws some small x.
         carried = λ k y. subst (λ w. is_in k w ≡ true) (sym (visits_are into _ c.fill.new.self v)) (v.carries.only k y);
         made_is = refl;
         early = small;
+        numbered = sent.numbered;
       },
       on.made ∙ x.made_is,
+      served_begin forwards left begun ws sent.sent c.fill.new.self _ (λ k. ap (λ y. begun_of y k) sent.turns_are ∙ begun_turns lens recover made begun octets z.datagrams is as' z.lives t2.stops.items sends k) refl refl filling.listing,
     )

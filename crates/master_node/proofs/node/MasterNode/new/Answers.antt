@@ -7,7 +7,9 @@ use Rattle.life_runs.specs.First.{first_leads}
 use Rattle.life_runs.specs.of_life_frames.Shares.{AreDistinct}
 use Rattle.master_node.specs.Shows.{GoesOn}
 use Rattle.master_node.proofs.Servings.{firsts_served, leads_kept, lives_all, run_all}
+use Rattle.master_node.specs.Serving.{IsServed}
 use Rattle.master_node.proofs.Listing.{none_counted}
+use Rattle.master_node.proofs.Numbereds.{numbers_first}
 use Rattle.master_node.proofs.node.MasterNode.new.Goals as goal
 
 pub returns-clause-leads : goal.returns-clause-leads
@@ -40,9 +42,10 @@ returns-clause-served c =
     let leads = first_leads plan in
     let t = c.in_ok-tour.tour in
     let h = returns-clause-leads c in
+    let each = firsts_served (lens_of plan.slaves) plan.recover plan.paces leads c.in_ok-posts.posts.items t.stops.items h.each c.in_ok-tour.ensures.paced c.in_ok-posts.ensures.quiet c.in_ok-posts.ensures.works
+    (omega (arith, c.in_ok-posts.posts.ok.0, t.stops.ok.0, c.in_ok-posts.ensures.many, c.in_ok-tour.ensures.many, c.len.ensures)) (leads_kept plan.services 0 plan.slaves) in
     record {
-      each = firsts_served (lens_of plan.slaves) plan.recover plan.paces leads c.in_ok-posts.posts.items t.stops.items h.each c.in_ok-tour.ensures.paced c.in_ok-posts.ensures.quiet c.in_ok-posts.ensures.works
-          (omega (arith, c.in_ok-posts.posts.ok.0, t.stops.ok.0, c.in_ok-posts.ensures.many, c.in_ok-tour.ensures.many, c.len.ensures)) (leads_kept plan.services 0 plan.slaves);
+      each = each;
       distinct = subst (λ z. AreDistinct z) (sym (lives_all plan.paces leads)) h.distinct;
       goes = subst (λ z. GoesOn t.again t.visit.items t.opened z) (sym (run_all plan.paces leads)) h.goes;
       missed_is = h.missed_is;
@@ -50,4 +53,5 @@ returns-clause-served c =
       again = h.again;
       made_is = refl;
       early = omega arith;
+      numbered = numbers_first (λ w p s. IsServed (lens_of plan.slaves) plan.recover 0 w p s) plan.paces leads c.in_ok-posts.posts.items t.stops.items each c.in_ok-posts.ensures.quiet c.in_ok-posts.ensures.oldest;
     }

@@ -29,6 +29,7 @@ use Rattle.master_node.proofs.Restings.{all_rest}
 use Rattle.std.proofs.Common.{◌+◌, ◌%◌, ◌^◌, suc}
 use Rattle.std.proofs.Math.Nat.{mod-eq_of_lt}
 use Rattle.master_node.proofs.ServedSents.{served_same}
+use Rattle.master_node.proofs.ServedTells.{served_made}
 use Rattle.master_node.proofs.node.MasterNode.next.Goals as goal
 
 pub returns-clause-led : goal.returns-clause-led
@@ -117,16 +118,24 @@ returns-clause-enters c = λ h lens recover retry missed as' x rests may.
     e.none in
     first_more _ _ c.make.ensures.made.more.0 entered c.make.ensures.made.more.1
 
-pub returns-clause-serves : goal.returns-clause-serves
-returns-clause-serves c = λ h lens recover retry missed made ws small x.
+pub returns-clause-services : goal.returns-clause-services
+returns-clause-services c = λ h lens recover retry missed made ws small x.
+    let m = c.args.self.now in
     let live : c.has_live.result ≡ true = cc in
     let same = c.admit.ensures.same in
-    let w = c.make.ensures.serves lens recover retry missed made ws (subst (λ z. list_any (λ s. is_live s.stand) z.stops.items ≡ true) (sym same.1) (sym c.has_live.ensures ∙ live)) small
-    (served_same lens recover retry missed made ws c.args.self.now c.admit.new.self same.1 same.0 c.admit.ensures.number x) in
+    let w = c.make.ensures.serves lens recover retry missed made (λ k. forwards_at m.posts.items k) ws (subst (λ z. list_any (λ s. is_live s.stand) z.stops.items ≡ true) (sym same.1) (sym c.has_live.ensures ∙ live)) small
+    (unlisted (record m { list = c.clear.new.self; lan = c.begins.new.self }) c.admit.new.self c.clear.ensures.none c.clear.ensures.last c.admit.ensures.list c.admit.ensures.same.0)
+    (served_same lens recover retry missed made ws m c.admit.new.self same.1 same.0 c.admit.ensures.number x) in
     let u = w.2 in
     let is : c.make.new.self.made ≡ made = w.3 in
     let more : (c.make.new.self.made + 1) % 2 ^ 32 ≡ suc made = ap (λ z. (z + 1) % 2 ^ 32) is ∙ mod-eq_of_lt (omega (arith, small)) ∙ (let n : made + 1 ≡ suc made = omega arith in n) in (
       w.0,
       w.1,
-      record { each = u.each; distinct = u.distinct; goes = u.goes; missed_is = u.missed_is; retry_is = u.retry_is; sent = u.sent; fits = u.fits; carried = u.carried; made_is = more; early = u.early },
+      record { each = u.each; distinct = u.distinct; goes = u.goes; missed_is = u.missed_is; retry_is = u.retry_is; sent = u.sent; fits = u.fits; carried = u.carried; made_is = more; early = u.early; numbered = u.numbered },
+      served_made _ _ _ c.make.new.self _ c.made.ensures.last refl w.4,
     )
+
+pub returns-clause-serves : goal.returns-clause-serves
+returns-clause-serves c = λ h lens recover retry missed made ws small x.
+    let w = returns-clause-services c h lens recover retry missed made ws small x in
+    (w.0, w.1, w.2)

@@ -46,6 +46,7 @@ use Rattle.std.specs.Prelude.{not}
 use Rattle.master_tour.specs.Goes.{holds_at}
 use Rattle.master_tour.specs.Made.{is_in}
 use Rattle.master_node.proofs.Endings.{unvisited}
+use Rattle.master_node.proofs.Numbereds.{numbers_behind}
 use Rattle.master_node.proofs.node.MasterNode.returned.Goals as goal
 
 pub returns-clause-leads : goal.returns-clause-leads
@@ -183,4 +184,5 @@ returns-clause-served c = λ lens recover retry missed made octets vs f p b u r.
       again = λ t. absurd (true_false n.tour.again t (ap (λ z. z.again) tells.tour ∙ e.tour.1));
       made_is = tells.made ∙ u.made_is;
       early = u.early;
+      numbered = numbers_behind (served_behind lens recover retry gives made f) (λ v. length v.asked) (λ w. length w.asked) (λ v. refl) vs m.posts.items n.posts.items u.numbered c.all_back.ensures.kept.numbered;
     }

@@ -21,8 +21,8 @@ use Rattle.master_node.proofs.Lists.{steps_map, steps_holds, steps_each, each_tr
 use Rattle.master_node.proofs.Filleds.{count_behind}
 use Rattle.master_node.proofs.Visits.{Fitted, Began, SomeKept, here, what, what_is, none_here, now, now_here, comes, frame, frame_kept, spot, leaves, waits_none, told, among, among_fitted}
 use Rattle.master_node.proofs.Begins.{begun_step}
-use Rattle.master_node.specs.Listing.{number_at}
-use Rattle.master_node.proofs.Listing.{laid_from, listed_on, listed_step, listed_visit, number_here}
+use Rattle.master_node.specs.Listing.{number_at, run_tells, where_began}
+use Rattle.master_node.proofs.Listing.{ToldSo, laid_from, listed_on, listed_step, listed_visit, number_here}
 use Rattle.master_node.specs.Begins.{NoneMore, TakesOn, taken_where}
 use Rattle.std.proofs.Common.{◌∙◌}
 use Rattle.master_node.proofs.Lists.{steps_each, each_trans}
@@ -57,14 +57,20 @@ use Rattle.master_tour.specs.declared.stop.Stand.{Stand}
 use Rattle.master_node.proofs.Unvisited.{Lacking, Roomed, Roomy, Went, roomy, some_wish, steps_behind, without}
 use Rattle.master_hand.specs.Shown.{awaits_reply}
 use Rattle.master_side.specs.Free.{is_free_side}
-use Rattle.master_tour.specs.Walks.{EachPair}
-use Rattle.master_node.specs.Coming.{next_of, wish_of}
-use Rattle.master_node.specs.Kept.{StopKept, StopStays}
-use Rattle.master_node.specs.Passes.{IsNextState, IsServing, LaysMail, waits_in}
+use Rattle.master_node.specs.Coming.{wish_of}
+use Rattle.master_node.specs.Kept.{StopKept}
+use Rattle.master_node.specs.Passes.{IsNextState, IsServing, waits_in}
 use Rattle.master_node.specs.Serving.{mails_in, run_lead}
 use Rattle.master_node.specs.Passes.{ThreeFrom}
 use Rattle.master_node.proofs.ServedVisits as Served
 use Rattle.master_node.proofs.FreeKept as Frees
+use Rattle.std.proofs.Common.{length}
+use Rattle.life_runs.specs.of_life_frames.Shares.{AreDistinct}
+use Rattle.master_node.specs.Events.{served_tells}
+use Rattle.master_node.specs.Numbered.{IsNumbered, StaysNumbered}
+use Rattle.master_node.proofs.Lists.{both_each}
+use Rattle.master_node.proofs.ServedSents.{map_map}
+use Rattle.master_node.proofs.ServedTells.{told_visit}
 use Rattle.master_node.proofs.node.MasterNode.visit.Goals as goal
 
 pub returns-then-not-fits-clause-led : goal.returns-then-not-fits-clause-led
@@ -80,7 +86,7 @@ returns-then-not-fits-clause-led c = λ lens recover made from left next as' roo
           (e.made (speech_at lens) is_followed is_passed made recover (m.made % 256) m.tour.count lens left (map lived_of as') c.args.into.now.items f.begun d at f.frame);
       among = among_fitted lens f.begun left as' c.args.place s0 s1 fitted f.among;
       packets = f.packets;
-      listing = listed_on from.forwards left f.begun as' m _ refl refl f.listing;
+      listing = listed_on (run_tells as') from.forwards left f.begun as' m _ refl refl f.listing;
       starts = record {
         visited = f.starts.visited;
         each = from_each (λ i a s. HasStarted lens m.lan f.starts.visited i (begun_for f.begun as' i) a s) (λ s t. (t.under ≡ s.under) × (recall_of t ≡ recall_of s)) (λ i a s. HasStarted lens m.lan f.starts.visited i (begun_for f.begun as' i) a s)
@@ -135,10 +141,12 @@ returns-clause-led c = λ lens recover made from left next as' room rows quiet d
           (taken_where r m.lan place coming) d (spot coming r place s0 s1 s2 s3 s4 rooms coms fitted laid began came lens f.begun left as' f.among) room at over fewer
           (leaves coming r place s0 s1 s2 s3 s4 rooms coms fitted laid began came m.lan c.lay.ensures.oldest) (subst (λ z. TakesOn (taken_where r z place coming) z c.came.new.self.lan) c.lay.ensures.lan c.came.ensures.takes) (subst (λ z. NoneMore z c.came.new.self.lan) c.lay.ensures.lan c.came.ensures.fewer)
           (waits_none coming r place s0 s1 s2 s3 s4 rooms coms fitted laid began came m.lan c.coming-coming.ensures.first) f.packets;
-      listing = listed_step from.forwards left next f.begun as' m c.came.new.self place (here coming r place s0 s1 s2 s3 s4 rooms coms fitted laid began came) (what coming r place s0 s1 s2 s3 s4 rooms coms fitted laid began came) d (spot coming r place s0 s1 s2 s3 s4 rooms coms fitted laid began came lens f.begun left as' f.among) at over fewer
-          (listed_visit place (number_at as' place) coming r (what coming r place s0 s1 s2 s3 s4 rooms coms fitted laid began came) m _ c.came.new.self c.lay.ensures.list rows
-          (laid_from coming (number_at as' place) place m.posts.items c.lay.new.self.posts.items s0 s1 s2 (number_here lens f.begun left (λ s t. Fitted s t) (λ s t k. k.script) 0 place place as' s0 s1 (omega arith) at f.among fitted) c.lay.ensures.origins)
-          c.came.ensures.lists (λ forwards o h. told coming r place s0 s1 s2 s3 s4 rooms coms fitted laid began came (number_at as' place) forwards o h)) f.listing;
+      listing = listed_step (run_tells as') from.forwards left next f.begun as' m c.came.new.self place (here coming r place s0 s1 s2 s3 s4 rooms coms fitted laid began came) (what coming r place s0 s1 s2 s3 s4 rooms coms fitted laid began came) d (spot coming r place s0 s1 s2 s3 s4 rooms coms fitted laid began came lens f.begun left as' f.among) at over fewer
+          (listed_visit (run_tells as') place (where_began r coming) (what coming r place s0 s1 s2 s3 s4 rooms coms fitted laid began came) m _ c.came.new.self c.lay.ensures.list rows
+          (steps_map _ (λ p q. ToldSo (run_tells as') place (where_began r coming) (what coming r place s0 s1 s2 s3 s4 rooms coms fitted laid began came) p q) place m.posts.items c.lay.new.self.posts.items
+          (λ p q h. (let z = told coming r place s0 s1 s2 s3 s4 rooms coms fitted laid began came (number_at as' place) p.forwards q.origin h.origin in (h.counts, z.0, z.1)))
+          (laid_from coming (number_at as' place) place m.posts.items c.lay.new.self.posts.items s0 s1 s2 (number_here lens f.begun left (λ s t. Fitted s t) (λ s t k. k.script) 0 place place as' s0 s1 (omega arith) at f.among fitted) c.lay.ensures.origins))
+          c.came.ensures.lists) f.listing;
       starts = record {
         visited = place ∷ f.starts.visited;
         each =
@@ -342,7 +350,7 @@ pub returns-clause-events : goal.returns-clause-events
 returns-clause-events c = let e = ap (λ z. z.count) c.lay.ensures.list in let f = c.came.ensures.events in omega (arith, e, f)
 
 pub returns-then-not-fits-clause-serves : goal.returns-then-not-fits-clause-serves
-returns-then-not-fits-clause-serves c = λ lens recover made left next ws d at over fewer f.
+returns-then-not-fits-clause-serves c = λ lens recover made forwards left next ws few d at over fewer f.
     let m = c.args.self.now in
     let e = c.fits.ensures in
     let s0 = m.tour.stops.items in
@@ -356,10 +364,12 @@ returns-then-not-fits-clause-serves c = λ lens recover made left next ws d at o
       each = Served.three_each (λ i w ks s. IsServing lens f.begun made left i w ks s) (λ i w ks s. IsServing lens f.begun made left i w ks s) (λ s t. Served.Alike s t) (λ i w ks s t h k. Served.serving_alike lens f.begun made left i w ks s t h k)
           0 ws (mails_in m) s0 s1 f.each alike;
       handed = f.handed;
+      numbered = f.numbered;
+      listing = listed_on (served_tells ws) forwards left f.begun (map run_lead ws) m _ refl refl f.listing;
     }
 
 pub returns-clause-serves : goal.returns-clause-serves
-returns-clause-serves c = λ lens recover made left next ws d at over fewer f.
+returns-clause-serves c = λ lens recover made forwards left next ws few d at over fewer f.
     let m = c.args.self.now in
     let e = c.fits.ensures in
     let v = c.visit-began.ensures in
@@ -409,6 +419,12 @@ returns-clause-serves c = λ lens recover made left next ws d at over fewer f.
     let served = Served.serving lens recover made coming r place got s0 s1 s2 s3 s4 rooms frees ahead readied visited came f.begun index left next before.datagrams fewer c.coming-coming.ensures.oldest ws (mails_in m) (mails_in c.lay.new.self) at over d before.each all c.lay.ensures.mails refl in
     let moved = steps_trans _ _ (λ p q. Served.Moved lens recover made coming r place got s0 s1 s2 s3 s4 rooms frees ahead readied visited came f.begun index left next before.datagrams fewer c.coming-coming.ensures.oldest p q) place m.posts.items c.lay.new.self.posts.items c.came.new.self.posts.items
     (λ p x q a b. record { mid = x; lays = a; works = b }) c.lay.ensures.works c.came.ensures.works in
+    let goes = Served.all_go lens recover made coming r place got s0 s1 s2 s3 s4 rooms frees ahead readied visited came in
+    let stands = Served.all_here lens recover made coming r place got s0 s1 s2 s3 s4 rooms frees ahead readied visited came in
+    let here_is = Served.here lens recover made coming r place got s0 s1 s2 s3 s4 rooms frees ahead readied visited came in
+    let what_is = Served.what lens recover made coming r place got s0 s1 s2 s3 s4 rooms frees ahead readied visited came in
+    let told = told_visit lens recover made coming r place got (slice_get s2 place) here_is what_is (λ t z. ap (λ y. Served.came_of lens recover made coming r place got s0 s1 s2 s3 s4 rooms frees ahead readied visited came y) z) f.begun left c.coming-coming.ensures.oldest
+    ws m.posts.items c.lay.new.self.posts.items s1 s2 s4 at all f.numbered refl goes stands c.lay.ensures.origins in
     record {
       begun = begun;
       frame = subst (λ n. FrameMade (λ ds i a s. StopFills lens recover made begun (c.came.new.self.made % 256) next ds i a s) c.visit-began.new.frame.items n lives s4) (sym c.came.ensures.kept.0.count)
@@ -417,4 +433,9 @@ returns-clause-serves c = λ lens recover made left next ws d at over fewer f.
           served;
       handed = Served.handing lens recover made coming r place got s0 s1 s2 s3 s4 rooms frees ahead readied visited came f.begun index left next before.datagrams fewer c.coming-coming.ensures.oldest ws m.posts.items c.came.new.self.posts.items (mails_in c.lay.new.self)
           at d before.each all refl served moved f.handed;
+      numbered = both_each _ _ (λ w p. IsNumbered (length w.asked) p) (λ w p q h k. k (length w.asked) h) ws m.posts.items c.came.new.self.posts.items f.numbered
+          (each_trans (λ p q. StaysNumbered p q) m.posts.items c.lay.new.self.posts.items c.came.new.self.posts.items (λ p q u y z n h. z n (y n h)) (steps_each _ (λ p q. StaysNumbered p q) place m.posts.items c.lay.new.self.posts.items (λ p n h. h) (λ p q h. h.numbered) told.2)
+          (steps_each _ (λ p q. StaysNumbered p q) place c.lay.new.self.posts.items c.came.new.self.posts.items (λ p n h. h) (λ p q h. h.numbered) c.came.ensures.lists));
+      listing = listed_step (served_tells ws) forwards left next f.begun (map run_lead ws) m c.came.new.self place here_is what_is (subst (λ z. AreDistinct z) (sym (map_map lived_of run_lead ws)) d) told.0 at over fewer
+          (listed_visit (served_tells ws) place (where_began r coming) what_is m _ c.came.new.self c.lay.ensures.list few told.1 c.came.ensures.lists) f.listing;
     }
