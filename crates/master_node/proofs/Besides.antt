@@ -12,7 +12,7 @@ use Rattle.master_side.specs.declared.hand.Hand.{Ghosts}
 use Rattle.master_side.specs.declared.hand.Heard.{Heard}
 use Rattle.master_side.specs.declared.passing.Passing.{Passing}
 use Rattle.master_tour.specs.declared.stop.Stop.{Stop}
-use Rattle.master_node.specs.Besides.{TellsBesides, gateway_at, gateway_by, heard_by, heard_room, is_gateway, over_by, over_room, over_told, told_by, turned_room}
+use Rattle.master_node.specs.Besides.{TellsBesides, gateway_at, gateway_by, heard_by, heard_room, is_gateway, over_by, over_room, over_told, reply_kept, reply_told, told_by, turned_room}
 use Rattle.master_node.specs.Handed.{IsLeft, work_at}
 use Rattle.master_node.specs.Listing.{events_in}
 use Rattle.master_node.specs.Named.{StaysNamed}
@@ -128,6 +128,13 @@ heard_none Work.State s = refl
 heard_none Work.Packet s = refl
 heard_none (Work.Passed key) s = refl
 
+-- any other mail that is heard of its slave tells its reply, if it is one
+pub heard_reply : {G : Ghosts InHand} (key : ℕ) (what : Heard) (s : Stop InHand G) → (what ≡ Heard.Emission → ⊥) → heard_by (Work.Passed key) (Some what) s ≡ reply_told key (reply_kept s.side.hand.found)
+heard_reply key Heard.Emission s n = absurd (n refl)
+heard_reply key Heard.More s n = refl
+heard_reply key Heard.Last s n = refl
+heard_reply key Heard.Foreign s n = refl
+
 -- a post that stays tells the same
 other_then : (old new : Work) → ((key : ℕ) → old ≡ Work.Passed key → ⊥) → StaysNamed old new true → (key : ℕ) → new ≡ Work.Passed key → ⊥
 other_then old new n h key e = n key (h.named key e).0
@@ -165,14 +172,11 @@ got_in (x ∷ v) (suc k) d l = go (get_or v k d == x) (got_in v k d (omega (arit
 pub once_fresh : (v : List ℕ) (k d : ℕ) → k < length v → AreOnce v → is_in (get_or v k d) (take k v) ≡ false
 once_fresh [] k d l o = absurd (omega (arith, l))
 once_fresh (x ∷ v) zero d l o = refl
-once_fresh (x ∷ v) (suc k) d l o = go (p == x) refl
+once_fresh (x ∷ v) (suc k) d l o = go (get_or v k d == x) refl (got_in v k d (omega (arith, l))) (once_fresh v k d (omega (arith, l)) o.1)
   where
-    p : ℕ
-    p = get_or v k d
-
-    go : (b : Bool) → (p == x) ≡ b → (if b then true else is_in p (take k v)) ≡ false
-    go true e = absurd (let bad : true ≡ false = sym (got_in v k d (omega (arith, l))) ∙ ap (λ z. is_in z v) (eqb-true p x e) ∙ o.0 in cc)
-    go false e = once_fresh v k d (omega (arith, l)) o.1
+    go : (b : Bool) → (get_or v k d == x) ≡ b → is_in (get_or v k d) v ≡ true → is_in (get_or v k d) (take k v) ≡ false → (if b then true else is_in (get_or v k d) (take k v)) ≡ false
+    go true e there f = absurd (let bad : true ≡ false = sym there ∙ ap (λ z. is_in z v) (eqb-true (get_or v k d) x e) ∙ o.0 in cc)
+    go false e there f = f
 
 -- FIVE EVENTS A SLAVE at most
 pub heard_least : (w : Work) → 1 ≤ heard_room w
@@ -182,7 +186,7 @@ heard_least Work.State = omega arith
 heard_least Work.Packet = omega arith
 heard_least (Work.Passed key) = omega arith
 
-turned_least : (w : Work) → 1 ≤ turned_room w
+pub turned_least : (w : Work) → 1 ≤ turned_room w
 turned_least Work.Nothing = omega arith
 turned_least Work.Mails = omega arith
 turned_least Work.State = omega arith

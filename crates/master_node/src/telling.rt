@@ -149,8 +149,12 @@ impl MasterNode {
         }
         match self.posts[place].work {
             Work::Passed { key } => self.replied(place, key),
-            Work::Mails if matches!(what, Heard::Last) => self.complete(place),
-            Work::Mails | Work::Nothing | Work::State | Work::Packet => {}
+            Work::Mails => {
+                if matches!(what, Heard::Last) {
+                    self.complete(place);
+                }
+            }
+            Work::Nothing | Work::State | Work::Packet => {}
         }
     }
 

@@ -9,7 +9,7 @@ use Rattle.master_node.proofs.Happenings.{happens_on}
 use Rattle.master_node.proofs.Servings.{tells_then}
 use Rattle.master_node.specs.Handed.{passing_at}
 use Rattle.master_node.proofs.Endings.{ends_from, ends_then}
-use Rattle.std.proofs.Common.{◌++◌, sym, append-nil}
+use Rattle.std.proofs.Common.{◌+◌, ◌++◌, sym, append-nil}
 use Rattle.master_node.specs.Besides.{TellsBesides, heard_by, heard_room, over_by, over_room, told_by, turned_room}
 use Rattle.master_node.specs.Handed.{work_at}
 use Rattle.master_node.specs.Named.{StaysNamed}
