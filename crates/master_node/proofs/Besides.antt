@@ -6,13 +6,13 @@ use Rattle.std.proofs.lemmas.List.Elements.{filter-append}
 use Rattle.master_tour.specs.Made.{is_in}
 use Rattle.master_tour.specs.Orders.{AreOnce}
 use Rattle.mailbox_mail.specs.declared.mail.Mail.{Mail}
-use Rattle.master_hand.specs.declared.found.Found.{Found}
+use Rattle.master_hand.specs.Brings.{reply_kept}
 use Rattle.master_hand.specs.declared.hand.InHand.{InHand}
 use Rattle.master_side.specs.declared.hand.Hand.{Ghosts}
 use Rattle.master_side.specs.declared.hand.Heard.{Heard}
 use Rattle.master_side.specs.declared.passing.Passing.{Passing}
 use Rattle.master_tour.specs.declared.stop.Stop.{Stop}
-use Rattle.master_node.specs.Besides.{TellsBesides, gateway_at, gateway_by, heard_by, heard_room, is_gateway, over_by, over_room, over_told, reply_kept, reply_told, told_by, turned_room}
+use Rattle.master_node.specs.Besides.{TellsBesides, gateway_at, gateway_by, heard_by, heard_room, is_gateway, over_by, over_room, over_told, reply_told, told_by, turned_room}
 use Rattle.master_node.specs.Handed.{IsLeft, work_at}
 use Rattle.master_node.specs.Listing.{events_in}
 use Rattle.master_node.specs.Named.{StaysNamed}

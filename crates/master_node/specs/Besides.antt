@@ -1,7 +1,7 @@
 -- WHAT IS TOLD TO WHO ASKED of the mails that are passed on, besides what happens to a slave.
 use Rattle.std.specs.Prelude.{◌≡◌, ◌≤◌, ◌+◌, ℕ, zero, suc, Bool, true, false, Option, Some, None, List, [], ◌∷◌, ◌++◌, filter}
 use Rattle.mailbox_mail.specs.declared.mail.Mail.{Mail}
-use Rattle.master_hand.specs.declared.found.Brought.{Brought}
+use Rattle.master_hand.specs.Brings.{reply_kept}
 use Rattle.master_hand.specs.declared.found.Found.{Found}
 use Rattle.master_hand.specs.declared.hand.InHand.{InHand}
 use Rattle.master_side.specs.declared.hand.Hand.{Ghosts}
@@ -29,17 +29,6 @@ is_gateway (Event.Opened slave) = false
 pub record TellsBesides (room : ℕ) (es : List Event) (m n : MasterNode) : Type 0 where
   pub told : m.list.count + room ≤ 97 → filter is_gateway (events_in n) ≡ filter is_gateway (events_in m) ++ es
   pub few : n.list.count ≤ m.list.count + room
-
--- the mail that replies, where the mail heard last was a reply of one that is passed on
-abbrev pub reply_by : Brought → Mail → Option Mail
-reply_by Brought.Reply m = Some m
-reply_by Brought.Nothing m = None
-reply_by Brought.Emergency m = None
-reply_by Brought.Packet m = None
-
--- of what was found
-abbrev pub reply_kept : Found → Option Mail
-reply_kept f = reply_by f.brought f.mail
 
 -- a reply is told under the key of the asker, without address and counter
 abbrev pub reply_told : ℕ → Option Mail → List Event

@@ -40,8 +40,9 @@ impl MasterNode {
     ghost use Rattle.master_node.specs.Shows.{MasterShows, MasterUnder};
     ghost use Rattle.master_node.specs.Serving.{TellsOnly, ServedShows, ServedUnder, mails_in};
     ghost use Rattle.master_node.specs.Dropped.{Drops, gave_at};
-    ghost use Rattle.master_node.specs.Besides.{TellsBesides, TellsHeard, TellsOver, gateway_at, over_told, reply_kept, reply_told, told_by, turned_room};
+    ghost use Rattle.master_node.specs.Besides.{TellsBesides, TellsHeard, TellsOver, gateway_at, over_told, reply_told, told_by, turned_room};
     ghost use Rattle.master_node.specs.Listing.{told_in};
+    ghost use Rattle.master_hand.specs.Brings.{reply_kept};
     ghost use Rattle.master_tour.specs.Orders.{AreOnce};
     ghost use Rattle.std.specs.Prelude.{Some};
     ghost use Rattle.master_node.specs.Handed.{DropsWork, EndsWork, NonePassed, passing_at, work_at};

@@ -1,6 +1,7 @@
 use Rattle.std.proofs.Common.{◌≡◌, ◌⊎◌, inl, inr, ◌<◌, ℕ, Some, [], refl, sym, ap, ◌∙◌, length, arith}
 use Rattle.master_side.specs.declared.hand.Heard.{Heard}
-use Rattle.master_node.specs.Besides.{heard_by, heard_room, reply_kept, reply_told, told_by}
+use Rattle.master_hand.specs.Brings.{reply_kept}
+use Rattle.master_node.specs.Besides.{heard_by, heard_room, reply_told, told_by}
 use Rattle.master_node.specs.Handed.{IsLeft, passing_at, work_at}
 use Rattle.master_node.specs.declared.post.Work.{Work}
 use Rattle.master_node.proofs.Besides.{besides_as, besides_then, heard_emission, heard_least, heard_other, heard_reply, told_none, told_same}

@@ -3,7 +3,8 @@ use Rattle.master_node.proofs.Tells.{node_refl, node_told}
 use Rattle.master_node.proofs.Servings.{tells_refl, tells_told}
 use Rattle.master_node.proofs.Endings.{ends_told}
 use Rattle.std.proofs.Common.{◌<◌, ◌∷◌, [], ◌∙◌, sym, ap, arith, length}
-use Rattle.master_node.specs.Besides.{reply_kept, reply_told}
+use Rattle.master_hand.specs.Brings.{reply_kept}
+use Rattle.master_node.specs.Besides.{reply_told}
 use Rattle.master_node.specs.declared.event.Event.{Event}
 use Rattle.master_node.proofs.Besides.{bare_is, besides_as, besides_none, besides_one, told_here}
 use Rattle.master_node.proofs.node.MasterNode.replied.Goals as goal
