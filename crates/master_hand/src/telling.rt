@@ -7,6 +7,7 @@ ghost use Rattle.master_side.specs.of_link_mails.Body.{Body};
 ghost use Rattle.master_side.specs.of_master_duty.Reply.{Reply};
 ghost use Rattle.master_hand.specs.Spoken.{Asked};
 ghost use Rattle.master_hand.specs.Brings.{emergency_kept};
+ghost use Rattle.master_hand.specs.Replied.{reply_kept};
 ghost use Rattle.master_hand.specs.Joins.{packet_kept};
 ghost use Rattle.master_hand.specs.Shown.{Shows, SameHand, has_reply};
 ghost use Rattle.master_hand.specs.declared.laying.Laid.{Laid};
@@ -131,7 +132,9 @@ impl InHand {
     }
 
     /// The mail heard last, where it is a reply of a mail that is passed on.
-    pub fn replied(&self) -> Option<&Mail> {
+    pub fn replied(&self) -> Option<&Mail>
+        ensures { option_map (λ mail. mail.now) result ≡ reply_kept self.now.found }
+    {
         match self.found.brought {
             Brought::Reply => Some(&self.found.mail),
             Brought::Nothing | Brought::Emergency | Brought::Packet => None,

@@ -6,13 +6,12 @@ use Rattle.std.proofs.lemmas.List.Elements.{filter-append}
 use Rattle.master_tour.specs.Made.{is_in}
 use Rattle.master_tour.specs.Orders.{AreOnce}
 use Rattle.mailbox_mail.specs.declared.mail.Mail.{Mail}
-use Rattle.master_hand.specs.Brings.{reply_kept}
 use Rattle.master_hand.specs.declared.hand.InHand.{InHand}
 use Rattle.master_side.specs.declared.hand.Hand.{Ghosts}
 use Rattle.master_side.specs.declared.hand.Heard.{Heard}
 use Rattle.master_side.specs.declared.passing.Passing.{Passing}
 use Rattle.master_tour.specs.declared.stop.Stop.{Stop}
-use Rattle.master_node.specs.Besides.{TellsBesides, gateway_at, gateway_by, heard_by, heard_room, is_gateway, over_by, over_room, over_told, reply_told, told_by, turned_room}
+use Rattle.master_node.specs.Besides.{TellsBesides, gateway_at, gateway_by, heard_by, heard_room, is_gateway, over_by, over_room, over_told, told_by, turned_room}
 use Rattle.master_node.specs.Handed.{IsLeft, work_at}
 use Rattle.master_node.specs.Listing.{events_in}
 use Rattle.master_node.specs.Named.{StaysNamed}
@@ -113,27 +112,13 @@ over_other Work.State s n = refl
 over_other Work.Packet s n = refl
 over_other (Work.Passed key) s n = absurd (n key refl)
 
--- what replies to nothing tells nothing, and so does no mail
-pub heard_emission : {G : Ghosts InHand} (w : Work) (s : Stop InHand G) → heard_by w (Some Heard.Emission) s ≡ []
-heard_emission Work.Nothing s = refl
-heard_emission Work.Mails s = refl
-heard_emission Work.State s = refl
-heard_emission Work.Packet s = refl
-heard_emission (Work.Passed key) s = refl
-
+-- where no mail was heard nothing is told
 pub heard_none : {G : Ghosts InHand} (w : Work) (s : Stop InHand G) → heard_by w None s ≡ []
 heard_none Work.Nothing s = refl
 heard_none Work.Mails s = refl
 heard_none Work.State s = refl
 heard_none Work.Packet s = refl
 heard_none (Work.Passed key) s = refl
-
--- any other mail that is heard of its slave tells its reply, if it is one
-pub heard_reply : {G : Ghosts InHand} (key : ℕ) (what : Heard) (s : Stop InHand G) → (what ≡ Heard.Emission → ⊥) → heard_by (Work.Passed key) (Some what) s ≡ reply_told key (reply_kept s.side.hand.found)
-heard_reply key Heard.Emission s n = absurd (n refl)
-heard_reply key Heard.More s n = refl
-heard_reply key Heard.Last s n = refl
-heard_reply key Heard.Foreign s n = refl
 
 -- a post that stays tells the same
 other_then : (old new : Work) → ((key : ℕ) → old ≡ Work.Passed key → ⊥) → StaysNamed old new true → (key : ℕ) → new ≡ Work.Passed key → ⊥

@@ -42,6 +42,7 @@ pub mod Handeds
 pub mod Handings
 pub mod Endings
 mod Besides
+mod Gateways
 pub mod Mailed
 pub mod FreeKept
 pub mod ServedVisits

@@ -1,7 +1,7 @@
 -- WHAT IS TOLD TO WHO ASKED of the mails that are passed on, besides what happens to a slave.
 use Rattle.std.specs.Prelude.{◌≡◌, ◌≤◌, ◌+◌, ℕ, zero, suc, Bool, true, false, Option, Some, None, List, [], ◌∷◌, ◌++◌, filter}
 use Rattle.mailbox_mail.specs.declared.mail.Mail.{Mail}
-use Rattle.master_hand.specs.Brings.{reply_kept}
+use Rattle.master_hand.specs.Replied.{reply_kept}
 use Rattle.master_hand.specs.declared.found.Found.{Found}
 use Rattle.master_hand.specs.declared.hand.InHand.{InHand}
 use Rattle.master_side.specs.declared.hand.Hand.{Ghosts}
@@ -35,13 +35,10 @@ abbrev pub reply_told : ℕ → Option Mail → List Event
 reply_told key None = []
 reply_told key (Some m) = Event.GatewayReply key (record m { address = 0; counter = 0 }) ∷ []
 
--- where a mail was heard that may reply
+-- where a mail was heard
 abbrev pub heard_told : ℕ → Option Heard → Found → List Event
 heard_told key None f = []
-heard_told key (Some Heard.Emission) f = []
-heard_told key (Some Heard.More) f = reply_told key (reply_kept f)
-heard_told key (Some Heard.Last) f = reply_told key (reply_kept f)
-heard_told key (Some Heard.Foreign) f = reply_told key (reply_kept f)
+heard_told key (Some what) f = reply_told key (reply_kept f)
 
 -- a mail that its side has forgotten gets no further reply
 abbrev pub over_told : ℕ → Option Passing → List Event

@@ -42,7 +42,7 @@ impl MasterNode {
     ghost use Rattle.master_node.specs.Dropped.{Drops, gave_at};
     ghost use Rattle.master_node.specs.Besides.{TellsBesides, TellsHeard, TellsOver, gateway_at, over_told, reply_told, told_by, turned_room};
     ghost use Rattle.master_node.specs.Listing.{told_in};
-    ghost use Rattle.master_hand.specs.Brings.{reply_kept};
+    ghost use Rattle.master_hand.specs.Replied.{reply_kept};
     ghost use Rattle.master_tour.specs.Orders.{AreOnce};
     ghost use Rattle.std.specs.Prelude.{Some};
     ghost use Rattle.master_node.specs.Handed.{DropsWork, EndsWork, NonePassed, passing_at, work_at};
@@ -145,9 +145,6 @@ impl MasterNode {
         ensures gateway { TellsHeard place (Some what) self.old self.new }
     {
         self.emitted(place);
-        if matches!(what, Heard::Emission) {
-            return;
-        }
         match self.posts[place].work {
             Work::Passed { key } => self.replied(place, key),
             Work::Mails => {

@@ -1,16 +1,13 @@
 use Rattle.std.proofs.Common.{◌≡◌, ◌⊎◌, inl, inr, ◌<◌, ℕ, Some, [], refl, sym, ap, ◌∙◌, length, arith}
-use Rattle.master_side.specs.declared.hand.Heard.{Heard}
-use Rattle.master_hand.specs.Brings.{reply_kept}
+use Rattle.master_hand.specs.Replied.{reply_kept}
 use Rattle.master_node.specs.Besides.{heard_by, heard_room, reply_told, told_by}
 use Rattle.master_node.specs.Handed.{IsLeft, passing_at, work_at}
 use Rattle.master_node.specs.declared.post.Work.{Work}
-use Rattle.master_node.proofs.Besides.{besides_as, besides_then, heard_emission, heard_least, heard_other, heard_reply, told_none, told_same}
+use Rattle.master_node.proofs.Besides.{besides_as, besides_then, heard_least, heard_other, told_none, told_same}
 use Rattle.master_node.proofs.Endings.{ends_from, ends_then, not_passed, work_got}
-use Rattle.master_node.proofs.Lefts.{true_false}
 use Rattle.master_node.proofs.Servings.{tells_then}
 use Rattle.master_node.proofs.Tells.{node_then}
 use Rattle.master_node.proofs.node.MasterNode.heard.Goals as goal
-use Rattle.master_node.proofs.node.MasterNode.heard.Goals.{in-Emission, in_default}
 
 -- a service by mails was in hand before too
 mails_was : (old new : Work) → IsLeft old new → new ≡ Work.Mails → old ≡ Work.Mails
@@ -26,14 +23,14 @@ none_passed w (inr (inr e)) key f = absurd (let bad : Work.Packet ≡ Work.Passe
 pub returns-in-Passed-clause-kept : goal.returns-in-Passed-clause-kept
 returns-in-Passed-clause-kept c = node_then _ _ _ c.replied.ensures.kept c.emitted.ensures.kept
 
-pub returns-then-matches-2-clause-kept : goal.returns-then-matches-2-clause-kept
-returns-then-matches-2-clause-kept c = node_then _ _ _ c.complete.ensures.kept c.emitted.ensures.kept
+pub returns-then-matches-clause-kept : goal.returns-then-matches-clause-kept
+returns-then-matches-clause-kept c = node_then _ _ _ c.complete.ensures.kept c.emitted.ensures.kept
 
 pub returns-in-Passed-clause-tells : goal.returns-in-Passed-clause-tells
 returns-in-Passed-clause-tells c = tells_then _ _ _ c.replied.ensures.tells c.emitted.ensures.tells
 
-pub returns-then-matches-2-clause-tells : goal.returns-then-matches-2-clause-tells
-returns-then-matches-2-clause-tells c = tells_then _ _ _ c.complete.ensures.tells c.emitted.ensures.tells
+pub returns-then-matches-clause-tells : goal.returns-then-matches-clause-tells
+returns-then-matches-clause-tells c = tells_then _ _ _ c.complete.ensures.tells c.emitted.ensures.tells
 
 pub returns-in-Passed-clause-works : goal.returns-in-Passed-clause-works
 returns-in-Passed-clause-works c =
@@ -42,26 +39,14 @@ returns-in-Passed-clause-works c =
     ends_then (λ k. passing_at m.tour.stops.items k) [] [] m.posts.items n.posts.items c.replied.new.self.posts.items c.emitted.ensures.works
     (ends_from _ (λ k. passing_at n.tour.stops.items k) [] _ _ (λ k. ap (λ z. passing_at z.stops.items k) c.emitted.ensures.tells.tour) c.replied.ensures.works)
 
-pub returns-then-matches-2-clause-works : goal.returns-then-matches-2-clause-works
-returns-then-matches-2-clause-works c =
+pub returns-then-matches-clause-works : goal.returns-then-matches-clause-works
+returns-then-matches-clause-works c =
     let m = c.args.self.now in
     let n = c.emitted.new.self in
     let l : c.args.place < length n.posts.items = omega (arith, c.requires, m.posts.ok.0, n.posts.ok.0, c.emitted.ensures.posts) in
     ends_then (λ k. passing_at m.tour.stops.items k) [] [] m.posts.items n.posts.items c.complete.new.self.posts.items c.emitted.ensures.works
     (ends_from _ (λ k. passing_at n.tour.stops.items k) [] _ _ (λ k. ap (λ z. passing_at z.stops.items k) c.emitted.ensures.tells.tour)
     (c.complete.ensures.works (not_passed n.posts.items c.args.place c.index.result.now l c.index.ensures (λ k f. (let bad = sym c.in-Mails.is ∙ f in absurd (cc))))))
-
--- what replies to nothing tells nothing
-pub returns-then-matches-clause-gateway : goal.returns-then-matches-clause-gateway
-returns-then-matches-clause-gateway c =
-    let m = c.args.self.now in
-    let w = work_at m.posts.items c.args.place in
-    let is : c.args.what ≡ Heard.Emission = elim c.match-matches.branch [
-      | in-Emission v ↦ v.in-Emission.is
-      | in_default v ↦ absurd (true_false c.match-matches.matches c.if-matches.true v.matches-is)
-    ] in
-    besides_as 1 (heard_room w) [] _ m c.emitted.new.self (heard_least w)
-    (sym (told_none (λ s. heard_by w (Some c.args.what) s) m.tour.stops.items c.args.place (λ s. ap (λ z. heard_by w (Some z) s) is ∙ heard_emission w s))) c.emitted.ensures.gateway
 
 pub returns-in-Passed-clause-gateway : goal.returns-in-Passed-clause-gateway
 returns-in-Passed-clause-gateway c =
@@ -73,18 +58,14 @@ returns-in-Passed-clause-gateway c =
     let l : k < length n.posts.items = omega (arith, c.requires, m.posts.ok.0, n.posts.ok.0, c.emitted.ensures.posts) in
     let is : w ≡ Work.Passed key = ((c.emitted.ensures.works.each k).named key (work_got n.posts.items k c.index.result.now l c.index.ensures ∙ c.in-Passed.is)).0 in
     let room = ap heard_room is in
-    let replies : c.args.what ≡ Heard.Emission → ⊥ = elim c.match-matches.branch [
-      | in-Emission v ↦ absurd (true_false c.match-matches.matches v.matches-is c.if-matches.false)
-      | in_default v ↦ v.in_default.not-Emission
-    ] in
     besides_as 2 (heard_room w) _ _ m c.replied.new.self (omega (arith, room))
     (ap (λ z. told_by (λ s. reply_told key (reply_kept s.side.hand.found)) z.stops.items k) c.emitted.ensures.tells.tour
-    ∙ told_same (λ s. reply_told key (reply_kept s.side.hand.found)) (λ s. heard_by w (Some c.args.what) s) m.tour.stops.items k (λ s. sym (ap (λ z. heard_by z (Some c.args.what) s) is ∙ heard_reply key c.args.what s replies)))
+    ∙ told_same (λ s. reply_told key (reply_kept s.side.hand.found)) (λ s. heard_by w (Some c.args.what) s) m.tour.stops.items k (λ s. sym (ap (λ z. heard_by z (Some c.args.what) s) is)))
     (besides_then 1 1 [] _ m n c.replied.new.self c.emitted.ensures.gateway c.replied.ensures.gateway)
 
 -- another service in hand: it has its answer, or nothing happens
-pub returns-then-matches-2-clause-gateway : goal.returns-then-matches-2-clause-gateway
-returns-then-matches-2-clause-gateway c =
+pub returns-then-matches-clause-gateway : goal.returns-then-matches-clause-gateway
+returns-then-matches-clause-gateway c =
     let m = c.args.self.now in
     let n = c.emitted.new.self in
     let k = c.args.place in
@@ -96,8 +77,8 @@ returns-then-matches-2-clause-gateway c =
     (sym (told_none (λ s. heard_by w (Some c.args.what) s) m.tour.stops.items k (λ s. ap (λ z. heard_by z (Some c.args.what) s) is)))
     (besides_then 1 1 [] [] m n c.complete.new.self c.emitted.ensures.gateway c.complete.ensures.gateway)
 
-pub returns-else-matches-2-clause-gateway : goal.returns-else-matches-2-clause-gateway
-returns-else-matches-2-clause-gateway c =
+pub returns-else-matches-clause-gateway : goal.returns-else-matches-clause-gateway
+returns-else-matches-clause-gateway c =
     let m = c.args.self.now in
     let n = c.emitted.new.self in
     let k = c.args.place in

@@ -3,7 +3,7 @@ use Rattle.master_node.proofs.Tells.{node_refl, node_told}
 use Rattle.master_node.proofs.Servings.{tells_refl, tells_told}
 use Rattle.master_node.proofs.Endings.{ends_told}
 use Rattle.std.proofs.Common.{◌<◌, ◌∷◌, [], ◌∙◌, sym, ap, arith, length}
-use Rattle.master_hand.specs.Brings.{reply_kept}
+use Rattle.master_hand.specs.Replied.{reply_kept}
 use Rattle.master_node.specs.Besides.{reply_told}
 use Rattle.master_node.specs.declared.event.Event.{Event}
 use Rattle.master_node.proofs.Besides.{bare_is, besides_as, besides_none, besides_one, told_here}
@@ -34,7 +34,7 @@ returns-in-Some-clause-gateway c =
     let l : c.args.place < length ss = omega (arith, c.requires, m.paired, m.tour.stops.ok.0) in
     let b = c.bare-mail.ensures in
     besides_as 1 1 _ _ m _ (omega arith)
-    (ap (λ z. Event.GatewayReply c.args.key z ∷ []) (bare_is _ _ b.local.0 b.local.1 b.same.0 b.same.1)
+    (ap (λ z. Event.GatewayReply c.args.key z ∷ []) (bare_is c.in-Some.mail.now _ b.local.0 b.local.1 b.same.0 b.same.1)
     ∙ sym (told_here (λ s. reply_told c.args.key (reply_kept s.side.hand.found)) ss c.args.place c.index.result.now l c.index.ensures ∙ ap (reply_told c.args.key) (sym c.in-Some.ensures)))
     (besides_one m _ _ c.put.ensures.last c.put.ensures.few refl)
 
