@@ -1,8 +1,7 @@
 -- A HAND THAT KNOWS WHICH MAILS ARE LEFT of its service: it takes up each, is over with the last, and goes on so behind a reply that was due.
-use Rattle.std.proofs.Common.{◌≡◌, ◌⊎◌, inl, inr, ◌∷◌, [], ◌++◌, List, Bool, true, false, Option, Some, None, refl, sym, ap, ◌∙◌, subst, append-nil}
+use Rattle.std.proofs.Common.{◌≡◌, ◌⊎◌, inl, inr, ◌∷◌, [], List, Bool, true, false, Option, Some, None, refl, sym, ap, ◌∙◌, subst}
 use Rattle.std.specs.Prelude.{◌&&◌, not, is_some, is_none, if◌then◌else◌}
-use Rattle.foe_client.specs.of_exchange_model.Areas.{Areas}
-use Rattle.foe_client.specs.of_exchange_model.Exchange.{Speech, plain}
+use Rattle.foe_client.specs.of_exchange_model.Exchange.{Speech}
 use Rattle.foe_client.specs.of_exchange_model.Rows.{Row, left}
 use Rattle.mailbox_mail.specs.declared.outcome.Took.{Took}
 use Rattle.master_side.specs.Due.{IsDue, IsReply}

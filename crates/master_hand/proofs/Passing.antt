@@ -22,7 +22,7 @@ done_ends b [] e = ap (λ (z : Bool). if not z then Some None else None) (sym e)
 done_ends b (h ∷ hs) e = ap (λ (z : Bool). if (if z then ends_told is_followed (h ∷ hs) else false) then Some None else None) (sym e)
 
 -- by whether the last reply came
-abbrev by_over : Bool → List Body → Option Reply
+abbrev pub by_over : Bool → List Body → Option Reply
 by_over over hs = if over then at_end hs else passed_ends hs
 
 pub more_took : (p : PassedMail) (b : Body) → p.over ≡ false → is_followed b ≡ true → PassedTook Took.More p b p

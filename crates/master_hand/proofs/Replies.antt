@@ -4,7 +4,7 @@ use Rattle.std.specs.Prelude.{◌&&◌, not, is_some, is_none, if◌then◌else�
 use Rattle.mailbox_mail.specs.declared.outcome.Took.{Took}
 use Rattle.mailbox_mail.specs.declared.mail.MailFault.TheVariants.{Short}
 use Rattle.foe_client.specs.of_exchange_model.Areas.{Areas}
-use Rattle.foe_client.specs.of_exchange_model.Exchange.{Speech}
+use Rattle.foe_client.specs.of_exchange_model.Exchange.{Speech, plain}
 use Rattle.master_side.specs.of_link_mails.Body.{Body}
 use Rattle.master_side.specs.of_master_duty.Reply.{Reply}
 use Rattle.master_side.specs.Passing.{told_as, goes_on}
@@ -16,6 +16,15 @@ use Rattle.master_hand.specs.declared.course.Course.{Course}
 use Rattle.master_hand.specs.declared.clients.Which.{Which}
 use Rattle.master_hand.specs.declared.passed.Content.{Content}
 use Rattle.master_hand.specs.declared.passed.PassedMail.{PassedMail}
+use Rattle.mailbox_mail.specs.declared.mail.Mail.{Mail}
+use Rattle.master_side.specs.declared.hand.Heard.{Heard}
+use Rattle.master_side.specs.Heard.{Brought}
+use Rattle.master_hand.specs.Brings.{as_list}
+use Rattle.master_hand.specs.Passed.{body_of}
+use Rattle.master_hand.specs.Replied.{reply_kept, kept_where, is_reply, Replies, replies_of}
+use Rattle.master_hand.specs.declared.found.Found.{Found}
+use Rattle.master_hand.proofs.Passing.{by_over}
+use Rattle.std.specs.Prelude.{option_map}
 use Rattle.master_hand.proofs.Hands.{none_ends}
 
 both_left : (a b : Bool) → a && b ≡ true → a ≡ true
@@ -107,3 +116,57 @@ took_awaits Took.Foreign left course which old new b a t g = absurd (cc)
 -- what is heard, by the slave's speech
 pub emission_tells : (x : Speech Body Asked Reply) (areas : Areas) (b : Body) (e more : Bool) → x ≡ hand_speech areas → e ≡ emission b → told_as e more ≡ told_as (x.emission b) more
 emission_tells x areas b e more s k = ap (λ z. told_as z more) (k ∙ ap (λ (y : Speech Body Asked Reply). y.emission b) (sym s))
+
+-- A MAIL THAT IS PASSED ON, behind whose last reply none belongs to it: no further mail is taken then
+ends_once : (p : PassedMail) (over : Bool) → p.over ≡ over → ((hs : List Body) → passed_awaits p hs ≡ None) → ⊥
+ends_once p true o n = let is : Some None ≡ None = sym (ap (λ z. by_over z []) o) ∙ n [] in cc
+ends_once p false o n = let last : List Body = Err Short ∷ [] in let is : Some None ≡ None = sym (ap (λ z. by_over z last) o) ∙ n last in cc
+
+told_foreign : (followed : Bool) → Heard.Foreign ≡ told_as false followed → ⊥
+told_foreign true e = cc
+told_foreign false e = cc
+
+took_replied : (took : Took) (old new : Talking) (b : Body) (over : Bool) → old.passed.over ≡ over → ClientTook took Which.Passed old b new → is_reply Which.Passed took ≡ is_none (by_over over [])
+took_replied Took.More old new b false o t = refl
+took_replied Took.More old new b true o t = absurd (ends_once new.passed new.passed.over refl (λ hs. t.0.replies hs ∙ ap (λ z. by_over z (b ∷ hs)) o))
+took_replied Took.Done old new b false o t = refl
+took_replied Took.Done old new b true o t = absurd (let bad : false ≡ true = sym (ap (λ (r : Option Reply). is_some r) (t.0.replies [] ∙ ap (λ z. by_over z (b ∷ [])) o)) ∙ t.1 in cc)
+took_replied Took.Foreign old new b true o t = refl
+took_replied Took.Foreign old new b false o t = absurd (told_foreign (is_followed b) (took_passed Took.Foreign old new b (is_followed b) refl (ap (λ z. is_none (by_over z [])) o) t))
+
+-- what is taken is a reply of a mail that is passed on just where one was awaited
+pub took_replies : (took : Took) (course : Course) (which : Which) (old new : Talking) (b : Body) → is_awaiting course ≡ true → ClientTook took which old b new → is_reply which took ≡ awaits_reply course which old
+took_replies took course which old new b w t = by which t ∙ sym (ap (λ z. z && (is_mail which && is_none (client_awaits which old []))) w)
+  where
+    by : (k : Which) → ClientTook took k old b new → is_reply k took ≡ is_mail k && is_none (client_awaits k old [])
+    by Which.Coe t = refl
+    by Which.ReadFile t = refl
+    by Which.WriteFile t = refl
+    by Which.Soe t = refl
+    by Which.Address t = refl
+    by Which.Packet t = refl
+    by Which.Passed t = took_replied took old new b old.passed.over refl t
+
+-- what is kept of a mail that was heard: none of an emission, and none where no reply was awaited
+pub emission_kept : (f : Found) (awaited : Bool) (b : Body) → emission b ≡ true → reply_kept f ≡ None → Replies f awaited b
+emission_kept f true b e n = ap (option_map body_of) n ∙ ap (λ z. kept_where (not z) b) (sym e)
+emission_kept f false b e n = ap (option_map body_of) n
+
+pub unawaited_kept : (f : Found) (course : Course) (which : Which) (c : Talking) (b : Body) → is_awaiting course ≡ false → reply_kept f ≡ None → Replies f (awaits_reply course which c) b
+unawaited_kept f course which c b w n =
+    ap (option_map body_of) n ∙ sym (ap (λ z. kept_where ((z && (is_mail which && is_none (client_awaits which c []))) && not (emission b)) b) w)
+
+pub reply_is_kept : (f : Found) (awaited : Bool) (m : Mail) → emission (body_of m) ≡ false → reply_kept f ≡ kept_where awaited m → Replies f awaited (body_of m)
+reply_is_kept f true m e k = ap (option_map body_of) k ∙ ap (λ z. kept_where (not z) (body_of m)) (sym e)
+reply_is_kept f false m e k = ap (option_map body_of) k
+
+-- WHAT IS HANDED ON OF A FRAME: its mails but for emissions where a reply of a mail that is passed on was awaited, and else none
+pub replies_are : (f : Found) (awaited : Bool) (heard : Option Heard) (ms : List Body) → Brought (Replies f awaited) heard ms → replies_of heard f ≡ (if awaited then plain emission ms else [])
+replies_are f true None ms e = sym (ap (plain emission) e)
+replies_are f false None ms e = refl
+replies_are f true (Some what) ms (b, e, k) = ap as_list k ∙ by (emission b) ∙ sym (ap (plain emission) e)
+  where
+    by : (z : Bool) → as_list (kept_where (true && not z) b) ≡ (if not z then b ∷ [] else [])
+    by true = refl
+    by false = refl
+replies_are f false (Some what) ms (b, e, k) = ap as_list k

@@ -8,6 +8,7 @@ ghost use Rattle.master_hand.specs.Passed.{body_of};
 ghost use Rattle.eoe.specs.Message.{eoe_read};
 ghost use Rattle.eoe_client.specs.of_eoe_model.Octets.{heard};
 ghost use Rattle.master_hand.specs.Brings.{emergency_of, emergency_kept, Brings};
+ghost use Rattle.master_hand.specs.Replied.{reply_kept, is_reply, KeepsReply};
 ghost use Rattle.master_hand.specs.Joins.{fragment_of, unfinished_by, completed_by, unfinished_behind, packet_kept, Completes};
 
 use crate::clients::Which;
@@ -58,7 +59,8 @@ fn empty_mail() -> Mail {
 impl Found {
     /// No mail was heard yet.
     pub fn new() -> Found
-        ensures { result.join ≡ None }
+        ensures join { result.join ≡ None }
+        ensures reply { reply_kept result ≡ None }
     {
         Found {
             brought: Brought::Nothing,
@@ -71,7 +73,8 @@ impl Found {
 
     /// A slave is opened anew: its unfinished packet is forgotten.
     pub fn renew(&mut self)
-        ensures { self.new.join ≡ None }
+        ensures join { self.new.join ≡ None }
+        ensures reply { reply_kept self.new ≡ None }
     {
         self.brought = Brought::Nothing;
         self.join = Reassembler::new();
@@ -84,6 +87,7 @@ impl Found {
         ensures brings { emergency_kept self.old ≡ None → emergency_kept self.new ≡ emergency_of (sdo_mail (coe_seen message.entry)) }
         ensures join { self.new.join ≡ self.old.join }
         ensures packet { packet_kept self.old ≡ None → packet_kept self.new ≡ None }
+        ensures reply { reply_kept self.old ≡ None → reply_kept self.new ≡ None }
     {
         match message {
             CoeView::Emergency { octets } => {
@@ -102,6 +106,7 @@ impl Found {
         ensures brings { emergency_kept self.old ≡ None → emergency_kept self.new ≡ emergency_of (body_heard body.now) }
         ensures join { self.new.join ≡ self.old.join }
         ensures packet { packet_kept self.old ≡ None → packet_kept self.new ≡ None }
+        ensures reply { reply_kept self.old ≡ None → reply_kept self.new ≡ None }
     {
         match coe_codec::view(body) {
             Ok(message) => self.hear_message(message),
@@ -115,6 +120,7 @@ impl Found {
         ensures brings { emergency_kept self.old ≡ None → emergency_kept self.new ≡ None }
         ensures joins { self.new.join ≡ unfinished_by self.old.join (fragment_of (heard body.now (eoe_read body.now))) }
         ensures completes { packet_kept self.old ≡ None → packet_kept self.new ≡ completed_by self.old.join (fragment_of (heard body.now (eoe_read body.now))) }
+        ensures reply { reply_kept self.old ≡ None → reply_kept self.new ≡ None }
     {
         if let Ok(EoeView::Fragment(fragment)) = eoe::view(body) {
             if self.join.take_into(fragment, &mut self.packet) == Came::Whole {
@@ -131,6 +137,7 @@ impl Found {
         ensures joins { self.new.join ≡ unfinished_by self.old.join (fragment_of (heard body.now (eoe_read body.now))) }
         ensures completes { packet_kept self.old ≡ None → packet_kept self.new ≡ completed_by self.old.join (fragment_of (heard body.now (eoe_read body.now))) }
         ensures none { result ≡ false → packet_kept self.old ≡ None → packet_kept self.new ≡ None }
+        ensures reply { reply_kept self.old ≡ None → reply_kept self.new ≡ None }
     {
         if !is_fragment(body) {
             return false;
@@ -147,6 +154,7 @@ impl Found {
         ensures joins { self.new.join ≡ unfinished_behind self.old.join (body_of (mail_seen mail.now)) }
         ensures completes { Completes self.new self.old.join (body_of (mail_seen mail.now)) }
         ensures none { result ≡ false → packet_kept self.new ≡ None }
+        ensures reply { reply_kept self.new ≡ None }
     {
         self.brought = Brought::Nothing;
         match mail.kind {
@@ -162,6 +170,7 @@ impl Found {
         ensures brings { emergency_kept self.old ≡ None → emergency_kept self.new ≡ None }
         ensures join { self.new.join ≡ self.old.join }
         ensures packet { packet_kept self.old ≡ None → packet_kept self.new ≡ None }
+        ensures reply { KeepsReply self.old self.new (is_reply which took) self.old.mail }
     {
         if which == Which::Passed && took != Took::Foreign {
             self.brought = Brought::Reply;
@@ -175,6 +184,7 @@ impl Found {
         ensures brings { emergency_kept self.new ≡ emergency_kept self.old }
         ensures join { self.new.join ≡ self.old.join }
         ensures packet { packet_kept self.new ≡ packet_kept self.old }
+        ensures reply { reply_kept self.old ≡ None → reply_kept self.new ≡ None }
     {
         self.mail.address = mail.address;
         self.mail.kind = mail.kind;

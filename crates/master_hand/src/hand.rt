@@ -31,21 +31,19 @@ pub struct InHand {
 }
 
 impl InHand {
-    ghost use Rattle.std.specs.Prelude.{◌≡◌, ◌≤◌, ℕ, List, [], ◌∷◌, true, false, length, IfOk, Option, Some, None, Ok, option_map, All, if◌then◌else◌, ◌&&◌, not};
+    ghost use Rattle.std.specs.Prelude.{◌≡◌, ◌≤◌, [], true, false, length, IfOk, None, All, if◌then◌else◌, ◌&&◌, not};
     ghost use Rattle.mailbox_mail.specs.View.{mail_seen};
-    ghost use Rattle.foe_client.specs.of_exchange_model.Rows.{Row, row_heard};
-    ghost use Rattle.master_side.specs.of_link_mails.Body.{Body};
     ghost use Rattle.segment_plan.specs.Sound.{IsService};
-    ghost use Rattle.master_side.specs.of_master_duty.Reply.{Reply};
     ghost use Rattle.master_side.specs.Passing.{told_as, goes_on};
-    ghost use Rattle.master_hand.specs.Spoken.{Asked, emission, is_followed, hand_speech};
+    ghost use Rattle.master_hand.specs.Spoken.{is_followed, hand_speech};
     ghost use Rattle.master_hand.specs.Passed.{body_of};
     ghost use Rattle.master_hand.specs.Talk.{client_later, is_handed};
     ghost use Rattle.master_hand.specs.Over.{is_sent_by};
     ghost use Rattle.master_hand.specs.Brings.{emergency_kept};
     ghost use Rattle.master_hand.specs.Joins.{packet_kept};
-    ghost use Rattle.master_side.specs.Due.{IsDue};
-    ghost use Rattle.master_hand.specs.Shown.{Shows, HandShows, awaits_reply, is_awaiting, knows};
+    ghost use Rattle.master_hand.specs.Replied.{KeepsReply};
+    ghost use Rattle.master_hand.specs.Shown.{Shows, is_awaiting};
+    ghost use Rattle.master_hand.specs.Hears.{awaits_in, HearsReply, KnowsReply};
     ghost use Rattle.master_hand.specs.declared.course.Course.{Course};
     ghost use Rattle.master_hand.specs.declared.laying.Laid.{Laid};
 
@@ -94,17 +92,16 @@ impl InHand {
     fn hear_reply(&mut self, mail: &MailView) -> Heard
         requires awaits { is_awaiting self.old.course ≡ true }
         requires short { length mail.now.body.now ≤ 1480 }
-        ensures shown { (frame : ℕ) (now : Option (Row Body Asked Reply)) → emission (body_of (mail_seen mail.now)) ≡ false → HandShows self.old.course self.old.which self.old.clients now →
-            HandShows self.new.course self.new.which self.new.clients (option_map (λ r. row_heard (hand_speech self.old.clients.areas) frame (body_of (mail_seen mail.now) ∷ []) r) now) }
+        ensures shown { HearsReply self.old self.new (body_of (mail_seen mail.now)) }
         ensures areas { self.new.clients.areas ≡ self.old.clients.areas }
         ensures laying { self.new.laying ≡ self.old.laying }
-        ensures tells { awaits_reply self.old.course self.old.which self.old.clients ≡ true → result ≡ told_as false (is_followed (body_of (mail_seen mail.now))) }
-        ensures awaits { awaits_reply self.old.course self.old.which self.old.clients ≡ true → goes_on result ≡ true → awaits_reply self.new.course self.new.which self.new.clients ≡ true }
+        ensures tells { awaits_in self.old ≡ true → result ≡ told_as false (is_followed (body_of (mail_seen mail.now))) }
+        ensures awaits { awaits_in self.old ≡ true → goes_on result ≡ true → awaits_in self.new ≡ true }
         ensures found { emergency_kept self.old.found ≡ None → emergency_kept self.new.found ≡ None }
         ensures join { self.new.found.join ≡ self.old.found.join }
-        ensures knows { (now : Option (Row Body Asked Reply)) → emission (body_of (mail_seen mail.now)) ≡ false → HandShows self.old.course self.old.which self.old.clients now → knows self.old.course ≡ true →
-            IsDue (hand_speech self.old.clients.areas) now (body_of (mail_seen mail.now)) → knows self.new.course ≡ true }
+        ensures knows { KnowsReply self.old self.new (body_of (mail_seen mail.now)) }
         ensures packet { packet_kept self.old.found ≡ None → packet_kept self.new.found ≡ None }
+        ensures reply { KeepsReply self.old.found self.new.found (awaits_in self.old) (mail_seen mail.now) }
     {
         let left = self.is_left();
         self.found.keep(mail);
@@ -165,6 +162,7 @@ impl Hand for InHand {
     ghost use Rattle.eoe.specs.declared.joining.Unfinished.{Unfinished};
     ghost use Rattle.master_hand.specs.Brings.{Brings};
     ghost use Rattle.master_hand.specs.Joins.{unfinished_behind, Completes};
+    ghost use Rattle.master_hand.specs.Replied.{Replies};
     ghost use Rattle.master_hand.specs.Shown.{Shows, is_passing, awaits_reply, knows};
     ghost use Rattle.master_hand.specs.Quiet.{quiet_shown};
     ghost use Rattle.master_hand.specs.Over.{over_by, done_by};
@@ -202,6 +200,8 @@ impl Hand for InHand {
     ghost done = { λ h idle. done_by h.course h.which idle };
 
     ghost brings = { λ h b. Brings h.found b };
+
+    ghost replied = { λ h awaited b. Replies h.found awaited b };
 
     ghost Join = { Option Unfinished };
 

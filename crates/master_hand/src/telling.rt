@@ -1,15 +1,11 @@
-ghost use Rattle.std.specs.Prelude.{◌≡◌, ◌≤◌, ◌<◌, ◌+◌, ◌++◌, ℕ, suc, [], length, slice_get, IfSome, Option, None, Some, option_map, true, OnOk, OnErr};
+ghost use Rattle.std.specs.Prelude.{◌≡◌, ◌≤◌, ◌<◌, ◌+◌, ◌++◌, suc, [], length, slice_get, IfSome, None, Some, option_map, true, OnOk, OnErr};
 ghost use Rattle.std.specs.Option.{option_copied};
 ghost use Rattle.master_hand.specs.Talk.{client_awaits, value_of, is_mail};
-ghost use Rattle.foe_client.specs.of_exchange_model.Exchange.{Speech};
-ghost use Rattle.foe_client.specs.of_exchange_model.Rows.{Row};
-ghost use Rattle.master_side.specs.of_link_mails.Body.{Body};
-ghost use Rattle.master_side.specs.of_master_duty.Reply.{Reply};
-ghost use Rattle.master_hand.specs.Spoken.{Asked};
 ghost use Rattle.master_hand.specs.Brings.{emergency_kept};
-ghost use Rattle.master_hand.specs.Replied.{reply_kept};
 ghost use Rattle.master_hand.specs.Joins.{packet_kept};
-ghost use Rattle.master_hand.specs.Shown.{Shows, SameHand, has_reply};
+ghost use Rattle.master_hand.specs.Replied.{reply_kept};
+ghost use Rattle.master_hand.specs.Shown.{SameHand, has_reply};
+ghost use Rattle.master_hand.specs.Hears.{AnswersSo};
 ghost use Rattle.master_hand.specs.declared.laying.Laid.{Laid};
 
 use crate::clients::Which;
@@ -90,8 +86,7 @@ impl InHand {
     /// The kind of the reply of the newest service, once its last mail was accepted; packets and mails that are passed on have none.
     pub fn answer(&self) -> Option<ReplyKind>
         ensures reply { IfSome result (λ kind. client_awaits self.now.which self.now.clients [] ≡ Some (Some (kind, value_of self.now.which self.now.clients))) }
-        ensures told { IfSome result (λ kind. (x : Speech Body Asked Reply) (now : Option (Row Body Asked Reply)) (row : Row Body Asked Reply) (a : Reply × ℕ) → Shows self.now.course self.now.which self.now.clients x now → now ≡ Some row → row.answer ≡ Some a →
-            a.0 ≡ Some (kind, value_of self.now.which self.now.clients)) }
+        ensures told { IfSome result (λ kind. AnswersSo self.now kind) }
         ensures none { result ≡ None → has_reply self.now.course ≡ true → is_mail self.now.which ≡ true }
     {
         if !self.is_answered() {
@@ -133,7 +128,7 @@ impl InHand {
 
     /// The mail heard last, where it is a reply of a mail that is passed on.
     pub fn replied(&self) -> Option<&Mail>
-        ensures { option_map (λ mail. mail.now) result ≡ reply_kept self.now.found }
+        ensures { option_copied result ≡ reply_kept self.now.found }
     {
         match self.found.brought {
             Brought::Reply => Some(&self.found.mail),

@@ -49,6 +49,11 @@ module _ {H : Type 0} {G : Ghosts H} where
   BackBrings s t counter octets = s.heard ≡ None → (x : SpeechOf G.Asked) (b : Datagram Body) (d : HalfOf G.Asked) (a : AccountOf G.Asked) → ShowsOf s x d a →
       IsOwn s d a b → IsBack counter octets b → Brought (G.brings t.hand) t.heard (takes_of s d b)
 
+  -- and keeps it to be handed on, where a reply of a mail that is passed on was awaited
+  abbrev pub BackReplies : Side H G → Side H G → ℕ → List ℕ → Type 0
+  BackReplies s t counter octets = s.heard ≡ None → (x : SpeechOf G.Asked) (b : Datagram Body) (d : HalfOf G.Asked) (a : AccountOf G.Asked) → ShowsOf s x d a →
+      IsOwn s d a b → IsBack counter octets b → Brought (G.replied t.hand (G.awaits s.hand)) t.heard (takes_of s d b)
+
   -- and what it joined
   abbrev pub BackJoins : Side H G → Side H G → ℕ → List ℕ → Type 0
   BackJoins s t counter octets = s.heard ≡ None → (x : SpeechOf G.Asked) (b : Datagram Body) (d : HalfOf G.Asked) (a : AccountOf G.Asked) → ShowsOf s x d a →
@@ -96,6 +101,10 @@ module _ {H : Type 0} {G : Ghosts H} where
   abbrev pub HearsPassing : Side H G → Side H G → Option MailView → Type 0
   HearsPassing s t mail = (x : SpeechOf G.Asked) (p : Option Ends.Passing) (now : RowOf G.Asked) → G.shows s.hand x now → PassingOf s p →
       PassingOf t (passes x G.acknowledged G.more G.passed p (map (λ m. News.Heard m) (heard_of mail)))
+
+  -- the hand keeps it to be handed on, where a reply of a mail that is passed on was awaited
+  abbrev pub HearsReplied : Side H G → Side H G → Option MailView → Type 0
+  HearsReplied s t mail = s.heard ≡ None → Brought (G.replied t.hand (G.awaits s.hand)) t.heard (heard_of mail)
 
   -- the hand tells what it joined
   abbrev pub HearsJoined : Side H G → Side H G → Option MailView → Type 0

@@ -73,6 +73,9 @@ pub trait Hand {
     // What the mail that was heard last brought beside a reply of the service in hand.
     ghost brings: { Self → Body → Type 0 };
 
+    // What is kept of that mail to be handed on, by whether a reply of a mail that is passed on was awaited before it.
+    ghost replied: { Self → Bool → Body → Type 0 };
+
     // What of a packet is under way: in a hand, before all mails, and behind a mail.
     ghost Join: { Type 0 };
 
@@ -126,6 +129,7 @@ pub trait Hand {
         ensures awaits { awaits self.old ≡ true → goes_on result ≡ true → awaits self.new ≡ true }
         ensures knows { (x : Speech Body Asked Reply) (now : Option (Row Body Asked Reply)) → shows self.old x now → knows self.old ≡ true → IsDue x now (Ok (uncounted (mail_seen mail.now))) → knows self.new ≡ true }
         ensures brings { brings self.new (Ok (uncounted (mail_seen mail.now))) }
+        ensures replied { replied self.new (awaits self.old) (Ok (uncounted (mail_seen mail.now))) }
         ensures join { join self.new ≡ joined (join self.old) (Ok (uncounted (mail_seen mail.now))) }
         ensures completed { completed self.new (join self.old) (Ok (uncounted (mail_seen mail.now))) }
         ensures script { script self.new ≡ script self.old }

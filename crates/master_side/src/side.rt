@@ -76,7 +76,7 @@ impl<H: Hand> Side<H> {
     ghost use Rattle.master_side.specs.First.{SendsFirst};
     ghost use Rattle.master_side.specs.Shown.{new_side, wish_begun, takes_ready};
     ghost use Rattle.master_side.specs.Sides.{ShowsOf, ShowsNew, PassingOf, LinkStays, recall_in, HoldsNext, LeavesNone, FreeSays, FreeWhere, NoneMissed, BeginsIn, MailsBegin, StateBegins, PicksIn, PassesIn, StaysPlain};
-    ghost use Rattle.master_side.specs.Returns.{BackShows, BackPasses, BackBrings, BackJoins, BackKnows, ReadsOn, ReadsAlone, LostShows, LostPasses, LostRecalls, LostWrite, HearsShown, HearsPassing, HearsJoined, HearsKnown};
+    ghost use Rattle.master_side.specs.Returns.{BackShows, BackPasses, BackBrings, BackReplies, BackJoins, BackKnows, ReadsOn, ReadsAlone, LostShows, LostPasses, LostRecalls, LostWrite, HearsShown, HearsPassing, HearsReplied, HearsJoined, HearsKnown};
     ghost use Rattle.master_side.specs.declared.carried.Carried.{Carried};
     ghost use Rattle.master_side.specs.declared.carried.Wish.{Wish};
 
@@ -323,6 +323,7 @@ impl<H: Hand> Side<H> {
         ensures passing { (octets : List ℕ) (counts : Bool) → BackPasses self.old self.new counter octets counts }
         ensures read { (self.new.read_at ≡ self.old.read_at) × (self.new.pace ≡ self.old.pace) }
         ensures brought { (octets : List ℕ) → BackBrings self.old self.new counter octets }
+        ensures replied { (octets : List ℕ) → BackReplies self.old self.new counter octets }
         ensures joined { (octets : List ℕ) → BackJoins self.old self.new counter octets }
         ensures knows { H.knows self.new.hand ≡ H.knows self.old.hand }
     {
@@ -345,6 +346,7 @@ impl<H: Hand> Side<H> {
         ensures passing { HearsPassing self.old self.new mail.entry }
         ensures read { (self.new.read_at ≡ self.old.read_at) × (self.new.pace ≡ self.old.pace) }
         ensures brought { self.old.heard ≡ None → Brought (H.brings self.new.hand) self.new.heard (heard_of mail.entry) }
+        ensures replied { HearsReplied self.old self.new mail.entry }
         ensures joined { HearsJoined self.old self.new mail.entry }
         ensures knows { HearsKnown self.old self.new mail.entry }
     {
@@ -395,6 +397,7 @@ impl<H: Hand> Side<H> {
         ensures passing { BackPasses self.old self.new counter octets.now (counts_at self.old.read_at self.old.pace made) }
         ensures read { ReadsOn self.old self.new counter made }
         ensures brought { BackBrings self.old self.new counter octets.now }
+        ensures replied { BackReplies self.old self.new counter octets.now }
         ensures joined { BackJoins self.old self.new counter octets.now }
         ensures knows { BackKnows self.old self.new counter octets.now }
     {
@@ -420,6 +423,7 @@ impl<H: Hand> Side<H> {
         ensures passing { (counts : Bool) → BackPasses self.old self.new counter octets.now counts }
         ensures read { (self.new.read_at ≡ self.old.read_at) × (self.new.pace ≡ self.old.pace) }
         ensures brought { BackBrings self.old self.new counter octets.now }
+        ensures replied { BackReplies self.old self.new counter octets.now }
         ensures joined { BackJoins self.old self.new counter octets.now }
         ensures knows { H.knows self.new.hand ≡ H.knows self.old.hand }
     {
@@ -446,6 +450,7 @@ impl<H: Hand> Side<H> {
         ensures passing { BackPasses self.old self.new counter octets.now (counts_at self.old.read_at self.old.pace made) }
         ensures read { ReadsOn self.old self.new counter made }
         ensures brought { BackBrings self.old self.new counter octets.now }
+        ensures replied { BackReplies self.old self.new counter octets.now }
         ensures joined { BackJoins self.old self.new counter octets.now }
         ensures knows { BackKnows self.old self.new counter octets.now }
     {

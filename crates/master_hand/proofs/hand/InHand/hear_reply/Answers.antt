@@ -1,4 +1,4 @@
-use Rattle.std.proofs.Common.{◌≡◌, true, [], ◌∷◌, sym, subst}
+use Rattle.std.proofs.Common.{[], ◌∷◌, sym, subst}
 use Rattle.std.specs.Prelude.{option_map}
 use Rattle.foe_client.specs.of_exchange_model.Rows.{row_heard}
 use Rattle.mailbox_mail.specs.declared.mail.Mail.{Mail}
@@ -14,7 +14,8 @@ use Rattle.master_side.specs.declared.hand.Heard.{Heard}
 use Rattle.master_side.specs.Passing.{goes_on}
 use Rattle.master_hand.specs.Shown.{awaits_reply, knows}
 use Rattle.master_hand.proofs.Knowing.{due_knows}
-use Rattle.master_hand.proofs.Replies.{took_tells, took_awaits}
+use Rattle.master_hand.specs.Replied.{kept_where}
+use Rattle.master_hand.proofs.Replies.{took_tells, took_awaits, took_replies}
 use Rattle.master_hand.proofs.hand.InHand.hear_reply.Goals as goal
 
 pub returns-clause-shown : goal.returns-clause-shown
@@ -50,3 +51,12 @@ returns-clause-knows c = λ now e h k d.
     let b = body_of (mail_seen c.args.mail.now) in
     let took = subst (λ (m : Mail). ClientTook c.take-took.result old.which old.clients (body_of m) new) c.keep.ensures.mail c.take-took.ensures.took in
     ap (λ z. knows z) c.course_behind-self.ensures ∙ due_knows c.is_left-left.result c.take-took.result old.course old.which old.clients new b now c.is_left-left.ensures.all c.requires.awaits k e h d took
+
+pub returns-clause-reply : goal.returns-clause-reply
+returns-clause-reply c = λ n.
+    let old = c.args.self.now in
+    let new = c.take-took.new.self in
+    let b = body_of (mail_seen c.args.mail.now) in
+    let took = subst (λ (m : Mail). ClientTook c.take-took.result old.which old.clients (body_of m) new) c.keep.ensures.mail c.take-took.ensures.took in
+    c.reply.ensures.reply (c.keep.ensures.reply n)
+    ∙ (λ i. kept_where (took_replies c.take-took.result old.course old.which old.clients new b c.requires.awaits took i) (c.keep.ensures.mail i))

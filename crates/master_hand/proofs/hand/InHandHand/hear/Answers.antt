@@ -1,4 +1,4 @@
-use Rattle.std.proofs.Common.{◌≡◌, sym, ◌∙◌, ap, subst}
+use Rattle.std.proofs.Common.{sym, ◌∙◌, ap, subst}
 use Rattle.master_side.specs.Due.{IsDue}
 use Rattle.master_side.specs.of_link_mails.Body.{Body}
 use Rattle.foe_client.specs.of_exchange_model.Exchange.{Speech}
@@ -10,7 +10,8 @@ use Rattle.master_hand.specs.Passed.{body_of}
 use Rattle.master_hand.proofs.Hands.{emission_shown, heard_shown}
 use Rattle.master_hand.specs.Spoken.{is_followed}
 use Rattle.std.proofs.Common.{true, false}
-use Rattle.master_hand.proofs.Replies.{emission_tells}
+use Rattle.master_hand.specs.Shown.{awaits_reply, is_awaiting}
+use Rattle.master_hand.proofs.Replies.{emission_tells, emission_kept, unawaited_kept, reply_is_kept}
 use Rattle.master_hand.proofs.hand.InHandHand.hear.Goals as goal
 
 pub returns-then-hear-clause-shown : goal.returns-then-hear-clause-shown
@@ -41,3 +42,18 @@ pub returns-in-Answered-clause-knows : goal.returns-in-Answered-clause-knows
 returns-in-Answered-clause-knows c = λ x now h k d.
     let b = body_of (mail_seen c.args.mail.now) in
     absurd (due_answered c.args.self.now.course c.args.self.now.which c.args.self.now.clients b x now c.in-Answered.is (ap (λ (y : Speech Body Asked Reply). y.emission b) h.0 ∙ sym c.hear.ensures.emits ∙ c.if-hear.false) h d)
+
+pub returns-then-hear-clause-replied : goal.returns-then-hear-clause-replied
+returns-then-hear-clause-replied c =
+    let old = c.args.self.now in
+    emission_kept c.hear.new.self (awaits_reply old.course old.which old.clients) (body_of (mail_seen c.args.mail.now)) (sym c.hear.ensures.emits ∙ c.if-hear.true) c.hear.ensures.reply
+
+pub returns-in-Goes-clause-replied : goal.returns-in-Goes-clause-replied
+returns-in-Goes-clause-replied c =
+    let old = c.args.self.now in
+    reply_is_kept c.hear_reply.new.self.found (awaits_reply old.course old.which old.clients) (mail_seen c.args.mail.now) (sym c.hear.ensures.emits ∙ c.if-hear.false) (c.hear_reply.ensures.reply c.hear.ensures.reply)
+
+pub returns-in-Answered-clause-replied : goal.returns-in-Answered-clause-replied
+returns-in-Answered-clause-replied c =
+    let old = c.args.self.now in
+    unawaited_kept c.hear.new.self old.course old.which old.clients (body_of (mail_seen c.args.mail.now)) (ap (λ z. is_awaiting z) c.in-Answered.is) c.hear.ensures.reply

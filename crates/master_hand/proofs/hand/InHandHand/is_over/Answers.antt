@@ -1,4 +1,3 @@
-use Rattle.std.proofs.Common.{◌≡◌}
 use Rattle.master_hand.proofs.Knowing.{goes_over, answered_over}
 use Rattle.master_hand.proofs.hand.InHandHand.is_over.Goals as goal
 

@@ -1,6 +1,6 @@
-use Rattle.std.proofs.Common.{◌≡◌, [], sym, subst, ap, ◌∙◌}
+use Rattle.std.proofs.Common.{[], ap, ◌∙◌}
 use Rattle.std.proofs.lemmas.Bool.{OnFalse_at}
-use Rattle.master_hand.specs.Talk.{IsSent, client_later}
+use Rattle.master_hand.specs.Talk.{client_later}
 use Rattle.master_hand.proofs.Knowing.{rest_other, rest_shown, unsent}
 use Rattle.master_hand.proofs.Hands.{told_shown}
 use Rattle.master_hand.proofs.Replies.{sent_awaits}

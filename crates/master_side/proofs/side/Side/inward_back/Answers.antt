@@ -46,6 +46,16 @@ returns-clause-brought g c = λ n x b d a s w i.
     (subst (λ (k : Carried). Meant args.station k d.halves (duty_access a.hand) b) c.requires w) i in
     subst (λ (ms : List Body). Brought (g.H.Hand.brings new.hand) new.heard ms) (ap heard_of c.view_in.ensures ∙ sym accepts) (c.hear.ensures.brought (c.read_done.ensures.kept.5 ∙ n))
 
+pub returns-clause-replied : goal.returns-clause-replied
+returns-clause-replied g c = λ n x b d a s w i.
+    let args = c.args.self.now in
+    let new = c.hear.new.self in
+    let accepts = inward_accepts x (g.H.Hand.shows args.hand x) args.out args.inn args.fresh args.duty d a args.station b c.args.counter c.args.octets.now c.returned-got.result c.returned-got.ensures.got s
+    (subst (λ (k : Carried). Meant args.station k d.halves (duty_access a.hand) b) c.requires w) i in
+    subst (λ (ms : List Body). Brought (g.H.Hand.replied new.hand (g.H.Hand.awaits args.hand)) new.heard ms) (ap heard_of c.view_in.ensures ∙ sym accepts)
+    (subst (λ z. Brought (g.H.Hand.replied new.hand (g.H.Hand.awaits z)) new.heard (heard_of c.view_in.result)) c.read_done.ensures.kept.4
+    (c.hear.ensures.replied (c.read_done.ensures.kept.5 ∙ n)))
+
 pub returns-clause-joined : goal.returns-clause-joined
 returns-clause-joined g c = λ n x b d a s w i.
     let args = c.args.self.now in
