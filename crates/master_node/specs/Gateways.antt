@@ -45,3 +45,7 @@ lives_told back (v ∷ vs) (w ∷ ws) (suc k) = lives_told back vs ws k
 -- JUST THESE ARE TOLD to who asked, of the slaves that the frame carried, in the order of its visits, where the list has room for all events
 abbrev pub TellsGateway : (ℕ → List Event) → MasterNode → MasterNode → Type 0
 TellsGateway tells m n = m.list.before ≤ 16 → filter is_gateway (events_in n) ≡ told_in tells m.tour.visit.items
+
+-- and a lost frame tells nothing to who asked
+abbrev pub TellsNone : MasterNode → MasterNode → Type 0
+TellsNone m n = m.list.before ≤ 16 → filter is_gateway (events_in n) ≡ []

@@ -42,6 +42,7 @@ impl MasterNode {
     ghost use Rattle.master_node.specs.Dropped.{Drops, gave_at};
     ghost use Rattle.master_node.specs.Besides.{TellsBesides, TellsHeard, TellsOver, gateway_at, over_told, reply_told, told_by, turned_room};
     ghost use Rattle.master_node.specs.Listing.{told_in};
+    ghost use Rattle.master_node.specs.Gateways.{TellsGateway, TellsNone, lives_told};
     ghost use Rattle.master_hand.specs.Replied.{reply_kept};
     ghost use Rattle.master_tour.specs.Orders.{AreOnce};
     ghost use Rattle.std.specs.Prelude.{Some};
@@ -318,7 +319,7 @@ impl MasterNode {
         }
     }
 
-    /// The frame that `next` made came back.
+    /// The frame that `next` made came back. Of a mail that is passed on just its replies are told, under the key of its asker, and that no more follows.
     pub fn returned(&mut self, frame: &FrameBuf)
         ensures posts { vec_len self.new.posts ≡ vec_len self.old.posts }
         ensures leads { (lens : ℕ → Lens) (recover retry missed number : ℕ) (octets : List ℕ) (us : List Turn) (f : Exchanged) → f.fate ≡ Fate.Pass → f.back ≡ frame.now.items → MasterUnder lens recover retry self.old octets missed us → Returns (seen lens octets) (seen lens frame.now.items) →
@@ -336,6 +337,8 @@ impl MasterNode {
         ensures counts { (k : ℕ) → forwards_at self.new.posts.items k ≡ forwards_at self.old.posts.items k }
         ensures recalls { (lens : ℕ → Lens) (recover retry missed : ℕ) (octets : List ℕ) (us : List Turn) → MasterUnder lens recover retry self.old octets missed us → Returns (seen lens octets) (seen lens frame.now.items) →
             AllVisit (seen lens octets) (recalls self.old) us → AllRecall lens (seen lens frame.now.items) us (recalls self.old) (recalls self.new) }
+        ensures gateway { (lens : ℕ → Lens) (recover retry missed made : ℕ) (octets : List ℕ) (vs : List ServedTurn) (f : Exchanged) → f.fate ≡ Fate.Pass → f.back ≡ frame.now.items → ServedUnder lens recover retry self.old octets missed made vs → Returns (seen lens octets) (seen lens frame.now.items) →
+            TellsGateway (λ k. lives_told (seen lens frame.now.items) vs (map (served_behind lens recover retry (gives_up_at lens recover retry missed) made f) vs) k) self.old self.new }
     {
         self.list.ends();
         self.lan.begins();
@@ -352,6 +355,7 @@ impl MasterNode {
         ensures tour { self.new.tour ≡ self.old.tour }
         ensures mails { StepsAt (λ ks ls. ls ≡ []) place (mails_in self.old) (mails_in self.new) }
         ensures works { StepsAt (λ p q. q.work ≡ Work.Nothing) place self.old.posts.items self.new.posts.items }
+        ensures gateway { TellsBesides 0 [] self.old self.new }
     {
         self.posts[place].drop_all();
     }
@@ -366,6 +370,7 @@ impl MasterNode {
         ensures mails { mails_in self.new ≡ mails_in self.old }
         ensures listed { Lists (down_by (port_by (slice_get self.old.lan.ports.items place)) (holds_at (λ s. not (is_live s.stand)) self.old.tour.stops.items place)) self.old.lan self.new.lan }
         ensures works { self.new.posts ≡ self.old.posts }
+        ensures gateway { TellsBesides 0 [] self.old self.new }
     {
         if !self.tour.stops[place].is_live() {
             self.lan.down(place);
@@ -382,6 +387,7 @@ impl MasterNode {
         ensures mails { Drops (λ p. gave_at self.old.tour.stops.items p) (place ∷ []) (mails_in self.old) (mails_in self.new) }
         ensures listed { Lists (down_by (port_by (slice_get self.old.lan.ports.items place)) (gives_at self.old.tour.stops.items place)) self.old.lan self.new.lan }
         ensures works { DropsWork (λ p. gave_at self.old.tour.stops.items p) (place ∷ []) self.old.posts.items self.new.posts.items }
+        ensures gateway { TellsBesides 1 [] self.old self.new }
     {
         if !is_given_up(self.tour.stops[place].news) {
             return;
@@ -402,6 +408,7 @@ impl MasterNode {
         ensures mails { Drops (λ p. gave_at self.old.tour.stops.items p) (place ∷ []) (mails_in self.old) (mails_in self.new) }
         ensures listed { Lists (down_by (port_by (slice_get self.old.lan.ports.items place)) (gives_at self.old.tour.stops.items place)) self.old.lan self.new.lan }
         ensures works { DropsWork (λ p. gave_at self.old.tour.stops.items p) (place ∷ []) self.old.posts.items self.new.posts.items }
+        ensures gateway { TellsBesides 1 [] self.old self.new }
     {
         if place < self.posts.len() {
             self.given_up(place);
@@ -417,6 +424,7 @@ impl MasterNode {
         ensures mails { Drops (λ p. gave_at self.old.tour.stops.items p) self.old.tour.visit.items (mails_in self.old) (mails_in self.new) }
         ensures listed { Lists (downs_in self.old.lan.ports.items (λ p. gives_at self.old.tour.stops.items p) self.old.tour.visit.items) self.old.lan self.new.lan }
         ensures works { DropsWork (λ p. gave_at self.old.tour.stops.items p) self.old.tour.visit.items self.old.posts.items self.new.posts.items }
+        ensures gateway { TellsBesides 16 [] self.old self.new }
     {
         for k in 0..self.tour.visit.len() {
             let place = self.tour.visit.as_slice()[k];
@@ -424,7 +432,7 @@ impl MasterNode {
         }
     }
 
-    /// The frame that `next` made was lost.
+    /// The frame that `next` made was lost. Nothing is told to who asked for a mail to be passed on.
     pub fn lost(&mut self)
         ensures posts { vec_len self.new.posts ≡ vec_len self.old.posts }
         ensures leads { (lens : ℕ → Lens) (recover retry missed number after : ℕ) (octets : List ℕ) (us : List Turn) (f : Exchanged) → f.fate ≡ Fate.Lost after → f.sent ≡ octets → MasterUnder lens recover retry self.old octets missed us →
@@ -440,6 +448,7 @@ impl MasterNode {
             ServedShows lens recover retry self.new (missed_behind lens recover retry f.fate missed) (suc made) (map (served_behind lens recover retry (gives_up_at lens recover retry missed) made f) vs) }
         ensures counts { (k : ℕ) → forwards_at self.new.posts.items k ≡ forwards_at self.old.posts.items k }
         ensures recalls { (lens : ℕ → Lens) (recover retry missed : ℕ) (octets : List ℕ) (us : List Turn) → MasterUnder lens recover retry self.old octets missed us → AllRecall lens [] us (recalls self.old) (recalls self.new) }
+        ensures gateway { TellsNone self.old self.new }
     {
         self.list.ends();
         self.lan.begins();

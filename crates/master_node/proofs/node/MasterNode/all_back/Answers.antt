@@ -1,4 +1,3 @@
-use Rattle.master_node.proofs.Gateways.{slave_told}
 use Rattle.std.proofs.Common.{◌≡◌, ◌<◌, refl, ◌∙◌, arith, ap, sym, length, get_or}
 use Rattle.std.specs.Prelude.{slice_get}
 use Rattle.std.proofs.lemmas.List.{take_all}
