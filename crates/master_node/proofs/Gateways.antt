@@ -26,7 +26,6 @@ use Rattle.master_tour.specs.Brings.{accepted_in}
 use Rattle.master_tour.specs.Passing.{StandPassing}
 use Rattle.master_tour.specs.Walks.{EachPair}
 use Rattle.master_tour.specs.declared.stop.Stand.{Stand}
-use Rattle.master_tour.specs.of_life_model.Lives
 use Rattle.master_tour.specs.of_life_model.Lives.{Life}
 use Rattle.master_tour.specs.declared.stop.Stop.{Stop}
 use Rattle.served_runs.specs.Served.{Serves, ServedTurn, served_behind}

@@ -14,7 +14,6 @@ use Rattle.master_node.specs.Handed.{EndsWork, passing_at}
 use Rattle.master_node.proofs.Endings.{ends_from, ends_same, ends_then}
 use Rattle.std.proofs.Common.{Bool, true, ◌++◌, ◌*◌, ◌+◌}
 use Rattle.std.specs.Prelude.{not, ◌||◌}
-use Rattle.master_tour.specs.Made.{is_in}
 use Rattle.master_node.specs.Besides.{gateway_at}
 use Rattle.master_node.specs.Listing.{told_in}
 use Rattle.master_node.specs.Handed.{work_at}

@@ -13,7 +13,7 @@ use Rattle.std.proofs.Common.{◌+◌, ◌++◌, sym, append-nil}
 use Rattle.master_node.specs.Besides.{TellsBesides, heard_by, heard_room, over_by, over_room, told_by, turned_room}
 use Rattle.master_node.specs.Handed.{work_at}
 use Rattle.master_node.specs.Named.{StaysNamed}
-use Rattle.std.proofs.Common.{◌≡◌, true}
+use Rattle.std.proofs.Common.{true}
 use Rattle.master_node.proofs.Endings.{fewer_then}
 use Rattle.master_node.proofs.Besides.{besides_as, besides_then, most_five, over_fewer, over_kept, told_both, told_here, told_same, turned_fewer}
 use Rattle.master_node.proofs.node.MasterNode.back.Goals as goal
