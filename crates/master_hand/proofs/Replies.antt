@@ -4,7 +4,7 @@ use Rattle.std.specs.Prelude.{◌&&◌, not, is_some, is_none, if◌then◌else�
 use Rattle.mailbox_mail.specs.declared.outcome.Took.{Took}
 use Rattle.mailbox_mail.specs.declared.mail.MailFault.TheVariants.{Short}
 use Rattle.foe_client.specs.of_exchange_model.Areas.{Areas}
-use Rattle.foe_client.specs.of_exchange_model.Exchange.{Speech}
+use Rattle.foe_client.specs.of_exchange_model.Exchange.{Speech, plain}
 use Rattle.master_side.specs.of_link_mails.Body.{Body}
 use Rattle.master_side.specs.of_master_duty.Reply.{Reply}
 use Rattle.master_side.specs.Passing.{told_as, goes_on}
@@ -18,8 +18,10 @@ use Rattle.master_hand.specs.declared.passed.Content.{Content}
 use Rattle.master_hand.specs.declared.passed.PassedMail.{PassedMail}
 use Rattle.mailbox_mail.specs.declared.mail.Mail.{Mail}
 use Rattle.master_side.specs.declared.hand.Heard.{Heard}
+use Rattle.master_side.specs.Heard.{Brought}
+use Rattle.master_hand.specs.Brings.{as_list}
 use Rattle.master_hand.specs.Passed.{body_of}
-use Rattle.master_hand.specs.Replied.{reply_kept, kept_where, is_reply, Replies}
+use Rattle.master_hand.specs.Replied.{reply_kept, kept_where, is_reply, Replies, replies_of}
 use Rattle.master_hand.specs.declared.found.Found.{Found}
 use Rattle.master_hand.proofs.Passing.{by_over}
 use Rattle.std.specs.Prelude.{option_map}
@@ -157,3 +159,14 @@ unawaited_kept f course which c b w n =
 pub reply_is_kept : (f : Found) (awaited : Bool) (m : Mail) → emission (body_of m) ≡ false → reply_kept f ≡ kept_where awaited m → Replies f awaited (body_of m)
 reply_is_kept f true m e k = ap (option_map body_of) k ∙ ap (λ z. kept_where (not z) (body_of m)) (sym e)
 reply_is_kept f false m e k = ap (option_map body_of) k
+
+-- WHAT IS HANDED ON OF A FRAME: its mails but for emissions where a reply of a mail that is passed on was awaited, and else none
+pub replies_are : (f : Found) (awaited : Bool) (heard : Option Heard) (ms : List Body) → Brought (Replies f awaited) heard ms → replies_of heard f ≡ (if awaited then plain emission ms else [])
+replies_are f true None ms e = sym (ap (plain emission) e)
+replies_are f false None ms e = refl
+replies_are f true (Some what) ms (b, e, k) = ap as_list k ∙ by (emission b) ∙ sym (ap (plain emission) e)
+  where
+    by : (z : Bool) → as_list (kept_where (true && not z) b) ≡ (if not z then b ∷ [] else [])
+    by true = refl
+    by false = refl
+replies_are f false (Some what) ms (b, e, k) = ap as_list k

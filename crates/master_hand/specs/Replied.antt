@@ -1,8 +1,10 @@
 -- WHAT IS KEPT OF A REPLY to a mail that is passed on, so that it can be handed on.
-use Rattle.std.specs.Prelude.{◌≡◌, ◌&&◌, not, Bool, true, false, Option, Some, None, option_map, if◌then◌else◌}
+use Rattle.std.specs.Prelude.{◌≡◌, ◌&&◌, not, Bool, true, false, List, [], Option, Some, None, option_map, if◌then◌else◌}
 use Rattle.mailbox_mail.specs.declared.mail.Mail.{Mail}
 use Rattle.mailbox_mail.specs.declared.outcome.Took.{Took}
 use Rattle.master_side.specs.of_link_mails.Body.{Body}
+use Rattle.master_side.specs.declared.hand.Heard.{Heard}
+use Rattle.master_hand.specs.Brings.{as_list}
 use Rattle.master_hand.specs.Spoken.{emission}
 use Rattle.master_hand.specs.Passed.{body_of}
 use Rattle.master_hand.specs.declared.clients.Which.{Which}
@@ -47,3 +49,8 @@ is_reply Which.Passed took = is_awaited took
 -- WHAT IS KEPT OF THE MAIL HEARD LAST: that mail, just where a reply of one that is passed on was awaited before it and it is no emission
 abbrev pub Replies : Found → Bool → Body → Type 0
 Replies f awaited b = option_map body_of (reply_kept f) ≡ kept_where (awaited && not (emission b)) b
+
+-- the replies that a frame brought to be handed on: the mail that is kept, where one was accepted
+abbrev pub replies_of : Option Heard → Found → List Body
+replies_of None f = []
+replies_of (Some what) f = as_list (option_map body_of (reply_kept f))

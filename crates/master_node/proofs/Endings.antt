@@ -1,10 +1,10 @@
 -- A MAIL THAT IS OVER is in hand no more, step by step.
-use Rattle.std.proofs.Common.{◌≡◌, ◌==◌, ◌<◌, ◌≤◌, ℕ, zero, suc, Bool, true, false, List, [], ◌∷◌, ◌++◌, refl, sym, ap, ◌∙◌, arith, length, get_or, set}
+use Rattle.std.proofs.Common.{◌≡◌, inl, inr, ◌==◌, ◌<◌, ◌≤◌, ℕ, zero, suc, Bool, true, false, List, [], ◌∷◌, ◌++◌, refl, sym, ap, ◌∙◌, arith, length, get_or, set}
 use Rattle.std.specs.Prelude.{◌&&◌, ◌||◌, not, if◌then◌else◌}
 use Rattle.std.proofs.lemmas.Bool.{eq-eqb, eqb-true}
 use Rattle.master_tour.specs.Made.{is_in}
 use Rattle.master_tour.specs.Walks.{StepsAt}
-use Rattle.master_node.specs.Handed.{DropsWork, EndsWork, work_at}
+use Rattle.master_node.specs.Handed.{DropsWork, EndsWork, IsLeft, work_at}
 use Rattle.master_node.specs.Named.{StaysNamed}
 use Rattle.master_node.specs.declared.post.Post.{Post}
 use Rattle.master_node.specs.declared.post.Work.{Work}
@@ -44,9 +44,16 @@ stays_over old = record { named = λ key e. absurd (let bad : Work.Nothing ≡ W
 pub stays_other : (old : Work) (g : Bool) → ((key : ℕ) → old ≡ Work.Passed key → ⊥) → StaysNamed old Work.Nothing g
 stays_other old g n = record { named = λ key e. absurd (let bad : Work.Nothing ≡ Work.Passed key = e in cc); stays = λ key e t. absurd (n key e) }
 
+-- and so step by step
+pub fewer_then : (old mid new : Work) → IsLeft old mid → IsLeft mid new → IsLeft old new
+fewer_then old mid new (inl e) (inl f) = inl (f ∙ e)
+fewer_then old mid new (inl e) (inr f) = inr f
+fewer_then old mid new (inr e) (inl f) = inr (f ∙ e)
+fewer_then old mid new (inr e) (inr f) = inr f
+
 -- NOTHING ENDS
 pub ends_same : (goes : ℕ → Bool) (ps : List Post) → EndsWork goes [] ps ps
-ends_same goes ps = record { each = λ k. stays_same (work_at ps k) }
+ends_same goes ps = record { each = λ k. stays_same (work_at ps k); fewer = λ k. inl refl }
 
 -- AT ONE PLACE
 work_set : (ps : List Post) (place k : ℕ) (w : Post) → (k ≡ place → ⊥) → work_at (set ps place w) k ≡ work_at ps k
@@ -84,6 +91,7 @@ pub ends_then : (goes : ℕ → Bool) (xs ys : List ℕ) (ps qs rs : List Post) 
 ends_then goes xs ys ps qs rs a b = record {
   each = λ k. stays_as _ _ _ _ (not_more (is_in k xs) (is_in k ys) (goes k) ∙ ap (λ z. not z || goes k) (sym (in_more k xs ys)))
       (stays_then (work_at ps k) (work_at qs k) (work_at rs k) (not (is_in k xs) || goes k) (not (is_in k ys) || goes k) (a.each k) (b.each k));
+  fewer = λ k. fewer_then (work_at ps k) (work_at qs k) (work_at rs k) (a.fewer k) (b.fewer k);
 }
 
 one_in : (k p : ℕ) → (k == p) ≡ true → is_in k (p ∷ []) ≡ true
@@ -122,9 +130,16 @@ apart_by k place f e = (let w = sym f ∙ eq-eqb k place e in absurd (cc))
 stays_with : (old new new' : Work) (g : Bool) → new' ≡ new → StaysNamed old new g → StaysNamed old new' g
 stays_with old new new' g e a = record { named = λ key f. a.named key (sym e ∙ f); stays = λ key f t. e ∙ a.stays key f t }
 
+step_fewer : (place : ℕ) (ps qs : List Post) → StepsAt (λ p q. q.work ≡ Work.Nothing) place ps qs → (k : ℕ) → IsLeft (work_at ps k) (work_at qs k)
+step_fewer place ps qs s k = go (k == place) refl
+  where
+    go : (b : Bool) → (k == place) ≡ b → IsLeft (work_at ps k) (work_at qs k)
+    go true e = inr (ap (work_at qs) (eqb-true k place e) ∙ step_here place ps qs s)
+    go false e = inl (step_there place k ps qs (apart_by k place e) s)
+
 -- A MAIL THAT IS OVER is in hand no more
 pub ends_here : (goes : ℕ → Bool) (place : ℕ) (ps qs : List Post) → StepsAt (λ p q. q.work ≡ Work.Nothing) place ps qs → goes place ≡ false → EndsWork goes (place ∷ []) ps qs
-ends_here goes place ps qs s g = record { each = λ k. go k (k == place) refl }
+ends_here goes place ps qs s g = record { each = λ k. go k (k == place) refl; fewer = step_fewer place ps qs s }
   where
     go : (k : ℕ) (b : Bool) → (k == place) ≡ b → StaysNamed (work_at ps k) (work_at qs k) (not (is_in k (place ∷ [])) || goes k)
     go k true e =
@@ -137,7 +152,7 @@ ends_here goes place ps qs s g = record { each = λ k. go k (k == place) refl }
 
 -- another service that is over is no such mail
 pub ends_other : (goes : ℕ → Bool) (place : ℕ) (ps qs : List Post) → StepsAt (λ p q. q.work ≡ Work.Nothing) place ps qs → ((key : ℕ) → work_at ps place ≡ Work.Passed key → ⊥) → EndsWork goes [] ps qs
-ends_other goes place ps qs s n = record { each = λ k. go k (k == place) refl }
+ends_other goes place ps qs s n = record { each = λ k. go k (k == place) refl; fewer = step_fewer place ps qs s }
   where
     go : (k : ℕ) (b : Bool) → (k == place) ≡ b → StaysNamed (work_at ps k) (work_at qs k) true
     go k true e =
@@ -147,7 +162,7 @@ ends_other goes place ps qs s n = record { each = λ k. go k (k == place) refl }
 
 -- where no mail is in hand that is passed on nothing is to end, nor where it goes on
 pub ends_free : (goes : ℕ → Bool) (place : ℕ) (ps qs : List Post) → ((key : ℕ) → work_at ps place ≡ Work.Passed key → goes place ≡ true) → EndsWork goes [] ps qs → EndsWork goes (place ∷ []) ps qs
-ends_free goes place ps qs n a = record { each = λ k. go k (k == place) refl }
+ends_free goes place ps qs n a = record { each = λ k. go k (k == place) refl; fewer = a.fewer }
   where
     go : (k : ℕ) (b : Bool) → (k == place) ≡ b → StaysNamed (work_at ps k) (work_at qs k) (not (is_in k (place ∷ [])) || goes k)
     go k true e =
@@ -158,7 +173,7 @@ ends_free goes place ps qs n a = record { each = λ k. go k (k == place) refl }
 
 -- the posts stay, or are those of a master that is the same
 pub ends_told : (goes : ℕ → Bool) (ps qs : List Post) → qs ≡ ps → EndsWork goes [] ps qs
-ends_told goes ps qs e = record { each = λ k. stays_with (work_at ps k) (work_at ps k) (work_at qs k) true (ap (λ z. work_at z k) e) (stays_same (work_at ps k)) }
+ends_told goes ps qs e = record { each = λ k. stays_with (work_at ps k) (work_at ps k) (work_at qs k) true (ap (λ z. work_at z k) e) (stays_same (work_at ps k)); fewer = λ k. inl (ap (λ z. work_at z k) e) }
 
 -- OF GIVEN-UP SLAVES nothing is in hand
 pub drop_one : (gave : ℕ → Bool) (place : ℕ) (ps qs : List Post) → gave place ≡ true → StepsAt (λ p q. q.work ≡ Work.Nothing) place ps qs → DropsWork gave (place ∷ []) ps qs
@@ -199,7 +214,7 @@ not_passed ps place p l e n key f = n key (sym (work_got ps place p l e) ∙ f)
 
 -- behind one that tells what is in hand is as it was before it
 pub ends_from : (goes goes' : ℕ → Bool) (xs : List ℕ) (ps qs : List Post) → ((k : ℕ) → goes' k ≡ goes k) → EndsWork goes' xs ps qs → EndsWork goes xs ps qs
-ends_from goes goes' xs ps qs e a = record { each = λ k. stays_as _ _ _ _ (ap (λ (z : Bool). not (is_in k xs) || z) (e k)) (a.each k) }
+ends_from goes goes' xs ps qs e a = record { each = λ k. stays_as _ _ _ _ (ap (λ (z : Bool). not (is_in k xs) || z) (e k)) (a.each k); fewer = a.fewer }
 
 -- beyond the last post nothing is in hand
 pub none_beyond : (ps : List Post) (place : ℕ) → length ps ≤ place → (key : ℕ) → work_at ps place ≡ Work.Passed key → ⊥

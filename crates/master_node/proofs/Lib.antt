@@ -41,6 +41,8 @@ pub mod Mailings
 pub mod Handeds
 pub mod Handings
 pub mod Endings
+mod Besides
+mod Gateways
 pub mod Mailed
 pub mod FreeKept
 pub mod ServedVisits

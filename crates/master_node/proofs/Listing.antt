@@ -79,7 +79,7 @@ steps_stay P (suc i) (x ∷ xs) v l e p = (refl, steps_stay P i xs v (omega (ari
 
 -- ---- what is listed
 
-told_push : (tells : ℕ → List Event) (ps : List ℕ) (p : ℕ) → told_in tells (ps ++ p ∷ []) ≡ told_in tells ps ++ tells p
+pub told_push : (tells : ℕ → List Event) (ps : List ℕ) (p : ℕ) → told_in tells (ps ++ p ∷ []) ≡ told_in tells ps ++ tells p
 told_push tells [] p = append-nil (tells p)
 told_push tells (q ∷ ps) p = ap (λ z. tells q ++ z) (told_push tells ps p) ∙ sym (append_assoc (tells q) (told_in tells ps) (tells p))
 

@@ -198,6 +198,15 @@ module _ (lens : ℕ → Lens) (recover retry : ℕ) where
           handed = back_handed x made spot news (seen lens back) came l p.work q.work v.hand (accepted_in spot l (seen lens back)) h.handed (stays_where p.work q.work (b || is_some t.side.passing) _ goes works);
         }
 
+    -- a slave with a mail in hand stays open
+    pub behind_open : (f : Exchanged) (back : List ℕ) (v : ServedTurn) → f.fate ≡ Pass → f.back ≡ back → v.turn.lived.life.stand ≡ Lives.Stand.Open → v.turn.lived.life.era.account.hand ≡ None →
+        (served_behind lens recover retry gives made f v).lead.lived.life.stand ≡ Lives.Stand.Open
+    behind_open f back v is b o h =
+        let l = v.turn.lived.life in
+        let spot = v.turn.lived.spot in
+        subst (λ (z : Exchanged). (served_behind lens recover retry gives made z v).lead.lived.life.stand ≡ Lives.Stand.Open) (sym (so_is f back is b))
+        (stays_open (speech_at lens spot) made spot (news_back spot.station v.kept v.counts (seen lens back)) (seen lens back) (came_at v.turn.share.under v.turn.share.at (seen lens back)) l l.stand o o h).0
+
     pub served_back : {G : Ghosts InHand} (f : Exchanged) (octets back : List ℕ) (v : ServedTurn) (p q : Post) (s t : Stop InHand G) → f.fate ≡ Pass → f.back ≡ back → IsServedUnder lens recover octets made v p s → Returns (seen lens octets) (seen lens back) →
         ((ns : List (News Body)) → IsLived lens recover (lived_back (speech_at lens v.turn.lived.spot) acknowledged is_followed is_passed made (seen lens back) v.turn.lived (record { under = s.under; at = s.at }) ns) t) →
         StandPassing t.stand (awaits_reply t.side.hand.course t.side.hand.which t.side.hand.clients) t.side.passing

@@ -1,5 +1,5 @@
 -- WHAT A POST HAS IN HAND of a mail that is passed on: as it is laid ready, as it comes into hand, and behind a frame.
-use Rattle.std.specs.Prelude.{◌≡◌, ◌&&◌, ◌||◌, not, ℕ, zero, suc, Bool, if◌then◌else◌, is_some, Option, Some, None, List, [], ◌∷◌, ⊤}
+use Rattle.std.specs.Prelude.{◌≡◌, ◌⊎◌, ◌&&◌, ◌||◌, not, ℕ, zero, suc, Bool, if◌then◌else◌, is_some, Option, Some, None, List, [], ◌∷◌, ⊤}
 use Rattle.master_duty.specs.Reply.{Reply}
 use Rattle.master_duty.specs.of_state_exchange.Stated.{Service}
 use Rattle.master_duty.specs.of_task_model.Accounts.{Duty}
@@ -85,9 +85,14 @@ NonePassed ps k = (key : ℕ) → work_at ps k ≡ Work.Passed key → ⊥
 abbrev pub passing_at : {G : Ghosts InHand} → List (Stop InHand G) → ℕ → Bool
 passing_at ss k = holds_at (λ s. is_some s.side.passing) ss k
 
--- OF THE SLAVES AT THESE PLACES a mail that is over is in hand no more; of them and of all others each goes on that isn't
+-- what is in hand stays, or it is over
+abbrev pub IsLeft : Work → Work → Type 0
+IsLeft old new = (new ≡ old) ⊎ (new ≡ Work.Nothing)
+
+-- OF THE SLAVES AT THESE PLACES a mail that is over is in hand no more; of them and of all others each goes on that isn't, and nothing comes into hand
 pub record EndsWork (goes : ℕ → Bool) (places : List ℕ) (ps qs : List Post) : Type 0 where
   pub each : (k : ℕ) → StaysNamed (work_at ps k) (work_at qs k) (not (is_in k places) || goes k)
+  pub fewer : (k : ℕ) → IsLeft (work_at ps k) (work_at qs k)
 
 -- of the slaves at these places that were given up nothing is in hand any more, and of all others the same is
 pub record DropsWork (gave : ℕ → Bool) (places : List ℕ) (ps qs : List Post) : Type 0 where

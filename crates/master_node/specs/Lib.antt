@@ -40,6 +40,8 @@ pub mod Made
 pub mod Begins
 pub mod Origins
 pub mod Listing
+pub mod Besides
+pub mod Gateways
 pub mod Arrivals
 pub mod Eager
 pub mod Resting

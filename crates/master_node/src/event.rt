@@ -100,6 +100,7 @@ impl EventList {
     pub fn ends(&mut self)
         ensures all { listed self.new.rows.items self.new.count ≡ take self.old.before self.old.rows.items }
         ensures last { listed_last self.new.rows.items self.new.first self.new.count ≡ [] }
+        ensures few { self.new.count ≡ self.old.before }
     {
         self.count = self.before;
         self.first = self.before;

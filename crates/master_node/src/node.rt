@@ -270,6 +270,7 @@ impl MasterNode {
         ensures eager { All WaitsNone self.old.posts.items → IsBare self.old → length into.old.items ≡ 16 → EagerOn self.old self.new }
         ensures serves { (lens : ℕ → Lens) (recover made : ℕ) (forwards : ℕ → ℕ) (ws : List Serves) → AreDistinct (map (λ w. lived_of (run_lead w)) ws) → ((left : List ℕ) → IsPassing lens recover made forwards left self.old into.old.items ws) → BeginsFrame self.old into.old.items (map run_lead ws) →
             (left : List ℕ) × IsPassing lens recover made forwards left self.new into.new.items ws × EndsFrame left self.new (map run_lead ws) }
+        ensures events { self.new.list.count ≤ self.old.list.count + 16 }
     {
         for _ in 0..SLAVES {
             let Some(place) = self.tour.due() else {
@@ -298,6 +299,7 @@ impl MasterNode {
         ensures eager { (lens : ℕ → Lens) (recover retry missed : ℕ) (as' : List Leads) → MasterShows lens recover retry self.old missed as' → EagerFrom self.old self.new }
         ensures serves { (lens : ℕ → Lens) (recover retry missed made : ℕ) (forwards : ℕ → ℕ) (ws : List Serves) → list_any (λ s. is_live s.stand) self.old.tour.stops.items ≡ true → suc made < 2 ^ 32 → IsUnlisted forwards self.old → ServedShows lens recover retry self.old missed made ws →
             (vs : List ServedTurn) × IsServedFrame lens made into.new.items ws vs × ServedUnder lens recover retry (record self.new { made = suc made }) into.new.items missed made vs × (self.new.made ≡ made) × ServedBegin forwards ws vs self.new }
+        ensures events { self.new.list.count ≤ self.old.list.count + 16 }
     {
         self.tour.begin(into);
         self.fill(into);
@@ -334,6 +336,7 @@ impl MasterNode {
             (vs : List ServedTurn) × IsServedFrame lens made into.new.items ws vs × ServedUnder lens recover retry self.new into.new.items missed made vs }
         ensures services { result ≡ Next.Frame → (lens : ℕ → Lens) (recover retry missed made : ℕ) (ws : List Serves) → suc made < 2 ^ 32 → ServedShows lens recover retry self.old missed made ws →
             (vs : List ServedTurn) × IsServedFrame lens made into.new.items ws vs × ServedUnder lens recover retry self.new into.new.items missed made vs × ServedBegin (λ k. forwards_at self.old.posts.items k) ws vs self.new }
+        ensures few { self.new.list.before ≤ 16 }
     {
         self.list.clear();
         self.lan.begins();

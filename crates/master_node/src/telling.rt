@@ -40,6 +40,12 @@ impl MasterNode {
     ghost use Rattle.master_node.specs.Shows.{MasterShows, MasterUnder};
     ghost use Rattle.master_node.specs.Serving.{TellsOnly, ServedShows, ServedUnder, mails_in};
     ghost use Rattle.master_node.specs.Dropped.{Drops, gave_at};
+    ghost use Rattle.master_node.specs.Besides.{TellsBesides, TellsHeard, TellsOver, gateway_at, over_told, reply_told, told_by, turned_room};
+    ghost use Rattle.master_node.specs.Listing.{told_in};
+    ghost use Rattle.master_node.specs.Gateways.{TellsGateway, TellsNone, lives_told};
+    ghost use Rattle.master_hand.specs.Replied.{reply_kept};
+    ghost use Rattle.master_tour.specs.Orders.{AreOnce};
+    ghost use Rattle.std.specs.Prelude.{Some};
     ghost use Rattle.master_node.specs.Handed.{DropsWork, EndsWork, NonePassed, passing_at, work_at};
     ghost use Rattle.master_node.specs.declared.post.Work.{Work};
     ghost use Rattle.master_tour.specs.Walks.{StepsAt};
@@ -61,6 +67,7 @@ impl MasterNode {
         ensures lan { self.new.lan ≡ self.old.lan }
         ensures tells { TellsOnly self.old self.new }
         ensures works { StepsAt (λ p q. q.work ≡ Work.Nothing) place self.old.posts.items self.new.posts.items }
+        ensures gateway { TellsBesides 1 [] self.old self.new }
     {
         let post = &mut self.posts[place];
         post.work = Work::Nothing;
@@ -80,6 +87,7 @@ impl MasterNode {
         ensures listed { Lists (arrive_by (port_by (slice_get self.old.lan.ports.items place)) (kept_at self.old.tour.stops.items place)) self.old.lan self.new.lan }
         ensures tells { TellsOnly self.old self.new }
         ensures works { EndsWork (λ k. passing_at self.old.tour.stops.items k) [] self.old.posts.items self.new.posts.items }
+        ensures gateway { TellsBesides 1 [] self.old self.new }
     {
         let hand = &self.tour.stops[place].side.hand;
         if let Some(octets) = hand.emergency() {
@@ -103,6 +111,7 @@ impl MasterNode {
         ensures lan { self.new.lan ≡ self.old.lan }
         ensures tells { TellsOnly self.old self.new }
         ensures works { EndsWork (λ k. passing_at self.old.tour.stops.items k) [] self.old.posts.items self.new.posts.items }
+        ensures gateway { TellsBesides 1 (told_by (λ s. reply_told key (reply_kept s.side.hand.found)) self.old.tour.stops.items place) self.old self.new }
     {
         if let Some(mail) = self.tour.stops[place].side.hand.replied() {
             let mail = bare(mail);
@@ -118,6 +127,7 @@ impl MasterNode {
         ensures lan { self.new.lan ≡ self.old.lan }
         ensures tells { TellsOnly self.old self.new }
         ensures works { NonePassed self.old.posts.items place → EndsWork (λ k. passing_at self.old.tour.stops.items k) [] self.old.posts.items self.new.posts.items }
+        ensures gateway { TellsBesides 1 [] self.old self.new }
     {
         if let Some(kind) = self.tour.stops[place].side.hand.answer() {
             self.answered(place, kind);
@@ -133,15 +143,17 @@ impl MasterNode {
         ensures listed { Lists (arrive_by (port_by (slice_get self.old.lan.ports.items place)) (kept_at self.old.tour.stops.items place)) self.old.lan self.new.lan }
         ensures tells { TellsOnly self.old self.new }
         ensures works { EndsWork (λ k. passing_at self.old.tour.stops.items k) [] self.old.posts.items self.new.posts.items }
+        ensures gateway { TellsHeard place (Some what) self.old self.new }
     {
         self.emitted(place);
-        if matches!(what, Heard::Emission) {
-            return;
-        }
         match self.posts[place].work {
             Work::Passed { key } => self.replied(place, key),
-            Work::Mails if matches!(what, Heard::Last) => self.complete(place),
-            Work::Mails | Work::Nothing | Work::State | Work::Packet => {}
+            Work::Mails => {
+                if matches!(what, Heard::Last) {
+                    self.complete(place);
+                }
+            }
+            Work::Nothing | Work::State | Work::Packet => {}
         }
     }
 
@@ -153,6 +165,7 @@ impl MasterNode {
         ensures lan { self.new.lan ≡ self.old.lan }
         ensures tells { TellsOnly self.old self.new }
         ensures works { NonePassed self.old.posts.items place → EndsWork (λ k. passing_at self.old.tour.stops.items k) [] self.old.posts.items self.new.posts.items }
+        ensures gateway { TellsBesides 1 [] self.old self.new }
     {
         if self.tour.stops[place].side.is_free() {
             self.answered(place, ReplyKind::Handed);
@@ -167,6 +180,7 @@ impl MasterNode {
         ensures lan { self.new.lan ≡ self.old.lan }
         ensures tells { TellsOnly self.old self.new }
         ensures works { EndsWork (λ k. passing_at self.old.tour.stops.items k) (place ∷ []) self.old.posts.items self.new.posts.items }
+        ensures gateway { TellsBesides 2 (told_by (λ s. over_told key s.side.passing) self.old.tour.stops.items place) self.old self.new }
     {
         if self.tour.stops[place].side.passing.is_none() {
             self.answered(place, ReplyKind::Handed);
@@ -182,6 +196,7 @@ impl MasterNode {
         ensures lan { self.new.lan ≡ self.old.lan }
         ensures tells { TellsOnly self.old self.new }
         ensures works { NonePassed self.old.posts.items place → EndsWork (λ k. passing_at self.old.tour.stops.items k) [] self.old.posts.items self.new.posts.items }
+        ensures gateway { TellsBesides 1 [] self.old self.new }
     {
         match self.tour.stops[place].side.duty {
             Some(Met::Reached) => self.answered(place, ReplyKind::Done),
@@ -198,6 +213,7 @@ impl MasterNode {
         ensures lan { self.new.lan ≡ self.old.lan }
         ensures tells { TellsOnly self.old self.new }
         ensures works { EndsWork (λ k. passing_at self.old.tour.stops.items k) (place ∷ []) self.old.posts.items self.new.posts.items }
+        ensures gateway { TellsOver place self.old self.new }
     {
         match self.posts[place].work {
             Work::Nothing | Work::Mails => {}
@@ -223,6 +239,7 @@ impl MasterNode {
         ensures lan { self.new.lan ≡ self.old.lan }
         ensures tells { TellsOnly self.old self.new }
         ensures works { EndsWork (λ k. passing_at self.old.tour.stops.items k) [] self.old.posts.items self.new.posts.items }
+        ensures gateway { TellsBesides (turned_room (work_at self.old.posts.items place)) [] self.old self.new }
     {
         let slave = place as u32;
         let own = self.has_state(place);
@@ -247,6 +264,7 @@ impl MasterNode {
         ensures listed { Lists (arrive_by (port_by (slice_get self.old.lan.ports.items place)) (packets_of what (kept_at self.old.tour.stops.items place))) self.old.lan self.new.lan }
         ensures tells { TellsOnly self.old self.new }
         ensures works { EndsWork (λ k. passing_at self.old.tour.stops.items k) [] self.old.posts.items self.new.posts.items }
+        ensures gateway { TellsHeard place what self.old self.new }
     {
         if let Some(what) = what {
             self.heard(place, what);
@@ -262,6 +280,7 @@ impl MasterNode {
         ensures listed { Lists (arrive_by (port_by (slice_get self.old.lan.ports.items place)) (heard_at self.old.tour.stops.items place)) self.old.lan self.new.lan }
         ensures tells { TellsOnly self.old self.new }
         ensures works { EndsWork (λ k. passing_at self.old.tour.stops.items k) (place ∷ []) self.old.posts.items self.new.posts.items }
+        ensures gateway { TellsBesides 5 (gateway_at self.old place) self.old self.new }
     {
         let what = self.tour.stops[place].side.heard;
         self.heard_where(place, what);
@@ -277,6 +296,7 @@ impl MasterNode {
         ensures listed { Lists (arrive_by (port_by (slice_get self.old.lan.ports.items place)) (heard_at self.old.tour.stops.items place)) self.old.lan self.new.lan }
         ensures tells { TellsOnly self.old self.new }
         ensures works { EndsWork (λ k. passing_at self.old.tour.stops.items k) (place ∷ []) self.old.posts.items self.new.posts.items }
+        ensures gateway { TellsBesides 5 (gateway_at self.old place) self.old self.new }
     {
         if place < self.posts.len() {
             self.back(place);
@@ -291,6 +311,7 @@ impl MasterNode {
         ensures listed { Lists (arrivals_in self.old.lan.ports.items (λ p. heard_at self.old.tour.stops.items p) self.old.tour.visit.items) self.old.lan self.new.lan }
         ensures tells { TellsOnly self.old self.new }
         ensures works { EndsWork (λ k. passing_at self.old.tour.stops.items k) self.old.tour.visit.items self.old.posts.items self.new.posts.items }
+        ensures gateway { AreOnce self.old.tour.visit.items → TellsBesides 80 (told_in (gateway_at self.old) self.old.tour.visit.items) self.old self.new }
     {
         for k in 0..self.tour.visit.len() {
             let place = self.tour.visit.as_slice()[k];
@@ -298,7 +319,7 @@ impl MasterNode {
         }
     }
 
-    /// The frame that `next` made came back.
+    /// The frame that `next` made came back. Of a mail that is passed on just its replies are told, under the key of its asker, and that no more follows.
     pub fn returned(&mut self, frame: &FrameBuf)
         ensures posts { vec_len self.new.posts ≡ vec_len self.old.posts }
         ensures leads { (lens : ℕ → Lens) (recover retry missed number : ℕ) (octets : List ℕ) (us : List Turn) (f : Exchanged) → f.fate ≡ Fate.Pass → f.back ≡ frame.now.items → MasterUnder lens recover retry self.old octets missed us → Returns (seen lens octets) (seen lens frame.now.items) →
@@ -316,6 +337,8 @@ impl MasterNode {
         ensures counts { (k : ℕ) → forwards_at self.new.posts.items k ≡ forwards_at self.old.posts.items k }
         ensures recalls { (lens : ℕ → Lens) (recover retry missed : ℕ) (octets : List ℕ) (us : List Turn) → MasterUnder lens recover retry self.old octets missed us → Returns (seen lens octets) (seen lens frame.now.items) →
             AllVisit (seen lens octets) (recalls self.old) us → AllRecall lens (seen lens frame.now.items) us (recalls self.old) (recalls self.new) }
+        ensures gateway { (lens : ℕ → Lens) (recover retry missed made : ℕ) (octets : List ℕ) (vs : List ServedTurn) (f : Exchanged) → f.fate ≡ Fate.Pass → f.back ≡ frame.now.items → ServedUnder lens recover retry self.old octets missed made vs → Returns (seen lens octets) (seen lens frame.now.items) →
+            TellsGateway (λ k. lives_told (seen lens frame.now.items) vs (map (served_behind lens recover retry (gives_up_at lens recover retry missed) made f) vs) k) self.old self.new }
     {
         self.list.ends();
         self.lan.begins();
@@ -332,6 +355,7 @@ impl MasterNode {
         ensures tour { self.new.tour ≡ self.old.tour }
         ensures mails { StepsAt (λ ks ls. ls ≡ []) place (mails_in self.old) (mails_in self.new) }
         ensures works { StepsAt (λ p q. q.work ≡ Work.Nothing) place self.old.posts.items self.new.posts.items }
+        ensures gateway { TellsBesides 0 [] self.old self.new }
     {
         self.posts[place].drop_all();
     }
@@ -346,6 +370,7 @@ impl MasterNode {
         ensures mails { mails_in self.new ≡ mails_in self.old }
         ensures listed { Lists (down_by (port_by (slice_get self.old.lan.ports.items place)) (holds_at (λ s. not (is_live s.stand)) self.old.tour.stops.items place)) self.old.lan self.new.lan }
         ensures works { self.new.posts ≡ self.old.posts }
+        ensures gateway { TellsBesides 0 [] self.old self.new }
     {
         if !self.tour.stops[place].is_live() {
             self.lan.down(place);
@@ -362,6 +387,7 @@ impl MasterNode {
         ensures mails { Drops (λ p. gave_at self.old.tour.stops.items p) (place ∷ []) (mails_in self.old) (mails_in self.new) }
         ensures listed { Lists (down_by (port_by (slice_get self.old.lan.ports.items place)) (gives_at self.old.tour.stops.items place)) self.old.lan self.new.lan }
         ensures works { DropsWork (λ p. gave_at self.old.tour.stops.items p) (place ∷ []) self.old.posts.items self.new.posts.items }
+        ensures gateway { TellsBesides 1 [] self.old self.new }
     {
         if !is_given_up(self.tour.stops[place].news) {
             return;
@@ -382,6 +408,7 @@ impl MasterNode {
         ensures mails { Drops (λ p. gave_at self.old.tour.stops.items p) (place ∷ []) (mails_in self.old) (mails_in self.new) }
         ensures listed { Lists (down_by (port_by (slice_get self.old.lan.ports.items place)) (gives_at self.old.tour.stops.items place)) self.old.lan self.new.lan }
         ensures works { DropsWork (λ p. gave_at self.old.tour.stops.items p) (place ∷ []) self.old.posts.items self.new.posts.items }
+        ensures gateway { TellsBesides 1 [] self.old self.new }
     {
         if place < self.posts.len() {
             self.given_up(place);
@@ -397,6 +424,7 @@ impl MasterNode {
         ensures mails { Drops (λ p. gave_at self.old.tour.stops.items p) self.old.tour.visit.items (mails_in self.old) (mails_in self.new) }
         ensures listed { Lists (downs_in self.old.lan.ports.items (λ p. gives_at self.old.tour.stops.items p) self.old.tour.visit.items) self.old.lan self.new.lan }
         ensures works { DropsWork (λ p. gave_at self.old.tour.stops.items p) self.old.tour.visit.items self.old.posts.items self.new.posts.items }
+        ensures gateway { TellsBesides 16 [] self.old self.new }
     {
         for k in 0..self.tour.visit.len() {
             let place = self.tour.visit.as_slice()[k];
@@ -404,7 +432,7 @@ impl MasterNode {
         }
     }
 
-    /// The frame that `next` made was lost.
+    /// The frame that `next` made was lost. Nothing is told to who asked for a mail to be passed on.
     pub fn lost(&mut self)
         ensures posts { vec_len self.new.posts ≡ vec_len self.old.posts }
         ensures leads { (lens : ℕ → Lens) (recover retry missed number after : ℕ) (octets : List ℕ) (us : List Turn) (f : Exchanged) → f.fate ≡ Fate.Lost after → f.sent ≡ octets → MasterUnder lens recover retry self.old octets missed us →
@@ -420,6 +448,7 @@ impl MasterNode {
             ServedShows lens recover retry self.new (missed_behind lens recover retry f.fate missed) (suc made) (map (served_behind lens recover retry (gives_up_at lens recover retry missed) made f) vs) }
         ensures counts { (k : ℕ) → forwards_at self.new.posts.items k ≡ forwards_at self.old.posts.items k }
         ensures recalls { (lens : ℕ → Lens) (recover retry missed : ℕ) (octets : List ℕ) (us : List Turn) → MasterUnder lens recover retry self.old octets missed us → AllRecall lens [] us (recalls self.old) (recalls self.new) }
+        ensures gateway { TellsNone self.old self.new }
     {
         self.list.ends();
         self.lan.begins();

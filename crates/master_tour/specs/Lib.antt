@@ -15,6 +15,7 @@ pub mod Sizes
 pub mod Recalls
 pub mod Behind
 pub mod Stops
+pub mod Replied
 pub mod Counting
 pub mod Frees
 pub mod First

@@ -24,6 +24,7 @@ impl<H: Hand> Tour<H> {
     ghost use Rattle.master_side.specs.Heard.{Brought};
     ghost use Rattle.master_tour.specs.Brings.{accepted_in};
     ghost use Rattle.master_tour.specs.Joins.{Joins};
+    ghost use Rattle.master_tour.specs.Replied.{StopReplies};
     ghost use Rattle.life_frames.specs.of_life_model.Lives.{Life, Spot, life_back, life_lost};
     ghost use Rattle.life_frames.specs.of_segment_model.Record.{News, Kept};
     ghost use Rattle.master_side.specs.Passing.{counts_at, news_back, news_lost};
@@ -78,6 +79,7 @@ impl<H: Hand> Tour<H> {
         ensures brought { (lens : ℕ → Lens) (sent : List (Datagram Body)) → Returns sent (seen lens frame.now.items) → 1 ≤ length sent → EachPair (λ s t. (x : Speech Body H.Asked Reply) (recover : ℕ) (spot : Spot) (l : Life Body H.Asked Reply) →
             StopSpot spot s → StopUnder lens s l sent → StopLived s x recover spot l →
             Brought (H.brings t.side.hand) t.side.heard (accepted_in spot l (seen lens frame.now.items))) self.old.stops.items self.new.stops.items }
+        ensures replied { EachPair (λ s t. StopReplies frame.now.items s t) self.old.stops.items self.new.stops.items }
         ensures joined { (lens : ℕ → Lens) (sent : List (Datagram Body)) → Returns sent (seen lens frame.now.items) → 1 ≤ length sent → EachPair (λ s t. (x : Speech Body H.Asked Reply) (recover : ℕ) (spot : Spot) (l : Life Body H.Asked Reply) →
             StopSpot spot s → StopUnder lens s l sent → StopLived s x recover spot l →
             Joins H.unjoined H.joined (H.completed t.side.hand) t.news t.side.heard (H.join s.side.hand) (H.join t.side.hand) (accepted_in spot l (seen lens frame.now.items))) self.old.stops.items self.new.stops.items }
@@ -113,6 +115,7 @@ impl<H: Hand> Tour<H> {
         ensures brought { (lens : ℕ → Lens) (sent : List (Datagram Body)) → Returns sent (seen lens frame.now.items) → 1 ≤ length sent → EachPair (λ s t. (x : Speech Body H.Asked Reply) (recover : ℕ) (spot : Spot) (l : Life Body H.Asked Reply) →
             StopSpot spot s → StopUnder lens s l sent → StopLived s x recover spot l →
             Brought (H.brings t.side.hand) t.side.heard (accepted_in spot l (seen lens frame.now.items))) self.old.stops.items self.new.stops.items }
+        ensures replied { EachPair (λ s t. StopReplies frame.now.items s t) self.old.stops.items self.new.stops.items }
         ensures joined { (lens : ℕ → Lens) (sent : List (Datagram Body)) → Returns sent (seen lens frame.now.items) → 1 ≤ length sent → EachPair (λ s t. (x : Speech Body H.Asked Reply) (recover : ℕ) (spot : Spot) (l : Life Body H.Asked Reply) →
             StopSpot spot s → StopUnder lens s l sent → StopLived s x recover spot l →
             Joins H.unjoined H.joined (H.completed t.side.hand) t.news t.side.heard (H.join s.side.hand) (H.join t.side.hand) (accepted_in spot l (seen lens frame.now.items))) self.old.stops.items self.new.stops.items }

@@ -71,6 +71,7 @@ impl<H: Hand> Stop<H> {
     ghost use Rattle.master_side.specs.Heard.{Brought, HasJoined};
     ghost use Rattle.master_tour.specs.Brings.{accepted_in};
     ghost use Rattle.master_tour.specs.Joins.{Joins};
+    ghost use Rattle.master_tour.specs.Replied.{OpenReplies, StopReplies};
     ghost use Rattle.life_frames.specs.of_segment_model.Seats as Seats;
     ghost use Rattle.life_frames.specs.of_task_model.Accounts.{Account, duty_access, account_back};
     ghost use Rattle.life_frames.specs.of_frame_view.View.{Lens};
@@ -141,6 +142,7 @@ impl<H: Hand> Stop<H> {
             ShowsOf self.old.side x d a →
             Under self.old.side.station self.old.at self.old.under self.old.side.carried d.halves (duty_access a.hand) back →
             Brought (H.brings self.new.side.hand) self.new.side.heard (all_accepted self.old.side.station d.halves (grams back)) }
+        ensures replied { OpenReplies octets.now self.old self.new }
         ensures joined { self.old.side.heard ≡ None → (x : Speech Body H.Asked Reply) (lens : ℕ → Lens) (back : List (Datagram Body)) (d : Seats.Side Body H.Asked Reply) (a : Account H.Asked Reply) → back ≡ seen lens octets.now →
             ShowsOf self.old.side x d a →
             Under self.old.side.station self.old.at self.old.under self.old.side.carried d.halves (duty_access a.hand) back →
@@ -246,6 +248,7 @@ impl<H: Hand> Stop<H> {
         ensures brought { self.old.stand ≡ Stand.Open → self.old.side.heard ≡ None → (x : Speech Body H.Asked Reply) (recover : ℕ) (spot : Spot) (lens : ℕ → Lens) (sent : List (Datagram Body)) (l : Life Body H.Asked Reply) →
             StopSpot spot self.old → Returns sent (seen lens octets.now) → StopUnder lens self.old l sent → StopLived self.old x recover spot l →
             Brought (H.brings self.new.side.hand) self.new.side.heard (accepted_in spot l (seen lens octets.now)) }
+        ensures replied { self.old.stand ≡ Stand.Open → self.old.side.heard ≡ None → StopReplies octets.now self.old self.new }
         ensures joined { self.old.stand ≡ Stand.Open → self.old.news ≡ None → self.old.side.heard ≡ None → (x : Speech Body H.Asked Reply) (recover : ℕ) (spot : Spot) (lens : ℕ → Lens) (sent : List (Datagram Body)) (l : Life Body H.Asked Reply) →
             StopSpot spot self.old → Returns sent (seen lens octets.now) → StopUnder lens self.old l sent → StopLived self.old x recover spot l →
             Joins H.unjoined H.joined (H.completed self.new.side.hand) self.new.news self.new.side.heard (H.join self.old.side.hand) (H.join self.new.side.hand) (accepted_in spot l (seen lens octets.now)) }
@@ -280,6 +283,7 @@ impl<H: Hand> Stop<H> {
         ensures brought { (x : Speech Body H.Asked Reply) (recover : ℕ) (spot : Spot) (lens : ℕ → Lens) (sent : List (Datagram Body)) (l : Life Body H.Asked Reply) →
             StopSpot spot self.old → Returns sent (seen lens octets.now) → StopUnder lens self.old l sent → StopLived self.old x recover spot l →
             Brought (H.brings self.new.side.hand) self.new.side.heard (accepted_in spot l (seen lens octets.now)) }
+        ensures replied { StopReplies octets.now self.old self.new }
         ensures joined { (x : Speech Body H.Asked Reply) (recover : ℕ) (spot : Spot) (lens : ℕ → Lens) (sent : List (Datagram Body)) (l : Life Body H.Asked Reply) →
             StopSpot spot self.old → Returns sent (seen lens octets.now) → StopUnder lens self.old l sent → StopLived self.old x recover spot l →
             Joins H.unjoined H.joined (H.completed self.new.side.hand) self.new.news self.new.side.heard (H.join self.old.side.hand) (H.join self.new.side.hand) (accepted_in spot l (seen lens octets.now)) }

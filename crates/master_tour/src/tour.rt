@@ -55,6 +55,7 @@ impl<H: Hand> Tour<H> {
     ghost use Rattle.master_side.specs.Heard.{Brought};
     ghost use Rattle.master_tour.specs.Brings.{accepted_in};
     ghost use Rattle.master_tour.specs.Joins.{Joins};
+    ghost use Rattle.master_tour.specs.Replied.{StopReplies};
     ghost use Rattle.master_tour.specs.Made.{FrameMade, FrameSent, ComesAt, IsClearFor, is_in};
     ghost use Rattle.life_frames.specs.of_life_model.Lives.{Life, Spot, life_next, life_back, life_lost};
     ghost use Rattle.life_frames.specs.of_segment_model.Record.{News, Kept};
@@ -91,6 +92,7 @@ impl<H: Hand> Tour<H> {
         ensures brought { EachPair (λ s t. (lens : ℕ → Lens) (sent : List (Datagram Body)) → Returns sent (seen lens octets.now) → (x : Speech Body H.Asked Reply) (recover : ℕ) (spot : Spot) (l : Life Body H.Asked Reply) →
             StopSpot spot s → StopUnder lens s l sent → StopLived s x recover spot l →
             Brought (H.brings t.side.hand) t.side.heard (accepted_in spot l (seen lens octets.now))) self.old.stops.items self.new.stops.items }
+        ensures replied { EachPair (λ s t. StopReplies octets.now s t) self.old.stops.items self.new.stops.items }
         ensures joined { EachPair (λ s t. (lens : ℕ → Lens) (sent : List (Datagram Body)) → Returns sent (seen lens octets.now) → (x : Speech Body H.Asked Reply) (recover : ℕ) (spot : Spot) (l : Life Body H.Asked Reply) →
             StopSpot spot s → StopUnder lens s l sent → StopLived s x recover spot l →
             Joins H.unjoined H.joined (H.completed t.side.hand) t.news t.side.heard (H.join s.side.hand) (H.join t.side.hand) (accepted_in spot l (seen lens octets.now))) self.old.stops.items self.new.stops.items }

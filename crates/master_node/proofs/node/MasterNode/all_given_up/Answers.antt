@@ -13,6 +13,7 @@ use Rattle.master_node.specs.Serving.{mails_in}
 use Rattle.master_node.proofs.Droppeds.{drops_on, drops_start}
 use Rattle.master_node.specs.Handed.{DropsWork}
 use Rattle.master_node.proofs.Endings.{drop_on, drop_start}
+use Rattle.master_node.proofs.Besides.{besides_as, besides_none, besides_then}
 use Rattle.master_node.proofs.node.MasterNode.all_given_up.Goals as goal
 
 pub loop-k-init : goal.loop-k-init
@@ -21,6 +22,7 @@ loop-k-init c = record {
   kept = node_refl c.args.self.now;
   lan = happens_none 0 _ _ refl;
   tour = refl;
+  gateway = besides_none 0 _ _ refl;
   works = drop_start _ c.args.self.now.posts.items;
   mails = drops_start _ (mails_in c.args.self.now);
   listed = lists_none _ _ _ refl refl;
@@ -39,6 +41,7 @@ loop-k-preserved c =
       kept = node_then _ _ _ step.kept inv.kept;
       lan = happens_then k 1 _ _ _ inv.lan step.lan;
       tour = step.tour ∙ inv.tour;
+      gateway = besides_then k 1 [] [] m c.loop-k.self c.given_up_at.new.self inv.gateway step.gateway;
       works = subst (λ z. DropsWork (λ p. gave_at m.tour.stops.items p) z m.posts.items c.given_up_at.new.self.posts.items) (sym (take_more m.tour.visit.items k 0 inside))
           (drop_on _ (take k m.tour.visit.items) (get_or m.tour.visit.items k 0 ∷ []) m.posts.items c.loop-k.self.posts.items c.given_up_at.new.self.posts.items inv.works
           (subst (λ z. DropsWork (λ p. gave_at z.stops.items p) (get_or m.tour.visit.items k 0 ∷ []) c.loop-k.self.posts.items c.given_up_at.new.self.posts.items) inv.tour
@@ -74,3 +77,6 @@ pub returns-clause-works : goal.returns-clause-works
 returns-clause-works c =
     let m = c.args.self.now in
     subst (λ z. DropsWork (λ p. gave_at m.tour.stops.items p) z m.posts.items c.loop-k.self.posts.items) (take_all c.loop-k.k m.tour.visit.items (omega (arith, c.loop-k-test.false, c.len-k-end.ensures.value))) c.loop-k.invariant.works
+
+pub returns-clause-gateway : goal.returns-clause-gateway
+returns-clause-gateway c = besides_as c.loop-k.k 16 [] [] c.args.self.now c.loop-k.self (omega arith) refl c.loop-k.invariant.gateway

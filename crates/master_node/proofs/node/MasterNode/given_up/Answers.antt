@@ -12,6 +12,7 @@ use Rattle.master_node.specs.Serving.{mails_in}
 use Rattle.master_node.proofs.Droppeds.{drops_none, drops_one}
 use Rattle.master_node.specs.declared.post.Work.{Work}
 use Rattle.master_node.proofs.Endings.{drop_none, drop_one}
+use Rattle.master_node.proofs.Besides.{besides_none, besides_put, besides_then}
 use Rattle.master_node.proofs.node.MasterNode.given_up.Goals as goal
 
 pub returns-clause-kept : goal.returns-clause-kept
@@ -78,3 +79,10 @@ returns-then-not-is_given_up-clause-works c =
     let p = c.args.place in
     let l : p < length m.tour.stops.items = omega (arith, c.requires, m.paired, m.tour.stops.ok.0) in
     drop_none _ p m.posts.items m.posts.items (here_is (λ s. is_given_up s.news) m.tour.stops.items p c.index.result.now false l c.index.ensures (sym c.is_given_up.ensures ∙ c.if-not-is_given_up.true)) refl
+
+pub returns-clause-gateway : goal.returns-clause-gateway
+returns-clause-gateway c =
+    besides_then 0 1 [] [] c.args.self.now c.dropped.new.self _ c.dropped.ensures.gateway (besides_then 1 0 [] [] c.dropped.new.self _ _ (besides_put c.dropped.new.self _ _ c.put.ensures.last c.put.ensures.few refl) c.down_where.ensures.gateway)
+
+pub returns-then-not-is_given_up-clause-gateway : goal.returns-then-not-is_given_up-clause-gateway
+returns-then-not-is_given_up-clause-gateway c = besides_none 1 _ _ refl

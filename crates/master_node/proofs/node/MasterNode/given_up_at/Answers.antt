@@ -8,6 +8,7 @@ use Rattle.master_node.proofs.Happenings.{happens_none}
 use Rattle.master_node.specs.Serving.{mails_in}
 use Rattle.master_node.proofs.Droppeds.{drops_none}
 use Rattle.master_node.proofs.Endings.{drop_none}
+use Rattle.master_node.proofs.Besides.{besides_none}
 use Rattle.master_node.proofs.node.MasterNode.given_up_at.Goals as goal
 
 pub returns-else-place-len-clause-kept : goal.returns-else-place-len-clause-kept
@@ -36,3 +37,6 @@ returns-else-place-len-clause-works c =
     let p = c.args.place in
     let l : length m.tour.stops.items ≤ p = omega (arith, c.if-place-len.false, c.len.ensures, m.paired, m.tour.stops.ok.0) in
     drop_none _ p m.posts.items m.posts.items (holds_beyond (λ s. is_given_up s.news) m.tour.stops.items p l) refl
+
+pub returns-else-place-len-clause-gateway : goal.returns-else-place-len-clause-gateway
+returns-else-place-len-clause-gateway c = besides_none 1 _ _ refl

@@ -46,6 +46,9 @@ use Rattle.master_node.specs.Passes.{waits_in}
 use Rattle.master_node.proofs.ServedLosts as Losts
 use Rattle.master_node.specs.Handed.{work_at}
 use Rattle.master_node.proofs.Numbereds.{numbers_behind}
+use Rattle.std.proofs.Common.{[], ◌++◌}
+use Rattle.std.specs.Prelude.{filter}
+use Rattle.master_node.specs.Besides.{is_gateway}
 use Rattle.master_node.proofs.node.MasterNode.lost.Goals as goal
 
 pub returns-clause-leads : goal.returns-clause-leads
@@ -184,3 +187,6 @@ returns-clause-served c = λ lens recover retry missed made after octets vs f p 
       early = u.early;
       numbered = numbers_behind (served_behind lens recover retry gives made f) (λ v. length v.asked) (λ w. length w.asked) (λ v. refl) vs m.posts.items n.posts.items u.numbered k.kept.numbered;
     }
+
+pub returns-clause-gateway : goal.returns-clause-gateway
+returns-clause-gateway c = λ few. (let before = c.ends.ensures.few in c.all_given_up.ensures.gateway.told (omega (arith, before, few))) ∙ (λ i. filter is_gateway (c.ends.ensures.last i) ++ [])

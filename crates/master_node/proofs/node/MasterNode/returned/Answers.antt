@@ -47,6 +47,15 @@ use Rattle.master_tour.specs.Goes.{holds_at}
 use Rattle.master_tour.specs.Made.{is_in}
 use Rattle.master_node.proofs.Endings.{unvisited}
 use Rattle.master_node.proofs.Numbereds.{numbers_behind}
+use Rattle.std.proofs.Common.{◌++◌}
+use Rattle.std.specs.Prelude.{filter}
+use Rattle.master_tour.specs.Orders.{AreOnce}
+use Rattle.master_node.specs.Besides.{gateway_by, is_gateway, told_by}
+use Rattle.master_node.specs.Gateways.{lives_told}
+use Rattle.master_node.specs.Handed.{work_at}
+use Rattle.master_node.specs.Listing.{told_in}
+use Rattle.master_node.proofs.Gateways.{all_told}
+use Rattle.master_node.proofs.Listing.{told_same}
 use Rattle.master_node.proofs.node.MasterNode.returned.Goals as goal
 
 pub returns-clause-leads : goal.returns-clause-leads
@@ -186,3 +195,26 @@ returns-clause-served c = λ lens recover retry missed made octets vs f p b u r.
       early = u.early;
       numbered = numbers_behind (served_behind lens recover retry gives made f) (λ v. length v.asked) (λ w. length w.asked) (λ v. refl) vs m.posts.items n.posts.items u.numbered c.all_back.ensures.kept.numbered;
     }
+
+pub returns-clause-gateway : goal.returns-clause-gateway
+returns-clause-gateway c = λ lens recover retry missed made octets vs f p b u r few.
+    let m = c.args.self.now in
+    let n = c.all_back.new.self in
+    let e = c.returned.ensures in
+    let ss = m.tour.stops.items in
+    let ts = c.returned.new.self.stops.items in
+    let back = seen lens c.args.frame.now.items in
+    let gives = gives_up_at lens recover retry missed in
+    let ws = map (served_behind lens recover retry gives made f) vs in
+    let served = returns-clause-served c lens recover retry missed made octets vs f p b u r in
+    let there = subst (λ z. AllThree (λ w q t. IsServed lens recover (suc made) w q t) ws n.posts.items z.stops.items) c.all_back.ensures.tells.tour served.each in
+    let same = all_told lens recover retry gives made f octets c.args.frame.now.items p b _
+    (λ v q s t i k. k lens (seen lens octets) r u.sent (speech_at lens v.turn.lived.spot) recover v.turn.lived.spot v.turn.lived.life i.served.lives.planned.stands i.way i.served.lives.shown) vs m.posts.items n.posts.items ss ts u.each there e.replied in
+    let once = subst (λ z. AreOnce z.items) (sym e.tour.0) u.goes.comes.once in
+    let before = c.ends.ensures.few in
+    let visit = c.returned.new.self.visit.items in
+    let tells = λ (k : ℕ). told_by (λ t. gateway_by (work_at m.posts.items k) t) ts k in
+    (c.all_back.ensures.gateway once).told (omega (arith, before, few))
+    ∙ (λ i. filter is_gateway (c.ends.ensures.last i) ++ told_in tells visit)
+    ∙ told_same tells (λ k. lives_told back vs ws k) visit (λ k w. same k)
+    ∙ ap (λ z. told_in (λ k. lives_told back vs ws k) z.items) e.tour.0

@@ -47,6 +47,26 @@ returns-in-Opening-clause-brought g c = λ x recover spot lens sent l sp r u sh.
 pub returns-in-Open-clause-brought : goal.returns-in-Open-clause-brought
 returns-in-Open-clause-brought g c = λ x recover spot lens sent l sp r u sh. c.open_met.ensures.brought c.in-Open.is refl x recover spot lens sent l sp r u sh
 
+pub returns-in-Gone-clause-replied : goal.returns-in-Gone-clause-replied
+returns-in-Gone-clause-replied g c = λ lens sent r k x recover spot l sp u sh.
+    let t = c.args.self.now in
+    let w = c.args.self.now.side in
+    let back = seen lens c.args.octets.now in
+    let stood = (subst (λ z. StopShows (λ d a. SideShows (g.H.Hand.shows w.hand x) w.out w.inn w.fresh w.duty d a) recover spot z t.spare l) c.in-Gone.is sh).stood in
+    subst (λ (z : Lives.Stand). accepted_at spot.station l.era.side.halves back z ≡ []) (sym stood) refl
+
+pub returns-in-Opening-clause-replied : goal.returns-in-Opening-clause-replied
+returns-in-Opening-clause-replied g c = λ lens sent r k x recover spot l sp u sh.
+    let t = c.args.self.now in
+    let w = c.args.self.now.side in
+    let back = seen lens c.args.octets.now in
+    let stood = (subst (λ z. StopShows (λ d a. SideShows (g.H.Hand.shows w.hand x) w.out w.inn w.fresh w.duty d a) recover spot z t.spare l) c.in-Opening.is sh).stood in
+    subst (λ (o : Option Heard). Brought (g.H.Hand.replied c.opening_back.new.self.side.hand (g.H.Hand.awaits w.hand)) o (accepted_in spot l back)) (sym c.opening_back.ensures.heard)
+    (subst (λ (z : Lives.Stand). accepted_at spot.station l.era.side.halves back z ≡ []) (sym stood.stand) refl)
+
+pub returns-in-Open-clause-replied : goal.returns-in-Open-clause-replied
+returns-in-Open-clause-replied g c = λ lens sent r k x recover spot l sp u sh. c.open_met.ensures.replied c.in-Open.is refl lens sent r k x recover spot l sp u sh
+
 pub returns-in-Gone-clause-joined : goal.returns-in-Gone-clause-joined
 returns-in-Gone-clause-joined g c = λ x recover spot lens sent l sp r u sh.
     let t = c.args.self.now in

@@ -1,6 +1,6 @@
 use Rattle.std.proofs.Common.{sym, subst, ◌∙◌, ap, ◌≤◌, get_or, Option, []}
 use Rattle.datagrams.specs.Frame.{parts_of}
-use Rattle.life_frames.specs.of_frame_view.Seen.{part_seen}
+use Rattle.life_frames.specs.of_frame_view.Seen.{part_seen, seen}
 use Rattle.life_frames.specs.of_link_model.Frames.{all_accepted}
 use Rattle.life_frames.specs.of_segment_model.Slaves.{grams}
 use Rattle.life_frames.specs.of_task_model.Accounts.{duty_access}
@@ -76,6 +76,34 @@ returns-then-seek-clause-brought g c = λ n x lens back d a e s u.
     let here = stands_in ds c.seek.new.self.number c.seek.new.self.part no_part (c.seek.ensures.stands ds c.requires.frame.1) ∙ ap (λ n. get_or (parts_of 16 ds) n no_part) (c.seek.ensures.at c.if-seek.true) in
     has_accepted (λ ms. Brought (g.H.Hand.brings y.hand) y.heard ms) w.station c.args.self.now.at c.args.self.now.under w.carried (duty_access a.hand) lens c.args.octets.now c.body_of-body.result.now (parts_of 16 ds) _ no_part back d.halves c.if-not-self.false here c.body_of-body.ensures is u
     (λ b m i. c.returned.ensures.brought n x b d a s m i)
+
+pub returns-then-not-self-clause-replied : goal.returns-then-not-self-clause-replied
+returns-then-not-self-clause-replied g c = λ n x lens d a s u.
+    let w = c.args.self.now.side in
+    let back = seen lens c.args.octets.now in
+    subst (λ (o : Option Heard). Brought (g.H.Hand.replied w.hand (g.H.Hand.awaits w.hand)) o (all_accepted w.station d.halves (grams back))) (sym n)
+    (accepted_as w.station back [] d.halves (nothing_under w.station c.args.self.now.at c.args.self.now.under w.carried d.halves (duty_access a.hand) back c.if-not-self.true u))
+
+pub returns-else-seek-clause-replied : goal.returns-else-seek-clause-replied
+returns-else-seek-clause-replied g c = λ n x lens d a s u.
+    let w = c.args.self.now.side in
+    let back = seen lens c.args.octets.now in
+    let ds = c.requires.frame.0 in
+    let is = seen_parts lens c.args.octets.now ds c.requires.frame.1 in
+    let short = subst (λ n. n ≤ c.args.self.now.at) (sym (parts_length 16 ds)) (c.seek.ensures.none c.if-seek.false ds c.requires.frame.1) in
+    subst (λ (o : Option Heard). Brought (g.H.Hand.replied w.hand (g.H.Hand.awaits w.hand)) o (all_accepted w.station d.halves (grams back))) (sym n)
+    (accepted_as w.station back [] d.halves (short_under w.station c.args.self.now.at c.args.self.now.under w.carried d.halves (duty_access a.hand) (part_seen lens c.args.octets.now) (parts_of 16 ds) back is short u))
+
+pub returns-then-seek-clause-replied : goal.returns-then-seek-clause-replied
+returns-then-seek-clause-replied g c = λ n x lens d a s u.
+    let w = c.args.self.now.side in
+    let y = c.returned.new.self in
+    let back = seen lens c.args.octets.now in
+    let ds = c.requires.frame.0 in
+    let is = seen_parts lens c.args.octets.now ds c.requires.frame.1 in
+    let here = stands_in ds c.seek.new.self.number c.seek.new.self.part no_part (c.seek.ensures.stands ds c.requires.frame.1) ∙ ap (λ n. get_or (parts_of 16 ds) n no_part) (c.seek.ensures.at c.if-seek.true) in
+    has_accepted (λ ms. Brought (g.H.Hand.replied y.hand (g.H.Hand.awaits w.hand)) y.heard ms) w.station c.args.self.now.at c.args.self.now.under w.carried (duty_access a.hand) lens c.args.octets.now c.body_of-body.result.now (parts_of 16 ds) _ no_part back d.halves c.if-not-self.false here c.body_of-body.ensures is u
+    (λ b m i. c.returned.ensures.replied n x b d a s m i)
 
 pub returns-then-not-self-clause-joined : goal.returns-then-not-self-clause-joined
 returns-then-not-self-clause-joined g c = λ n x lens back d a e s u.

@@ -77,6 +77,22 @@ returns-clause-brought g c = λ o n x recover spot lens sent l sp r u sh.
     subst (λ z. Brought (g.H.Hand.brings z.hand) z.heard (accepted_in spot l back)) (sym c.reopen.ensures.side)
     (subst (λ (z : Lives.Stand). Brought (g.H.Hand.brings m.hand) m.heard (accepted_at spot.station h back z)) (sym stood.0) there)
 
+pub returns-clause-replied : goal.returns-clause-replied
+returns-clause-replied g c = λ o n lens sent r k x recover spot l sp u sh.
+    let t = c.args.self.now in
+    let w = c.args.self.now.side in
+    let m = c.open_back.new.self.side in
+    let back = seen lens c.args.octets.now in
+    let h = l.era.side.halves in
+    let ds = c.requires.frame.0 in
+    let aim = subst (SameAim w.station) (sym (seen_parts lens c.args.octets.now ds c.requires.frame.1)) (aims lens c.args.octets.now w.station (parts_of 16 ds) t.named) in
+    let stood = (subst (λ z. StopShows (λ d a. SideShows (g.H.Hand.shows w.hand x) w.out w.inn w.fresh w.duty d a) recover spot z t.spare l) o sh).stood in
+    let under = under_back w.station t.at t.under w.carried h (duty_access l.era.account.hand) sent back r (subst (λ z. StandUnder lens w.station t.at t.under w.carried z l sent) o u) in
+    let own = own_accepted (λ ms. Brought (g.H.Hand.replied m.hand (g.H.Hand.awaits w.hand)) m.heard ms) w.station back h aim (c.open_back.ensures.replied n x lens l.era.side l.era.account stood.1 under) in
+    let there = subst (λ (z : ℕ). Brought (g.H.Hand.replied m.hand (g.H.Hand.awaits w.hand)) m.heard (all_accepted z h (grams (Own.own z back)))) sp.station_is own in
+    subst (λ z. Brought (g.H.Hand.replied z.hand (g.H.Hand.awaits w.hand)) z.heard (accepted_in spot l back)) (sym c.reopen.ensures.side)
+    (subst (λ (z : Lives.Stand). Brought (g.H.Hand.replied m.hand (g.H.Hand.awaits w.hand)) m.heard (accepted_at spot.station h back z)) (sym stood.0) there)
+
 pub returns-clause-joined : goal.returns-clause-joined
 returns-clause-joined g c = λ o q n x recover spot lens sent l sp r u sh.
     let t = c.args.self.now in

@@ -13,6 +13,7 @@ use Rattle.master_side.specs.of_master_duty.Reply.{Reply}
 use Rattle.master_side.specs.Heard.{Brought}
 use Rattle.master_tour.specs.Brings.{accepted_in}
 use Rattle.master_tour.specs.Joins.{Joins}
+use Rattle.master_tour.specs.Replied.{StopReplies}
 use Rattle.master_tour.specs.Behind.{StopBack}
 use Rattle.master_side.specs.Shown.{SideShows}
 use Rattle.master_tour.specs.Cursor.{IsAtOne}
@@ -38,4 +39,5 @@ invariant-loop-i g l = IsAtOne l.octets l.cursor.number l.cursor.part × Walked 
     Walked (λ s t. t.side.pace ≡ s.side.pace) l.i l.initial.self.stops.items l.self.stops.items ×
     Walked (λ s t. (lens : ℕ → Lens) (sent : List (Datagram Body)) → Returns sent (seen lens l.octets) → (x : Speech Body g.H.Hand.Asked Reply) (recover : ℕ) (spot : Spot) (k : Life Body g.H.Hand.Asked Reply) →
     IsSpot spot s.side.station s.place s.start → StandUnder lens s.side.station s.at s.under s.side.carried s.stand k sent → StopShows (λ d a. SideShows (g.H.Hand.shows s.side.hand x) s.side.out s.side.inn s.side.fresh s.side.duty d a) recover spot s.stand s.spare k →
-    StopBack x spot k (seen lens l.octets) (g.H.Hand.knows s.side.hand) (g.H.Hand.knows t.side.hand) s t) l.i l.initial.self.stops.items l.self.stops.items
+    StopBack x spot k (seen lens l.octets) (g.H.Hand.knows s.side.hand) (g.H.Hand.knows t.side.hand) s t) l.i l.initial.self.stops.items l.self.stops.items ×
+    Walked (λ s t. StopReplies l.octets s t) l.i l.initial.self.stops.items l.self.stops.items

@@ -5,7 +5,7 @@ use Rattle.master_tour.proofs.Walks.{steps_set}
 use Rattle.master_tour.proofs.Steps.{frame_grows}
 use Rattle.master_tour.proofs.Mades.{made_ahead, made_other, grown_none}
 use Rattle.master_tour.proofs.Rooms.{fits_in, looks}
-use Rattle.std.proofs.Common.{◌≤◌, sym, arith}
+use Rattle.std.proofs.Common.{sym}
 use Rattle.master_tour.specs.First.{FitsFirst}
 use Rattle.master_tour.proofs.tour.Tour.fits.Goals as goal
 

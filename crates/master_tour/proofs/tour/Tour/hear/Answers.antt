@@ -9,6 +9,7 @@ use Rattle.master_side.specs.of_master_duty.Reply.{Reply}
 use Rattle.master_side.specs.Heard.{Brought}
 use Rattle.master_tour.specs.Brings.{accepted_in}
 use Rattle.master_tour.specs.Joins.{Joins}
+use Rattle.master_tour.specs.Replied.{StopReplies}
 use Rattle.master_tour.specs.Behind.{StopBack}
 use Rattle.master_side.specs.Shown.{SideShows}
 use Rattle.master_tour.specs.Walks.{EachPair}
@@ -48,6 +49,7 @@ returns-then-is_none g c = record {
       IsSpot spot s.side.station s.place s.start → StandUnder lens s.side.station s.at s.under s.side.carried s.stand k sent → StopShows (λ d a. SideShows (g.H.Hand.shows s.side.hand x) s.side.out s.side.inn s.side.fresh s.side.duty d a) recover spot s.stand s.spare k →
       Joins g.H.Hand.unjoined g.H.Hand.joined (g.H.Hand.completed t.side.hand) t.news t.side.heard (g.H.Hand.join s.side.hand) (g.H.Hand.join t.side.hand) (accepted_in spot k (seen lens octets))) c.args.self.now.stops.items c.all_back.new.self.stops.items) c.as_slice-octets.ensures.value
       (each_map _ _ c.args.self.now.stops.items c.all_back.new.self.stops.items (λ s t p. p lens sent (subst (λ z. Returns sent (seen lens z)) (sym c.as_slice-octets.ensures.value) a)) c.all_back.ensures.joined);
+  replied = subst (λ octets. EachPair (λ s t. StopReplies octets s t) c.args.self.now.stops.items c.all_back.new.self.stops.items) c.as_slice-octets.ensures.value c.all_back.ensures.replied;
   recalls = λ lens sent a n.
       subst (λ octets. EachPair (λ s t. (x : Speech Body g.H.Hand.Asked Reply) (recover : ℕ) (spot : Spot) (k : Life Body g.H.Hand.Asked Reply) →
       IsSpot spot s.side.station s.place s.start → StandUnder lens s.side.station s.at s.under s.side.carried s.stand k sent → StopShows (λ d a. SideShows (g.H.Hand.shows s.side.hand x) s.side.out s.side.inn s.side.fresh s.side.duty d a) recover spot s.stand s.spare k →
@@ -73,6 +75,8 @@ returns-else-is_none g c = record {
       absurd (none_returns sent (seen lens c.args.frame.now.items) n a (seen_none lens c.args.frame.now.items c.as_slice-octets.result.now c.fault.result c.as_slice-octets.ensures.value c.fault.ensures.fault c.if-is_none.ensures));
   joined = λ lens sent a n.
       absurd (none_returns sent (seen lens c.args.frame.now.items) n a (seen_none lens c.args.frame.now.items c.as_slice-octets.result.now c.fault.result c.as_slice-octets.ensures.value c.fault.ensures.fault c.if-is_none.ensures));
+  replied = each_same _ c.args.self.now.stops.items (λ s lens sent a n.
+      absurd (none_returns sent (seen lens c.args.frame.now.items) n a (seen_none lens c.args.frame.now.items c.as_slice-octets.result.now c.fault.result c.as_slice-octets.ensures.value c.fault.ensures.fault c.if-is_none.ensures)));
   recalls = λ lens sent a n.
       absurd (none_returns sent (seen lens c.args.frame.now.items) n a (seen_none lens c.args.frame.now.items c.as_slice-octets.result.now c.fault.result c.as_slice-octets.ensures.value c.fault.ensures.fault c.if-is_none.ensures));
   counts = λ lens sent a n.
