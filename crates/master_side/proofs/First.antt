@@ -1,6 +1,6 @@
 -- The datagram with which a service begins.
-use Rattle.std.proofs.Common.{◌≡◌, ℕ, Bool, true, false, Option, Some, None, refl, sym, ap, ◌∙◌}
-use Rattle.std.specs.Prelude.{◌&&◌, not, is_some, if◌then◌else◌}
+use Rattle.std.proofs.Common.{◌≡◌, Bool, true, false, Option, Some, None, refl, ap, ◌∙◌}
+use Rattle.std.specs.Prelude.{is_some, if◌then◌else◌}
 use Rattle.mailbox_mail.specs.declared.mail.Mail.{Mail}
 use Rattle.frame_view.specs.of_link_model.Master.{InState}
 use Rattle.mailbox_master.specs.Any.{in_half_of}
@@ -10,11 +10,10 @@ use Rattle.master_duty.specs.declared.duty.Duty.{Duty}
 use Rattle.master_duty.specs.declared.stage.Met.{Met}
 use Rattle.master_duty.specs.declared.stage.Stage.{Stage}
 use Rattle.master_duty.specs.Stages.{errand_of}
-use Rattle.master_side.specs.Again.{HoldsOn, next_len, next_with}
+use Rattle.master_side.specs.Again.{HoldsOn}
 use Rattle.master_side.specs.Carried.{choice_of, duty_choice, errand_choice, drain_choice, in_hand, link_choice, mails_choice}
-use Rattle.master_side.specs.First.{HoldsFirst, SendsFirst, first_by, first_of}
+use Rattle.master_side.specs.First.{SendsFirst, first_by}
 use Rattle.master_side.specs.Sent.{gram_len}
-use Rattle.master_side.specs.declared.carried.Carried.{Carried}
 use Rattle.master_side.specs.declared.carried.Target.{Target}
 use Rattle.master_side.specs.declared.carried.Wish.{Wish}
 use Rattle.master_side.specs.declared.hand.Hand.{Ghosts}

@@ -1,5 +1,5 @@
 -- WHAT A MASTER REMEMBERS of a slave's visits between two frames, beside the halves of its link and what is in hand.
-use Rattle.std.specs.Prelude.{◌≡◌, ◌&&◌, ◌==◌, ℕ, Bool, true, false, is_some, Option, Some, None, ⊤}
+use Rattle.std.specs.Prelude.{◌≡◌, ◌&&◌, Bool, true, false, is_some, Option, Some, None, ⊤}
 use Rattle.master_duty.specs.declared.stage.Met.{Met}
 use Rattle.master_side.specs.Carried.{in_hand}
 use Rattle.master_side.specs.declared.carried.Wish.{Wish}

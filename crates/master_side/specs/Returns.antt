@@ -12,11 +12,11 @@ use Rattle.mailbox_mail.specs.declared.mail.MailView.{MailView}
 use Rattle.mailbox_master.specs.Any.{in_half_of}
 use Rattle.master_duty.specs.Reply.{Reply}
 use Rattle.master_duty.specs.of_task_model.Accounts.{duty_access, account_back}
-use Rattle.master_side.specs.Carried.{Meant, IsBack, one}
+use Rattle.master_side.specs.Carried.{Meant, IsBack, one, paused_after, turn_after}
 use Rattle.master_side.specs.Due.{EachDue}
 use Rattle.master_side.specs.Heard.{heard_of, Brought, HasJoined}
-use Rattle.master_side.specs.Passing.{IsKept, news_back, news_lost, read_behind}
-use Rattle.master_side.specs.Sides.{SpeechOf, HalfOf, AccountOf, ShowsOf, PassingOf}
+use Rattle.master_side.specs.Passing.{IsKept, counts_at, news_back, news_lost, read_behind}
+use Rattle.master_side.specs.Sides.{SpeechOf, HalfOf, AccountOf, ShowsOf, LinkStays, PassingOf}
 use Rattle.master_side.specs.declared.hand.Hand.{Ghosts}
 use Rattle.master_side.specs.declared.side.Side.{Side}
 
@@ -69,7 +69,22 @@ module _ {H : Type 0} {G : Ghosts H} where
   abbrev pub ReadsOn : Side H G → Side H G → ℕ → ℕ → Type 0
   ReadsOn s t counter made = (t.pace ≡ s.pace) × (t.read_at ≡ read_behind s.carried (in_half_of s.inn).state counter made s.read_at)
 
-  -- and nothing else changes by that but how far a mail has come that is passed on
+  -- ALL OF THAT a side shows behind its datagram, which came back so in the frame of this number
+  pub record CameBack (s t : Side H G) (counter : ℕ) (octets : List ℕ) (made : ℕ) : Type 0 where
+    pub shown : BackShows s t counter octets
+    pub link : LinkStays s t
+    pub paused : t.paused ≡ paused_after s.carried (in_half_of s.inn).state counter s.paused
+    pub turn : t.turn ≡ turn_after s.carried (in_half_of s.inn).state counter s.turn
+    pub script : G.script t.hand ≡ G.script s.hand
+    pub unpassed : s.passing ≡ None → t.passing ≡ None
+    pub passing : BackPasses s t counter octets (counts_at s.read_at s.pace made)
+    pub read : ReadsOn s t counter made
+    pub brought : BackBrings s t counter octets
+    pub replied : BackReplies s t counter octets
+    pub joined : BackJoins s t counter octets
+    pub knows : BackKnows s t counter octets
+
+  -- behind a read nothing changes but how far a mail has come that is passed on, and the frame of the last done one
   abbrev pub ReadsAlone : Side H G → Side H G → Type 0
   ReadsAlone s t = (t.out ≡ s.out) × (t.inn ≡ s.inn) × (t.fresh ≡ s.fresh) × (t.duty ≡ s.duty) × (t.hand ≡ s.hand) × (t.heard ≡ s.heard)
 

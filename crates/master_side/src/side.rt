@@ -60,14 +60,14 @@ pub struct Side<H: Hand> {
 }
 
 impl<H: Hand> Side<H> {
-    ghost use Rattle.std.specs.Prelude.{◌≡◌, ◌≤◌, ◌==◌, ◌&&◌, not, ℕ, Bool, true, false, List, Option, Some, None, IfSome, is_some, length, if◌then◌else◌};
+    ghost use Rattle.std.specs.Prelude.{◌≡◌, ◌≤◌, ◌==◌, ◌&&◌, not, ℕ, true, false, List, Option, Some, None, IfSome, is_some, length, if◌then◌else◌};
     ghost use Rattle.frame_view.specs.of_exchange_model.Exchange.{Speech};
     ghost use Rattle.frame_view.specs.of_link_mails.Body.{Body};
     ghost use Rattle.master_duty.specs.of_task_model.Accounts.{new_account};
     ghost use Rattle.mailbox_master.specs.Any.{in_half_of, in_area_len};
     ghost use Rattle.master_duty.specs.Reply.{Reply};
     ghost use Rattle.master_duty.specs.declared.duty.Duty.{Duty};
-    ghost use Rattle.master_side.specs.Carried.{in_hand, is_errand, paused_after, turn_after, one};
+    ghost use Rattle.master_side.specs.Carried.{in_hand, is_errand, one};
     ghost use Rattle.master_side.specs.Passes.{told_by, empty_where};
     ghost use Rattle.master_side.specs.Passing.{passing_behind, counts_at};
     ghost use Rattle.master_side.specs.Again.{HoldsOn, IsOnWay, Repeats, SendsAtMost, sent_len};
@@ -76,7 +76,7 @@ impl<H: Hand> Side<H> {
     ghost use Rattle.master_side.specs.First.{SendsFirst};
     ghost use Rattle.master_side.specs.Shown.{new_side, wish_begun, takes_ready};
     ghost use Rattle.master_side.specs.Sides.{ShowsOf, ShowsNew, PassingOf, LinkStays, recall_in, HoldsNext, LeavesNone, FreeSays, FreeWhere, NoneMissed, BeginsIn, MailsBegin, StateBegins, PicksIn, PassesIn, StaysPlain};
-    ghost use Rattle.master_side.specs.Returns.{BackShows, BackPasses, BackBrings, BackReplies, BackJoins, BackKnows, ReadsOn, ReadsAlone, LostShows, LostPasses, LostRecalls, LostWrite, HearsShown, HearsPassing, HearsReplied, HearsJoined, HearsKnown};
+    ghost use Rattle.master_side.specs.Returns.{CameBack, ReadsAlone, LostShows, LostPasses, LostRecalls, LostWrite, HearsShown, HearsPassing, HearsReplied, HearsJoined, HearsKnown};
     ghost use Rattle.master_side.specs.declared.carried.Carried.{Carried};
     ghost use Rattle.master_side.specs.declared.carried.Wish.{Wish};
 
@@ -314,18 +314,7 @@ impl<H: Hand> Side<H> {
     // The write of the mail held came back.
     fn write_back(&mut self, counter: u16)
         requires { self.old.carried ≡ Carried.Write }
-        ensures shown { (octets : List ℕ) → BackShows self.old self.new counter octets }
-        ensures link { LinkStays self.old self.new }
-        ensures paused { self.new.paused ≡ paused_after self.old.carried (in_half_of self.old.inn).state counter self.old.paused }
-        ensures turn { self.new.turn ≡ turn_after self.old.carried (in_half_of self.old.inn).state counter self.old.turn }
-        ensures script { H.script self.new.hand ≡ H.script self.old.hand }
-        ensures unpassed { self.old.passing ≡ None → self.new.passing ≡ None }
-        ensures passing { (octets : List ℕ) (counts : Bool) → BackPasses self.old self.new counter octets counts }
-        ensures read { (self.new.read_at ≡ self.old.read_at) × (self.new.pace ≡ self.old.pace) }
-        ensures brought { (octets : List ℕ) → BackBrings self.old self.new counter octets }
-        ensures replied { (octets : List ℕ) → BackReplies self.old self.new counter octets }
-        ensures joined { (octets : List ℕ) → BackJoins self.old self.new counter octets }
-        ensures knows { H.knows self.new.hand ≡ H.knows self.old.hand }
+        ensures { (octets : List ℕ) (made : ℕ) → CameBack self.old self.new counter octets made }
     {
         let passing = written(told(self.passing, self.fresh), counter);
         self.passing = passing;
@@ -388,18 +377,7 @@ impl<H: Hand> Side<H> {
     // The datagram of the inward half came back.
     fn inward_back(&mut self, counter: u16, octets: &[u8], made: u32)
         requires { self.old.carried ≡ Carried.Inward }
-        ensures shown { BackShows self.old self.new counter octets.now }
-        ensures link { LinkStays self.old self.new }
-        ensures paused { self.new.paused ≡ paused_after self.old.carried (in_half_of self.old.inn).state counter self.old.paused }
-        ensures turn { self.new.turn ≡ turn_after self.old.carried (in_half_of self.old.inn).state counter self.old.turn }
-        ensures script { H.script self.new.hand ≡ H.script self.old.hand }
-        ensures unpassed { self.old.passing ≡ None → self.new.passing ≡ None }
-        ensures passing { BackPasses self.old self.new counter octets.now (counts_at self.old.read_at self.old.pace made) }
-        ensures read { ReadsOn self.old self.new counter made }
-        ensures brought { BackBrings self.old self.new counter octets.now }
-        ensures replied { BackReplies self.old self.new counter octets.now }
-        ensures joined { BackJoins self.old self.new counter octets.now }
-        ensures knows { BackKnows self.old self.new counter octets.now }
+        ensures { CameBack self.old self.new counter octets.now made }
     {
         let got = self.inn.returned(counter, octets);
         let was_read = got.is_some();
@@ -414,18 +392,7 @@ impl<H: Hand> Side<H> {
     // The access of a state service came back, or the status of mailbox 0.
     fn errand_back(&mut self, counter: u16, octets: &[u8])
         requires { is_errand self.old.carried ≡ true }
-        ensures shown { BackShows self.old self.new counter octets.now }
-        ensures link { LinkStays self.old self.new }
-        ensures paused { self.new.paused ≡ paused_after self.old.carried (in_half_of self.old.inn).state counter self.old.paused }
-        ensures turn { self.new.turn ≡ turn_after self.old.carried (in_half_of self.old.inn).state counter self.old.turn }
-        ensures script { H.script self.new.hand ≡ H.script self.old.hand }
-        ensures unpassed { self.old.passing ≡ None → self.new.passing ≡ None }
-        ensures passing { (counts : Bool) → BackPasses self.old self.new counter octets.now counts }
-        ensures read { (self.new.read_at ≡ self.old.read_at) × (self.new.pace ≡ self.old.pace) }
-        ensures brought { BackBrings self.old self.new counter octets.now }
-        ensures replied { BackReplies self.old self.new counter octets.now }
-        ensures joined { BackJoins self.old self.new counter octets.now }
-        ensures knows { H.knows self.new.hand ≡ H.knows self.old.hand }
+        ensures { (made : ℕ) → CameBack self.old self.new counter octets.now made }
     {
         if counter == 0 {
             return;
@@ -441,18 +408,7 @@ impl<H: Hand> Side<H> {
 
     /// The frame under way came back: the datagram of this slave has this counter and these octets. `made` is the frame's number.
     pub fn returned(&mut self, counter: u16, octets: &[u8], made: u32)
-        ensures shown { BackShows self.old self.new counter octets.now }
-        ensures link { LinkStays self.old self.new }
-        ensures paused { self.new.paused ≡ paused_after self.old.carried (in_half_of self.old.inn).state counter self.old.paused }
-        ensures turn { self.new.turn ≡ turn_after self.old.carried (in_half_of self.old.inn).state counter self.old.turn }
-        ensures script { H.script self.new.hand ≡ H.script self.old.hand }
-        ensures unpassed { self.old.passing ≡ None → self.new.passing ≡ None }
-        ensures passing { BackPasses self.old self.new counter octets.now (counts_at self.old.read_at self.old.pace made) }
-        ensures read { ReadsOn self.old self.new counter made }
-        ensures brought { BackBrings self.old self.new counter octets.now }
-        ensures replied { BackReplies self.old self.new counter octets.now }
-        ensures joined { BackJoins self.old self.new counter octets.now }
-        ensures knows { BackKnows self.old self.new counter octets.now }
+        ensures { CameBack self.old self.new counter octets.now made }
     {
         match self.carried {
             Carried::Nothing => {}

@@ -5,8 +5,6 @@ use Rattle.frame_view.specs.of_segment_model.Ends as Ends
 use Rattle.master_side.specs.Passing.{PassingShows, passing_seen, passing_behind}
 use Rattle.master_side.proofs.Passings.{still_shows}
 use Rattle.master_side.proofs.Agains.{again_most}
-use Rattle.std.proofs.Common.{false}
-use Rattle.master_side.specs.First.{SendsFirst}
 use Rattle.std.proofs.Common.{refl}
 use Rattle.master_side.proofs.side.Side.begin.Goals as goal
 

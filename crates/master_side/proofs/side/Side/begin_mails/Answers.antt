@@ -11,7 +11,6 @@ use Rattle.master_side.specs.declared.passing.Passing.{Passing}
 use Rattle.master_side.proofs.Passings.{begun_waits, begun_other, begun_none}
 use Rattle.master_side.proofs.side.Side.begin_mails.Goals.{then-began, else-began, then-passed, else-passed}
 use Rattle.std.proofs.Common.{ap}
-use Rattle.std.specs.Prelude.{is_some}
 use Rattle.mailbox_master.specs.Any.{in_half_of}
 use Rattle.master_side.specs.First.{HoldsFirst}
 use Rattle.master_side.specs.Sent.{gram_len}
