@@ -11,10 +11,10 @@ pub returns-then-place-len-clause-value : goal.returns-then-place-len-clause-val
 returns-then-place-len-clause-value c = λ e lens recover as' x.
     let m = c.args.self.now in
     let out : length m.posts.items ≤ c.args.slave =
-        elim c.then-place-len.branch [
-          | then-place-len-via-then-place-len w ↦ (let a = c.len.ensures in let b = w.if-place-len.true in omega (arith, a, b, m.posts.ok.0))
-          | then-place-len-via-else-place-len+then-place-len-2 w ↦ (let a = w.len-else-place-len.ensures in let b = w.if-place-len-2.true in omega (arith, a, b, m.paired, m.posts.ok.0, m.tour.stops.ok.0))
-        ] in
+    elim c.then-place-len.branch [
+      | then-place-len-via-then-place-len w ↦ (let a = c.len.ensures in let b = w.if-place-len.true in omega (arith, a, b, m.posts.ok.0))
+      | then-place-len-via-else-place-len+then-place-len-2 w ↦ (let a = w.len-else-place-len.ensures in let b = w.if-place-len-2.true in omega (arith, a, b, m.paired, m.posts.ok.0, m.tour.stops.ok.0))
+    ] in
     absurd (let bad : false ≡ true = sym (ap has_value (answer_out m.posts.items c.args.slave out)) ∙ e in cc)
 
 pub returns-then-not-has_value-clause-value : goal.returns-then-not-has_value-clause-value
