@@ -31,10 +31,10 @@ second_true true b e fails = absurd (let bad : true ≡ false = fails in cc)
 second_true false b e fails = e
 
 -- the heads of equal lists, and their rests
-heads : {T : Type 0} (x y : T) (xs ys : List T) → x ∷ xs ≡ y ∷ ys → x ≡ y
+pub heads : {T : Type 0} (x y : T) (xs ys : List T) → x ∷ xs ≡ y ∷ ys → x ≡ y
 heads x y xs ys e = cc
 
-rests : {T : Type 0} (x y : T) (xs ys : List T) → x ∷ xs ≡ y ∷ ys → xs ≡ ys
+pub rests : {T : Type 0} (x y : T) (xs ys : List T) → x ∷ xs ≡ y ∷ ys → xs ≡ ys
 rests x y xs ys e = cc
 
 not_none : {T : Type 0} (x : T) (xs : List T) → [] ≡ x ∷ xs → ⊥

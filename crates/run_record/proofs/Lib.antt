@@ -8,6 +8,7 @@ pub mod Befores
 pub mod Began
 pub mod Budgets
 pub mod Ends
+pub mod Fits
 pub mod Forwards
 pub mod Gones
 pub mod Leads
@@ -17,6 +18,7 @@ pub mod Plans
 pub mod Recalling
 pub mod Replays
 pub mod Rows
+pub mod Servings
 pub mod Steps
 pub mod SwitchFirst
 pub mod Underway
