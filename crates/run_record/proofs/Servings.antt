@@ -6,6 +6,7 @@ use Rattle.datagrams.specs.Datagram as Raw
 use Rattle.mailbox_mail.specs.declared.mail.Mail.{Mail}
 use Rattle.master_node.proofs.Servings.{keyed}
 use Rattle.master_node.specs.Lives.{waiting_at, waiting_of}
+use Rattle.master_node.specs.Numbered.{IsNumbered}
 use Rattle.master_node.specs.Rooms.{FitAgain}
 use Rattle.master_node.specs.Serving.{FitsAt, IsAsked, IsServed, ServedShows, ServedUnder, run_lead}
 use Rattle.master_node.specs.Shows.{GoesOn}
@@ -15,7 +16,7 @@ use Rattle.master_node.specs.declared.node.Next.TheVariants as nexts
 use Rattle.master_node.specs.declared.post.Post.{Post}
 use Rattle.master_node.specs.of_frame_view.Seen.{seen}
 use Rattle.master_node.specs.of_frame_view.View.{Lens}
-use Rattle.master_node.specs.of_life_frames.Shares.{AllThree}
+use Rattle.master_node.specs.of_life_frames.Shares.{AllBoth, AllThree}
 use Rattle.master_node.specs.of_life_runs.First.{first_leads, leads_from, lens_of, script_for, spot_of}
 use Rattle.master_node.specs.of_life_runs.Led.{Exchanged, Leads, gives_up_at, missed_behind, new_leads}
 use Rattle.master_node.specs.of_master_hand.declared.hand.InHand.{InHand}
@@ -200,6 +201,7 @@ shows_same lens recover retry missed made m n ws tour posts number h = record {
   again = λ a. subst (λ z. FitAgain z.visit.items z.stops.items) (sym tour) (h.again (ap (λ z. z.again) (sym tour) ∙ a));
   made_is = number ∙ h.made_is;
   early = h.early;
+  numbered = subst (λ z. AllBoth (λ w p. IsNumbered (length w.asked) p) ws z) (sym posts) h.numbered;
 }
 
 none_asked : (s s' : SessionState) (slave key : ℕ) (mail : Mail) → s'.master.tour ≡ s.master.tour → s'.master.made ≡ s.master.made → StepsAt (λ p q. q ≡ p) slave s.master.posts.items s'.master.posts.items →
