@@ -1,0 +1,38 @@
+//! That a slave's last reply to a mail tells that it is the last, by its octets. Definitions and laws over the models, no running code: the functions
+//! here do nothing, and their contracts state the laws.
+#![tactic(auto)]
+
+ghost use Rattle.std.specs.Prelude.{◌≡◌, ℕ, ◌<◌, Bool, true, false, List, [], ◌∷◌, map, replicate, length};
+ghost use Rattle.coe_model.specs.Client as CoeClient;
+ghost use Rattle.coe_model.specs.Octets.{coe_mail_written};
+ghost use Rattle.coe_model.specs.Server.{information_parts};
+ghost use Rattle.master_hand.specs.Spoken.{is_followed};
+ghost use Rattle.serving_model.specs.Passing.{ends_told, LastTells};
+ghost use Rattle.slave_model.specs.Application.{Parts, ArePartsLawful};
+ghost use Rattle.slave_model.specs.Profile.{Profile, IsProfile};
+ghost use Rattle.slave_model.specs.Server.{told_by};
+ghost use Rattle.slave_served.specs.Served.{product_whole};
+ghost use Rattle.soe_model.specs.Client as SoeClient;
+ghost use Rattle.soe_model.specs.Elements.{Target, target};
+ghost use Rattle.soe_model.specs.Mails.{fragments_of};
+ghost use Rattle.soe_model.specs.Octets.{soe_mail_written};
+
+/// THE PARTS OF AN ANSWER go on but the last: those of an information, and the fragments of an element, where the mailbox has room for an octet of them.
+pub fn parts_told()
+    ensures information { (fuel opcode part : ℕ) (bytes : List ℕ) → 0 < part → length bytes < fuel → ends_told CoeClient.is_incomplete (information_parts fuel opcode part bytes) ≡ true }
+    ensures fragments { (room opcode : ℕ) (t : Target) (bytes : List ℕ) → 10 < room → ends_told SoeClient.is_incomplete (fragments_of room opcode t bytes) ≡ true }
+{}
+
+/// Worked rows: through mailboxes of 64 a list of 60 octets goes in two parts, and so does an element of 60 octets; the first tells in its octets that
+/// another follows, and the second that none does. Where a mailbox has no room for an octet of a part none tells that.
+pub fn told_rows()
+    ensures information { map (λ m. is_followed (told_by coe_mail_written m)) (information_parts 61 2 52 (replicate 60 7)) ≡ true ∷ false ∷ [] }
+    ensures fragments { map (λ m. is_followed (told_by soe_mail_written m)) (fragments_of 64 2 (target 0 100 64) (replicate 60 7)) ≡ true ∷ false ∷ [] }
+    ensures none { map (λ m. is_followed (told_by coe_mail_written m)) (information_parts 2 2 0 (7 ∷ [])) ≡ true ∷ true ∷ [] }
+{}
+
+/// A SLAVE'S LAST REPLY TELLS that no other follows, by the incomplete bit in its octets: whatever mail is taken, valid or not, in each AL state and
+/// whatever transfers are unfinished, there is no reply to it, or all replies go on but the last.
+pub fn last_told<T, F, I>()
+    ensures { (o : Parts T F I) (p : Profile) → ArePartsLawful o → IsProfile p → LastTells (product_whole o p) is_followed }
+{}
