@@ -11,6 +11,7 @@ ghost use Rattle.serving_model.specs.Passing.{ends_told, LastTells};
 ghost use Rattle.slave_model.specs.Application.{Parts, ArePartsLawful};
 ghost use Rattle.slave_model.specs.Profile.{Profile, IsProfile};
 ghost use Rattle.slave_model.specs.Server.{told_by};
+ghost use Rattle.slave_parts.specs.Parts.{parts};
 ghost use Rattle.slave_served.specs.Served.{product_whole};
 ghost use Rattle.soe_model.specs.Client as SoeClient;
 ghost use Rattle.soe_model.specs.Elements.{Target, target};
@@ -19,8 +20,10 @@ ghost use Rattle.soe_model.specs.Octets.{soe_mail_written};
 
 /// THE PARTS OF AN ANSWER go on but the last: those of an information, and the fragments of an element, where the mailbox has room for an octet of them.
 pub fn parts_told()
-    ensures information { (fuel opcode part : ℕ) (bytes : List ℕ) → 0 < part → length bytes < fuel → ends_told CoeClient.is_incomplete (information_parts fuel opcode part bytes) ≡ true }
-    ensures fragments { (room opcode : ℕ) (t : Target) (bytes : List ℕ) → 10 < room → ends_told SoeClient.is_incomplete (fragments_of room opcode t bytes) ≡ true }
+    ensures information { (fuel opcode part : ℕ) (bytes : List ℕ) → 0 < part → length bytes < fuel →
+        ends_told CoeClient.is_incomplete (information_parts fuel opcode part bytes) ≡ true }
+    ensures fragments { (room opcode : ℕ) (t : Target) (bytes : List ℕ) → 10 < room →
+        ends_told SoeClient.is_incomplete (fragments_of room opcode t bytes) ≡ true }
 {}
 
 /// Worked rows: through mailboxes of 64 a list of 60 octets goes in two parts, and so does an element of 60 octets; the first tells in its octets that
@@ -36,3 +39,10 @@ pub fn told_rows()
 pub fn last_told<T, F, I>()
     ensures { (o : Parts T F I) (p : Profile) → ArePartsLawful o → IsProfile p → LastTells (product_whole o p) is_followed }
 {}
+
+/// So it is of a slave's real parts: its object dictionary, its store of files and its table of IDNs.
+pub fn parts_last_told()
+    ensures { (p : Profile) → IsProfile p → LastTells (product_whole parts p) is_followed }
+{
+    slave_parts::parts_are_lawful();
+}
