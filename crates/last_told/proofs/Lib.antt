@@ -4,3 +4,4 @@ pub mod Words
 pub mod OfCoe
 pub mod Others
 pub mod Slaves
+pub mod Passed

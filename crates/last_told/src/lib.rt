@@ -6,8 +6,11 @@ ghost use Rattle.std.specs.Prelude.{◌≡◌, ℕ, ◌<◌, Bool, true, false, 
 ghost use Rattle.coe_model.specs.Client as CoeClient;
 ghost use Rattle.coe_model.specs.Octets.{coe_mail_written};
 ghost use Rattle.coe_model.specs.Server.{information_parts};
+ghost use Rattle.link_mails.specs.Body.{Body};
 ghost use Rattle.master_hand.specs.Spoken.{is_followed};
+ghost use Rattle.passing_rows.specs.Heard.{LastTold};
 ghost use Rattle.serving_model.specs.Passing.{ends_told, LastTells};
+ghost use Rattle.serving_model.specs.Tagged.{Asked, tagged};
 ghost use Rattle.slave_model.specs.Application.{Parts, ArePartsLawful};
 ghost use Rattle.slave_model.specs.Profile.{Profile, IsProfile};
 ghost use Rattle.slave_model.specs.Server.{told_by};
@@ -46,3 +49,10 @@ pub fn parts_last_told()
 {
     slave_parts::parts_are_lawful();
 }
+
+/// So it is of services and mails that are passed on as one exchange, where a mail that says itself that others follow isn't foreseen to be answered: of
+/// a mail that is, and has no reply, the mail itself is made up as one.
+pub fn passed_told<T, F, I>()
+    ensures { (o : Parts T F I) (p : Profile) → ArePartsLawful o → IsProfile p → (m : Body) (answers : Bool) → (answers ≡ true → is_followed m ≡ false) →
+        LastTold (tagged (product_whole o p)) (λ t. is_followed t.mail) (Asked.Passed m answers) }
+{}
