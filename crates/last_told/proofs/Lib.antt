@@ -1,0 +1,7 @@
+pub mod Ends
+pub mod Octets
+pub mod Words
+pub mod OfCoe
+pub mod Others
+pub mod Slaves
+pub mod Passed
