@@ -1,13 +1,13 @@
 -- How far a mail that is passed on comes by news, and what was heard for it.
-use Rattle.std.proofs.Common.{◌≡◌, ◌≢◌, Bool, true, false, Option, Some, None, List, [], ◌∷◌, ◌++◌, refl, sym, ap, ◌∙◌, subst, append-nil, append_assoc, if◌then◌else◌}
+use Rattle.std.proofs.Common.{◌≡◌, ◌≢◌, Bool, true, false, Option, Some, None, List, [], ◌∷◌, ◌++◌, refl, sym, ap, ◌∙◌, subst, append-nil, append_assoc, if◌then◌else◌, inl, inr}
 use Rattle.std.specs.Prelude.{⊤, not}
-use Rattle.exchange_model.specs.Exchange.{Speech, plain}
+use Rattle.exchange_model.specs.Exchange.{Exchange, Speech, given, plain}
 use Rattle.exchange_model.proofs.Words.{plain-append}
 use Rattle.life_model.specs.Lives.{passes}
 use Rattle.segment_model.specs.Ends.{Passing, passing_after}
 use Rattle.segment_model.specs.Record.{News, mails_heard}
 use Rattle.serving_model.specs.Passing.{ends_told}
-use Rattle.passing_rows.specs.Heard.{HeardBy}
+use Rattle.passing_rows.specs.Heard.{HeardBy, LastTold}
 
 -- what was heard behind it, where it isn't over
 abbrev pub After : {M : Type 0} → (M → Bool) → (M → Bool) → Option Passing → List M → Type 0
@@ -133,3 +133,11 @@ module _ {M Q R : Type 0} (x : Speech M Q R) (acknowledged : Q → Bool) (more :
   pub goes_on : (o : Option Passing) (ns : List (News M)) (q : Passing) → by o ns ≡ Some q → (p : Passing) × (o ≡ Some p)
   goes_on None ns q e = absurd (let no : None ≡ Some q = e in cc)
   goes_on (Some p) ns q e = (p, refl)
+
+-- ALL REPLIES WERE HEARD
+pub ends : {V A M Q R : Type 0} (x : Exchange V A M Q R) (more : M → Bool) (q : Q) → LastTold x more q → (v : V) → x.ready v ≡ true → (hs : List M) → plain x.speech.emission hs ≡ plain x.speech.emission (given x.serve v (x.full v q)) →
+    HeardBy x.speech.emission more Passing.Answered hs → ⊥
+ends x more q last v ready hs all h = elim (last v ready) [
+  | inl none ↦ h.0 (all ∙ none)
+  | inr tells ↦ (let no : false ≡ true = sym h.1 ∙ ap (ends_told more) all ∙ tells in cc)
+]
