@@ -43,7 +43,7 @@ reopens_era {M} {Q} {R} k (Some duty) = at_stage duty.stage
     at_stage (Stage.Goes phase) = go (returns_to_init duty.target)
 
 -- how far a mail that is passed on has come, where mailbox 0 has taken it, or the slave
-boxed_is : (p : Option Passing) → is_boxed p ≡ true → p ≡ Some Passing.Boxed
+pub boxed_is : (p : Option Passing) → is_boxed p ≡ true → p ≡ Some Passing.Boxed
 boxed_is None e = absurd (cc)
 boxed_is (Some Passing.Waiting) e = absurd (cc)
 boxed_is (Some Passing.Sent) e = absurd (cc)
