@@ -387,7 +387,7 @@ module _ {V A : Type 0} (ex : Exchange V A Body Asked Reply) (processor : Proces
             other o =
                 let asked = (subst (λ ds. EachAsksFor u.life.era.side.halves (memory_of c.life u.life m.memory) u.life.era.account.hand u.life.era.passing ds) o.is (eager.asks open_clear)).0 in
                 (subst (λ stage. AsksStage u.life.era.side.halves (memory_of c.life u.life m.memory) g.duty.target stage o.datagram) g.stage
-                (subst (λ h. AsksFor u.life.era.side.halves (memory_of c.life u.life m.memory) h o.datagram) hand asked)).0
+                (subst (λ h. AsksFor u.life.era.side.halves (memory_of c.life u.life m.memory) h u.life.era.passing o.datagram) hand asked)).0
 
             go : (b : Bool) → u.under ≡ b → Silent
             go false e = silent_none e
@@ -645,7 +645,7 @@ module _ {V A : Type 0} (ex : Exchange V A Body Asked Reply) (processor : Proces
           asks_access o =
               let asked = (subst (λ ds. EachAsksFor u.life.era.side.halves (memory_of c.life u.life m.memory) u.life.era.account.hand u.life.era.passing ds) o.is (eager.asks clear_now)).0 in
               subst (λ stage. AsksStage u.life.era.side.halves (memory_of c.life u.life m.memory) g.duty.target stage o.datagram) g.stage
-              (subst (λ h. AsksFor u.life.era.side.halves (memory_of c.life u.life m.memory) h o.datagram) hand_now asked)
+              (subst (λ h. AsksFor u.life.era.side.halves (memory_of c.life u.life m.memory) h u.life.era.passing o.datagram) hand_now asked)
 
           access_vain : AccessVain x acknowledged more passed number back c u g.duty g.phase s.registers
           access_vain = record {
