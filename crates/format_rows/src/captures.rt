@@ -1,7 +1,7 @@
 use anyhow::{Result, bail};
 use ec_fields::Octets;
 use pcap_frames::{PcapFault, Stamp, read, write_head, write_packet};
-use row_table::{Bench, Words, digits_of};
+use row_table::{Bench, Words, digits_of, no_call, shown};
 use std::alloc::Global;
 
 /// Captures: one that is saved, whole and cut, and octets from outside.
@@ -52,25 +52,21 @@ impl CaptureBench {
                 return Ok(format!(in alloc; "{first:?} and at {len} {other:?}")?);
             }
         }
-        Ok(format!(in alloc; "{first:?}")?)
+        shown(alloc, &first)
     }
 
     // A packet of what was saved.
     fn packet(&self, alloc: Global, at: usize) -> Result<String> {
         match read(alloc, self.saved.bytes()) {
-            Ok(capture) => {
-                let packet = capture.packets.get(at);
-                Ok(format!(in alloc; "{packet:?}")?)
-            }
-            Err(fault) => Ok(format!(in alloc; "{fault:?}")?),
+            Ok(capture) => shown(alloc, &capture.packets.get(at)),
+            Err(fault) => shown(alloc, &fault),
         }
     }
 }
 
 // What octets read as.
 fn outcome_of(alloc: Global, octets: &[u8]) -> Result<String> {
-    let read = outcome(alloc, octets);
-    Ok(format!(in alloc; "{read:?}")?)
+    shown(alloc, &outcome(alloc, octets))
 }
 
 impl Bench for CaptureBench {
@@ -80,7 +76,7 @@ impl Bench for CaptureBench {
             "cut" => self.cut(alloc, asked.count()?, asked.count()?),
             "packet" => self.packet(alloc, asked.count()?),
             "read" => outcome_of(alloc, asked.octets(alloc)?.bytes()),
-            call => bail!("no call: {call}"),
+            call => no_call(call),
         }
     }
 }

@@ -1,7 +1,7 @@
-use anyhow::{Result, bail};
+use anyhow::Result;
 use ec_fields::Octets;
 use ec_outside::{Files, Loaded};
-use row_table::{Bench, Words, digits_of};
+use row_table::{Bench, Words, digits_of, no_call, shown};
 use std::alloc::Global;
 
 /// Files, and what was loaded last.
@@ -24,14 +24,13 @@ impl<F: Files + Drop> DiskBench<F> {
         match loaded {
             Ok(Loaded::Found) => digits_of(alloc, self.into.bytes()),
             Ok(_) if self.into.len() != 0 => Ok(format!(in alloc; "octets are left")?),
-            other => Ok(format!(in alloc; "{other:?}")?),
+            other => shown(alloc, &other),
         }
     }
 
     // Saves a file.
     fn save(&mut self, alloc: Global, name: &str, bytes: &[u8]) -> Result<String> {
-        let saved = self.files.save(name, bytes);
-        Ok(format!(in alloc; "{saved:?}")?)
+        shown(alloc, &self.files.save(name, bytes))
     }
 
     /// What is found for a call and its further words.
@@ -40,7 +39,7 @@ impl<F: Files + Drop> DiskBench<F> {
         match call {
             "load" => self.load(alloc, name, asked.count()?),
             "save" => self.save(alloc, name, asked.octets(alloc)?.bytes()),
-            _ => bail!("no call: {call}"),
+            _ => no_call(call),
         }
     }
 }

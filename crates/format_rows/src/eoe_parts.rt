@@ -1,15 +1,15 @@
-ghost use Rattle.std.specs.Prelude.{◌≤◌, length};
 ghost use Rattle.std.specs.Bool.{OnTrue};
 ghost use Rattle.eoe.specs.Message.{IsFragment, IsSpellable};
 
+use crate::messages::{Message, found_in};
 use anyhow::{Result, bail};
 use arrayvec::ArrayVec;
 use ec_fields::buffer_of;
 use eoe::{
-    Came, Eoe, Fragment, FragmentView, Fragmenter, Joined, Packet, Reassembler, cut, first_block,
+    Came, Eoe, EoeFault, Fragment, FragmentView, Fragmenter, Joined, Packet, Reassembler, cut, first_block,
     is_block, read, write,
 };
-use row_table::{Bench, Words, digits_of};
+use row_table::{Bench, Words, digits_of, shown};
 use std::alloc::Global;
 
 /// EoE messages, and a packet that is cut and joined again.
@@ -49,45 +49,19 @@ fn is_spellable(message: &Eoe) -> bool
     }
 }
 
-// What is written of what a body reads as.
-fn written_back(alloc: Global, octets: &[u8]) -> Result<String>
-    requires { length octets.now ≤ 1480 }
-{
-    let Ok(message) = read(octets) else {
-        bail!("no message");
-    };
-    if !is_spellable(&message) {
-        bail!("a message of no spelling");
+impl Message for Eoe {
+    type Fault = EoeFault;
+
+    fn read(body: &[u8]) -> Result<Eoe, EoeFault> {
+        read(body)
     }
-    let mut body = ArrayVec::new();
-    write(&message, &mut body);
-    digits_of(alloc, body.as_slice())
-}
 
-// What a body reads as.
-fn read_as(alloc: Global, octets: &[u8]) -> Result<String>
-    requires { length octets.now ≤ 1480 }
-{
-    let message = read(octets);
-    Ok(format!(in alloc; "{message:?}")?)
-}
-
-// Whether octets are an address block.
-fn block_of(alloc: Global, octets: &[u8]) -> Result<String> {
-    let holds = is_block(octets);
-    Ok(format!(in alloc; "{holds}")?)
-}
-
-// A message, or an address block.
-fn found_in(alloc: Global, call: &str, octets: &[u8]) -> Result<String> {
-    if octets.len() > 1480 {
-        bail!("too long");
-    }
-    match call {
-        "read" => read_as(alloc, octets),
-        "back" => written_back(alloc, octets),
-        "block" => block_of(alloc, octets),
-        _ => bail!("no call: {call}"),
+    fn is_written(&self, body: &mut ArrayVec<u8, 1480>) -> bool {
+        let fits = is_spellable(self);
+        if fits {
+            write(self, body);
+        }
+        fits
     }
 }
 
@@ -203,7 +177,8 @@ impl Bench for EoeBench {
             "cut" => self.begin(alloc, asked.octets(alloc)?.bytes()),
             "take" => self.take(alloc, asked),
             "take_into" => self.take_into(alloc, asked),
-            call => found_in(alloc, call, asked.octets(alloc)?.bytes()),
+            "block" => shown(alloc, &is_block(asked.octets(alloc)?.bytes())),
+            call => found_in::<Eoe>(alloc, call, asked.octets(alloc)?.bytes()),
         }
     }
 }

@@ -1,6 +1,6 @@
 use anyhow::{Result, bail};
 use ec_fields::{Octets, Rows, Transfer, bits, put_bits, put_u16, put_u32, u8_at, u16_at, u32_at};
-use row_table::{Bench, Words, digits_of};
+use row_table::{Bench, Words, digits_of, no_call, shown};
 use std::alloc::Global;
 
 /// Octets, rows and fields.
@@ -53,8 +53,7 @@ fn bits_in(alloc: Global, word: u16, at: u32, count: u32) -> Result<String> {
     if at > 15 || count < 1 || count > 15 || at + count > 16 {
         bail!("no bits of a word");
     }
-    let found = bits(word, at, count);
-    Ok(format!(in alloc; "{found}")?)
+    shown(alloc, &bits(word, at, count))
 }
 
 // What is asked of octets.
@@ -86,8 +85,7 @@ fn bits_asked(alloc: Global, asked: &mut Words<'_>) -> Result<String> {
 
 // The word with 5 in three bits.
 fn bits_put(alloc: Global, word: u16) -> Result<String> {
-    let put = put_bits(word, 12, 3, 5);
-    Ok(format!(in alloc; "{put}")?)
+    shown(alloc, &put_bits(word, 12, 3, 5))
 }
 
 impl Bench for FieldBench {
@@ -99,7 +97,7 @@ impl Bench for FieldBench {
             "put" => put(alloc, asked.short()?, asked.number()?),
             "bits" => bits_asked(alloc, asked),
             "put_bits" => bits_put(alloc, asked.short()?),
-            call => bail!("no call: {call}"),
+            call => no_call(call),
         }
     }
 }

@@ -1,11 +1,11 @@
-ghost use Rattle.std.specs.Prelude.{◌≤◌, length};
 ghost use Rattle.std.specs.Bool.{OnTrue};
 ghost use Rattle.foe_codec.specs.Message.{IsSpellable};
 
-use anyhow::{Result, bail};
+use crate::messages::{Message, found_in};
+use anyhow::Result;
 use arrayvec::ArrayVec;
-use foe_codec::{Foe, read, write};
-use row_table::{Bench, Words, digits_of};
+use foe_codec::{Foe, FoeFault, read, write};
+use row_table::{Bench, Words};
 use std::alloc::Global;
 
 /// FoE messages: `read OCTETS` is what a body reads as, `back OCTETS` what is written of that.
@@ -22,40 +22,25 @@ fn is_spellable(message: &Foe) -> bool
     }
 }
 
-// What is written of what a body reads as.
-fn written_back(alloc: Global, octets: &[u8]) -> Result<String>
-    requires { length octets.now ≤ 1480 }
-{
-    let Ok(message) = read(octets) else {
-        bail!("no message");
-    };
-    if !is_spellable(&message) {
-        bail!("a message of no spelling");
-    }
-    let mut body = ArrayVec::new();
-    write(&message, &mut body);
-    digits_of(alloc, body.as_slice())
-}
+impl Message for Foe {
+    type Fault = FoeFault;
 
-// What a body reads as.
-fn read_as(alloc: Global, octets: &[u8]) -> Result<String>
-    requires { length octets.now ≤ 1480 }
-{
-    let message = read(octets);
-    Ok(format!(in alloc; "{message:?}")?)
+    fn read(body: &[u8]) -> Result<Foe, FoeFault> {
+        read(body)
+    }
+
+    fn is_written(&self, body: &mut ArrayVec<u8, 1480>) -> bool {
+        let fits = is_spellable(self);
+        if fits {
+            write(self, body);
+        }
+        fits
+    }
 }
 
 impl Bench for FoeBench {
     fn found(&mut self, alloc: Global, asked: &mut Words<'_>) -> Result<String> {
         let call = asked.word()?;
-        let octets = asked.octets(alloc)?;
-        if octets.len() > 1480 {
-            bail!("too long");
-        }
-        match call {
-            "read" => read_as(alloc, octets.bytes()),
-            "back" => written_back(alloc, octets.bytes()),
-            _ => bail!("no call: {call}"),
-        }
+        found_in::<Foe>(alloc, call, asked.octets(alloc)?.bytes())
     }
 }

@@ -1,8 +1,8 @@
 ghost use Rattle.std.specs.Prelude.{◌≡◌, ◌∷◌, []};
 
-use anyhow::{Result, bail};
+use anyhow::Result;
 use datagrams::{Body, Command, FrameBuf, Head, add, add_with, begin, fault, finish, read};
-use row_table::{Bench, Words, digits_of};
+use row_table::{Bench, Words, digits_of, no_call, shown};
 use std::alloc::Global;
 
 /// Frames: the fault of octets, and a frame that is built datagram by datagram.
@@ -55,7 +55,7 @@ fn fault_of(alloc: Global, octets: &[u8]) -> Result<String> {
     if told != walked {
         return Ok(format!(in alloc; "{told:?} and also {walked:?}")?);
     }
-    Ok(format!(in alloc; "{told:?}")?)
+    shown(alloc, &told)
 }
 
 impl Bench for FrameBench {
@@ -63,7 +63,7 @@ impl Bench for FrameBench {
         match asked.word()? {
             "requests" => requests(alloc, asked.short()?, asked.short()?),
             "fault" => fault_of(alloc, asked.octets(alloc)?.bytes()),
-            call => bail!("no call: {call}"),
+            call => no_call(call),
         }
     }
 }

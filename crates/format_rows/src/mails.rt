@@ -1,7 +1,7 @@
 use anyhow::{Result, bail};
 use ec_fields::{Octets, buffer_of};
 use mailbox_mail::{Kind, Mail, error_mail, next_counter, read, read_into, write, write_head};
-use row_table::{Bench, Words, digits_of};
+use row_table::{Bench, Words, digits_of, no_call, shown};
 use std::alloc::Global;
 
 /// Mails in areas of octets.
@@ -53,8 +53,7 @@ fn counted(alloc: Global, counter: u8) -> Result<String> {
     if counter > 7 {
         bail!("no counter");
     }
-    let next = next_counter(counter);
-    Ok(format!(in alloc; "{next}")?)
+    shown(alloc, &next_counter(counter))
 }
 
 // What an area reads as, at once and in place of another mail.
@@ -65,7 +64,7 @@ fn read_twice(alloc: Global, area: &[u8]) -> Result<String> {
     if kept != mail {
         return Ok(format!(in alloc; "{mail:?} and in its place {kept:?}")?);
     }
-    Ok(format!(in alloc; "{mail:?}")?)
+    shown(alloc, &mail)
 }
 
 // A mail by its counter and body, whose head alone is written or all of it.
@@ -87,7 +86,7 @@ impl Bench for MailBench {
             "head" => write_asked(alloc, asked, true),
             "next" => counted(alloc, asked.small()?),
             "error" => refused(alloc, asked.short()?),
-            call => bail!("no call: {call}"),
+            call => no_call(call),
         }
     }
 }

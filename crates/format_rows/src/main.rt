@@ -9,6 +9,7 @@ mod fields;
 mod foe;
 mod frames;
 mod mails;
+mod messages;
 mod outside;
 mod soe;
 mod switch;

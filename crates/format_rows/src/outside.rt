@@ -1,8 +1,8 @@
 use crate::disk::DiskBench;
-use anyhow::{Result, bail};
+use anyhow::Result;
 use ec_fields::Rows;
 use ec_outside::{MemFiles, MemSink, Sink, SureSink};
-use row_table::{Bench, Words, digits_of};
+use row_table::{Bench, Words, digits_of, shown};
 use std::alloc::Global;
 
 /// Files and sinks in memory.
@@ -74,8 +74,7 @@ impl OutsideBench {
 
 // Whether a sink takes octets.
 fn put<S: Sink>(alloc: Global, sink: &mut S, bytes: &[u8]) -> Result<String> {
-    let put = sink.put(bytes);
-    Ok(format!(in alloc; "{put:?}")?)
+    shown(alloc, &sink.put(bytes))
 }
 
 impl Bench for OutsideBench {

@@ -1,46 +1,45 @@
-ghost use Rattle.std.specs.Prelude.{◌≤◌, length};
+ghost use Rattle.std.specs.Bool.{OnTrue};
+ghost use Rattle.soe_codec.specs.Message.{IsSpellable};
 
-use anyhow::{Result, bail};
+use crate::messages::{Message, found_in};
+use anyhow::Result;
 use arrayvec::ArrayVec;
-use row_table::{Bench, Words, digits_of};
-use soe_codec::{read, write};
+use row_table::{Bench, Words};
+use soe_codec::{Soe, SoeFault, read, write};
 use std::alloc::Global;
 
 /// SoE messages: `read OCTETS` is what a body reads as, `back OCTETS` what is written of that.
 #[derive(Drop)]
 pub struct SoeBench;
 
-// What is written of what a body reads as.
-fn written_back(alloc: Global, octets: &[u8]) -> Result<String>
-    requires { length octets.now ≤ 1480 }
+// Whether a message has a spelling.
+fn is_spellable(message: &Soe) -> bool
+    ensures { OnTrue result (IsSpellable message.now) }
 {
-    let Ok(message) = read(octets) else {
-        bail!("no message");
-    };
-    let mut body = ArrayVec::new();
-    write(&message, &mut body);
-    digits_of(alloc, body.as_slice())
+    let known = message.opcode >= 1 && message.opcode <= 4;
+    let in_parts = message.opcode == 2 || message.opcode == 3;
+    known && (!message.incomplete || in_parts) && message.drive < 8
 }
 
-// What a body reads as.
-fn read_as(alloc: Global, octets: &[u8]) -> Result<String>
-    requires { length octets.now ≤ 1480 }
-{
-    let message = read(octets);
-    Ok(format!(in alloc; "{message:?}")?)
+impl Message for Soe {
+    type Fault = SoeFault;
+
+    fn read(body: &[u8]) -> Result<Soe, SoeFault> {
+        read(body)
+    }
+
+    fn is_written(&self, body: &mut ArrayVec<u8, 1480>) -> bool {
+        let fits = is_spellable(self);
+        if fits {
+            write(self, body);
+        }
+        fits
+    }
 }
 
 impl Bench for SoeBench {
     fn found(&mut self, alloc: Global, asked: &mut Words<'_>) -> Result<String> {
         let call = asked.word()?;
-        let octets = asked.octets(alloc)?;
-        if octets.len() > 1480 {
-            bail!("too long");
-        }
-        match call {
-            "read" => read_as(alloc, octets.bytes()),
-            "back" => written_back(alloc, octets.bytes()),
-            _ => bail!("no call: {call}"),
-        }
+        found_in::<Soe>(alloc, call, asked.octets(alloc)?.bytes())
     }
 }

@@ -4,7 +4,7 @@ use anyhow::{Result, bail};
 use ec_fields::buffer_of;
 use eoe::Packet;
 use eoe_switch::Switch;
-use row_table::{Bench, Words, digits_of};
+use row_table::{Bench, Words, digits_of, no_call, shown};
 use std::alloc::Global;
 use std::marker::Model;
 
@@ -88,8 +88,7 @@ impl SwitchBench {
 
     // How many packets wait at a port.
     fn waiting(&self, alloc: Global, port: u32) -> Result<String> {
-        let waiting = self.switch.waiting(port);
-        Ok(format!(in alloc; "{waiting}")?)
+        shown(alloc, &self.switch.waiting(port))
     }
 }
 
@@ -101,7 +100,7 @@ impl Bench for SwitchBench {
             "down" => self.down(alloc, asked.number()?),
             "begun" => self.begun(alloc, asked.number()?),
             "waiting" => self.waiting(alloc, asked.number()?),
-            call => bail!("no call: {call}"),
+            call => no_call(call),
         }
     }
 }

@@ -146,22 +146,26 @@ spelled_on heard os more sent sent' out out' same a o =
     (spelled_both heard os more (sent ++ out) o.0 a o.2)
 
 module _ (plan : Scenario) (count : ℕ) (first : Told) where
+  -- what stands of a serving stands as well where its session, its desk and its count are the same
+  on_same : (v v' : Serving) (b : Book) → v'.session ≡ v.session → v'.desk ≡ v.desk → v'.count ≡ v.count → IsOn plan count v b → IsOn plan count v' b
+  on_same v v' b session desk counts on = record {
+    underway = subst (λ (s : SessionState). IsUnderway plan count s b) (sym session) on.underway;
+    counts = counts ∙ on.counts;
+    few = on.few;
+    fits = on.fits;
+    bounded = on.bounded;
+    sound = subst (IsSound (map heard_as b.grams)) (sym desk) on.sound;
+    answered = on.answered;
+    judged = on.judged;
+    owed = on.owed;
+    course = course_same plan count v.session v'.session b.frames b.frames b.grams b.grams v.desk.requests.items v'.desk.requests.items on.owed session refl refl (ap (λ (d : Desk). d.requests.items) desk) on.course;
+    spelled = spelled_same (map heard_as b.grams) (map heard_as b.grams) on.owed (b.replies ++ v.desk.outbox.items) (b.replies ++ v'.desk.outbox.items) refl (ap (λ (d : Desk). b.replies ++ d.outbox.items) desk) on.spelled;
+  }
+
   -- the buffer of what was heard last doesn't matter
   pub same_gram : (now : Told) (v v' : Serving) (b : Book) → v'.session ≡ v.session → v'.desk ≡ v.desk → v'.count ≡ v.count → v'.over ≡ v.over → IsServing plan count first now v b → IsServing plan count first now v' b
   same_gram now v v' b session desk counts over h = record {
-    on = record {
-      underway = subst (λ (s : SessionState). IsUnderway plan count s b) (sym session) h.on.underway;
-      counts = counts ∙ h.on.counts;
-      few = h.on.few;
-      fits = h.on.fits;
-      bounded = h.on.bounded;
-      sound = subst (IsSound (map heard_as b.grams)) (sym desk) h.on.sound;
-      answered = h.on.answered;
-      judged = h.on.judged;
-      owed = h.on.owed;
-      course = course_same plan count v.session v'.session b.frames b.frames b.grams b.grams v.desk.requests.items v'.desk.requests.items h.on.owed session refl refl (ap (λ (d : Desk). d.requests.items) desk) h.on.course;
-      spelled = spelled_same (map heard_as b.grams) (map heard_as b.grams) h.on.owed (b.replies ++ v.desk.outbox.items) (b.replies ++ v'.desk.outbox.items) refl (ap (λ (d : Desk). b.replies ++ d.outbox.items) desk) h.on.spelled;
-    };
+    on = on_same v v' b session desk counts h.on;
     heard = h.heard;
     sent = h.sent;
     over = λ e. h.over (sym over ∙ e);
@@ -228,19 +232,7 @@ module _ (plan : Scenario) (count : ℕ) (first : Told) where
   -- the port ended
   pub over : (now next : Told) (v v' : Serving) (b : Book) (octets : List ℕ) → v'.session ≡ v.session → v'.desk ≡ v.desk → v'.count ≡ v.count → IsServing plan count first now v b → Listens now next heards.Ended octets → IsServing plan count first next v' b
   over now next v v' b octets session desk counts h l = record {
-    on = record {
-      underway = subst (λ (s : SessionState). IsUnderway plan count s b) (sym session) h.on.underway;
-      counts = counts ∙ h.on.counts;
-      few = h.on.few;
-      fits = h.on.fits;
-      bounded = h.on.bounded;
-      sound = subst (IsSound (map heard_as b.grams)) (sym desk) h.on.sound;
-      answered = h.on.answered;
-      judged = h.on.judged;
-      owed = h.on.owed;
-      course = course_same plan count v.session v'.session b.frames b.frames b.grams b.grams v.desk.requests.items v'.desk.requests.items h.on.owed session refl refl (ap (λ (d : Desk). d.requests.items) desk) h.on.course;
-      spelled = spelled_same (map heard_as b.grams) (map heard_as b.grams) h.on.owed (b.replies ++ v.desk.outbox.items) (b.replies ++ v'.desk.outbox.items) refl (ap (λ (d : Desk). b.replies ++ d.outbox.items) desk) h.on.spelled;
-    };
+    on = on_same v v' b session desk counts h.on;
     heard = heard_same first.heard now.heard next.heard b.grams h.heard (ended_heard now.heard next.heard octets l.hears);
     sent = sent_kept first.sent now.sent next.sent b.replies h.sent l.sent;
     over = λ e. l.over;

@@ -85,11 +85,15 @@ fn tell<P: Print>(rt: &P, name: &str, replayed: Replayed) -> Result<()> {
     }
 }
 
+// Makes the run of a scenario's name again.
+fn tell_word<R: Print + AllocGlobal + std::rt::Files>(rt: &R, name: &str) -> Result<()> {
+    let octets = scenario(rt.alloc(), name, &mut DiskFiles::new(rt))?;
+    tell(rt, name, replay(rt.alloc(), octets.bytes()))
+}
+
 fn main(rt: HostRuntime) -> Result<()> {
-    let mut files = DiskFiles::new(&rt);
-    for name in env::args(&rt)?.skip(1) {
-        let octets = scenario(rt.alloc(), name.as_str(), &mut files)?;
-        tell(&rt, name.as_str(), replay(rt.alloc(), octets.bytes()))?;
+    for word in env::args(&rt)?.skip(1) {
+        tell_word(&rt, word.as_str())?;
     }
     Ok(())
 }

@@ -25,12 +25,13 @@ const GATEWAY: Peer = Peer {
     port: 34_980,
 };
 
-// What a call left.
+// What a call left, and how many datagrams it could hear.
 #[derive(Drop)]
 struct Left {
     status: Status,
     out: MemSink,
     port: MemPort,
+    heard: usize,
 }
 
 // The words of a call.
@@ -64,56 +65,95 @@ fn ask_over<F: Files>(
     let mut out = MemSink::new(alloc, Rows::new(alloc));
     let mut port = port_of(alloc, GATEWAY, heard)?;
     let status = ask_call(alloc, words, files, &mut out, &mut port);
-    Ok(Left { status, out, port })
+    Ok(Left {
+        status,
+        out,
+        port,
+        heard: heard.len(),
+    })
+}
+
+// Serves a plan to the datagrams of a port.
+fn serve_all(alloc: Global, plan: &Scenario, count: u32, port: &mut MemPort) -> Result<()>
+    requires plan { IsPlan plan.now }
+    requires some { 0 < count }
+{
+    let mut book = Book::new(alloc);
+    if serve(alloc, plan, count, port, &mut book) != Ending::Done {
+        bail!("the serving isn't done");
+    }
+    Ok(())
 }
 
 // What a serving of the plan sends for these datagrams.
 fn served(alloc: Global, plan: &Scenario, grams: &[SentGram]) -> Result<MemPort>
     requires { IsPlan plan.now }
 {
-    let mut port = port_of(alloc, TOOL, grams)?;
-    let mut book = Book::new(alloc);
     let count = grams.len();
     if count < 1 || count > 1_000_000 {
         bail!("no datagrams, or too many");
     }
-    if serve(alloc, plan, count as u32, &mut port, &mut book) != Ending::Done {
-        bail!("the serving isn't done");
-    }
+    let mut port = port_of(alloc, TOOL, grams)?;
+    serve_all(alloc, plan, count as u32, &mut port)?;
     Ok(port)
 }
 
-// Makes the call anew over what the plan's slaves reply to all that it sent before, until no reply is left to hear.
+// Makes the call anew over what the plan's slaves reply to all that it sent before.
+fn asked_again<F: Files>(
+    alloc: Global,
+    words: &[String],
+    plan: &Scenario,
+    left: &Left,
+    files: &mut F,
+) -> Result<Left>
+    requires { IsPlan plan.now }
+{
+    let replies = served(alloc, plan, left.port.sent().as_slice())?;
+    ask_over(alloc, words, replies.sent().as_slice(), files)
+}
+
+// Makes the call anew until no further reply is left to hear.
 fn ask<F: Files>(
     alloc: Global,
     words: &[String],
     plan: &Scenario,
     files: &mut F,
-) -> Result<(Left, usize)>
+) -> Result<Left>
     requires { IsPlan plan.now }
 {
     let mut left = ask_over(alloc, words, &[], files)?;
-    let mut heard: usize = 0;
     for _ in 0..1000 {
-        let replies = served(alloc, plan, left.port.sent().as_slice())?;
-        let many = replies.sent().len();
-        left = ask_over(alloc, words, replies.sent().as_slice(), files)?;
-        if many <= heard {
-            return Ok((left, heard));
+        let again = asked_again(alloc, words, plan, &left, files)?;
+        if again.heard <= left.heard {
+            return Ok(again);
         }
-        heard = many;
+        left = again;
     }
     bail!("no end")
 }
 
 // Prints what a call left.
-fn tell<P: Print>(rt: &P, name: &str, left: &Left, heard: usize) -> Result<()> {
+fn tell<P: Print>(rt: &P, name: &str, left: &Left) -> Result<()> {
     let text = std::str::from_utf8(left.out.bytes())?;
-    let sent = left.port.sent().len();
+    let (sent, heard) = (left.port.sent().len(), left.heard);
     let number = left.status.number();
     print!(rt; "{name}\n{text}")?;
     println!(rt; "sent {sent} heard {heard} status {number}")?;
     Ok(())
+}
+
+// Makes the call of a name to the slaves of a plan, and prints what it left.
+fn tell_asked<P: Print + AllocGlobal + std::rt::Files>(
+    rt: &P,
+    plan: &Scenario,
+    name: &str,
+) -> Result<()>
+    requires { IsPlan plan.now }
+{
+    let mut files = DiskFiles::new(rt);
+    let words = words_of(rt.alloc(), name, &mut files)?;
+    let left = ask(rt.alloc(), words.as_slice(), plan, &mut files)?;
+    tell(rt, name, &left)
 }
 
 /// Makes the call whose words stand in NAME.words, one a line, to the slaves of the plan SCENARIO.toml, and prints what it left.
@@ -122,10 +162,6 @@ pub fn tell_asking<P: Print + AllocGlobal + std::rt::Files>(
     scenario: &str,
     name: &str,
 ) -> Result<()> {
-    let alloc = rt.alloc();
-    let mut files = DiskFiles::new(rt);
-    let plan = plan_of(alloc, scenario, &mut files)?;
-    let words = words_of(alloc, name, &mut files)?;
-    let (left, heard) = ask(alloc, words.as_slice(), &plan, &mut files)?;
-    tell(rt, name, &left, heard)
+    let plan = plan_of(rt.alloc(), scenario, &mut DiskFiles::new(rt))?;
+    tell_asked(rt, &plan, name)
 }

@@ -73,30 +73,53 @@ fn tell_status<P: Print>(rt: &P, called: &Called) -> Result<()> {
     Ok(())
 }
 
+// Prints what the call of a streaming left.
+fn tell_called<P: Print + AllocGlobal>(rt: &P, name: &str, called: &Called) -> Result<()> {
+    tell_put(rt, name, called)?;
+    tell_link(rt, called)?;
+    tell_status(rt, called)
+}
+
+// The words of a streaming of so many requests.
+fn words_of_stream(alloc: Global, scenario: &str, count: u32) -> Result<Vec<String>> {
+    let mut words = words_of(alloc, "stream", scenario)?;
+    words.push(format!(in alloc; "{count}")?)?;
+    Ok(words)
+}
+
+// Streams a plan over a link.
+fn streamed<F: Files>(
+    alloc: Global,
+    scenario: &str,
+    script: Script,
+    files: &mut F,
+) -> Result<Called> {
+    let words = words_of_stream(alloc, scenario, script.count)?;
+    call(alloc, words.as_slice(), script.link, files)
+}
+
 /// Streams the plan SCENARIO.toml over the link NAME.link, and prints what the call left.
 pub fn tell_streaming<P: Print + AllocGlobal + std::rt::Files>(
     rt: &P,
     scenario: &str,
     name: &str,
 ) -> Result<()> {
-    let alloc = rt.alloc();
     let mut files = DiskFiles::new(rt);
-    let Script { count, link } = script_of(alloc, name, &mut files)?;
-    let mut words = words_of(alloc, "stream", scenario)?;
-    words.push(format!(in alloc; "{count}")?)?;
-    let called = call(alloc, words.as_slice(), link, &mut files)?;
-    tell_put(rt, name, &called)?;
-    tell_link(rt, &called)?;
-    tell_status(rt, &called)
+    let script = script_of(rt.alloc(), name, &mut files)?;
+    let called = streamed(rt.alloc(), scenario, script, &mut files)?;
+    tell_called(rt, name, &called)
+}
+
+// Runs a plan over a link that hears nothing.
+fn ran<F: Files>(alloc: Global, scenario: &str, files: &mut F) -> Result<Called> {
+    let words = words_of(alloc, "run", scenario)?;
+    let link = MemLink::new(alloc, Rows::new(alloc), Rows::new(alloc));
+    call(alloc, words.as_slice(), link, files)
 }
 
 /// Runs the plan SCENARIO.toml, and prints what the call left.
 pub fn tell_running<P: Print + AllocGlobal + std::rt::Files>(rt: &P, scenario: &str) -> Result<()> {
-    let alloc = rt.alloc();
-    let mut files = DiskFiles::new(rt);
-    let words = words_of(alloc, "run", scenario)?;
-    let link = MemLink::new(alloc, Rows::new(alloc), Rows::new(alloc));
-    let called = call(alloc, words.as_slice(), link, &mut files)?;
+    let called = ran(rt.alloc(), scenario, &mut DiskFiles::new(rt))?;
     tell_put(rt, scenario, &called)?;
     tell_status(rt, &called)
 }

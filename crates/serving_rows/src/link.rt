@@ -1,6 +1,7 @@
 use anyhow::{Result, bail};
 use ec_fields::{Octets, Rows};
 use ec_links::{LinkItem, MemLink};
+use row_table::octets_in;
 use std::alloc::Global;
 
 /// How many requests a call is to hear, and the link on which they come.
@@ -20,8 +21,7 @@ struct Lines {
 
 // Octets in hexadecimal digits, that come in one piece.
 fn piece_in(alloc: Global, digits: &str) -> Result<LinkItem> {
-    let octets = hex::decode(alloc, digits)?;
-    Ok(LinkItem::Bytes(Octets::copy_of(alloc, octets.as_slice())?))
+    Ok(LinkItem::Bytes(octets_in(alloc, digits)?))
 }
 
 // Octets in hexadecimal digits, that come one by one.

@@ -16,20 +16,26 @@ use asking::tell_asking;
 use calling::{tell_running, tell_streaming};
 use serving::tell_serving;
 use std::env;
+use std::rt::Files;
+
+// Makes the call of a word.
+fn tell_word<R: Print + AllocGlobal + Files>(rt: &R, word: &str) -> Result<()> {
+    let Some((kind, names)) = word.split_once(':') else {
+        bail!("no kind: {word}");
+    };
+    let (scenario, name) = names.split_once('=').unwrap_or((names, names));
+    match kind {
+        "run" => tell_running(rt, name),
+        "serve" => tell_serving(rt, scenario, name),
+        "stream" => tell_streaming(rt, scenario, name),
+        "ask" => tell_asking(rt, scenario, name),
+        _ => bail!("no such kind: {word}"),
+    }
+}
 
 fn main(rt: HostRuntime) -> Result<()> {
     for word in env::args(&rt)?.skip(1) {
-        let Some((kind, names)) = word.as_str().split_once(':') else {
-            bail!("no kind: {word}");
-        };
-        let (scenario, name) = names.split_once('=').unwrap_or((names, names));
-        match kind {
-            "run" => tell_running(&rt, name)?,
-            "serve" => tell_serving(&rt, scenario, name)?,
-            "stream" => tell_streaming(&rt, scenario, name)?,
-            "ask" => tell_asking(&rt, scenario, name)?,
-            _ => bail!("no such kind: {word}"),
-        }
+        tell_word(&rt, word.as_str())?;
     }
     Ok(())
 }

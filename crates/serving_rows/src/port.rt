@@ -1,8 +1,9 @@
 ghost use Rattle.std.specs.Prelude.{◌<◌, IfOk};
 
 use anyhow::{Result, bail};
-use ec_fields::{Octets, Rows};
+use ec_fields::Rows;
 use ec_outside::{MemPort, Peer, PortItem};
+use row_table::Words;
 use std::alloc::Global;
 
 /// How many datagrams a serving is to hear, and the port on which it hears them.
@@ -20,28 +21,27 @@ struct Lines {
     failing: Rows<u64>,
 }
 
-// A datagram of a peer, in hexadecimal digits.
-fn gram_in(alloc: Global, ip: &str, port: &str, digits: &str) -> Result<PortItem> {
+// A datagram of a peer: the address, the port, and the octets.
+fn gram_in(alloc: Global, text: &str) -> Result<PortItem> {
+    let mut words = Words::of(text);
     let from = Peer {
-        ip: ip.parse()?,
-        port: port.parse()?,
+        ip: words.number()?,
+        port: words.short()?,
     };
-    let octets = hex::decode(alloc, digits)?;
-    let bytes = Octets::copy_of(alloc, octets.as_slice())?;
+    let bytes = words.octets(alloc)?;
+    if !words.is_read() {
+        bail!("more than a datagram");
+    }
     Ok(PortItem::Gram { from, bytes })
 }
 
-// Reads a line: `count NUMBER`, `fail NUMBER`, `gram IP PORT DIGITS` or `pause`.
+// Reads a line: `count NUMBER`, `fail NUMBER`, `gram IP PORT OCTETS` or `pause`.
 fn read_line(alloc: Global, line: &str, lines: &mut Lines) -> Result<()> {
-    let mut words = line.split_whitespace();
-    match (words.next(), words.next(), words.next(), words.next()) {
-        (Some("count"), Some(number), None, None) => lines.count = number.parse()?,
-        (Some("fail"), Some(number), None, None) => lines.failing.add(number.parse()?)?,
-        (Some("gram"), Some(ip), Some(port), digits) => {
-            let item = gram_in(alloc, ip, port, digits.unwrap_or(""))?;
-            lines.items.add(item)?;
-        }
-        (Some("pause"), None, None, None) => lines.items.add(PortItem::Pause)?,
+    match line.split_once(' ') {
+        Some(("count", number)) => lines.count = number.parse()?,
+        Some(("fail", number)) => lines.failing.add(number.parse()?)?,
+        Some(("gram", text)) => lines.items.add(gram_in(alloc, text)?)?,
+        None if line == "pause" => lines.items.add(PortItem::Pause)?,
         _ => bail!("no line of a port: {line}"),
     }
     Ok(())

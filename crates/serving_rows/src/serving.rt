@@ -36,16 +36,38 @@ fn book_of(alloc: Global, name: &str, plan: &Scenario, script: &mut Script) -> R
     Ok(book)
 }
 
+// Serves a plan over a port, and prints what the serving told.
+fn tell_served<P: Print + AllocGlobal>(
+    rt: &P,
+    name: &str,
+    plan: &Scenario,
+    script: &mut Script,
+) -> Result<()>
+    requires plan { IsPlan plan.now }
+    requires some { 0 < script.old.count }
+{
+    let book = book_of(rt.alloc(), name, plan, script)?;
+    tell(rt, name, plan, &script.port, &book)
+}
+
+// The same over the port of a name.
+fn tell_plan<P: Print + AllocGlobal + std::rt::Files>(
+    rt: &P,
+    name: &str,
+    plan: &Scenario,
+) -> Result<()>
+    requires { IsPlan plan.now }
+{
+    let mut script = script_of(rt.alloc(), name, &mut DiskFiles::new(rt))?;
+    tell_served(rt, name, plan, &mut script)
+}
+
 /// Serves the plan SCENARIO.toml over the port NAME.port, and prints what the serving told.
 pub fn tell_serving<P: Print + AllocGlobal + std::rt::Files>(
     rt: &P,
     scenario: &str,
     name: &str,
 ) -> Result<()> {
-    let alloc = rt.alloc();
-    let mut files = DiskFiles::new(rt);
-    let plan = plan_of(alloc, scenario, &mut files)?;
-    let mut script = script_of(alloc, name, &mut files)?;
-    let book = book_of(alloc, name, &plan, &mut script)?;
-    tell(rt, name, &plan, &script.port, &book)
+    let plan = plan_of(rt.alloc(), scenario, &mut DiskFiles::new(rt))?;
+    tell_plan(rt, name, &plan)
 }

@@ -39,6 +39,25 @@ fn tell_sent<P: Print + AllocGlobal>(rt: &P, sent: &SentGram) -> Result<()> {
     Ok(())
 }
 
+// Prints the report of a serving.
+fn tell_report<P: Print + AllocGlobal>(rt: &P, plan: &Scenario, book: &Book) -> Result<()>
+    requires { IsTold plan.now book.now }
+{
+    for line in lines_of(rt.alloc(), plan, book)?.as_slice() {
+        let text = std::str::from_utf8(line.bytes())?;
+        print!(rt; "{text}")?;
+    }
+    Ok(())
+}
+
+// Prints the datagrams that were sent.
+fn tell_grams<P: Print + AllocGlobal>(rt: &P, port: &MemPort) -> Result<()> {
+    for sent in port.sent().as_slice() {
+        tell_sent(rt, sent)?;
+    }
+    Ok(())
+}
+
 /// Prints what a serving told.
 pub fn tell<P: Print + AllocGlobal>(
     rt: &P,
@@ -50,13 +69,8 @@ pub fn tell<P: Print + AllocGlobal>(
     requires { IsTold plan.now book.now }
 {
     println!(rt; "{name}")?;
-    for line in lines_of(rt.alloc(), plan, book)?.as_slice() {
-        let text = std::str::from_utf8(line.bytes())?;
-        print!(rt; "{text}")?;
-    }
-    for sent in port.sent().as_slice() {
-        tell_sent(rt, sent)?;
-    }
+    tell_report(rt, plan, book)?;
+    tell_grams(rt, port)?;
     let digest = digest_of(rt.alloc(), book)?;
     println!(rt; "capture {digest}")?;
     Ok(())

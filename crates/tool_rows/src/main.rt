@@ -54,11 +54,15 @@ fn tell<P: Print + AllocGlobal>(rt: &P, name: &str, script: &mut Script) -> Resu
     Ok(())
 }
 
+// Makes the call of a name.
+fn tell_word<R: Print + AllocGlobal + std::rt::Files>(rt: &R, name: &str) -> Result<()> {
+    let mut script = script_of(rt.alloc(), name, &mut DiskFiles::new(rt))?;
+    tell(rt, name, &mut script)
+}
+
 fn main(rt: HostRuntime) -> Result<()> {
-    let mut files = DiskFiles::new(&rt);
     for word in env::args(&rt)?.skip(1) {
-        let mut script = script_of(rt.alloc(), word.as_str(), &mut files)?;
-        tell(&rt, word.as_str(), &mut script)?;
+        tell_word(&rt, word.as_str())?;
     }
     Ok(())
 }

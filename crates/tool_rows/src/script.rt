@@ -1,6 +1,7 @@
 use anyhow::{Result, bail};
-use ec_fields::{Octets, Rows};
+use ec_fields::Rows;
 use ec_outside::{MemFiles, MemPort, Peer, PortItem};
+use row_table::Words;
 use std::alloc::Global;
 
 /// The words of a call, the files that it may load, and its port.
@@ -20,30 +21,34 @@ struct Lines {
     failing: Rows<u64>,
 }
 
-// A datagram of a peer, in hexadecimal digits.
-fn gram_in(alloc: Global, ip: &str, port: &str, digits: &str) -> Result<PortItem> {
+// A datagram of a peer: the address, the port, and the octets.
+fn gram_in(alloc: Global, text: &str) -> Result<PortItem> {
+    let mut words = Words::of(text);
     let from = Peer {
-        ip: ip.parse()?,
-        port: port.parse()?,
+        ip: words.number()?,
+        port: words.short()?,
     };
-    let octets = hex::decode(alloc, digits)?;
-    let bytes = Octets::copy_of(alloc, octets.as_slice())?;
+    let bytes = words.octets(alloc)?;
+    if !words.is_read() {
+        bail!("more than a datagram");
+    }
     Ok(PortItem::Gram { from, bytes })
 }
 
-// Reads a line that isn't a word of the call: `file NAME DIGITS`, `fail NUMBER` or `gram IP PORT DIGITS`.
+// Adds a file by its name and its octets.
+fn add_file(alloc: Global, text: &str, files: &mut MemFiles) -> Result<()> {
+    let mut words = Words::of(text);
+    let name = words.word()?;
+    files.add(name, words.octets(alloc)?.bytes())?;
+    Ok(())
+}
+
+// Reads a line that isn't a word of the call: `file NAME OCTETS`, `fail NUMBER` or `gram IP PORT OCTETS`.
 fn read_other(alloc: Global, line: &str, lines: &mut Lines) -> Result<()> {
-    let mut words = line.split_whitespace();
-    match (words.next(), words.next(), words.next(), words.next()) {
-        (Some("file"), Some(name), digits, None) => {
-            let octets = hex::decode(alloc, digits.unwrap_or(""))?;
-            lines.files.add(name, octets.as_slice())?;
-        }
-        (Some("fail"), Some(number), None, None) => lines.failing.add(number.parse()?)?,
-        (Some("gram"), Some(ip), Some(port), digits) => {
-            let item = gram_in(alloc, ip, port, digits.unwrap_or(""))?;
-            lines.items.add(item)?;
-        }
+    match line.split_once(' ') {
+        Some(("file", text)) => add_file(alloc, text, &mut lines.files)?,
+        Some(("fail", number)) => lines.failing.add(number.parse()?)?,
+        Some(("gram", text)) => lines.items.add(gram_in(alloc, text)?)?,
         _ => bail!("no line of a call: {line}"),
     }
     Ok(())
