@@ -6,8 +6,8 @@ use anyhow::{Result, bail};
 use arrayvec::ArrayVec;
 use ec_fields::buffer_of;
 use eoe::{
-    Came, Eoe, EoeFault, Fragment, FragmentView, Fragmenter, Joined, Packet, Reassembler, cut, first_block,
-    is_block, read, write,
+    Came, Eoe, EoeFault, Fragment, FragmentView, Fragmenter, Joined, Packet, Reassembler, cut,
+    first_block, is_block, read, write,
 };
 use row_table::{Bench, Words, digits_of, shown};
 use std::alloc::Global;

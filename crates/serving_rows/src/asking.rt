@@ -113,12 +113,7 @@ fn asked_again<F: Files>(
 }
 
 // Makes the call anew until no further reply is left to hear.
-fn ask<F: Files>(
-    alloc: Global,
-    words: &[String],
-    plan: &Scenario,
-    files: &mut F,
-) -> Result<Left>
+fn ask<F: Files>(alloc: Global, words: &[String], plan: &Scenario, files: &mut F) -> Result<Left>
     requires { IsPlan plan.now }
 {
     let mut left = ask_over(alloc, words, &[], files)?;
