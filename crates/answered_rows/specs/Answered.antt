@@ -1,12 +1,12 @@
 -- What the laws say of the newest service of an open slave.
-use Rattle.std.specs.Prelude.{◌≡◌, ℕ, false, Bool, Option, Some, None, List, []}
+use Rattle.std.specs.Prelude.{◌≡◌, ℕ, false, Bool, Some, None, List, []}
 use Rattle.exchange_model.specs.Exchange.{Exchange, Speech, IsLawful}
 use Rattle.exchange_model.specs.Rows.{Row, left}
 use Rattle.life_model.specs.Eras.{EraIs}
 use Rattle.life_model.specs.Lives.{Spot, Era, era_next}
 use Rattle.never_waits.specs.Waits.{NeverWaits}
 use Rattle.segment_model.specs.Record.{Frame}
-use Rattle.segment_model.specs.Seats.{Side, side_back}
+use Rattle.segment_model.specs.Seats.{side_back}
 use Rattle.segment_model.specs.Slaves.{Datagram, Processor, Registers, Slave}
 use Rattle.state_exchange.specs.Stated.{Stated, IsStated, Service}
 use Rattle.state_model.specs.States.{Table}
