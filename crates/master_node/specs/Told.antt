@@ -7,13 +7,17 @@ use Rattle.life_runs.specs.Led.{Leads}
 use Rattle.master_side.specs.of_link_mails.Body.{Body}
 use Rattle.master_duty.specs.Reply.{Reply}
 use Rattle.master_hand.specs.Spoken.{Asked, is_passed}
-use Rattle.master_node.specs.Shows.{IsLead}
+use Rattle.master_node.specs.Shows.{IsLead, IsLived}
 use Rattle.master_node.specs.declared.node.MasterNode.{MasterNode}
 use Rattle.master_node.specs.declared.told.Told.{Told}
 
 -- a master has just these lives of its slaves
 abbrev pub HasLeads : (ℕ → Lens) → ℕ → MasterNode → List Leads → Type 0
 HasLeads lens recover m as' = AllBoth (λ a s. IsLead lens recover a s) as' m.tour.stops.items
+
+-- and just these, whatever is passed on to them
+abbrev pub HasLives : (ℕ → Lens) → ℕ → MasterNode → List Leads → Type 0
+HasLives lens recover m as' = AllBoth (λ a s. IsLived lens recover a.lived s) as' m.tour.stops.items
 
 -- the newest row has this answer, of some frame
 pub record HasReply (now : Option (Row Body Asked Reply)) (reply : Reply) : Type 0 where

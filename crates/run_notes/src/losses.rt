@@ -1,7 +1,7 @@
 ghost use Rattle.std.specs.Prelude.{◌≡◌, ◌<◌, ◌≤◌, ◌+◌, ℕ, suc, List, length, map, vec_len, OnOk, Some, slice_get};
 ghost use Rattle.master_node.specs.of_frame_view.View.{Lens};
 ghost use Rattle.master_node.specs.of_life_runs.Led.{Leads};
-ghost use Rattle.master_node.specs.Shows.{MasterShows};
+ghost use Rattle.master_node.specs.Told.{HasLives};
 ghost use Rattle.master_node.specs.Wants.{gave_of, AllCounted};
 ghost use Rattle.run_notes.specs.Heard.{emergencies_noted, HeardBy};
 ghost use Rattle.run_notes.specs.Slaves.{gaves_noted};
@@ -33,7 +33,7 @@ impl Log {
         requires homes { length self.old.homes ≡ length self.old.notes }
         requires posts { vec_len master.now.posts ≡ length self.old.notes }
         ensures slaves { SameSlaves self.old self.new }
-        ensures gave { OnOk result ((lens : ℕ → Lens) (retry missed : ℕ) (leads : List Leads) → MasterShows lens self.old.recover retry master.now missed leads → AllCounted self.old.recover leads →
+        ensures gave { OnOk result ((lens : ℕ → Lens) (leads : List Leads) → HasLives lens self.old.recover master.now leads → AllCounted self.old.recover leads →
             gaves_noted self.new.notes ≡ gave_at at frame (map gave_of leads) (gaves_noted self.old.notes)) }
         ensures heard { OnOk result (emergencies_noted self.new.notes ≡ emergencies_noted self.old.notes) }
         ensures rows { OnOk result (begun_noted self.new.notes ≡ begun_noted self.old.notes) }
@@ -59,7 +59,7 @@ impl Log {
         requires homes { length self.old.homes ≡ length self.old.notes }
         requires posts { vec_len master.now.posts ≡ length self.old.notes }
         ensures slaves { SameSlaves self.old self.new }
-        ensures gave { OnOk result ((lens : ℕ → Lens) (retry missed : ℕ) (leads : List Leads) → MasterShows lens self.old.recover retry master.now missed leads → AllCounted self.old.recover leads →
+        ensures gave { OnOk result ((lens : ℕ → Lens) (leads : List Leads) → HasLives lens self.old.recover master.now leads → AllCounted self.old.recover leads →
             gaves_noted self.new.notes ≡ gaves_behind frame (map gave_of leads) (gaves_noted self.old.notes)) }
         ensures heard { OnOk result (emergencies_noted self.new.notes ≡ emergencies_noted self.old.notes) }
         ensures rows { OnOk result (begun_noted self.new.notes ≡ begun_noted self.old.notes) }
