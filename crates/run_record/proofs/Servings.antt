@@ -5,6 +5,7 @@ use Rattle.std.proofs.lemmas.List.{length-map}
 use Rattle.datagrams.specs.Datagram as Raw
 use Rattle.life_runs.proofs.First.{apart_from, have_lens}
 use Rattle.mailbox_mail.specs.declared.mail.Mail.{Mail}
+use Rattle.master_node.proofs.Servings.{keyed}
 use Rattle.master_node.specs.Lives.{waiting_at, waiting_of}
 use Rattle.master_node.specs.Rooms.{FitAgain}
 use Rattle.master_node.specs.Serving.{FitsAt, IsAsked, IsServed, ServedShows, ServedUnder, run_lead}
@@ -16,16 +17,19 @@ use Rattle.master_node.specs.declared.post.Post.{Post}
 use Rattle.master_node.specs.of_frame_view.Seen.{seen}
 use Rattle.master_node.specs.of_frame_view.View.{Lens}
 use Rattle.master_node.specs.of_life_frames.Shares.{AllThree}
-use Rattle.master_node.specs.of_life_runs.First.{first_leads, leads_from, lens_of}
-use Rattle.master_node.specs.of_life_runs.Led.{Exchanged, Leads, gives_up_at, missed_behind}
+use Rattle.master_node.specs.of_life_runs.First.{first_leads, leads_from, lens_of, script_for, spot_of}
+use Rattle.master_node.specs.of_life_runs.Led.{Exchanged, Leads, gives_up_at, missed_behind, new_leads}
 use Rattle.master_node.specs.of_master_hand.declared.hand.InHand.{InHand}
 use Rattle.master_node.specs.of_master_side.declared.hand.Hand.{Ghosts}
 use Rattle.master_node.specs.of_master_tour.Walks.{StepsAt}
 use Rattle.master_node.specs.of_master_tour.declared.stop.Stop.{Stop}
 use Rattle.master_node.specs.of_segment_model.Returned.{Returns}
 use Rattle.ring_returns.proofs.Returned as Returned
+use Rattle.run_book.specs.declared.book.SentFrame.{SentFrame}
 use Rattle.run_notes.specs.declared.standing.AskedMail.{AskedMail}
-use Rattle.run_record.specs.Served.{ServedLeading, Serving, ServesOn, AsksNone, ServingAsks, as_asked}
+use Rattle.run_record.specs.Led.{exchanged}
+use Rattle.run_record.specs.Replay.{IsRecorded}
+use Rattle.run_record.specs.Served.{Serving, ServesOn, ServingAsks, ServingGoesOn, as_asked}
 use Rattle.run_record.specs.Session.{SessionState, asked_mail, asked_more, has_live}
 use Rattle.run_record.proofs.Fits.{has_room, home_fits}
 use Rattle.run_record.proofs.Leads.{next_frame}
@@ -54,7 +58,7 @@ posts_wait lens recover made [] (p ∷ ps) (s ∷ ss) h = absurd h
 posts_wait lens recover made (w ∷ ws) [] [] h = absurd h
 posts_wait lens recover made (w ∷ ws) [] (s ∷ ss) h = absurd h
 posts_wait lens recover made (w ∷ ws) (p ∷ ps) [] h = absurd h
-posts_wait lens recover made (w ∷ ws) (p ∷ ps) (s ∷ ss) h = λ i. (ap length (sym h.0.waits) ∙ length-map p.mails.items _) i ∷ posts_wait lens recover made ws ps ss h.1 i
+posts_wait lens recover made (w ∷ ws) (p ∷ ps) (s ∷ ss) h = λ i. (ap length (sym h.0.waits) ∙ length-map p.mails.items keyed) i ∷ posts_wait lens recover made ws ps ss h.1 i
 
 shown_wait : (lens : ℕ → Lens) (recover retry missed made : ℕ) (m : MasterNode) (ws : List Serves) → ServedShows lens recover retry m missed made ws → map left_of ws ≡ map waiting_of m.posts.items
 shown_wait lens recover retry missed made m ws h = posts_wait lens recover made ws m.posts.items m.tour.stops.items h.each
@@ -63,8 +67,8 @@ shown_wait lens recover retry missed made m ws h = posts_wait lens recover made 
 first_same : {T : Type 0} (g : Serves → T) (t : T) → ((pace : ℕ) (a : Leads) → g (new_serves pace a) ≡ t) → (paces : List ℕ) (rows : List (ℕ × Plan.Service)) (place : ℕ) (ss : List SlaveSpec) → map g (all_serve paces (leads_from rows place ss)) ≡ replicate (length ss) t
 first_same g t h [] rows place [] = refl
 first_same g t h (p ∷ ps) rows place [] = refl
-first_same g t h [] rows place (s ∷ ss) = λ i. h 1 _ i ∷ first_same g t h [] rows (suc place) ss i
-first_same g t h (p ∷ ps) rows place (s ∷ ss) = λ i. h p _ i ∷ first_same g t h ps rows (suc place) ss i
+first_same g t h [] rows place (s ∷ ss) = λ i. h 1 (new_leads (script_for place rows) (spot_of place s)) i ∷ first_same g t h [] rows (suc place) ss i
+first_same g t h (p ∷ ps) rows place (s ∷ ss) = λ i. h p (new_leads (script_for place rows) (spot_of place s)) i ∷ first_same g t h ps rows (suc place) ss i
 
 pub serving_begins : (plan : Scenario) (s : SessionState) → ServedShows (lens_of plan.slaves) plan.recover plan.retry s.master 0 0 (all_serve plan.paces (first_leads plan)) → s.asked ≡ replicate (length plan.slaves) [] → s.waiting ≡ replicate (length plan.slaves) 0 → Serving plan s []
 serving_begins plan s shown none still = record {
@@ -91,14 +95,14 @@ one_more : (fs : List Exchanged) (f : Exchanged) → suc (length fs) ≡ length 
 one_more fs f = let k = length-append fs (f ∷ []) in omega (arith, k)
 
 -- ONE FRAME MORE: what the master says of it before, and of its return or loss
-pub serving_on : (s s' : SessionState) (m : MasterNode) (f : Exchanged) (result : Next) → (result ≡ nexts.Idle) ↔ (has_live s.master ≡ false) →
+on_frame : (s s' : SessionState) (m : MasterNode) (f : Exchanged) (result : Next) → (result ≡ nexts.Idle) ↔ (has_live s.master ≡ false) →
     (result ≡ nexts.Frame → (lens : ℕ → Lens) (recover retry missed made : ℕ) (ws : List Serves) → suc made < 2 ^ 32 → ServedShows lens recover retry s.master missed made ws →
     (vs : List ServedTurn) × IsServedFrame lens made f.sent ws vs × ServedUnder lens recover retry m f.sent missed made vs) →
     ((lens : ℕ → Lens) (recover retry missed made : ℕ) (vs : List ServedTurn) → ServedUnder lens recover retry m f.sent missed made vs → (f.fate ≡ Fates.Pass → Returns (seen lens f.sent) (seen lens f.back)) →
     ServedShows lens recover retry s'.master (missed_behind lens recover retry f.fate missed) (suc made) (map (served_behind lens recover retry (gives_up_at lens recover retry missed) made f) vs)) →
     f.fate ≡ fate_at s.ring.lose s.ring.number → f.back ≡ ring_returned node_passed s.ring f.sent → suc s.ring.number < 2 ^ 32 → s'.asked ≡ s.asked → s'.waiting ≡ map waiting_of s'.master.posts.items →
     (plan : Scenario) (fs : List Exchanged) → length fs ≡ s.ring.number → has_live s.master ≡ true → (old : Serving plan s fs) → ServesOn plan s s' fs f old
-serving_on s s' m f result idle serves told fate back few asked waiting plan fs number live old =
+on_frame s s' m f result idle serves told fate back few asked waiting plan fs number live old =
     let lens = lens_of plan.slaves in
     let l = old.leading in
     let made = serves (next_frame s.master result idle live) lens plan.recover plan.retry l.missed (length fs) l.serves (subst (λ (n : ℕ). suc n < 2 ^ 32) (sym number) few) l.shows in
@@ -123,6 +127,15 @@ serving_on s s' m f result idle serves told fate back few asked waiting plan fs 
       serves = refl;
     }
 
+pub serving_on : (t s s' : SessionState) (m : MasterNode) (f : SentFrame) (result : Next) → t ≡ s → (result ≡ nexts.Idle) ↔ (has_live t.master ≡ false) →
+    (result ≡ nexts.Frame → (lens : ℕ → Lens) (recover retry missed made : ℕ) (ws : List Serves) → suc made < 2 ^ 32 → ServedShows lens recover retry t.master missed made ws →
+    (vs : List ServedTurn) × IsServedFrame lens made f.sent ws vs × ServedUnder lens recover retry m f.sent missed made vs) →
+    ((lens : ℕ → Lens) (recover retry missed made : ℕ) (vs : List ServedTurn) → ServedUnder lens recover retry m f.sent missed made vs → (f.fate ≡ Fates.Pass → Returns (seen lens f.sent) (seen lens f.back)) →
+    ServedShows lens recover retry s'.master (missed_behind lens recover retry f.fate missed) (suc made) (map (served_behind lens recover retry (gives_up_at lens recover retry missed) made (exchanged f)) vs)) →
+    IsRecorded t.ring f → suc t.ring.number < 2 ^ 32 → s'.asked ≡ t.asked → s'.waiting ≡ map waiting_of s'.master.posts.items → ServingGoesOn s s' f
+serving_on t s s' m f result view idle serves told recorded few asked waiting =
+    subst (λ (z : SessionState). ServingGoesOn z s' f) view (λ plan fs number live old. on_frame t s' m (exchanged f) result idle serves told recorded.fate recorded.back few asked waiting plan fs number live old)
+
 -- ONE MAIL MORE
 more_asked : (ks : List Keyed) (k : Keyed) → map as_asked (ks ++ k ∷ []) ≡ map as_asked ks ++ as_asked k ∷ []
 more_asked [] k = refl
@@ -135,11 +148,11 @@ asked_rows key zero mail k (w ∷ ws) i =
     ap (λ z. z ∷ map mails_of ws) (more_asked w.asked k ∙ ap (λ z. map as_asked w.asked ++ z ∷ []) (λ j. record { key = i.key_is j; kind = i.kind j; body = i.body j }))
 asked_rows key (suc place) mail k (w ∷ ws) i = ap (λ z. mails_of w ∷ z) (asked_rows key place mail k ws i)
 
-pub serving_asks : (s s' : SessionState) (slave key : ℕ) (mail : Mail) →
+one_asked : (s s' : SessionState) (slave key : ℕ) (mail : Mail) →
     ((lens : ℕ → Lens) (recover retry missed made : ℕ) (ws : List Serves) → waiting_at s.master.posts.items slave < 64 → FitsAt lens slave (length mail.body.items) ws → ServedShows lens recover retry s.master missed made ws →
     (k : Keyed) × IsAsked key mail k × MayAsk lens slave k ws × ServedShows lens recover retry s'.master missed made (asked_at slave k ws)) →
     waiting_at s.master.posts.items slave ≢ 64 → s'.asked ≡ asked_more s.asked slave (asked_mail key mail) → s'.waiting ≡ map waiting_of s'.master.posts.items → ServingAsks slave key mail s s' true
-serving_asks s s' slave key mail served no asked waiting = λ plan fs home is there fits old.
+one_asked s s' slave key mail served no asked waiting = λ plan fs home is there fits old.
     let lens = lens_of plan.slaves in
     let l = old.leading in
     let room = has_room plan fs l.missed slave s.master.posts.items l.serves l.lives (shown_wait lens plan.recover plan.retry l.missed (length fs) s.master l.serves l.shows) no in
@@ -157,6 +170,13 @@ serving_asks s s' slave key mail served no asked waiting = λ plan fs home is th
       missed = refl;
       serves = refl;
     }
+
+pub serving_asks : (t s s' : SessionState) (slave key : ℕ) (mail : Mail) → t ≡ s →
+    ((lens : ℕ → Lens) (recover retry missed made : ℕ) (ws : List Serves) → waiting_at t.master.posts.items slave < 64 → FitsAt lens slave (length mail.body.items) ws → ServedShows lens recover retry t.master missed made ws →
+    (k : Keyed) × IsAsked key mail k × MayAsk lens slave k ws × ServedShows lens recover retry s'.master missed made (asked_at slave k ws)) →
+    waiting_at t.master.posts.items slave ≢ 64 → s'.asked ≡ asked_more s.asked slave (asked_mail key mail) → s'.waiting ≡ map waiting_of s'.master.posts.items → ServingAsks slave key mail s s' true
+serving_asks t s s' slave key mail view served no asked waiting =
+    subst (λ (z : SessionState). ServingAsks slave key mail z s' true) view (one_asked t s' slave key mail served no (asked ∙ ap (λ (z : SessionState). asked_more z.asked slave (asked_mail key mail)) (sym view)) waiting)
 
 -- NONE: its posts and its tour stay
 all_stay : {S : Type 0} (i : ℕ) (xs ys : List S) → StepsAt (λ x y. y ≡ x) i xs ys → ys ≡ xs
@@ -179,9 +199,9 @@ shows_same lens recover retry missed made m n ws tour posts number h = record {
   early = h.early;
 }
 
-pub serving_stays : (s s' : SessionState) (slave key : ℕ) (mail : Mail) → s'.master.tour ≡ s.master.tour → s'.master.made ≡ s.master.made → StepsAt (λ p q. q ≡ p) slave s.master.posts.items s'.master.posts.items →
+none_asked : (s s' : SessionState) (slave key : ℕ) (mail : Mail) → s'.master.tour ≡ s.master.tour → s'.master.made ≡ s.master.made → StepsAt (λ p q. q ≡ p) slave s.master.posts.items s'.master.posts.items →
     s'.asked ≡ s.asked → s'.waiting ≡ map waiting_of s'.master.posts.items → ServingAsks slave key mail s s' false
-serving_stays s s' slave key mail tour number stays asked waiting = λ plan fs old.
+none_asked s s' slave key mail tour number stays asked waiting = λ plan fs old.
     let lens = lens_of plan.slaves in
     let l = old.leading in
     let shown = shows_same lens plan.recover plan.retry l.missed (length fs) s.master s'.master l.serves tour (all_stay slave s.master.posts.items s'.master.posts.items stays) number l.shows in
@@ -194,3 +214,8 @@ serving_stays s s' slave key mail tour number stays asked waiting = λ plan fs o
       missed = refl;
       serves = refl;
     }
+
+pub serving_stays : (t s s' : SessionState) (slave key : ℕ) (mail : Mail) → t ≡ s → s'.master.tour ≡ t.master.tour → s'.master.made ≡ t.master.made → StepsAt (λ p q. q ≡ p) slave t.master.posts.items s'.master.posts.items →
+    s'.asked ≡ s.asked → s'.waiting ≡ map waiting_of s'.master.posts.items → ServingAsks slave key mail s s' false
+serving_stays t s s' slave key mail view tour number stays asked waiting =
+    subst (λ (z : SessionState). ServingAsks slave key mail z s' false) view (none_asked t s' slave key mail tour number stays (asked ∙ ap (λ (z : SessionState). z.asked) (sym view)) waiting)

@@ -1,5 +1,5 @@
 -- No more mails wait for a slave of a serving than may.
-use Rattle.std.proofs.Common.{◌≡◌, ◌≤◌, ℕ, zero, suc, Bool, true, false, Option, List, [], ◌∷◌, ◌++◌, map, length, length-append, ap, subst, sym, arith}
+use Rattle.std.proofs.Common.{◌≤◌, ℕ, zero, suc, Bool, true, false, Option, List, [], ◌∷◌, ◌++◌, map, length, length-append, ap, arith}
 use Rattle.std.specs.Prelude.{All, if◌then◌else◌}
 use Rattle.std.proofs.lemmas.List.Elements.{All-nil, All-cons, All-head, All-tail}
 use Rattle.life_runs.specs.of_datagrams.Datagram as Raw
@@ -9,7 +9,7 @@ use Rattle.life_runs.specs.of_master_hand.Spoken.{Asked}
 use Rattle.life_runs.specs.of_segment_plan.declared.service.Service as Plan
 use Rattle.life_runs.specs.Led.{Exchanged, Leads, gives_up_at}
 use Rattle.served_places.specs.Places.{MayWait}
-use Rattle.served_runs.specs.Served.{Keyed, Serves, ServedTurn, ServedComes, AllServedTurn, IsServedLed, MayAsk, all_serve, asked_at, gives_it, served_behind}
+use Rattle.served_runs.specs.Served.{Keyed, Serves, ServedTurn, ServedComes, AllServedTurn, IsServedLed, MayAsk, all_serve, asked_at, gives_it, new_serves, served_behind}
 use Rattle.served_runs.specs.Told.{Passed}
 
 -- no more wait before a frame
@@ -51,10 +51,13 @@ module _ (lens : ℕ → Lens) where
         All-cons MayWait (served_behind lens recover retry gives made f v) (map (served_behind lens recover retry gives made f) vs)
         (left_by (gives_it lens recover retry gives f.fate v) v.waits (All-head TurnWaits v vs h)) (behind_wait gives made f vs (All-tail TurnWaits v vs h))
 
+    few : 0 ≤ 64
+    few = omega arith
+
     first_wait : (paces : List ℕ) (as' : List Leads) → All MayWait (all_serve paces as')
     first_wait paces [] = All-nil MayWait
-    first_wait [] (a ∷ as') = All-cons MayWait _ (all_serve [] as') (omega arith) (first_wait [] as')
-    first_wait (pace ∷ paces) (a ∷ as') = All-cons MayWait _ (all_serve paces as') (omega arith) (first_wait paces as')
+    first_wait [] (a ∷ as') = All-cons MayWait (new_serves 1 a) (all_serve [] as') few (first_wait [] as')
+    first_wait (pace ∷ paces) (a ∷ as') = All-cons MayWait (new_serves pace a) (all_serve paces as') few (first_wait paces as')
 
     pub wait_few : (paces : List ℕ) (first : List Leads) (fs : List Exchanged) (missed : ℕ) (ws : List Serves) → IsServedLed lens recover retry (all_serve paces first) fs missed ws → All MayWait ws
     wait_few paces first _ _ _ IsServedLed.start = first_wait paces first

@@ -1,8 +1,7 @@
-use Rattle.std.proofs.Common.{◌≡◌, ◌<◌, ◌+◌, ℕ, List, length, map, true, false, refl, sym, ap, ◌∙◌, subst, rules, arith}
+use Rattle.std.proofs.Common.{◌≡◌, ◌<◌, ◌+◌, ℕ, List, length, map, true, false, refl, sym, ap, ◌∙◌, rules, arith}
 use Rattle.std.specs.Prelude.{slice_get}
 use Rattle.master_node.specs.Lives.{waiting_of}
 use Rattle.run_notes.specs.declared.standing.AskedMail.{AskedMail}
-use Rattle.run_record.specs.Served.{ServingAsks}
 use Rattle.run_record.specs.Session.{SessionState, asked_more, asked_mail}
 use Rattle.run_record.proofs.Asking.{full_so, asked_on, taken_back}
 use Rattle.run_record.proofs.Servings.{serving_asks, serving_stays}
@@ -46,17 +45,10 @@ returns-clause-full c =
 
 pub returns-then-ask-clause-serves : goal.returns-then-ask-clause-serves
 returns-then-ask-clause-serves c =
-    let slave = c.args.slave in
-    let mail = c.args.mail.now in
-    let took : c.if-ask.result ≡ true = search rules in
-    subst (λ (s : SessionState). ServingAsks slave c.args.key mail s _ true) c.self.view_is
-    (serving_asks _ _ slave c.args.key mail c.ask.ensures.served (λ full. (let no = c.if-ask.ensures.full.1 full in absurd (cc)))
-    (ap (λ (s : SessionState). s.asked) (returns-then-ask-clause-asked c) ∙ ap (λ (s : SessionState). asked_more s.asked slave (asked_mail c.args.key mail)) (sym c.self.view_is)) refl)
+    serving_asks _ _ _ c.args.slave c.args.key c.args.mail.now c.self.view_is c.ask.ensures.served (λ full. (let no = c.if-ask.ensures.full.1 full in absurd (cc)))
+    (ap (λ (s : SessionState). s.asked) (returns-then-ask-clause-asked c)) refl
 
 pub returns-clause-serves : goal.returns-clause-serves
 returns-clause-serves c =
-    let slave = c.args.slave in
-    let mail = c.args.mail.now in
-    subst (λ (s : SessionState). ServingAsks slave c.args.key mail s _ false) c.self.view_is
-    (serving_stays _ _ slave c.args.key mail c.ask.ensures.kept.0 c.ask.ensures.kept.2 (c.ask.ensures.stays (search rules))
-    (ap (λ (s : SessionState). s.asked) (returns-clause-asked c) ∙ ap (λ (s : SessionState). s.asked) (sym c.self.view_is)) refl)
+    serving_stays _ _ _ c.args.slave c.args.key c.args.mail.now c.self.view_is c.ask.ensures.kept.0 c.ask.ensures.kept.2 (c.ask.ensures.stays (search rules))
+    (ap (λ (s : SessionState). s.asked) (returns-clause-asked c)) refl
