@@ -3,6 +3,7 @@ use Rattle.std.proofs.Common.{◌≡◌, ◌⊎◌, inl, inr, ◌≤◌, ℕ, ze
 use Rattle.std.specs.Prelude.{◌||◌, ◌&&◌, nat_lt, slice_get, is_some}
 use Rattle.std.proofs.lemmas.Bool.{ltb-false}
 use Rattle.std.proofs.lemmas.Option.{slice_get_past}
+use Rattle.master_node.proofs.Quiets.{lead_lives}
 use Rattle.master_node.specs.of_frame_view.View.{Lens}
 use Rattle.master_node.specs.of_life_frames.Shares.{AllBoth}
 use Rattle.master_node.specs.of_life_model.Lives.{Stand}
@@ -114,7 +115,7 @@ some_live lens recover recover' retry missed m leads nodes notes shown c g (inl 
     by : (b : Bool) → has_live m ≡ b → has_live m ≡ true
     by true e = e
     by false e =
-        let rest = gone_rest recover' leads nodes notes (all_gone lens recover leads m.tour.stops.items shown.each e) c g in
+        let rest = gone_rest recover' leads nodes notes (all_gone lens recover leads m.tour.stops.items (lead_lives lens recover leads m.tour.stops.items shown.each) e) c g in
         absurd (let bad : true ≡ false = sym rest ∙ busy in cc)
 
 -- WHERE EACH IS SETTLED that wasn't given up for good all are at rest

@@ -36,8 +36,9 @@ use Rattle.master_node.specs.Ports.{ports_behind, ports_of}
 use Rattle.master_node.specs.Shows.{MasterShows, MasterUnder, IsLead, IsUnder, is_live_lead}
 use Rattle.master_node.specs.Asks.{AllAsk}
 use Rattle.master_node.specs.Toured.{tour_of, turn_share}
-use Rattle.master_node.specs.Told.{HasLeads}
+use Rattle.master_node.specs.Told.{HasLeads, HasLives}
 use Rattle.master_node.proofs.Lists.{both_map}
+use Rattle.master_node.proofs.Quiets.{lead_lives}
 use Rattle.master_node.specs.Wants.{gave_of, AllCounted}
 use Rattle.master_node.specs.declared.node.MasterNode.{MasterNode}
 use Rattle.master_node.specs.declared.node.Next.{Next}
@@ -93,7 +94,7 @@ use Rattle.run_notes.proofs.Heard.{first_heard}
 use Rattle.visit_orders.specs.Toured.{IsToured, tour_behind, lives_behind}
 
 -- BEFORE THE FIRST FRAME
-first_gaves : (services : List (ℕ × Plan.Service)) (number place : ℕ) (ss : List SlaveSpec) → gaves_noted (first_notes services number ss) ≡ map gave_of (leads_from services place ss)
+pub first_gaves : (services : List (ℕ × Plan.Service)) (number place : ℕ) (ss : List SlaveSpec) → gaves_noted (first_notes services number ss) ≡ map gave_of (leads_from services place ss)
 first_gaves services number place [] = refl
 first_gaves services number place (s ∷ ss) = ap (λ (gs : List (List ℕ)). [] ∷ gs) (first_gaves services (number + 1) (suc place) ss)
 
@@ -178,7 +179,7 @@ module _ (lens : ℕ → Lens) (recover retry : ℕ) (gives : Bool) (made : ℕ)
       ∙ ap (λ gs. turned_gave u ∷ gs) (pass_gave us)
 
   -- one give-up more, or none
-  more_given : (b : Bool) (l : Lived Asked Reply) (m : Life Body Asked Reply) → m.gave ≡ l.life.gave → with_more made (given_where b recover l.spot made m).gave l.life.gave ≡ (given_where b recover l.spot made m).gave
+  pub more_given : (b : Bool) (l : Lived Asked Reply) (m : Life Body Asked Reply) → m.gave ≡ l.life.gave → with_more made (given_where b recover l.spot made m).gave l.life.gave ≡ (given_where b recover l.spot made m).gave
   more_given true l m e =
       let longer : nat_lt (length l.life.gave) (length (m.gave ++ made ∷ [])) ≡ true =
       (let n = length-append m.gave (made ∷ []) in let k = ap length e in lt-ltb (length l.life.gave) (length (m.gave ++ made ∷ [])) (omega (arith, n, k))) in
@@ -282,8 +283,7 @@ module _ (m0 m1 m2 : MasterNode) (f : Exchanged) (result : Next)
           let by : GaveBy (Fates.Lost after) frame m2 r r' = subst (λ (k : Fate). GaveBy k frame m2 r r') e noted in
           let all : AllCounted plan.recover (leads made.0) = counted lens plan plan.retry (fs ++ f ∷ []) _ (leads made.0) (IsLed.on fs l.missed l.leads f made.0 l.lives made.1) in
           let mine : gaves_noted r'.notes ≡ gaves_behind frame (map gave_of (leads made.0)) (gaves_noted r.notes) =
-          by lens plan.retry (missed_behind lens plan.recover plan.retry f.fate l.missed) (leads made.0)
-          (subst (λ (n : ℕ). MasterShows lens n plan.retry m2 (missed_behind lens plan.recover plan.retry f.fate l.missed) (leads made.0)) (sym recover) shown)
+          by lens (leads made.0) (subst (λ (n : ℕ). HasLives lens n m2 (leads made.0)) (sym recover) (lead_lives lens plan.recover (leads made.0) m2.tour.stops.items shown.each))
           (subst (λ (n : ℕ). AllCounted n (leads made.0)) (sym recover) all) in
           let is : map gave_of (leads made.0) ≡ map (behind_gave lens plan.recover plan.retry gives (length fs) f (Fates.Lost after)) made.0 =
           behind_is lens plan.recover plan.retry gives (length fs) f made.0 ∙ ap (λ (k : Fate). map (behind_gave lens plan.recover plan.retry gives (length fs) f k) made.0) e in
