@@ -11,7 +11,7 @@ use Rattle.master_node.specs.of_life_runs.First.{HaveLens, first_leads, leads_fr
 use Rattle.master_node.specs.of_life_runs.Led.{Exchanged}
 use Rattle.run_notes.specs.Slaves.{home_of}
 use Rattle.run_record.specs.Served.{ServeTo}
-use Rattle.run_record.proofs.Ends.{heads, rests}
+use Rattle.run_record.proofs.Heads.{heads, not_none, rests}
 use Rattle.segment_plan.specs.declared.plan.Scenario.{Scenario}
 use Rattle.segment_plan.specs.declared.service.Service as Plan
 use Rattle.segment_plan.specs.declared.slave.SlaveSpec.{SlaveSpec}
@@ -34,7 +34,7 @@ first_spots (p ∷ ps) rows place (s ∷ ss) = ap (λ z. spot_of place s ∷ z) 
 spots_fit : (lens : ℕ → Lens) (octets place from : ℕ) (home : ℕ × ℕ) (ss : List SlaveSpec) (ws : List Serves) → HaveLens lens ss → map spot_at ws ≡ spots_from from ss → slice_get (map home_of ss) place ≡ Some home → 6 + octets ≤ home.1 → FitsAt lens place octets ws
 spots_fit lens octets zero from home [] ws h e g l = absurd (cc)
 spots_fit lens octets (suc place) from home [] ws h e g l = absurd (cc)
-spots_fit lens octets place from home (s ∷ ss) [] h e g l = absurd (cc)
+spots_fit lens octets place from home (s ∷ ss) [] h e g l = absurd (not_none (spot_of from s) (spots_from (suc from) ss) e)
 spots_fit lens octets zero from home (s ∷ ss) (w ∷ ws) h e g l =
     let spot : spot_at w ≡ spot_of from s = heads (spot_at w) (spot_of from s) (map spot_at ws) (spots_from (suc from) ss) e in
     let is : home_of s ≡ home = cc in
@@ -51,7 +51,7 @@ home_fits plan fs missed octets place home ws h led g l =
 -- NO MORE THAN 64 MAILS WAIT at a post
 few_at : (ps : List Post) (ws : List Serves) (place : ℕ) → map (λ (w : Serves). length w.waits) ws ≡ map waiting_of ps → All MayWait ws → waiting_at ps place ≤ 64
 few_at [] ws place e h = omega arith
-few_at (p ∷ ps) [] place e h = absurd (cc)
+few_at (p ∷ ps) [] place e h = absurd (not_none (waiting_of p) (map waiting_of ps) e)
 few_at (p ∷ ps) (w ∷ ws) zero e h =
     let few = All-head MayWait w ws h in
     let same = heads (length w.waits) (waiting_of p) (map (λ (v : Serves). length v.waits) ws) (map waiting_of ps) e in

@@ -11,7 +11,9 @@ pub mod Ends
 pub mod Fits
 pub mod Forwards
 pub mod Gones
+pub mod Heads
 pub mod Leads
+pub mod Nexts
 pub mod Numbered
 pub mod Overs
 pub mod Plans

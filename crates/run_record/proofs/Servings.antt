@@ -3,7 +3,6 @@ use Rattle.std.proofs.Common.{◌≡◌, ◌≢◌, ◌<◌, ◌+◌, ◌^◌, �
 use Rattle.std.specs.Prelude.{◌↔◌, replicate}
 use Rattle.std.proofs.lemmas.List.{length-map}
 use Rattle.datagrams.specs.Datagram as Raw
-use Rattle.life_runs.proofs.First.{apart_from, have_lens}
 use Rattle.mailbox_mail.specs.declared.mail.Mail.{Mail}
 use Rattle.master_node.proofs.Servings.{keyed}
 use Rattle.master_node.specs.Lives.{waiting_at, waiting_of}
@@ -32,13 +31,14 @@ use Rattle.run_record.specs.Replay.{IsRecorded}
 use Rattle.run_record.specs.Served.{Serving, ServesOn, ServingAsks, ServingGoesOn, as_asked}
 use Rattle.run_record.specs.Session.{SessionState, asked_mail, asked_more, has_live}
 use Rattle.run_record.proofs.Fits.{has_room, home_fits}
-use Rattle.run_record.proofs.Leads.{next_frame}
+use Rattle.run_record.proofs.Nexts.{next_frame}
 use Rattle.segment_plan.specs.declared.plan.Scenario.{Scenario}
 use Rattle.segment_plan.specs.declared.service.Service as Plan
 use Rattle.segment_plan.specs.declared.slave.SlaveSpec.{SlaveSpec}
 use Rattle.segment_ring.specs.Ring.{ring_returned}
 use Rattle.segment_ring.specs.Schedule.{fate_at}
 use Rattle.segment_ring.specs.declared.wire.Fate.TheVariants as Fates
+use Rattle.served_places.proofs.of_life_runs.First.{apart_from, have_lens}
 use Rattle.served_runs.specs.Served.{Keyed, Serves, ServedTurn, AllServedTurn, IsServedFrame, IsServedLed, MayAsk, all_serve, asked_at, new_serves, served_behind}
 use Rattle.slave_node.specs.of_slave_steps.Node.{node_passed}
 
@@ -141,11 +141,14 @@ more_asked : (ks : List Keyed) (k : Keyed) → map as_asked (ks ++ k ∷ []) ≡
 more_asked [] k = refl
 more_asked (x ∷ xs) k = ap (λ z. as_asked x ∷ z) (more_asked xs k)
 
+same_mail : (key : ℕ) (mail : Mail) (k : Keyed) → IsAsked key mail k → as_asked k ≡ asked_mail key mail
+same_mail key mail k i = λ j. record { key = i.key_is j; kind = i.kind j; body = i.body j }
+
 asked_rows : (key place : ℕ) (mail : Mail) (k : Keyed) (ws : List Serves) → IsAsked key mail k → map mails_of (asked_at place k ws) ≡ asked_more (map mails_of ws) place (asked_mail key mail)
 asked_rows key zero mail k [] i = refl
 asked_rows key (suc place) mail k [] i = refl
 asked_rows key zero mail k (w ∷ ws) i =
-    ap (λ z. z ∷ map mails_of ws) (more_asked w.asked k ∙ ap (λ z. map as_asked w.asked ++ z ∷ []) (λ j. record { key = i.key_is j; kind = i.kind j; body = i.body j }))
+    ap (λ z. z ∷ map mails_of ws) (more_asked w.asked k ∙ ap (λ z. map as_asked w.asked ++ z ∷ []) (same_mail key mail k i))
 asked_rows key (suc place) mail k (w ∷ ws) i = ap (λ z. mails_of w ∷ z) (asked_rows key place mail k ws i)
 
 one_asked : (s s' : SessionState) (slave key : ℕ) (mail : Mail) →

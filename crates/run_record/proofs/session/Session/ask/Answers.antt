@@ -1,4 +1,4 @@
-use Rattle.std.proofs.Common.{◌≡◌, ◌<◌, ◌+◌, ℕ, List, length, map, true, false, refl, sym, ap, ◌∙◌, rules, arith}
+use Rattle.std.proofs.Common.{◌≡◌, ◌<◌, ◌+◌, ℕ, List, length, map, true, false, refl, sym, ap, ◌∙◌, arith}
 use Rattle.std.specs.Prelude.{slice_get}
 use Rattle.master_node.specs.Lives.{waiting_of}
 use Rattle.run_notes.specs.declared.standing.AskedMail.{AskedMail}
@@ -45,10 +45,10 @@ returns-clause-full c =
 
 pub returns-then-ask-clause-serves : goal.returns-then-ask-clause-serves
 returns-then-ask-clause-serves c =
-    serving_asks _ _ _ c.args.slave c.args.key c.args.mail.now c.self.view_is c.ask.ensures.served (λ full. (let no = c.if-ask.ensures.full.1 full in absurd (cc)))
+    serving_asks _ _ _ c.args.slave c.args.key c.args.mail.now c.self.view_is c.if-ask.ensures.served (λ full. (let bad : true ≡ false = c.if-ask.ensures.full.1 full in cc))
     (ap (λ (s : SessionState). s.asked) (returns-then-ask-clause-asked c)) refl
 
 pub returns-clause-serves : goal.returns-clause-serves
 returns-clause-serves c =
-    serving_stays _ _ _ c.args.slave c.args.key c.args.mail.now c.self.view_is c.ask.ensures.kept.0 c.ask.ensures.kept.2 (c.ask.ensures.stays (search rules))
+    serving_stays _ _ _ c.args.slave c.args.key c.args.mail.now c.self.view_is c.if-ask.ensures.kept.0 c.if-ask.ensures.kept.2 (c.if-ask.ensures.stays refl)
     (ap (λ (s : SessionState). s.asked) (returns-clause-asked c)) refl

@@ -8,7 +8,8 @@ use Rattle.run_book.specs.declared.book.SentFrame.{SentFrame}
 use Rattle.master_node.specs.Happened.{events_of}
 use Rattle.master_node.specs.of_life_runs.First.{lens_of}
 use Rattle.run_record.specs.Led.{exchanged, Leading}
-use Rattle.run_record.proofs.Leads.{led_on, next_frame, returned, stands_on}
+use Rattle.run_record.proofs.Leads.{led_on, returned, stands_on}
+use Rattle.run_record.proofs.Nexts.{next_frame}
 use Rattle.run_record.proofs.Recalling.{rests_enter}
 use Rattle.run_record.proofs.Servings.{serving_on}
 use Rattle.run_record.specs.Recalling.{RunStands}
