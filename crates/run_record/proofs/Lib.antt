@@ -20,6 +20,7 @@ pub mod Plans
 pub mod Recalling
 pub mod Replays
 pub mod Rows
+pub mod ServedGaves
 pub mod Servings
 pub mod Steps
 pub mod SwitchFirst

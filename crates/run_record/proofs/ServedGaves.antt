@@ -91,7 +91,7 @@ module _ (lens : ℕ → Lens) (recover : ℕ) where
       all_behind ds (w ∷ ws) [] t h = absurd t
       all_behind ds (w ∷ ws) (v ∷ vs) t h = (one_behind v ds t.0.asked.has (turn_counted made ds w v t.0 h.0) f.fate, all_behind ds ws vs t.1 h.1)
 
-serve_leads : (paces : List ℕ) (as' : List Leads) → map run_lead (all_serve paces as') ≡ as'
+pub serve_leads : (paces : List ℕ) (as' : List Leads) → map run_lead (all_serve paces as') ≡ as'
 serve_leads paces [] = refl
 serve_leads [] (a ∷ as') = ap (λ z. a ∷ z) (serve_leads [] as')
 serve_leads (pace ∷ paces) (a ∷ as') = ap (λ z. a ∷ z) (serve_leads paces as')

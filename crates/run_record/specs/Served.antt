@@ -4,11 +4,12 @@ use Rattle.std.specs.Prelude.{◌≡◌, ◌≤◌, ◌+◌, ℕ, Bool, true, fa
 use Rattle.mailbox_mail.specs.declared.mail.Mail.{Mail}
 use Rattle.master_node.specs.of_life_runs.First.{lens_of, first_leads}
 use Rattle.master_node.specs.of_life_runs.Led.{Exchanged, gives_up_at, missed_behind}
-use Rattle.master_node.specs.Serving.{IsAsked, ServedShows}
+use Rattle.master_node.specs.Serving.{IsAsked, ServedShows, run_lead}
+use Rattle.master_node.specs.Wants.{gave_of}
 use Rattle.master_node.specs.declared.node.MasterNode.{MasterNode}
 use Rattle.run_book.specs.declared.book.SentFrame.{SentFrame}
 use Rattle.run_notes.specs.declared.standing.AskedMail.{AskedMail}
-use Rattle.run_notes.specs.Slaves.{home_of}
+use Rattle.run_notes.specs.Slaves.{gaves_noted, home_of}
 use Rattle.run_record.specs.Led.{exchanged}
 use Rattle.run_record.specs.Session.{SessionState, has_live}
 use Rattle.segment_plan.specs.Sound.{IsPlan}
@@ -30,10 +31,11 @@ pub record ServedLeading (plan : Scenario) (m : MasterNode) (fs : List Exchanged
 abbrev pub as_asked : Keyed → AskedMail
 as_asked k = record { key = k.key; kind = k.mail.kind; body = k.mail.body.items }
 
--- HOW A SERVING STANDS behind these frames: its master leads; the mails that were asked of each slave are just those that the session has, in order, and so
--- many of them still wait
+-- HOW A SERVING STANDS behind these frames: its master leads; so often each slave was given up as is noted; the mails that were asked of each are just those
+-- that the session has, in order, and so many of them still wait
 pub record Serving (plan : Scenario) (s : SessionState) (fs : List Exchanged) : Type 0 where
   pub leading : ServedLeading plan s.master fs
+  pub gave : gaves_noted s.notes ≡ map gave_of (map run_lead leading.serves)
   pub asked : map (λ w. map as_asked w.asked) leading.serves ≡ s.asked
   pub waiting : map (λ w. length w.waits) leading.serves ≡ s.waiting
 
@@ -51,7 +53,11 @@ pub record ServesOn (plan : Scenario) (s s' : SessionState) (fs : List Exchanged
 
 -- so a step goes, where some slave is live: a serving that is led goes on
 abbrev pub ServingGoesOn : SessionState → SessionState → SentFrame → Type 0
-ServingGoesOn s s' f = (plan : Scenario) (fs : List Exchanged) → length fs ≡ s.ring.number → has_live s.master ≡ true → (old : Serving plan s fs) → ServesOn plan s s' fs (exchanged f) old
+ServingGoesOn s s' f = (plan : Scenario) (fs : List Exchanged) → s.recover ≡ plan.recover → length fs ≡ s.ring.number → has_live s.master ≡ true → (old : Serving plan s fs) → ServesOn plan s s' fs (exchanged f) old
+
+-- SOME SLAVE IS LIVE, where a serving is led
+abbrev pub ServingLives : SessionState → Type 0
+ServingLives s = (plan : Scenario) (fs : List Exchanged) → s.recover ≡ plan.recover → Serving plan s fs → has_live s.master ≡ true
 
 -- A MAIL IS ASKED, as it is, under the key of its asker: it waits behind those of its slave, and nothing else of the lives changes
 pub record AsksOn (plan : Scenario) (slave key : ℕ) (mail : Mail) (s s' : SessionState) (fs : List Exchanged) (old : Serving plan s fs) : Type 0 where

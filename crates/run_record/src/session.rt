@@ -31,7 +31,7 @@ ghost use Rattle.run_book.specs.Ports.{ports_of};
 ghost use Rattle.run_record.specs.Recalling.{RunBegins};
 ghost use Rattle.run_notes.specs.Switched.{SameSwitch};
 ghost use Rattle.run_record.specs.Replay.{first_ring};
-ghost use Rattle.run_record.specs.Served.{ServingAsks, ServingBegins, ServingGoesOn};
+ghost use Rattle.run_record.specs.Served.{ServingAsks, ServingBegins, ServingGoesOn, ServingLives};
 ghost use Rattle.run_record.specs.Session.{budget_of, smaller_bound, rests_at, session_rows, first_session, are_at_rest, some_given_up, has_live, IsLeftBy, StillWants, Steps, Stops, Asks};
 ghost use Rattle.run_notes.specs.Slaves.{slave_row, slave_rows, KeepsRest};
 
@@ -268,6 +268,7 @@ impl Session {
         ensures rest { OnTrue result (are_at_rest (session_rows self.now) ≡ true) }
         ensures left { OnTrue result (IsLeftBy self.now.master) }
         ensures wants { OnFalse result (StillWants self.now) }
+        ensures lives { OnFalse result (ServingLives self.now) }
         ensures busy { OnFalse result ((are_at_rest (session_rows self.now) ≡ false) ⊎ (has_live self.now.master ≡ true)) }
     {
         if self.master.wants() {
@@ -339,6 +340,7 @@ impl Session {
         ensures asked { IfOk result (Asks slave key mail.now self.old self.new) }
         ensures full { OnOk result ((result ≡ Ok false) ↔ (slice_get self.old.waiting slave ≡ Some 64)) }
         ensures serves { IfOk result (ServingAsks slave key mail.now self.old self.new) }
+        ensures live { has_live self.new.master ≡ has_live self.old.master }
         ensures err { OnErr result (self.new ≡ self.old) }
     {
         let body = Octets::copy_of(alloc, mail.body.as_slice())?;

@@ -17,7 +17,7 @@ use Rattle.master_node.specs.Wants.{AllCounted}
 use Rattle.master_node.proofs.Counts.{counted}
 use Rattle.run_record.specs.Replay.{behind, IsRecorded}
 use Rattle.run_record.specs.Session.{SessionState, StillWants, has_live}
-use Rattle.run_notes.specs.Slaves.{SameFrames, KeepsRest}
+use Rattle.run_notes.specs.Slaves.{SameFrames, KeepsRest, GaveBy}
 use Rattle.run_notes.proofs.Kept.{rest_more}
 use Rattle.run_notes.specs.Switched.{IsSwitched, NotesSwitch}
 use Rattle.run_record.proofs.Numbered.{numbers_grown}
@@ -134,7 +134,8 @@ returns-clause-ok c =
       },
       serving_on _ _ _ c.next.new.self f c.next.result c.self.view_is c.next.ensures.idle c.next.ensures.serves (λ lens recover retry missed made vs under back. c.tell.ensures.served lens recover retry missed made vs (exchanged f) refl refl under back)
           (record { fate = c.exchange-fate.ensures.fate; back = c.exchange-fate.ensures.back }) (let n = c.self.invariant.0 in let b = c.self.invariant.1 in let most = c.self.invariant.2 in omega (arith, n, b, most))
-          (c.note_behind.ensures.slaves.asked ∙ c.note_before.ensures.slaves.asked) refl,
+          (c.note_behind.ensures.slaves.asked ∙ c.note_before.ensures.slaves.asked) refl c.note_before.new.self c.note_behind.new.self c.note_before.ensures.slaves.recover c.in_ok-note_before.ensures.gave refl
+          (subst (λ (n : ℕ). GaveBy f.fate n c.tell.new.master c.note_before.new.self c.note_behind.new.self) c.self.invariant.0 both.0),
     ))
     (on_ok_both _ _ c.note_behind.result c.note_behind.ensures.gave (on_ok_both _ _ c.note_behind.result c.note_behind.ensures.told (on_ok_both _ _ c.note_behind.result c.note_behind.ensures.heard (on_ok_both _ _ c.note_behind.result c.note_behind.ensures.switch c.note_behind.ensures.rows))))
 
