@@ -60,6 +60,6 @@ few_at (p ∷ ps) (w ∷ ws) (suc place) e h = few_at ps ws place (rests (length
 
 -- so one more may, where not so many do
 pub has_room : (plan : Scenario) (fs : List Exchanged) (missed place : ℕ) (ps : List Post) (ws : List Serves) → ServeTo plan fs missed ws → map (λ (w : Serves). length w.waits) ws ≡ map waiting_of ps → waiting_at ps place ≢ 64 → waiting_at ps place < 64
-has_room plan fs missed place ps ws led e no =
+has_room plan fs missed place ps ws led e apart =
     let few = few_at ps ws place e (wait_few (lens_of plan.slaves) plan.recover plan.retry plan.paces (first_leads plan) fs missed ws led) in
-    omega (arith, few, no)
+    omega (arith, few, apart)

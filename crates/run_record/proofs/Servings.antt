@@ -175,10 +175,10 @@ one_asked : (s s' : SessionState) (slave key : ℕ) (mail : Mail) →
     ((lens : ℕ → Lens) (recover retry missed made : ℕ) (ws : List Serves) → waiting_at s.master.posts.items slave < 64 → FitsAt lens slave (length mail.body.items) ws → ServedShows lens recover retry s.master missed made ws →
     (k : Keyed) × IsAsked key mail k × MayAsk lens slave k ws × ServedShows lens recover retry s'.master missed made (asked_at slave k ws)) →
     waiting_at s.master.posts.items slave ≢ 64 → s'.asked ≡ asked_more s.asked slave (asked_mail key mail) → s'.waiting ≡ map waiting_of s'.master.posts.items → s'.notes ≡ s.notes → ServingAsks slave key mail s s' true
-one_asked s s' slave key mail served no asked waiting notes = λ plan fs home is there fits old.
+one_asked s s' slave key mail served apart asked waiting notes = λ plan fs home is there fits old.
     let lens = lens_of plan.slaves in
     let l = old.leading in
-    let room = has_room plan fs l.missed slave s.master.posts.items l.serves l.lives (shown_wait lens plan.recover plan.retry l.missed (length fs) s.master l.serves l.shows) no in
+    let room = has_room plan fs l.missed slave s.master.posts.items l.serves l.lives (shown_wait lens plan.recover plan.retry l.missed (length fs) s.master l.serves l.shows) apart in
     let fit = home_fits plan fs l.missed (length mail.body.items) slave home l.serves (have_lens plan.slaves (apart_from [] 0 plan.slaves is.stations)) l.lives there fits in
     let more = served lens plan.recover plan.retry l.missed (length fs) l.serves room fit l.shows in
     record {
@@ -199,8 +199,8 @@ pub serving_asks : (t s s' : SessionState) (slave key : ℕ) (mail : Mail) → t
     ((lens : ℕ → Lens) (recover retry missed made : ℕ) (ws : List Serves) → waiting_at t.master.posts.items slave < 64 → FitsAt lens slave (length mail.body.items) ws → ServedShows lens recover retry t.master missed made ws →
     (k : Keyed) × IsAsked key mail k × MayAsk lens slave k ws × ServedShows lens recover retry s'.master missed made (asked_at slave k ws)) →
     waiting_at t.master.posts.items slave ≢ 64 → s'.asked ≡ asked_more s.asked slave (asked_mail key mail) → s'.waiting ≡ map waiting_of s'.master.posts.items → s'.notes ≡ s.notes → ServingAsks slave key mail s s' true
-serving_asks t s s' slave key mail view served no asked waiting notes =
-    subst (λ (z : SessionState). ServingAsks slave key mail z s' true) view (one_asked t s' slave key mail served no (asked ∙ ap (λ (z : SessionState). asked_more z.asked slave (asked_mail key mail)) (sym view)) waiting (notes ∙ ap (λ (z : SessionState). z.notes) (sym view)))
+serving_asks t s s' slave key mail view served apart asked waiting notes =
+    subst (λ (z : SessionState). ServingAsks slave key mail z s' true) view (one_asked t s' slave key mail served apart (asked ∙ ap (λ (z : SessionState). asked_more z.asked slave (asked_mail key mail)) (sym view)) waiting (notes ∙ ap (λ (z : SessionState). z.notes) (sym view)))
 
 -- NONE: its posts and its tour stay
 all_stay : {S : Type 0} (i : ℕ) (xs ys : List S) → StepsAt (λ x y. y ≡ x) i xs ys → ys ≡ xs
