@@ -25,7 +25,7 @@ use Rattle.master_duty.specs.of_segment_model.Seats
 use Rattle.master_duty.specs.of_task_model.Accounts
 use Rattle.master_duty.specs.of_task_model.Accounts.{is_free}
 use Rattle.master_tour.specs.Stands.{StandShows}
-use Rattle.master_node.specs.Shows.{IsLead, side_shows}
+use Rattle.master_node.specs.Shows.{IsLead, IsLived, side_shows}
 use Rattle.master_node.specs.Wants.{gave_of, gave_more, IsCounted, AllPlaced, IsIdle, IsLeft, AllLeft, IsQuiet, IsQuietBy}
 
 -- no state service is in hand
