@@ -1,6 +1,6 @@
 -- HOW OFTEN EACH SLAVE OF A SERVING WAS GIVEN UP, as its lives have it and as it is noted.
-use Rattle.std.proofs.Common.{◌≡◌, ◌⊎◌, inl, inr, ◌≤◌, ℕ, suc, ◌+◌, Bool, true, false, List, [], ◌∷◌, ◌++◌, map, length, length-append, refl, sym, ap, ◌∙◌, subst, arith}
-use Rattle.std.specs.Prelude.{◌&&◌, nat_lt, if◌then◌else◌}
+use Rattle.std.proofs.Common.{◌≡◌, ◌⊎◌, inl, inr, ℕ, Bool, true, false, List, [], ◌∷◌, ◌++◌, map, length, refl, sym, ap, ◌∙◌, subst}
+use Rattle.std.specs.Prelude.{◌&&◌}
 use Rattle.datagrams.specs.Datagram as Raw
 use Rattle.master_node.specs.Serving.{IsServed, ServedShows, run_lead}
 use Rattle.master_node.specs.Shows.{IsLived}
@@ -10,9 +10,9 @@ use Rattle.master_node.specs.declared.node.MasterNode.{MasterNode}
 use Rattle.master_node.specs.declared.post.Post.{Post}
 use Rattle.master_node.specs.of_frame_view.Seen.{seen}
 use Rattle.master_node.specs.of_frame_view.View.{Lens}
-use Rattle.master_node.specs.of_life_frames.Frames.{FrameFor, Share}
-use Rattle.master_node.specs.of_life_frames.Shares.{AllBoth, AllThree, Lived, came_at, given_where}
-use Rattle.master_node.specs.of_life_model.Lives.{Life, Stand, life_lost, reopening}
+use Rattle.master_node.specs.of_life_frames.Frames.{FrameFor}
+use Rattle.master_node.specs.of_life_frames.Shares.{AllBoth, AllThree, came_at}
+use Rattle.master_node.specs.of_life_model.Lives.{Life, Stand, life_lost}
 use Rattle.master_node.specs.of_life_runs.First.{first_leads, lens_of}
 use Rattle.master_node.specs.of_life_runs.Led.{Exchanged, IsLed, Leads, gives_up_at, speech_at}
 use Rattle.master_node.specs.of_master_duty.Reply.{Reply}
@@ -32,7 +32,7 @@ use Rattle.run_record.proofs.Leads.{more_given}
 use Rattle.segment_plan.specs.declared.plan.Scenario.{Scenario}
 use Rattle.segment_ring.specs.declared.wire.Fate.{Fate}
 use Rattle.segment_ring.specs.declared.wire.Fate.TheVariants as Fates
-use Rattle.served_runs.specs.Served.{Keyed, Serves, ServedTurn, AllServedTurn, IsServedLed, IsServedTurn, all_serve, asked_at, served_behind, served_life}
+use Rattle.served_runs.specs.Served.{Serves, ServedTurn, AllServedTurn, IsServedLed, IsServedTurn, all_serve, served_behind, served_life}
 use Rattle.slave_node.specs.of_link_mails.Body.{Body}
 
 -- ---- what is known of each life at its stop
