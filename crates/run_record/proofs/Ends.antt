@@ -17,6 +17,7 @@ use Rattle.run_record.specs.Led.{RestsSo, DoneSo}
 use Rattle.run_notes.specs.Slaves.{gaves_noted, gaves_in}
 use Rattle.run_record.specs.Session.{is_at_rest, are_at_rest, some_given_up, has_live}
 use Rattle.run_notes.specs.Slaves.{slave_row, slave_rows}
+use Rattle.run_record.proofs.Heads.{heads, not_none, rests}
 use Rattle.run_record.proofs.Gones.{AllGone, all_gone, first_false, second_false}
 use Rattle.slave_server.specs.Serving.{next_mail}
 use Rattle.slave_server.specs.declared.server.SlaveServer.{SlaveServer}
@@ -29,16 +30,6 @@ both_true false b e = absurd (let bad : false ≡ true = e in cc)
 second_true : (a b : Bool) → (a || b) ≡ true → a ≡ false → b ≡ true
 second_true true b e fails = absurd (let bad : true ≡ false = fails in cc)
 second_true false b e fails = e
-
--- the heads of equal lists, and their rests
-heads : {T : Type 0} (x y : T) (xs ys : List T) → x ∷ xs ≡ y ∷ ys → x ≡ y
-heads x y xs ys e = cc
-
-rests : {T : Type 0} (x y : T) (xs ys : List T) → x ∷ xs ≡ y ∷ ys → xs ≡ ys
-rests x y xs ys e = cc
-
-not_none : {T : Type 0} (x : T) (xs : List T) → [] ≡ x ∷ xs → ⊥
-not_none x xs e = absurd (cc)
 
 -- AN IDLE SLAVE is settled, where it is at rest
 settled_so : (lens : ℕ → Lens) (recover : ℕ) (a : Leads) (node : Node SlaveServer) (n : Notes) → IsCounted recover a.lived.life.stand (length (gave_of a)) → n.gave ≡ gave_of a → is_at_rest (slave_row recover node n) ≡ true → IsLeft lens a → RestsSo lens a (slave_row recover node n)

@@ -88,6 +88,7 @@ use Rattle.script_answers.proofs.Turns.{turns_so}
 use Rattle.run_record.proofs.Befores.{AllBefore, turns_before, all_before}
 use Rattle.run_record.proofs.Began.{packets_first, packets_on}
 use Rattle.run_record.proofs.Forwards.{forwarded_on}
+use Rattle.run_record.proofs.Nexts.{next_frame}
 use Rattle.run_notes.proofs.Gaves.{with_more}
 use Rattle.run_notes.proofs.Heard.{first_heard}
 use Rattle.visit_orders.specs.Toured.{IsToured, tour_behind, lives_behind}
@@ -213,11 +214,6 @@ module _ (lens : ℕ → Lens) (recover retry : ℕ) (gives : Bool) (made : ℕ)
   all_lose : (after : ℕ) (us : List Turn) → AllBefore made (map turned_lead us) → AllBoth (λ a b. LosesSo made a b) (map turned_lead us) (map (λ u. led_by (Fates.Lost after) u) us)
   all_lose after [] h = tt
   all_lose after (u ∷ us) h = (loses_so lens recover retry gives made f u h.0 after, all_lose after us h.1)
-
--- where some slave is live there is a next frame
-pub next_frame : (m : MasterNode) (result : Next) → (result ≡ nexts.Idle) ↔ (has_live m ≡ false) → has_live m ≡ true → result ≡ nexts.Frame
-next_frame m nexts.Frame idle live = refl
-next_frame m nexts.Idle idle live = absurd (let none = idle.0 refl in let bad : true ≡ false = sym live ∙ none in cc)
 
 -- ONE FRAME: what the master says of it before, and of its return or loss
 module _ (m0 m1 m2 : MasterNode) (f : Exchanged) (result : Next)

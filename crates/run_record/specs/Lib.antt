@@ -13,3 +13,4 @@ pub mod Ran
 pub use Rattle.life_heard.specs.Heard as AcceptedMails
 pub mod Forwarded
 pub mod Recalling
+pub mod Served

@@ -1,4 +1,4 @@
-ghost use Rattle.std.specs.Prelude.{◌≡◌, ◌≢◌, ◌<◌, ◌≤◌, ◌==◌, ◌++◌, ◌∷◌, ◌⊎◌, ◌↔◌, [], ℕ, List, vec_len, length, map, Ok, Some, IfOk, OnOk, OnErr, All, true, false, slice_get};
+ghost use Rattle.std.specs.Prelude.{◌≡◌, ◌≢◌, ◌<◌, ◌≤◌, ◌==◌, ◌++◌, ◌∷◌, ◌⊎◌, ◌↔◌, [], ℕ, suc, List, vec_len, length, map, Ok, Some, IfOk, OnOk, OnErr, All, true, false, slice_get};
 ghost use Rattle.std.specs.Bool.{OnTrue, OnFalse};
 ghost use Rattle.std.specs.List.{list_any};
 ghost use Rattle.run_notes.specs.Notes.{has_given_up, stations_of};
@@ -20,15 +20,18 @@ ghost use Rattle.port_events.specs.of_packets_heard.Heard.{Joined, mails_by};
 ghost use Rattle.master_node.specs.Listed.{listed};
 ghost use Rattle.master_node.specs.Origins.{forwards_at};
 ghost use Rattle.master_node.specs.Recalled.{AllRecall};
+ghost use Rattle.master_node.specs.Serving.{ServedShows, ServedUnder};
 ghost use Rattle.master_node.specs.Shows.{MasterShows, MasterUnder};
 ghost use Rattle.master_node.specs.Toured.{tour_of};
 ghost use Rattle.master_node.specs.of_segment_model.Returned.{Returns};
 ghost use Rattle.segment_ring.specs.declared.wire.Fate.TheVariants as Fates;
+ghost use Rattle.served_runs.specs.Served.{ServedTurn, served_behind};
 ghost use Rattle.visit_orders.specs.Toured.{tour_behind, lives_behind};
 ghost use Rattle.run_book.specs.Ports.{ports_of};
 ghost use Rattle.run_record.specs.Recalling.{RunBegins};
 ghost use Rattle.run_notes.specs.Switched.{SameSwitch};
 ghost use Rattle.run_record.specs.Replay.{first_ring};
+ghost use Rattle.run_record.specs.Served.{ServingAsks, ServingBegins, ServingGoesOn};
 ghost use Rattle.run_record.specs.Session.{budget_of, smaller_bound, rests_at, session_rows, first_session, are_at_rest, some_given_up, has_live, IsLeftBy, StillWants, Steps, Stops, Asks};
 ghost use Rattle.run_notes.specs.Slaves.{slave_row, slave_rows, KeepsRest};
 
@@ -230,6 +233,8 @@ fn tell(master: &mut MasterNode, fate: Fate, back: &FrameBuf)
         HasUnfinished master.old (map stand_under us) (unfinished_of js) → ComeIn master.old (λ k. completed_at (seen lens back.now.items) us (unfinished_of js) k) master.new }
     ensures downs { (after : ℕ) → fate ≡ Fates.Lost after → (lens : ℕ → Lens) (recover retry missed number : ℕ) (us : List Turn) (f : Exchanged) → f.fate ≡ fate → MasterUnder lens recover retry master.old f.sent missed us → GoDown master.old us (lives_behind lens recover retry missed number f us) master.new }
     ensures counts { (k : ℕ) → forwards_at master.new.posts.items k ≡ forwards_at master.old.posts.items k }
+    ensures served { (lens : ℕ → Lens) (recover retry missed made : ℕ) (vs : List ServedTurn) (f : Exchanged) → f.fate ≡ fate → f.back ≡ back.now.items → ServedUnder lens recover retry master.old f.sent missed made vs → (fate ≡ Fates.Pass → Returns (seen lens f.sent) (seen lens back.now.items)) →
+        ServedShows lens recover retry master.new (missed_behind lens recover retry f.fate missed) (suc made) (map (served_behind lens recover retry (gives_up_at lens recover retry missed) made f) vs) }
 {
     match fate {
         Fate::Pass => master.returned(back),
@@ -244,6 +249,7 @@ impl Session {
         ensures session { IfOk result (λ session. session ≡ first_session plan.now grams session.master) }
         ensures begins { IfOk result (λ session. RunBegins plan.now session.master session.notes) }
         ensures switch { IfOk result (λ session. HasHappened (ports_of plan.now.slaves) plan.now.host [] session.master.lan) }
+        ensures serves { IfOk result (ServingBegins plan.now) }
     {
         Ok(Session {
             master: MasterNode::new(alloc, plan)?,
@@ -321,7 +327,7 @@ impl Session {
     }
 
     /// A mail is passed on to a slave, behind those before; `key` names its asker. `false` comes exactly where 64 mails wait for that slave,
-    /// and then nothing changed, as after `NoMemory`.
+    /// and then nothing changed, as after `NoMemory`. So it is in the lives of a serving, where the mail fits the slave's mailbox.
     pub fn ask(
         &mut self,
         alloc: Global,
@@ -332,6 +338,7 @@ impl Session {
         requires { slave < length self.old.ring.nodes }
         ensures asked { IfOk result (Asks slave key mail.now self.old self.new) }
         ensures full { OnOk result ((result ≡ Ok false) ↔ (slice_get self.old.waiting slave ≡ Some 64)) }
+        ensures serves { IfOk result (ServingAsks slave key mail.now self.old self.new) }
         ensures err { OnErr result (self.new ≡ self.old) }
     {
         let body = Octets::copy_of(alloc, mail.body.as_slice())?;
@@ -348,7 +355,7 @@ impl Session {
     /// Sends one frame, behind which the processors of the slaves make their steps. The frame and what happened stand in the book.
     pub fn step(&mut self, alloc: Global, book: &mut Book) -> Result<(), NoMemory>
         requires { self.old.ring.number < self.old.budget }
-        ensures ok { OnOk result ((f : Recorded) × Steps self.old book.old self.new book.new f) }
+        ensures ok { OnOk result ((f : Recorded) × Steps self.old book.old self.new book.new f × ServingGoesOn self.old self.new f) }
         ensures err { OnErr result (Stops self.old book.old book.new) }
     {
         let frame = self.number;

@@ -1,9 +1,11 @@
-use Rattle.std.proofs.Common.{◌≡◌, ℕ, map, refl, ap, sym, ◌∙◌, subst}
+use Rattle.std.proofs.Common.{◌≡◌, ℕ, suc, map, refl, ap, sym, ◌∙◌, subst}
 use Rattle.master_node.specs.of_life_runs.Led.{led_behind, gives_up_at, missed_behind}
+use Rattle.master_node.specs.Serving.{ServedShows}
 use Rattle.master_node.specs.Shows.{MasterShows}
 use Rattle.master_node.specs.Toured.{tour_of}
 use Rattle.segment_ring.specs.declared.wire.Fate.{Fate}
 use Rattle.segment_ring.specs.declared.wire.Fate.TheVariants as Fates
+use Rattle.served_runs.specs.Served.{served_behind}
 use Rattle.visit_orders.specs.Toured.{tour_behind, lives_behind}
 use Rattle.std.proofs.Common.{List}
 use Rattle.master_node.specs.of_frame_view.Seen.{seen}
@@ -86,3 +88,13 @@ returns-in-Pass-clause-kept c = λ after lost. absurd (let bad : Fates.Pass ≡ 
 
 pub returns-in-Lost-clause-kept : goal.returns-in-Lost-clause-kept
 returns-in-Lost-clause-kept c = λ after lost lens recover retry missed octets us under. c.lost.ensures.recalls lens recover retry missed octets us under
+
+pub returns-in-Pass-clause-served : goal.returns-in-Pass-clause-served
+returns-in-Pass-clause-served c = λ lens recover retry missed made vs f fate back under returns.
+    let pass : f.fate ≡ Fates.Pass = fate ∙ c.in-Pass.is in
+    subst (λ (n : ℕ). ServedShows lens recover retry c.returned.new.self n (suc made) (map (served_behind lens recover retry (gives_up_at lens recover retry missed) made f) vs))
+    (sym (ap (λ (k : Fate). missed_behind lens recover retry k missed) pass)) (c.returned.ensures.served lens recover retry missed made f.sent vs f pass back under (returns c.in-Pass.is))
+
+pub returns-in-Lost-clause-served : goal.returns-in-Lost-clause-served
+returns-in-Lost-clause-served c = λ lens recover retry missed made vs f fate back under returns.
+    c.lost.ensures.served lens recover retry missed made c.in-Lost.after f.sent vs f (fate ∙ c.in-Lost.is) refl under

@@ -4,6 +4,7 @@ use Rattle.master_node.specs.Lives.{waiting_of}
 use Rattle.run_notes.specs.declared.standing.AskedMail.{AskedMail}
 use Rattle.run_record.specs.Session.{SessionState, asked_more, asked_mail}
 use Rattle.run_record.proofs.Asking.{full_so, asked_on, taken_back}
+use Rattle.run_record.proofs.Servings.{serving_asks, serving_stays}
 use Rattle.run_record.proofs.session.Session.ask.Goals as goal
 
 pub returns-then-ask-clause-asked : goal.returns-then-ask-clause-asked
@@ -41,3 +42,13 @@ returns-clause-full c =
     let w : map waiting_of c.self.inside.master.posts.items ≡ c.args.self.now.waiting = ap (λ (s : SessionState). s.waiting) c.self.view_is in
     let f = full_so c.self.inside.master.posts.items c.args.slave false inside c.if-ask.ensures.full in
     (λ e. ap (λ (l : List ℕ). slice_get l c.args.slave) (sym w) ∙ f.0 refl, λ e. refl)
+
+pub returns-then-ask-clause-serves : goal.returns-then-ask-clause-serves
+returns-then-ask-clause-serves c =
+    serving_asks _ _ _ c.args.slave c.args.key c.args.mail.now c.self.view_is c.if-ask.ensures.served (λ full. (let bad : true ≡ false = c.if-ask.ensures.full.1 full in cc))
+    (ap (λ (s : SessionState). s.asked) (returns-then-ask-clause-asked c)) refl
+
+pub returns-clause-serves : goal.returns-clause-serves
+returns-clause-serves c =
+    serving_stays _ _ _ c.args.slave c.args.key c.args.mail.now c.self.view_is c.if-ask.ensures.kept.0 c.if-ask.ensures.kept.2 (c.if-ask.ensures.stays refl)
+    (ap (λ (s : SessionState). s.asked) (returns-clause-asked c)) refl

@@ -7,6 +7,7 @@ use Rattle.slave_server.specs.declared.server.SlaveServer.{SlaveServer}
 use Rattle.run_notes.specs.Slaves.{home_of}
 use Rattle.run_notes.proofs.Firsts.{length_first}
 use Rattle.run_record.proofs.Leads.{first_stands}
+use Rattle.run_record.proofs.Servings.{serving_begins}
 use Rattle.run_record.proofs.session.Session.begin.Goals as goal
 
 pub invariant_of-result : goal.invariant_of-result
@@ -30,3 +31,6 @@ returns-clause-begins c =
 
 pub returns-clause-switch : goal.returns-clause-switch
 returns-clause-switch c = c.in_ok-new.ensures.begins
+
+pub returns-clause-serves : goal.returns-clause-serves
+returns-clause-serves c = serving_begins c.args.plan.now _ c.in_ok-new.ensures.served c.in_ok-new-2.ensures.asked c.in_ok-new.ensures.waiting

@@ -8,8 +8,10 @@ use Rattle.run_book.specs.declared.book.SentFrame.{SentFrame}
 use Rattle.master_node.specs.Happened.{events_of}
 use Rattle.master_node.specs.of_life_runs.First.{lens_of}
 use Rattle.run_record.specs.Led.{exchanged, Leading}
-use Rattle.run_record.proofs.Leads.{led_on, next_frame, returned, stands_on}
+use Rattle.run_record.proofs.Leads.{led_on, returned, stands_on}
+use Rattle.run_record.proofs.Nexts.{next_frame}
 use Rattle.run_record.proofs.Recalling.{rests_enter}
+use Rattle.run_record.proofs.Servings.{serving_on}
 use Rattle.run_record.specs.Recalling.{RunStands}
 use Rattle.master_node.specs.Wants.{AllCounted}
 use Rattle.master_node.proofs.Counts.{counted}
@@ -130,6 +132,9 @@ returns-clause-ok c =
             (subst (λ (n : ℕ). AllCounted n l.leads) (sym (ap (λ (s : SessionState). s.recover) c.self.view_is ∙ recover)) (counted (lens_of plan.slaves) plan plan.retry fs l.missed l.leads l.lives)) c.next.new.self.lan.happened
             (λ rests may. c.next.ensures.enters (next_frame c.self.inside.master c.next.result c.next.ensures.idle live) (lens_of plan.slaves) plan.recover plan.retry l.missed l.leads l.shows rests may));
       },
+      serving_on _ _ _ c.next.new.self f c.next.result c.self.view_is c.next.ensures.idle c.next.ensures.serves (λ lens recover retry missed made vs under back. c.tell.ensures.served lens recover retry missed made vs (exchanged f) refl refl under back)
+          (record { fate = c.exchange-fate.ensures.fate; back = c.exchange-fate.ensures.back }) (let n = c.self.invariant.0 in let b = c.self.invariant.1 in let most = c.self.invariant.2 in omega (arith, n, b, most))
+          (c.note_behind.ensures.slaves.asked ∙ c.note_before.ensures.slaves.asked) refl,
     ))
     (on_ok_both _ _ c.note_behind.result c.note_behind.ensures.gave (on_ok_both _ _ c.note_behind.result c.note_behind.ensures.told (on_ok_both _ _ c.note_behind.result c.note_behind.ensures.heard (on_ok_both _ _ c.note_behind.result c.note_behind.ensures.switch c.note_behind.ensures.rows))))
 

@@ -1,0 +1,224 @@
+-- A serving goes on, frame by frame and mail by mail, as its master leads it.
+use Rattle.std.proofs.Common.{◌≡◌, ◌≢◌, ◌<◌, ◌+◌, ◌^◌, ℕ, zero, suc, Bool, true, false, List, [], ◌∷◌, ◌++◌, length, length-append, map, refl, sym, ap, ◌∙◌, subst, arith}
+use Rattle.std.specs.Prelude.{◌↔◌, replicate}
+use Rattle.std.proofs.lemmas.List.{length-map}
+use Rattle.datagrams.specs.Datagram as Raw
+use Rattle.mailbox_mail.specs.declared.mail.Mail.{Mail}
+use Rattle.master_node.proofs.Servings.{keyed}
+use Rattle.master_node.specs.Lives.{waiting_at, waiting_of}
+use Rattle.master_node.specs.Rooms.{FitAgain}
+use Rattle.master_node.specs.Serving.{FitsAt, IsAsked, IsServed, ServedShows, ServedUnder, run_lead}
+use Rattle.master_node.specs.Shows.{GoesOn}
+use Rattle.master_node.specs.declared.node.MasterNode.{MasterNode}
+use Rattle.master_node.specs.declared.node.Next.{Next}
+use Rattle.master_node.specs.declared.node.Next.TheVariants as nexts
+use Rattle.master_node.specs.declared.post.Post.{Post}
+use Rattle.master_node.specs.of_frame_view.Seen.{seen}
+use Rattle.master_node.specs.of_frame_view.View.{Lens}
+use Rattle.master_node.specs.of_life_frames.Shares.{AllThree}
+use Rattle.master_node.specs.of_life_runs.First.{first_leads, leads_from, lens_of, script_for, spot_of}
+use Rattle.master_node.specs.of_life_runs.Led.{Exchanged, Leads, gives_up_at, missed_behind, new_leads}
+use Rattle.master_node.specs.of_master_hand.declared.hand.InHand.{InHand}
+use Rattle.master_node.specs.of_master_side.declared.hand.Hand.{Ghosts}
+use Rattle.master_node.specs.of_master_tour.Walks.{StepsAt}
+use Rattle.master_node.specs.of_master_tour.declared.stop.Stop.{Stop}
+use Rattle.master_node.specs.of_segment_model.Returned.{Returns}
+use Rattle.ring_returns.proofs.Returned as Returned
+use Rattle.run_book.specs.declared.book.SentFrame.{SentFrame}
+use Rattle.run_notes.specs.declared.standing.AskedMail.{AskedMail}
+use Rattle.run_record.specs.Led.{exchanged}
+use Rattle.run_record.specs.Replay.{IsRecorded}
+use Rattle.run_record.specs.Served.{Serving, ServesOn, ServingAsks, ServingGoesOn, as_asked}
+use Rattle.run_record.specs.Session.{SessionState, asked_mail, asked_more, has_live}
+use Rattle.run_record.proofs.Fits.{has_room, home_fits}
+use Rattle.run_record.proofs.Nexts.{next_frame}
+use Rattle.segment_plan.specs.declared.plan.Scenario.{Scenario}
+use Rattle.segment_plan.specs.declared.service.Service as Plan
+use Rattle.segment_plan.specs.declared.slave.SlaveSpec.{SlaveSpec}
+use Rattle.segment_ring.specs.Ring.{ring_returned}
+use Rattle.segment_ring.specs.Schedule.{fate_at}
+use Rattle.segment_ring.specs.declared.wire.Fate.TheVariants as Fates
+use Rattle.served_places.proofs.of_life_runs.First.{apart_from, have_lens}
+use Rattle.served_runs.specs.Served.{Keyed, Serves, ServedTurn, AllServedTurn, IsServedFrame, IsServedLed, MayAsk, all_serve, asked_at, new_serves, served_behind}
+use Rattle.slave_node.specs.of_slave_steps.Node.{node_passed}
+
+-- the mails that were asked of a slave, as the session has them, and how many wait for it
+abbrev mails_of : Serves → List AskedMail
+mails_of w = map as_asked w.asked
+
+abbrev left_of : Serves → ℕ
+left_of w = length w.waits
+
+-- AS MANY WAIT as at the posts
+posts_wait : {G : Ghosts InHand} (lens : ℕ → Lens) (recover made : ℕ) (ws : List Serves) (ps : List Post) (ss : List (Stop InHand G)) → AllThree (λ w p s. IsServed lens recover made w p s) ws ps ss → map left_of ws ≡ map waiting_of ps
+posts_wait lens recover made [] [] [] h = refl
+posts_wait lens recover made [] [] (s ∷ ss) h = absurd h
+posts_wait lens recover made [] (p ∷ ps) [] h = absurd h
+posts_wait lens recover made [] (p ∷ ps) (s ∷ ss) h = absurd h
+posts_wait lens recover made (w ∷ ws) [] [] h = absurd h
+posts_wait lens recover made (w ∷ ws) [] (s ∷ ss) h = absurd h
+posts_wait lens recover made (w ∷ ws) (p ∷ ps) [] h = absurd h
+posts_wait lens recover made (w ∷ ws) (p ∷ ps) (s ∷ ss) h = λ i. (ap length (sym h.0.waits) ∙ length-map p.mails.items keyed) i ∷ posts_wait lens recover made ws ps ss h.1 i
+
+shown_wait : (lens : ℕ → Lens) (recover retry missed made : ℕ) (m : MasterNode) (ws : List Serves) → ServedShows lens recover retry m missed made ws → map left_of ws ≡ map waiting_of m.posts.items
+shown_wait lens recover retry missed made m ws h = posts_wait lens recover made ws m.posts.items m.tour.stops.items h.each
+
+-- BEFORE THE FIRST FRAME no mail was asked
+first_same : {T : Type 0} (g : Serves → T) (t : T) → ((pace : ℕ) (a : Leads) → g (new_serves pace a) ≡ t) → (paces : List ℕ) (rows : List (ℕ × Plan.Service)) (place : ℕ) (ss : List SlaveSpec) → map g (all_serve paces (leads_from rows place ss)) ≡ replicate (length ss) t
+first_same g t h [] rows place [] = refl
+first_same g t h (p ∷ ps) rows place [] = refl
+first_same g t h [] rows place (s ∷ ss) = λ i. h 1 (new_leads (script_for place rows) (spot_of place s)) i ∷ first_same g t h [] rows (suc place) ss i
+first_same g t h (p ∷ ps) rows place (s ∷ ss) = λ i. h p (new_leads (script_for place rows) (spot_of place s)) i ∷ first_same g t h ps rows (suc place) ss i
+
+pub serving_begins : (plan : Scenario) (s : SessionState) → ServedShows (lens_of plan.slaves) plan.recover plan.retry s.master 0 0 (all_serve plan.paces (first_leads plan)) → s.asked ≡ replicate (length plan.slaves) [] → s.waiting ≡ replicate (length plan.slaves) 0 → Serving plan s []
+serving_begins plan s shown none still = record {
+  leading = record { missed = 0; serves = all_serve plan.paces (first_leads plan); lives = IsServedLed.start; shows = shown };
+  asked = first_same mails_of [] (λ pace a. refl) plan.paces plan.services 0 plan.slaves ∙ sym none;
+  waiting = first_same left_of 0 (λ pace a. refl) plan.paces plan.services 0 plan.slaves ∙ sym still;
+}
+
+-- OVER A FRAME the mails that were asked stay
+abbrev turn_mails : ServedTurn → List AskedMail
+turn_mails v = map as_asked v.asked
+
+turned_mails : (lens : ℕ → Lens) (made : ℕ) (ds : List Raw.Datagram) (ws : List Serves) (vs : List ServedTurn) → AllServedTurn lens made ds ws vs → map turn_mails vs ≡ map mails_of ws
+turned_mails lens made ds [] [] t = refl
+turned_mails lens made ds [] (v ∷ vs) t = absurd t
+turned_mails lens made ds (w ∷ ws) [] t = absurd t
+turned_mails lens made ds (w ∷ ws) (v ∷ vs) t = λ i. map as_asked (t.0.same i) ∷ turned_mails lens made ds ws vs t.1 i
+
+behind_mails : (lens : ℕ → Lens) (recover retry : ℕ) (gives : Bool) (made : ℕ) (f : Exchanged) (vs : List ServedTurn) → map mails_of (map (served_behind lens recover retry gives made f) vs) ≡ map turn_mails vs
+behind_mails lens recover retry gives made f [] = refl
+behind_mails lens recover retry gives made f (v ∷ vs) = ap (λ z. turn_mails v ∷ z) (behind_mails lens recover retry gives made f vs)
+
+one_more : (fs : List Exchanged) (f : Exchanged) → suc (length fs) ≡ length (fs ++ f ∷ [])
+one_more fs f = let k = length-append fs (f ∷ []) in omega (arith, k)
+
+-- ONE FRAME MORE: what the master says of it before, and of its return or loss
+on_frame : (s s' : SessionState) (m : MasterNode) (f : Exchanged) (result : Next) → (result ≡ nexts.Idle) ↔ (has_live s.master ≡ false) →
+    (result ≡ nexts.Frame → (lens : ℕ → Lens) (recover retry missed made : ℕ) (ws : List Serves) → suc made < 2 ^ 32 → ServedShows lens recover retry s.master missed made ws →
+    (vs : List ServedTurn) × IsServedFrame lens made f.sent ws vs × ServedUnder lens recover retry m f.sent missed made vs) →
+    ((lens : ℕ → Lens) (recover retry missed made : ℕ) (vs : List ServedTurn) → ServedUnder lens recover retry m f.sent missed made vs → (f.fate ≡ Fates.Pass → Returns (seen lens f.sent) (seen lens f.back)) →
+    ServedShows lens recover retry s'.master (missed_behind lens recover retry f.fate missed) (suc made) (map (served_behind lens recover retry (gives_up_at lens recover retry missed) made f) vs)) →
+    f.fate ≡ fate_at s.ring.lose s.ring.number → f.back ≡ ring_returned node_passed s.ring f.sent → suc s.ring.number < 2 ^ 32 → s'.asked ≡ s.asked → s'.waiting ≡ map waiting_of s'.master.posts.items →
+    (plan : Scenario) (fs : List Exchanged) → length fs ≡ s.ring.number → has_live s.master ≡ true → (old : Serving plan s fs) → ServesOn plan s s' fs f old
+on_frame s s' m f result idle serves told fate back few asked waiting plan fs number live old =
+    let lens = lens_of plan.slaves in
+    let l = old.leading in
+    let made = serves (next_frame s.master result idle live) lens plan.recover plan.retry l.missed (length fs) l.serves (subst (λ (n : ℕ). suc n < 2 ^ 32) (sym number) few) l.shows in
+    let returned : f.fate ≡ Fates.Pass → Returns (seen lens f.sent) (seen lens f.back) = λ pass. subst (λ (octets : List ℕ). Returns (seen lens f.sent) (seen lens octets)) (sym back) (Returned.ring_back lens s.ring f.sent _ made.1.frame (sym fate ∙ pass)) in
+    let missed = missed_behind lens plan.recover plan.retry f.fate l.missed in
+    let behind = map (served_behind lens plan.recover plan.retry (gives_up_at lens plan.recover plan.retry l.missed) (length fs) f) made.0 in
+    let shown = told lens plan.recover plan.retry l.missed (length fs) made.0 made.2 returned in
+    record {
+      turns = made.0;
+      frame = made.1;
+      new = record {
+        leading = record {
+          missed = missed;
+          serves = behind;
+          lives = IsServedLed.on fs l.missed l.serves f made.0 l.lives made.1;
+          shows = subst (λ (n : ℕ). ServedShows lens plan.recover plan.retry s'.master missed n behind) (one_more fs f) shown;
+        };
+        asked = behind_mails lens plan.recover plan.retry (gives_up_at lens plan.recover plan.retry l.missed) (length fs) f made.0 ∙ turned_mails lens (length fs) made.1.datagrams l.serves made.0 made.1.each ∙ old.asked ∙ sym asked;
+        waiting = shown_wait lens plan.recover plan.retry missed (suc (length fs)) s'.master behind shown ∙ sym waiting;
+      };
+      missed = refl;
+      serves = refl;
+    }
+
+pub serving_on : (t s s' : SessionState) (m : MasterNode) (f : SentFrame) (result : Next) → t ≡ s → (result ≡ nexts.Idle) ↔ (has_live t.master ≡ false) →
+    (result ≡ nexts.Frame → (lens : ℕ → Lens) (recover retry missed made : ℕ) (ws : List Serves) → suc made < 2 ^ 32 → ServedShows lens recover retry t.master missed made ws →
+    (vs : List ServedTurn) × IsServedFrame lens made f.sent ws vs × ServedUnder lens recover retry m f.sent missed made vs) →
+    ((lens : ℕ → Lens) (recover retry missed made : ℕ) (vs : List ServedTurn) → ServedUnder lens recover retry m f.sent missed made vs → (f.fate ≡ Fates.Pass → Returns (seen lens f.sent) (seen lens f.back)) →
+    ServedShows lens recover retry s'.master (missed_behind lens recover retry f.fate missed) (suc made) (map (served_behind lens recover retry (gives_up_at lens recover retry missed) made (exchanged f)) vs)) →
+    IsRecorded t.ring f → suc t.ring.number < 2 ^ 32 → s'.asked ≡ t.asked → s'.waiting ≡ map waiting_of s'.master.posts.items → ServingGoesOn s s' f
+serving_on t s s' m f result view idle serves told recorded few asked waiting =
+    subst (λ (z : SessionState). ServingGoesOn z s' f) view (λ plan fs number live old. on_frame t s' m (exchanged f) result idle serves told recorded.fate recorded.back few asked waiting plan fs number live old)
+
+-- ONE MAIL MORE
+more_asked : (ks : List Keyed) (k : Keyed) → map as_asked (ks ++ k ∷ []) ≡ map as_asked ks ++ as_asked k ∷ []
+more_asked [] k = refl
+more_asked (x ∷ xs) k = ap (λ z. as_asked x ∷ z) (more_asked xs k)
+
+same_mail : (key : ℕ) (mail : Mail) (k : Keyed) → IsAsked key mail k → as_asked k ≡ asked_mail key mail
+same_mail key mail k i = λ j. record { key = i.key_is j; kind = i.kind j; body = i.body j }
+
+asked_rows : (key place : ℕ) (mail : Mail) (k : Keyed) (ws : List Serves) → IsAsked key mail k → map mails_of (asked_at place k ws) ≡ asked_more (map mails_of ws) place (asked_mail key mail)
+asked_rows key zero mail k [] i = refl
+asked_rows key (suc place) mail k [] i = refl
+asked_rows key zero mail k (w ∷ ws) i =
+    ap (λ z. z ∷ map mails_of ws) (more_asked w.asked k ∙ ap (λ z. map as_asked w.asked ++ z ∷ []) (same_mail key mail k i))
+asked_rows key (suc place) mail k (w ∷ ws) i = ap (λ z. mails_of w ∷ z) (asked_rows key place mail k ws i)
+
+one_asked : (s s' : SessionState) (slave key : ℕ) (mail : Mail) →
+    ((lens : ℕ → Lens) (recover retry missed made : ℕ) (ws : List Serves) → waiting_at s.master.posts.items slave < 64 → FitsAt lens slave (length mail.body.items) ws → ServedShows lens recover retry s.master missed made ws →
+    (k : Keyed) × IsAsked key mail k × MayAsk lens slave k ws × ServedShows lens recover retry s'.master missed made (asked_at slave k ws)) →
+    waiting_at s.master.posts.items slave ≢ 64 → s'.asked ≡ asked_more s.asked slave (asked_mail key mail) → s'.waiting ≡ map waiting_of s'.master.posts.items → ServingAsks slave key mail s s' true
+one_asked s s' slave key mail served apart asked waiting = λ plan fs home is there fits old.
+    let lens = lens_of plan.slaves in
+    let l = old.leading in
+    let room = has_room plan fs l.missed slave s.master.posts.items l.serves l.lives (shown_wait lens plan.recover plan.retry l.missed (length fs) s.master l.serves l.shows) apart in
+    let fit = home_fits plan fs l.missed (length mail.body.items) slave home l.serves (have_lens plan.slaves (apart_from [] 0 plan.slaves is.stations)) l.lives there fits in
+    let more = served lens plan.recover plan.retry l.missed (length fs) l.serves room fit l.shows in
+    record {
+      mail_asked = more.0;
+      is = more.1;
+      may = more.2;
+      new = record {
+        leading = record { missed = l.missed; serves = asked_at slave more.0 l.serves; lives = IsServedLed.asks fs l.missed l.serves slave more.0 l.lives more.2; shows = more.3 };
+        asked = asked_rows key slave mail more.0 l.serves more.1 ∙ ap (λ z. asked_more z slave (asked_mail key mail)) old.asked ∙ sym asked;
+        waiting = shown_wait lens plan.recover plan.retry l.missed (length fs) s'.master (asked_at slave more.0 l.serves) more.3 ∙ sym waiting;
+      };
+      missed = refl;
+      serves = refl;
+    }
+
+pub serving_asks : (t s s' : SessionState) (slave key : ℕ) (mail : Mail) → t ≡ s →
+    ((lens : ℕ → Lens) (recover retry missed made : ℕ) (ws : List Serves) → waiting_at t.master.posts.items slave < 64 → FitsAt lens slave (length mail.body.items) ws → ServedShows lens recover retry t.master missed made ws →
+    (k : Keyed) × IsAsked key mail k × MayAsk lens slave k ws × ServedShows lens recover retry s'.master missed made (asked_at slave k ws)) →
+    waiting_at t.master.posts.items slave ≢ 64 → s'.asked ≡ asked_more s.asked slave (asked_mail key mail) → s'.waiting ≡ map waiting_of s'.master.posts.items → ServingAsks slave key mail s s' true
+serving_asks t s s' slave key mail view served apart asked waiting =
+    subst (λ (z : SessionState). ServingAsks slave key mail z s' true) view (one_asked t s' slave key mail served apart (asked ∙ ap (λ (z : SessionState). asked_more z.asked slave (asked_mail key mail)) (sym view)) waiting)
+
+-- NONE: its posts and its tour stay
+all_stay : {S : Type 0} (i : ℕ) (xs ys : List S) → StepsAt (λ x y. y ≡ x) i xs ys → ys ≡ xs
+all_stay zero [] ys e = absurd e
+all_stay (suc i) [] ys e = absurd e
+all_stay zero (x ∷ xs) [] e = absurd e
+all_stay (suc i) (x ∷ xs) [] e = absurd e
+all_stay zero (x ∷ xs) (y ∷ ys) e = λ j. e.0 j ∷ e.1 j
+all_stay (suc i) (x ∷ xs) (y ∷ ys) e = λ j. e.0 j ∷ all_stay i xs ys e.1 j
+
+shows_same : (lens : ℕ → Lens) (recover retry missed made : ℕ) (m n : MasterNode) (ws : List Serves) → n.tour ≡ m.tour → n.posts.items ≡ m.posts.items → n.made ≡ m.made → ServedShows lens recover retry m missed made ws → ServedShows lens recover retry n missed made ws
+shows_same lens recover retry missed made m n ws tour posts number h = record {
+  each = subst (λ z. AllThree (λ w p s. IsServed lens recover made w p s) ws n.posts.items z.stops.items) (sym tour) (subst (λ z. AllThree (λ w p s. IsServed lens recover made w p s) ws z m.tour.stops.items) (sym posts) h.each);
+  distinct = h.distinct;
+  goes = subst (λ z. GoesOn z.again z.visit.items z.opened (map run_lead ws)) (sym tour) h.goes;
+  missed_is = ap (λ z. z.missed) tour ∙ h.missed_is;
+  retry_is = ap (λ z. z.retry) tour ∙ h.retry_is;
+  again = λ a. subst (λ z. FitAgain z.visit.items z.stops.items) (sym tour) (h.again (ap (λ z. z.again) (sym tour) ∙ a));
+  made_is = number ∙ h.made_is;
+  early = h.early;
+}
+
+none_asked : (s s' : SessionState) (slave key : ℕ) (mail : Mail) → s'.master.tour ≡ s.master.tour → s'.master.made ≡ s.master.made → StepsAt (λ p q. q ≡ p) slave s.master.posts.items s'.master.posts.items →
+    s'.asked ≡ s.asked → s'.waiting ≡ map waiting_of s'.master.posts.items → ServingAsks slave key mail s s' false
+none_asked s s' slave key mail tour number stays asked waiting = λ plan fs old.
+    let lens = lens_of plan.slaves in
+    let l = old.leading in
+    let shown = shows_same lens plan.recover plan.retry l.missed (length fs) s.master s'.master l.serves tour (all_stay slave s.master.posts.items s'.master.posts.items stays) number l.shows in
+    record {
+      new = record {
+        leading = record { missed = l.missed; serves = l.serves; lives = l.lives; shows = shown };
+        asked = old.asked ∙ sym asked;
+        waiting = shown_wait lens plan.recover plan.retry l.missed (length fs) s'.master l.serves shown ∙ sym waiting;
+      };
+      missed = refl;
+      serves = refl;
+    }
+
+pub serving_stays : (t s s' : SessionState) (slave key : ℕ) (mail : Mail) → t ≡ s → s'.master.tour ≡ t.master.tour → s'.master.made ≡ t.master.made → StepsAt (λ p q. q ≡ p) slave t.master.posts.items s'.master.posts.items →
+    s'.asked ≡ s.asked → s'.waiting ≡ map waiting_of s'.master.posts.items → ServingAsks slave key mail s s' false
+serving_stays t s s' slave key mail view tour number stays asked waiting =
+    subst (λ (z : SessionState). ServingAsks slave key mail z s' false) view (none_asked t s' slave key mail tour number stays (asked ∙ ap (λ (z : SessionState). z.asked) (sym view)) waiting)

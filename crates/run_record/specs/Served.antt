@@ -1,0 +1,75 @@
+-- THE FRAMES OF A SERVING ARE LED by its master: each is just what the lives of the slaves ask for, from the plan's new lives on, with the mails that are asked
+-- between the frames.
+use Rattle.std.specs.Prelude.{◌≡◌, ◌≤◌, ◌+◌, ℕ, Bool, true, false, Some, List, [], ◌∷◌, ◌++◌, length, map, slice_get}
+use Rattle.mailbox_mail.specs.declared.mail.Mail.{Mail}
+use Rattle.master_node.specs.of_life_runs.First.{lens_of, first_leads}
+use Rattle.master_node.specs.of_life_runs.Led.{Exchanged, gives_up_at, missed_behind}
+use Rattle.master_node.specs.Serving.{IsAsked, ServedShows}
+use Rattle.master_node.specs.declared.node.MasterNode.{MasterNode}
+use Rattle.run_book.specs.declared.book.SentFrame.{SentFrame}
+use Rattle.run_notes.specs.declared.standing.AskedMail.{AskedMail}
+use Rattle.run_notes.specs.Slaves.{home_of}
+use Rattle.run_record.specs.Led.{exchanged}
+use Rattle.run_record.specs.Session.{SessionState, has_live}
+use Rattle.segment_plan.specs.Sound.{IsPlan}
+use Rattle.segment_plan.specs.declared.plan.Scenario.{Scenario}
+use Rattle.served_runs.specs.Served.{Keyed, Serves, ServedTurn, IsServedFrame, IsServedLed, MayAsk, all_serve, asked_at, served_behind}
+
+-- THE FRAMES LEAD, with the mails that were asked, from a plan's new lives to these, with so many lost in a row last
+abbrev pub ServeTo : Scenario → List Exchanged → ℕ → List Serves → Type 0
+ServeTo plan fs missed ws = IsServedLed (lens_of plan.slaves) plan.recover plan.retry (all_serve plan.paces (first_leads plan)) fs missed ws
+
+-- A MASTER BEHIND THESE FRAMES of a plan's serving leads its slaves
+pub record ServedLeading (plan : Scenario) (m : MasterNode) (fs : List Exchanged) : Type 0 where
+  pub missed : ℕ
+  pub serves : List Serves
+  pub lives : ServeTo plan fs missed serves
+  pub shows : ServedShows (lens_of plan.slaves) plan.recover plan.retry m missed (length fs) serves
+
+-- a mail as the session has it, with the key of its asker
+abbrev pub as_asked : Keyed → AskedMail
+as_asked k = record { key = k.key; kind = k.mail.kind; body = k.mail.body.items }
+
+-- HOW A SERVING STANDS behind these frames: its master leads; the mails that were asked of each slave are just those that the session has, in order, and so
+-- many of them still wait
+pub record Serving (plan : Scenario) (s : SessionState) (fs : List Exchanged) : Type 0 where
+  pub leading : ServedLeading plan s.master fs
+  pub asked : map (λ w. map as_asked w.asked) leading.serves ≡ s.asked
+  pub waiting : map (λ w. length w.waits) leading.serves ≡ s.waiting
+
+-- before its first frame
+abbrev pub ServingBegins : Scenario → SessionState → Type 0
+ServingBegins plan s = Serving plan s []
+
+-- ONE FRAME MORE of a serving: it is just what the lives ask for, and those behind it are what it leads them to
+pub record ServesOn (plan : Scenario) (s s' : SessionState) (fs : List Exchanged) (f : Exchanged) (old : Serving plan s fs) : Type 0 where
+  pub turns : List ServedTurn
+  pub frame : IsServedFrame (lens_of plan.slaves) (length fs) f.sent old.leading.serves turns
+  pub new : Serving plan s' (fs ++ f ∷ [])
+  pub missed : new.leading.missed ≡ missed_behind (lens_of plan.slaves) plan.recover plan.retry f.fate old.leading.missed
+  pub serves : new.leading.serves ≡ map (served_behind (lens_of plan.slaves) plan.recover plan.retry (gives_up_at (lens_of plan.slaves) plan.recover plan.retry old.leading.missed) (length fs) f) turns
+
+-- so a step goes, where some slave is live: a serving that is led goes on
+abbrev pub ServingGoesOn : SessionState → SessionState → SentFrame → Type 0
+ServingGoesOn s s' f = (plan : Scenario) (fs : List Exchanged) → length fs ≡ s.ring.number → has_live s.master ≡ true → (old : Serving plan s fs) → ServesOn plan s s' fs (exchanged f) old
+
+-- A MAIL IS ASKED, as it is, under the key of its asker: it waits behind those of its slave, and nothing else of the lives changes
+pub record AsksOn (plan : Scenario) (slave key : ℕ) (mail : Mail) (s s' : SessionState) (fs : List Exchanged) (old : Serving plan s fs) : Type 0 where
+  pub mail_asked : Keyed
+  pub is : IsAsked key mail mail_asked
+  pub may : MayAsk (lens_of plan.slaves) slave mail_asked old.leading.serves
+  pub new : Serving plan s' fs
+  pub missed : new.leading.missed ≡ old.leading.missed
+  pub serves : new.leading.serves ≡ asked_at slave mail_asked old.leading.serves
+
+-- NONE IS ASKED: the lives stay
+pub record AsksNone (plan : Scenario) (s s' : SessionState) (fs : List Exchanged) (old : Serving plan s fs) : Type 0 where
+  pub new : Serving plan s' fs
+  pub missed : new.leading.missed ≡ old.leading.missed
+  pub serves : new.leading.serves ≡ old.leading.serves
+
+-- so it is with a mail that fits the mailbox of its slave, by the plan; and where as many wait as may none is asked
+abbrev pub ServingAsks : ℕ → ℕ → Mail → SessionState → SessionState → Bool → Type 0
+ServingAsks slave key mail s s' true =
+    (plan : Scenario) (fs : List Exchanged) (home : ℕ × ℕ) → IsPlan plan → slice_get (map home_of plan.slaves) slave ≡ Some home → 6 + length mail.body.items ≤ home.1 → (old : Serving plan s fs) → AsksOn plan slave key mail s s' fs old
+ServingAsks slave key mail s s' false = (plan : Scenario) (fs : List Exchanged) → (old : Serving plan s fs) → AsksNone plan s s' fs old

@@ -1,0 +1,3 @@
+pub use Rattle.life_runs.proofs as of_life_runs
+pub mod Places
+pub mod Waits
