@@ -1,14 +1,16 @@
 -- A serving goes on, frame by frame and mail by mail, as its master leads it.
 use Rattle.std.proofs.Common.{◌≡◌, ◌≢◌, ◌<◌, ◌+◌, ◌^◌, ℕ, zero, suc, Bool, true, false, List, [], ◌∷◌, ◌++◌, length, length-append, map, refl, sym, ap, ◌∙◌, subst, arith}
-use Rattle.std.specs.Prelude.{◌↔◌, replicate}
+use Rattle.std.specs.Prelude.{◌↔◌, filter, replicate}
 use Rattle.std.proofs.lemmas.List.{length-map}
 use Rattle.datagrams.specs.Datagram as Raw
 use Rattle.mailbox_mail.specs.declared.mail.Mail.{Mail}
 use Rattle.master_node.proofs.Servings.{keyed}
+use Rattle.master_node.specs.Besides.{is_gateway}
+use Rattle.master_node.specs.Listing.{events_in}
 use Rattle.master_node.specs.Lives.{waiting_at, waiting_of}
 use Rattle.master_node.specs.Rooms.{FitAgain}
-use Rattle.master_node.specs.Serving.{FitsAt, IsAsked, IsServed, ServedShows, ServedUnder, run_lead}
-use Rattle.master_node.specs.Shows.{GoesOn}
+use Rattle.master_node.specs.Serving.{FitsAt, IsAsked, IsServed, IsServedUnder, ServedShows, ServedUnder, run_lead}
+use Rattle.master_node.specs.Shows.{GoesOn, is_carried}
 use Rattle.master_node.specs.declared.node.MasterNode.{MasterNode}
 use Rattle.master_node.specs.declared.node.Next.{Next}
 use Rattle.master_node.specs.declared.node.Next.TheVariants as nexts
@@ -20,6 +22,7 @@ use Rattle.master_node.specs.of_life_runs.First.{first_leads, leads_from, lens_o
 use Rattle.master_node.specs.of_life_runs.Led.{Exchanged, Leads, gives_up_at, missed_behind, new_leads}
 use Rattle.master_node.specs.of_master_hand.declared.hand.InHand.{InHand}
 use Rattle.master_node.specs.of_master_side.declared.hand.Hand.{Ghosts}
+use Rattle.master_node.specs.of_master_tour.Goes.{holds_at}
 use Rattle.master_node.specs.of_master_tour.Walks.{StepsAt}
 use Rattle.master_node.specs.of_master_tour.declared.stop.Stop.{Stop}
 use Rattle.master_node.specs.of_segment_model.Returned.{Returns}
@@ -28,7 +31,7 @@ use Rattle.run_book.specs.declared.book.SentFrame.{SentFrame}
 use Rattle.run_notes.specs.declared.standing.AskedMail.{AskedMail}
 use Rattle.run_record.specs.Led.{exchanged}
 use Rattle.run_record.specs.Replay.{IsRecorded}
-use Rattle.run_record.specs.Served.{Serving, ServesOn, ServingAsks, ServingGoesOn, as_asked}
+use Rattle.run_record.specs.Served.{Serving, ServesOn, ServingAsks, ServingGoesOn, as_asked, told_behind}
 use Rattle.run_record.specs.Session.{SessionState, asked_mail, asked_more, has_live}
 use Rattle.run_record.proofs.Fits.{has_room, home_fits}
 use Rattle.run_record.proofs.Nexts.{next_frame}
@@ -91,6 +94,19 @@ behind_mails : (lens : ℕ → Lens) (recover retry : ℕ) (gives : Bool) (made 
 behind_mails lens recover retry gives made f [] = refl
 behind_mails lens recover retry gives made f (v ∷ vs) = ap (λ z. turn_mails v ∷ z) (behind_mails lens recover retry gives made f vs)
 
+-- the master's frame has a datagram of just the slaves that their turns have in it
+turns_carried : {G : Ghosts InHand} (lens : ℕ → Lens) (recover made : ℕ) (octets : List ℕ) (vs : List ServedTurn) (ps : List Post) (ss : List (Stop InHand G)) → AllThree (λ v p s. IsServedUnder lens recover octets made v p s) vs ps ss → (k : ℕ) →
+    holds_at (λ s. s.under) ss k ≡ holds_at (λ v. is_carried v.turn) vs k
+turns_carried lens recover made octets [] [] [] h k = refl
+turns_carried lens recover made octets [] [] (s ∷ ss) h k = absurd h
+turns_carried lens recover made octets [] (p ∷ ps) [] h k = absurd h
+turns_carried lens recover made octets [] (p ∷ ps) (s ∷ ss) h k = absurd h
+turns_carried lens recover made octets (v ∷ vs) [] [] h k = absurd h
+turns_carried lens recover made octets (v ∷ vs) [] (s ∷ ss) h k = absurd h
+turns_carried lens recover made octets (v ∷ vs) (p ∷ ps) [] h k = absurd h
+turns_carried lens recover made octets (v ∷ vs) (p ∷ ps) (s ∷ ss) h zero = sym h.0.under
+turns_carried lens recover made octets (v ∷ vs) (p ∷ ps) (s ∷ ss) h (suc k) = turns_carried lens recover made octets vs ps ss h.1 k
+
 one_more : (fs : List Exchanged) (f : Exchanged) → suc (length fs) ≡ length (fs ++ f ∷ [])
 one_more fs f = let k = length-append fs (f ∷ []) in omega (arith, k)
 
@@ -100,16 +116,18 @@ on_frame : (s s' : SessionState) (m : MasterNode) (f : Exchanged) (result : Next
     (vs : List ServedTurn) × IsServedFrame lens made f.sent ws vs × ServedUnder lens recover retry m f.sent missed made vs) →
     ((lens : ℕ → Lens) (recover retry missed made : ℕ) (vs : List ServedTurn) → ServedUnder lens recover retry m f.sent missed made vs → (f.fate ≡ Fates.Pass → Returns (seen lens f.sent) (seen lens f.back)) →
     ServedShows lens recover retry s'.master (missed_behind lens recover retry f.fate missed) (suc made) (map (served_behind lens recover retry (gives_up_at lens recover retry missed) made f) vs)) →
+    ((lens : ℕ → Lens) (recover retry missed made : ℕ) (vs : List ServedTurn) → ServedUnder lens recover retry m f.sent missed made vs → (f.fate ≡ Fates.Pass → Returns (seen lens f.sent) (seen lens f.back)) →
+    filter is_gateway (events_in s'.master) ≡ told_behind lens f.fate f vs (map (served_behind lens recover retry (gives_up_at lens recover retry missed) made f) vs) m.tour.visit.items) →
     f.fate ≡ fate_at s.ring.lose s.ring.number → f.back ≡ ring_returned node_passed s.ring f.sent → suc s.ring.number < 2 ^ 32 → s'.asked ≡ s.asked → s'.waiting ≡ map waiting_of s'.master.posts.items →
     (plan : Scenario) (fs : List Exchanged) → length fs ≡ s.ring.number → has_live s.master ≡ true → (old : Serving plan s fs) → ServesOn plan s s' fs f old
-on_frame s s' m f result idle serves told fate back few asked waiting plan fs number live old =
+on_frame s s' m f result idle serves shows tells fate back few asked waiting plan fs number live old =
     let lens = lens_of plan.slaves in
     let l = old.leading in
     let made = serves (next_frame s.master result idle live) lens plan.recover plan.retry l.missed (length fs) l.serves (subst (λ (n : ℕ). suc n < 2 ^ 32) (sym number) few) l.shows in
     let returned : f.fate ≡ Fates.Pass → Returns (seen lens f.sent) (seen lens f.back) = λ pass. subst (λ (octets : List ℕ). Returns (seen lens f.sent) (seen lens octets)) (sym back) (Returned.ring_back lens s.ring f.sent _ made.1.frame (sym fate ∙ pass)) in
     let missed = missed_behind lens plan.recover plan.retry f.fate l.missed in
     let behind = map (served_behind lens plan.recover plan.retry (gives_up_at lens plan.recover plan.retry l.missed) (length fs) f) made.0 in
-    let shown = told lens plan.recover plan.retry l.missed (length fs) made.0 made.2 returned in
+    let shown = shows lens plan.recover plan.retry l.missed (length fs) made.0 made.2 returned in
     record {
       turns = made.0;
       frame = made.1;
@@ -125,6 +143,10 @@ on_frame s s' m f result idle serves told fate back few asked waiting plan fs nu
       };
       missed = refl;
       serves = refl;
+      visited = m.tour.visit.items;
+      once = made.2.goes.comes.once;
+      carried = λ k h. made.2.carried k (turns_carried lens plan.recover (length fs) f.sent made.0 m.posts.items m.tour.stops.items made.2.each k ∙ h);
+      told = tells lens plan.recover plan.retry l.missed (length fs) made.0 made.2 returned;
     }
 
 pub serving_on : (t s s' : SessionState) (m : MasterNode) (f : SentFrame) (result : Next) → t ≡ s → (result ≡ nexts.Idle) ↔ (has_live t.master ≡ false) →
@@ -132,9 +154,11 @@ pub serving_on : (t s s' : SessionState) (m : MasterNode) (f : SentFrame) (resul
     (vs : List ServedTurn) × IsServedFrame lens made f.sent ws vs × ServedUnder lens recover retry m f.sent missed made vs) →
     ((lens : ℕ → Lens) (recover retry missed made : ℕ) (vs : List ServedTurn) → ServedUnder lens recover retry m f.sent missed made vs → (f.fate ≡ Fates.Pass → Returns (seen lens f.sent) (seen lens f.back)) →
     ServedShows lens recover retry s'.master (missed_behind lens recover retry f.fate missed) (suc made) (map (served_behind lens recover retry (gives_up_at lens recover retry missed) made (exchanged f)) vs)) →
+    ((lens : ℕ → Lens) (recover retry missed made : ℕ) (vs : List ServedTurn) → ServedUnder lens recover retry m f.sent missed made vs → (f.fate ≡ Fates.Pass → Returns (seen lens f.sent) (seen lens f.back)) →
+    filter is_gateway (events_in s'.master) ≡ told_behind lens f.fate (exchanged f) vs (map (served_behind lens recover retry (gives_up_at lens recover retry missed) made (exchanged f)) vs) m.tour.visit.items) →
     IsRecorded t.ring f → suc t.ring.number < 2 ^ 32 → s'.asked ≡ t.asked → s'.waiting ≡ map waiting_of s'.master.posts.items → ServingGoesOn s s' f
-serving_on t s s' m f result view idle serves told recorded few asked waiting =
-    subst (λ (z : SessionState). ServingGoesOn z s' f) view (λ plan fs number live old. on_frame t s' m (exchanged f) result idle serves told recorded.fate recorded.back few asked waiting plan fs number live old)
+serving_on t s s' m f result view idle serves shows tells recorded few asked waiting =
+    subst (λ (z : SessionState). ServingGoesOn z s' f) view (λ plan fs number live old. on_frame t s' m (exchanged f) result idle serves shows tells recorded.fate recorded.back few asked waiting plan fs number live old)
 
 -- ONE MAIL MORE
 more_asked : (ks : List Keyed) (k : Keyed) → map as_asked (ks ++ k ∷ []) ≡ map as_asked ks ++ as_asked k ∷ []

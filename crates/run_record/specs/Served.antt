@@ -1,11 +1,21 @@
 -- THE FRAMES OF A SERVING ARE LED by its master: each is just what the lives of the slaves ask for, from the plan's new lives on, with the mails that are asked
 -- between the frames.
-use Rattle.std.specs.Prelude.{◌≡◌, ◌≤◌, ◌+◌, ℕ, Bool, true, false, Some, List, [], ◌∷◌, ◌++◌, length, map, slice_get}
+use Rattle.std.specs.Prelude.{◌≡◌, ◌≤◌, ◌+◌, ℕ, Bool, true, false, Some, List, [], ◌∷◌, ◌++◌, length, map, filter, slice_get}
 use Rattle.mailbox_mail.specs.declared.mail.Mail.{Mail}
+use Rattle.master_node.specs.Besides.{is_gateway}
+use Rattle.master_node.specs.Gateways.{lives_told}
+use Rattle.master_node.specs.Listing.{events_in, told_in}
+use Rattle.master_node.specs.Serving.{IsAsked, ServedShows}
+use Rattle.master_node.specs.Shows.{is_carried}
+use Rattle.master_node.specs.declared.event.Event.{Event}
+use Rattle.master_node.specs.declared.node.MasterNode.{MasterNode}
+use Rattle.master_node.specs.of_frame_view.Seen.{seen}
+use Rattle.master_node.specs.of_frame_view.View.{Lens}
 use Rattle.master_node.specs.of_life_runs.First.{lens_of, first_leads}
 use Rattle.master_node.specs.of_life_runs.Led.{Exchanged, gives_up_at, missed_behind}
-use Rattle.master_node.specs.Serving.{IsAsked, ServedShows}
-use Rattle.master_node.specs.declared.node.MasterNode.{MasterNode}
+use Rattle.master_node.specs.of_master_tour.Goes.{holds_at}
+use Rattle.master_node.specs.of_master_tour.Made.{is_in}
+use Rattle.master_node.specs.of_master_tour.Orders.{AreOnce}
 use Rattle.run_book.specs.declared.book.SentFrame.{SentFrame}
 use Rattle.run_notes.specs.declared.standing.AskedMail.{AskedMail}
 use Rattle.run_notes.specs.Slaves.{home_of}
@@ -13,6 +23,8 @@ use Rattle.run_record.specs.Led.{exchanged}
 use Rattle.run_record.specs.Session.{SessionState, has_live}
 use Rattle.segment_plan.specs.Sound.{IsPlan}
 use Rattle.segment_plan.specs.declared.plan.Scenario.{Scenario}
+use Rattle.segment_ring.specs.declared.wire.Fate.{Fate}
+use Rattle.segment_ring.specs.declared.wire.Fate.TheVariants as Fates
 use Rattle.served_runs.specs.Served.{Keyed, Serves, ServedTurn, IsServedFrame, IsServedLed, MayAsk, all_serve, asked_at, served_behind}
 
 -- THE FRAMES LEAD, with the mails that were asked, from a plan's new lives to these, with so many lost in a row last
@@ -41,13 +53,23 @@ pub record Serving (plan : Scenario) (s : SessionState) (fs : List Exchanged) : 
 abbrev pub ServingBegins : Scenario → SessionState → Type 0
 ServingBegins plan s = Serving plan s []
 
--- ONE FRAME MORE of a serving: it is just what the lives ask for, and those behind it are what it leads them to
+-- WHAT A FRAME OF THIS FATE TELLS TO WHO ASKED, by the lives of the slaves before it and behind it, of those at these places in order: a lost one tells nothing
+abbrev pub told_behind : (ℕ → Lens) → Fate → Exchanged → List ServedTurn → List Serves → List ℕ → List Event
+told_behind lens Fates.Pass f vs ws visited = told_in (λ k. lives_told (seen lens f.back) vs ws k) visited
+told_behind lens (Fates.Lost after) f vs ws visited = []
+
+-- ONE FRAME MORE of a serving: it is just what the lives ask for, and those behind it are what it leads them to. Behind it who asked is told just what these lives
+-- tell, of the slaves that were visited, in order, each once; the frame has a datagram of no others
 pub record ServesOn (plan : Scenario) (s s' : SessionState) (fs : List Exchanged) (f : Exchanged) (old : Serving plan s fs) : Type 0 where
   pub turns : List ServedTurn
   pub frame : IsServedFrame (lens_of plan.slaves) (length fs) f.sent old.leading.serves turns
   pub new : Serving plan s' (fs ++ f ∷ [])
   pub missed : new.leading.missed ≡ missed_behind (lens_of plan.slaves) plan.recover plan.retry f.fate old.leading.missed
   pub serves : new.leading.serves ≡ map (served_behind (lens_of plan.slaves) plan.recover plan.retry (gives_up_at (lens_of plan.slaves) plan.recover plan.retry old.leading.missed) (length fs) f) turns
+  pub visited : List ℕ
+  pub once : AreOnce visited
+  pub carried : (k : ℕ) → holds_at (λ v. is_carried v.turn) turns k ≡ true → is_in k visited ≡ true
+  pub told : filter is_gateway (events_in s'.master) ≡ told_behind (lens_of plan.slaves) f.fate f turns new.leading.serves visited
 
 -- so a step goes, where some slave is live: a serving that is led goes on
 abbrev pub ServingGoesOn : SessionState → SessionState → SentFrame → Type 0

@@ -1,4 +1,4 @@
-ghost use Rattle.std.specs.Prelude.{◌≡◌, ◌≢◌, ◌<◌, ◌≤◌, ◌==◌, ◌++◌, ◌∷◌, ◌⊎◌, ◌↔◌, [], ℕ, suc, List, vec_len, length, map, Ok, Some, IfOk, OnOk, OnErr, All, true, false, slice_get};
+ghost use Rattle.std.specs.Prelude.{◌≡◌, ◌≢◌, ◌<◌, ◌≤◌, ◌==◌, ◌++◌, ◌∷◌, ◌⊎◌, ◌↔◌, [], ℕ, suc, List, vec_len, length, map, filter, Ok, Some, IfOk, OnOk, OnErr, All, true, false, slice_get};
 ghost use Rattle.std.specs.Bool.{OnTrue, OnFalse};
 ghost use Rattle.std.specs.List.{list_any};
 ghost use Rattle.run_notes.specs.Notes.{has_given_up, stations_of};
@@ -11,6 +11,7 @@ ghost use Rattle.master_node.specs.of_frame_view.Seen.{seen};
 ghost use Rattle.master_node.specs.of_life_runs.Led.{Exchanged, Turn, led_behind, gives_up_at, missed_behind};
 ghost use Rattle.master_node.specs.Brought.{HasBrought};
 ghost use Rattle.master_node.specs.Arrivals.{completed_at, ComeIn};
+ghost use Rattle.master_node.specs.Besides.{is_gateway};
 ghost use Rattle.master_node.specs.Downs.{GoDown};
 ghost use Rattle.master_node.specs.Eager.{AllVisit, recalls};
 ghost use Rattle.master_node.specs.Happened.{HasHappened, HappensSo};
@@ -18,6 +19,7 @@ ghost use Rattle.master_node.specs.Joined.{HasUnfinished, stand_before, stand_un
 ghost use Rattle.port_events.specs.Listed.{unfinished_of};
 ghost use Rattle.port_events.specs.of_packets_heard.Heard.{Joined, mails_by};
 ghost use Rattle.master_node.specs.Listed.{listed};
+ghost use Rattle.master_node.specs.Listing.{events_in};
 ghost use Rattle.master_node.specs.Origins.{forwards_at};
 ghost use Rattle.master_node.specs.Recalled.{AllRecall};
 ghost use Rattle.master_node.specs.Serving.{ServedShows, ServedUnder};
@@ -31,7 +33,7 @@ ghost use Rattle.run_book.specs.Ports.{ports_of};
 ghost use Rattle.run_record.specs.Recalling.{RunBegins};
 ghost use Rattle.run_notes.specs.Switched.{SameSwitch};
 ghost use Rattle.run_record.specs.Replay.{first_ring};
-ghost use Rattle.run_record.specs.Served.{ServingAsks, ServingBegins, ServingGoesOn};
+ghost use Rattle.run_record.specs.Served.{ServingAsks, ServingBegins, ServingGoesOn, told_behind};
 ghost use Rattle.run_record.specs.Session.{budget_of, smaller_bound, rests_at, session_rows, first_session, are_at_rest, some_given_up, has_live, IsLeftBy, StillWants, Steps, Stops, Asks};
 ghost use Rattle.run_notes.specs.Slaves.{slave_row, slave_rows, KeepsRest};
 
@@ -235,6 +237,8 @@ fn tell(master: &mut MasterNode, fate: Fate, back: &FrameBuf)
     ensures counts { (k : ℕ) → forwards_at master.new.posts.items k ≡ forwards_at master.old.posts.items k }
     ensures served { (lens : ℕ → Lens) (recover retry missed made : ℕ) (vs : List ServedTurn) (f : Exchanged) → f.fate ≡ fate → f.back ≡ back.now.items → ServedUnder lens recover retry master.old f.sent missed made vs → (fate ≡ Fates.Pass → Returns (seen lens f.sent) (seen lens back.now.items)) →
         ServedShows lens recover retry master.new (missed_behind lens recover retry f.fate missed) (suc made) (map (served_behind lens recover retry (gives_up_at lens recover retry missed) made f) vs) }
+    ensures told { master.old.list.before ≤ 16 → (lens : ℕ → Lens) (recover retry missed made : ℕ) (vs : List ServedTurn) (f : Exchanged) → f.fate ≡ fate → f.back ≡ back.now.items → ServedUnder lens recover retry master.old f.sent missed made vs → (fate ≡ Fates.Pass → Returns (seen lens f.sent) (seen lens back.now.items)) →
+        filter is_gateway (events_in master.new) ≡ told_behind lens f.fate f vs (map (served_behind lens recover retry (gives_up_at lens recover retry missed) made f) vs) master.old.tour.visit.items }
 {
     match fate {
         Fate::Pass => master.returned(back),
@@ -352,7 +356,8 @@ impl Session {
         Ok(false)
     }
 
-    /// Sends one frame, behind which the processors of the slaves make their steps. The frame and what happened stand in the book.
+    /// Sends one frame, behind which the processors of the slaves make their steps. The frame and what happened stand in the book. Of a mail that is passed on just
+    /// its replies are told behind it, under the key of its asker, and that no more follows.
     pub fn step(&mut self, alloc: Global, book: &mut Book) -> Result<(), NoMemory>
         requires { self.old.ring.number < self.old.budget }
         ensures ok { OnOk result ((f : Recorded) × Steps self.old book.old self.new book.new f × ServingGoesOn self.old self.new f) }

@@ -12,6 +12,9 @@ use Rattle.master_node.specs.of_frame_view.Seen.{seen}
 use Rattle.master_node.specs.Joined.{HasUnfinished, stand_before, unfinished_after, mails_back}
 use Rattle.port_events.specs.Listed.{unfinished_of}
 use Rattle.port_events.specs.of_packets_heard.Heard.{mails_by}
+use Rattle.master_node.specs.Gateways.{lives_told}
+use Rattle.master_node.specs.Listing.{told_in}
+use Rattle.run_record.specs.Served.{told_behind}
 use Rattle.run_record.proofs.session.tell.Goals as goal
 
 pub returns-in-Pass-clause-leads : goal.returns-in-Pass-clause-leads
@@ -98,3 +101,18 @@ returns-in-Pass-clause-served c = λ lens recover retry missed made vs f fate ba
 pub returns-in-Lost-clause-served : goal.returns-in-Lost-clause-served
 returns-in-Lost-clause-served c = λ lens recover retry missed made vs f fate back under returns.
     c.lost.ensures.served lens recover retry missed made c.in-Lost.after f.sent vs f (fate ∙ c.in-Lost.is) refl under
+
+pub returns-in-Pass-clause-told : goal.returns-in-Pass-clause-told
+returns-in-Pass-clause-told c = λ few lens recover retry missed made vs f fate back under returns.
+    let pass : f.fate ≡ Fates.Pass = fate ∙ c.in-Pass.is in
+    let ws = map (served_behind lens recover retry (gives_up_at lens recover retry missed) made f) vs in
+    let visit = c.args.master.now.tour.visit.items in
+    c.returned.ensures.gateway lens recover retry missed made f.sent vs f pass back under (returns c.in-Pass.is) few
+    ∙ ap (λ (o : List ℕ). told_in (λ k. lives_told (seen lens o) vs ws k) visit) (sym back)
+    ∙ ap (λ (z : Fate). told_behind lens z f vs ws visit) (sym pass)
+
+pub returns-in-Lost-clause-told : goal.returns-in-Lost-clause-told
+returns-in-Lost-clause-told c = λ few lens recover retry missed made vs f fate back under returns.
+    let lost : f.fate ≡ Fates.Lost c.in-Lost.after = fate ∙ c.in-Lost.is in
+    let ws = map (served_behind lens recover retry (gives_up_at lens recover retry missed) made f) vs in
+    c.lost.ensures.gateway few ∙ ap (λ (z : Fate). told_behind lens z f vs ws c.args.master.now.tour.visit.items) (sym lost)

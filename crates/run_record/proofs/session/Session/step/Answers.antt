@@ -133,6 +133,7 @@ returns-clause-ok c =
             (λ rests may. c.next.ensures.enters (next_frame c.self.inside.master c.next.result c.next.ensures.idle live) (lens_of plan.slaves) plan.recover plan.retry l.missed l.leads l.shows rests may));
       },
       serving_on _ _ _ c.next.new.self f c.next.result c.self.view_is c.next.ensures.idle c.next.ensures.serves (λ lens recover retry missed made vs under back. c.tell.ensures.served lens recover retry missed made vs (exchanged f) refl refl under back)
+          (λ lens recover retry missed made vs under back. c.tell.ensures.told c.next.ensures.few lens recover retry missed made vs (exchanged f) refl refl under back)
           (record { fate = c.exchange-fate.ensures.fate; back = c.exchange-fate.ensures.back }) (let n = c.self.invariant.0 in let b = c.self.invariant.1 in let most = c.self.invariant.2 in omega (arith, n, b, most))
           (c.note_behind.ensures.slaves.asked ∙ c.note_before.ensures.slaves.asked) refl,
     ))
