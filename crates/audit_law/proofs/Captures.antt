@@ -1,9 +1,8 @@
 -- The openings in a capture that obeys the rules.
-use Rattle.std.proofs.Common.{◌≡◌, ℕ, false, List, [], ◌∷◌, ◌++◌, refl, sym, ap, ◌∙◌, subst, Some}
+use Rattle.std.proofs.Common.{◌≡◌, ℕ, false, List, ◌∷◌, ◌++◌, ap, ◌∙◌, subst}
 use Rattle.pcap_frames.specs.declared.capture.Capture.{Capture}
 use Rattle.mailbox_law.specs.Steps.{first_link, given, link_behind}
 use Rattle.mailbox_law.specs.declared.steps.LinkStep.{LinkStep}
-use Rattle.capture_audit.specs.declared.known.Known.{Known}
 use Rattle.capture_audit.specs.declared.station.StationAudit.{StationAudit}
 use Rattle.capture_audit.specs.declared.verdict.Verdict.TheVariants.{Yes}
 use Rattle.capture_audit.specs.Exchanges.{Sent, exchanges}

@@ -1,14 +1,13 @@
 -- One opening: what was taken and accepted of what was told.
-use Rattle.std.proofs.Common.{◌≡◌, ℕ, ◌+◌, ◌≤◌, Bool, true, false, List, [], ◌∷◌, ◌++◌, map, length, refl, sym, ap, ◌∙◌, subst, append_assoc, append-nil, Option, Some, None, if◌then◌else◌, arith, length-append}
+use Rattle.std.proofs.Common.{◌≡◌, ℕ, ◌≤◌, Bool, true, false, List, [], ◌∷◌, ◌++◌, map, length, refl, sym, ap, ◌∙◌, subst, append_assoc, append-nil, Option, Some, None, if◌then◌else◌, arith, length-append}
 use Rattle.std.proofs.lemmas.List.{append_cancel_right}
 use Rattle.mailbox_mail.specs.declared.mail.Mail.{Mail}
 use Rattle.link_model.specs.Mails.{LinkMail, is_repeat, news, seen, bodies}
-use Rattle.link_model.specs.Master.{InState}
-use Rattle.link_model.specs.Slave.{OutSide, Server, node_look, is_free}
+use Rattle.link_model.specs.Slave.{node_look, is_free}
 use Rattle.link_model.specs.Link.{Link, happens, run, held_after, out_side_after, in_news}
 use Rattle.link_model.specs.Agree.{Agrees, last_met_of, unread}
 use Rattle.link_model.proofs.Law.{happens_keeps, run_keeps, new_agrees}
-use Rattle.link_mails.specs.Body.{Body, link_mail}
+use Rattle.link_mails.specs.Body.{Body}
 use Rattle.mailbox_law.specs.Waiting.{keeper, bodies_of}
 use Rattle.mailbox_law.specs.Steps.{event_of, fate_of, first_link, given, link_behind}
 use Rattle.mailbox_law.specs.declared.steps.LinkFate.{LinkFate}
@@ -18,7 +17,6 @@ use Rattle.mailbox_law.proofs.Running.{behind_given}
 use Rattle.capture_audit.specs.declared.access.MailAccess.{MailAccess}
 use Rattle.capture_audit.specs.declared.access.MailAccess.TheVariants.{WriteMail}
 use Rattle.capture_audit.specs.declared.link.Link.{Link as AuditLink}
-use Rattle.capture_audit.specs.Exchanges.{Sent}
 use Rattle.capture_audit.specs.Rules.{link_rule, link_on, mails_sent, mails_accepted, new_link}
 use Rattle.audit_law.specs.Told.{Told, Obeys, sent_by, accepted_by}
 use Rattle.audit_law.specs.Told.{link_behind as told_behind}

@@ -1,6 +1,5 @@
 -- What the datagrams of a capture do to what is known of one station.
-use Rattle.std.proofs.Common.{◌≡◌, ◌≢◌, ℕ, ◌==◌, Bool, true, false, not, ◌&&◌, ◌||◌, if◌then◌else◌, is_some, List, [], ◌∷◌, ◌++◌, length, refl, sym, ap, ◌∙◌, subst, append_assoc, append-nil, Option, Some, None, arith}
-use Rattle.std.proofs.lemmas.Grind.{common_steps}
+use Rattle.std.proofs.Common.{◌≡◌, ℕ, ◌==◌, Bool, true, false, not, ◌&&◌, ◌||◌, if◌then◌else◌, is_some, List, [], ◌∷◌, ◌++◌, length, refl, sym, ap, ◌∙◌, subst, append_assoc, append-nil, Option, Some, None, arith}
 use Rattle.std.proofs.lemmas.Bool.Decides.{nat_tests}
 use Rattle.ec_fields.specs.Fields.{number_at}
 use Rattle.mailbox_mail.specs.declared.mail.Mail.{Mail}
@@ -11,7 +10,6 @@ use Rattle.capture_audit.specs.declared.access.Manager.TheVariants as managers
 use Rattle.capture_audit.specs.declared.access.MailAccess.{MailAccess}
 use Rattle.capture_audit.specs.declared.known.Known.{Known}
 use Rattle.capture_audit.specs.declared.link.Link.{Link}
-use Rattle.capture_audit.specs.declared.rule.Rule.{Rule}
 use Rattle.capture_audit.specs.declared.station.Seat.{Seat}
 use Rattle.capture_audit.specs.declared.station.StationAudit.{StationAudit}
 use Rattle.capture_audit.specs.Access.{access_of}

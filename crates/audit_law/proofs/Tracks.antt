@@ -1,5 +1,5 @@
 -- An audit's link tracks the halves of every link that may be behind it.
-use Rattle.std.proofs.Common.{◌≡◌, ◌≢◌, ℕ, ◌+◌, ◌/◌, ◌%◌, ◌==◌, Bool, true, false, not, ◌&&◌, ◌||◌, if◌then◌else◌, List, [], ◌∷◌, ◌++◌, map, length, refl, sym, ap, ◌∙◌, subst, append_assoc, append-nil, Option, Some, None, Result, Ok, Err, arith}
+use Rattle.std.proofs.Common.{◌≡◌, ℕ, ◌==◌, Bool, true, false, not, ◌&&◌, ◌||◌, if◌then◌else◌, List, [], ◌∷◌, ◌++◌, length, refl, sym, ap, ◌∙◌, subst, append-nil, Option, Some, None, Result, Ok, Err, arith}
 use Rattle.std.specs.Prelude.{slice_index}
 use Rattle.std.specs.Str.{bytes_eq}
 use Rattle.std.proofs.lemmas.Slice.Eq.{bytes_eq-Decides}
@@ -8,19 +8,18 @@ use Rattle.std.proofs.lemmas.Bool.Decides.{nat_tests}
 use Rattle.mailbox_mail.specs.declared.mail.Mail.{Mail}
 use Rattle.mailbox_mail.specs.declared.mail.MailFault.{MailFault}
 use Rattle.mailbox_mail.specs.Mail.{mail_read}
-use Rattle.link_model.specs.Counters.{next_counter, repeats}
+use Rattle.link_model.specs.Counters.{next_counter}
 use Rattle.link_model.specs.Mails.{LinkMail, is_repeat, news, seen, differs}
-use Rattle.link_model.specs.Master.{InHalf, InState, OutHalf, read_lost, read_answered, in_answered, in_lost, in_accepts, out_answered, out_hold}
-use Rattle.link_model.specs.Slave.{OutSide, InSide, served, node_look, node_take, is_free}
-use Rattle.link_model.specs.Link.{Link, happens, written, write_counter, out_half_after, out_side_after, in_half_after, in_news, held_after, Fate}
+use Rattle.link_model.specs.Master.{InHalf, InState, OutHalf, read_lost, read_answered}
+use Rattle.link_model.specs.Slave.{OutSide, served}
+use Rattle.link_model.specs.Link.{Link, written, write_counter, out_half_after, in_half_after, in_news}
 use Rattle.link_mails.specs.Body.{Body, link_mail, uncounted, bit_1}
-use Rattle.mailbox_law.specs.Waiting.{keeper, bodies_of}
-use Rattle.mailbox_law.specs.Steps.{event_of, fate_of}
+use Rattle.mailbox_law.specs.Waiting.{bodies_of}
+use Rattle.mailbox_law.specs.Steps.{fate_of}
 use Rattle.mailbox_law.specs.declared.steps.LinkFate.{LinkFate}
 use Rattle.mailbox_law.specs.declared.steps.LinkFate.TheVariants.{Pass, LostBefore, LostBehind}
-use Rattle.mailbox_law.specs.declared.steps.LinkStep.TheVariants.{Hold, Give, Out, In, Pdi}
 use Rattle.capture_audit.specs.declared.access.MailAccess.{MailAccess}
-use Rattle.capture_audit.specs.declared.access.MailAccess.TheVariants.{WriteMail, ReadMail, WriteRequest, ReadAcknowledge}
+use Rattle.capture_audit.specs.declared.access.MailAccess.TheVariants.{WriteMail, ReadMail}
 use Rattle.capture_audit.specs.declared.link.Link.{Link as AuditLink}
 use Rattle.capture_audit.specs.declared.link.Inward.{Inward}
 use Rattle.capture_audit.specs.declared.link.Inward.TheVariants.{Clear, Doubt, Asked, Refetch}
@@ -28,10 +27,8 @@ use Rattle.capture_audit.specs.declared.rule.Rule.{Rule}
 use Rattle.capture_audit.specs.declared.rule.Rule.TheVariants.{NoMail, OtherMail, BadReturn}
 use Rattle.mailbox_mail.specs.Counter.{counter_behind}
 use Rattle.capture_audit.specs.Exchanges.{Return, Sent}
-use Rattle.capture_audit.specs.Rules.{link_rule, link_on, mails_sent, mails_accepted, write_rule, return_rule, sent_rule, first_rule, goes_on, write_on, mail_written, is_done, is_due, brings_due, read_on, accept_on, mail_new, mail_back, request_on, acknowledge_on, same_bit, new_link}
-use Rattle.capture_audit.specs.Rules.{bit_1 as audit_bit_1}
-use Rattle.audit_law.specs.Told.{Told}
-use Rattle.audit_law.specs.Possible.{access_by, WriteReturns, ReadReturns, Answers, InwardReturns, SendsMail, SendsInward}
+use Rattle.capture_audit.specs.Rules.{link_rule, link_on, mails_sent, mails_accepted, write_rule, return_rule, sent_rule, first_rule, goes_on, write_on, mail_written, is_done, is_due, read_on, accept_on, mail_new, mail_back, request_on, acknowledge_on, same_bit}
+use Rattle.audit_law.specs.Possible.{access_by, WriteReturns, InwardReturns}
 
 -- the state of a half in the model
 abbrev pub state_of : Inward → InState

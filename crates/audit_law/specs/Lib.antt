@@ -1,3 +1,4 @@
 pub mod Told
 pub mod Possible
 pub mod Openings
+pub mod Laws

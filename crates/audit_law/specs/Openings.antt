@@ -1,9 +1,8 @@
 -- The openings of a station's link in a capture.
 use Rattle.std.specs.Prelude.{◌≡◌, ℕ, ◌==◌, ◌&&◌, ◌||◌, not, Bool, true, false, List, [], ◌∷◌, ◌++◌, length, Some, ⊤}
-use Rattle.mailbox_mail.specs.declared.mail.Mail.{Mail}
 use Rattle.pcap_frames.specs.declared.capture.Capture.{Capture}
 use Rattle.capture_audit.specs.declared.access.Access.{Access}
-use Rattle.capture_audit.specs.declared.access.Access.TheVariants.{Manager, Mailbox, Other}
+use Rattle.capture_audit.specs.declared.access.Access.TheVariants.{Manager}
 use Rattle.capture_audit.specs.declared.access.Manager.{Manager as WhichManager}
 use Rattle.capture_audit.specs.declared.known.Known.{Known}
 use Rattle.capture_audit.specs.declared.station.Seat.{Seat}

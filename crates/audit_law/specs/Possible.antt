@@ -1,5 +1,5 @@
 -- Which steps of a link may have been behind the accesses that were told.
-use Rattle.std.specs.Prelude.{◌≡◌, ℕ, ◌+◌, ◌≤◌, Bool, List, [], ◌∷◌, ◌++◌, length, slice_index, Option, Some, None, Ok}
+use Rattle.std.specs.Prelude.{◌≡◌, ℕ, ◌≤◌, Bool, List, [], ◌∷◌, ◌++◌, length, slice_index, Option, Some, None, Ok}
 use Rattle.mailbox_mail.specs.declared.mail.Mail.{Mail}
 use Rattle.mailbox_mail.specs.Mail.{mail_read}
 use Rattle.link_model.specs.Mails.{LinkMail, IsPrefixOf}
@@ -8,7 +8,7 @@ use Rattle.link_model.specs.Link.{Link, happens, write_counter}
 use Rattle.link_mails.specs.Body.{Body, link_mail, bit_1}
 use Rattle.mailbox_master.specs.Any.{in_access}
 use Rattle.mailbox_law.specs.Waiting.{keeper, bodies_of}
-use Rattle.mailbox_law.specs.Steps.{event_of, given, FitsLink}
+use Rattle.mailbox_law.specs.Steps.{event_of, FitsLink}
 use Rattle.mailbox_law.specs.declared.steps.LinkFate.{LinkFate}
 use Rattle.mailbox_law.specs.declared.steps.LinkFate.TheVariants.{Pass, LostBefore, LostBehind}
 use Rattle.mailbox_law.specs.declared.steps.LinkStep.{LinkStep}

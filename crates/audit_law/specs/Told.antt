@@ -2,7 +2,7 @@
 use Rattle.std.specs.Prelude.{◌≡◌, ℕ, ◌==◌, if◌then◌else◌, List, [], ◌∷◌, ◌++◌, length, None, ⊤}
 use Rattle.mailbox_mail.specs.declared.mail.Mail.{Mail}
 use Rattle.capture_audit.specs.declared.access.Access.{Access}
-use Rattle.capture_audit.specs.declared.access.Access.TheVariants.{Manager, Mailbox, Other}
+use Rattle.capture_audit.specs.declared.access.Access.TheVariants.{Mailbox}
 use Rattle.capture_audit.specs.declared.access.MailAccess.{MailAccess}
 use Rattle.capture_audit.specs.declared.link.Link.{Link}
 use Rattle.capture_audit.specs.Access.{access_of}

@@ -55,12 +55,16 @@ fn tell<P: Print>(rt: &P, name: &str, verdict: &Verdict) -> Result<()> {
     Ok(())
 }
 
+// Audits the capture of a name.
+fn tell_word<R: Print + AllocGlobal + std::rt::Files>(rt: &R, name: &str) -> Result<()> {
+    let octets = octets_of(rt.alloc(), name, &mut DiskFiles::new(rt))?;
+    let verdict = verdict_on(rt.alloc(), name, octets.bytes())?;
+    tell(rt, name, &verdict)
+}
+
 fn main(rt: HostRuntime) -> Result<()> {
-    let mut files = DiskFiles::new(&rt);
-    for name in env::args(&rt)?.skip(1) {
-        let octets = octets_of(rt.alloc(), name.as_str(), &mut files)?;
-        let verdict = verdict_on(rt.alloc(), name.as_str(), octets.bytes())?;
-        tell(&rt, name.as_str(), &verdict)?;
+    for word in env::args(&rt)?.skip(1) {
+        tell_word(&rt, word.as_str())?;
     }
     Ok(())
 }

@@ -6,7 +6,6 @@ mod client;
 mod idns;
 mod pool;
 mod server;
-mod shown;
 mod store;
 
 use anyhow::Result;

@@ -1,7 +1,6 @@
-use crate::shown::shown;
 use anyhow::{Result, bail};
 use block_pool::Pool;
-use row_table::{Bench, Words};
+use row_table::{Bench, Words, shown};
 use std::alloc::Global;
 
 /// A region of three blocks and two chains.

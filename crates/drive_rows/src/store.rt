@@ -1,11 +1,10 @@
 ghost use Rattle.std.specs.Prelude.{◌≡◌, IfOk, None};
 ghost use Rattle.file_store.specs.Stored.{HasPart};
 
-use crate::shown::shown;
 use anyhow::{Result, bail};
 use ec_fields::buffer_of;
 use file_store::{FileSpec, PoolFull, Store};
-use row_table::{Bench, Words};
+use row_table::{Bench, Words, shown};
 use std::alloc::Global;
 
 /// A store with the file `fw`, which may be read and written under the password 7, and is busy twice.

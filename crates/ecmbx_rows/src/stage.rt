@@ -1,92 +1,126 @@
-use ec_fields::Rows;
-use ec_outside::{MemFiles, MemPort, MemSink};
+use anyhow::{Result, bail};
+use ec_fields::{Octets, Rows};
+use ec_outside::{MemFiles, MemPort, MemSink, Peer, PortItem};
 use ecmbx_call::{Book, Status, ecmbx};
-use std::alloc::{AllocError, Global};
-use std::test::Fail;
+use row_table::Words;
+use std::alloc::Global;
 
-/// One slave with an array of one UNSIGNED32.
-pub const SLAVE: &str =
-    "version = 1\nretry = 3\n\n[[slave]]\nname = \"plc\"\nstation = 4097\nmail = [64, 64]\nserves = [\"coe\"]\n\n[[slave.object]]\nindex = 8192\nkind = \"array\"\nname = \"Setpoints\"\n\n[[slave.object.entry]]\ntype = 7\naccess = 63\nvalue = \"00000000\"\n";
-
-/// A call with these words over one file, `scenario.toml`, where the call of files and the put of these
-/// numbers fail; and how it is to end, with this text.
-#[derive(Clone, Copy)]
-pub struct Case<'a> {
-    pub words: &'a [&'a str],
-    pub file: &'a [u8],
-    pub failing_file: Option<u64>,
-    pub failing_put: Option<u64>,
-    pub status: Status,
-    pub text: &'a str,
+/// Files and a port in memory, and what the last call put; a put of this number fails in each call.
+#[derive(Drop)]
+pub struct Stage {
+    pub files: MemFiles,
+    pub out: MemSink,
+    pub port: MemPort,
+    failing: Option<u64>,
 }
 
-pub fn numbers(alloc: Global, number: Option<u64>) -> Result<Rows<u64>, Fail> {
+// The numbers of calls that fail: one or none.
+fn numbers(alloc: Global, number: Option<u64>) -> Result<Rows<u64>> {
     let mut rows = Rows::new(alloc);
     if let Some(number) = number {
-        rows.push(number)?;
+        rows.add(number)?;
     }
     Ok(rows)
 }
 
-fn strings(alloc: Global, words: &[&str]) -> Result<Vec<String>, AllocError> {
-    let mut strings = Vec::new(alloc);
-    for word in words {
-        strings.push(String::from_str(alloc, word)?)?;
+/// The number of a call that fails, or `-`.
+pub fn failing_in(asked: &mut Words<'_>) -> Result<Option<u64>> {
+    let word = asked.word()?;
+    if word == "-" {
+        return Ok(None);
     }
-    Ok(strings)
+    Ok(Some(word.parse()?))
 }
 
-/// Makes a call with these words over files, a sink and a port.
-pub fn call_over(
-    alloc: Global,
-    words: &[&str],
-    files: &mut MemFiles,
-    out: &mut MemSink,
-    port: &mut MemPort,
-) -> Result<Status, Fail> {
-    let words = strings(alloc, words)?;
-    let mut book = Book::new(alloc);
-    Ok(ecmbx(alloc, words.as_slice(), files, out, port, &mut book))
+// The words that are left.
+fn words_in(alloc: Global, asked: &mut Words<'_>) -> Result<Vec<String>> {
+    let mut words = Vec::new(alloc);
+    for _ in 0..16 {
+        if asked.is_read() {
+            return Ok(words);
+        }
+        words.push(String::from_str(alloc, asked.word()?)?)?;
+    }
+    bail!("more than 16 words")
 }
 
-/// The same over a port that hears nothing.
-pub fn call(
-    alloc: Global,
-    words: &[&str],
-    files: &mut MemFiles,
-    out: &mut MemSink,
-) -> Result<Status, Fail> {
-    let mut port = MemPort::new(alloc, Rows::new(alloc), Rows::new(alloc));
-    call_over(alloc, words, files, out, &mut port)
+// A datagram of a peer.
+fn gram_in(alloc: Global, asked: &mut Words<'_>) -> Result<PortItem> {
+    let from = Peer {
+        ip: 0x7F00_0001,
+        port: asked.short()?,
+    };
+    let bytes = asked.octets(alloc)?;
+    Ok(PortItem::Gram { from, bytes })
 }
 
-/// A scenario that is run to its end, with its capture under `a.pcap`.
-pub fn saved(alloc: Global, scenario: &str) -> Result<MemFiles, Fail> {
-    let mut files = MemFiles::new(alloc, numbers(alloc, None)?);
-    files.add("scenario.toml", scenario.as_bytes())?;
-    let mut out = MemSink::new(alloc, numbers(alloc, None)?);
-    match call(
-        alloc,
-        &["run", "scenario.toml", "a.pcap"],
-        &mut files,
-        &mut out,
-    )? {
-        Status::Done => Ok(files),
-        status => Err(Fail::new(format_args!("{status:?}"))),
+// Datagrams of peers.
+fn grams_in(alloc: Global, asked: &mut Words<'_>) -> Result<Rows<PortItem>> {
+    let mut items = Rows::new(alloc);
+    for _ in 0..16 {
+        if asked.is_read() {
+            return Ok(items);
+        }
+        items.add(gram_in(alloc, asked)?)?;
     }
+    bail!("more than 16 datagrams")
 }
 
-/// Makes the call and compares its status and what the sink took.
-pub fn check(alloc: Global, case: &Case<'_>) -> Result<(), Fail> {
-    let mut files = MemFiles::new(alloc, numbers(alloc, case.failing_file)?);
-    files.add("scenario.toml", case.file)?;
-    let mut out = MemSink::new(alloc, numbers(alloc, case.failing_put)?);
-    let status = call(alloc, case.words, &mut files, &mut out)?;
-    if status != case.status {
-        return Err(Fail::new(format_args!("{:?}: {status:?}", case.words)));
+impl Stage {
+    /// No file, and a port that hears nothing; a call of the files of this number fails, and a put of that.
+    pub fn new(alloc: Global, file: Option<u64>, put: Option<u64>) -> Result<Stage> {
+        Ok(Stage {
+            files: MemFiles::new(alloc, numbers(alloc, file)?),
+            out: MemSink::new(alloc, Rows::new(alloc)),
+            port: MemPort::new(alloc, Rows::new(alloc), Rows::new(alloc)),
+            failing: put,
+        })
     }
-    if out.bytes() != case.text.as_bytes() {
-        return Err(Fail::new(format_args!("{:?}: another text", case.words)));
+
+    /// A port that hears the datagrams of the words, of which a call of this number fails.
+    pub fn open(&mut self, alloc: Global, asked: &mut Words<'_>) -> Result<()> {
+        let failing = numbers(alloc, failing_in(asked)?)?;
+        self.port = MemPort::new(alloc, grams_in(alloc, asked)?, failing);
+        Ok(())
     }
-    Ok(())
+
+    /// Makes a call.
+    pub fn call(&mut self, alloc: Global, words: &[String]) -> Result<Status> {
+        self.out = MemSink::new(alloc, numbers(alloc, self.failing)?);
+        let mut book = Book::new(alloc);
+        Ok(ecmbx(
+            alloc,
+            words,
+            &mut self.files,
+            &mut self.out,
+            &mut self.port,
+            &mut book,
+        ))
+    }
+
+    /// Makes the call of the words that are left.
+    pub fn call_asked(&mut self, alloc: Global, asked: &mut Words<'_>) -> Result<Status> {
+        let words = words_in(alloc, asked)?;
+        self.call(alloc, words.as_slice())
+    }
+
+    /// What a file has from a place on, as many octets as there are up to this count.
+    pub fn part(&self, name: &str, from: usize, count: usize) -> Result<&[u8]> {
+        let Some(octets) = self.files.get(name) else {
+            bail!("no file: {name}");
+        };
+        let from = from.min(octets.len());
+        let most = octets.len() - from;
+        Ok(&octets[from..from + count.min(most)])
+    }
+
+    /// Puts an octet into a file.
+    pub fn set(&mut self, alloc: Global, name: &str, at: usize, octet: u8) -> Result<()> {
+        let mut octets = Octets::copy_of(alloc, self.part(name, 0, at)?)?;
+        octets.add(&[octet])?;
+        let from = octets.len();
+        octets.add(self.part(name, from, usize::MAX)?)?;
+        self.files.add(name, octets.bytes())?;
+        Ok(())
+    }
 }

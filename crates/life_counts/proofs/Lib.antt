@@ -1,3 +1,3 @@
-mod Epoch
+pub mod Epoch
 pub mod Unopened
 pub mod Whole

@@ -1,10 +1,11 @@
 -- WHAT A MASTER SAYS of the newest service of a slave.
-use Rattle.std.proofs.Common.{◌≡◌, ◌<◌, ℕ, zero, suc, true, false, Option, Some, None, List, [], ◌∷◌, ◌++◌, length, get_or, refl, ap, sym, ◌∙◌, subst, arith}
-use Rattle.std.specs.Prelude.{IfSome, IfOk, Result, Ok, Err, slice_get, is_some}
+use Rattle.std.proofs.Common.{◌≡◌, ◌<◌, ◌≤◌, ℕ, zero, suc, true, false, Option, Some, None, List, [], ◌∷◌, ◌++◌, length, get_or, refl, ap, sym, ◌∙◌, subst, arith}
+use Rattle.std.specs.Prelude.{IfSome, IfOk, Result, Ok, Err, slice_get, is_some, Bool, if◌then◌else◌}
+use Rattle.std.proofs.lemmas.List.{append-nil}
 use Rattle.master_duty.specs.of_exchange_model.Exchange.{Speech}
 use Rattle.master_duty.specs.of_exchange_model.Rows.{Row}
 use Rattle.life_runs.specs.of_frame_view.View.{Lens}
-use Rattle.life_runs.specs.of_life_frames.Shares.{AllBoth}
+use Rattle.life_runs.specs.of_life_frames.Shares.{AllBoth, Lived}
 use Rattle.master_tour.specs.of_life_model.Lives
 use Rattle.life_runs.specs.Led.{Leads}
 use Rattle.master_side.specs.of_link_mails.Body.{Body}
@@ -14,8 +15,10 @@ use Rattle.master_duty.specs.declared.duty.Duty.{Duty}
 use Rattle.master_hand.specs.of_eoe_model.Client as EoeClient
 use Rattle.master_hand.specs.of_foe_model.Meaning as FoeMeaning
 use Rattle.master_hand.specs.Grips.{HasIt}
+use Rattle.master_hand.specs.Passed.{at_end, passed_awaits}
+use Rattle.master_hand.specs.declared.passed.PassedMail.{PassedMail}
 use Rattle.master_hand.specs.Shown.{Shows, has_reply}
-use Rattle.master_hand.specs.Spoken.{Asked, sdo, file, drive, net, passed, is_passed}
+use Rattle.master_hand.specs.Spoken.{Asked, sdo, file, drive, net, passed, is_passed, passed_ends}
 use Rattle.master_hand.specs.Talk.{Talking, IsOf, is_mail, which_of, client_awaits, value_of}
 use Rattle.master_hand.specs.declared.clients.Which.{Which}
 use Rattle.master_hand.specs.declared.course.Course.{Course}
@@ -27,8 +30,9 @@ use Rattle.master_tour.specs.Stands.{StandShows}
 use Rattle.master_tour.specs.declared.stop.Stand.{Stand}
 use Rattle.master_tour.specs.declared.stop.Stop.{Stop}
 use Rattle.master_duty.specs.of_task_model.Accounts
-use Rattle.master_node.specs.Shows.{IsLead, side_shows}
-use Rattle.master_node.specs.Told.{Tells}
+use Rattle.master_node.specs.Shows.{IsLead, IsLived, side_shows}
+use Rattle.master_node.specs.Told.{Tells, answer_at, value_by, value_in}
+use Rattle.master_node.specs.declared.post.Post.{Post}
 use Rattle.master_node.specs.declared.told.Told.{Told}
 
 abbrev Held : Type 0
@@ -89,20 +93,58 @@ told_passed course which c x now n p h row e =
     let g = has_it course which c x now n h in
     ap (λ (r : Held). is_passed r.service) (sym (same_row now g.row row g.is e)) ∙ sym (mail_passed g.row.service) ∙ ap is_mail g.kind ∙ p
 
+-- ITS VALUE: none while no reply is there
+pub value_waits : (course : Course) (which : Which) (c : Talking) (x : Speech Body Asked Reply) (now : Option Held) (old new : List ℕ) → has_reply course ≡ false → Shows course which c x now → new ≡ old → new ≡ old ++ value_in now
+value_waits course which c x None old new n h e = e ∙ sym (append-nil old)
+value_waits course which c x (Some row) old new n h e = e ∙ sym (ap (λ z. old ++ value_by z) (waits_by course which c x (Some row) n h row refl) ∙ append-nil old)
+
+-- the client's
+pub value_answer : (course : Course) (which : Which) (c : Talking) (kind : ReplyKind) (old new : List ℕ) → has_reply course ≡ true → new ≡ old ++ value_of which c →
+    ((x : Speech Body Asked Reply) (now : Option Held) (row : Held) (a : Reply × ℕ) → Shows course which c x now → now ≡ Some row → row.answer ≡ Some a → a.0 ≡ Some (kind, value_of which c)) →
+    (x : Speech Body Asked Reply) (now : Option Held) → Shows course which c x now → new ≡ old ++ value_in now
+value_answer course which c kind old new n e told x now h =
+    let g = has_it course which c x now n h in
+    e ∙ sym (ap (λ z. old ++ value_in z) g.is ∙ ap (λ z. old ++ value_by z) g.answered ∙ ap (λ (z : Reply). old ++ value_by (Some (z, g.answer.1))) (told x now g.row g.answer h g.is g.answered))
+
+-- none where a mail is passed on
+none_at_end : (p : PassedMail) (a : Reply) → passed_awaits p [] ≡ Some a → a ≡ None
+none_at_end p a e = by p.over e
+  where
+    by : (b : Bool) → (if b then at_end [] else passed_ends []) ≡ Some a → a ≡ None
+    by true e = cc
+    by false e = cc
+
+none_mail : (which : Which) (c : Talking) (a : Reply) → is_mail which ≡ true → client_awaits which c [] ≡ Some a → a ≡ None
+none_mail Which.Coe c a p e = absurd (let bad : false ≡ true = p in cc)
+none_mail Which.ReadFile c a p e = absurd (let bad : false ≡ true = p in cc)
+none_mail Which.WriteFile c a p e = absurd (let bad : false ≡ true = p in cc)
+none_mail Which.Soe c a p e = absurd (let bad : false ≡ true = p in cc)
+none_mail Which.Address c a p e = absurd (let bad : false ≡ true = p in cc)
+none_mail Which.Packet c a p e = absurd (let bad : false ≡ true = p in cc)
+none_mail Which.Passed c a p e = none_at_end c.passed a e
+
+pub value_passed : (course : Course) (which : Which) (c : Talking) (x : Speech Body Asked Reply) (now : Option Held) (old new : List ℕ) → has_reply course ≡ true → is_mail which ≡ true → Shows course which c x now → new ≡ old → new ≡ old ++ value_in now
+value_passed course which c x now old new n p h e =
+    let g = has_it course which c x now n h in
+    e ∙ sym (ap (λ z. old ++ value_in z) g.is ∙ ap (λ z. old ++ value_by z) g.answered ∙ ap (λ (z : Reply). old ++ value_by (Some (z, g.answer.1))) (none_mail which c g.answer.0 p g.kept) ∙ append-nil old)
+
 -- BY THE STOP
 duty_some : (duty : Option Duty) (hand : Option Accounts.Duty) → DutyShows duty hand → is_some duty ≡ is_some hand
 duty_some None hand e = sym (ap is_some e)
 duty_some (Some duty) hand e = sym (ap is_some e.1)
 
 module _ {G : Ghosts InHand} (lens : ℕ → Lens) (recover : ℕ) where
-  open_shows : (a : Leads) (s : Stop InHand G) (stand : Stand) → StandShows (λ d b. side_shows lens recover s a.lived.spot d b) a.lived.spot stand a.lived.life → a.lived.life.stand ≡ Lives.Stand.Open →
-      side_shows lens recover s a.lived.spot a.lived.life.era.side a.lived.life.era.account
+  open_shows : (a : Lived Asked Reply) (s : Stop InHand G) (stand : Stand) → StandShows (λ d b. side_shows lens recover s a.spot d b) a.spot stand a.life → a.life.stand ≡ Lives.Stand.Open →
+      side_shows lens recover s a.spot a.life.era.side a.life.era.account
   open_shows a s (Stand.Opening up) h e = absurd (let bad = sym h.stand ∙ e in cc)
   open_shows a s Stand.Open h e = h.1
   open_shows a s Stand.Gone h e = absurd (let bad = sym h ∙ e in cc)
 
+  pub lived_open : (a : Lived Asked Reply) (s : Stop InHand G) → IsLived lens recover a s → a.life.stand ≡ Lives.Stand.Open → side_shows lens recover s a.spot a.life.era.side a.life.era.account
+  lived_open a s l e = open_shows a s s.stand l.shown.stood e
+
   pub lead_open : (a : Leads) (s : Stop InHand G) → IsLead lens recover a s → a.lived.life.stand ≡ Lives.Stand.Open → side_shows lens recover s a.lived.spot a.lived.life.era.side a.lived.life.era.account
-  lead_open a s l e = open_shows a s s.stand l.lives.shown.stood e
+  lead_open a s l e = lived_open a.lived s l.lives e
 
   pub duty_open : (a : Leads) (s : Stop InHand G) → IsLead lens recover a s → a.lived.life.stand ≡ Lives.Stand.Open → is_some (in_hand s.side.duty) ≡ is_some a.lived.life.era.account.hand
   duty_open a s l e = duty_some (in_hand s.side.duty) a.lived.life.era.account.hand (lead_open a s l e).state
@@ -114,6 +156,17 @@ both_here P Q [] (t ∷ ts) k s x l e h = absurd x
 both_here P Q (a ∷ as') [] k s x l e h = absurd x
 both_here P Q (a ∷ as') (t ∷ ts) zero s x l e h = h a (subst (P a) (sym e) x.0)
 both_here P Q (a ∷ as') (t ∷ ts) (suc k) s x l e h = both_here P Q as' ts k s x.1 (omega (arith, l)) e h
+
+-- the last answer of the slave at a place
+pub answer_here : (ps : List Post) (k : ℕ) (p : Post) → k < length ps → p ≡ get_or ps k p → answer_at ps k ≡ p.answer
+answer_here [] k p l e = absurd (omega (arith, l))
+answer_here (q ∷ ps) zero p l e = ap (λ (z : Post). z.answer) (sym e)
+answer_here (q ∷ ps) (suc k) p l e = answer_here ps k p (omega (arith, l)) e
+
+pub answer_out : (ps : List Post) (k : ℕ) → length ps ≤ k → answer_at ps k ≡ None
+answer_out [] k l = refl
+answer_out (q ∷ ps) zero l = absurd (omega (arith, l))
+answer_out (q ∷ ps) (suc k) l = answer_out ps k (omega (arith, l))
 
 -- where a call came to a value
 pub if_ok_so : {T E : Type 0} {P Q : T → Type 0} (r : Result T E) → ((t : T) → P t → Q t) → IfOk r P → IfOk r Q

@@ -1,14 +1,17 @@
 -- WHAT A MASTER SAYS OF THE NEWEST SERVICE of a slave, by what it has of it.
-use Rattle.std.specs.Prelude.{◌≡◌, ℕ, true, Option, Some, None, List, ◌++◌}
+use Rattle.std.specs.Prelude.{◌≡◌, ℕ, zero, suc, Bool, true, false, Option, Some, None, List, [], ◌∷◌, ◌++◌, IfSome, slice_get}
 use Rattle.master_duty.specs.of_exchange_model.Rows.{Row}
 use Rattle.life_runs.specs.of_frame_view.View.{Lens}
-use Rattle.life_runs.specs.of_life_frames.Shares.{AllBoth}
+use Rattle.life_runs.specs.of_life_frames.Shares.{AllBoth, Lived}
 use Rattle.life_runs.specs.Led.{Leads}
+use Rattle.master_tour.specs.of_life_model.Lives.{Stand}
 use Rattle.master_side.specs.of_link_mails.Body.{Body}
 use Rattle.master_duty.specs.Reply.{Reply}
 use Rattle.master_hand.specs.Spoken.{Asked, is_passed}
-use Rattle.master_node.specs.Shows.{IsLead}
+use Rattle.mailbox_mail.specs.declared.outcome.ReplyKind.{ReplyKind}
+use Rattle.master_node.specs.Shows.{IsLead, IsLived}
 use Rattle.master_node.specs.declared.node.MasterNode.{MasterNode}
+use Rattle.master_node.specs.declared.post.Post.{Post}
 use Rattle.master_node.specs.declared.told.Told.{Told}
 
 -- a master has just these lives of its slaves
@@ -27,3 +30,36 @@ abbrev pub Tells : Told → List ℕ → List ℕ → Option (Row Body Asked Rep
 Tells Told.Waits old new now = (row : Row Body Asked Reply) → now ≡ Some row → row.answer ≡ None
 Tells (Told.Answered kind) old new now = (value : List ℕ) × (new ≡ old ++ value) × HasReply now (Some (kind, value))
 Tells Told.Unknown old new now = (row : Row Body Asked Reply) → now ≡ Some row → is_passed row.service ≡ true
+
+-- a master has just these lives of its slaves, whether mails are passed on or not
+abbrev pub HasLives : (ℕ → Lens) → ℕ → MasterNode → List (Lived Asked Reply) → Type 0
+HasLives lens recover m as' = AllBoth (λ a s. IsLived lens recover a s) as' m.tour.stops.items
+
+-- the octets of an answer's value; most answers have none
+abbrev pub value_by : Option (Reply × ℕ) → List ℕ
+value_by None = []
+value_by (Some (None, frame)) = []
+value_by (Some (Some (kind, value), frame)) = value
+
+-- of the newest service by mails
+abbrev pub value_in : Option (Row Body Asked Reply) → List ℕ
+value_in None = []
+value_in (Some row) = value_by row.answer
+
+-- an answer has a value
+abbrev pub has_value : Option ReplyKind → Bool
+has_value None = false
+has_value (Some ReplyKind.Value) = true
+has_value (Some _) = false
+
+-- the kind of the last answer of the slave at a place, until its next service comes into hand
+abbrev pub answer_at : List Post → ℕ → Option ReplyKind
+answer_at [] k = None
+answer_at (p ∷ ps) zero = p.answer
+answer_at (p ∷ ps) (suc k) = answer_at ps k
+
+-- THE VALUE OF THE LAST ANSWER of the slave at a place, where that has one, stands behind these octets: by the slave's life, while it is open
+abbrev pub AppendsValue : ℕ → MasterNode → List ℕ → List ℕ → Type 0
+AppendsValue slave m old new =
+    has_value (answer_at m.posts.items slave) ≡ true → (lens : ℕ → Lens) (recover : ℕ) (as' : List (Lived Asked Reply)) → HasLives lens recover m as' →
+    IfSome (slice_get as' slave) (λ a. a.life.stand ≡ Stand.Open → new ≡ old ++ value_in a.life.era.side.now)

@@ -7,8 +7,7 @@ use crate::lan::Lan;
 use crate::laying::pass_by;
 use crate::post::{Post, Work};
 use datagrams::FrameBuf;
-use ec_fields::{NoMemory, Octets};
-use mailbox_mail::{Mail, ReplyKind};
+use mailbox_mail::Mail;
 use master_hand::InHand;
 use master_tour::{Stand, Tour};
 
@@ -369,19 +368,6 @@ impl MasterNode {
         ensures { result.now ≡ listed self.now.list.rows.items self.now.list.count }
     {
         self.list.all()
-    }
-
-    /// Appends the value of the slave's last answer, nothing where that has none. It stays until the slave's next service begins, or its
-    /// mailboxes do anew.
-    pub fn value(&self, slave: u32, into: &mut Octets) -> Result<(), NoMemory> {
-        let place = slave as usize;
-        if place >= self.posts.len() || place >= self.tour.stops.len() {
-            return Ok(());
-        }
-        match self.posts[place].answer {
-            Some(ReplyKind::Value) => self.tour.stops[place].side.hand.value(into),
-            _ => Ok(()),
-        }
     }
 
     /// Whether a slave was not given up for good.

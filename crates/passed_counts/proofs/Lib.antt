@@ -1,2 +1,2 @@
-mod Calms
+pub mod Calms
 mod Sums

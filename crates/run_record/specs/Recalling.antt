@@ -1,5 +1,5 @@
 -- A RUN WHOSE MASTER MAKES NO VISIT IN VAIN, by what it remembers, what happened at its switch, and the ring.
-use Rattle.std.specs.Prelude.{◌≡◌, ℕ, List, [], map}
+use Rattle.std.specs.Prelude.{◌≡◌, List, []}
 use Rattle.eoe_switch.specs.declared.switching.SwitchEvent.{SwitchEvent}
 use Rattle.master_node.specs.Eager.{recalls}
 use Rattle.master_node.specs.of_life_runs.Led.{Exchanged, Leads}

@@ -1,5 +1,5 @@
 -- A run that is made frame by frame.
-use Rattle.std.specs.Prelude.{◌≡◌, ℕ, zero, suc, map, replicate, if◌then◌else◌, false, ◌+◌, Bool, true, nat_lt, ◌||◌, List, [], ◌∷◌, ◌++◌, ◌⊎◌, length, Option, Some, None, is_some}
+use Rattle.std.specs.Prelude.{◌≡◌, ℕ, zero, suc, map, replicate, if◌then◌else◌, false, Bool, true, nat_lt, ◌||◌, List, [], ◌∷◌, ◌++◌, ◌⊎◌, length, Option, Some, None, is_some}
 use Rattle.std.specs.List.{list_all, list_any}
 use Rattle.arrayvec.specs.ArrayVec.{ArrayVec}
 use Rattle.segment_plan.specs.Bound.{bound_of}

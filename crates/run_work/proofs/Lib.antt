@@ -1,9 +1,9 @@
 mod Opened
-mod Packets
+pub mod Packets
 mod Reopened
 mod Rounds
 mod Runs
 mod Shaped
-mod Sums
-mod Together
+pub mod Sums
+pub mod Together
 mod Worked

@@ -90,7 +90,7 @@ taken (suc k) [] are = are
 taken (suc k) (t ∷ ts) are =
     All-cons (λ (t : Plan.Service). IsService t) t (take k ts) (All-head (λ (t : Plan.Service). IsService t) t ts are) (taken k ts (All-tail (λ (t : Plan.Service). IsService t) t ts are))
 
-scripted : (n place : ℕ) (rows : List (ℕ × Plan.Service)) → All (λ (row : ℕ × Plan.Service). IsAddressed n row) rows → All (λ (t : Plan.Service). IsService t) (script_for place rows)
+pub scripted : (n place : ℕ) (rows : List (ℕ × Plan.Service)) → All (λ (row : ℕ × Plan.Service). IsAddressed n row) rows → All (λ (t : Plan.Service). IsService t) (script_for place rows)
 scripted n place [] are = All-nil (λ (t : Plan.Service). IsService t)
 scripted n place (row ∷ rows) are =
     one (row.0 == place) (scripted n place rows (All-tail (λ (row : ℕ × Plan.Service). IsAddressed n row) row rows are))

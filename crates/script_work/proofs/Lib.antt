@@ -1,1 +1,1 @@
-mod Shared
+pub mod Shared

@@ -12,7 +12,7 @@ use Rattle.life_runs.specs.First.{script_for, leads_from, first_leads}
 use Rattle.script_work.specs.Begun.{work_begun, addressed, work_in}
 
 -- THE SCRIPTS STAY
-abbrev scripts : List Leads → List (List Plan.Service)
+abbrev pub scripts : List Leads → List (List Plan.Service)
 scripts [] = []
 scripts (a ∷ leads) = a.script ∷ scripts leads
 
@@ -37,12 +37,12 @@ apart a b l = go (a == b) refl
 
 module _ (work : SlaveSpec → Plan.Service → ℕ) where
   -- ALL SERVICES OF THE SCRIPTS
-  abbrev all_work : List SlaveSpec → List (List Plan.Service) → ℕ
+  abbrev pub all_work : List SlaveSpec → List (List Plan.Service) → ℕ
   all_work [] ls = 0
   all_work (s ∷ ss) [] = 0
   all_work (s ∷ ss) (l ∷ ls) = sum_by (work s) l + all_work ss ls
 
-  begun_less : (ss : List SlaveSpec) (leads : List Leads) → work_begun work ss leads ≤ all_work ss (scripts leads)
+  pub begun_less : (ss : List SlaveSpec) (leads : List Leads) → work_begun work ss leads ≤ all_work ss (scripts leads)
   begun_less [] leads = omega arith
   begun_less (s ∷ ss) [] = omega arith
   begun_less (s ∷ ss) (a ∷ leads) = omega (arith, sum_by-take-le (work s) a.script a.number, begun_less ss leads)
@@ -80,7 +80,7 @@ module _ (work : SlaveSpec → Plan.Service → ℕ) where
       far false f = f
       far true f = absurd (omega (arith, e, eqb-true row.0 place f))
 
-  all_rows : (ss : List SlaveSpec) (rows : List (ℕ × Plan.Service)) → all_work ss (scripts (leads_from rows 0 ss)) ≡ work_in work ss rows
+  pub all_rows : (ss : List SlaveSpec) (rows : List (ℕ × Plan.Service)) → all_work ss (scripts (leads_from rows 0 ss)) ≡ work_in work ss rows
   all_rows ss [] = no_row 0 ss
   all_rows ss (row ∷ rows) = omega (arith, sum_by-cons (addressed work ss) row rows, one_row 0 row rows ss, at_place 0 row.0 ss row (omega arith), all_rows ss rows)
 

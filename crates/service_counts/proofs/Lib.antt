@@ -1,5 +1,5 @@
 mod Layers
 mod OfSlave
-mod Sizes
+pub mod Sizes
 pub mod Stays
 pub mod OfShape

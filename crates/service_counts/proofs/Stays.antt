@@ -98,7 +98,7 @@ changed_sizes table new index change alike done i sub = by (object_of table inde
         let (p, made, is) = map_ok _ (change o) new done in
         ap (λ t. entry_size t i sub) (sym is) ∙ set_sizes table index o p at (alike o p made) i sub
 
-stored_sizes : (al : ℕ) (table new : Table) (t : Tables.Target) (bytes : List ℕ) → stores al table t bytes ≡ Ok new → (i sub : ℕ) → entry_size new i sub ≡ entry_size table i sub
+pub stored_sizes : (al : ℕ) (table new : Table) (t : Tables.Target) (bytes : List ℕ) → stores al table t bytes ≡ Ok new → (i sub : ℕ) → entry_size new i sub ≡ entry_size table i sub
 stored_sizes al table new t bytes done i sub = by t.all done
   where
     by : (b : Bool) → (if b then download_all al table t.index t.sub bytes else download al table t.index t.sub bytes) ≡ Ok new → entry_size new i sub ≡ entry_size table i sub
@@ -130,10 +130,10 @@ busy_stays (file ∷ files) name octets other = by (Store.is_named name file) (b
 
 -- ---- each protocol
 
-with_table : (c : Core) (objects : Table) → ((i sub : ℕ) → entry_size objects i sub ≡ entry_size c.objects i sub) → shape_of (record c { objects = objects }) ≡ shape_of c
+pub with_table : (c : Core) (objects : Table) → ((i sub : ℕ) → entry_size objects i sub ≡ entry_size c.objects i sub) → shape_of (record c { objects = objects }) ≡ shape_of c
 with_table c objects same = λ j. record { entry = λ index sub. same index sub j; busy = (shape_of c).busy; blocks = (shape_of c).blocks }
 
-with_kept : (c : Core) (name octets : List ℕ) → shape_of (record c { files = Store.put c.files name octets }) ≡ shape_of c
+pub with_kept : (c : Core) (name octets : List ℕ) → shape_of (record c { files = Store.put c.files name octets }) ≡ shape_of c
 with_kept c name octets = λ j. record { entry = (shape_of c).entry; busy = λ other. busy_stays c.files.files name octets other j; blocks = (shape_of c).blocks }
 
 issued_shape : (room al : ℕ) (s : Station Core) (e : Option Emission) → shape_of (issued (station_tables parts room al) s e).0.app ≡ shape_of s.app

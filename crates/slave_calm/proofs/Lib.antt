@@ -1,1 +1,1 @@
-mod Slave
+pub mod Slave

@@ -14,4 +14,4 @@ returns c =
     (λ told h. λ lens recover as' x.
     both_here (λ a s. IsLead lens recover a s) (λ a. a.lived.life.stand ≡ Stand.Open → Tells told c.args.into.now c.told_of.new.into a.lived.life.era.side.now) as' m.tour.stops.items c.args.slave c.index.result.now x l c.index.ensures
     (λ a p e. h (speech_at lens a.lived.spot) a.lived.life.era.side.now (lead_open lens recover a c.index.result.now p e).row))
-    c.told_of.ensures
+    c.told_of.ensures.told

@@ -1,0 +1,4 @@
+pub mod Filed
+pub mod Shaped
+pub mod Alone
+pub mod Whole
