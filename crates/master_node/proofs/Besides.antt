@@ -2,6 +2,7 @@
 use Rattle.std.proofs.Common.{◌≡◌, ◌==◌, inl, inr, take, ℕ, zero, suc, ◌+◌, ◌<◌, ◌≤◌, Bool, true, false, Option, Some, None, List, [], ◌∷◌, ◌++◌, refl, sym, ap, ◌∙◌, arith, length, get_or, append_assoc, append-nil}
 use Rattle.std.specs.Prelude.{filter, is_some, if◌then◌else◌}
 use Rattle.std.proofs.lemmas.Bool.{eq-eqb, eqb-true}
+use Rattle.std.proofs.lemmas.List.{take-append-drop}
 use Rattle.std.proofs.lemmas.List.Elements.{filter-append}
 use Rattle.master_tour.specs.Made.{is_in}
 use Rattle.master_tour.specs.Orders.{AreOnce}
@@ -13,7 +14,8 @@ use Rattle.master_side.specs.declared.passing.Passing.{Passing}
 use Rattle.master_tour.specs.declared.stop.Stop.{Stop}
 use Rattle.master_node.specs.Besides.{TellsBesides, gateway_at, gateway_by, heard_by, heard_room, is_gateway, over_by, over_room, over_told, told_by, turned_room}
 use Rattle.master_node.specs.Handed.{IsLeft, work_at}
-use Rattle.master_node.specs.Listing.{events_in}
+use Rattle.master_node.specs.Listed.{listed, listed_before}
+use Rattle.master_node.specs.Listing.{events_before, events_in}
 use Rattle.master_node.specs.Named.{StaysNamed}
 use Rattle.master_node.specs.declared.event.Event.{Event}
 use Rattle.master_node.specs.declared.node.MasterNode.{MasterNode}
@@ -25,26 +27,29 @@ pub besides_none : (room : ℕ) (m n : MasterNode) → n.list ≡ m.list → Tel
 besides_none room m n e = record {
   told = λ r. ap (filter is_gateway) (events_by m n e) ∙ sym (append-nil (filter is_gateway (events_in m)));
   few = (let f = ap (λ z. z.count) e in omega (arith, f));
+  head = λ i. listed_before (e i).rows.items (e i).first (e i).count;
 }
 
 -- ONE EVENT that is told to who asked
 one : (e : Event) → is_gateway e ≡ true → filter is_gateway (e ∷ []) ≡ e ∷ []
 one e g = ap (λ (z : Bool). if z then e ∷ [] else []) g
 
-pub besides_one : (m n : MasterNode) (e : Event) → (m.list.count < 97 → events_in n ≡ events_in m ++ e ∷ []) → n.list.count ≤ m.list.count + 1 → is_gateway e ≡ true → TellsBesides 1 (e ∷ []) m n
-besides_one m n e t f g = record {
+pub besides_one : (m n : MasterNode) (e : Event) → (m.list.count < 97 → events_in n ≡ events_in m ++ e ∷ []) → n.list.count ≤ m.list.count + 1 → events_before n ≡ events_before m → is_gateway e ≡ true → TellsBesides 1 (e ∷ []) m n
+besides_one m n e t f h g = record {
   told = λ r. ap (filter is_gateway) (t (omega (arith, r))) ∙ filter-append is_gateway (events_in m) (e ∷ []) ∙ ap (λ z. filter is_gateway (events_in m) ++ z) (one e g);
   few = f;
+  head = h;
 }
 
 -- and one that isn't
 other : (e : Event) → is_gateway e ≡ false → filter is_gateway (e ∷ []) ≡ []
 other e g = ap (λ (z : Bool). if z then e ∷ [] else []) g
 
-pub besides_put : (m n : MasterNode) (e : Event) → (m.list.count < 97 → events_in n ≡ events_in m ++ e ∷ []) → n.list.count ≤ m.list.count + 1 → is_gateway e ≡ false → TellsBesides 1 [] m n
-besides_put m n e t f g = record {
+pub besides_put : (m n : MasterNode) (e : Event) → (m.list.count < 97 → events_in n ≡ events_in m ++ e ∷ []) → n.list.count ≤ m.list.count + 1 → events_before n ≡ events_before m → is_gateway e ≡ false → TellsBesides 1 [] m n
+besides_put m n e t f h g = record {
   told = λ r. ap (filter is_gateway) (t (omega (arith, r))) ∙ filter-append is_gateway (events_in m) (e ∷ []) ∙ ap (λ z. filter is_gateway (events_in m) ++ z) (other e g);
   few = f;
+  head = h;
 }
 
 -- one step after the other
@@ -52,11 +57,12 @@ pub besides_then : (a b : ℕ) (es fs : List Event) (m n o : MasterNode) → Tel
 besides_then a b es fs m n o x y = record {
   told = λ r. y.told (omega (arith, r, x.few)) ∙ ap (λ z. z ++ fs) (x.told (omega (arith, r))) ∙ append_assoc (filter is_gateway (events_in m)) es fs;
   few = omega (arith, x.few, y.few);
+  head = y.head ∙ x.head;
 }
 
 -- with room to spare, and told otherwise
 pub besides_as : (a b : ℕ) (es fs : List Event) (m n : MasterNode) → a ≤ b → es ≡ fs → TellsBesides a es m n → TellsBesides b fs m n
-besides_as a b es fs m n l e x = record { told = λ r. x.told (omega (arith, r, l)) ∙ ap (λ z. filter is_gateway (events_in m) ++ z) e; few = omega (arith, l, x.few) }
+besides_as a b es fs m n l e x = record { told = λ r. x.told (omega (arith, r, l)) ∙ ap (λ z. filter is_gateway (events_in m) ++ z) e; few = omega (arith, l, x.few); head = x.head }
 
 -- OF THE SLAVE AT A PLACE
 pub told_here : {G : Ghosts InHand} (tells : Stop InHand G → List Event) (ss : List (Stop InHand G)) (k : ℕ) (s : Stop InHand G) → k < length ss → s ≡ get_or ss k s → told_by tells ss k ≡ tells s
@@ -192,3 +198,7 @@ most_five Work.Mails = omega arith
 most_five Work.State = omega arith
 most_five Work.Packet = omega arith
 most_five (Work.Passed key) = omega arith
+
+-- the events of a frame are those before its last step, and those of it
+pub listed_whole : (m : MasterNode) → listed m.list.rows.items m.list.count ≡ events_before m ++ events_in m
+listed_whole m = sym (take-append-drop m.list.first (take m.list.count m.list.rows.items))

@@ -23,6 +23,7 @@ use Rattle.master_side.specs.declared.hand.Heard.{Heard}
 use Rattle.master_side.specs.declared.passing.Passing.{Passing}
 use Rattle.master_side.specs.of_link_mails.Body.{Body}
 use Rattle.master_tour.specs.Brings.{accepted_in}
+use Rattle.master_tour.specs.Goes.{holds_at}
 use Rattle.master_tour.specs.Passing.{StandPassing}
 use Rattle.master_tour.specs.Walks.{EachPair}
 use Rattle.master_tour.specs.declared.stop.Stand.{Stand}
@@ -144,3 +145,16 @@ module _ (lens : ℕ → Lens) (recover retry : ℕ) (gives : Bool) (made : ℕ)
   all_told K h (v ∷ vs) (p ∷ ps) (q ∷ qs) (s ∷ ss) [] i j e k = absurd e
   all_told K h (v ∷ vs) (p ∷ ps) (q ∷ qs) (s ∷ ss) (t ∷ ts) i j e zero = one_told v p q s t i.0 j.0 (h v p s t i.0 e.0)
   all_told K h (v ∷ vs) (p ∷ ps) (q ∷ qs) (s ∷ ss) (t ∷ ts) i j e (suc k) = all_told K h vs ps qs ss ts i.1 j.1 e.1 k
+
+-- THE SLAVES OF WHICH THE FRAME HAS A DATAGRAM, by their turns
+pub turns_under : {G : Ghosts InHand} (lens : ℕ → Lens) (recover : ℕ) (octets : List ℕ) (made : ℕ) (vs : List ServedTurn) (ps : List Post) (ss : List (Stop InHand G)) → AllThree (λ v p s. IsServedUnder lens recover octets made v p s) vs ps ss → (k : ℕ) →
+    holds_at (λ s. s.under) ss k ≡ holds_at (λ v. v.turn.share.under) vs k
+turns_under lens recover octets made [] [] [] h k = refl
+turns_under lens recover octets made [] [] (s ∷ ss) h k = absurd h
+turns_under lens recover octets made [] (p ∷ ps) [] h k = absurd h
+turns_under lens recover octets made [] (p ∷ ps) (s ∷ ss) h k = absurd h
+turns_under lens recover octets made (v ∷ vs) [] [] h k = absurd h
+turns_under lens recover octets made (v ∷ vs) [] (s ∷ ss) h k = absurd h
+turns_under lens recover octets made (v ∷ vs) (p ∷ ps) [] h k = absurd h
+turns_under lens recover octets made (v ∷ vs) (p ∷ ps) (s ∷ ss) h zero = sym h.0.under
+turns_under lens recover octets made (v ∷ vs) (p ∷ ps) (s ∷ ss) h (suc k) = turns_under lens recover octets made vs ps ss h.1 k

@@ -9,26 +9,32 @@ use Rattle.master_side.specs.declared.hand.Heard.{Heard}
 use Rattle.master_side.specs.declared.passing.Passing.{Passing}
 use Rattle.master_tour.specs.declared.stop.Stop.{Stop}
 use Rattle.master_node.specs.Handed.{work_at}
-use Rattle.master_node.specs.Listing.{events_in}
+use Rattle.master_node.specs.Listing.{events_before, events_in}
 use Rattle.master_node.specs.declared.event.Event.{Event}
 use Rattle.master_node.specs.declared.node.MasterNode.{MasterNode}
 use Rattle.master_node.specs.declared.post.Work.{Work}
 
--- those events that are told to who asked: a reply, and that no more follows
+-- those events of which who asked gets to know: a reply, that no more follows, what came into hand, and a give-up
 abbrev pub is_gateway : Event → Bool
 is_gateway (Event.GatewayReply key mail) = true
 is_gateway (Event.GatewayDone key) = true
-is_gateway (Event.Began slave origin) = false
+is_gateway (Event.Began slave origin) = true
 is_gateway (Event.Answered slave kind) = false
 is_gateway (Event.Emergency slave octets) = false
-is_gateway (Event.GivenUp slave) = false
+is_gateway (Event.GivenUp slave) = true
 is_gateway (Event.Cleared slave own) = false
 is_gateway (Event.Opened slave) = false
 
--- A STEP TELLS JUST THIS to who asked, where the list has room for so many events more
+-- A STEP TELLS JUST THIS to who asked, where the list has room for so many events more; what was listed before the step stays
 pub record TellsBesides (room : ℕ) (es : List Event) (m n : MasterNode) : Type 0 where
   pub told : m.list.count + room ≤ 97 → filter is_gateway (events_in n) ≡ filter is_gateway (events_in m) ++ es
   pub few : n.list.count ≤ m.list.count + room
+  pub head : events_before n ≡ events_before m
+
+-- a slave is given up, or not
+abbrev pub gone_told : Bool → ℕ → List Event
+gone_told true place = Event.GivenUp place ∷ []
+gone_told false place = []
 
 -- a reply is told under the key of the asker, without address and counter
 abbrev pub reply_told : ℕ → Option Mail → List Event

@@ -1,14 +1,15 @@
 -- WHAT A FRAME THAT CAME BACK TELLS TO WHO ASKED, by the lives of the slaves: the replies of a mail that is passed on, and its end.
-use Rattle.std.specs.Prelude.{◌≡◌, ◌≤◌, ℕ, zero, suc, Bool, true, false, if◌then◌else◌, is_some, Option, Some, None, List, [], ◌∷◌, ◌++◌, filter, Ok, Err}
+use Rattle.std.specs.Prelude.{◌≡◌, ◌≤◌, ◌&&◌, ℕ, zero, suc, Bool, true, false, if◌then◌else◌, is_some, Option, Some, None, List, [], ◌∷◌, ◌++◌, filter, Ok, Err}
 use Rattle.master_duty.specs.Reply.{Reply}
 use Rattle.master_duty.specs.of_segment_model.Slaves.{Datagram}
 use Rattle.master_hand.specs.Spoken.{Asked}
 use Rattle.master_side.specs.of_link_mails.Body.{Body}
 use Rattle.master_tour.specs.Brings.{accepted_in}
+use Rattle.master_tour.specs.Goes.{holds_at}
 use Rattle.master_tour.specs.of_life_model.Lives.{Life}
 use Rattle.served_runs.specs.Served.{Serves, ServedTurn}
 use Rattle.served_runs.specs.Told.{Passed, replies_in}
-use Rattle.master_node.specs.Besides.{is_gateway}
+use Rattle.master_node.specs.Besides.{gone_told, is_gateway}
 use Rattle.master_node.specs.Listing.{events_in, told_in}
 use Rattle.master_node.specs.Named.{is_left}
 use Rattle.master_node.specs.declared.event.Event.{Event}
@@ -46,6 +47,6 @@ lives_told back (v ∷ vs) (w ∷ ws) (suc k) = lives_told back vs ws k
 abbrev pub TellsGateway : (ℕ → List Event) → MasterNode → MasterNode → Type 0
 TellsGateway tells m n = m.list.before ≤ 16 → filter is_gateway (events_in n) ≡ told_in tells m.tour.visit.items
 
--- and a lost frame tells nothing to who asked
-abbrev pub TellsNone : MasterNode → MasterNode → Type 0
-TellsNone m n = m.list.before ≤ 16 → filter is_gateway (events_in n) ≡ []
+-- behind a lost frame who asked is told of the slave at a place that it was given up, where each is that the frame carried
+abbrev pub gone_by : Bool → List ServedTurn → ℕ → List Event
+gone_by gives vs k = gone_told (gives && holds_at (λ v. v.turn.share.under) vs k) k

@@ -40,9 +40,10 @@ impl MasterNode {
     ghost use Rattle.master_node.specs.Shows.{MasterShows, MasterUnder};
     ghost use Rattle.master_node.specs.Serving.{TellsOnly, ServedShows, ServedUnder, mails_in};
     ghost use Rattle.master_node.specs.Dropped.{Drops, gave_at};
-    ghost use Rattle.master_node.specs.Besides.{TellsBesides, TellsHeard, TellsOver, gateway_at, over_told, reply_told, told_by, turned_room};
-    ghost use Rattle.master_node.specs.Listing.{told_in};
-    ghost use Rattle.master_node.specs.Gateways.{TellsGateway, TellsNone, lives_told};
+    ghost use Rattle.master_node.specs.Besides.{TellsBesides, TellsHeard, TellsOver, gateway_at, gone_told, over_told, reply_told, told_by, turned_room};
+    ghost use Rattle.master_node.specs.Listed.{listed};
+    ghost use Rattle.master_node.specs.Listing.{events_before, events_in, told_in};
+    ghost use Rattle.master_node.specs.Gateways.{TellsGateway, gone_by, lives_told};
     ghost use Rattle.master_hand.specs.Replied.{reply_kept};
     ghost use Rattle.master_tour.specs.Orders.{AreOnce};
     ghost use Rattle.std.specs.Prelude.{Some};
@@ -55,7 +56,7 @@ impl MasterNode {
     ghost use Rattle.master_tour.specs.Toured.{goes_on, lost_on};
     ghost use Rattle.master_node.specs.Shows.{is_opening_lead};
     ghost use Rattle.master_node.specs.Toured.{tour_of};
-    ghost use Rattle.std.specs.Prelude.{[], true};
+    ghost use Rattle.std.specs.Prelude.{[], ◌++◌, take, true};
     ghost use Rattle.master_node.specs.Eager.{AllVisit, recalls};
     ghost use Rattle.master_node.specs.Recalled.{AllRecall};
 
@@ -311,6 +312,7 @@ impl MasterNode {
         ensures listed { Lists (arrivals_in self.old.lan.ports.items (λ p. heard_at self.old.tour.stops.items p) self.old.tour.visit.items) self.old.lan self.new.lan }
         ensures tells { TellsOnly self.old self.new }
         ensures works { EndsWork (λ k. passing_at self.old.tour.stops.items k) self.old.tour.visit.items self.old.posts.items self.new.posts.items }
+        ensures head { events_before self.new ≡ events_before self.old }
         ensures gateway { AreOnce self.old.tour.visit.items → TellsBesides 80 (told_in (gateway_at self.old) self.old.tour.visit.items) self.old self.new }
     {
         for k in 0..self.tour.visit.len() {
@@ -339,6 +341,7 @@ impl MasterNode {
             AllVisit (seen lens octets) (recalls self.old) us → AllRecall lens (seen lens frame.now.items) us (recalls self.old) (recalls self.new) }
         ensures gateway { (lens : ℕ → Lens) (recover retry missed made : ℕ) (octets : List ℕ) (vs : List ServedTurn) (f : Exchanged) → f.fate ≡ Fate.Pass → f.back ≡ frame.now.items → ServedUnder lens recover retry self.old octets missed made vs → Returns (seen lens octets) (seen lens frame.now.items) →
             TellsGateway (λ k. lives_told (seen lens frame.now.items) vs (map (served_behind lens recover retry (gives_up_at lens recover retry missed) made f) vs) k) self.old self.new }
+        ensures whole { listed self.new.list.rows.items self.new.list.count ≡ take self.old.list.before self.old.list.rows.items ++ events_in self.new }
     {
         self.list.ends();
         self.lan.begins();
@@ -387,7 +390,7 @@ impl MasterNode {
         ensures mails { Drops (λ p. gave_at self.old.tour.stops.items p) (place ∷ []) (mails_in self.old) (mails_in self.new) }
         ensures listed { Lists (down_by (port_by (slice_get self.old.lan.ports.items place)) (gives_at self.old.tour.stops.items place)) self.old.lan self.new.lan }
         ensures works { DropsWork (λ p. gave_at self.old.tour.stops.items p) (place ∷ []) self.old.posts.items self.new.posts.items }
-        ensures gateway { TellsBesides 1 [] self.old self.new }
+        ensures gateway { TellsBesides 1 (gone_told (gave_at self.old.tour.stops.items place) place) self.old self.new }
     {
         if !is_given_up(self.tour.stops[place].news) {
             return;
@@ -408,7 +411,7 @@ impl MasterNode {
         ensures mails { Drops (λ p. gave_at self.old.tour.stops.items p) (place ∷ []) (mails_in self.old) (mails_in self.new) }
         ensures listed { Lists (down_by (port_by (slice_get self.old.lan.ports.items place)) (gives_at self.old.tour.stops.items place)) self.old.lan self.new.lan }
         ensures works { DropsWork (λ p. gave_at self.old.tour.stops.items p) (place ∷ []) self.old.posts.items self.new.posts.items }
-        ensures gateway { TellsBesides 1 [] self.old self.new }
+        ensures gateway { TellsBesides 1 (gone_told (gave_at self.old.tour.stops.items place) place) self.old self.new }
     {
         if place < self.posts.len() {
             self.given_up(place);
@@ -424,7 +427,7 @@ impl MasterNode {
         ensures mails { Drops (λ p. gave_at self.old.tour.stops.items p) self.old.tour.visit.items (mails_in self.old) (mails_in self.new) }
         ensures listed { Lists (downs_in self.old.lan.ports.items (λ p. gives_at self.old.tour.stops.items p) self.old.tour.visit.items) self.old.lan self.new.lan }
         ensures works { DropsWork (λ p. gave_at self.old.tour.stops.items p) self.old.tour.visit.items self.old.posts.items self.new.posts.items }
-        ensures gateway { TellsBesides 16 [] self.old self.new }
+        ensures gateway { TellsBesides 16 (told_in (λ p. gone_told (gave_at self.old.tour.stops.items p) p) self.old.tour.visit.items) self.old self.new }
     {
         for k in 0..self.tour.visit.len() {
             let place = self.tour.visit.as_slice()[k];
@@ -432,7 +435,7 @@ impl MasterNode {
         }
     }
 
-    /// The frame that `next` made was lost. Nothing is told to who asked for a mail to be passed on.
+    /// The frame that `next` made was lost. Who asked for a mail to be passed on is told just which slaves were given up by it.
     pub fn lost(&mut self)
         ensures posts { vec_len self.new.posts ≡ vec_len self.old.posts }
         ensures leads { (lens : ℕ → Lens) (recover retry missed number after : ℕ) (octets : List ℕ) (us : List Turn) (f : Exchanged) → f.fate ≡ Fate.Lost after → f.sent ≡ octets → MasterUnder lens recover retry self.old octets missed us →
@@ -448,7 +451,8 @@ impl MasterNode {
             ServedShows lens recover retry self.new (missed_behind lens recover retry f.fate missed) (suc made) (map (served_behind lens recover retry (gives_up_at lens recover retry missed) made f) vs) }
         ensures counts { (k : ℕ) → forwards_at self.new.posts.items k ≡ forwards_at self.old.posts.items k }
         ensures recalls { (lens : ℕ → Lens) (recover retry missed : ℕ) (octets : List ℕ) (us : List Turn) → MasterUnder lens recover retry self.old octets missed us → AllRecall lens [] us (recalls self.old) (recalls self.new) }
-        ensures gateway { TellsNone self.old self.new }
+        ensures gateway { (lens : ℕ → Lens) (recover retry missed made : ℕ) (octets : List ℕ) (vs : List ServedTurn) → ServedUnder lens recover retry self.old octets missed made vs → TellsGateway (λ k. gone_by (gives_up_at lens recover retry missed) vs k) self.old self.new }
+        ensures whole { listed self.new.list.rows.items self.new.list.count ≡ take self.old.list.before self.old.list.rows.items ++ events_in self.new }
     {
         self.list.ends();
         self.lan.begins();

@@ -23,7 +23,7 @@ use Rattle.master_node.proofs.Listing.{told_push}
 use Rattle.master_node.proofs.node.MasterNode.all_back.Goals as goal
 
 pub loop-k-init : goal.loop-k-init
-loop-k-init c = record { posts = refl; kept = node_refl c.args.self.now; tells = tells_refl c.args.self.now; works = ends_same _ c.args.self.now.posts.items; gateway = λ once. besides_none 0 _ _ refl; lan = happens_none 0 _ _ refl; listed = lists_none _ _ _ refl refl }
+loop-k-init c = record { posts = refl; kept = node_refl c.args.self.now; tells = tells_refl c.args.self.now; works = ends_same _ c.args.self.now.posts.items; head = refl; gateway = λ once. besides_none 0 _ _ refl; lan = happens_none 0 _ _ refl; listed = lists_none _ _ _ refl refl }
 
 pub loop-k-preserved : goal.loop-k-preserved
 loop-k-preserved c =
@@ -43,6 +43,7 @@ loop-k-preserved c =
           (ends_then (λ j. passing_at m.tour.stops.items j) (take k m.tour.visit.items) (get_or m.tour.visit.items k 0 ∷ []) m.posts.items c.loop-k.self.posts.items c.back_at.new.self.posts.items inv.works
           (ends_from _ (λ j. passing_at c.loop-k.self.tour.stops.items j) (get_or m.tour.visit.items k 0 ∷ []) _ _ (λ j. ap (λ z. passing_at z.stops.items j) inv.tells.tour)
           (subst (λ z. EndsWork (λ j. passing_at c.loop-k.self.tour.stops.items j) (get_or z k 0 ∷ []) c.loop-k.self.posts.items c.back_at.new.self.posts.items) (sym same) step.works)));
+      head = step.gateway.head ∙ inv.head;
       gateway = λ once.
           let v = m.tour.visit.items in
           let p = get_or v k 0 in

@@ -1,7 +1,7 @@
 use Rattle.std.proofs.Common.{◌≡◌, ◌*◌, vec_len, take}
 use Rattle.master_tour.specs.Orders.{AreOnce}
 use Rattle.master_node.specs.Besides.{TellsBesides, gateway_at}
-use Rattle.master_node.specs.Listing.{told_in}
+use Rattle.master_node.specs.Listing.{events_before, told_in}
 use Rattle.master_node.specs.Arrivals.{arrivals_in, heard_at}
 use Rattle.master_node.specs.Downs.{Lists}
 use Rattle.master_node.specs.Handed.{EndsWork, passing_at}
@@ -16,6 +16,7 @@ invariant-loop-k l = record {
   kept : NodeKept l.initial.self l.self;
   tells : TellsOnly l.initial.self l.self;
   works : EndsWork (λ k. passing_at l.initial.self.tour.stops.items k) (take l.k l.initial.self.tour.visit.items) l.initial.self.posts.items l.self.posts.items;
+  head : events_before l.self ≡ events_before l.initial.self;
   gateway : AreOnce l.initial.self.tour.visit.items → TellsBesides (5 * l.k) (told_in (gateway_at l.initial.self) (take l.k l.initial.self.tour.visit.items)) l.initial.self l.self;
   lan : Happens l.k l.initial.self.lan l.self.lan;
   listed : Lists (arrivals_in l.initial.self.lan.ports.items (λ p. heard_at l.initial.self.tour.stops.items p) (take l.k l.initial.self.tour.visit.items)) l.initial.self.lan l.self.lan;

@@ -13,8 +13,18 @@ use Rattle.master_node.specs.Serving.{mails_in}
 use Rattle.master_node.proofs.Droppeds.{drops_on, drops_start}
 use Rattle.master_node.specs.Handed.{DropsWork}
 use Rattle.master_node.proofs.Endings.{drop_on, drop_start}
+use Rattle.std.proofs.Common.{◌+◌, ℕ, List}
+use Rattle.master_node.specs.Besides.{gone_told}
+use Rattle.master_node.specs.Listing.{told_in}
+use Rattle.master_node.specs.declared.event.Event.{Event}
+use Rattle.master_node.specs.declared.node.MasterNode.{MasterNode}
 use Rattle.master_node.proofs.Besides.{besides_as, besides_none, besides_then}
+use Rattle.master_node.proofs.Listing.{told_push}
 use Rattle.master_node.proofs.node.MasterNode.all_given_up.Goals as goal
+
+-- a slave that was given up
+abbrev gone : MasterNode → ℕ → List Event
+gone m p = gone_told (gave_at m.tour.stops.items p) p
 
 pub loop-k-init : goal.loop-k-init
 loop-k-init c = record {
@@ -41,7 +51,10 @@ loop-k-preserved c =
       kept = node_then _ _ _ step.kept inv.kept;
       lan = happens_then k 1 _ _ _ inv.lan step.lan;
       tour = step.tour ∙ inv.tour;
-      gateway = besides_then k 1 [] [] m c.loop-k.self c.given_up_at.new.self inv.gateway step.gateway;
+      gateway = besides_as (k + 1) (k + 1) _ _ m c.given_up_at.new.self (omega arith)
+          (sym (ap (told_in (gone m)) (take_more m.tour.visit.items k 0 inside) ∙ told_push (gone m) (take k m.tour.visit.items) (get_or m.tour.visit.items k 0)))
+          (besides_then k 1 (told_in (gone m) (take k m.tour.visit.items)) _ m c.loop-k.self c.given_up_at.new.self inv.gateway
+          (besides_as 1 1 _ _ c.loop-k.self c.given_up_at.new.self (omega arith) (λ i. gone_told (gave_at (inv.tour i).stops.items (get_or (sym same i) k 0)) (get_or (sym same i) k 0)) step.gateway));
       works = subst (λ z. DropsWork (λ p. gave_at m.tour.stops.items p) z m.posts.items c.given_up_at.new.self.posts.items) (sym (take_more m.tour.visit.items k 0 inside))
           (drop_on _ (take k m.tour.visit.items) (get_or m.tour.visit.items k 0 ∷ []) m.posts.items c.loop-k.self.posts.items c.given_up_at.new.self.posts.items inv.works
           (subst (λ z. DropsWork (λ p. gave_at z.stops.items p) (get_or m.tour.visit.items k 0 ∷ []) c.loop-k.self.posts.items c.given_up_at.new.self.posts.items) inv.tour
@@ -79,4 +92,6 @@ returns-clause-works c =
     subst (λ z. DropsWork (λ p. gave_at m.tour.stops.items p) z m.posts.items c.loop-k.self.posts.items) (take_all c.loop-k.k m.tour.visit.items (omega (arith, c.loop-k-test.false, c.len-k-end.ensures.value))) c.loop-k.invariant.works
 
 pub returns-clause-gateway : goal.returns-clause-gateway
-returns-clause-gateway c = besides_as c.loop-k.k 16 [] [] c.args.self.now c.loop-k.self (omega arith) refl c.loop-k.invariant.gateway
+returns-clause-gateway c =
+    let m = c.args.self.now in
+    besides_as c.loop-k.k 16 _ _ m c.loop-k.self (omega arith) (ap (told_in (gone m)) (take_all c.loop-k.k m.tour.visit.items (omega (arith, c.loop-k-test.false, c.len-k-end.ensures.value)))) c.loop-k.invariant.gateway

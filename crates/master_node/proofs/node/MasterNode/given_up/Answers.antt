@@ -12,7 +12,11 @@ use Rattle.master_node.specs.Serving.{mails_in}
 use Rattle.master_node.proofs.Droppeds.{drops_none, drops_one}
 use Rattle.master_node.specs.declared.post.Work.{Work}
 use Rattle.master_node.proofs.Endings.{drop_none, drop_one}
-use Rattle.master_node.proofs.Besides.{besides_none, besides_put, besides_then}
+use Rattle.std.proofs.Common.{◌∷◌}
+use Rattle.master_node.specs.Besides.{gone_told}
+use Rattle.master_node.specs.Dropped.{gave_at}
+use Rattle.master_node.specs.declared.event.Event.TheVariants as events
+use Rattle.master_node.proofs.Besides.{besides_as, besides_none, besides_one, besides_then}
 use Rattle.master_node.proofs.node.MasterNode.given_up.Goals as goal
 
 pub returns-clause-kept : goal.returns-clause-kept
@@ -82,7 +86,18 @@ returns-then-not-is_given_up-clause-works c =
 
 pub returns-clause-gateway : goal.returns-clause-gateway
 returns-clause-gateway c =
-    besides_then 0 1 [] [] c.args.self.now c.dropped.new.self _ c.dropped.ensures.gateway (besides_then 1 0 [] [] c.dropped.new.self _ _ (besides_put c.dropped.new.self _ _ c.put.ensures.last c.put.ensures.few refl) c.down_where.ensures.gateway)
+    let m = c.args.self.now in
+    let p = c.args.place in
+    let l : p < length m.tour.stops.items = omega (arith, c.requires, m.paired, m.tour.stops.ok.0) in
+    let gave : gave_at m.tour.stops.items p ≡ true = here_is (λ s. is_given_up s.news) m.tour.stops.items p c.index.result.now true l c.index.ensures (sym c.is_given_up.ensures ∙ c.if-not-is_given_up.false) in
+    besides_as 1 1 _ _ m c.down_where.new.self (omega arith) (sym (ap (λ z. gone_told z p) gave))
+    (besides_then 0 1 [] _ m c.dropped.new.self c.down_where.new.self c.dropped.ensures.gateway
+    (besides_then 1 0 (events.GivenUp p ∷ []) [] c.dropped.new.self _ c.down_where.new.self (besides_one c.dropped.new.self _ _ c.put.ensures.last c.put.ensures.few c.put.ensures.head refl) c.down_where.ensures.gateway))
 
 pub returns-then-not-is_given_up-clause-gateway : goal.returns-then-not-is_given_up-clause-gateway
-returns-then-not-is_given_up-clause-gateway c = besides_none 1 _ _ refl
+returns-then-not-is_given_up-clause-gateway c =
+    let m = c.args.self.now in
+    let p = c.args.place in
+    let l : p < length m.tour.stops.items = omega (arith, c.requires, m.paired, m.tour.stops.ok.0) in
+    let gave : gave_at m.tour.stops.items p ≡ false = here_is (λ s. is_given_up s.news) m.tour.stops.items p c.index.result.now false l c.index.ensures (sym c.is_given_up.ensures ∙ c.if-not-is_given_up.true) in
+    besides_as 1 1 [] _ m m (omega arith) (sym (ap (λ z. gone_told z p) gave)) (besides_none 1 m m refl)

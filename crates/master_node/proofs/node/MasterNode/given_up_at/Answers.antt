@@ -8,7 +8,9 @@ use Rattle.master_node.proofs.Happenings.{happens_none}
 use Rattle.master_node.specs.Serving.{mails_in}
 use Rattle.master_node.proofs.Droppeds.{drops_none}
 use Rattle.master_node.proofs.Endings.{drop_none}
-use Rattle.master_node.proofs.Besides.{besides_none}
+use Rattle.std.proofs.Common.{[], sym}
+use Rattle.master_node.specs.Besides.{gone_told}
+use Rattle.master_node.proofs.Besides.{besides_as, besides_none}
 use Rattle.master_node.proofs.node.MasterNode.given_up_at.Goals as goal
 
 pub returns-else-place-len-clause-kept : goal.returns-else-place-len-clause-kept
@@ -39,4 +41,8 @@ returns-else-place-len-clause-works c =
     drop_none _ p m.posts.items m.posts.items (holds_beyond (λ s. is_given_up s.news) m.tour.stops.items p l) refl
 
 pub returns-else-place-len-clause-gateway : goal.returns-else-place-len-clause-gateway
-returns-else-place-len-clause-gateway c = besides_none 1 _ _ refl
+returns-else-place-len-clause-gateway c =
+    let m = c.args.self.now in
+    let p = c.args.place in
+    let l : length m.tour.stops.items ≤ p = omega (arith, c.if-place-len.false, c.len.ensures, m.paired, m.tour.stops.ok.0) in
+    besides_as 1 1 [] _ m m (omega arith) (sym (ap (λ z. gone_told z p) (holds_beyond (λ s. is_given_up s.news) m.tour.stops.items p l))) (besides_none 1 m m refl)

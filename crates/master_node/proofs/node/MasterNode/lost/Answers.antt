@@ -49,6 +49,12 @@ use Rattle.master_node.proofs.Numbereds.{numbers_behind}
 use Rattle.std.proofs.Common.{[], ◌++◌}
 use Rattle.std.specs.Prelude.{filter}
 use Rattle.master_node.specs.Besides.{is_gateway}
+use Rattle.master_node.specs.Besides.{gone_told}
+use Rattle.master_node.specs.Gateways.{gone_by}
+use Rattle.master_node.specs.Listing.{events_in, told_in}
+use Rattle.master_node.proofs.Besides.{listed_whole}
+use Rattle.master_node.proofs.Gateways.{turns_under}
+use Rattle.master_node.proofs.Listing.{told_same}
 use Rattle.master_node.proofs.node.MasterNode.lost.Goals as goal
 
 pub returns-clause-leads : goal.returns-clause-leads
@@ -189,4 +195,27 @@ returns-clause-served c = λ lens recover retry missed made after octets vs f p 
     }
 
 pub returns-clause-gateway : goal.returns-clause-gateway
-returns-clause-gateway c = λ few. (let before = c.ends.ensures.few in c.all_given_up.ensures.gateway.told (omega (arith, before, few))) ∙ (λ i. filter is_gateway (c.ends.ensures.last i) ++ [])
+returns-clause-gateway c = λ lens recover retry missed made octets vs u few.
+    let m = c.args.self.now in
+    let e = c.lost.ensures in
+    let ss = m.tour.stops.items in
+    let ts = c.lost.new.self.stops.items in
+    let visit = c.lost.new.self.visit.items in
+    let given = not (nat_lt m.tour.missed m.tour.retry) in
+    let gives = gives_up_at lens recover retry missed in
+    let comes : given ≡ gives = λ i. not (nat_lt (u.missed_is i) (u.retry_is i)) in
+    let gave = Losts.gave_all (λ v q s. IsServedUnder lens recover octets made v q s) _ (λ t. is_given_up t.news) (λ s. s.under) given
+    (λ v q s t i y.
+    let l = v.turn.lived.life in
+    let spot = v.turn.lived.spot in
+    let follows = y.0 (speech_at lens spot) is_followed is_passed made recover spot [] l i.served.lives.planned.stands i.way i.served.lives.shown in
+    given_is (speech_at lens spot) recover made spot (seen lens octets) (given && s.under) l t.news follows.told) vs m.posts.items ss ts u.each (e.lives lens octets) in
+    let before = c.ends.ensures.few in
+    let tells = λ (k : ℕ). gone_told (gave_at ts k) k in
+    c.all_given_up.ensures.gateway.told (omega (arith, before, few))
+    ∙ (λ i. filter is_gateway (c.ends.ensures.last i) ++ told_in tells visit)
+    ∙ told_same tells (λ k. gone_by gives vs k) visit (λ k w. ap (λ z. gone_told z k) (gave k ∙ (λ i. comes i && turns_under lens recover octets made vs m.posts.items ss u.each k i)))
+    ∙ ap (λ z. told_in (λ k. gone_by gives vs k) z.items) e.tour.0
+
+pub returns-clause-whole : goal.returns-clause-whole
+returns-clause-whole c = listed_whole c.all_given_up.new.self ∙ ap (λ z. z ++ events_in c.all_given_up.new.self) (c.all_given_up.ensures.gateway.head ∙ c.ends.ensures.head)

@@ -34,7 +34,7 @@ returns-then-is_none-clause-gateway c =
     let l : c.args.place < length ss = omega (arith, c.requires, m.paired, m.tour.stops.ok.0) in
     besides_as 2 2 _ _ m _ (omega arith)
     (sym (told_here (λ s. over_told c.args.key s.side.passing) ss c.args.place c.index.result.now l c.index.ensures ∙ over_none c.args.key c.index.result.now.side.passing (c.is_none.ensures ∙ ap not c.if-is_none.true)))
-    (besides_then 1 1 [] _ m c.answered.new.self _ c.answered.ensures.gateway (besides_one c.answered.new.self _ _ c.put.ensures.last c.put.ensures.few refl))
+    (besides_then 1 1 [] _ m c.answered.new.self _ c.answered.ensures.gateway (besides_one c.answered.new.self _ _ c.put.ensures.last c.put.ensures.few c.put.ensures.head refl))
 
 pub returns-else-is_none-clause-gateway : goal.returns-else-is_none-clause-gateway
 returns-else-is_none-clause-gateway c =

@@ -36,7 +36,7 @@ returns-in-Some-clause-gateway c =
     besides_as 1 1 _ _ m _ (omega arith)
     (ap (λ z. Event.GatewayReply c.args.key z ∷ []) (bare_is c.in-Some.mail.now _ b.local.0 b.local.1 b.same.0 b.same.1)
     ∙ sym (told_here (λ s. reply_told c.args.key (reply_kept s.side.hand.found)) ss c.args.place c.index.result.now l c.index.ensures ∙ ap (reply_told c.args.key) (sym c.in-Some.ensures)))
-    (besides_one m _ _ c.put.ensures.last c.put.ensures.few refl)
+    (besides_one m _ _ c.put.ensures.last c.put.ensures.few c.put.ensures.head refl)
 
 pub returns-in_default-clause-gateway : goal.returns-in_default-clause-gateway
 returns-in_default-clause-gateway c =

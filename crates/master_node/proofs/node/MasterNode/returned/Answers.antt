@@ -56,6 +56,8 @@ use Rattle.master_node.specs.Handed.{work_at}
 use Rattle.master_node.specs.Listing.{told_in}
 use Rattle.master_node.proofs.Gateways.{all_told}
 use Rattle.master_node.proofs.Listing.{told_same}
+use Rattle.master_node.specs.Listing.{events_in}
+use Rattle.master_node.proofs.Besides.{listed_whole}
 use Rattle.master_node.proofs.node.MasterNode.returned.Goals as goal
 
 pub returns-clause-leads : goal.returns-clause-leads
@@ -218,3 +220,6 @@ returns-clause-gateway c = λ lens recover retry missed made octets vs f p b u r
     ∙ (λ i. filter is_gateway (c.ends.ensures.last i) ++ told_in tells visit)
     ∙ told_same tells (λ k. lives_told back vs ws k) visit (λ k w. same k)
     ∙ ap (λ z. told_in (λ k. lives_told back vs ws k) z.items) e.tour.0
+
+pub returns-clause-whole : goal.returns-clause-whole
+returns-clause-whole c = listed_whole c.all_back.new.self ∙ ap (λ z. z ++ events_in c.all_back.new.self) (c.all_back.ensures.head ∙ c.ends.ensures.head)

@@ -52,18 +52,18 @@ returns-then-own-clause-works c =
 pub returns-in-Some-Cleared-clause-gateway : goal.returns-in-Some-Cleared-clause-gateway
 returns-in-Some-Cleared-clause-gateway c =
     let m = c.args.self.now in
-    besides_as 1 _ [] [] m _ (turned_least (work_at m.posts.items c.args.place)) refl (besides_put m _ _ c.put.ensures.last c.put.ensures.few refl)
+    besides_as 1 _ [] [] m _ (turned_least (work_at m.posts.items c.args.place)) refl (besides_put m _ _ c.put.ensures.last c.put.ensures.few c.put.ensures.head refl)
 
 pub returns-else-own-clause-gateway : goal.returns-else-own-clause-gateway
 returns-else-own-clause-gateway c =
     let m = c.args.self.now in
-    besides_as 1 _ [] [] m _ (turned_least (work_at m.posts.items c.args.place)) refl (besides_put m _ _ c.put-in-Some-Opened.ensures.last c.put-in-Some-Opened.ensures.few refl)
+    besides_as 1 _ [] [] m _ (turned_least (work_at m.posts.items c.args.place)) refl (besides_put m _ _ c.put-in-Some-Opened.ensures.last c.put-in-Some-Opened.ensures.few c.put-in-Some-Opened.ensures.head refl)
 
 pub returns-then-own-clause-gateway : goal.returns-then-own-clause-gateway
 returns-then-own-clause-gateway c =
     let m = c.args.self.now in
     let room = ap turned_room (c.has_state-own.ensures c.if-own.true) in
-    besides_as 2 _ [] [] m _ (omega (arith, room)) refl (besides_then 1 1 [] [] m _ _ (besides_put m _ _ c.put-in-Some-Opened.ensures.last c.put-in-Some-Opened.ensures.few refl) c.answered.ensures.gateway)
+    besides_as 2 _ [] [] m _ (omega (arith, room)) refl (besides_then 1 1 [] [] m _ _ (besides_put m _ _ c.put-in-Some-Opened.ensures.last c.put-in-Some-Opened.ensures.few c.put-in-Some-Opened.ensures.head refl) c.answered.ensures.gateway)
 
 pub returns-clause-gateway : goal.returns-clause-gateway
 returns-clause-gateway c = besides_none _ _ _ refl
