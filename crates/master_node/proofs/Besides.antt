@@ -202,3 +202,7 @@ most_five (Work.Passed key) = omega arith
 -- the events of a frame are those before its last step, and those of it
 pub listed_whole : (m : MasterNode) → listed m.list.rows.items m.list.count ≡ events_before m ++ events_in m
 listed_whole m = sym (take-append-drop m.list.first (take m.list.count m.list.rows.items))
+
+-- where the list stays, so do they
+pub before_by : (m n : MasterNode) → n.list ≡ m.list → events_before n ≡ events_before m
+before_by m n e = λ i. listed_before (e i).rows.items (e i).first (e i).count

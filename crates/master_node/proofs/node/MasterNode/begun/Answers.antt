@@ -21,6 +21,7 @@ use Rattle.master_node.proofs.Servings.{posts_set}
 use Rattle.master_node.specs.Handed.{work_from}
 use Rattle.std.proofs.Common.{◌≡◌, None}
 use Rattle.master_node.proofs.Numbereds.{numbers_same}
+use Rattle.master_node.proofs.Besides.{before_by}
 use Rattle.master_node.proofs.node.MasterNode.begun.Goals as goal
 
 pub returns-in-None-clause-begun : goal.returns-in-None-clause-begun
@@ -118,3 +119,9 @@ returns-in-Some-clause-works c =
     subst (λ z. StepsAt (λ p q. q.work ≡ work_from z p) c.args.place m.posts.items n.posts.items) (sym c.in-Some.is)
     (subst (λ z. StepsAt (λ p q. q.work ≡ work_from (Some c.in-Some.what) p) c.args.place m.posts.items z.items) (sym c.pass_by.ensures.posts)
     (steps_set (λ p q. q.work ≡ work_from (Some c.in-Some.what) p) c.args.place m.posts.items c.index_mut.result.now _ k c.index_mut.ensures.value c.begin-origin.ensures.work))
+
+pub returns-in-None-clause-head : goal.returns-in-None-clause-head
+returns-in-None-clause-head c = refl
+
+pub returns-in-Some-clause-head : goal.returns-in-Some-clause-head
+returns-in-Some-clause-head c = before_by _ _ c.pass_by.ensures.list ∙ c.put.ensures.head

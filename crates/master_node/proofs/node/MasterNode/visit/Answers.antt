@@ -71,6 +71,7 @@ use Rattle.master_node.specs.Numbered.{IsNumbered, StaysNumbered}
 use Rattle.master_node.proofs.Lists.{both_each}
 use Rattle.master_node.proofs.ServedSents.{map_map}
 use Rattle.master_node.proofs.ServedTells.{told_visit}
+use Rattle.master_node.proofs.Besides.{before_by}
 use Rattle.master_node.proofs.node.MasterNode.visit.Goals as goal
 
 pub returns-then-not-fits-clause-led : goal.returns-then-not-fits-clause-led
@@ -439,3 +440,9 @@ returns-clause-serves c = λ lens recover made forwards left next ws few d at ov
       listing = listed_step (served_tells ws) forwards left next f.begun (map run_lead ws) m c.came.new.self place here_is what_is (subst (λ z. AreDistinct z) (sym (map_map lived_of run_lead ws)) d) told.0 at over fewer
           (listed_visit (served_tells ws) place (where_began r coming) what_is m _ c.came.new.self c.lay.ensures.list few told.1 c.came.ensures.lists) f.listing;
     }
+
+pub returns-then-not-fits-clause-head : goal.returns-then-not-fits-clause-head
+returns-then-not-fits-clause-head c = refl
+
+pub returns-clause-head : goal.returns-clause-head
+returns-clause-head c = c.came.ensures.head ∙ before_by _ _ c.lay.ensures.list
