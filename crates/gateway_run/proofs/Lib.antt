@@ -4,5 +4,6 @@ pub mod Desks
 pub mod Ended
 pub mod Judged
 pub mod Room
+pub mod Rooms
 pub mod Told
 pub mod Turns

@@ -2,6 +2,8 @@ pub mod Stops
 pub mod Events
 pub mod Heard
 pub mod Account
+pub mod Rooms
 pub mod Desk
 pub mod Serving
 pub mod Served
+pub mod Replies
