@@ -1,5 +1,6 @@
 pub mod Accounts
 pub mod Cut
+pub mod Desking
 pub mod Desks
 pub mod Ended
 pub mod Judged
