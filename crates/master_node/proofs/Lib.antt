@@ -42,6 +42,8 @@ pub mod Handeds
 pub mod Handings
 pub mod Endings
 mod Besides
+mod ToldFew
+mod Filtered
 mod Gateways
 pub mod Mailed
 pub mod FreeKept

@@ -48,7 +48,11 @@ use Rattle.master_node.specs.Handed.{work_at}
 use Rattle.master_node.proofs.Numbereds.{numbers_behind}
 use Rattle.std.proofs.Common.{[], ◌++◌}
 use Rattle.std.specs.Prelude.{filter}
-use Rattle.master_node.specs.Besides.{is_gateway}
+use Rattle.master_node.specs.Besides.{given_at}
+use Rattle.master_node.specs.Gateways.{is_gateway}
+use Rattle.master_node.specs.Listing.{told_in}
+use Rattle.master_node.proofs.Filtered.{filter_told, none_asked}
+use Rattle.master_node.proofs.ToldFew.{given_few, told_few}
 use Rattle.master_node.proofs.node.MasterNode.lost.Goals as goal
 
 pub returns-clause-leads : goal.returns-clause-leads
@@ -189,4 +193,12 @@ returns-clause-served c = λ lens recover retry missed made after octets vs f p 
     }
 
 pub returns-clause-gateway : goal.returns-clause-gateway
-returns-clause-gateway c = λ few. (let before = c.ends.ensures.few in c.all_given_up.ensures.gateway.told (omega (arith, before, few))) ∙ (λ i. filter is_gateway (c.ends.ensures.last i) ++ [])
+returns-clause-gateway c = λ few.
+    let before = c.ends.ensures.few in
+    let ss = c.lost.new.self.stops.items in
+    let visit = c.lost.new.self.visit.items in
+    let most : length visit ≤ 16 = omega (arith, c.lost.new.self.visit.few) in
+    ap (filter is_gateway) (c.all_given_up.ensures.told.told (omega (arith, before, few, told_few 1 (λ k. given_at ss k) (λ k. given_few ss k) visit, most)))
+    ∙ (λ i. filter is_gateway (c.ends.ensures.last i ++ told_in (λ k. given_at ss k) visit))
+    ∙ filter_told (λ k. given_at ss k) visit
+    ∙ none_asked ss visit

@@ -3,10 +3,12 @@ use Rattle.master_node.proofs.Tells.{node_refl, node_told}
 use Rattle.master_node.proofs.Servings.{tells_refl, tells_told}
 use Rattle.master_node.proofs.Endings.{ends_other, ends_told}
 use Rattle.std.proofs.Common.{sym, ◌∙◌}
-use Rattle.std.proofs.Common.{[], ap, arith}
+use Rattle.std.proofs.Common.{◌<◌, ◌∷◌, [], ap, arith, length, true, false}
+use Rattle.mailbox_mail.specs.declared.outcome.ReplyKind.{ReplyKind}
 use Rattle.master_node.specs.Handed.{work_at}
-use Rattle.master_node.specs.Besides.{turned_room}
-use Rattle.master_node.proofs.Besides.{besides_as, besides_none, besides_put, besides_then, turned_least}
+use Rattle.master_node.specs.Besides.{answers, opened_where, stays, turned_does, turned_where}
+use Rattle.master_node.specs.declared.event.Event.{Event}
+use Rattle.master_node.proofs.Besides.{besides_one, does_as, does_none, does_then, does_told, so_here, state_is}
 use Rattle.master_node.proofs.node.MasterNode.turned.Goals as goal
 
 pub returns-in-Some-Cleared-clause-kept : goal.returns-in-Some-Cleared-clause-kept
@@ -47,26 +49,57 @@ returns-2-clause-works c = ends_told _ _ _ refl
 
 pub returns-then-own-clause-works : goal.returns-then-own-clause-works
 returns-then-own-clause-works c =
-    ends_other _ c.args.place c.args.self.now.posts.items c.answered.new.self.posts.items c.answered.ensures.works (λ key e. (let state = c.has_state-own.ensures c.if-own.true in let bad = sym state ∙ e in absurd (cc)))
+    ends_other _ c.args.place c.args.self.now.posts.items c.answered.new.self.posts.items c.answered.ensures.works (λ key e. (let state = state_is (work_at c.args.self.now.posts.items c.args.place) (sym c.has_state-own.ensures ∙ c.if-own.true) in let bad = sym state ∙ e in absurd (cc)))
 
-pub returns-in-Some-Cleared-clause-gateway : goal.returns-in-Some-Cleared-clause-gateway
-returns-in-Some-Cleared-clause-gateway c =
+pub returns-in-Some-Cleared-clause-told : goal.returns-in-Some-Cleared-clause-told
+returns-in-Some-Cleared-clause-told c =
     let m = c.args.self.now in
-    besides_as 1 _ [] [] m _ (turned_least (work_at m.posts.items c.args.place)) refl (besides_put m _ _ c.put.ensures.last c.put.ensures.few refl)
+    let place = c.args.place in
+    let s = c.index.result.now in
+    let w = work_at m.posts.items place in
+    let l : place < length m.tour.stops.items = omega (arith, c.requires, m.paired, m.tour.stops.ok.0) in
+    so_here (λ t v. turned_does place t v) place m _ s l c.index.ensures
+    (does_as place _ (turned_does place s w) m _ ((λ i. record { told = Event.Cleared place (c.has_state-own.ensures i) ∷ []; work = w }) ∙ ?h)
+    (does_told place (Event.Cleared place c.has_state-own.result ∷ []) m _ (besides_one m _ _ c.put.ensures.last c.put.ensures.few) refl))
 
-pub returns-else-own-clause-gateway : goal.returns-else-own-clause-gateway
-returns-else-own-clause-gateway c =
+pub returns-else-own-clause-told : goal.returns-else-own-clause-told
+returns-else-own-clause-told c =
     let m = c.args.self.now in
-    besides_as 1 _ [] [] m _ (turned_least (work_at m.posts.items c.args.place)) refl (besides_put m _ _ c.put-in-Some-Opened.ensures.last c.put-in-Some-Opened.ensures.few refl)
+    let place = c.args.place in
+    let s = c.index.result.now in
+    let w = work_at m.posts.items place in
+    let l : place < length m.tour.stops.items = omega (arith, c.requires, m.paired, m.tour.stops.ok.0) in
+    so_here (λ t v. turned_does place t v) place m _ s l c.index.ensures
+    (does_as place _ (turned_does place s w) m _ (ap (λ z. opened_where place z w) (sym (sym c.has_state-own.ensures ∙ c.if-own.false)) ∙ ?h)
+    (does_told place (Event.Opened place ∷ []) m _ (besides_one m _ _ c.put-in-Some-Opened.ensures.last c.put-in-Some-Opened.ensures.few) refl))
 
-pub returns-then-own-clause-gateway : goal.returns-then-own-clause-gateway
-returns-then-own-clause-gateway c =
+pub returns-then-own-clause-told : goal.returns-then-own-clause-told
+returns-then-own-clause-told c =
     let m = c.args.self.now in
-    let room = ap turned_room (c.has_state-own.ensures c.if-own.true) in
-    besides_as 2 _ [] [] m _ (omega (arith, room)) refl (besides_then 1 1 [] [] m _ _ (besides_put m _ _ c.put-in-Some-Opened.ensures.last c.put-in-Some-Opened.ensures.few refl) c.answered.ensures.gateway)
+    let place = c.args.place in
+    let s = c.index.result.now in
+    let w = work_at m.posts.items place in
+    let l : place < length m.tour.stops.items = omega (arith, c.requires, m.paired, m.tour.stops.ok.0) in
+    so_here (λ t v. turned_does place t v) place m _ s l c.index.ensures
+    (does_as place _ (turned_does place s w) m _ (ap (λ z. opened_where place z w) (sym (sym c.has_state-own.ensures ∙ c.if-own.true)) ∙ ?h)
+    (does_then place (record { told = Event.Opened place ∷ []; work = w }) (λ v. answers place ReplyKind.Done) m _ _ (does_told place (Event.Opened place ∷ []) m _ (besides_one m _ _ c.put-in-Some-Opened.ensures.last c.put-in-Some-Opened.ensures.few) refl) c.answered.ensures.told))
 
-pub returns-clause-gateway : goal.returns-clause-gateway
-returns-clause-gateway c = besides_none _ _ _ refl
+pub returns-clause-told : goal.returns-clause-told
+returns-clause-told c =
+    let m = c.args.self.now in
+    let place = c.args.place in
+    let s = c.index.result.now in
+    let w = work_at m.posts.items place in
+    let l : place < length m.tour.stops.items = omega (arith, c.requires, m.paired, m.tour.stops.ok.0) in
+    so_here (λ t v. turned_does place t v) place m m s l c.index.ensures
+    (does_as place (stays w) (turned_does place s w) m m ?h (does_none place m m refl refl))
 
-pub returns-2-clause-gateway : goal.returns-2-clause-gateway
-returns-2-clause-gateway c = besides_none _ _ _ refl
+pub returns-2-clause-told : goal.returns-2-clause-told
+returns-2-clause-told c =
+    let m = c.args.self.now in
+    let place = c.args.place in
+    let s = c.index.result.now in
+    let w = work_at m.posts.items place in
+    let l : place < length m.tour.stops.items = omega (arith, c.requires, m.paired, m.tour.stops.ok.0) in
+    so_here (λ t v. turned_does place t v) place m m s l c.index.ensures
+    (does_as place (stays w) (turned_does place s w) m m ?h (does_none place m m refl refl))
