@@ -16,12 +16,12 @@ use Rattle.master_side.specs.declared.passing.Passing.{Passing}
 use Rattle.master_tour.specs.declared.stop.Stop.{Stop}
 use Rattle.master_tour.specs.declared.stop.Turned.{Turned}
 use Rattle.master_node.specs.Answered.{answer_kept}
-use Rattle.master_node.specs.Besides.{answered_does, back_does, back_told, by_stop, emergency_told, given_at, given_told, handed_where, heard_does, mail_does, met_where, over_does, passed_where, reply_told, turned_where}
+use Rattle.master_node.specs.Besides.{answered_does, back_does, by_stop, emergency_told, given_at, given_told, handed_where, heard_does, mail_does, met_where, over_does, passed_where, reply_told, stays, turned_where}
 use Rattle.master_node.specs.Gateways.{is_gateway}
 use Rattle.master_node.specs.Handed.{work_at}
 use Rattle.master_node.specs.Listing.{told_in}
 use Rattle.master_node.specs.declared.event.Event.{Event}
-use Rattle.master_node.specs.declared.node.MasterNode.{MasterNode}
+use Rattle.master_node.specs.declared.post.Post.{Post}
 use Rattle.master_node.specs.declared.post.Work.{Work}
 use Rattle.master_node.proofs.Besides.{stop_on, stop_same}
 
@@ -151,10 +151,11 @@ pub filter_told : (tells : ℕ → List Event) (ps : List ℕ) → filter is_gat
 filter_told tells [] = refl
 filter_told tells (p ∷ ps) = filter-append is_gateway (tells p) (told_in tells ps) ∙ ap (λ z. filter is_gateway (tells p) ++ z) (filter_told tells ps)
 
-pub place_asked : (m : MasterNode) (k : ℕ) → filter is_gateway (back_told m k) ≡ by_stop [] (λ s. gateway_by (work_at m.posts.items k) s) m.tour.stops.items k
-place_asked m k =
-    let w = work_at m.posts.items k in
-    stop_on (λ d. filter is_gateway d.told) _ (λ s. back_does k s w) m.tour.stops.items k ∙ stop_same [] (λ s. filter is_gateway (back_does k s w).told) (λ s. gateway_by w s) m.tour.stops.items k (λ s. back_asked k s w)
+pub place_asked : {G : Ghosts InHand} (ps : List Post) (ss : List (Stop InHand G)) (k : ℕ) →
+    filter is_gateway (by_stop (stays (work_at ps k)) (λ s. back_does k s (work_at ps k)) ss k).told ≡ by_stop [] (λ s. gateway_by (work_at ps k) s) ss k
+place_asked ps ss k =
+    let w = work_at ps k in
+    stop_on (λ d. filter is_gateway d.told) (stays w) (λ s. back_does k s w) ss k ∙ stop_same [] (λ s. filter is_gateway (back_does k s w).told) (λ s. gateway_by w s) ss k (λ s. back_asked k s w)
 
 -- AND A GIVEN-UP SLAVE tells nothing to who asked
 given_asked : {G : Ghosts InHand} (ss : List (Stop InHand G)) (k : ℕ) → filter is_gateway (given_at ss k) ≡ []

@@ -45,6 +45,7 @@ mod Besides
 mod ToldFew
 mod Filtered
 mod Gateways
+mod Turneds
 pub mod Mailed
 pub mod FreeKept
 pub mod ServedVisits

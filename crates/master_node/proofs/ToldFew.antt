@@ -14,11 +14,11 @@ use Rattle.master_side.specs.declared.passing.Passing.{Passing}
 use Rattle.master_tour.specs.declared.stop.Stop.{Stop}
 use Rattle.master_tour.specs.declared.stop.Turned.{Turned}
 use Rattle.master_node.specs.Answered.{answer_kept}
-use Rattle.master_node.specs.Besides.{Does, answered_does, back_does, back_told, by_stop, emergency_told, given_at, given_told, handed_where, heard_does, mail_does, met_where, over_does, passed_where, reply_told, turned_where}
+use Rattle.master_node.specs.Besides.{Does, answered_does, back_does, by_stop, emergency_told, given_at, given_told, handed_where, heard_does, mail_does, met_where, over_does, passed_where, reply_told, stays, turned_where}
 use Rattle.master_node.specs.Handed.{work_at}
 use Rattle.master_node.specs.Listing.{told_in}
 use Rattle.master_node.specs.declared.event.Event.{Event}
-use Rattle.master_node.specs.declared.node.MasterNode.{MasterNode}
+use Rattle.master_node.specs.declared.post.Post.{Post}
 use Rattle.master_node.specs.declared.post.Work.{Work}
 
 -- so many events of each of so many slaves
@@ -107,8 +107,8 @@ back_five place s w =
     let o = over_does place s h.work in
     omega (arith, length-append (h.told ++ o.told) (turned_where place s.news o.work).told, length-append h.told o.told, heard_few place s.side.heard s w, over_three place s h.work)
 
-pub back_few : (m : MasterNode) (k : ℕ) → length (back_told m k) ≤ 5
-back_few m k = stop_all (λ d. length d.told ≤ 5) _ (λ s. back_does k s (work_at m.posts.items k)) (omega arith) (λ s. back_five k s (work_at m.posts.items k)) m.tour.stops.items k
+pub back_few : {G : Ghosts InHand} (ps : List Post) (ss : List (Stop InHand G)) (k : ℕ) → length (by_stop (stays (work_at ps k)) (λ s. back_does k s (work_at ps k)) ss k).told ≤ 5
+back_few ps ss k = stop_all (λ d. length d.told ≤ 5) (stays (work_at ps k)) (λ s. back_does k s (work_at ps k)) (omega arith) (λ s. back_five k s (work_at ps k)) ss k
 
 -- AND ONE of a slave that was given up
 pub given_few : {G : Ghosts InHand} (ss : List (Stop InHand G)) (k : ℕ) → length (given_at ss k) ≤ 1

@@ -43,6 +43,7 @@ pub mod Listing
 pub mod Answered
 pub mod Besides
 pub mod Gateways
+pub mod Lifetold
 pub mod Arrivals
 pub mod Eager
 pub mod Resting

@@ -21,7 +21,7 @@ fn is_given_up(news: Option<Turned>) -> bool
 }
 
 impl MasterNode {
-    ghost use Rattle.std.specs.Prelude.{◌≡◌, ◌<◌, ◌&&◌, not, ℕ, Option, List, map, length, slice_get};
+    ghost use Rattle.std.specs.Prelude.{◌≡◌, ◌<◌, ◌≤◌, ◌&&◌, not, ℕ, Option, List, map, length, slice_get};
     ghost use Rattle.master_tour.specs.Goes.{is_live, holds_at};
     ghost use Rattle.master_node.specs.Arrivals.{arrive_by, arrivals_in, packets_of, kept_at, heard_at, completed_at, ComeIn};
     ghost use Rattle.master_node.specs.Downs.{Lists, down_by, downs_in, is_given_up, gives_at, GoDown};
@@ -43,6 +43,7 @@ impl MasterNode {
     ghost use Rattle.master_node.specs.Besides.{DoesAt, DoesSo, TellsAll, accepted_does, answers, back_does, back_told, complete_does, emitted_does, given_at, handed_does, heard_does, is_state, met_does, over_does, passed_does, replied_does, turned_does};
     ghost use Rattle.master_node.specs.Listing.{told_in};
     ghost use Rattle.master_node.specs.Gateways.{TellsGateway, TellsNone, lives_told};
+    ghost use Rattle.master_node.specs.Lifetold.{TellsJust, lost_at};
     ghost use Rattle.master_tour.specs.Orders.{AreOnce};
     ghost use Rattle.std.specs.Prelude.{Some};
     ghost use Rattle.master_node.specs.Handed.{DropsWork, EndsWork, NonePassed, passing_at, work_at};
@@ -206,7 +207,8 @@ impl MasterNode {
         match self.tour.stops[place].side.duty {
             Some(Met::Reached) => self.answered(place, ReplyKind::Done),
             Some(Met::Refused(code)) => self.answered(place, ReplyKind::StateRefused(code)),
-            Some(Met::On(_)) | None => {}
+            Some(Met::On(_)) => {}
+            None => {}
         }
     }
 
@@ -256,7 +258,8 @@ impl MasterNode {
                     self.answered(place, ReplyKind::Done);
                 }
             }
-            Some(Turned::GivenUp) | None => {}
+            Some(Turned::GivenUp) => {}
+            None => {}
         }
     }
 
@@ -430,6 +433,7 @@ impl MasterNode {
         ensures listed { Lists (downs_in self.old.lan.ports.items (λ p. gives_at self.old.tour.stops.items p) self.old.tour.visit.items) self.old.lan self.new.lan }
         ensures works { DropsWork (λ p. gave_at self.old.tour.stops.items p) self.old.tour.visit.items self.old.posts.items self.new.posts.items }
         ensures told { TellsAll (told_in (λ k. given_at self.old.tour.stops.items k) self.old.tour.visit.items) self.old self.new }
+        ensures few { length self.old.tour.visit.items ≤ 16 }
     {
         for k in 0..self.tour.visit.len() {
             let place = self.tour.visit.as_slice()[k];
@@ -437,7 +441,7 @@ impl MasterNode {
         }
     }
 
-    /// The frame that `next` made was lost. Nothing is told to who asked for a mail to be passed on.
+    /// The frame that `next` made was lost. Just that slaves were given up is told, and nothing to who asked for a mail to be passed on.
     pub fn lost(&mut self)
         ensures posts { vec_len self.new.posts ≡ vec_len self.old.posts }
         ensures leads { (lens : ℕ → Lens) (recover retry missed number after : ℕ) (octets : List ℕ) (us : List Turn) (f : Exchanged) → f.fate ≡ Fate.Lost after → f.sent ≡ octets → MasterUnder lens recover retry self.old octets missed us →
@@ -453,6 +457,8 @@ impl MasterNode {
             ServedShows lens recover retry self.new (missed_behind lens recover retry f.fate missed) (suc made) (map (served_behind lens recover retry (gives_up_at lens recover retry missed) made f) vs) }
         ensures counts { (k : ℕ) → forwards_at self.new.posts.items k ≡ forwards_at self.old.posts.items k }
         ensures recalls { (lens : ℕ → Lens) (recover retry missed : ℕ) (octets : List ℕ) (us : List Turn) → MasterUnder lens recover retry self.old octets missed us → AllRecall lens [] us (recalls self.old) (recalls self.new) }
+        ensures told { (lens : ℕ → Lens) (recover retry missed made after : ℕ) (octets : List ℕ) (vs : List ServedTurn) (f : Exchanged) → f.fate ≡ Fate.Lost after → f.sent ≡ octets → ServedUnder lens recover retry self.old octets missed made vs →
+            TellsJust (λ k. lost_at vs (map (served_behind lens recover retry (gives_up_at lens recover retry missed) made f) vs) k) self.old self.new }
         ensures gateway { TellsNone self.old self.new }
     {
         self.list.ends();

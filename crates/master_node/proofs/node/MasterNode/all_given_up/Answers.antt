@@ -13,7 +13,7 @@ use Rattle.master_node.specs.Serving.{mails_in}
 use Rattle.master_node.proofs.Droppeds.{drops_on, drops_start}
 use Rattle.master_node.specs.Handed.{DropsWork}
 use Rattle.master_node.proofs.Endings.{drop_on, drop_start}
-use Rattle.std.proofs.Common.{◌++◌, ◌+◌, ℕ}
+use Rattle.std.proofs.Common.{◌++◌, ◌+◌, ◌≤◌, ℕ}
 use Rattle.master_node.specs.Besides.{given_at}
 use Rattle.master_node.specs.Listing.{told_in}
 use Rattle.master_node.proofs.Besides.{besides_as, besides_none, besides_then}
@@ -96,3 +96,6 @@ returns-clause-told c =
     let k = c.loop-k.k in
     let tells = λ (j : ℕ). given_at m.tour.stops.items j in
     besides_as (told_in tells (take k m.tour.visit.items)) (told_in tells m.tour.visit.items) m c.loop-k.self (ap (told_in tells) (take_all k m.tour.visit.items (omega (arith, c.loop-k-test.false, c.len-k-end.ensures.value)))) c.loop-k.invariant.told
+
+pub returns-clause-few : goal.returns-clause-few
+returns-clause-few c = omega (arith, c.len-k-end.ensures.value, c.len-k-end.ensures.fits)

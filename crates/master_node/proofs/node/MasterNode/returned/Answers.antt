@@ -50,7 +50,7 @@ use Rattle.master_node.proofs.Numbereds.{numbers_behind}
 use Rattle.std.proofs.Common.{◌++◌}
 use Rattle.std.specs.Prelude.{filter}
 use Rattle.master_tour.specs.Orders.{AreOnce}
-use Rattle.master_node.specs.Besides.{back_told, by_stop}
+use Rattle.master_node.specs.Besides.{back_does, by_stop, stays}
 use Rattle.master_node.specs.Gateways.{is_gateway, lives_told}
 use Rattle.master_node.specs.Handed.{work_at}
 use Rattle.master_node.specs.Listing.{told_in}
@@ -215,12 +215,13 @@ returns-clause-gateway c = λ lens recover retry missed made octets vs f p b u r
     let once = subst (λ z. AreOnce z.items) (sym e.tour.0) u.goes.comes.once in
     let before = c.ends.ensures.few in
     let visit = c.returned.new.self.visit.items in
-    let tells = λ (k : ℕ). by_stop [] (λ t. gateway_by (work_at m.posts.items k) t) ts k in
+    let tells = λ (k : ℕ). (by_stop (stays (work_at m.posts.items k)) (λ t. back_does k t (work_at m.posts.items k)) ts k).told in
+    let asked = λ (k : ℕ). by_stop [] (λ t. gateway_by (work_at m.posts.items k) t) ts k in
     let all = c.all_back.ensures.told once in
     let most : length visit ≤ 16 = (let v = ap (λ z. length z.items) e.tour.0 in omega (arith, v, u.fits.few)) in
-    ap (filter is_gateway) (all.told (omega (arith, before, few, told_few 5 _ (λ k. back_few _ k) visit, most)))
-    ∙ (λ i. filter is_gateway (c.ends.ensures.last i ++ told_in (back_told _) visit))
-    ∙ filter_told (back_told _) visit
-    ∙ told_same (λ k. filter is_gateway (back_told _ k)) tells visit (λ k w. place_asked _ k)
-    ∙ told_same tells (λ k. lives_told back vs ws k) visit (λ k w. same k)
+    ap (filter is_gateway) (all.told (omega (arith, before, few, told_few 5 tells (λ k. back_few m.posts.items ts k) visit, most)))
+    ∙ (λ i. filter is_gateway (c.ends.ensures.last i ++ told_in tells visit))
+    ∙ filter_told tells visit
+    ∙ told_same (λ k. filter is_gateway (tells k)) asked visit (λ k w. place_asked m.posts.items ts k)
+    ∙ told_same asked (λ k. lives_told back vs ws k) visit (λ k w. same k)
     ∙ ap (λ z. told_in (λ k. lives_told back vs ws k) z.items) e.tour.0
