@@ -45,7 +45,6 @@ impl MasterNode {
     ghost use Rattle.master_node.specs.Gateways.{TellsGateway, TellsNone, lives_told};
     ghost use Rattle.master_node.specs.Lifetold.{TellsJust, lost_at};
     ghost use Rattle.master_tour.specs.Orders.{AreOnce};
-    ghost use Rattle.std.specs.Prelude.{Some};
     ghost use Rattle.master_node.specs.Handed.{DropsWork, EndsWork, NonePassed, passing_at, work_at};
     ghost use Rattle.master_node.specs.declared.post.Work.{Work};
     ghost use Rattle.master_tour.specs.Walks.{StepsAt};

@@ -41,7 +41,7 @@ returns-in-Some-Reached-clause-told c =
     let w = work_at m.posts.items place in
     let l : place < length m.tour.stops.items = omega (arith, c.requires, m.paired, m.tour.stops.ok.0) in
     so_here (λ t v. met_does place t v) place m c.answered.new.self s l c.index.ensures
-    (does_as place (answers place ReplyKind.Done) (met_does place s w) m c.answered.new.self (ap (λ z. met_where place z w) (sym (c.in-Some-Reached.is ∙ ap Some c.in-Some-Reached.field-0-is))) c.answered.ensures.told)
+    (does_as place (answers place ReplyKind.Done) (met_does place s w) m c.answered.new.self (ap (λ z. met_where place z w) (sym (c.in-Some-Reached.is ∙ ap Some (rw c.in-Some-Reached.is at c.in-Some-Reached.field-0-is)))) c.answered.ensures.told)
 
 pub returns-in-Some-Refused-clause-told : goal.returns-in-Some-Refused-clause-told
 returns-in-Some-Refused-clause-told c =
@@ -51,7 +51,7 @@ returns-in-Some-Refused-clause-told c =
     let w = work_at m.posts.items place in
     let l : place < length m.tour.stops.items = omega (arith, c.requires, m.paired, m.tour.stops.ok.0) in
     so_here (λ t v. met_does place t v) place m c.answered-in-Some-Refused.new.self s l c.index.ensures
-    (does_as place (answers place (ReplyKind.StateRefused c.in-Some-Refused.code)) (met_does place s w) m c.answered-in-Some-Refused.new.self (ap (λ z. met_where place z w) (sym (c.in-Some-Refused.is ∙ ap Some c.in-Some-Refused.field-0-is))) c.answered-in-Some-Refused.ensures.told)
+    (does_as place (answers place (ReplyKind.StateRefused c.in-Some-Refused.code)) (met_does place s w) m c.answered-in-Some-Refused.new.self (ap (λ z. met_where place z w) (sym (c.in-Some-Refused.is ∙ ap Some (rw c.in-Some-Refused.is at c.in-Some-Refused.field-0-is)))) c.answered-in-Some-Refused.ensures.told)
 
 pub returns-in-Some-On-clause-told : goal.returns-in-Some-On-clause-told
 returns-in-Some-On-clause-told c =
@@ -61,7 +61,7 @@ returns-in-Some-On-clause-told c =
     let w = work_at m.posts.items place in
     let l : place < length m.tour.stops.items = omega (arith, c.requires, m.paired, m.tour.stops.ok.0) in
     so_here (λ t v. met_does place t v) place m m s l c.index.ensures
-    (does_as place (stays w) (met_does place s w) m m (ap (λ z. met_where place z w) (sym (c.in-Some-On.is ∙ ap Some c.in-Some-On.field-0-is))) (does_none place m m refl refl))
+    (does_as place (stays w) (met_does place s w) m m (ap (λ z. met_where place z w) (sym (c.in-Some-On.is ∙ ap Some (rw c.in-Some-On.is at c.in-Some-On.field-0-is)))) (does_none place m m refl refl))
 
 pub returns-in-None-clause-told : goal.returns-in-None-clause-told
 returns-in-None-clause-told c =
