@@ -208,7 +208,7 @@ returns-clause-told c = λ lens recover retry missed made after octets vs f p b 
     let on = served_behind lens recover retry gives made f in
     let before = c.ends.ensures.few in
     let most : length visit ≤ 16 = c.all_given_up.ensures.few in
-    let same = λ (k : ℕ). turned_all _ _ on (λ news. given_told k news)
+    let same = λ (k : ℕ). turned_all (λ v q s. IsServedUnder lens recover octets made v q s) _ on (λ news. given_told k news)
     (λ v q s t i y.
     let l = v.turn.lived.life in
     let spot = v.turn.lived.spot in
