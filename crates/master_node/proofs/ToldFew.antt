@@ -21,10 +21,14 @@ use Rattle.master_node.specs.declared.event.Event.{Event}
 use Rattle.master_node.specs.declared.post.Post.{Post}
 use Rattle.master_node.specs.declared.post.Work.{Work}
 
--- so many events of each of so many slaves
-pub told_few : (most : ℕ) (tells : ℕ → List Event) → ((k : ℕ) → length (tells k) ≤ most) → (ps : List ℕ) → length (told_in tells ps) ≤ most * length ps
-told_few most tells h [] = omega arith
-told_few most tells h (p ∷ ps) = omega (arith, length-append (tells p) (told_in tells ps), h p, told_few most tells h ps)
+-- five events of each of so many slaves, or one
+pub told_five : (tells : ℕ → List Event) → ((k : ℕ) → length (tells k) ≤ 5) → (ps : List ℕ) → length (told_in tells ps) ≤ 5 * length ps
+told_five tells h [] = omega arith
+told_five tells h (p ∷ ps) = omega (arith, length-append (tells p) (told_in tells ps), h p, told_five tells h ps)
+
+pub told_one : (tells : ℕ → List Event) → ((k : ℕ) → length (tells k) ≤ 1) → (ps : List ℕ) → length (told_in tells ps) ≤ length ps
+told_one tells h [] = omega arith
+told_one tells h (p ∷ ps) = omega (arith, length-append (tells p) (told_in tells ps), h p, told_one tells h ps)
 
 -- of whichever slave stands there
 stop_all : {A : Type 0} {G : Ghosts InHand} (P : A → Type 0) (none : A) (does : Stop InHand G → A) → P none → ((s : Stop InHand G) → P (does s)) → (ss : List (Stop InHand G)) (k : ℕ) → P (by_stop none does ss k)
@@ -108,11 +112,11 @@ back_five place s w =
     omega (arith, length-append (h.told ++ o.told) (turned_where place s.news o.work).told, length-append h.told o.told, heard_few place s.side.heard s w, over_three place s h.work)
 
 pub back_few : {G : Ghosts InHand} (ps : List Post) (ss : List (Stop InHand G)) (k : ℕ) → length (by_stop (stays (work_at ps k)) (λ s. back_does k s (work_at ps k)) ss k).told ≤ 5
-back_few ps ss k = stop_all (λ d. length d.told ≤ 5) (stays (work_at ps k)) (λ s. back_does k s (work_at ps k)) (omega arith) (λ s. back_five k s (work_at ps k)) ss k
+back_few ps ss k = stop_all (λ (d : Does). length d.told ≤ 5) (stays (work_at ps k)) (λ s. back_does k s (work_at ps k)) (omega arith) (λ s. back_five k s (work_at ps k)) ss k
 
 -- AND ONE of a slave that was given up
 pub given_few : {G : Ghosts InHand} (ss : List (Stop InHand G)) (k : ℕ) → length (given_at ss k) ≤ 1
-given_few ss k = stop_all (λ z. length z ≤ 1) [] (λ s. given_told k s.news) (omega arith) (λ s. go s.news) ss k
+given_few ss k = stop_all (λ (z : List Event). length z ≤ 1) [] (λ s. given_told k s.news) (omega arith) (λ s. go s.news) ss k
   where
     go : (news : Option Turned) → length (given_told k news) ≤ 1
     go None = omega arith

@@ -56,7 +56,7 @@ use Rattle.master_node.proofs.Turneds.{lost_turned, turned_all}
 use Rattle.master_node.specs.Gateways.{is_gateway}
 use Rattle.master_node.specs.Listing.{told_in}
 use Rattle.master_node.proofs.Filtered.{filter_told, none_asked}
-use Rattle.master_node.proofs.ToldFew.{given_few, told_few}
+use Rattle.master_node.proofs.ToldFew.{given_few, told_one}
 use Rattle.master_node.proofs.node.MasterNode.lost.Goals as goal
 
 pub returns-clause-leads : goal.returns-clause-leads
@@ -216,7 +216,7 @@ returns-clause-told c = λ lens recover retry missed made after octets vs f p b 
     let follows = y.0 (speech_at lens spot) is_followed is_passed made recover spot news l i.served.lives.planned.stands i.way i.served.lives.shown in
     lost_turned lens recover retry gives given made f octets after p b comes v q s t.news i follows.told)
     vs m.posts.items ss ts u.each (c.lost.ensures.lives lens octets) k in
-    c.all_given_up.ensures.told.told (omega (arith, before, few, told_few 1 (λ k. given_at ts k) (λ k. given_few ts k) visit, most))
+    c.all_given_up.ensures.told.told (omega (arith, before, few, told_one (λ k. given_at ts k) (λ k. given_few ts k) visit, most))
     ∙ (λ i. c.ends.ensures.last i ++ told_in (λ k. given_at ts k) visit)
     ∙ told_same (λ k. given_at ts k) (λ k. lost_at vs (map on vs) k) visit (λ k w. same k)
     ∙ ap (λ z. told_in (λ k. lost_at vs (map on vs) k) z.items) c.lost.ensures.tour.0
@@ -227,7 +227,7 @@ returns-clause-gateway c = λ few.
     let ss = c.lost.new.self.stops.items in
     let visit = c.lost.new.self.visit.items in
     let most : length visit ≤ 16 = c.all_given_up.ensures.few in
-    ap (filter is_gateway) (c.all_given_up.ensures.told.told (omega (arith, before, few, told_few 1 (λ k. given_at ss k) (λ k. given_few ss k) visit, most)))
+    ap (filter is_gateway) (c.all_given_up.ensures.told.told (omega (arith, before, few, told_one (λ k. given_at ss k) (λ k. given_few ss k) visit, most)))
     ∙ (λ i. filter is_gateway (c.ends.ensures.last i ++ told_in (λ k. given_at ss k) visit))
     ∙ filter_told (λ k. given_at ss k) visit
     ∙ none_asked ss visit

@@ -54,7 +54,7 @@ use Rattle.master_node.specs.Besides.{back_does, by_stop, stays}
 use Rattle.master_node.specs.Gateways.{is_gateway, lives_told}
 use Rattle.master_node.specs.Handed.{work_at}
 use Rattle.master_node.specs.Listing.{told_in}
-use Rattle.master_node.proofs.ToldFew.{back_few, told_few}
+use Rattle.master_node.proofs.ToldFew.{back_few, told_five}
 use Rattle.master_node.proofs.Filtered.{filter_told, gateway_by, place_asked}
 use Rattle.master_node.proofs.Gateways.{all_told}
 use Rattle.master_node.proofs.Listing.{told_same}
@@ -219,7 +219,7 @@ returns-clause-gateway c = λ lens recover retry missed made octets vs f p b u r
     let asked = λ (k : ℕ). by_stop [] (λ t. gateway_by (work_at m.posts.items k) t) ts k in
     let all = c.all_back.ensures.told once in
     let most : length visit ≤ 16 = (let v = ap (λ z. length z.items) e.tour.0 in omega (arith, v, u.fits.few)) in
-    ap (filter is_gateway) (all.told (omega (arith, before, few, told_few 5 tells (λ k. back_few m.posts.items ts k) visit, most)))
+    ap (filter is_gateway) (all.told (omega (arith, before, few, told_five tells (λ k. back_few m.posts.items ts k) visit, most)))
     ∙ (λ i. filter is_gateway (c.ends.ensures.last i ++ told_in tells visit))
     ∙ filter_told tells visit
     ∙ told_same (λ k. filter is_gateway (tells k)) asked visit (λ k w. place_asked m.posts.items ts k)
