@@ -18,7 +18,9 @@ use Rattle.master_node.specs.Besides.{Does, DoesAt, DoesSo, TellsAll, answers, b
 use Rattle.master_node.specs.Downs.{is_given_up}
 use Rattle.master_node.specs.Handed.{work_at}
 use Rattle.master_node.specs.Listing.{events_in, told_in}
+use Rattle.master_node.specs.Listed.{listed_last}
 use Rattle.master_node.specs.declared.event.Event.{Event}
+use Rattle.master_node.specs.declared.event.EventList.{EventList}
 use Rattle.master_node.specs.declared.node.MasterNode.{MasterNode}
 use Rattle.master_node.specs.declared.post.Work.{Work}
 use Rattle.master_node.proofs.Endings.{apart_by, step_here, step_there}
@@ -209,15 +211,15 @@ not_in_one k p e = go (k == p) e
     go true f = f
     go false f = refl
 
--- the list stays before a step, or behind it
-pub besides_from : (es : List Event) (m n o : MasterNode) → n.list ≡ m.list → TellsAll es n o → TellsAll es m o
-besides_from es m n o e x = record {
-  told = λ r. (let c = ap (λ z. z.count) e in x.told (omega (arith, c, r))) ∙ ap (λ z. z ++ es) (events_by m n e);
-  few = (let c = ap (λ z. z.count) e in let few = x.few in omega (arith, c, few));
-}
-
-pub besides_on : (es : List Event) (m n o : MasterNode) → o.list ≡ n.list → TellsAll es m n → TellsAll es m o
-besides_on es m n o e x = record { told = λ r. events_by n o e ∙ x.told r; few = (let c = ap (λ z. z.count) e in let few = x.few in omega (arith, c, few)) }
+-- one event behind a step that lists none, and before another
+pub besides_put : (m n o : MasterNode) (l : EventList) (e : Event) → n.list ≡ m.list → o.list ≡ l → (n.list.count < 97 → listed_last l.rows.items l.first l.count ≡ events_in n ++ e ∷ []) → l.count ≤ n.list.count + 1 → TellsAll (e ∷ []) m o
+besides_put m n o l e a b t f =
+    let ca = ap (λ z. z.count) a in
+    let cb = ap (λ z. z.count) b in
+    record {
+      told = λ r. ap (λ z. listed_last z.rows.items z.first z.count) b ∙ t (omega (arith, ca, r)) ∙ ap (λ z. z ++ e ∷ []) (events_by m n a);
+      few = omega (arith, ca, cb, f);
+    }
 
 -- a slave was given up
 pub given_is : (place : ℕ) (news : Option Turned) → is_given_up news ≡ true → Event.GivenUp place ∷ [] ≡ given_told place news

@@ -14,7 +14,7 @@ use Rattle.master_node.specs.declared.post.Work.{Work}
 use Rattle.master_node.proofs.Endings.{drop_none, drop_one}
 use Rattle.master_node.specs.Besides.{given_at, given_told}
 use Rattle.master_node.specs.declared.event.Event.{Event}
-use Rattle.master_node.proofs.Besides.{besides_as, besides_from, besides_none, besides_on, besides_one, given_is, given_not, stop_here}
+use Rattle.master_node.proofs.Besides.{besides_as, besides_none, besides_put, given_is, given_not, stop_here}
 use Rattle.master_node.proofs.node.MasterNode.given_up.Goals as goal
 
 pub returns-clause-kept : goal.returns-clause-kept
@@ -90,7 +90,7 @@ returns-clause-told c =
     let l : place < length m.tour.stops.items = omega (arith, c.requires, m.paired, m.tour.stops.ok.0) in
     besides_as (Event.GivenUp place ∷ []) (given_at m.tour.stops.items place) m c.down_where.new.self
     (given_is place s.news (sym c.is_given_up.ensures ∙ c.if-not-is_given_up.false) ∙ sym (stop_here [] (λ t. given_told place t.news) m.tour.stops.items place s l c.index.ensures))
-    (besides_on (Event.GivenUp place ∷ []) m _ c.down_where.new.self c.down_where.ensures.list (besides_from (Event.GivenUp place ∷ []) m c.dropped.new.self _ c.dropped.ensures.list (besides_one c.dropped.new.self _ _ c.put.ensures.last c.put.ensures.few)))
+    (besides_put m c.dropped.new.self c.down_where.new.self c.put.new.self (Event.GivenUp place) c.dropped.ensures.list c.down_where.ensures.list c.put.ensures.last c.put.ensures.few)
 
 pub returns-then-not-is_given_up-clause-told : goal.returns-then-not-is_given_up-clause-told
 returns-then-not-is_given_up-clause-told c =
