@@ -13,7 +13,7 @@ use Rattle.master_side.specs.declared.hand.Heard.{Heard}
 use Rattle.master_side.specs.declared.passing.Passing.{Passing}
 use Rattle.master_tour.specs.declared.stop.Stop.{Stop}
 use Rattle.master_tour.specs.declared.stop.Turned.{Turned}
-use Rattle.master_node.specs.Answered.{answer_kept}
+use Rattle.master_hand.specs.Hears.{answer_kept}
 use Rattle.master_node.specs.Besides.{Does, answered_does, back_does, by_stop, emergency_told, given_at, given_told, handed_where, heard_does, mail_does, met_where, over_does, passed_where, reply_told, stays, turned_where}
 use Rattle.master_node.specs.Handed.{work_at}
 use Rattle.master_node.specs.Listing.{told_in}

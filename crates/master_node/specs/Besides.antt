@@ -13,7 +13,7 @@ use Rattle.master_side.specs.declared.hand.Heard.{Heard}
 use Rattle.master_side.specs.declared.passing.Passing.{Passing}
 use Rattle.master_tour.specs.declared.stop.Stop.{Stop}
 use Rattle.master_tour.specs.declared.stop.Turned.{Turned}
-use Rattle.master_node.specs.Answered.{answer_kept}
+use Rattle.master_hand.specs.Hears.{answer_kept}
 use Rattle.master_node.specs.Handed.{work_at}
 use Rattle.master_node.specs.Listing.{events_in}
 use Rattle.master_node.specs.declared.event.Event.{Event}

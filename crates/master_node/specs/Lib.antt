@@ -40,7 +40,6 @@ pub mod Made
 pub mod Begins
 pub mod Origins
 pub mod Listing
-pub mod Answered
 pub mod Besides
 pub mod Gateways
 pub mod Lifetold

@@ -28,7 +28,7 @@ returns-in-Some-clause-told c =
     let w = work_at m.posts.items place in
     let l : place < length m.tour.stops.items = omega (arith, c.requires, m.paired, m.tour.stops.ok.0) in
     so_here (λ t v. complete_does place t v) place m c.answered.new.self s l c.index.ensures
-    (does_as place (answers place c.in-Some.kind) (complete_does place s w) m c.answered.new.self (ap (λ z. answered_does place z w) (?some)) c.answered.ensures.told)
+    (does_as place (answers place c.in-Some.kind) (complete_does place s w) m c.answered.new.self (ap (λ z. answered_does place z w) (sym c.in-Some.is ∙ c.answer.ensures.kept)) c.answered.ensures.told)
 
 pub returns-in_default-clause-told : goal.returns-in_default-clause-told
 returns-in_default-clause-told c =
@@ -38,4 +38,4 @@ returns-in_default-clause-told c =
     let w = work_at m.posts.items place in
     let l : place < length m.tour.stops.items = omega (arith, c.requires, m.paired, m.tour.stops.ok.0) in
     so_here (λ t v. complete_does place t v) place m m s l c.index.ensures
-    (does_as place (stays w) (complete_does place s w) m m (ap (λ z. answered_does place z w) (?none)) (does_none place m m refl refl))
+    (does_as place (stays w) (complete_does place s w) m m (ap (λ z. answered_does place z w) (sym c.in_default.is ∙ c.answer.ensures.kept)) (does_none place m m refl refl))
