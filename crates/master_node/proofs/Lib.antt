@@ -46,6 +46,7 @@ mod ToldFew
 mod Filtered
 mod Gateways
 mod Turneds
+pub mod Inhand
 pub mod Mailed
 pub mod FreeKept
 pub mod ServedVisits

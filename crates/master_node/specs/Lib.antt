@@ -43,6 +43,7 @@ pub mod Listing
 pub mod Besides
 pub mod Gateways
 pub mod Lifetold
+pub mod Backtold
 pub mod Arrivals
 pub mod Eager
 pub mod Resting
