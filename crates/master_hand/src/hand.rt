@@ -99,8 +99,8 @@ impl InHand {
         ensures awaits { awaits_in self.old ≡ true → goes_on result ≡ true → awaits_in self.new ≡ true }
         ensures found { emergency_kept self.old.found ≡ None → emergency_kept self.new.found ≡ None }
         ensures join { self.new.found.join ≡ self.old.found.join }
-        ensures knows { KnowsReply self.old self.new (body_of (mail_seen mail.now)) }
         ensures sure { knows self.new.course ≡ true → knows self.old.course ≡ true }
+        ensures knows { KnowsReply self.old self.new (body_of (mail_seen mail.now)) }
         ensures packet { packet_kept self.old.found ≡ None → packet_kept self.new.found ≡ None }
         ensures reply { KeepsReply self.old.found self.new.found (awaits_in self.old) (mail_seen mail.now) }
     {
