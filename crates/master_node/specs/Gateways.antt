@@ -8,11 +8,21 @@ use Rattle.master_tour.specs.Brings.{accepted_in}
 use Rattle.master_tour.specs.of_life_model.Lives.{Life}
 use Rattle.served_runs.specs.Served.{Serves, ServedTurn}
 use Rattle.served_runs.specs.Told.{Passed, replies_in}
-use Rattle.master_node.specs.Besides.{is_gateway}
 use Rattle.master_node.specs.Listing.{events_in, told_in}
 use Rattle.master_node.specs.Named.{is_left}
 use Rattle.master_node.specs.declared.event.Event.{Event}
 use Rattle.master_node.specs.declared.node.MasterNode.{MasterNode}
+
+-- those events that are told to who asked: a reply, and that no more follows
+abbrev pub is_gateway : Event → Bool
+is_gateway (Event.GatewayReply key mail) = true
+is_gateway (Event.GatewayDone key) = true
+is_gateway (Event.Began slave origin) = false
+is_gateway (Event.Answered slave kind) = false
+is_gateway (Event.Emergency slave octets) = false
+is_gateway (Event.GivenUp slave) = false
+is_gateway (Event.Cleared slave own) = false
+is_gateway (Event.Opened slave) = false
 
 -- each reply is told under the key of the asker, without address and counter
 abbrev pub replies_told : ℕ → List Body → List Event
