@@ -16,7 +16,7 @@ use Rattle.master_side.specs.declared.passing.Passing.{Passing}
 use Rattle.master_tour.specs.declared.stop.Stop.{Stop}
 use Rattle.master_tour.specs.declared.stop.Turned.{Turned}
 use Rattle.master_hand.specs.Hears.{answer_kept}
-use Rattle.master_node.specs.Besides.{Does, answered_does, back_does, by_stop, emergency_told, given_at, given_told, handed_where, heard_does, mail_does, met_where, over_does, passed_where, reply_told, stays, turned_where}
+use Rattle.master_node.specs.Besides.{Does, answered_does, back_does, by_stop, emergency_told, handed_where, heard_does, mail_does, met_where, over_does, passed_where, reply_told, stays, turned_where}
 use Rattle.master_node.specs.Gateways.{is_gateway}
 use Rattle.master_node.specs.Handed.{work_at}
 use Rattle.master_node.specs.Listing.{told_in}
@@ -156,21 +156,3 @@ pub place_asked : {G : Ghosts InHand} (ps : List Post) (ss : List (Stop InHand G
 place_asked ps ss k =
     let w = work_at ps k in
     stop_on (λ (d : Does). filter is_gateway d.told) (stays w) (λ s. back_does k s w) ss k ∙ stop_same [] (λ s. filter is_gateway (back_does k s w).told) (λ s. gateway_by w s) ss k (λ s. back_asked k s w)
-
--- AND A GIVEN-UP SLAVE tells nothing to who asked
-given_asked : {G : Ghosts InHand} (ss : List (Stop InHand G)) (k : ℕ) → filter is_gateway (given_at ss k) ≡ []
-given_asked ss k = stop_on (λ (z : List Event). filter is_gateway z) [] (λ s. given_told k s.news) ss k ∙ stop_same [] (λ s. filter is_gateway (given_told k s.news)) (λ s. []) ss k (λ s. go s.news) ∙ none ss k
-  where
-    go : (news : Option Turned) → filter is_gateway (given_told k news) ≡ []
-    go None = refl
-    go (Some Turned.GivenUp) = refl
-    go (Some Turned.Cleared) = refl
-    go (Some Turned.Opened) = refl
-    none : {G : Ghosts InHand} (ss : List (Stop InHand G)) (k : ℕ) → by_stop {A = List Event} [] (λ s. []) ss k ≡ []
-    none [] k = refl
-    none (s ∷ ss) zero = refl
-    none (s ∷ ss) (suc k) = none ss k
-
-pub none_asked : {G : Ghosts InHand} (ss : List (Stop InHand G)) (ps : List ℕ) → told_in (λ k. filter is_gateway (given_at ss k)) ps ≡ []
-none_asked ss [] = refl
-none_asked ss (p ∷ ps) = (λ i. given_asked ss p i ++ none_asked ss ps i)

@@ -41,8 +41,9 @@ impl MasterNode {
     ghost use Rattle.master_node.specs.Serving.{TellsOnly, ServedShows, ServedUnder, mails_in};
     ghost use Rattle.master_node.specs.Dropped.{Drops, gave_at};
     ghost use Rattle.master_node.specs.Besides.{DoesAt, DoesSo, TellsAll, accepted_does, answers, back_does, back_told, complete_does, emitted_does, given_at, handed_does, heard_does, is_state, met_does, over_does, passed_does, replied_does, turned_does};
-    ghost use Rattle.master_node.specs.Listing.{told_in};
-    ghost use Rattle.master_node.specs.Gateways.{TellsGateway, TellsNone, lives_told};
+    ghost use Rattle.master_node.specs.Listed.{listed};
+    ghost use Rattle.master_node.specs.Listing.{events_before, events_in, told_in};
+    ghost use Rattle.master_node.specs.Gateways.{TellsGateway, lives_told};
     ghost use Rattle.master_node.specs.Lifetold.{TellsJust, lost_at};
     ghost use Rattle.master_tour.specs.Orders.{AreOnce};
     ghost use Rattle.master_node.specs.Handed.{DropsWork, EndsWork, NonePassed, passing_at, work_at};
@@ -54,7 +55,7 @@ impl MasterNode {
     ghost use Rattle.master_tour.specs.Toured.{goes_on, lost_on};
     ghost use Rattle.master_node.specs.Shows.{is_opening_lead};
     ghost use Rattle.master_node.specs.Toured.{tour_of};
-    ghost use Rattle.std.specs.Prelude.{[], true};
+    ghost use Rattle.std.specs.Prelude.{[], ◌++◌, take, true};
     ghost use Rattle.master_node.specs.Eager.{AllVisit, recalls};
     ghost use Rattle.master_node.specs.Recalled.{AllRecall};
 
@@ -318,6 +319,7 @@ impl MasterNode {
         ensures listed { Lists (arrivals_in self.old.lan.ports.items (λ p. heard_at self.old.tour.stops.items p) self.old.tour.visit.items) self.old.lan self.new.lan }
         ensures tells { TellsOnly self.old self.new }
         ensures works { EndsWork (λ k. passing_at self.old.tour.stops.items k) self.old.tour.visit.items self.old.posts.items self.new.posts.items }
+        ensures head { events_before self.new ≡ events_before self.old }
         ensures told { AreOnce self.old.tour.visit.items → TellsAll (told_in (back_told self.old) self.old.tour.visit.items) self.old self.new }
     {
         for k in 0..self.tour.visit.len() {
@@ -346,6 +348,7 @@ impl MasterNode {
             AllVisit (seen lens octets) (recalls self.old) us → AllRecall lens (seen lens frame.now.items) us (recalls self.old) (recalls self.new) }
         ensures gateway { (lens : ℕ → Lens) (recover retry missed made : ℕ) (octets : List ℕ) (vs : List ServedTurn) (f : Exchanged) → f.fate ≡ Fate.Pass → f.back ≡ frame.now.items → ServedUnder lens recover retry self.old octets missed made vs → Returns (seen lens octets) (seen lens frame.now.items) →
             TellsGateway (λ k. lives_told (seen lens frame.now.items) vs (map (served_behind lens recover retry (gives_up_at lens recover retry missed) made f) vs) k) self.old self.new }
+        ensures whole { listed self.new.list.rows.items self.new.list.count ≡ take self.old.list.before self.old.list.rows.items ++ events_in self.new }
     {
         self.list.ends();
         self.lan.begins();
@@ -440,7 +443,7 @@ impl MasterNode {
         }
     }
 
-    /// The frame that `next` made was lost. Just that slaves were given up is told, and nothing to who asked for a mail to be passed on.
+    /// The frame that `next` made was lost. Just that slaves were given up is told.
     pub fn lost(&mut self)
         ensures posts { vec_len self.new.posts ≡ vec_len self.old.posts }
         ensures leads { (lens : ℕ → Lens) (recover retry missed number after : ℕ) (octets : List ℕ) (us : List Turn) (f : Exchanged) → f.fate ≡ Fate.Lost after → f.sent ≡ octets → MasterUnder lens recover retry self.old octets missed us →
@@ -458,7 +461,7 @@ impl MasterNode {
         ensures recalls { (lens : ℕ → Lens) (recover retry missed : ℕ) (octets : List ℕ) (us : List Turn) → MasterUnder lens recover retry self.old octets missed us → AllRecall lens [] us (recalls self.old) (recalls self.new) }
         ensures told { (lens : ℕ → Lens) (recover retry missed made after : ℕ) (octets : List ℕ) (vs : List ServedTurn) (f : Exchanged) → f.fate ≡ Fate.Lost after → f.sent ≡ octets → ServedUnder lens recover retry self.old octets missed made vs →
             TellsJust (λ k. lost_at vs (map (served_behind lens recover retry (gives_up_at lens recover retry missed) made f) vs) k) self.old self.new }
-        ensures gateway { TellsNone self.old self.new }
+        ensures whole { listed self.new.list.rows.items self.new.list.count ≡ take self.old.list.before self.old.list.rows.items ++ events_in self.new }
     {
         self.list.ends();
         self.lan.begins();

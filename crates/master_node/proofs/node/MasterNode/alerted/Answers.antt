@@ -16,7 +16,7 @@ returns-in-Some-clause-told c =
     (does_told place (emergency_told place (emergency_kept s.side.hand.found)) m _
     (besides_as (_ ∷ []) (emergency_told place (emergency_kept s.side.hand.found)) m _
     (ap (λ z. Event.Emergency place z ∷ []) (λ i. record { items = (c.buffer_of-octets.ensures ∙ c.as_slice.ensures.value) i }) ∙ ap (emergency_told place) c.in-Some.ensures)
-    (besides_one m _ _ c.put.ensures.last c.put.ensures.few))
+    (besides_one m _ _ c.put.ensures.last c.put.ensures.few c.put.ensures.head))
     refl)
 
 pub returns-in_default-clause-told : goal.returns-in_default-clause-told

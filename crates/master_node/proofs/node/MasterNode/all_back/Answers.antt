@@ -22,7 +22,7 @@ use Rattle.master_node.proofs.Listing.{told_push}
 use Rattle.master_node.proofs.node.MasterNode.all_back.Goals as goal
 
 pub loop-k-init : goal.loop-k-init
-loop-k-init c = record { posts = refl; kept = node_refl c.args.self.now; tells = tells_refl c.args.self.now; works = ends_same _ c.args.self.now.posts.items; told = λ once. besides_none c.args.self.now c.args.self.now refl; others = λ p e. refl; lan = happens_none 0 _ _ refl; listed = lists_none _ _ _ refl refl }
+loop-k-init c = record { posts = refl; kept = node_refl c.args.self.now; tells = tells_refl c.args.self.now; works = ends_same _ c.args.self.now.posts.items; head = refl; told = λ once. besides_none c.args.self.now c.args.self.now refl; others = λ p e. refl; lan = happens_none 0 _ _ refl; listed = lists_none _ _ _ refl refl }
 
 pub loop-k-preserved : goal.loop-k-preserved
 loop-k-preserved c =
@@ -47,6 +47,7 @@ loop-k-preserved c =
           let q = get_or v k 0 in
           let apart = sym (in_more p (take k v) (q ∷ [])) ∙ ap (is_in p) (sym (take_more v k 0 inside)) ∙ e in
           (step.told.others p (ap (λ z. p == get_or z k 0) (sym same) ∙ not_in_one p q (or_right (is_in p (take k v)) (is_in p (q ∷ [])) apart)) ∙ inv.others p (or_left (is_in p (take k v)) (is_in p (q ∷ [])) apart));
+      head = step.told.tells.head ∙ inv.head;
       told = λ once.
           let v = m.tour.visit.items in
           let p = get_or v k 0 in

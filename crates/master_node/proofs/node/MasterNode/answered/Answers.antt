@@ -33,4 +33,4 @@ returns-clause-works c =
     steps_set (λ p q. q.work ≡ Work.Nothing) c.args.place m.posts.items c.index_mut-post.result.now _ l c.index_mut-post.ensures.value refl
 
 pub returns-clause-told : goal.returns-clause-told
-returns-clause-told c = does_answered c.args.place c.args.kind c.args.self.now _ (besides_one c.args.self.now _ _ c.put.ensures.last c.put.ensures.few) (returns-clause-works c)
+returns-clause-told c = does_answered c.args.place c.args.kind c.args.self.now _ (besides_one c.args.self.now _ _ c.put.ensures.last c.put.ensures.few c.put.ensures.head) (returns-clause-works c)

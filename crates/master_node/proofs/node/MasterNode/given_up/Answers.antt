@@ -90,7 +90,7 @@ returns-clause-told c =
     let l : place < length m.tour.stops.items = omega (arith, c.requires, m.paired, m.tour.stops.ok.0) in
     besides_as (Event.GivenUp place ∷ []) (given_at m.tour.stops.items place) m c.down_where.new.self
     (given_is place s.news (sym c.is_given_up.ensures ∙ c.if-not-is_given_up.false) ∙ sym (stop_here [] (λ t. given_told place t.news) m.tour.stops.items place s l c.index.ensures))
-    (besides_put m c.dropped.new.self c.down_where.new.self c.put.new.self (Event.GivenUp place) c.dropped.ensures.list c.down_where.ensures.list c.put.ensures.last c.put.ensures.few)
+    (besides_put m c.dropped.new.self c.down_where.new.self c.put.new.self (Event.GivenUp place) c.dropped.ensures.list c.down_where.ensures.list c.put.ensures.last c.put.ensures.few c.put.ensures.head)
 
 pub returns-then-not-is_given_up-clause-told : goal.returns-then-not-is_given_up-clause-told
 returns-then-not-is_given_up-clause-told c =

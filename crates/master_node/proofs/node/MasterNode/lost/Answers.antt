@@ -47,15 +47,13 @@ use Rattle.master_node.proofs.ServedLosts as Losts
 use Rattle.master_node.specs.Handed.{work_at}
 use Rattle.master_node.proofs.Numbereds.{numbers_behind}
 use Rattle.std.proofs.Common.{[], ◌++◌}
-use Rattle.std.specs.Prelude.{filter}
 use Rattle.master_side.specs.Passing.{news_lost}
 use Rattle.master_node.specs.Besides.{given_at, given_told}
 use Rattle.master_node.specs.Lifetold.{lost_at}
 use Rattle.master_node.proofs.Listing.{told_same}
 use Rattle.master_node.proofs.Turneds.{lost_turned, turned_all}
-use Rattle.master_node.specs.Gateways.{is_gateway}
-use Rattle.master_node.specs.Listing.{told_in}
-use Rattle.master_node.proofs.Filtered.{filter_told, none_asked}
+use Rattle.master_node.specs.Listing.{events_in, told_in}
+use Rattle.master_node.proofs.Besides.{listed_whole}
 use Rattle.master_node.proofs.ToldFew.{given_few, told_one}
 use Rattle.master_node.proofs.node.MasterNode.lost.Goals as goal
 
@@ -221,13 +219,5 @@ returns-clause-told c = λ lens recover retry missed made after octets vs f p b 
     ∙ told_same (λ k. given_at ts k) (λ k. lost_at vs (map on vs) k) visit (λ k w. same k)
     ∙ ap (λ z. told_in (λ k. lost_at vs (map on vs) k) z.items) c.lost.ensures.tour.0
 
-pub returns-clause-gateway : goal.returns-clause-gateway
-returns-clause-gateway c = λ few.
-    let before = c.ends.ensures.few in
-    let ss = c.lost.new.self.stops.items in
-    let visit = c.lost.new.self.visit.items in
-    let most : length visit ≤ 16 = c.all_given_up.ensures.few in
-    ap (filter is_gateway) (c.all_given_up.ensures.told.told (omega (arith, before, few, told_one (λ k. given_at ss k) (λ k. given_few ss k) visit, most)))
-    ∙ (λ i. filter is_gateway (c.ends.ensures.last i ++ told_in (λ k. given_at ss k) visit))
-    ∙ filter_told (λ k. given_at ss k) visit
-    ∙ none_asked ss visit
+pub returns-clause-whole : goal.returns-clause-whole
+returns-clause-whole c = listed_whole c.all_given_up.new.self ∙ ap (λ z. z ++ events_in c.all_given_up.new.self) (c.all_given_up.ensures.told.head ∙ c.ends.ensures.head)

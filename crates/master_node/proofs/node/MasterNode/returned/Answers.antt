@@ -53,8 +53,9 @@ use Rattle.master_tour.specs.Orders.{AreOnce}
 use Rattle.master_node.specs.Besides.{back_does, by_stop, stays}
 use Rattle.master_node.specs.Gateways.{is_gateway, lives_told}
 use Rattle.master_node.specs.Handed.{work_at}
-use Rattle.master_node.specs.Listing.{told_in}
+use Rattle.master_node.specs.Listing.{events_in, told_in}
 use Rattle.master_node.proofs.ToldFew.{back_few, told_five}
+use Rattle.master_node.proofs.Besides.{listed_whole}
 use Rattle.master_node.proofs.Filtered.{filter_told, gateway_by, place_asked}
 use Rattle.master_node.proofs.Gateways.{all_told}
 use Rattle.master_node.proofs.Listing.{told_same}
@@ -225,3 +226,6 @@ returns-clause-gateway c = λ lens recover retry missed made octets vs f p b u r
     ∙ told_same (λ k. filter is_gateway (tells k)) asked visit (λ k w. place_asked m.posts.items ts k)
     ∙ told_same asked (λ k. lives_told back vs ws k) visit (λ k w. same k)
     ∙ ap (λ z. told_in (λ k. lives_told back vs ws k) z.items) e.tour.0
+
+pub returns-clause-whole : goal.returns-clause-whole
+returns-clause-whole c = listed_whole c.all_back.new.self ∙ ap (λ z. z ++ events_in c.all_back.new.self) (c.all_back.ensures.head ∙ c.ends.ensures.head)
