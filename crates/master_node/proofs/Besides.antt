@@ -180,6 +180,7 @@ so_stays place m = does_as place (stays w) (does_at (λ s v. stays v) m place) m
   where
     w : Work
     w = work_at m.posts.items place
+
     go : (ss : List (Stop InHand Impl.ghosts)) (k : ℕ) → stays w ≡ by_stop (stays w) (λ s. stays w) ss k
     go [] k = refl
     go (s ∷ ss) zero = refl

@@ -43,7 +43,7 @@ turned_all R K on tells h (v ∷ vs) (p ∷ ps) (s ∷ ss) (t ∷ ts) r e (suc k
 pub lost_turned : {G : Ghosts InHand} (lens : ℕ → Lens) (recover retry : ℕ) (gives given : Bool) (made : ℕ) (f : Exchanged) (octets : List ℕ) (after : ℕ) → f.fate ≡ Lost after → f.sent ≡ octets → given ≡ gives → (v : ServedTurn) (p : Post) (s : Stop InHand G) (news : Option Turned) →
     IsServedUnder lens recover octets made v p s →
     news ≡ turned v.turn.lived.life
-      (given_where (given && s.under) recover v.turn.lived.spot made (life_lost (speech_at lens v.turn.lived.spot) acknowledged is_followed is_passed v.turn.lived.spot (news_lost v.turn.lived.spot.station v.kept (seen lens octets)) (seen lens octets) v.turn.lived.life v.turn.lived.life.stand)) →
+    (given_where (given && s.under) recover v.turn.lived.spot made (life_lost (speech_at lens v.turn.lived.spot) acknowledged is_followed is_passed v.turn.lived.spot (news_lost v.turn.lived.spot.station v.kept (seen lens octets)) (seen lens octets) v.turn.lived.life v.turn.lived.life.stand)) →
     news ≡ turned v.turn.lived.life (served_behind lens recover retry gives made f v).lead.lived.life
 lost_turned lens recover retry gives given made f octets after is b g v p s news i e =
     let l = v.turn.lived.life in
