@@ -1,8 +1,8 @@
 -- WHAT A STEP TELLS BESIDES, one event after the other.
-use Rattle.std.proofs.Common.{◌≡◌, ◌==◌, take, ℕ, zero, suc, ◌+◌, ◌*◌, ◌<◌, ◌≤◌, Bool, true, false, Option, Some, None, List, [], ◌∷◌, ◌++◌, refl, sym, ap, ◌∙◌, arith, length, get_or, append_assoc, append-nil, subst}
+use Rattle.std.proofs.Common.{◌≡◌, ◌==◌, take, ℕ, zero, suc, ◌+◌, ◌<◌, ◌≤◌, Bool, true, false, Option, Some, None, List, [], ◌∷◌, ◌++◌, refl, sym, ap, ◌∙◌, arith, length, get_or, append_assoc, append-nil, subst}
 use Rattle.std.specs.Prelude.{if◌then◌else◌, is_some, ◌||◌}
 use Rattle.std.proofs.lemmas.Bool.{eq-eqb, eqb-true}
-use Rattle.std.proofs.lemmas.List.{length-append, take-append-drop}
+use Rattle.std.proofs.lemmas.List.{length-append}
 use Rattle.mailbox_mail.specs.declared.mail.Mail.{Mail}
 use Rattle.mailbox_mail.specs.declared.outcome.ReplyKind.{ReplyKind}
 use Rattle.master_hand.specs.declared.hand.InHand.{InHand}
@@ -17,29 +17,21 @@ use Rattle.master_tour.specs.declared.stop.Turned.{Turned}
 use Rattle.master_node.specs.Besides.{Does, DoesAt, DoesSo, TellsAll, answers, back_does, back_told, by_stop, does_at, given_told, is_state, passed_where, stays, then_does}
 use Rattle.master_node.specs.Downs.{is_given_up}
 use Rattle.master_node.specs.Handed.{work_at}
-use Rattle.master_node.specs.Listing.{events_before, events_in, told_in}
-use Rattle.master_node.specs.Listed.{listed, listed_before, listed_last}
+use Rattle.master_node.specs.Listing.{events_before, events_in}
+use Rattle.master_node.specs.Listed.{listed_before, listed_last}
 use Rattle.master_node.specs.declared.event.Event.{Event}
 use Rattle.master_node.specs.declared.event.EventList.{EventList}
 use Rattle.master_node.specs.declared.node.MasterNode.{MasterNode}
 use Rattle.master_node.specs.declared.post.Work.{Work}
 use Rattle.master_node.proofs.Endings.{apart_by, step_here, step_there}
-use Rattle.master_node.proofs.Listing.{events_by}
-
--- the events of a frame are those before its last step, and those of it
-pub listed_whole : (m : MasterNode) → listed m.list.rows.items m.list.count ≡ events_before m ++ events_in m
-listed_whole m = sym (take-append-drop m.list.first (take m.list.count m.list.rows.items))
-
--- where the list stays, so do they
-pub before_by : (m n : MasterNode) → n.list ≡ m.list → events_before n ≡ events_before m
-before_by m n e = λ i. listed_before (e i).rows.items (e i).first (e i).count
+use Rattle.master_node.proofs.Listing.{before_of_list, events_by}
 
 -- NOTHING
 pub besides_none : (m n : MasterNode) → n.list ≡ m.list → TellsAll [] m n
 besides_none m n e = record {
   told = λ r. events_by m n e ∙ sym (append-nil (events_in m));
   few = (let f = ap (λ z. z.count) e in omega (arith, f));
-  head = before_by m n e;
+  head = before_of_list m.list n.list e;
 }
 
 -- ONE EVENT
@@ -160,7 +152,7 @@ once_fresh (x ∷ v) (suc k) d l o = go (get_or v k d == x) refl (got_in v k d (
 -- what neither lists nor changes a post does no more
 pub so_on : (f : Stop InHand Impl.ghosts → Work → Does) (place : ℕ) (m n o : MasterNode) → o.list ≡ n.list → o.posts ≡ n.posts → DoesSo f place m n → DoesSo f place m o
 so_on f place m n o e p x = record {
-  tells = record { told = λ r. events_by n o e ∙ x.tells.told r; few = (let c = ap (λ z. z.count) e in let few = x.tells.few in omega (arith, c, few)); head = before_by n o e ∙ x.tells.head };
+  tells = record { told = λ r. events_by n o e ∙ x.tells.told r; few = (let c = ap (λ z. z.count) e in let few = x.tells.few in omega (arith, c, few)); head = before_of_list n.list o.list e ∙ x.tells.head };
   here = ap (λ z. work_at z.items place) p ∙ x.here;
   others = λ k q. ap (λ z. work_at z.items k) p ∙ x.others k q;
 }
@@ -230,7 +222,7 @@ besides_put m n o l e a b t f h =
     record {
       told = λ r. ap (λ z. listed_last z.rows.items z.first z.count) b ∙ t (omega (arith, ca, r)) ∙ ap (λ z. z ++ e ∷ []) (events_by m n a);
       few = omega (arith, ca, cb, f);
-      head = ap (λ z. listed_before z.rows.items z.first z.count) b ∙ h ∙ before_by m n a;
+      head = ap (λ z. listed_before z.rows.items z.first z.count) b ∙ h ∙ before_of_list m.list n.list a;
     }
 
 -- a slave was given up

@@ -1,7 +1,6 @@
-use Rattle.std.proofs.Common.{◌<◌, ◌∷◌, [], refl, sym, ap, ◌∙◌, arith, length}
+use Rattle.std.proofs.Common.{◌<◌, ◌∷◌, [], refl, ap, ◌∙◌, arith, length}
 use Rattle.master_hand.specs.Brings.{emergency_kept}
 use Rattle.master_node.specs.Besides.{emergency_told, emitted_does}
-use Rattle.master_node.specs.Handed.{work_at}
 use Rattle.master_node.specs.declared.event.Event.{Event}
 use Rattle.master_node.proofs.Besides.{besides_as, besides_none, besides_one, does_told, so_here}
 use Rattle.master_node.proofs.node.MasterNode.alerted.Goals as goal

@@ -13,7 +13,7 @@ use Rattle.master_node.specs.Serving.{mails_in}
 use Rattle.master_node.proofs.Droppeds.{drops_on, drops_start}
 use Rattle.master_node.specs.Handed.{DropsWork}
 use Rattle.master_node.proofs.Endings.{drop_on, drop_start}
-use Rattle.std.proofs.Common.{◌++◌, ◌+◌, ◌≤◌, ℕ}
+use Rattle.std.proofs.Common.{◌++◌, ◌+◌, ℕ}
 use Rattle.master_node.specs.Besides.{given_at}
 use Rattle.master_node.specs.Listing.{told_in}
 use Rattle.master_node.proofs.Besides.{besides_as, besides_none, besides_then}

@@ -9,9 +9,7 @@ use Rattle.master_node.proofs.Happenings.{happens_on}
 use Rattle.master_node.proofs.Servings.{tells_then}
 use Rattle.master_node.specs.Handed.{passing_at}
 use Rattle.master_node.proofs.Endings.{ends_from, ends_then}
-use Rattle.std.proofs.Common.{sym}
 use Rattle.master_node.specs.Besides.{heard_does, over_does, then_does, turned_does}
-use Rattle.master_node.specs.Handed.{work_at}
 use Rattle.master_node.proofs.Besides.{so_apart, so_then}
 use Rattle.master_node.proofs.node.MasterNode.back.Goals as goal
 

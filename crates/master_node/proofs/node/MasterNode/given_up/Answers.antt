@@ -6,7 +6,7 @@ use Rattle.master_node.specs.Forwards.{port_by}
 use Rattle.master_node.proofs.Downs.{lists_as, lists_from, lists_none, down_not, here_is}
 use Rattle.master_node.proofs.Tells.{node_then, node_told, node_refl}
 use Rattle.master_node.proofs.Happenings.{happens_none, happens_from}
-use Rattle.std.proofs.Common.{subst, [], ◌∷◌, ℕ}
+use Rattle.std.proofs.Common.{subst, [], ◌∷◌}
 use Rattle.master_tour.specs.Walks.{StepsAt}
 use Rattle.master_node.specs.Serving.{mails_in}
 use Rattle.master_node.proofs.Droppeds.{drops_none, drops_one}

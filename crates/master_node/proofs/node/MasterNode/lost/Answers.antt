@@ -50,10 +50,9 @@ use Rattle.std.proofs.Common.{[], ◌++◌}
 use Rattle.master_side.specs.Passing.{news_lost}
 use Rattle.master_node.specs.Besides.{given_at, given_told}
 use Rattle.master_node.specs.Lifetold.{lost_at}
-use Rattle.master_node.proofs.Listing.{told_same}
+use Rattle.master_node.proofs.Listing.{listed_whole, told_same}
 use Rattle.master_node.proofs.Turneds.{lost_turned, turned_all}
 use Rattle.master_node.specs.Listing.{events_in, told_in}
-use Rattle.master_node.proofs.Besides.{listed_whole}
 use Rattle.master_node.proofs.ToldFew.{given_few, told_one}
 use Rattle.master_node.proofs.node.MasterNode.lost.Goals as goal
 

@@ -6,10 +6,9 @@ use Rattle.master_node.proofs.Endings.{ends_free, ends_here, ends_told}
 use Rattle.master_node.proofs.Downs.{here_is}
 use Rattle.std.proofs.Common.{◌∷◌, []}
 use Rattle.mailbox_mail.specs.declared.outcome.ReplyKind.{ReplyKind}
-use Rattle.master_node.specs.Besides.{answers, behind, passed_does, passed_where, stays}
+use Rattle.master_node.specs.Besides.{answers, passed_does, stays}
 use Rattle.master_node.specs.Handed.{work_at}
 use Rattle.master_node.specs.declared.event.Event.{Event}
-use Rattle.master_node.specs.declared.post.Work.{Work}
 use Rattle.master_node.proofs.Besides.{besides_one, does_as, does_none, does_then, does_told, passed_none, passed_some, so_here}
 use Rattle.master_node.proofs.node.MasterNode.passed.Goals as goal
 

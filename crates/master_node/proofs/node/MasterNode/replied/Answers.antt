@@ -2,7 +2,7 @@ use Rattle.std.proofs.Common.{refl}
 use Rattle.master_node.proofs.Tells.{node_refl, node_told}
 use Rattle.master_node.proofs.Servings.{tells_refl, tells_told}
 use Rattle.master_node.proofs.Endings.{ends_told}
-use Rattle.std.proofs.Common.{◌<◌, ◌∷◌, [], ◌∙◌, sym, ap, arith, length}
+use Rattle.std.proofs.Common.{◌<◌, ◌∷◌, [], ◌∙◌, ap, arith, length}
 use Rattle.master_hand.specs.Replied.{reply_kept}
 use Rattle.master_node.specs.Besides.{replied_does, reply_told}
 use Rattle.master_node.specs.declared.event.Event.{Event}

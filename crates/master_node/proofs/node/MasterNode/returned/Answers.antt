@@ -55,10 +55,9 @@ use Rattle.master_node.specs.Gateways.{is_gateway, lives_told}
 use Rattle.master_node.specs.Handed.{work_at}
 use Rattle.master_node.specs.Listing.{events_in, told_in}
 use Rattle.master_node.proofs.ToldFew.{back_few, told_five}
-use Rattle.master_node.proofs.Besides.{listed_whole}
 use Rattle.master_node.proofs.Filtered.{filter_told, gateway_by, place_asked}
 use Rattle.master_node.proofs.Gateways.{all_told}
-use Rattle.master_node.proofs.Listing.{told_same}
+use Rattle.master_node.proofs.Listing.{listed_whole, told_same}
 use Rattle.master_node.proofs.node.MasterNode.returned.Goals as goal
 
 pub returns-clause-leads : goal.returns-clause-leads
