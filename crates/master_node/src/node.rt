@@ -317,6 +317,7 @@ impl MasterNode {
     /// what is remembered of its visits; and behind its visit no mail is left that could be held. Where each slave was given up for good or rests and no packet
     /// waits at any port, a packet of the host comes in, if one is left. The packets that came into hand are just those that leave their ports of the switch, each the oldest there.
     /// Just the services that came into hand are listed as begun, each with where it comes from and its number there.
+    /// The events of the frame are then those of its making, and just these stand before those of its return or loss.
     /// Of a slave that has no datagram in the frame nothing came into hand. While mails are passed on the frame is just so that of a serving, and a mail that
     /// came into hand is listed by its number among all that were asked of its slave.
     pub fn next(&mut self, into: &mut FrameBuf) -> Next
