@@ -105,12 +105,11 @@ listed_nothing tells forwards left as' m u = record {
 pub events_of_list : (a b : EventList) → b ≡ a → listed_last b.rows.items b.first b.count ≡ listed_last a.rows.items a.first a.count
 events_of_list a b e = λ i. listed_last (e i).rows.items (e i).first (e i).count
 
+pub before_of_list : (a b : EventList) → b ≡ a → listed_before b.rows.items b.first b.count ≡ listed_before a.rows.items a.first a.count
+before_of_list a b e = λ i. listed_before (e i).rows.items (e i).first (e i).count
+
 pub events_by : (m n : MasterNode) → n.list ≡ m.list → events_in n ≡ events_in m
 events_by m n e = λ i. listed_last (e i).rows.items (e i).first (e i).count
-
--- where the list stays, those before the step do
-pub before_by : (m n : MasterNode) → n.list ≡ m.list → events_before n ≡ events_before m
-before_by m n e = λ i. listed_before (e i).rows.items (e i).first (e i).count
 
 -- the events of a frame are those before its last step, and those of it
 pub listed_whole : (m : MasterNode) → listed m.list.rows.items m.list.count ≡ events_before m ++ events_in m

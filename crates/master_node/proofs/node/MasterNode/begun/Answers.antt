@@ -14,7 +14,7 @@ use Rattle.std.proofs.Common.{◌++◌, ◌∷◌, [], Some, ◌∙◌, append-n
 use Rattle.master_node.specs.Listing.{ListsOne, events_in}
 use Rattle.master_node.specs.declared.event.Event.{Event}
 use Rattle.master_tour.proofs.Walks.{steps_set}
-use Rattle.master_node.proofs.Listing.{before_by, events_of_list}
+use Rattle.master_node.proofs.Listing.{before_of_list, events_of_list}
 use Rattle.std.specs.Prelude.{map}
 use Rattle.master_node.specs.Serving.{waits_of}
 use Rattle.master_node.proofs.Servings.{posts_set}
@@ -123,4 +123,4 @@ pub returns-in-None-clause-head : goal.returns-in-None-clause-head
 returns-in-None-clause-head c = refl
 
 pub returns-in-Some-clause-head : goal.returns-in-Some-clause-head
-returns-in-Some-clause-head c = before_by _ _ c.pass_by.ensures.list ∙ c.put.ensures.head
+returns-in-Some-clause-head c = before_of_list _ _ c.pass_by.ensures.list ∙ c.put.ensures.head

@@ -1,7 +1,7 @@
 use Rattle.std.proofs.Common.{◌≡◌, ◌≤◌, ◌∙◌, true, [], refl, sym, ap, subst, length, arith}
 use Rattle.master_node.proofs.Begins.{has_none}
 use Rattle.master_node.specs.Origins.{forwards_at}
-use Rattle.master_node.proofs.Listing.{before_by, listed_whole, services_made, unlisted}
+use Rattle.master_node.proofs.Listing.{before_of_list, listed_whole, services_made, unlisted}
 use Rattle.life_runs.specs.of_frame_view.Seen.{seen}
 use Rattle.std.specs.List.{list_any}
 use Rattle.master_tour.specs.Goes.{is_live, holds_at}
@@ -154,7 +154,7 @@ pub returns-clause-whole : goal.returns-clause-whole
 returns-clause-whole c =
     let n = c.make.new.self in
     let l = c.made.new.self in
-    let none : events_before n ≡ [] = c.make.ensures.head ∙ before_by _ _ c.admit.ensures.list ∙ c.clear.ensures.before in
+    let none : events_before n ≡ [] = c.make.ensures.head ∙ before_of_list _ _ c.admit.ensures.list ∙ c.clear.ensures.before in
     let all : listed n.list.rows.items n.list.count ≡ events_in n = listed_whole n ∙ ap (λ z. z ++ events_in n) none in
     let same : listed l.rows.items l.count ≡ listed_last l.rows.items l.first l.count = c.made.ensures.all ∙ all ∙ sym c.made.ensures.last in
     (same, ap (λ (k : ℕ). take k l.rows.items) (c.made.ensures.before ∙ sym c.made.ensures.rows.1) ∙ same)
