@@ -33,12 +33,11 @@ use Rattle.master_node.specs.Origins.{forwards_at}
 use Rattle.master_node.specs.Joined.{HasUnfinished, JoinsKept, stand_before, stand_under, unfinished_after}
 use Rattle.master_node.specs.Made.{AreOfMaking}
 use Rattle.master_node.specs.Ports.{ports_behind, ports_of}
-use Rattle.master_node.specs.Shows.{MasterShows, MasterUnder, IsLead, IsUnder, is_live_lead, lived_of}
+use Rattle.master_node.specs.Shows.{MasterShows, MasterUnder, IsLead, IsUnder, is_live_lead}
 use Rattle.master_node.specs.Asks.{AllAsk}
 use Rattle.master_node.specs.Toured.{tour_of, turn_share}
-use Rattle.master_node.specs.Told.{HasLeads, HasLives}
+use Rattle.master_node.specs.Told.{HasLeads}
 use Rattle.master_node.proofs.Lists.{both_map}
-use Rattle.master_node.proofs.Quiets.{lead_lives}
 use Rattle.master_node.specs.Wants.{gave_of, AllCounted}
 use Rattle.master_node.specs.declared.node.MasterNode.{MasterNode}
 use Rattle.master_node.specs.declared.node.Next.{Next}
@@ -279,8 +278,8 @@ module _ (m0 m1 m2 : MasterNode) (f : Exchanged) (result : Next)
           let by : GaveBy (Fates.Lost after) frame m2 r r' = subst (λ (k : Fate). GaveBy k frame m2 r r') e noted in
           let all : AllCounted plan.recover (leads made.0) = counted lens plan plan.retry (fs ++ f ∷ []) _ (leads made.0) (IsLed.on fs l.missed l.leads f made.0 l.lives made.1) in
           let mine : gaves_noted r'.notes ≡ gaves_behind frame (map gave_of (leads made.0)) (gaves_noted r.notes) =
-          by lens (leads made.0)
-          (subst (λ (n : ℕ). HasLives lens n m2 (map lived_of (leads made.0))) (sym recover) (lead_lives lens plan.recover (leads made.0) m2.tour.stops.items shown.each))
+          by lens plan.retry (missed_behind lens plan.recover plan.retry f.fate l.missed) (leads made.0)
+          (subst (λ (n : ℕ). MasterShows lens n plan.retry m2 (missed_behind lens plan.recover plan.retry f.fate l.missed) (leads made.0)) (sym recover) shown)
           (subst (λ (n : ℕ). AllCounted n (leads made.0)) (sym recover) all) in
           let is : map gave_of (leads made.0) ≡ map (behind_gave lens plan.recover plan.retry gives (length fs) f (Fates.Lost after)) made.0 =
           behind_is lens plan.recover plan.retry gives (length fs) f made.0 ∙ ap (λ (k : Fate). map (behind_gave lens plan.recover plan.retry gives (length fs) f k) made.0) e in
