@@ -8,12 +8,13 @@ use Rattle.held_visits.proofs.Held.{held_up, unpaused}
 use Rattle.idle_slaves.specs.Frames.{InVain, node_on, memory_on}
 use Rattle.idle_slaves.specs.Going.{Going, AccessVain, registers_on}
 use Rattle.idle_slaves.specs.Links.{HasLink}
-use Rattle.idle_slaves.specs.Visited.{IsFor, Meets, CameBack, HasRow, IsUnpaused, Waiting, Chosen, LifeSpent, visit_for, life_visit, memory_of}
+use Rattle.idle_slaves.specs.Visited.{IsFor, Meets, CameBack, HasRow, IsStill, IsUnpaused, Tells, Waiting, Chosen, LifeSpent, visit_for, life_visit, memory_of}
 use Rattle.idle_slaves.specs.Waiting.{Wanted, Memory, IsWaiting, memory_behind, tried, link_by, wanted_by}
 use Rattle.idle_slaves.proofs.Choosing.{chosen}
 use Rattle.idle_slaves.proofs.Frames.{waits_so, was_spent}
 use Rattle.idle_slaves.proofs.Going.{goes_so}
-use Rattle.idle_slaves.proofs.Visited.{second, same_node}
+use Rattle.idle_slaves.proofs.Returning.{boxed_is, not_boxed}
+use Rattle.idle_slaves.proofs.Visited.{full_drains, second, same_node}
 use Rattle.idle_slaves.proofs.Waiting.{Holds, Comes, holds, comes}
 use Rattle.life_measure.specs.Gains.{gains, phase_gains, stage_gains, progress_gains}
 use Rattle.life_measure.specs.Visits.{Visit, mails_visit}
@@ -32,6 +33,7 @@ use Rattle.run_frames.specs.Clocks.{Clocked}
 use Rattle.run_frames.specs.Goes.{Under, back_life}
 use Rattle.run_frames.specs.Orders.{is_live}
 use Rattle.run_frames.specs.Waits.{Waits, new_waits, waits_on}
+use Rattle.segment_model.specs.Ends.{Passing}
 use Rattle.segment_model.specs.Record.{is_for}
 use Rattle.segment_model.specs.Seats.{Side}
 use Rattle.segment_model.specs.Slaves.{Datagram, Access, Found, Serving, Slave, Processor, Registers, grams, serving, slave_after, slave_steps, slave_meets, frame_after, registers_met}
@@ -41,12 +43,12 @@ use Rattle.state_model.specs.States.{Table, Phase, carry, word_carried, decided,
 use Rattle.states_come.specs.Steps.{NotGone}
 use Rattle.task_model.specs.Accounts.{Duty, Stage, Progress, phase_access, access_done, account_by, starts}
 use Rattle.eager_slaves.specs.Eager.{Remembered, AsksVisit, AsksStage, AsksFor, EachAsksFor, IsClear, NoneLeft, MayBegin, IsAtEnd, IsEager, IsInVain, IsDraining, RemembersOn, GetsNone}
-use Rattle.eager_slaves.specs.Frames.{One, FrameAs}
+use Rattle.eager_slaves.specs.Frames.{One, FrameAs, TellsBy}
 use Rattle.eager_slaves.specs.Standing.{Steps, Unvisited, Visited, Standing, IsDone}
 use Rattle.eager_slaves.proofs.Behind as Behind
 use Rattle.eager_slaves.proofs.Behind.{left_heard}
 use Rattle.eager_slaves.proofs.Choices.{stand_next, inn_next, row_next, hand_next, same_next}
-use Rattle.eager_slaves.proofs.Sent.{met, met_ask, met_station, node_behind, registers_behind, came_back, access_came}
+use Rattle.eager_slaves.proofs.Sent.{met, met_ask, read_counter, met_station, node_behind, registers_behind, came_back, access_came}
 
 -- ---- small facts
 -- a word that is carried out waits no longer
@@ -67,17 +69,19 @@ carried_none table r = go r.refused r.control refl
     go None (Some w) e = decides (table r.state w.0) w.0
     go (Some code) (Some w) e = flag w.1 w.0 (table r.state w.0)
 
-for_not_gone : (q : Wanted) (hand : Option Duty) → IsFor q hand → NotGone hand
-for_not_gone Wanted.Mails hand e = subst NotGone (sym e) tt
-for_not_gone Wanted.Drains hand (duty, is, stage) = subst NotGone (sym is) (subst (λ (z : Stage). NotGone (Some (record duty { stage = z }))) (sym stage) tt)
+for_not_gone : (q : Wanted) (hand : Option Duty) (p : Option Passing) → IsFor q hand p → NotGone hand
+for_not_gone Wanted.Mails hand p (none, unboxed) = subst NotGone (sym none) tt
+for_not_gone Wanted.Drains hand p (inr (none, boxed)) = subst NotGone (sym none) tt
+for_not_gone Wanted.Drains hand p (inl (duty, is, stage)) = subst NotGone (sym is) (subst (λ (z : Stage). NotGone (Some (record duty { stage = z }))) (sym stage) tt)
 
-for_draining : (q : Wanted) (hand : Option Duty) → IsFor q hand → IsDraining hand
-for_draining Wanted.Mails hand e = subst IsDraining (sym e) tt
-for_draining Wanted.Drains hand (duty, is, stage) = subst IsDraining (sym is) stage
+for_draining : (q : Wanted) (hand : Option Duty) (p : Option Passing) → IsFor q hand p → IsDraining hand
+for_draining Wanted.Mails hand p (none, unboxed) = subst IsDraining (sym none) tt
+for_draining Wanted.Drains hand p (inr (none, boxed)) = subst IsDraining (sym none) tt
+for_draining Wanted.Drains hand p (inl (duty, is, stage)) = subst IsDraining (sym is) stage
 
-asks_visit : (h : Halves Body) (m : Memory) (hand : Option Duty) (d : Datagram Body) → IsDraining hand → AsksFor h m hand d → AsksVisit h (visit_for hand m (is_some h.out.holding)) d
-asks_visit h m None d drains asks = asks
-asks_visit h m (Some duty) d drains asks = subst (λ stage. AsksStage h m duty.target stage d) drains asks
+asks_visit : (h : Halves Body) (m : Memory) (hand : Option Duty) (p : Option Passing) (d : Datagram Body) → IsDraining hand → AsksFor h m hand p d → AsksVisit h (visit_for hand p m (is_some h.out.holding)) d
+asks_visit h m None p d drains asks = asks
+asks_visit h m (Some duty) p d drains asks = subst (λ stage. AsksStage h m duty.target stage d) drains asks
 
 -- an access of a visit leaves the registers
 visit_registers : (h : Halves Body) (visit : Visit) (d : Datagram Body) (r : Registers) → AsksVisit h visit d → registers_met r d.access ≡ r
@@ -105,12 +109,13 @@ pub unvisited_waits : {S : Type 0} (v : Server Body S) (l : Life Body Asked Repl
 unvisited_waits {S} v l n t m k = subst (λ (z : ℕ). Waiting v l n m (record { stepped = t.stepped; tries = z })) (sym k.tries) (by n t.stepped k.steps)
   where
     by : (n : Node Body S) (b : Bool) → Steps v k.link.node n b → Waiting v l n m (record { stepped = b; tries = 0 })
-    by _ _ Steps.none = record { link = k.link; wanted = k.wanted; waits = IsWaiting.new k.link k.wanted m k.agrees k.clear; shows = k.shows }
+    by _ _ Steps.none = record { link = k.link; wanted = k.wanted; waits = IsWaiting.new k.link k.wanted m k.agrees k.clear; shows = k.shows; unserved = λ no. absurd (omega (arith, no)) }
     by _ _ (Steps.more n b s) = let w = by n b s in record {
       link = happens v w.link Event.Pdi;
       wanted = w.wanted;
       waits = IsWaiting.steps w.link w.wanted m (record { stepped = b; tries = 0 }) w.waits;
       shows = record { halves = w.shows.halves; node = ap (processor_step v) w.shows.node; hand = w.shows.hand; stands = w.shows.stands };
+      unserved = w.unserved;
     }
 
 -- ---- THE FRAME
@@ -118,7 +123,7 @@ module _ {V A : Type 0} (ex : Exchange V A Body Asked Reply) (processor : Proces
   abbrev v : Server Body (Serving V Body)
   v = serving ex
 
-  module _ (c : Clocked Body Asked Reply) (u : Under Body Asked Reply) (s s' : Slave V Body) (f : FrameAs ex processor table x acknowledged more passed number sent back c u s s') where
+  module _ (c : Clocked Body Asked Reply) (u : Under Body Asked Reply) (t : Waits) (s s' : Slave V Body) (f : FrameAs ex processor table x acknowledged more passed number sent back c u t s s') where
     abbrev station : ℕ
     station = c.spot.station
 
@@ -155,8 +160,8 @@ module _ {V A : Type 0} (ex : Exchange V A Body Asked Reply) (processor : Proces
         by true = ap (λ (z : Slave V Body). (slave_steps ex processor z).node) left ∙ f.alone.node not_gone
         by false = ap (λ (z : Slave V Body). z.node) left
 
-    step_control : (t : Waits) → s'.registers ≡ registers_on table number c s.registers → (t.stepped ≡ true → s.registers.control ≡ None) → (waits_on number c u t).stepped ≡ true → s'.registers.control ≡ None
-    step_control t registers before stepped = ap (λ (r : Registers). r.control) registers ∙ by (suc number % c.pace == 0) stepped
+    step_control : s'.registers ≡ registers_on table number c s.registers → (t.stepped ≡ true → s.registers.control ≡ None) → (waits_on number c u t).stepped ≡ true → s'.registers.control ≡ None
+    step_control registers before stepped = ap (λ (r : Registers). r.control) registers ∙ by (suc number % c.pace == 0) stepped
       where
         by : (b : Bool) → (if b then true else t.stepped) ≡ true → (if b then carry table s.registers else s.registers).control ≡ None
         by true e = carried_none table s.registers
@@ -164,9 +169,9 @@ module _ {V A : Type 0} (ex : Exchange V A Body Asked Reply) (processor : Proces
 
     -- ---- A SLAVE THAT WAITS
     module _ (m n : Remembered) (next : Option Plan.Service) (begun : Option (Service Asked)) (wish : f.pick.begin ≡ begun) (eager : IsEager (x c.spot) station sent m u.under begun next c.life u.life) (remembers : RemembersOn station back m n u.under c.life u.life) where
-      module _ (t : Waits) (k : Waiting v c.life s.node m.memory t) (link : HasLink c.life.era.side s) (pause_free : IsUnpaused f.pick m.memory t) where
+      module _ (k : Waiting v c.life s.node m.memory t) (link : HasLink c.life.era.side s) (pause_free : IsUnpaused f.pick m.memory t) where
         chose : Chosen v c.life u.life s.node m.memory t
-        chose = subst (λ z. Chosen v c.life z s.node m.memory t) (sym f.life) (chosen v c.life s.node m.memory t k (x c.spot) acknowledged more passed number f.pick f.unpassed pause_free)
+        chose = subst (λ z. Chosen v c.life z s.node m.memory t) (sym f.life) (chosen v c.life s.node m.memory t k (x c.spot) acknowledged more passed number f.pick pause_free)
 
         clear : IsClear u.life
         clear = record { stands = chose.shows.stands; clear = ap (λ (h : InHalf). h.state) inn_is ∙ ap (λ (h : Halves Body). h.inn.state) (sym k.shows.halves) ∙ (holds v k.link k.wanted m.memory t k.waits).clear }
@@ -177,23 +182,52 @@ module _ {V A : Type 0} (ex : Exchange V A Body Asked Reply) (processor : Proces
 
         -- its visit
         asks : (o : One station sent) → AsksVisit u.life.era.side.halves (life_visit u.life (memory_of c.life u.life m.memory)) o.datagram
-        asks o = asks_visit u.life.era.side.halves (memory_of c.life u.life m.memory) u.life.era.account.hand o.datagram (for_draining (wanted_by chose.wanted chose.coming) u.life.era.account.hand chose.shows.hand)
-            (subst (λ ds. EachAsksFor u.life.era.side.halves (memory_of c.life u.life m.memory) u.life.era.account.hand ds) o.is (eager.asks clear)).0
+        asks o = asks_visit u.life.era.side.halves (memory_of c.life u.life m.memory) u.life.era.account.hand u.life.era.passing o.datagram (for_draining (wanted_by chose.wanted chose.coming) u.life.era.account.hand u.life.era.passing chose.shows.hand)
+            (subst (λ ds. EachAsksFor u.life.era.side.halves (memory_of c.life u.life m.memory) u.life.era.account.hand u.life.era.passing ds) o.is (eager.asks clear)).0
 
         abbrev came : u.under ≡ true → CameBack station s.node u.life.era.side.halves (life_visit u.life (memory_of c.life u.life m.memory)) back
         came e = let o = f.one clear.stands e in came_back station s f.here o.datagram o.sent_so back u.life.era.side.halves (life_visit u.life (memory_of c.life u.life m.memory)) (back_one o) (asks o)
 
-        vain : (u.under ≡ false → u.life ≡ c.life) → InVain x acknowledged more passed number back c u s.node m.memory t
-        vain none = record { pick = f.pick; life = f.life; unpassed = f.unpassed; unpaused = pause_free; row = row; visits = came; none = λ e. (none e, back_none e); same = f.same }
+        -- what it tells of a mail that is passed on
+        told_by : (w : Visit) (d : Datagram Body) → AsksVisit u.life.era.side.halves w d → (a : Datagram Body) → a.access ≡ d.access → a.gram.ask ≡ d.gram.ask → (d.gram.ask ≡ Ask.ReadMail → s.node.inn.box ≡ None → (a.gram.counter == 0) ≡ true) →
+            Meets s.node u.life.era.side.halves w a → TellsBy t.stepped u.news a → Tells t.stepped s.node w u.news
+        told_by Visit.Write d asks a access ask read meets by = tt
+        told_by Visit.Read d asks a access ask read meets by = λ made empty. by.empty (access ∙ asks.1) (ask ∙ asks.0) (read asks.0 empty) made
+        told_by Visit.Full d asks a access ask read (is_ask, is_access, counted, found) by = by.full (is_some s.node.out.box) (access ∙ asks.1) (ask ∙ asks.0) counted found
 
-        same : gains (life_back (x c.spot) acknowledged more passed number c.spot [] back u.came u.life Stand.Open) ≡ gains u.life
+        told : u.under ≡ true → is_some u.life.era.passing ≡ true → Tells t.stepped s.node (life_visit u.life (memory_of c.life u.life m.memory)) u.news
+        told e some =
+            let o = f.one clear.stands e in
+            let a = met station s f.here o.datagram o.sent_so in
+            told_by (life_visit u.life (memory_of c.life u.life m.memory)) o.datagram (asks o) a refl (met_ask station s f.here o.datagram o.sent_so) (read_counter station s f.here o.datagram o.sent_so) (came e).meets (f.tells clear.stands some a (back_one o))
+
+        vain : (u.under ≡ false → u.life ≡ c.life) → InVain x acknowledged more passed number back c u s.node m.memory t
+        vain none = record {
+          pick = f.pick;
+          life = f.life;
+          unpaused = pause_free;
+          row = row;
+          visits = came;
+          tells = told;
+          none = λ e. (none e, back_none e);
+          same = f.same;
+          still = f.still;
+        }
+
+        same : gains (life_back (x c.spot) acknowledged more passed number c.spot u.news back u.came u.life Stand.Open) ≡ gains u.life
         same =
-            ap (λ z. gains (life_back (x c.spot) acknowledged more passed number c.spot [] back u.came u.life z)) (sym clear.stands) ∙ f.same
+            ap (λ z. gains (life_back (x c.spot) acknowledged more passed number c.spot u.news back u.came u.life z)) (sym clear.stands) ∙ f.same
             ∙ sym (next_same (x c.spot) acknowledged more passed number c.life c.life.stand f.pick) ∙ ap gains (sym f.life)
+
+        still : (life_back (x c.spot) acknowledged more passed number c.spot u.news back u.came u.life Stand.Open).era.passing ≡ u.life.era.passing
+        still = ap (λ z. (life_back (x c.spot) acknowledged more passed number c.spot u.news back u.came u.life z).era.passing) (sym clear.stands) ∙ f.still
+
+        visit_still : u.under ≡ true → IsStill t.stepped s.node (life_visit u.life (memory_of c.life u.life m.memory)) u.news u.life (life_back (x c.spot) acknowledged more passed number c.spot u.news back u.came u.life Stand.Open)
+        visit_still e = record { tells = told e; same = still }
 
         -- it leaves the slave
         visit_node : (e : u.under ≡ true) → node_meets s.node (let o = f.one clear.stands e in met station s f.here o.datagram o.sent_so).gram.ask ≡ s.node
-        visit_node e = same_node v (x c.spot) acknowledged more passed number c.spot [] back u.came u.life s.node m.memory t c.life chose row (came e) same
+        visit_node e = same_node v (x c.spot) acknowledged more passed number c.spot u.news back u.came u.life s.node m.memory t c.life chose row (came e) same (visit_still e)
 
         left_so : (b : Bool) → u.under ≡ b → slave_after station s (own station sent) ≡ s
         left_so false e = sent_none e
@@ -206,7 +240,7 @@ module _ {V A : Type 0} (ex : Exchange V A Body Asked Reply) (processor : Proces
         left = left_so u.under refl
 
         not_gone : NotGone c.life.era.account.hand
-        not_gone = for_not_gone k.wanted c.life.era.account.hand k.shows.hand
+        not_gone = for_not_gone k.wanted c.life.era.account.hand c.life.era.passing k.shows.hand
 
         -- behind it the hand is none, or drains yet
         module _ (i : InVain x acknowledged more passed number back c u s.node m.memory t) where
@@ -221,27 +255,19 @@ module _ {V A : Type 0} (ex : Exchange V A Body Asked Reply) (processor : Proces
             where
               goes : behind.era.account.hand ≡ Some (record duty { stage = Stage.Goes Phase.Ask })
               goes =
-                  Behind.hand_one (x c.spot) acknowledged more passed number c.spot back u.came u.life clear.stands d one is duty hand address counted
+                  Behind.hand_one (x c.spot) acknowledged more passed number c.spot u.news back u.came u.life clear.stands d one is duty hand address counted
                   ∙ (λ z. (account_by number u.life.era.account duty (access_done {R = Reply} duty.target (stage z) (access z) (found z))).hand)
 
-              never : (q : Wanted) → IsFor q behind.era.account.hand → is_some (let none : Option (LinkMail Body) = None in none) ≡ true
-              never Wanted.Mails none = absurd (let no : Some (record duty { stage = Stage.Goes Phase.Ask }) ≡ None = sym goes ∙ none in cc)
-              never Wanted.Drains (other, is, drains) =
+              never : (q : Wanted) → IsFor q behind.era.account.hand behind.era.passing → is_some (let none : Option (LinkMail Body) = None in none) ≡ true
+              never Wanted.Mails (none, unboxed) = absurd (let no : Some (record duty { stage = Stage.Goes Phase.Ask }) ≡ None = sym goes ∙ none in cc)
+              never Wanted.Drains (inr (none, boxed)) = absurd (let no : Some (record duty { stage = Stage.Goes Phase.Ask }) ≡ None = sym goes ∙ none in cc)
+              never Wanted.Drains (inl (other, is, drains)) =
                   let same : record duty { stage = Stage.Goes Phase.Ask } ≡ other = (let both : Some (record duty { stage = Stage.Goes Phase.Ask }) ≡ Some other = sym goes ∙ is in cc) in
                   absurd (let no : Stage.Goes Phase.Ask ≡ Stage.Drains = ap (λ (z : Duty). z.stage) same ∙ drains in cc)
 
           -- so it was in vain
-          visit_full : (b : Bool) (m' : Memory) → mails_visit m'.paused b ≡ Visit.Full → is_some (let none : Option (LinkMail Body) = None in none) ≡ true
-          visit_full b m' e = by m'.paused b e
-            where
-              by : (p b : Bool) → mails_visit p b ≡ Visit.Full → is_some (let none : Option (LinkMail Body) = None in none) ≡ true
-              by true b e = absurd (let no : Visit.Read ≡ Visit.Full = e in cc)
-              by false true e = absurd (let no : Visit.Write ≡ Visit.Full = e in cc)
-              by false false e = absurd (let no : Visit.Read ≡ Visit.Full = e in cc)
-
-          drains_now : (q : Wanted) → IsFor q u.life.era.account.hand → life_visit u.life (memory_of c.life u.life m.memory) ≡ Visit.Full → (duty : Duty) × (u.life.era.account.hand ≡ Some duty) × (duty.stage ≡ Stage.Drains)
-          drains_now Wanted.Drains k e = k
-          drains_now Wanted.Mails none e = absurd (let no : false ≡ true = visit_full (is_some u.life.era.side.halves.out.holding) (memory_of c.life u.life m.memory) (sym (ap (λ h. visit_for h (memory_of c.life u.life m.memory) (is_some u.life.era.side.halves.out.holding)) none) ∙ e) in cc)
+          drains_now : life_visit u.life (memory_of c.life u.life m.memory) ≡ Visit.Full → IsFor Wanted.Drains u.life.era.account.hand u.life.era.passing
+          drains_now e = full_drains (wanted_by chose.wanted chose.coming) u.life.era.account.hand u.life.era.passing (memory_of c.life u.life m.memory) (is_some u.life.era.side.halves.out.holding) chose.shows.hand e
 
           module _ (e : u.under ≡ true) where
             abbrev o : One station sent
@@ -257,8 +283,14 @@ module _ {V A : Type 0} (ex : Exchange V A Body Asked Reply) (processor : Proces
             is_vain Visit.Write is asks (mail, held, ask, counter, access) = ap (λ n. n == 0) (counter ∙ written_full s.node mail (ap (node_meets s.node) (sym ask) ∙ visit_node e))
             is_vain Visit.Read is asks meets = tt
             is_vain Visit.Full is asks (ask, access, counted, found) =
-                let k = drains_now (wanted_by chose.wanted chose.coming) chose.shows.hand is in
-                (counted, found ∙ ap (λ z. Some (Found.Full z)) (saw_full o e k.0 k.1 k.2 d (came e).one (came e).station_is (came e).address access counted s.node.out.box found))
+                (counted, found ∙ ap (λ z. Some (Found.Full z)) (is_full (drains_now is)))
+              where
+                is_full : IsFor Wanted.Drains u.life.era.account.hand u.life.era.passing → is_some s.node.out.box ≡ true
+                is_full (inl k) = saw_full o e k.0 k.1 k.2 d (came e).one (came e).station_is (came e).address access counted s.node.out.box found
+                is_full (inr (none, boxed)) =
+                    let b = not_boxed (x c.spot) acknowledged more passed number c.spot u.news back u.came u.life s.node t.stepped (boxed_is u.life.era.passing boxed)
+                    (subst (λ z. IsStill t.stepped s.node z u.news u.life (life_back (x c.spot) acknowledged more passed number c.spot u.news back u.came u.life Stand.Open)) is (visit_still e)) in
+                    ap is_some b.1
 
             -- the mail held stays held, and nothing is heard
             same_out : (w : Visit) → visit ≡ w → Meets s.node u.life.era.side.halves w d → IsInVain w d → (halves_answered u.life.era.side.halves d.gram.ask d.gram).out ≡ u.life.era.side.halves.out
@@ -283,13 +315,13 @@ module _ {V A : Type 0} (ex : Exchange V A Body Asked Reply) (processor : Proces
 
             left_visited : behind.era.side.halves.out.holding ≡ None → NoneLeft (x c.spot) behind
             left_visited free =
-                let halves = Behind.halves_one (x c.spot) acknowledged more passed number c.spot back u.came u.life clear.stands d (came e).one (came e).station_is in
+                let halves = Behind.halves_one (x c.spot) acknowledged more passed number c.spot u.news back u.came u.life clear.stands d (came e).one (came e).station_is in
                 let held : u.life.era.side.halves.out.holding ≡ None = ap (λ (z : OutHalf Body). z.holding) (sym (ap (λ (h : Halves Body). h.out) halves ∙ same_out visit refl meets in_vain)) ∙ free in
                 left_heard (x c.spot) number u.life.era.side.now behind.era.side.now
-                (Behind.now_one (x c.spot) acknowledged more passed number c.spot back u.came u.life clear.stands d (came e).one (came e).station_is (hears_none visit refl meets)) (eager.takes e clear held)
+                (Behind.now_one (x c.spot) acknowledged more passed number c.spot u.news back u.came u.life clear.stands d (came e).one (came e).station_is (hears_none visit refl meets)) (eager.takes e clear held)
 
             remembers_so : n.memory ≡ memory_behind (memory_of c.life u.life m.memory) visit
-            remembers_so = remembers.visited e clear (for_draining (wanted_by chose.wanted chose.coming) u.life.era.account.hand chose.shows.hand) d (came e).one in_vain
+            remembers_so = remembers.visited e clear (for_draining (wanted_by chose.wanted chose.coming) u.life.era.account.hand u.life.era.passing chose.shows.hand) d (came e).one in_vain
 
           -- what is remembered is what such a visit leaves
           memory_is : (b : Bool) → u.under ≡ b → n.memory ≡ (if b then memory_behind (memory_of c.life u.life m.memory) (life_visit u.life (memory_of c.life u.life m.memory)) else m.memory)
@@ -298,8 +330,8 @@ module _ {V A : Type 0} (ex : Exchange V A Body Asked Reply) (processor : Proces
 
           left_none : u.under ≡ false → (u.life.era.side.halves.out.holding ≡ None → NoneLeft (x c.spot) u.life) → behind.era.side.halves.out.holding ≡ None → NoneLeft (x c.spot) behind
           left_none e before free =
-              let halves = Behind.halves_none (x c.spot) acknowledged more passed number c.spot back u.came u.life clear.stands (back_none e) in
-              left_heard (x c.spot) number u.life.era.side.now behind.era.side.now (Behind.now_none (x c.spot) acknowledged more passed number c.spot back u.came u.life clear.stands (back_none e))
+              let halves = Behind.halves_none (x c.spot) acknowledged more passed number c.spot u.news back u.came u.life clear.stands (back_none e) in
+              left_heard (x c.spot) number u.life.era.side.now behind.era.side.now (Behind.now_none (x c.spot) acknowledged more passed number c.spot u.news back u.came u.life clear.stands (back_none e))
               (before (ap (λ (h : Halves Body). h.out.holding) (sym halves) ∙ free))
 
           left_behind : (b : Bool) → u.under ≡ b → (b ≡ false → u.life.era.side.halves.out.holding ≡ None → NoneLeft (x c.spot) u.life) → behind.era.side.halves.out.holding ≡ None → NoneLeft (x c.spot) behind
@@ -325,7 +357,7 @@ module _ {V A : Type 0} (ex : Exchange V A Body Asked Reply) (processor : Proces
           }
 
       -- ---- NO MAIL WAS HEARD of it
-      module _ (t : Waits) (link : HasLink c.life.era.side s) where
+      module _ (link : HasLink c.life.era.side s) where
         abbrev pub Silent : Type 0
         Silent = all_accepted c.spot.station u.life.era.side.halves (grams (own c.spot.station back)) ≡ []
 
@@ -336,7 +368,7 @@ module _ {V A : Type 0} (ex : Exchange V A Body Asked Reply) (processor : Proces
         waits_silent k pause = go u.under refl
           where
             go : (b : Bool) → u.under ≡ b → Silent
-            go true e = silent_one t k link pause (vain t k link pause (λ out. absurd (let no : true ≡ false = sym e ∙ out in cc))) e
+            go true e = silent_one k link pause (vain k link pause (λ out. absurd (let no : true ≡ false = sym e ∙ out in cc))) e
             go false e = silent_none e
 
         pub going_silent : Going table c.life s.registers t → c.life.era.side.halves.inn.state ≡ InState.Clear → Silent
@@ -353,9 +385,9 @@ module _ {V A : Type 0} (ex : Exchange V A Body Asked Reply) (processor : Proces
 
             other : (o : One station sent) → o.datagram.gram.ask ≡ Ask.Other
             other o =
-                let asked = (subst (λ ds. EachAsksFor u.life.era.side.halves (memory_of c.life u.life m.memory) u.life.era.account.hand ds) o.is (eager.asks open_clear)).0 in
+                let asked = (subst (λ ds. EachAsksFor u.life.era.side.halves (memory_of c.life u.life m.memory) u.life.era.account.hand u.life.era.passing ds) o.is (eager.asks open_clear)).0 in
                 (subst (λ stage. AsksStage u.life.era.side.halves (memory_of c.life u.life m.memory) g.duty.target stage o.datagram) g.stage
-                (subst (λ h. AsksFor u.life.era.side.halves (memory_of c.life u.life m.memory) h o.datagram) hand asked)).0
+                (subst (λ h. AsksFor u.life.era.side.halves (memory_of c.life u.life m.memory) h u.life.era.passing o.datagram) hand asked)).0
 
             go : (b : Bool) → u.under ≡ b → Silent
             go false e = silent_none e
@@ -368,7 +400,7 @@ module _ {V A : Type 0} (ex : Exchange V A Body Asked Reply) (processor : Proces
                 ∙ ap (λ a. halves_accept h a d.gram ++ []) (met_ask station s f.here o.datagram o.sent_so ∙ other o)
 
       -- ---- WHAT IT IS BEHIND THE FRAME
-      module _ (t : Waits) (next' : Option Plan.Service) (gets : GetsNone m n) (script : next ≡ None → next' ≡ None) (link : HasLink c.life.era.side s) (answered : NowAnswered (x c.spot) c.life.era.side)
+      module _ (next' : Option Plan.Service) (gets : GetsNone m n) (script : next ≡ None → next' ≡ None) (link : HasLink c.life.era.side s) (answered : NowAnswered (x c.spot) c.life.era.side)
           (states : (target : ℕ) → begun ≡ Some (Service.State target) → ((era_next (x c.spot) acknowledged more passed number c.life.era f.pick).account.started ≡ starts c.life.era.account (Service.State target) number) × (next ≡ None → ⊥))
           (holds_up : u.under ≡ true → IsClear c.life → EndsHeld (x c.spot) acknowledged (next ≡ None) c.spot.station back u.life (back_life x acknowledged more passed number back c u)) (frees : LifeSpent v c.life s.node → NoneLeft (x c.spot) c.life → MayBegin (x c.spot) c.life)
           (settles : u.under ≡ true → IsClear u.life → u.life.era.side.halves.out.holding ≡ None → u.life.era.account.hand ≡ None → begun ≡ None) where
@@ -388,34 +420,34 @@ module _ {V A : Type 0} (ex : Exchange V A Body Asked Reply) (processor : Proces
         open_waits k few = (ap is_live k.shows.stands, few)
 
         packet_none : IsAtEnd next m → IsAtEnd next' n
-        packet_none e = record { script = script e.script; packet = by n.packet refl }
+        packet_none e = record { script = script e.script; packet = by n.packet m.packet gets.packet e.packet; asked = by n.asked m.asked gets.asked e.asked }
           where
-            by : (b : Bool) → n.packet ≡ b → b ≡ false
-            by false is = refl
-            by true is = absurd (let no : true ≡ false = sym (gets is) ∙ e.packet in cc)
+            by : (b c : Bool) → (b ≡ true → c ≡ true) → c ≡ false → b ≡ false
+            by false c is none = refl
+            by true c is none = absurd (let no : true ≡ false = sym (is refl) ∙ none in cc)
 
         -- behind a write in vain where a state service might begin, the script is at its end
         abbrev HeldOn : Life Body Asked Reply → Memory → Waits → Type 0
         HeldOn l mem w = HeldUp (x c.spot) acknowledged (next ≡ None) l mem w
 
         script_on : HeldOn behind n.memory on → HeldUp (x c.spot) acknowledged (next' ≡ None) behind n.memory on
-        script_on h one paused hand free = script (h one paused hand free)
+        script_on h one paused hand unpassed free = script (h one paused hand unpassed free)
 
         state_begins : (target : ℕ) → f.pick.begin ≡ Some (Service.State target) → ((era_next (x c.spot) acknowledged more passed number c.life.era f.pick).account.started ≡ starts c.life.era.account (Service.State target) number) × (next ≡ None → ⊥)
         state_begins target e = states target (sym wish ∙ e)
 
         module _ (w : Waiting v c.life s.node m.memory t) (free : IsUnpaused f.pick m.memory t) (i : InVain x acknowledged more passed number back c u s.node m.memory t) (e : u.under ≡ true) where
           abbrev open_behind : Life Body Asked Reply
-          open_behind = life_back (x c.spot) acknowledged more passed number c.spot [] back u.came u.life Stand.Open
+          open_behind = life_back (x c.spot) acknowledged more passed number c.spot u.news back u.came u.life Stand.Open
 
           open_is : behind ≡ open_behind
-          open_is = ap (λ z. life_back (x c.spot) acknowledged more passed number c.spot [] back u.came u.life z) (clear t w link free).stands
+          open_is = ap (λ z. life_back (x c.spot) acknowledged more passed number c.spot u.news back u.came u.life z) (clear w link free).stands
 
           clear_c : IsClear c.life
           clear_c = record { stands = w.shows.stands; clear = ap (λ (h : Halves Body). h.inn.state) (sym w.shows.halves) ∙ (holds v w.link w.wanted m.memory t w.waits).clear }
 
           up : HeldOn open_behind (memory_behind (memory_of c.life u.life m.memory) (life_visit u.life (memory_of c.life u.life m.memory))) (tried t)
-          up = held_up (x c.spot) acknowledged more passed number c.spot [] back u.came u.life v c.life s.node m.memory t (next ≡ None) (chose t w link free) (row t w link free) (came t w link free e) (same t w link free)
+          up = held_up (x c.spot) acknowledged more passed number c.spot u.news back u.came u.life v c.life s.node m.memory t (next ≡ None) (chose w link free) (row w link free) (came w link free e) (same w link free) (visit_still w link free e)
               (subst (λ z. EndsHeld (x c.spot) acknowledged (next ≡ None) c.spot.station back u.life z) open_is (holds_up e clear_c))
 
           as_tried : 1 ≤ on.tries → 1 ≤ (tried t).tries
@@ -424,25 +456,25 @@ module _ {V A : Type 0} (ex : Exchange V A Body Asked Reply) (processor : Proces
           pub held_visited : HeldOn behind n.memory on
           held_visited =
               subst (λ z. HeldOn z n.memory on) (sym open_is)
-              (subst (λ z. HeldOn open_behind z on) (sym (remembers_so t w link free i e)) (λ one paused hand might. up (as_tried one) paused hand might))
+              (subst (λ z. HeldOn open_behind z on) (sym (remembers_so w link free i e)) (λ one paused hand unpassed might. up (as_tried one) paused hand unpassed might))
 
         -- ---- it was visited already
         module _ (k : Visited v (x c.spot) c.life s.node m.memory t) (control : t.stepped ≡ true → s.registers.control ≡ None) (end : 2 ≤ t.tries → IsAtEnd next m)
             (held : HeldUp (x c.spot) acknowledged (next ≡ None) c.life m.memory t) where
           unpaused_now : IsUnpaused f.pick m.memory t
-          unpaused_now = unpaused (x c.spot) acknowledged more passed number c.life m.memory t f.pick (next ≡ None) f.unpassed held state_begins
+          unpaused_now = unpaused (x c.spot) acknowledged more passed number c.life m.memory t f.pick (next ≡ None) held state_begins
 
           stays_so : u.under ≡ false → u.life ≡ c.life
-          stays_so e = f.life ∙ same_next (x c.spot) acknowledged more passed number c.life f.pick k.waits.shows.stands f.unpassed (wish ∙ eager.begins e) (λ free r now. k.left free r now)
+          stays_so e = f.life ∙ same_next (x c.spot) acknowledged more passed number c.life f.pick k.waits.shows.stands (wish ∙ eager.begins e) (λ free r now. k.left free r now)
 
           i : InVain x acknowledged more passed number back c u s.node m.memory t
-          i = vain t k.waits link unpaused_now stays_so
+          i = vain k.waits link unpaused_now stays_so
 
           before : u.under ≡ false → u.life.era.side.halves.out.holding ≡ None → NoneLeft (x c.spot) u.life
           before e free = subst (λ z. NoneLeft (x c.spot) z) (sym (stays_so e)) (k.left (ap (λ (z : Life Body Asked Reply). z.era.side.halves.out.holding) (sym (stays_so e)) ∙ free))
 
           now : Visited v (x c.spot) behind s'.node n.memory on
-          now = visited_on t k.waits link unpaused_now i before
+          now = visited_on k.waits link unpaused_now i before
 
           none_left : LifeSpent v c.life s.node → NoneLeft (x c.spot) c.life
           none_left spent = k.left (sym (ap (λ (h : Halves Body). h.out.holding) spent.shows.halves) ∙ spent.spent.held)
@@ -459,8 +491,8 @@ module _ {V A : Type 0} (ex : Exchange V A Body Asked Reply) (processor : Proces
 
           ends_now : u.under ≡ true → 1 ≤ t.tries → IsAtEnd next m
           ends_now e one =
-              let spent = second v (x c.spot) acknowledged more passed number c.spot [] back u.came u.life s.node m.memory t c.life (chose t k.waits link unpaused_now) (row t k.waits link unpaused_now) (came t k.waits link unpaused_now e) (same t k.waits link unpaused_now) one in
-              eager.ends e clear_before (frees spent.0 (none_left spent.0)) (settles e (clear t k.waits link unpaused_now) (sym (ap (λ (h : Halves Body). h.out.holding) spent.1.shows.halves) ∙ spent.1.spent.held) spent.1.shows.hand)
+              let spent = second v (x c.spot) acknowledged more passed number c.spot u.news back u.came u.life s.node m.memory t c.life (chose k.waits link unpaused_now) (row k.waits link unpaused_now) (came k.waits link unpaused_now e) (same k.waits link unpaused_now) (visit_still k.waits link unpaused_now e) one in
+              eager.ends e clear_before (frees spent.0 (none_left spent.0)) (settles e (clear k.waits link unpaused_now) (sym (ap (λ (h : Halves Body). h.out.holding) spent.1.shows.halves) ∙ spent.1.spent.held) spent.1.shows.hand.0)
 
           at_end : (under stepped : Bool) → u.under ≡ under → t.stepped ≡ stepped → 2 ≤ (if under && stepped then suc t.tries else t.tries) → IsAtEnd next m
           at_end true true e g two = ends_now e (omega (arith, two))
@@ -485,18 +517,21 @@ module _ {V A : Type 0} (ex : Exchange V A Body Asked Reply) (processor : Proces
           -- with no visit the side stays
           side_same : u.under ≡ false → behind.era.side ≡ c.life.era.side
           side_same e =
-              Behind.side_none (x c.spot) acknowledged more passed number c.spot back u.came u.life (clear t k.waits link unpaused_now).stands (back_none e) (subst (λ (z : Life Body Asked Reply). NowAnswered (x c.spot) z.era.side) (sym (stays_so e)) answered)
+              Behind.side_none (x c.spot) acknowledged more passed number c.spot u.news back u.came u.life (clear k.waits link unpaused_now).stands (back_none e) (subst (λ (z : Life Body Asked Reply). NowAnswered (x c.spot) z.era.side) (sym (stays_so e)) answered)
               ∙ ap (λ (z : Life Body Asked Reply). z.era.side) (stays_so e)
 
           hand_same : u.under ≡ false → behind.era.account.hand ≡ c.life.era.account.hand
-          hand_same e = Behind.hand_none (x c.spot) acknowledged more passed number c.spot back u.came u.life (clear t k.waits link unpaused_now).stands (back_none e) ∙ ap (λ (z : Life Body Asked Reply). z.era.account.hand) (stays_so e)
+          hand_same e = Behind.hand_none (x c.spot) acknowledged more passed number c.spot u.news back u.came u.life (clear k.waits link unpaused_now).stands (back_none e) ∙ ap (λ (z : Life Body Asked Reply). z.era.account.hand) (stays_so e)
+
+          passing_same : u.under ≡ false → behind.era.passing ≡ c.life.era.passing
+          passing_same e = f.still ∙ ap (λ (z : Life Body Asked Reply). z.era.passing) (stays_so e)
 
           as_before : u.under ≡ false → 1 ≤ on.tries → 1 ≤ t.tries
           as_before e one = subst (λ (b : Bool). 1 ≤ (if b && t.stepped then suc t.tries else t.tries)) e one
 
           held_none : u.under ≡ false → HeldOn behind n.memory on
-          held_none e one paused hand free =
-              held (as_before e one) (ap (λ (z : Memory). z.paused) (sym (remembers.unvisited e (clear t k.waits link unpaused_now).stands)) ∙ paused) (sym (hand_same e) ∙ hand)
+          held_none e one paused hand unpassed free =
+              held (as_before e one) (ap (λ (z : Memory). z.paused) (sym (remembers.unvisited e (clear k.waits link unpaused_now).stands)) ∙ paused) (sym (hand_same e) ∙ hand) (sym (passing_same e) ∙ unpassed)
               (subst (λ (d : Side Body Asked Reply). IsFree (x c.spot) acknowledged d) (side_same e) free)
 
           held_now : (b : Bool) → u.under ≡ b → HeldOn behind n.memory on
@@ -505,7 +540,7 @@ module _ {V A : Type 0} (ex : Exchange V A Body Asked Reply) (processor : Proces
 
           pub visited_stands : Stands
           visited_stands =
-              Standing.waits now (step_control t (step_registers (left t k.waits link unpaused_now)) control) (λ two. packet_none (at_end u.under t.stepped refl refl two))
+              Standing.waits now (step_control (step_registers (left k.waits link unpaused_now)) control) (λ two. packet_none (at_end u.under t.stepped refl refl two))
               (script_on (held_now u.under refl))
 
           pub visited_waits : WaitsYet ⊎ Done
@@ -531,15 +566,15 @@ module _ {V A : Type 0} (ex : Exchange V A Body Asked Reply) (processor : Proces
 
           -- it is visited now
           visited_now : u.under ≡ true → Visited v (x c.spot) behind s'.node n.memory on
-          visited_now e = visited_on t first link unpaused_first (vain t first link unpaused_first (λ out. absurd (let no : true ≡ false = sym e ∙ out in cc))) (λ out. absurd (let no : true ≡ false = sym e ∙ out in cc))
+          visited_now e = visited_on first link unpaused_first (vain first link unpaused_first (λ out. absurd (let no : true ≡ false = sym e ∙ out in cc))) (λ out. absurd (let no : true ≡ false = sym e ∙ out in cc))
 
           -- or it isn't: what came into hand came into hand when something was gained
           module _ (out : u.under ≡ false) where
             begun_link : Waiting v c.life k.link.node m.memory new_waits
-            begun_link = record { link = k.link; wanted = k.wanted; waits = IsWaiting.new k.link k.wanted m.memory k.agrees k.clear; shows = k.shows }
+            begun_link = record { link = k.link; wanted = k.wanted; waits = IsWaiting.new k.link k.wanted m.memory k.agrees k.clear; shows = k.shows; unserved = λ no. absurd (omega (arith, no)) }
 
             ch : Chosen v c.life u.life k.link.node m.memory new_waits
-            ch = subst (λ z. Chosen v c.life z k.link.node m.memory new_waits) (sym f.life) (chosen v c.life k.link.node m.memory new_waits begun_link (x c.spot) acknowledged more passed number f.pick f.unpassed (λ target e one. absurd (omega (arith, one))))
+            ch = subst (λ z. Chosen v c.life z k.link.node m.memory new_waits) (sym f.life) (chosen v c.life k.link.node m.memory new_waits begun_link (x c.spot) acknowledged more passed number f.pick (λ target e one. absurd (omega (arith, one))))
 
             old : Holds v ch.link ch.wanted m.memory new_waits
             old = holds v ch.link ch.wanted m.memory new_waits ch.waits
@@ -554,7 +589,10 @@ module _ {V A : Type 0} (ex : Exchange V A Body Asked Reply) (processor : Proces
             stands = ch.shows.stands
 
             hand : behind.era.account.hand ≡ u.life.era.account.hand
-            hand = Behind.hand_none (x c.spot) acknowledged more passed number c.spot back u.came u.life stands (back_none out)
+            hand = Behind.hand_none (x c.spot) acknowledged more passed number c.spot u.news back u.came u.life stands (back_none out)
+
+            for_behind : IsFor (wanted_by ch.wanted ch.coming) behind.era.account.hand behind.era.passing
+            for_behind = subst (λ p. IsFor (wanted_by ch.wanted ch.coming) behind.era.account.hand p) (sym f.still) (subst (λ h. IsFor (wanted_by ch.wanted ch.coming) h u.life.era.passing) (sym hand) ch.shows.hand)
 
             old_steps : Steps v w.node s.node t.stepped
             old_steps = subst (λ z. Steps v z s.node t.stepped) (sym (come.node ∙ ch.was.node)) k.steps
@@ -570,24 +608,24 @@ module _ {V A : Type 0} (ex : Exchange V A Body Asked Reply) (processor : Proces
               agrees = come.agrees;
               clear = ap (λ (h : InHalf). h.state) come.inn ∙ old.clear;
               shows = record {
-                halves = ch.shows.halves ∙ sym (Behind.halves_none (x c.spot) acknowledged more passed number c.spot back u.came u.life stands (back_none out));
+                halves = ch.shows.halves ∙ sym (Behind.halves_none (x c.spot) acknowledged more passed number c.spot u.news back u.came u.life stands (back_none out));
                 node = refl;
-                hand = subst (λ h. IsFor (wanted_by ch.wanted ch.coming) h) (sym hand) ch.shows.hand;
-                stands = Behind.stand_for (x c.spot) acknowledged more passed number c.spot back u.came u.life stands (wanted_by ch.wanted ch.coming) (subst (λ h. IsFor (wanted_by ch.wanted ch.coming) h) (sym hand) ch.shows.hand);
+                hand = for_behind;
+                stands = Behind.stand_for (x c.spot) acknowledged more passed number c.spot u.news back u.came u.life stands (wanted_by ch.wanted ch.coming) for_behind;
               };
-              steps = subst (λ z. Steps v w.node z on.stepped) (sym (step_node (sent_none out) (for_not_gone k.wanted c.life.era.account.hand k.shows.hand))) (steps_on (suc number % c.pace == 0));
+              steps = subst (λ z. Steps v w.node z on.stepped) (sym (step_node (sent_none out) (for_not_gone k.wanted c.life.era.account.hand c.life.era.passing k.shows.hand))) (steps_on (suc number % c.pace == 0));
               tries = ap (λ (b : Bool). if b && t.stepped then suc t.tries else t.tries) out ∙ k.tries;
             }
 
           by_under : (b : Bool) → u.under ≡ b → Stands × WaitsYet
           by_under true e =
               let now = visited_now e in (
-                Standing.waits now (step_control t (step_registers (left t first link unpaused_first)) control) (λ two. absurd (let one = few u.under t.stepped in omega (arith, one, two)))
-                    (script_on (held_visited first unpaused_first (vain t first link unpaused_first (λ out. absurd (let no : true ≡ false = sym e ∙ out in cc))) e)),
+                Standing.waits now (step_control (step_registers (left first link unpaused_first)) control) (λ two. absurd (let one = few u.under t.stepped in omega (arith, one, two)))
+                    (script_on (held_visited first unpaused_first (vain first link unpaused_first (λ out. absurd (let no : true ≡ false = sym e ∙ out in cc))) e)),
                 open_waits now.waits (few u.under t.stepped),
               )
           by_under false e =
-              let now = fresh_on e in (Standing.fresh now (step_control t (step_registers (sent_none e)) control), (ap is_live now.shows.stands, few u.under t.stepped))
+              let now = fresh_on e in (Standing.fresh now (step_control (step_registers (sent_none e)) control), (ap is_live now.shows.stands, few u.under t.stepped))
 
           pub fresh_stands : Stands × WaitsYet
           fresh_stands = by_under u.under refl
@@ -605,9 +643,9 @@ module _ {V A : Type 0} (ex : Exchange V A Body Asked Reply) (processor : Proces
 
           asks_access : (o : One station sent) → (o.datagram.gram.ask ≡ Ask.Other) × (o.datagram.access ≡ phase_access g.duty.target g.phase)
           asks_access o =
-              let asked = (subst (λ ds. EachAsksFor u.life.era.side.halves (memory_of c.life u.life m.memory) u.life.era.account.hand ds) o.is (eager.asks clear_now)).0 in
+              let asked = (subst (λ ds. EachAsksFor u.life.era.side.halves (memory_of c.life u.life m.memory) u.life.era.account.hand u.life.era.passing ds) o.is (eager.asks clear_now)).0 in
               subst (λ stage. AsksStage u.life.era.side.halves (memory_of c.life u.life m.memory) g.duty.target stage o.datagram) g.stage
-              (subst (λ h. AsksFor u.life.era.side.halves (memory_of c.life u.life m.memory) h o.datagram) hand_now asked)
+              (subst (λ h. AsksFor u.life.era.side.halves (memory_of c.life u.life m.memory) h u.life.era.passing o.datagram) hand_now asked)
 
           access_vain : AccessVain x acknowledged more passed number back c u g.duty g.phase s.registers
           access_vain = record {
@@ -621,9 +659,9 @@ module _ {V A : Type 0} (ex : Exchange V A Body Asked Reply) (processor : Proces
           on_going : Going table behind (registers_on table number c s.registers) on
           on_going = goes_so table x acknowledged more passed number back c u s.registers t g access_vain
 
-          same_open : gains (life_back (x c.spot) acknowledged more passed number c.spot [] back u.came u.life Stand.Open) ≡ gains u.life
+          same_open : gains (life_back (x c.spot) acknowledged more passed number c.spot u.news back u.came u.life Stand.Open) ≡ gains u.life
           same_open =
-              ap (λ z. gains (life_back (x c.spot) acknowledged more passed number c.spot [] back u.came u.life z)) (sym open_next) ∙ f.same
+              ap (λ z. gains (life_back (x c.spot) acknowledged more passed number c.spot u.news back u.came u.life z)) (sym open_next) ∙ f.same
               ∙ sym (next_same (x c.spot) acknowledged more passed number c.life c.life.stand f.pick) ∙ ap gains (sym f.life)
 
           -- a control word that was written takes it on
@@ -647,7 +685,7 @@ module _ {V A : Type 0} (ex : Exchange V A Body Asked Reply) (processor : Proces
               ap (λ z. access_done {R = Reply} g.duty.target z d.access d.found) g.stage ∙ ap (λ z. access_done {R = Reply} g.duty.target (Stage.Goes g.phase) z d.found) came.access ∙ word_made g.phase d.found writes in
               let more_now : suc (stage_gains g.duty.stage) ≤ progress_gains (access_done {R = Reply} g.duty.target g.duty.stage d.access d.found) =
               omega (arith, word_gains g.phase writes, ap stage_gains g.stage, ap progress_gains made) in
-              let gained = state_gains (x c.spot) acknowledged more passed number c.spot [] back u.came u.life d g.duty came.one hand_now came.address came.met more_now in
+              let gained = state_gains (x c.spot) acknowledged more passed number c.spot u.news back u.came u.life d g.duty came.one hand_now came.address came.met more_now in
               absurd (let same = same_open in omega (arith, gained, same))
 
           access_registers : (o : One station sent) → u.under ≡ true → (p : Phase) → g.phase ≡ p → registers_met s.registers (phase_access g.duty.target p) ≡ s.registers
@@ -665,11 +703,11 @@ module _ {V A : Type 0} (ex : Exchange V A Body Asked Reply) (processor : Proces
               (registers_behind station s f.here o.datagram o.sent_so ∙ ap (registers_met s.registers) asked.1 ∙ access_registers o e g.phase refl)
 
           clear_behind : (b : Bool) → u.under ≡ b → behind.era.side.halves.inn.state ≡ InState.Clear
-          clear_behind false e = ap (λ (h : Halves Body). h.inn.state) (Behind.halves_none (x c.spot) acknowledged more passed number c.spot back u.came u.life open_next (back_none e)) ∙ clear_now.clear
+          clear_behind false e = ap (λ (h : Halves Body). h.inn.state) (Behind.halves_none (x c.spot) acknowledged more passed number c.spot u.news back u.came u.life open_next (back_none e)) ∙ clear_now.clear
           clear_behind true e =
               let o = f.one open_next e in
               let d = met station s f.here o.datagram o.sent_so in
-              ap (λ (h : Halves Body). h.inn.state) (Behind.halves_one (x c.spot) acknowledged more passed number c.spot back u.came u.life open_next d (back_one o) (met_station station s f.here o.datagram o.sent_so))
+              ap (λ (h : Halves Body). h.inn.state) (Behind.halves_one (x c.spot) acknowledged more passed number c.spot u.news back u.came u.life open_next d (back_one o) (met_station station s f.here o.datagram o.sent_so))
               ∙ ap (λ a. (halves_answered u.life.era.side.halves a d.gram).inn.state) (met_ask station s f.here o.datagram o.sent_so ∙ (asks_access o).0) ∙ clear_now.clear
 
           pub going_stands : Stands × WaitsYet
