@@ -7,14 +7,14 @@ use Rattle.held_visits.specs.of_answered_rows.Moments.{NowAnswered}
 use Rattle.idle_slaves.specs.Visited.{IsFor}
 use Rattle.idle_slaves.specs.Waiting.{Wanted}
 use Rattle.idle_slaves.proofs.Returning.{reopens_era}
-use Rattle.life_model.specs.Lives.{Life, Era, Spot, Stand, life_back, era_back, reopens, reopens_at, reopening, opens_state, returns_to_init}
+use Rattle.life_model.specs.Lives.{Life, Era, Spot, Stand, life_back, era_back, reopens, reopens_at}
 use Rattle.life_model.specs.Own.{own}
 use Rattle.link_model.specs.Frames.{halves_after, halves_answered, halves_accept, all_accepted}
 use Rattle.segment_model.specs.Ends.{Passing}
 use Rattle.segment_model.specs.Record.{News, is_for}
 use Rattle.segment_model.specs.Seats.{side_back}
 use Rattle.segment_model.specs.Slaves.{Datagram, Found, grams}
-use Rattle.task_model.specs.Accounts.{Duty, Stage, account_back, account_met, account_by, access_done}
+use Rattle.task_model.specs.Accounts.{Duty, account_back, account_met, account_by, access_done}
 
 module _ {M Q R : Type 0} (x : Speech M Q R) (acknowledged : Q → Bool) (more : M → Bool) (passed : Q → Bool) (frame : ℕ) (spot : Spot) (ns : List (News M)) (back : List (Datagram M)) (came : Option (Bool × Option Found)) (l : Life M Q R) (stands : l.stand ≡ Stand.Open) where
   abbrev pub behind : Life M Q R

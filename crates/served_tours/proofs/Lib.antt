@@ -1,1 +1,3 @@
-pub mod Toured
+mod Toured
+mod Slaves
+pub mod Runs

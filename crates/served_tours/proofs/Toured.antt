@@ -10,7 +10,7 @@ use Rattle.run_frames.specs.Runs.{Progress}
 use Rattle.served_runs.specs.Served.{Serves, IsServedLed}
 use Rattle.served_tours.specs.Toured.{IsServedToured}
 
-one_more : (fs : List Exchanged) (f : Exchanged) (n : ℕ) → n ≡ length fs → suc n ≡ length (fs ++ f ∷ [])
+pub one_more : (fs : List Exchanged) (f : Exchanged) (n : ℕ) → n ≡ length fs → suc n ≡ length (fs ++ f ∷ [])
 one_more fs f n e = omega (arith, e, length-append fs (f ∷ []))
 
 module _ (lens : ℕ → Lens) (recover retry slowest : ℕ) (first : List Serves) where

@@ -1,1 +1,2 @@
 pub mod Toured
+pub mod Answered

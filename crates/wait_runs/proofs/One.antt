@@ -7,6 +7,8 @@ use Rattle.eager_slaves.specs.Standing.{Unvisited, Visited, Standing, IsDone}
 use Rattle.eager_slaves.proofs.Choices.{stand_next}
 use Rattle.eager_slaves.specs.Frames.{One, FrameAs}
 use Rattle.eager_slaves.proofs.Sent.{one_sent, none_sent}
+use Rattle.eager_slaves.proofs.Facts.{unvisited_waits}
+use Rattle.eager_slaves.proofs.Goings.{going_silent, going_stands}
 use Rattle.eager_slaves.proofs.Slaves as Slaves
 use Rattle.exchange_model.specs.Exchange.{Exchange, Speech}
 use Rattle.exchange_model.specs.Rows.{begun}
@@ -282,10 +284,10 @@ module _ (plan : Scenario) (fs : List Exchanged) (place number : ℕ) (sent back
     visited_quiet k held = waits_quiet k.waits (held_unpaused (x c.spot) acknowledged is_followed is_passed number c.life m.memory t turn.next.pick (slice_get a.script a.number ≡ None) held (λ target e. states_c target (sym turn.begun ∙ e)))
 
     fresh_quiet : Unvisited (serving ex) c.life slave.node t → Quiet
-    fresh_quiet k = waits_quiet (Slaves.unvisited_waits (serving ex) c.life slave.node t m.memory k) (λ target e one. absurd (let none = k.tries in omega (arith, none, one)))
+    fresh_quiet k = waits_quiet (unvisited_waits (serving ex) c.life slave.node t m.memory k) (λ target e one. absurd (let none = k.tries in omega (arith, none, one)))
 
     going_quiet : Going table c.life slave.registers t → c.life.era.side.halves.inn.state ≡ HalfState.Clear → Quiet
-    going_quiet g clear = Slaves.going_silent ex (asked (profile_of s) s.boot lens).processor table x acknowledged is_followed is_passed number sent back c v t slave slave' frame m m' (slice_get a.script a.number) u.begun turn.begun eager_c remembers_c link g clear
+    going_quiet g clear = going_silent ex (asked (profile_of s) s.boot lens).processor table x acknowledged is_followed is_passed number sent back c v t slave slave' frame m (slice_get a.script a.number) u.begun eager_c g clear
 
     visited : GetsNone m m' → (k : Visited (serving ex) (x c.spot) c.life slave.node m.memory t) → (t.stepped ≡ true → slave.registers.control ≡ None) → (2 ≤ t.tries → IsAtEnd (slice_get a.script a.number) m) →
         HeldUp (x c.spot) acknowledged (slice_get a.script a.number ≡ None) c.life m.memory t → Behind × (WaitsYet ⊎ Rest)
@@ -302,9 +304,9 @@ module _ (plan : Scenario) (fs : List Exchanged) (place number : ℕ) (sent back
         let both = Slaves.fresh_stands ex (asked (profile_of s) s.boot lens).processor table x acknowledged is_followed is_passed number sent back c v t slave slave' frame m m' (slice_get a.script a.number) u.begun turn.begun eager_c remembers_c (slice_get u.script u.number) gets script link answered_c states_c ends_c frees_c settles k control in
         (both.0, inl both.1)
 
-    going : GetsNone m m' → (g : Going table c.life slave.registers t) → c.life.era.side.halves.inn.state ≡ HalfState.Clear → Behind × (WaitsYet ⊎ Rest)
-    going gets g clear =
-        let both = Slaves.going_stands ex (asked (profile_of s) s.boot lens).processor table x acknowledged is_followed is_passed number sent back c v t slave slave' frame m m' (slice_get a.script a.number) u.begun turn.begun eager_c remembers_c (slice_get u.script u.number) gets script link answered_c states_c ends_c frees_c settles g clear in
+    going : (g : Going table c.life slave.registers t) → c.life.era.side.halves.inn.state ≡ HalfState.Clear → Behind × (WaitsYet ⊎ Rest)
+    going g clear =
+        let both = going_stands ex (asked (profile_of s) s.boot lens).processor table x acknowledged is_followed is_passed number sent back c v t slave slave' frame m (slice_get a.script a.number) u.begun eager_c g clear m' (slice_get u.script u.number) in
         (both.0, inl both.1)
 
   -- ---- one that was given up for good
@@ -319,7 +321,7 @@ module _ (plan : Scenario) (fs : List Exchanged) (place number : ℕ) (sent back
   stands_on gets (Standing.gone e) = gone e
   stands_on gets (Standing.fresh k control) = fresh k.shows.stands gets k control
   stands_on gets (Standing.waits k control end held) = visited k.waits.shows.stands gets k control end held
-  stands_on gets (Standing.goes g clear) = going g.stands gets g clear
+  stands_on gets (Standing.goes g clear) = going g.stands g clear
 
   -- no mail is heard of an open one
   pub quiet_at : Before → u.lived.life.stand ≡ Stand.Open → all_accepted u.lived.spot.station u.lived.life.era.side.halves (grams (own u.lived.spot.station back)) ≡ []

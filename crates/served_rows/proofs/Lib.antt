@@ -1,0 +1,3 @@
+pub mod Each
+mod Heard
+pub mod Rows
