@@ -1,5 +1,5 @@
 -- A slave by a frame, as its master remembers it and as the count of frames has it.
-use Rattle.std.proofs.Common.{◌≡◌, Bool, false, is_some, Option, Some, None, List, [], ◌∷◌, refl, sym, ap, ◌∙◌}
+use Rattle.std.proofs.Common.{◌≡◌, Bool, false, is_some, Option, Some, None, List, [], ◌∷◌, refl, sym, ap, ◌∙◌, subst}
 use Rattle.eager_slaves.specs.Eager as Eager
 use Rattle.eager_slaves.specs.Eager.{IsClear, IsDraining, IsInVain}
 use Rattle.idle_slaves.specs.Visited.{memory_of, memory_next, visit_for}
@@ -14,6 +14,7 @@ use Rattle.master_node.specs.Eager as Master
 use Rattle.master_node.specs.Eager.{next_visit}
 use Rattle.master_node.specs.Recalled.{IsFull, paused_behind, turn_behind}
 use Rattle.master_side.specs.Recall.{Recall}
+use Rattle.segment_model.specs.Ends.{Passing}
 use Rattle.segment_model.specs.Slaves.{Datagram}
 use Rattle.task_model.specs.Accounts.{Duty, Stage}
 
@@ -39,21 +40,22 @@ stage_asks : (h : Halves Body) (m : Recall) (duty : Duty) (stage : Stage) (d : D
 stage_asks h m duty Stage.Drains d e a = visit_asks h (drain_visit m.turn) d a
 stage_asks h m duty (Stage.Goes phase) d e a = a phase e
 
-one_asks : (h : Halves Body) (m : Recall) (hand : Option Duty) (d : Datagram Body) → Master.AsksSo hand h (next_visit hand m (is_some h.out.holding)) d → Eager.AsksFor h (memory m) hand d
-one_asks h m None d a = visit_asks h (mails_visit m.paused (is_some h.out.holding)) d a
-one_asks h m (Some duty) d a = stage_asks h m duty duty.stage d refl a
+-- of a slave with no mail that is passed on
+one_asks : (h : Halves Body) (m : Recall) (hand : Option Duty) (p : Option Passing) (d : Datagram Body) → p ≡ None → Master.AsksSo hand h (next_visit hand m (is_some h.out.holding)) d → Eager.AsksFor h (memory m) hand p d
+one_asks h m None p d e a = subst (λ z. Eager.AsksFor h (memory m) None z d) (sym e) (visit_asks h (mails_visit m.paused (is_some h.out.holding)) d a)
+one_asks h m (Some duty) p d e a = stage_asks h m duty duty.stage d refl a
 
-pub each_asks : (h : Halves Body) (m : Recall) (hand : Option Duty) (ds : List (Datagram Body)) → Master.EachSo hand h (next_visit hand m (is_some h.out.holding)) ds → Eager.EachAsksFor h (memory m) hand ds
-each_asks h m hand [] a = tt
-each_asks h m hand (d ∷ ds) a = (one_asks h m hand d a.0, each_asks h m hand ds a.1)
+pub each_asks : (h : Halves Body) (m : Recall) (hand : Option Duty) (p : Option Passing) (ds : List (Datagram Body)) → p ≡ None → Master.EachSo hand h (next_visit hand m (is_some h.out.holding)) ds → Eager.EachAsksFor h (memory m) hand p ds
+each_asks h m hand p [] e a = tt
+each_asks h m hand p (d ∷ ds) e a = (one_asks h m hand p d e a.0, each_asks h m hand p ds e a.1)
 
 -- ---- its visit
-stage_visit_is : (m : Recall) (duty : Duty) (holding : Bool) → duty.stage ≡ Stage.Drains → Master.stage_visit duty.stage m ≡ Some (visit_for (Some duty) (memory m) holding)
-stage_visit_is m duty holding e = ap (λ s. Master.stage_visit s m) e
+stage_visit_is : (m : Recall) (duty : Duty) (p : Option Passing) (holding : Bool) → duty.stage ≡ Stage.Drains → Master.stage_visit duty.stage m ≡ Some (visit_for (Some duty) p (memory m) holding)
+stage_visit_is m duty p holding e = ap (λ s. Master.stage_visit s m) e
 
-pub visit_is : (m : Recall) (hand : Option Duty) (holding : Bool) → IsDraining hand → next_visit hand m holding ≡ Some (visit_for hand (memory m) holding)
-visit_is m None holding drains = refl
-visit_is m (Some duty) holding drains = stage_visit_is m duty holding drains
+pub visit_is : (m : Recall) (hand : Option Duty) (p : Option Passing) (holding : Bool) → p ≡ None → IsDraining hand → next_visit hand m holding ≡ Some (visit_for hand p (memory m) holding)
+visit_is m None p holding e drains = ap (λ z. Some (visit_for None z (memory m) holding)) (sym e)
+visit_is m (Some duty) p holding e drains = stage_visit_is m duty p holding drains
 
 pub full_is : (v : Visit) (d : Datagram Body) → IsInVain v d → IsFull v d
 full_is Visit.Write d k = tt

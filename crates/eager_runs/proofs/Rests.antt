@@ -36,7 +36,7 @@ module _ (plan : Scenario) (fs : List Exchanged) (es : List SwitchEvent) (l : La
   at_port k = (λ i. waiting_by (is.switch i) (port_by (slice_get (is.ports i) k)))
 
   rests_one : (place : ℕ) (s : SlaveSpec) (m : Recall) (a : Leads) (n : Node Serving) → m.knows ≡ true →
-      IsResting (lens_of plan.slaves) s (record { memory = record { paused = m.paused; turn = m.turn }; packet = is_waiting (waiting_at plan es place) }) a n → Resting.Rests (lens_of plan.slaves) l place m a
+      IsResting (lens_of plan.slaves) s (record { memory = record { paused = m.paused; turn = m.turn }; packet = is_waiting (waiting_at plan es place); asked = false }) a n → Resting.Rests (lens_of plan.slaves) l place m a
   rests_one place s m a n known r = record {
     known = known;
     free = record { stands = r.clear.stands; free = r.free.free; done = r.free.done; hand = r.free.hand };
@@ -61,7 +61,7 @@ module _ (plan : Scenario) (fs : List Exchanged) (es : List SwitchEvent) (l : La
 
   -- and their nodes are settled
   settled_one : (place : ℕ) (s : SlaveSpec) (m : Recall) (a : Leads) (n : Node Serving) → IsAt plan fs place s a n →
-      IsResting (lens_of plan.slaves) s (record { memory = record { paused = m.paused; turn = m.turn }; packet = is_waiting (waiting_at plan es place) }) a n →
+      IsResting (lens_of plan.slaves) s (record { memory = record { paused = m.paused; turn = m.turn }; packet = is_waiting (waiting_at plan es place); asked = false }) a n →
       is_settled next_mail n ≡ true
   settled_one place s m a n at r = settled_back (asked (profile_of s) s.boot (lens_of plan.slaves)) (at.stands r.clear.stands).behind n r.settled r.offered r.control
 

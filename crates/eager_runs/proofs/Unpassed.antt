@@ -1,6 +1,6 @@
 -- No mail that is passed on is in hand of a run.
 use Rattle.std.proofs.Common.{◌≡◌, ℕ, ◌+◌, Bool, true, false, Option, Some, None, List, [], ◌∷◌, map, length, refl, sym, ap, ◌∙◌, if◌then◌else◌}
-use Rattle.std.specs.Prelude.{nat_lt}
+use Rattle.std.specs.Prelude.{nat_lt, ⊤}
 use Rattle.datagrams.specs.Datagram as Raw
 use Rattle.frame_view.specs.Seen.{seen}
 use Rattle.frame_view.specs.View.{Lens}
@@ -44,11 +44,23 @@ comes_own room script n m _ (Comes.mails s p at asked) q e = (let same : p ≡ q
 comes_own room script n m _ (Comes.state target at) q e = absurd (cc)
 comes_own room script n m _ (Comes.packet octets frame) q e = (let same : net (EoeClient.packet octets frame) ≡ q = cc in ap is_passed (sym same))
 
+-- of slaves before a frame
+abbrev pub TurnsUnpassed : List Turn → Type 0
+TurnsUnpassed [] = ⊤
+TurnsUnpassed (u ∷ us) = (u.lived.life.era.passing ≡ None) × TurnsUnpassed us
+
 module _ (lens : ℕ → Lens) (recover retry : ℕ) (gives : Bool) (made : ℕ) (f : Exchanged) where
   turn_unpassed : (ds : List Raw.Datagram) (a : Leads) (u : Turn) → IsTurn lens made ds a u → a.lived.life.era.passing ≡ None → u.lived.life.era.passing ≡ None
   turn_unpassed ds a u t e =
       ap (λ (l : Life Body Asked Reply). l.era.passing) t.next.life
       ∙ unpassed_next (speech_at lens a.lived.spot) acknowledged is_followed is_passed made a.lived.life a.lived.life.stand t.next.pick e (λ q w. comes_own (lens a.lived.spot.station).out a.script a.number u.number u.begun t.comes q (sym t.begun ∙ w))
+
+  -- nor before a frame
+  pub turns_unpassed : (ds : List Raw.Datagram) (as' : List Leads) (us : List Turn) → AllTurn lens made ds as' us → AllUnpassed as' → TurnsUnpassed us
+  turns_unpassed ds [] [] t k = tt
+  turns_unpassed ds [] (u ∷ us) t k = absurd t
+  turns_unpassed ds (a ∷ as') [] t k = absurd t
+  turns_unpassed ds (a ∷ as') (u ∷ us) t k = (turn_unpassed ds a u t.0 k.0, turns_unpassed ds as' us t.1 k.1)
 
   behind_none : (fate : Fate) (u : Turn) → u.lived.life.era.passing ≡ None → (life_behind lens recover retry gives made f fate u.lived u.share).life.era.passing ≡ None
   behind_none Pass u e = unpassed_back (speech_at lens u.lived.spot) acknowledged is_followed is_passed made (seen lens f.back) u.lived u.share [] e

@@ -37,7 +37,7 @@ use Rattle.eager_runs.proofs.Frames.{all_eager, all_known, all_quiet, all_rememb
 use Rattle.eager_runs.proofs.Ports.{none_before, none_more}
 use Rattle.eager_runs.proofs.Rests.{rests_so, settled_so}
 use Rattle.eager_runs.proofs.Scripts.{AllMay, may_all}
-use Rattle.eager_runs.proofs.Unpassed.{unpassed_on}
+use Rattle.eager_runs.proofs.Unpassed.{TurnsUnpassed, turns_unpassed, unpassed_on}
 
 abbrev Slave : Type 0
 Slave = Clocked Body Asked Reply
@@ -118,13 +118,16 @@ module _ (plan : Scenario) (laws : Laws plan) (slowest : ℕ) where
           let came_in = one.rests all (subst (λ (z : RingState (Node Serving)). AllSettled as' z.nodes) (sym h.ring) settled) in
           (let no : false ≡ true = sym closed ∙ came_in in cc)
 
+      still_unpassed : TurnsUnpassed us
+      still_unpassed = turns_unpassed lens plan.recover plan.retry (gives_up_at lens plan.recover plan.retry missed) (length fs) f l.datagrams as' us l.each h.unpassed
+
       pub eager_frame : IsEagerFrame plan fs f (remembered plan r.events 0 r.recalls) (remembered plan s.events 0 s.recalls) as' us
       eager_frame = record {
         eager = all_eager plan (length fs) (seen lens f.sent) l.datagrams r.events (r.events ++ one.events.making) one.made one.made_is 0 r.recalls as' us l.each h.known one.still one.visits one.takes one.begins one.unvisited may
             (λ i idle none.
             let sum : 0 + i ≡ i = omega arith in
-            subst (λ j. waiting_at plan r.events j ≡ []) (sym sum) (none_before plan f us r.events s.events one.events closed i idle (subst (λ j. waiting_at plan (r.events ++ one.events.making) j ≡ []) sum none)));
-        remembers = all_remember plan (length fs) (seen lens f.back) l.datagrams r.events s.events 0 r.recalls s.recalls as' us l.each one.still (one.returned fate);
+            subst (λ j. waiting_at plan r.events j ≡ []) (sym sum) (none_before plan f us r.events s.events one.events closed i idle (subst (λ j. waiting_at plan (r.events ++ one.events.making) j ≡ []) sum none))) still_unpassed;
+        remembers = all_remember plan (length fs) (seen lens f.back) l.datagrams r.events s.events 0 r.recalls s.recalls as' us l.each one.still (one.returned fate) still_unpassed;
         none = λ silent. gets_none plan (seen lens f.back) r.events s.events (none_more plan f us r.events s.events one.events closed (one.events.quiet fate (all_quiet (seen lens f.back) us silent))) 0 us r.recalls s.recalls (one.returned fate);
         unpassed = h.unpassed;
         some = no_rest;

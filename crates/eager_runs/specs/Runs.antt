@@ -35,7 +35,7 @@ is_waiting (p ∷ ps) = true
 -- what is remembered of the slaves from a place on
 abbrev pub remembered : Scenario → List SwitchEvent → ℕ → List Recall → List Remembered
 remembered plan es place [] = []
-remembered plan es place (m ∷ ms) = record { memory = record { paused = m.paused; turn = m.turn }; packet = is_waiting (waiting_at plan es place) } ∷ remembered plan es (suc place) ms
+remembered plan es place (m ∷ ms) = record { memory = record { paused = m.paused; turn = m.turn }; packet = is_waiting (waiting_at plan es place); asked = false } ∷ remembered plan es (suc place) ms
 
 -- EACH SERVICE OF A SLAVE'S SCRIPT may begin
 abbrev pub ScriptsMay : Scenario → Type 0

@@ -1,41 +1,30 @@
 -- A life behind a frame that came back, for its hand, its halves and its row.
-use Rattle.std.proofs.Common.{◌≡◌, ℕ, ◌==◌, Bool, true, false, Option, Some, None, List, [], ◌∷◌, ◌++◌, length, refl, sym, ap, ◌∙◌, subst, if◌then◌else◌, append-nil, eq-eqb}
+use Rattle.std.proofs.Common.{◌≡◌, ℕ, ◌==◌, Bool, true, false, Option, Some, None, List, [], ◌∷◌, ◌++◌, length, refl, sym, ap, ◌∙◌, subst, if◌then◌else◌, append-nil, eq-eqb, inl, inr}
 use Rattle.std.specs.Prelude.{◌&&◌, not, option_map, drop}
 use Rattle.exchange_model.specs.Exchange.{Speech, plain}
 use Rattle.exchange_model.specs.Rows.{Row, left, row_heard, answer_after}
 use Rattle.held_visits.specs.of_answered_rows.Moments.{NowAnswered}
 use Rattle.idle_slaves.specs.Visited.{IsFor}
 use Rattle.idle_slaves.specs.Waiting.{Wanted}
-use Rattle.life_model.specs.Lives.{Life, Era, Spot, Stand, life_back, era_back, reopens, reopens_at, reopening, opens_state, returns_to_init}
+use Rattle.idle_slaves.proofs.Returning.{reopens_era}
+use Rattle.life_model.specs.Lives.{Life, Era, Spot, Stand, life_back, era_back, reopens, reopens_at}
 use Rattle.life_model.specs.Own.{own}
 use Rattle.link_model.specs.Frames.{halves_after, halves_answered, halves_accept, all_accepted}
-use Rattle.segment_model.specs.Record.{is_for}
+use Rattle.segment_model.specs.Ends.{Passing}
+use Rattle.segment_model.specs.Record.{News, is_for}
 use Rattle.segment_model.specs.Seats.{side_back}
 use Rattle.segment_model.specs.Slaves.{Datagram, Found, grams}
-use Rattle.task_model.specs.Accounts.{Duty, Stage, account_back, account_met, account_by, access_done}
+use Rattle.task_model.specs.Accounts.{Duty, account_back, account_met, account_by, access_done}
 
--- a reopening changes how the master stands alone
-reopens_era : {M Q R : Type 0} (l : Life M Q R) (hand : Option Duty) → (reopens l hand).era ≡ l.era
-reopens_era l None = refl
-reopens_era l (Some duty) = go duty.stage
-  where
-    by : (b : Bool) → (if b then record l { stand = reopening (opens_state duty.target) true } else l).era ≡ l.era
-    by true = refl
-    by false = refl
-
-    go : (stage : Stage) → (reopens_at l duty.target stage).era ≡ l.era
-    go Stage.Drains = refl
-    go (Stage.Goes phase) = by (returns_to_init duty.target)
-
-module _ {M Q R : Type 0} (x : Speech M Q R) (acknowledged : Q → Bool) (more : M → Bool) (passed : Q → Bool) (frame : ℕ) (spot : Spot) (back : List (Datagram M)) (came : Option (Bool × Option Found)) (l : Life M Q R) (stands : l.stand ≡ Stand.Open) where
+module _ {M Q R : Type 0} (x : Speech M Q R) (acknowledged : Q → Bool) (more : M → Bool) (passed : Q → Bool) (frame : ℕ) (spot : Spot) (ns : List (News M)) (back : List (Datagram M)) (came : Option (Bool × Option Found)) (l : Life M Q R) (stands : l.stand ≡ Stand.Open) where
   abbrev pub behind : Life M Q R
-  behind = life_back x acknowledged more passed frame spot [] back came l l.stand
+  behind = life_back x acknowledged more passed frame spot ns back came l l.stand
 
   abbrev era : Era M Q R
-  era = era_back x acknowledged more passed spot.station frame [] back l.era
+  era = era_back x acknowledged more passed spot.station frame ns back l.era
 
   era_is : behind.era ≡ era
-  era_is = ap (λ s. (life_back x acknowledged more passed frame spot [] back came l s).era) stands ∙ reopens_era (record l { era = era }) era.account.hand
+  era_is = ap (λ s. (life_back x acknowledged more passed frame spot ns back came l s).era) stands ∙ reopens_era (record l { era = era }) era.account.hand
 
   -- no datagram
   module _ (none : own spot.station back ≡ []) where
@@ -93,13 +82,14 @@ left_heard {M} {Q} {R} x frame (Some old) new e none r is =
     ap (λ (z : Row M Q R). left x z) (sym heard) ∙ ap (λ ms. drop (length old.told) (x.planned old.service (plain x.emission ms))) (append-nil old.heard) ∙ none old refl
 
 -- with no state service past its drain the slave stays open
-pub stand_for : {M Q R : Type 0} (x : Speech M Q R) (acknowledged : Q → Bool) (more : M → Bool) (passed : Q → Bool) (frame : ℕ) (spot : Spot) (back : List (Datagram M)) (came : Option (Bool × Option Found)) (l : Life M Q R) → l.stand ≡ Stand.Open →
-    (q : Wanted) → (let k = life_back x acknowledged more passed frame spot [] back came l l.stand in IsFor q k.era.account.hand → k.stand ≡ Stand.Open)
-stand_for {M} {Q} {R} x acknowledged more passed frame spot back came l stands q hand =
-    let e = era_back x acknowledged more passed spot.station frame [] back l.era in
-    ap (λ s. (life_back x acknowledged more passed frame spot [] back came l s).stand) stands
-    ∙ stays (record l { era = e }) e.account.hand q (subst (λ h. IsFor q h) (ap (λ (z : Era M Q R). z.account.hand) (era_is x acknowledged more passed frame spot back came l stands)) hand) ∙ stands
+pub stand_for : {M Q R : Type 0} (x : Speech M Q R) (acknowledged : Q → Bool) (more : M → Bool) (passed : Q → Bool) (frame : ℕ) (spot : Spot) (ns : List (News M)) (back : List (Datagram M)) (came : Option (Bool × Option Found)) (l : Life M Q R) → l.stand ≡ Stand.Open →
+    (q : Wanted) → (let k = life_back x acknowledged more passed frame spot ns back came l l.stand in IsFor q k.era.account.hand k.era.passing → k.stand ≡ Stand.Open)
+stand_for {M} {Q} {R} x acknowledged more passed frame spot ns back came l stands q hand =
+    let e = era_back x acknowledged more passed spot.station frame ns back l.era in
+    ap (λ s. (life_back x acknowledged more passed frame spot ns back came l s).stand) stands
+    ∙ stays (record l { era = e }) e.account.hand e.passing q (subst (λ (z : Era M Q R). IsFor q z.account.hand z.passing) (era_is x acknowledged more passed frame spot ns back came l stands) hand) ∙ stands
   where
-    stays : (k : Life M Q R) (h : Option Duty) (q : Wanted) → IsFor q h → (reopens k h).stand ≡ k.stand
-    stays k h Wanted.Mails none = ap (λ z. (reopens k z).stand) none
-    stays k h Wanted.Drains (duty, is, stage) = ap (λ z. (reopens k z).stand) is ∙ ap (λ z. (reopens_at k duty.target z).stand) stage
+    stays : (k : Life M Q R) (h : Option Duty) (p : Option Passing) (q : Wanted) → IsFor q h p → (reopens k h).stand ≡ k.stand
+    stays k h p Wanted.Mails (none, unboxed) = ap (λ z. (reopens k z).stand) none
+    stays k h p Wanted.Drains (inr (none, boxed)) = ap (λ z. (reopens k z).stand) none
+    stays k h p Wanted.Drains (inl (duty, is, stage)) = ap (λ z. (reopens k z).stand) is ∙ ap (λ z. (reopens_at k duty.target z).stand) stage

@@ -7,31 +7,16 @@ use Rattle.idle_slaves.specs.Visited.{HasRow}
 use Rattle.life_model.specs.Lives.{Life, Stand, life_next, granted, passing_begins}
 use Rattle.link_model.specs.Mails.{LinkMail}
 use Rattle.link_model.specs.Slave.{Node}
+use Rattle.run_frames.proofs.Access.{begins_same, holds_same}
+use Rattle.segment_model.specs.Ends.{Passing}
 use Rattle.segment_model.specs.Seats.{Side, Choice, side_begins, side_holds, side_next, next_mail, first_left, is_over}
 use Rattle.state_exchange.specs.Stated.{Service}
 use Rattle.task_model.specs.Accounts.{Account, Duty, Pick, mails_begin, mails_choice, account_begins, account_next}
 
 module _ {M Q R : Type 0} (x : Speech M Q R) (frame : ℕ) where
   -- the inward half stays
-  begins_inn : (d : Side M Q R) (now : Option (Row M Q R)) (begin : Option Q) → (side_begins x frame d now begin).halves ≡ d.halves
-  begins_inn d now None = refl
-  begins_inn d None (Some q) = go (x.valid q)
-    where
-      go : (b : Bool) → (if b then record d { now = Some (begun q frame) } else d).halves ≡ d.halves
-      go true = refl
-      go false = refl
-  begins_inn d (Some r) (Some q) = go (x.valid q && is_over x d.halves.out.holding d.fresh r)
-    where
-      go : (b : Bool) → (if b then record d { past = d.past ++ r ∷ []; now = Some (begun q frame) } else d).halves ≡ d.halves
-      go true = refl
-      go false = refl
-
-  holds_inn : (d : Side M Q R) (ms : List M) → (side_holds d ms).halves.inn ≡ d.halves.inn
-  holds_inn d [] = refl
-  holds_inn d (m ∷ ms) = refl
-
   next_inn : (d : Side M Q R) (c : Choice Q) → (side_next x frame d c).halves.inn ≡ d.halves.inn
-  next_inn d c = let e = side_begins x frame d d.now c.begin in holds_inn e (next_mail x e.now e.halves.out.holding c.hold) ∙ ap (λ h. h.inn) (begins_inn d d.now c.begin)
+  next_inn d c = let e = side_begins x frame d d.now c.begin in holds_same e (next_mail x e.now e.halves.out.holding c.hold) ∙ begins_same x frame d d.now c.begin
 
   -- a row stays in hand, or another is
   abbrev HasNow : Option (Row M Q R) → Type 0
@@ -116,15 +101,19 @@ module _ {M Q R : Type 0} (x : Speech M Q R) (acknowledged : Q → Bool) (more :
   none_account : (hand : Option Duty) → account_begins x acknowledged frame l.era.side l.era.account hand None ≡ l.era.account
   none_account hand = refl
 
-  pub same_next : l.stand ≡ Stand.Open → l.era.passing ≡ None → pick.begin ≡ None → (l.era.side.halves.out.holding ≡ None → (r : Row M Q R) → l.era.side.now ≡ Some r → left x r ≡ []) → next ≡ l
-  same_next stands unpassed none left_none =
+  granted_none : (p : Option Passing) → pick.begin ≡ None → (granted p pick).begin ≡ None
+  granted_none None none = none
+  granted_none (Some p) none = refl
+
+  pub same_next : l.stand ≡ Stand.Open → pick.begin ≡ None → (l.era.side.halves.out.holding ≡ None → (r : Row M Q R) → l.era.side.now ≡ Some r → left x r ≡ []) → next ≡ l
+  same_next stands none left_none =
       at_open stands ∙ (λ i. record l { era = record l.era { side = side_same i; account = account_same i; passing = passing_same i } })
     where
       p : Pick Q
       p = granted l.era.passing pick
 
       p_is : p.begin ≡ None
-      p_is = ap (λ z. (granted z pick).begin) unpassed ∙ none
+      p_is = granted_none l.era.passing none
 
       side_same : side_next x frame l.era.side (mails_choice l.era.account p) ≡ l.era.side
       side_same = ap (λ b. side_next x frame l.era.side (record { begin = mails_begin l.era.account.hand b; hold = p.hold })) p_is ∙ stays x frame l.era.side p.hold left_none

@@ -165,6 +165,10 @@ module _ {V : Type 0} (station : ℕ) (s : Slave V Body) (here : s.registers.sta
   meets h Visit.Full (ask, access) =
       (met_ask ∙ ask, access, ap (λ n. n == 0) (counter_is ∙ ap (counter_met 0) access), found_is ∙ ap (found_met s None) access)
 
+  -- a read of an empty mailbox 1 does nothing
+  pub read_counter : d.gram.ask ≡ Ask.ReadMail → s.node.inn.box ≡ None → (met.gram.counter == 0) ≡ true
+  read_counter ask empty = ap (λ n. n == 0) (ap (λ (g : Gram Body). g.counter) (gram_is ∙ ap (λ a. gram_meets s.node a d.gram) ask) ∙ ap (λ b. (read_done d.gram b).counter) empty ∙ z.gram)
+
   abbrev Back : List (Datagram Body) → Type 0
   Back back = own station back ≡ met ∷ []
 

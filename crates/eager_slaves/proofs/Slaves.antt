@@ -1,172 +1,94 @@
 -- ONE SLAVE by a frame that came back and gained nothing of it.
-use Rattle.std.proofs.Common.{◌≡◌, ◌⊎◌, ◌≤◌, ℕ, zero, suc, ◌%◌, ◌==◌, Bool, true, false, is_some, Option, Some, None, List, [], ◌∷◌, ◌++◌, refl, sym, ap, ◌∙◌, subst, arith, if◌then◌else◌, inl, inr, eq-eqb}
+use Rattle.std.proofs.Common.{◌≡◌, ◌⊎◌, ◌≤◌, ℕ, zero, suc, ◌==◌, Bool, true, false, is_some, Option, Some, None, List, [], ◌∷◌, ◌++◌, refl, sym, ap, ◌∙◌, subst, arith, if◌then◌else◌, inl, inr, eq-eqb}
 use Rattle.std.specs.Prelude.{◌&&◌}
 use Rattle.exchange_model.specs.Exchange.{Exchange, Speech}
 use Rattle.held_visits.specs.Held.{HeldUp, EndsHeld}
 use Rattle.held_visits.specs.of_answered_rows.Moments.{IsFree, NowAnswered}
 use Rattle.held_visits.proofs.Held.{held_up, unpaused}
 use Rattle.idle_slaves.specs.Frames.{InVain, node_on, memory_on}
-use Rattle.idle_slaves.specs.Going.{Going, AccessVain, registers_on}
+use Rattle.idle_slaves.specs.Going.{registers_on}
 use Rattle.idle_slaves.specs.Links.{HasLink}
-use Rattle.idle_slaves.specs.Visited.{IsFor, Meets, CameBack, HasRow, IsUnpaused, Waiting, Chosen, LifeSpent, visit_for, life_visit, memory_of}
-use Rattle.idle_slaves.specs.Waiting.{Wanted, Memory, IsWaiting, memory_behind, tried, link_by, wanted_by}
+use Rattle.idle_slaves.specs.Visited.{IsFor, Meets, CameBack, HasRow, IsStill, IsUnpaused, Tells, Waiting, Chosen, LifeSpent, life_visit, memory_of}
+use Rattle.idle_slaves.specs.Waiting.{Wanted, Memory, memory_behind, tried, wanted_by}
 use Rattle.idle_slaves.proofs.Choosing.{chosen}
 use Rattle.idle_slaves.proofs.Frames.{waits_so, was_spent}
-use Rattle.idle_slaves.proofs.Going.{goes_so}
-use Rattle.idle_slaves.proofs.Visited.{second, same_node}
-use Rattle.idle_slaves.proofs.Waiting.{Holds, Comes, holds, comes}
-use Rattle.life_measure.specs.Gains.{gains, phase_gains, stage_gains, progress_gains}
-use Rattle.life_measure.specs.Visits.{Visit, mails_visit}
-use Rattle.life_measure.proofs.Gaining.{next_same, state_gains}
+use Rattle.idle_slaves.proofs.Returning.{boxed_is, not_boxed}
+use Rattle.idle_slaves.proofs.Visited.{full_drains, second, same_node}
+use Rattle.idle_slaves.proofs.Waiting.{Holds, holds}
+use Rattle.life_measure.specs.Gains.{gains}
+use Rattle.life_measure.specs.Visits.{Visit}
+use Rattle.life_measure.proofs.Gaining.{next_same}
 use Rattle.life_model.specs.Lives.{Life, Spot, Stand, life_back, era_next}
 use Rattle.life_model.specs.Own.{own}
 use Rattle.link_mails.specs.Body.{Body}
 use Rattle.link_model.specs.Frames.{Ask, node_meets, halves_answered, halves_accept, all_accepted}
-use Rattle.link_model.specs.Link.{Halves, Link, Event, happens, written, write_counter}
+use Rattle.link_model.specs.Link.{Halves}
 use Rattle.link_model.specs.Mails.{LinkMail, news}
-use Rattle.link_model.specs.Master.{InState, InHalf, OutHalf}
-use Rattle.link_model.specs.Slave.{Node, Server, processor_step}
+use Rattle.link_model.specs.Master.{InHalf, OutHalf}
+use Rattle.link_model.specs.Slave.{Server}
 use Rattle.master_duty.specs.Reply.{Reply}
 use Rattle.master_hand.specs.Spoken.{Asked}
 use Rattle.run_frames.specs.Clocks.{Clocked}
 use Rattle.run_frames.specs.Goes.{Under, back_life}
 use Rattle.run_frames.specs.Orders.{is_live}
-use Rattle.run_frames.specs.Waits.{Waits, new_waits, waits_on}
+use Rattle.run_frames.specs.Waits.{Waits, waits_on}
 use Rattle.segment_model.specs.Record.{is_for}
 use Rattle.segment_model.specs.Seats.{Side}
-use Rattle.segment_model.specs.Slaves.{Datagram, Access, Found, Serving, Slave, Processor, Registers, grams, serving, slave_after, slave_steps, slave_meets, frame_after, registers_met}
+use Rattle.segment_model.specs.Slaves.{Datagram, Access, Found, Serving, Slave, Processor, grams, serving, slave_after}
 use Rattle.segment_plan.specs.declared.service.Service as Plan
 use Rattle.state_exchange.specs.Stated.{Service}
-use Rattle.state_model.specs.States.{Table, Phase, carry, word_carried, decided, reads, phase_written}
+use Rattle.state_model.specs.States.{Table, Phase}
 use Rattle.states_come.specs.Steps.{NotGone}
-use Rattle.task_model.specs.Accounts.{Duty, Stage, Progress, phase_access, access_done, account_by, starts}
-use Rattle.eager_slaves.specs.Eager.{Remembered, AsksVisit, AsksStage, AsksFor, EachAsksFor, IsClear, NoneLeft, MayBegin, IsAtEnd, IsEager, IsInVain, IsDraining, RemembersOn, GetsNone}
-use Rattle.eager_slaves.specs.Frames.{One, FrameAs}
-use Rattle.eager_slaves.specs.Standing.{Steps, Unvisited, Visited, Standing, IsDone}
+use Rattle.task_model.specs.Accounts.{Duty, Stage, access_done, account_by, starts}
+use Rattle.eager_slaves.specs.Eager.{Remembered, AsksVisit, EachAsksFor, IsClear, NoneLeft, MayBegin, IsAtEnd, IsEager, IsInVain, RemembersOn, GetsNone}
+use Rattle.eager_slaves.specs.Frames.{One, FrameAs, TellsBy}
+use Rattle.eager_slaves.specs.Standing.{Unvisited, Visited, Standing, IsDone}
 use Rattle.eager_slaves.proofs.Behind as Behind
 use Rattle.eager_slaves.proofs.Behind.{left_heard}
-use Rattle.eager_slaves.proofs.Choices.{stand_next, inn_next, row_next, hand_next, same_next}
-use Rattle.eager_slaves.proofs.Sent.{met, met_ask, met_station, node_behind, registers_behind, came_back, access_came}
+use Rattle.eager_slaves.proofs.Choices.{row_next, same_next}
+use Rattle.eager_slaves.proofs.Sent.{met, met_ask, read_counter, node_behind, registers_behind, came_back}
+use Rattle.eager_slaves.proofs.Facts.{for_not_gone, for_draining, asks_visit, visit_registers, untouched, written_full, read_empty, unvisited_waits}
+use Rattle.eager_slaves.proofs.Framed as Framed
+use Rattle.eager_slaves.proofs.Goings.{going_stands}
+use Rattle.eager_slaves.proofs.Fresh.{fresh_on as fresh_behind}
 
--- ---- small facts
--- a word that is carried out waits no longer
-carried_none : (table : Table) (r : Registers) → (carry table r).control ≡ None
-carried_none table r = go r.refused r.control refl
-  where
-    decides : (found : Option ℕ) (target : ℕ) → (decided r target found).control ≡ None
-    decides None target = refl
-    decides (Some code) target = refl
-
-    flag : (b : Bool) (target : ℕ) (found : Option ℕ) → (if b then decided r target found else record r { control = None }).control ≡ None
-    flag true target found = decides found target
-    flag false target found = refl
-
-    go : (refused : Option ℕ) (control : Option (ℕ × Bool)) → r.control ≡ control → (word_carried table r refused control).control ≡ None
-    go None None e = e
-    go (Some code) None e = e
-    go None (Some w) e = decides (table r.state w.0) w.0
-    go (Some code) (Some w) e = flag w.1 w.0 (table r.state w.0)
-
-for_not_gone : (q : Wanted) (hand : Option Duty) → IsFor q hand → NotGone hand
-for_not_gone Wanted.Mails hand e = subst NotGone (sym e) tt
-for_not_gone Wanted.Drains hand (duty, is, stage) = subst NotGone (sym is) (subst (λ (z : Stage). NotGone (Some (record duty { stage = z }))) (sym stage) tt)
-
-for_draining : (q : Wanted) (hand : Option Duty) → IsFor q hand → IsDraining hand
-for_draining Wanted.Mails hand e = subst IsDraining (sym e) tt
-for_draining Wanted.Drains hand (duty, is, stage) = subst IsDraining (sym is) stage
-
-asks_visit : (h : Halves Body) (m : Memory) (hand : Option Duty) (d : Datagram Body) → IsDraining hand → AsksFor h m hand d → AsksVisit h (visit_for hand m (is_some h.out.holding)) d
-asks_visit h m None d drains asks = asks
-asks_visit h m (Some duty) d drains asks = subst (λ stage. AsksStage h m duty.target stage d) drains asks
-
--- an access of a visit leaves the registers
-visit_registers : (h : Halves Body) (visit : Visit) (d : Datagram Body) (r : Registers) → AsksVisit h visit d → registers_met r d.access ≡ r
-visit_registers h Visit.Write d r (m, held, ask, access) = ap (registers_met r) access
-visit_registers h Visit.Read d r (ask, access) = ap (registers_met r) access
-visit_registers h Visit.Full d r (ask, access) = ap (registers_met r) access
-
--- a slave behind datagrams that leave it
-untouched : {V : Type 0} (station : ℕ) (s : Slave V Body) (d : Datagram Body) (ds : List (Datagram Body)) → ds ≡ d ∷ [] → (slave_meets station s d).node ≡ s.node → (slave_meets station s d).registers ≡ s.registers → slave_after station s ds ≡ s
-untouched station s d ds one node registers = ap (slave_after station s) one ∙ (λ i. record { node = node i; registers = registers i })
-
--- a mailbox that is written to and stays as it is was full
-written_full : {V : Type 0} (n : Node Body (Serving V Body)) (m : LinkMail Body) → node_meets n (Ask.WriteMail m) ≡ n → write_counter n.out.box ≡ 0
-written_full {V} n m e = go n.out.box refl (ap (λ (z : Node Body (Serving V Body)). z.out.box) e)
-  where
-    go : (box : Option (LinkMail Body)) → n.out.box ≡ box → (written n.out box m).box ≡ n.out.box → write_counter box ≡ 0
-    go None is same = absurd (let no : Some m ≡ None = same ∙ is in cc)
-    go (Some b) is same = refl
-
--- one that is read and stays as it is was empty
-read_empty : {V : Type 0} (n : Node Body (Serving V Body)) → node_meets n Ask.ReadMail ≡ n → n.inn.box ≡ None
-read_empty {V} n e = sym (ap (λ (z : Node Body (Serving V Body)). z.inn.box) e)
-
-pub unvisited_waits : {S : Type 0} (v : Server Body S) (l : Life Body Asked Reply) (n : Node Body S) (t : Waits) (m : Memory) → Unvisited v l n t → Waiting v l n m t
-unvisited_waits {S} v l n t m k = subst (λ (z : ℕ). Waiting v l n m (record { stepped = t.stepped; tries = z })) (sym k.tries) (by n t.stepped k.steps)
-  where
-    by : (n : Node Body S) (b : Bool) → Steps v k.link.node n b → Waiting v l n m (record { stepped = b; tries = 0 })
-    by _ _ Steps.none = record { link = k.link; wanted = k.wanted; waits = IsWaiting.new k.link k.wanted m k.agrees k.clear; shows = k.shows }
-    by _ _ (Steps.more n b s) = let w = by n b s in record {
-      link = happens v w.link Event.Pdi;
-      wanted = w.wanted;
-      waits = IsWaiting.steps w.link w.wanted m (record { stepped = b; tries = 0 }) w.waits;
-      shows = record { halves = w.shows.halves; node = ap (processor_step v) w.shows.node; hand = w.shows.hand; stands = w.shows.stands };
-    }
-
--- ---- THE FRAME
 module _ {V A : Type 0} (ex : Exchange V A Body Asked Reply) (processor : Processor V) (table : Table) (x : Spot → Speech Body Asked Reply) (acknowledged : Asked → Bool) (more : Body → Bool) (passed : Asked → Bool) (number : ℕ) (sent back : List (Datagram Body)) where
   abbrev v : Server Body (Serving V Body)
   v = serving ex
 
-  module _ (c : Clocked Body Asked Reply) (u : Under Body Asked Reply) (s s' : Slave V Body) (f : FrameAs ex processor table x acknowledged more passed number sent back c u s s') where
+  module _ (c : Clocked Body Asked Reply) (u : Under Body Asked Reply) (t : Waits) (s s' : Slave V Body) (f : FrameAs ex processor table x acknowledged more passed number sent back c u t s s') where
     abbrev station : ℕ
     station = c.spot.station
 
     abbrev behind : Life Body Asked Reply
     behind = back_life x acknowledged more passed number back c u
 
-    stand_is : u.life.stand ≡ c.life.stand
-    stand_is = ap (λ (z : Life Body Asked Reply). z.stand) f.life ∙ stand_next (x c.spot) acknowledged more passed number c.life f.pick
-
     inn_is : u.life.era.side.halves.inn ≡ c.life.era.side.halves.inn
-    inn_is = ap (λ (z : Life Body Asked Reply). z.era.side.halves.inn) f.life ∙ inn_next (x c.spot) acknowledged more passed number c.life f.pick
+    inn_is = Framed.inn_is ex processor table x acknowledged more passed number sent back c u t s s' f
 
     back_none : u.under ≡ false → own station back ≡ []
-    back_none out = f.back_is ∙ ap (frame_after station s) (f.none out)
+    back_none = Framed.back_none ex processor table x acknowledged more passed number sent back c u t s s' f
 
     sent_none : u.under ≡ false → slave_after station s (own station sent) ≡ s
-    sent_none out = ap (slave_after station s) (f.none out)
+    sent_none = Framed.sent_none ex processor table x acknowledged more passed number sent back c u t s s' f
 
     back_one : (o : One station sent) → own station back ≡ met station s f.here o.datagram o.sent_so ∷ []
-    back_one o = f.back_is ∙ ap (frame_after station s) o.is
+    back_one = Framed.back_one ex processor table x acknowledged more passed number sent back c u t s s' f
 
-    -- the slave behind the step, where the frame left it
     step_registers : slave_after station s (own station sent) ≡ s → s'.registers ≡ registers_on table number c s.registers
-    step_registers left = ap (λ (z : Slave V Body). z.registers) f.slave ∙ by (suc number % c.pace == 0)
-      where
-        by : (b : Bool) → (let k = slave_after station s (own station sent) in if b then slave_steps ex processor k else k).registers ≡ (if b then carry table s.registers else s.registers)
-        by true = ap (λ (z : Slave V Body). (slave_steps ex processor z).registers) left ∙ f.alone.registers
-        by false = ap (λ (z : Slave V Body). z.registers) left
+    step_registers = Framed.step_registers ex processor table x acknowledged more passed number sent back c u t s s' f
 
     step_node : slave_after station s (own station sent) ≡ s → NotGone c.life.era.account.hand → s'.node ≡ node_on v number c s.node
-    step_node left not_gone = ap (λ (z : Slave V Body). z.node) f.slave ∙ by (suc number % c.pace == 0)
-      where
-        by : (b : Bool) → (let k = slave_after station s (own station sent) in if b then slave_steps ex processor k else k).node ≡ (if b then processor_step v s.node else s.node)
-        by true = ap (λ (z : Slave V Body). (slave_steps ex processor z).node) left ∙ f.alone.node not_gone
-        by false = ap (λ (z : Slave V Body). z.node) left
+    step_node = Framed.step_node ex processor table x acknowledged more passed number sent back c u t s s' f
 
-    step_control : (t : Waits) → s'.registers ≡ registers_on table number c s.registers → (t.stepped ≡ true → s.registers.control ≡ None) → (waits_on number c u t).stepped ≡ true → s'.registers.control ≡ None
-    step_control t registers before stepped = ap (λ (r : Registers). r.control) registers ∙ by (suc number % c.pace == 0) stepped
-      where
-        by : (b : Bool) → (if b then true else t.stepped) ≡ true → (if b then carry table s.registers else s.registers).control ≡ None
-        by true e = carried_none table s.registers
-        by false e = before e
+    step_control : s'.registers ≡ registers_on table number c s.registers → (t.stepped ≡ true → s.registers.control ≡ None) → (waits_on number c u t).stepped ≡ true → s'.registers.control ≡ None
+    step_control = Framed.step_control ex processor table x acknowledged more passed number sent back c u t s s' f
 
     -- ---- A SLAVE THAT WAITS
     module _ (m n : Remembered) (next : Option Plan.Service) (begun : Option (Service Asked)) (wish : f.pick.begin ≡ begun) (eager : IsEager (x c.spot) station sent m u.under begun next c.life u.life) (remembers : RemembersOn station back m n u.under c.life u.life) where
-      module _ (t : Waits) (k : Waiting v c.life s.node m.memory t) (link : HasLink c.life.era.side s) (pause_free : IsUnpaused f.pick m.memory t) where
+      module _ (k : Waiting v c.life s.node m.memory t) (link : HasLink c.life.era.side s) (pause_free : IsUnpaused f.pick m.memory t) where
         chose : Chosen v c.life u.life s.node m.memory t
-        chose = subst (λ z. Chosen v c.life z s.node m.memory t) (sym f.life) (chosen v c.life s.node m.memory t k (x c.spot) acknowledged more passed number f.pick f.unpassed pause_free)
+        chose = subst (λ z. Chosen v c.life z s.node m.memory t) (sym f.life) (chosen v c.life s.node m.memory t k (x c.spot) acknowledged more passed number f.pick pause_free)
 
         clear : IsClear u.life
         clear = record { stands = chose.shows.stands; clear = ap (λ (h : InHalf). h.state) inn_is ∙ ap (λ (h : Halves Body). h.inn.state) (sym k.shows.halves) ∙ (holds v k.link k.wanted m.memory t k.waits).clear }
@@ -177,23 +99,52 @@ module _ {V A : Type 0} (ex : Exchange V A Body Asked Reply) (processor : Proces
 
         -- its visit
         asks : (o : One station sent) → AsksVisit u.life.era.side.halves (life_visit u.life (memory_of c.life u.life m.memory)) o.datagram
-        asks o = asks_visit u.life.era.side.halves (memory_of c.life u.life m.memory) u.life.era.account.hand o.datagram (for_draining (wanted_by chose.wanted chose.coming) u.life.era.account.hand chose.shows.hand)
-            (subst (λ ds. EachAsksFor u.life.era.side.halves (memory_of c.life u.life m.memory) u.life.era.account.hand ds) o.is (eager.asks clear)).0
+        asks o = asks_visit u.life.era.side.halves (memory_of c.life u.life m.memory) u.life.era.account.hand u.life.era.passing o.datagram (for_draining (wanted_by chose.wanted chose.coming) u.life.era.account.hand u.life.era.passing chose.shows.hand)
+            (subst (λ ds. EachAsksFor u.life.era.side.halves (memory_of c.life u.life m.memory) u.life.era.account.hand u.life.era.passing ds) o.is (eager.asks clear)).0
 
         abbrev came : u.under ≡ true → CameBack station s.node u.life.era.side.halves (life_visit u.life (memory_of c.life u.life m.memory)) back
         came e = let o = f.one clear.stands e in came_back station s f.here o.datagram o.sent_so back u.life.era.side.halves (life_visit u.life (memory_of c.life u.life m.memory)) (back_one o) (asks o)
 
-        vain : (u.under ≡ false → u.life ≡ c.life) → InVain x acknowledged more passed number back c u s.node m.memory t
-        vain none = record { pick = f.pick; life = f.life; unpassed = f.unpassed; unpaused = pause_free; row = row; visits = came; none = λ e. (none e, back_none e); same = f.same }
+        -- what it tells of a mail that is passed on
+        told_by : (w : Visit) (d : Datagram Body) → AsksVisit u.life.era.side.halves w d → (a : Datagram Body) → a.access ≡ d.access → a.gram.ask ≡ d.gram.ask → (d.gram.ask ≡ Ask.ReadMail → s.node.inn.box ≡ None → (a.gram.counter == 0) ≡ true) →
+            Meets s.node u.life.era.side.halves w a → TellsBy t.stepped u.news a → Tells t.stepped s.node w u.news
+        told_by Visit.Write d asks a access ask read meets by = tt
+        told_by Visit.Read d asks a access ask read meets by = λ made empty. by.empty (access ∙ asks.1) (ask ∙ asks.0) (read asks.0 empty) made
+        told_by Visit.Full d asks a access ask read (is_ask, is_access, counted, found) by = by.full (is_some s.node.out.box) (access ∙ asks.1) (ask ∙ asks.0) counted found
 
-        same : gains (life_back (x c.spot) acknowledged more passed number c.spot [] back u.came u.life Stand.Open) ≡ gains u.life
+        told : u.under ≡ true → is_some u.life.era.passing ≡ true → Tells t.stepped s.node (life_visit u.life (memory_of c.life u.life m.memory)) u.news
+        told e some =
+            let o = f.one clear.stands e in
+            let a = met station s f.here o.datagram o.sent_so in
+            told_by (life_visit u.life (memory_of c.life u.life m.memory)) o.datagram (asks o) a refl (met_ask station s f.here o.datagram o.sent_so) (read_counter station s f.here o.datagram o.sent_so) (came e).meets (f.tells clear.stands some a (back_one o))
+
+        vain : (u.under ≡ false → u.life ≡ c.life) → InVain x acknowledged more passed number back c u s.node m.memory t
+        vain none = record {
+          pick = f.pick;
+          life = f.life;
+          unpaused = pause_free;
+          row = row;
+          visits = came;
+          tells = told;
+          none = λ e. (none e, back_none e);
+          same = f.same;
+          still = f.still;
+        }
+
+        same : gains (life_back (x c.spot) acknowledged more passed number c.spot u.news back u.came u.life Stand.Open) ≡ gains u.life
         same =
-            ap (λ z. gains (life_back (x c.spot) acknowledged more passed number c.spot [] back u.came u.life z)) (sym clear.stands) ∙ f.same
+            ap (λ z. gains (life_back (x c.spot) acknowledged more passed number c.spot u.news back u.came u.life z)) (sym clear.stands) ∙ f.same
             ∙ sym (next_same (x c.spot) acknowledged more passed number c.life c.life.stand f.pick) ∙ ap gains (sym f.life)
+
+        still : (life_back (x c.spot) acknowledged more passed number c.spot u.news back u.came u.life Stand.Open).era.passing ≡ u.life.era.passing
+        still = ap (λ z. (life_back (x c.spot) acknowledged more passed number c.spot u.news back u.came u.life z).era.passing) (sym clear.stands) ∙ f.still
+
+        visit_still : u.under ≡ true → IsStill t.stepped s.node (life_visit u.life (memory_of c.life u.life m.memory)) u.news u.life (life_back (x c.spot) acknowledged more passed number c.spot u.news back u.came u.life Stand.Open)
+        visit_still e = record { tells = told e; same = still }
 
         -- it leaves the slave
         visit_node : (e : u.under ≡ true) → node_meets s.node (let o = f.one clear.stands e in met station s f.here o.datagram o.sent_so).gram.ask ≡ s.node
-        visit_node e = same_node v (x c.spot) acknowledged more passed number c.spot [] back u.came u.life s.node m.memory t c.life chose row (came e) same
+        visit_node e = same_node v (x c.spot) acknowledged more passed number c.spot u.news back u.came u.life s.node m.memory t c.life chose row (came e) same (visit_still e)
 
         left_so : (b : Bool) → u.under ≡ b → slave_after station s (own station sent) ≡ s
         left_so false e = sent_none e
@@ -206,7 +157,7 @@ module _ {V A : Type 0} (ex : Exchange V A Body Asked Reply) (processor : Proces
         left = left_so u.under refl
 
         not_gone : NotGone c.life.era.account.hand
-        not_gone = for_not_gone k.wanted c.life.era.account.hand k.shows.hand
+        not_gone = for_not_gone k.wanted c.life.era.account.hand c.life.era.passing k.shows.hand
 
         -- behind it the hand is none, or drains yet
         module _ (i : InVain x acknowledged more passed number back c u s.node m.memory t) where
@@ -221,27 +172,19 @@ module _ {V A : Type 0} (ex : Exchange V A Body Asked Reply) (processor : Proces
             where
               goes : behind.era.account.hand ≡ Some (record duty { stage = Stage.Goes Phase.Ask })
               goes =
-                  Behind.hand_one (x c.spot) acknowledged more passed number c.spot back u.came u.life clear.stands d one is duty hand address counted
+                  Behind.hand_one (x c.spot) acknowledged more passed number c.spot u.news back u.came u.life clear.stands d one is duty hand address counted
                   ∙ (λ z. (account_by number u.life.era.account duty (access_done {R = Reply} duty.target (stage z) (access z) (found z))).hand)
 
-              never : (q : Wanted) → IsFor q behind.era.account.hand → is_some (let none : Option (LinkMail Body) = None in none) ≡ true
-              never Wanted.Mails none = absurd (let no : Some (record duty { stage = Stage.Goes Phase.Ask }) ≡ None = sym goes ∙ none in cc)
-              never Wanted.Drains (other, is, drains) =
+              never : (q : Wanted) → IsFor q behind.era.account.hand behind.era.passing → is_some (let none : Option (LinkMail Body) = None in none) ≡ true
+              never Wanted.Mails (none, unboxed) = absurd (let no : Some (record duty { stage = Stage.Goes Phase.Ask }) ≡ None = sym goes ∙ none in cc)
+              never Wanted.Drains (inr (none, boxed)) = absurd (let no : Some (record duty { stage = Stage.Goes Phase.Ask }) ≡ None = sym goes ∙ none in cc)
+              never Wanted.Drains (inl (other, is, drains)) =
                   let same : record duty { stage = Stage.Goes Phase.Ask } ≡ other = (let both : Some (record duty { stage = Stage.Goes Phase.Ask }) ≡ Some other = sym goes ∙ is in cc) in
                   absurd (let no : Stage.Goes Phase.Ask ≡ Stage.Drains = ap (λ (z : Duty). z.stage) same ∙ drains in cc)
 
           -- so it was in vain
-          visit_full : (b : Bool) (m' : Memory) → mails_visit m'.paused b ≡ Visit.Full → is_some (let none : Option (LinkMail Body) = None in none) ≡ true
-          visit_full b m' e = by m'.paused b e
-            where
-              by : (p b : Bool) → mails_visit p b ≡ Visit.Full → is_some (let none : Option (LinkMail Body) = None in none) ≡ true
-              by true b e = absurd (let no : Visit.Read ≡ Visit.Full = e in cc)
-              by false true e = absurd (let no : Visit.Write ≡ Visit.Full = e in cc)
-              by false false e = absurd (let no : Visit.Read ≡ Visit.Full = e in cc)
-
-          drains_now : (q : Wanted) → IsFor q u.life.era.account.hand → life_visit u.life (memory_of c.life u.life m.memory) ≡ Visit.Full → (duty : Duty) × (u.life.era.account.hand ≡ Some duty) × (duty.stage ≡ Stage.Drains)
-          drains_now Wanted.Drains k e = k
-          drains_now Wanted.Mails none e = absurd (let no : false ≡ true = visit_full (is_some u.life.era.side.halves.out.holding) (memory_of c.life u.life m.memory) (sym (ap (λ h. visit_for h (memory_of c.life u.life m.memory) (is_some u.life.era.side.halves.out.holding)) none) ∙ e) in cc)
+          drains_now : life_visit u.life (memory_of c.life u.life m.memory) ≡ Visit.Full → IsFor Wanted.Drains u.life.era.account.hand u.life.era.passing
+          drains_now e = full_drains (wanted_by chose.wanted chose.coming) u.life.era.account.hand u.life.era.passing (memory_of c.life u.life m.memory) (is_some u.life.era.side.halves.out.holding) chose.shows.hand e
 
           module _ (e : u.under ≡ true) where
             abbrev o : One station sent
@@ -257,8 +200,14 @@ module _ {V A : Type 0} (ex : Exchange V A Body Asked Reply) (processor : Proces
             is_vain Visit.Write is asks (mail, held, ask, counter, access) = ap (λ n. n == 0) (counter ∙ written_full s.node mail (ap (node_meets s.node) (sym ask) ∙ visit_node e))
             is_vain Visit.Read is asks meets = tt
             is_vain Visit.Full is asks (ask, access, counted, found) =
-                let k = drains_now (wanted_by chose.wanted chose.coming) chose.shows.hand is in
-                (counted, found ∙ ap (λ z. Some (Found.Full z)) (saw_full o e k.0 k.1 k.2 d (came e).one (came e).station_is (came e).address access counted s.node.out.box found))
+                (counted, found ∙ ap (λ z. Some (Found.Full z)) (is_full (drains_now is)))
+              where
+                is_full : IsFor Wanted.Drains u.life.era.account.hand u.life.era.passing → is_some s.node.out.box ≡ true
+                is_full (inl k) = saw_full o e k.0 k.1 k.2 d (came e).one (came e).station_is (came e).address access counted s.node.out.box found
+                is_full (inr (none, boxed)) =
+                    let b = not_boxed (x c.spot) acknowledged more passed number c.spot u.news back u.came u.life s.node t.stepped (boxed_is u.life.era.passing boxed)
+                    (subst (λ z. IsStill t.stepped s.node z u.news u.life (life_back (x c.spot) acknowledged more passed number c.spot u.news back u.came u.life Stand.Open)) is (visit_still e)) in
+                    ap is_some b.1
 
             -- the mail held stays held, and nothing is heard
             same_out : (w : Visit) → visit ≡ w → Meets s.node u.life.era.side.halves w d → IsInVain w d → (halves_answered u.life.era.side.halves d.gram.ask d.gram).out ≡ u.life.era.side.halves.out
@@ -283,13 +232,13 @@ module _ {V A : Type 0} (ex : Exchange V A Body Asked Reply) (processor : Proces
 
             left_visited : behind.era.side.halves.out.holding ≡ None → NoneLeft (x c.spot) behind
             left_visited free =
-                let halves = Behind.halves_one (x c.spot) acknowledged more passed number c.spot back u.came u.life clear.stands d (came e).one (came e).station_is in
+                let halves = Behind.halves_one (x c.spot) acknowledged more passed number c.spot u.news back u.came u.life clear.stands d (came e).one (came e).station_is in
                 let held : u.life.era.side.halves.out.holding ≡ None = ap (λ (z : OutHalf Body). z.holding) (sym (ap (λ (h : Halves Body). h.out) halves ∙ same_out visit refl meets in_vain)) ∙ free in
                 left_heard (x c.spot) number u.life.era.side.now behind.era.side.now
-                (Behind.now_one (x c.spot) acknowledged more passed number c.spot back u.came u.life clear.stands d (came e).one (came e).station_is (hears_none visit refl meets)) (eager.takes e clear held)
+                (Behind.now_one (x c.spot) acknowledged more passed number c.spot u.news back u.came u.life clear.stands d (came e).one (came e).station_is (hears_none visit refl meets)) (eager.takes e clear held)
 
             remembers_so : n.memory ≡ memory_behind (memory_of c.life u.life m.memory) visit
-            remembers_so = remembers.visited e clear (for_draining (wanted_by chose.wanted chose.coming) u.life.era.account.hand chose.shows.hand) d (came e).one in_vain
+            remembers_so = remembers.visited e clear (for_draining (wanted_by chose.wanted chose.coming) u.life.era.account.hand u.life.era.passing chose.shows.hand) d (came e).one in_vain
 
           -- what is remembered is what such a visit leaves
           memory_is : (b : Bool) → u.under ≡ b → n.memory ≡ (if b then memory_behind (memory_of c.life u.life m.memory) (life_visit u.life (memory_of c.life u.life m.memory)) else m.memory)
@@ -298,8 +247,8 @@ module _ {V A : Type 0} (ex : Exchange V A Body Asked Reply) (processor : Proces
 
           left_none : u.under ≡ false → (u.life.era.side.halves.out.holding ≡ None → NoneLeft (x c.spot) u.life) → behind.era.side.halves.out.holding ≡ None → NoneLeft (x c.spot) behind
           left_none e before free =
-              let halves = Behind.halves_none (x c.spot) acknowledged more passed number c.spot back u.came u.life clear.stands (back_none e) in
-              left_heard (x c.spot) number u.life.era.side.now behind.era.side.now (Behind.now_none (x c.spot) acknowledged more passed number c.spot back u.came u.life clear.stands (back_none e))
+              let halves = Behind.halves_none (x c.spot) acknowledged more passed number c.spot u.news back u.came u.life clear.stands (back_none e) in
+              left_heard (x c.spot) number u.life.era.side.now behind.era.side.now (Behind.now_none (x c.spot) acknowledged more passed number c.spot u.news back u.came u.life clear.stands (back_none e))
               (before (ap (λ (h : Halves Body). h.out.holding) (sym halves) ∙ free))
 
           left_behind : (b : Bool) → u.under ≡ b → (b ≡ false → u.life.era.side.halves.out.holding ≡ None → NoneLeft (x c.spot) u.life) → behind.era.side.halves.out.holding ≡ None → NoneLeft (x c.spot) behind
@@ -325,7 +274,7 @@ module _ {V A : Type 0} (ex : Exchange V A Body Asked Reply) (processor : Proces
           }
 
       -- ---- NO MAIL WAS HEARD of it
-      module _ (t : Waits) (link : HasLink c.life.era.side s) where
+      module _ (link : HasLink c.life.era.side s) where
         abbrev pub Silent : Type 0
         Silent = all_accepted c.spot.station u.life.era.side.halves (grams (own c.spot.station back)) ≡ []
 
@@ -336,39 +285,11 @@ module _ {V A : Type 0} (ex : Exchange V A Body Asked Reply) (processor : Proces
         waits_silent k pause = go u.under refl
           where
             go : (b : Bool) → u.under ≡ b → Silent
-            go true e = silent_one t k link pause (vain t k link pause (λ out. absurd (let no : true ≡ false = sym e ∙ out in cc))) e
+            go true e = silent_one k link pause (vain k link pause (λ out. absurd (let no : true ≡ false = sym e ∙ out in cc))) e
             go false e = silent_none e
-
-        pub going_silent : Going table c.life s.registers t → c.life.era.side.halves.inn.state ≡ InState.Clear → Silent
-        going_silent g clear = go u.under refl
-          where
-            opened : u.life.stand ≡ Stand.Open
-            opened = stand_is ∙ g.stands
-
-            hand : u.life.era.account.hand ≡ Some g.duty
-            hand = ap (λ (z : Life Body Asked Reply). z.era.account.hand) f.life ∙ hand_next (x c.spot) acknowledged more passed number c.life f.pick g.stands g.duty g.hand
-
-            open_clear : IsClear u.life
-            open_clear = record { stands = opened; clear = ap (λ (h : InHalf). h.state) inn_is ∙ clear }
-
-            other : (o : One station sent) → o.datagram.gram.ask ≡ Ask.Other
-            other o =
-                let asked = (subst (λ ds. EachAsksFor u.life.era.side.halves (memory_of c.life u.life m.memory) u.life.era.account.hand ds) o.is (eager.asks open_clear)).0 in
-                (subst (λ stage. AsksStage u.life.era.side.halves (memory_of c.life u.life m.memory) g.duty.target stage o.datagram) g.stage
-                (subst (λ h. AsksFor u.life.era.side.halves (memory_of c.life u.life m.memory) h o.datagram) hand asked)).0
-
-            go : (b : Bool) → u.under ≡ b → Silent
-            go false e = silent_none e
-            go true e =
-                let h = u.life.era.side.halves in
-                let o : One station sent = f.one opened e in
-                let d : Datagram Body = met station s f.here o.datagram o.sent_so in
-                ap (λ (ds : List (Datagram Body)). all_accepted station h (grams ds)) (back_one o)
-                ∙ ap (λ (b : Bool). (if b then halves_accept h d.gram.ask d.gram else []) ++ []) (eq-eqb d.gram.station station (met_station station s f.here o.datagram o.sent_so))
-                ∙ ap (λ a. halves_accept h a d.gram ++ []) (met_ask station s f.here o.datagram o.sent_so ∙ other o)
 
       -- ---- WHAT IT IS BEHIND THE FRAME
-      module _ (t : Waits) (next' : Option Plan.Service) (gets : GetsNone m n) (script : next ≡ None → next' ≡ None) (link : HasLink c.life.era.side s) (answered : NowAnswered (x c.spot) c.life.era.side)
+      module _ (next' : Option Plan.Service) (gets : GetsNone m n) (script : next ≡ None → next' ≡ None) (link : HasLink c.life.era.side s) (answered : NowAnswered (x c.spot) c.life.era.side)
           (states : (target : ℕ) → begun ≡ Some (Service.State target) → ((era_next (x c.spot) acknowledged more passed number c.life.era f.pick).account.started ≡ starts c.life.era.account (Service.State target) number) × (next ≡ None → ⊥))
           (holds_up : u.under ≡ true → IsClear c.life → EndsHeld (x c.spot) acknowledged (next ≡ None) c.spot.station back u.life (back_life x acknowledged more passed number back c u)) (frees : LifeSpent v c.life s.node → NoneLeft (x c.spot) c.life → MayBegin (x c.spot) c.life)
           (settles : u.under ≡ true → IsClear u.life → u.life.era.side.halves.out.holding ≡ None → u.life.era.account.hand ≡ None → begun ≡ None) where
@@ -388,34 +309,34 @@ module _ {V A : Type 0} (ex : Exchange V A Body Asked Reply) (processor : Proces
         open_waits k few = (ap is_live k.shows.stands, few)
 
         packet_none : IsAtEnd next m → IsAtEnd next' n
-        packet_none e = record { script = script e.script; packet = by n.packet refl }
+        packet_none e = record { script = script e.script; packet = by n.packet m.packet gets.packet e.packet; asked = by n.asked m.asked gets.asked e.asked }
           where
-            by : (b : Bool) → n.packet ≡ b → b ≡ false
-            by false is = refl
-            by true is = absurd (let no : true ≡ false = sym (gets is) ∙ e.packet in cc)
+            by : (b c : Bool) → (b ≡ true → c ≡ true) → c ≡ false → b ≡ false
+            by false c is none = refl
+            by true c is none = absurd (let no : true ≡ false = sym (is refl) ∙ none in cc)
 
         -- behind a write in vain where a state service might begin, the script is at its end
         abbrev HeldOn : Life Body Asked Reply → Memory → Waits → Type 0
         HeldOn l mem w = HeldUp (x c.spot) acknowledged (next ≡ None) l mem w
 
         script_on : HeldOn behind n.memory on → HeldUp (x c.spot) acknowledged (next' ≡ None) behind n.memory on
-        script_on h one paused hand free = script (h one paused hand free)
+        script_on h one paused hand unpassed free = script (h one paused hand unpassed free)
 
         state_begins : (target : ℕ) → f.pick.begin ≡ Some (Service.State target) → ((era_next (x c.spot) acknowledged more passed number c.life.era f.pick).account.started ≡ starts c.life.era.account (Service.State target) number) × (next ≡ None → ⊥)
         state_begins target e = states target (sym wish ∙ e)
 
         module _ (w : Waiting v c.life s.node m.memory t) (free : IsUnpaused f.pick m.memory t) (i : InVain x acknowledged more passed number back c u s.node m.memory t) (e : u.under ≡ true) where
           abbrev open_behind : Life Body Asked Reply
-          open_behind = life_back (x c.spot) acknowledged more passed number c.spot [] back u.came u.life Stand.Open
+          open_behind = life_back (x c.spot) acknowledged more passed number c.spot u.news back u.came u.life Stand.Open
 
           open_is : behind ≡ open_behind
-          open_is = ap (λ z. life_back (x c.spot) acknowledged more passed number c.spot [] back u.came u.life z) (clear t w link free).stands
+          open_is = ap (λ z. life_back (x c.spot) acknowledged more passed number c.spot u.news back u.came u.life z) (clear w link free).stands
 
           clear_c : IsClear c.life
           clear_c = record { stands = w.shows.stands; clear = ap (λ (h : Halves Body). h.inn.state) (sym w.shows.halves) ∙ (holds v w.link w.wanted m.memory t w.waits).clear }
 
           up : HeldOn open_behind (memory_behind (memory_of c.life u.life m.memory) (life_visit u.life (memory_of c.life u.life m.memory))) (tried t)
-          up = held_up (x c.spot) acknowledged more passed number c.spot [] back u.came u.life v c.life s.node m.memory t (next ≡ None) (chose t w link free) (row t w link free) (came t w link free e) (same t w link free)
+          up = held_up (x c.spot) acknowledged more passed number c.spot u.news back u.came u.life v c.life s.node m.memory t (next ≡ None) (chose w link free) (row w link free) (came w link free e) (same w link free) (visit_still w link free e)
               (subst (λ z. EndsHeld (x c.spot) acknowledged (next ≡ None) c.spot.station back u.life z) open_is (holds_up e clear_c))
 
           as_tried : 1 ≤ on.tries → 1 ≤ (tried t).tries
@@ -424,25 +345,25 @@ module _ {V A : Type 0} (ex : Exchange V A Body Asked Reply) (processor : Proces
           pub held_visited : HeldOn behind n.memory on
           held_visited =
               subst (λ z. HeldOn z n.memory on) (sym open_is)
-              (subst (λ z. HeldOn open_behind z on) (sym (remembers_so t w link free i e)) (λ one paused hand might. up (as_tried one) paused hand might))
+              (subst (λ z. HeldOn open_behind z on) (sym (remembers_so w link free i e)) (λ one paused hand unpassed might. up (as_tried one) paused hand unpassed might))
 
         -- ---- it was visited already
         module _ (k : Visited v (x c.spot) c.life s.node m.memory t) (control : t.stepped ≡ true → s.registers.control ≡ None) (end : 2 ≤ t.tries → IsAtEnd next m)
             (held : HeldUp (x c.spot) acknowledged (next ≡ None) c.life m.memory t) where
           unpaused_now : IsUnpaused f.pick m.memory t
-          unpaused_now = unpaused (x c.spot) acknowledged more passed number c.life m.memory t f.pick (next ≡ None) f.unpassed held state_begins
+          unpaused_now = unpaused (x c.spot) acknowledged more passed number c.life m.memory t f.pick (next ≡ None) held state_begins
 
           stays_so : u.under ≡ false → u.life ≡ c.life
-          stays_so e = f.life ∙ same_next (x c.spot) acknowledged more passed number c.life f.pick k.waits.shows.stands f.unpassed (wish ∙ eager.begins e) (λ free r now. k.left free r now)
+          stays_so e = f.life ∙ same_next (x c.spot) acknowledged more passed number c.life f.pick k.waits.shows.stands (wish ∙ eager.begins e) (λ free r now. k.left free r now)
 
           i : InVain x acknowledged more passed number back c u s.node m.memory t
-          i = vain t k.waits link unpaused_now stays_so
+          i = vain k.waits link unpaused_now stays_so
 
           before : u.under ≡ false → u.life.era.side.halves.out.holding ≡ None → NoneLeft (x c.spot) u.life
           before e free = subst (λ z. NoneLeft (x c.spot) z) (sym (stays_so e)) (k.left (ap (λ (z : Life Body Asked Reply). z.era.side.halves.out.holding) (sym (stays_so e)) ∙ free))
 
           now : Visited v (x c.spot) behind s'.node n.memory on
-          now = visited_on t k.waits link unpaused_now i before
+          now = visited_on k.waits link unpaused_now i before
 
           none_left : LifeSpent v c.life s.node → NoneLeft (x c.spot) c.life
           none_left spent = k.left (sym (ap (λ (h : Halves Body). h.out.holding) spent.shows.halves) ∙ spent.spent.held)
@@ -459,8 +380,8 @@ module _ {V A : Type 0} (ex : Exchange V A Body Asked Reply) (processor : Proces
 
           ends_now : u.under ≡ true → 1 ≤ t.tries → IsAtEnd next m
           ends_now e one =
-              let spent = second v (x c.spot) acknowledged more passed number c.spot [] back u.came u.life s.node m.memory t c.life (chose t k.waits link unpaused_now) (row t k.waits link unpaused_now) (came t k.waits link unpaused_now e) (same t k.waits link unpaused_now) one in
-              eager.ends e clear_before (frees spent.0 (none_left spent.0)) (settles e (clear t k.waits link unpaused_now) (sym (ap (λ (h : Halves Body). h.out.holding) spent.1.shows.halves) ∙ spent.1.spent.held) spent.1.shows.hand)
+              let spent = second v (x c.spot) acknowledged more passed number c.spot u.news back u.came u.life s.node m.memory t c.life (chose k.waits link unpaused_now) (row k.waits link unpaused_now) (came k.waits link unpaused_now e) (same k.waits link unpaused_now) (visit_still k.waits link unpaused_now e) one in
+              eager.ends e clear_before (frees spent.0 (none_left spent.0)) (settles e (clear k.waits link unpaused_now) (sym (ap (λ (h : Halves Body). h.out.holding) spent.1.shows.halves) ∙ spent.1.spent.held) spent.1.shows.hand.0)
 
           at_end : (under stepped : Bool) → u.under ≡ under → t.stepped ≡ stepped → 2 ≤ (if under && stepped then suc t.tries else t.tries) → IsAtEnd next m
           at_end true true e g two = ends_now e (omega (arith, two))
@@ -485,18 +406,21 @@ module _ {V A : Type 0} (ex : Exchange V A Body Asked Reply) (processor : Proces
           -- with no visit the side stays
           side_same : u.under ≡ false → behind.era.side ≡ c.life.era.side
           side_same e =
-              Behind.side_none (x c.spot) acknowledged more passed number c.spot back u.came u.life (clear t k.waits link unpaused_now).stands (back_none e) (subst (λ (z : Life Body Asked Reply). NowAnswered (x c.spot) z.era.side) (sym (stays_so e)) answered)
+              Behind.side_none (x c.spot) acknowledged more passed number c.spot u.news back u.came u.life (clear k.waits link unpaused_now).stands (back_none e) (subst (λ (z : Life Body Asked Reply). NowAnswered (x c.spot) z.era.side) (sym (stays_so e)) answered)
               ∙ ap (λ (z : Life Body Asked Reply). z.era.side) (stays_so e)
 
           hand_same : u.under ≡ false → behind.era.account.hand ≡ c.life.era.account.hand
-          hand_same e = Behind.hand_none (x c.spot) acknowledged more passed number c.spot back u.came u.life (clear t k.waits link unpaused_now).stands (back_none e) ∙ ap (λ (z : Life Body Asked Reply). z.era.account.hand) (stays_so e)
+          hand_same e = Behind.hand_none (x c.spot) acknowledged more passed number c.spot u.news back u.came u.life (clear k.waits link unpaused_now).stands (back_none e) ∙ ap (λ (z : Life Body Asked Reply). z.era.account.hand) (stays_so e)
+
+          passing_same : u.under ≡ false → behind.era.passing ≡ c.life.era.passing
+          passing_same e = f.still ∙ ap (λ (z : Life Body Asked Reply). z.era.passing) (stays_so e)
 
           as_before : u.under ≡ false → 1 ≤ on.tries → 1 ≤ t.tries
           as_before e one = subst (λ (b : Bool). 1 ≤ (if b && t.stepped then suc t.tries else t.tries)) e one
 
           held_none : u.under ≡ false → HeldOn behind n.memory on
-          held_none e one paused hand free =
-              held (as_before e one) (ap (λ (z : Memory). z.paused) (sym (remembers.unvisited e (clear t k.waits link unpaused_now).stands)) ∙ paused) (sym (hand_same e) ∙ hand)
+          held_none e one paused hand unpassed free =
+              held (as_before e one) (ap (λ (z : Memory). z.paused) (sym (remembers.unvisited e (clear k.waits link unpaused_now).stands)) ∙ paused) (sym (hand_same e) ∙ hand) (sym (passing_same e) ∙ unpassed)
               (subst (λ (d : Side Body Asked Reply). IsFree (x c.spot) acknowledged d) (side_same e) free)
 
           held_now : (b : Bool) → u.under ≡ b → HeldOn behind n.memory on
@@ -505,7 +429,7 @@ module _ {V A : Type 0} (ex : Exchange V A Body Asked Reply) (processor : Proces
 
           pub visited_stands : Stands
           visited_stands =
-              Standing.waits now (step_control t (step_registers (left t k.waits link unpaused_now)) control) (λ two. packet_none (at_end u.under t.stepped refl refl two))
+              Standing.waits now (step_control (step_registers (left k.waits link unpaused_now)) control) (λ two. packet_none (at_end u.under t.stepped refl refl two))
               (script_on (held_now u.under refl))
 
           pub visited_waits : WaitsYet ⊎ Done
@@ -531,156 +455,29 @@ module _ {V A : Type 0} (ex : Exchange V A Body Asked Reply) (processor : Proces
 
           -- it is visited now
           visited_now : u.under ≡ true → Visited v (x c.spot) behind s'.node n.memory on
-          visited_now e = visited_on t first link unpaused_first (vain t first link unpaused_first (λ out. absurd (let no : true ≡ false = sym e ∙ out in cc))) (λ out. absurd (let no : true ≡ false = sym e ∙ out in cc))
+          visited_now e = visited_on first link unpaused_first (vain first link unpaused_first (λ out. absurd (let no : true ≡ false = sym e ∙ out in cc))) (λ out. absurd (let no : true ≡ false = sym e ∙ out in cc))
 
           -- or it isn't: what came into hand came into hand when something was gained
-          module _ (out : u.under ≡ false) where
-            begun_link : Waiting v c.life k.link.node m.memory new_waits
-            begun_link = record { link = k.link; wanted = k.wanted; waits = IsWaiting.new k.link k.wanted m.memory k.agrees k.clear; shows = k.shows }
-
-            ch : Chosen v c.life u.life k.link.node m.memory new_waits
-            ch = subst (λ z. Chosen v c.life z k.link.node m.memory new_waits) (sym f.life) (chosen v c.life k.link.node m.memory new_waits begun_link (x c.spot) acknowledged more passed number f.pick f.unpassed (λ target e one. absurd (omega (arith, one))))
-
-            old : Holds v ch.link ch.wanted m.memory new_waits
-            old = holds v ch.link ch.wanted m.memory new_waits ch.waits
-
-            abbrev w : Link Body (Serving V Body)
-            w = link_by v ch.link ch.coming
-
-            come : Comes ch.link w
-            come = comes v ch.link ch.coming old.agrees
-
-            abbrev stands : u.life.stand ≡ Stand.Open
-            stands = ch.shows.stands
-
-            hand : behind.era.account.hand ≡ u.life.era.account.hand
-            hand = Behind.hand_none (x c.spot) acknowledged more passed number c.spot back u.came u.life stands (back_none out)
-
-            old_steps : Steps v w.node s.node t.stepped
-            old_steps = subst (λ z. Steps v z s.node t.stepped) (sym (come.node ∙ ch.was.node)) k.steps
-
-            steps_on : (b : Bool) → Steps v w.node (if b then processor_step v s.node else s.node) (if b then true else t.stepped)
-            steps_on true = Steps.more s.node t.stepped old_steps
-            steps_on false = old_steps
-
-            fresh_on : Unvisited v behind s'.node on
-            fresh_on = record {
-              link = w;
-              wanted = wanted_by ch.wanted ch.coming;
-              agrees = come.agrees;
-              clear = ap (λ (h : InHalf). h.state) come.inn ∙ old.clear;
-              shows = record {
-                halves = ch.shows.halves ∙ sym (Behind.halves_none (x c.spot) acknowledged more passed number c.spot back u.came u.life stands (back_none out));
-                node = refl;
-                hand = subst (λ h. IsFor (wanted_by ch.wanted ch.coming) h) (sym hand) ch.shows.hand;
-                stands = Behind.stand_for (x c.spot) acknowledged more passed number c.spot back u.came u.life stands (wanted_by ch.wanted ch.coming) (subst (λ h. IsFor (wanted_by ch.wanted ch.coming) h) (sym hand) ch.shows.hand);
-              };
-              steps = subst (λ z. Steps v w.node z on.stepped) (sym (step_node (sent_none out) (for_not_gone k.wanted c.life.era.account.hand k.shows.hand))) (steps_on (suc number % c.pace == 0));
-              tries = ap (λ (b : Bool). if b && t.stepped then suc t.tries else t.tries) out ∙ k.tries;
-            }
+          -- or it isn't
+          abbrev fresh_on : u.under ≡ false → Unvisited v behind s'.node on
+          fresh_on out = fresh_behind ex processor table x acknowledged more passed number sent back c u t s s' f m.memory k out
 
           by_under : (b : Bool) → u.under ≡ b → Stands × WaitsYet
           by_under true e =
               let now = visited_now e in (
-                Standing.waits now (step_control t (step_registers (left t first link unpaused_first)) control) (λ two. absurd (let one = few u.under t.stepped in omega (arith, one, two)))
-                    (script_on (held_visited first unpaused_first (vain t first link unpaused_first (λ out. absurd (let no : true ≡ false = sym e ∙ out in cc))) e)),
+                Standing.waits now (step_control (step_registers (left first link unpaused_first)) control) (λ two. absurd (let one = few u.under t.stepped in omega (arith, one, two)))
+                    (script_on (held_visited first unpaused_first (vain first link unpaused_first (λ out. absurd (let no : true ≡ false = sym e ∙ out in cc))) e)),
                 open_waits now.waits (few u.under t.stepped),
               )
           by_under false e =
-              let now = fresh_on e in (Standing.fresh now (step_control t (step_registers (sent_none e)) control), (ap is_live now.shows.stands, few u.under t.stepped))
+              let now = fresh_on e in (Standing.fresh now (step_control (step_registers (sent_none e)) control), (ap is_live now.shows.stands, few u.under t.stepped))
 
           pub fresh_stands : Stands × WaitsYet
           fresh_stands = by_under u.under refl
-
-        -- ---- a state service goes on
-        module _ (g : Going table c.life s.registers t) (clear : c.life.era.side.halves.inn.state ≡ InState.Clear) where
-          open_next : u.life.stand ≡ Stand.Open
-          open_next = stand_is ∙ g.stands
-
-          hand_now : u.life.era.account.hand ≡ Some g.duty
-          hand_now = ap (λ (z : Life Body Asked Reply). z.era.account.hand) f.life ∙ hand_next (x c.spot) acknowledged more passed number c.life f.pick g.stands g.duty g.hand
-
-          clear_now : IsClear u.life
-          clear_now = record { stands = open_next; clear = ap (λ (h : InHalf). h.state) inn_is ∙ clear }
-
-          asks_access : (o : One station sent) → (o.datagram.gram.ask ≡ Ask.Other) × (o.datagram.access ≡ phase_access g.duty.target g.phase)
-          asks_access o =
-              let asked = (subst (λ ds. EachAsksFor u.life.era.side.halves (memory_of c.life u.life m.memory) u.life.era.account.hand ds) o.is (eager.asks clear_now)).0 in
-              subst (λ stage. AsksStage u.life.era.side.halves (memory_of c.life u.life m.memory) g.duty.target stage o.datagram) g.stage
-              (subst (λ h. AsksFor u.life.era.side.halves (memory_of c.life u.life m.memory) h o.datagram) hand_now asked)
-
-          access_vain : AccessVain x acknowledged more passed number back c u g.duty g.phase s.registers
-          access_vain = record {
-            pick = f.pick;
-            life = f.life;
-            visits = λ e. let o = f.one open_next e in access_came station s f.here o.datagram o.sent_so back g.duty g.phase (back_one o) (asks_access o).1;
-            none = back_none;
-            same = f.same;
-          }
-
-          on_going : Going table behind (registers_on table number c s.registers) on
-          on_going = goes_so table x acknowledged more passed number back c u s.registers t g access_vain
-
-          same_open : gains (life_back (x c.spot) acknowledged more passed number c.spot [] back u.came u.life Stand.Open) ≡ gains u.life
-          same_open =
-              ap (λ z. gains (life_back (x c.spot) acknowledged more passed number c.spot [] back u.came u.life z)) (sym open_next) ∙ f.same
-              ∙ sym (next_same (x c.spot) acknowledged more passed number c.life c.life.stand f.pick) ∙ ap gains (sym f.life)
-
-          -- a control word that was written takes it on
-          word_gains : (p : Phase) → reads p ≡ false → suc (phase_gains p) ≤ phase_gains (phase_written p)
-          word_gains Phase.Ask e = omega arith
-          word_gains Phase.Await e = absurd (cc)
-          word_gains (Phase.Acknowledge state code) e = omega arith
-          word_gains (Phase.Recover code) e = absurd (cc)
-
-          word_made : (p : Phase) (found : Option Found) → reads p ≡ false → access_done {R = Reply} g.duty.target (Stage.Goes p) (phase_access g.duty.target p) found ≡ Progress.On (Stage.Goes (phase_written p))
-          word_made Phase.Ask found e = refl
-          word_made Phase.Await found e = absurd (cc)
-          word_made (Phase.Acknowledge state code) found e = refl
-          word_made (Phase.Recover code) found e = absurd (cc)
-
-          no_word : {X : Type 0} → One station sent → u.under ≡ true → reads g.phase ≡ false → X
-          no_word o e writes =
-              let came = access_came station s f.here o.datagram o.sent_so back g.duty g.phase (back_one o) (asks_access o).1 in
-              let d = came.datagram in
-              let made : access_done {R = Reply} g.duty.target g.duty.stage d.access d.found ≡ Progress.On (Stage.Goes (phase_written g.phase)) =
-              ap (λ z. access_done {R = Reply} g.duty.target z d.access d.found) g.stage ∙ ap (λ z. access_done {R = Reply} g.duty.target (Stage.Goes g.phase) z d.found) came.access ∙ word_made g.phase d.found writes in
-              let more_now : suc (stage_gains g.duty.stage) ≤ progress_gains (access_done {R = Reply} g.duty.target g.duty.stage d.access d.found) =
-              omega (arith, word_gains g.phase writes, ap stage_gains g.stage, ap progress_gains made) in
-              let gained = state_gains (x c.spot) acknowledged more passed number c.spot [] back u.came u.life d g.duty came.one hand_now came.address came.met more_now in
-              absurd (let same = same_open in omega (arith, gained, same))
-
-          access_registers : (o : One station sent) → u.under ≡ true → (p : Phase) → g.phase ≡ p → registers_met s.registers (phase_access g.duty.target p) ≡ s.registers
-          access_registers o e Phase.Await is = refl
-          access_registers o e (Phase.Recover code) is = refl
-          access_registers o e Phase.Ask is = no_word o e (ap reads is)
-          access_registers o e (Phase.Acknowledge state code) is = no_word o e (ap reads is)
-
-          going_left : (b : Bool) → u.under ≡ b → slave_after station s (own station sent) ≡ s
-          going_left false e = sent_none e
-          going_left true e =
-              let o = f.one open_next e in
-              let asked = asks_access o in
-              untouched station s o.datagram (own station sent) o.is (node_behind station s f.here o.datagram o.sent_so ∙ ap (node_meets s.node) (met_ask station s f.here o.datagram o.sent_so ∙ asked.0))
-              (registers_behind station s f.here o.datagram o.sent_so ∙ ap (registers_met s.registers) asked.1 ∙ access_registers o e g.phase refl)
-
-          clear_behind : (b : Bool) → u.under ≡ b → behind.era.side.halves.inn.state ≡ InState.Clear
-          clear_behind false e = ap (λ (h : Halves Body). h.inn.state) (Behind.halves_none (x c.spot) acknowledged more passed number c.spot back u.came u.life open_next (back_none e)) ∙ clear_now.clear
-          clear_behind true e =
-              let o = f.one open_next e in
-              let d = met station s f.here o.datagram o.sent_so in
-              ap (λ (h : Halves Body). h.inn.state) (Behind.halves_one (x c.spot) acknowledged more passed number c.spot back u.came u.life open_next d (back_one o) (met_station station s f.here o.datagram o.sent_so))
-              ∙ ap (λ a. (halves_answered u.life.era.side.halves a d.gram).inn.state) (met_ask station s f.here o.datagram o.sent_so ∙ (asks_access o).0) ∙ clear_now.clear
-
-          pub going_stands : Stands × WaitsYet
-          going_stands = (
-            Standing.goes (subst (λ r. Going table behind r on) (sym (step_registers (going_left u.under refl))) on_going) (clear_behind u.under refl),
-            (ap is_live on_going.stands, omega (arith, on_going.tries)),
-          )
 
         -- ---- HOWEVER IT STOOD, while it is open
         pub open_stands : c.life.stand ≡ Stand.Open → Standing v table (x c.spot) acknowledged c.life s m next t → Stands × (WaitsYet ⊎ Done)
         open_stands stands (Standing.gone e) = absurd (let never : Stand.Gone ≡ Stand.Open = sym e ∙ stands in cc)
         open_stands stands (Standing.fresh k control) = let both = fresh_stands k control in (both.0, inl both.1)
         open_stands stands (Standing.waits k control end held) = (visited_stands k control end held, visited_waits k control end held)
-        open_stands stands (Standing.goes g clear) = let both = going_stands g clear in (both.0, inl both.1)
+        open_stands stands (Standing.goes g clear) = let both = going_stands ex processor table x acknowledged more passed number sent back c u t s s' f m next begun eager g clear n next' in (both.0, inl both.1)

@@ -3,9 +3,9 @@ use Rattle.std.specs.Prelude.{◌≡◌, ◌==◌, Bool, true, false, is_some, O
 use Rattle.exchange_model.specs.Exchange.{Speech}
 use Rattle.exchange_model.specs.Rows.{Row, left}
 use Rattle.frame_view.specs.View.{Lens}
-use Rattle.idle_slaves.specs.Visited.{life_visit, memory_of}
+use Rattle.idle_slaves.specs.Visited.{life_visit, memory_of, visit_for}
 use Rattle.idle_slaves.specs.Waiting.{Memory, memory_behind}
-use Rattle.life_measure.specs.Visits.{Visit, mails_visit, drain_visit}
+use Rattle.life_measure.specs.Visits.{Visit, drain_visit}
 use Rattle.life_model.specs.Lives.{Life, Stand}
 use Rattle.life_model.specs.Own.{own}
 use Rattle.life_runs.specs.Led.{Leads, Turn, speech_at}
@@ -16,15 +16,17 @@ use Rattle.link_model.specs.Mails.{LinkMail}
 use Rattle.link_model.specs.Master.{InState}
 use Rattle.master_duty.specs.Reply.{Reply}
 use Rattle.master_hand.specs.Spoken.{Asked, acknowledged}
+use Rattle.segment_model.specs.Ends.{Passing}
 use Rattle.segment_model.specs.Slaves.{Datagram, Access, Found}
 use Rattle.segment_plan.specs.declared.service.Service as Plan
 use Rattle.state_exchange.specs.Stated.{Service}
 use Rattle.task_model.specs.Accounts.{Duty, Stage, is_free, is_acknowledged, phase_access}
 
--- what a master remembers of a slave between two frames: of its visits, and whether a packet waits at its port
+-- what a master remembers of a slave between two frames: of its visits, whether a packet waits at its port, and whether a mail waits to be passed on
 pub record Remembered : Type 0 where
   pub memory : Memory
   pub packet : Bool
+  pub asked : Bool
 
 -- WHAT THE DATAGRAM OF A VISIT ASKS: it writes the mail held, reads mailbox 1, or reads the status of mailbox 0
 abbrev pub AsksVisit : Halves Body → Visit → Datagram Body → Type 0
@@ -37,15 +39,15 @@ abbrev pub AsksStage : Halves Body → Memory → ℕ → Stage → Datagram Bod
 AsksStage h m target Stage.Drains d = AsksVisit h (drain_visit m.turn) d
 AsksStage h m target (Stage.Goes phase) d = (d.gram.ask ≡ Ask.Other) × (d.access ≡ phase_access target phase)
 
--- by the state service in hand
-abbrev pub AsksFor : Halves Body → Memory → Option Duty → Datagram Body → Type 0
-AsksFor h m None d = AsksVisit h (mails_visit m.paused (is_some h.out.holding)) d
-AsksFor h m (Some duty) d = AsksStage h m duty.target duty.stage d
+-- by the state service in hand, and by how far a mail that is passed on has come
+abbrev pub AsksFor : Halves Body → Memory → Option Duty → Option Passing → Datagram Body → Type 0
+AsksFor h m None passing d = AsksVisit h (visit_for None passing m (is_some h.out.holding)) d
+AsksFor h m (Some duty) passing d = AsksStage h m duty.target duty.stage d
 
 -- each of these does
-abbrev pub EachAsksFor : Halves Body → Memory → Option Duty → List (Datagram Body) → Type 0
-EachAsksFor h m hand [] = ⊤
-EachAsksFor h m hand (d ∷ ds) = AsksFor h m hand d × EachAsksFor h m hand ds
+abbrev pub EachAsksFor : Halves Body → Memory → Option Duty → Option Passing → List (Datagram Body) → Type 0
+EachAsksFor h m hand passing [] = ⊤
+EachAsksFor h m hand passing (d ∷ ds) = AsksFor h m hand passing d × EachAsksFor h m hand passing ds
 
 -- an open slave with nothing in doubt
 pub record IsClear (l : Life Body Asked Reply) : Type 0 where
@@ -56,22 +58,24 @@ pub record IsClear (l : Life Body Asked Reply) : Type 0 where
 abbrev pub NoneLeft : Speech Body Asked Reply → Life Body Asked Reply → Type 0
 NoneLeft x l = (r : Row Body Asked Reply) → l.era.side.now ≡ Some r → left x r ≡ []
 
--- a service may begin: none is in hand, and the write of the last one's acknowledgement is done
+-- a service may begin: none is in hand, nor a mail that is passed on, and the write of the last one's acknowledgement is done
 pub record MayBegin (x : Speech Body Asked Reply) (l : Life Body Asked Reply) : Type 0 where
   pub free : is_free x l.era.side l.era.side.now ≡ true
   pub done : is_acknowledged acknowledged l.era.side l.era.side.now ≡ true
   pub hand : l.era.account.hand ≡ None
+  pub passing : l.era.passing ≡ None
 
--- its script is at its end, and no packet waits at its port; `next` is the script's next service
+-- its script is at its end, and no packet waits at its port, nor a mail to be passed on; `next` is the script's next service
 pub record IsAtEnd (next : Option Plan.Service) (m : Remembered) : Type 0 where
   pub script : next ≡ None
   pub packet : m.packet ≡ false
+  pub asked : m.asked ≡ false
 
 -- AT ONE FRAME, from the life `old` to `new` before it: nothing comes into hand without a visit; the datagram of a visit is the one that goes on; behind it
 -- no mail is left that could be held, and where a service might begin and none did, none is left
 pub record IsEager (x : Speech Body Asked Reply) (station : ℕ) (sent : List (Datagram Body)) (m : Remembered) (under : Bool) (begun : Option (Service Asked)) (next : Option Plan.Service) (old new : Life Body Asked Reply) : Type 0 where
   pub begins : under ≡ false → begun ≡ None
-  pub asks : IsClear new → EachAsksFor new.era.side.halves (memory_of old new m.memory) new.era.account.hand (own station sent)
+  pub asks : IsClear new → EachAsksFor new.era.side.halves (memory_of old new m.memory) new.era.account.hand new.era.passing (own station sent)
   pub takes : under ≡ true → IsClear new → new.era.side.halves.out.holding ≡ None → NoneLeft x new
   pub ends : under ≡ true → IsClear old → MayBegin x old → begun ≡ None → IsAtEnd next m
 
@@ -92,9 +96,10 @@ pub record RemembersOn (station : ℕ) (back : List (Datagram Body)) (m n : Reme
       (let mem = memory_of old new m.memory in let visit = life_visit new mem in IsInVain visit d → n.memory ≡ memory_behind mem visit)
   pub unvisited : under ≡ false → new.stand ≡ Stand.Open → n.memory ≡ m.memory
 
--- no packet came to its port
-abbrev pub GetsNone : Remembered → Remembered → Type 0
-GetsNone m n = n.packet ≡ true → m.packet ≡ true
+-- no packet came to its port, and no mail was asked that is to be passed on
+pub record GetsNone (m n : Remembered) : Type 0 where
+  pub packet : n.packet ≡ true → m.packet ≡ true
+  pub asked : n.asked ≡ true → m.asked ≡ true
 
 -- of all slaves
 abbrev pub AllGetNone : List Remembered → List Remembered → Type 0

@@ -23,6 +23,6 @@ ghost use Rattle.state_model.specs.States.{Table};
 /// twice behind a step since something was gained, it waits yet; else all was done of it before the frame.
 pub fn eager_law<V, A>()
     ensures { (ex : Exchange V A Body Asked Reply) (processor : Processor V) (table : Table) (x : Spot → Speech Body Asked Reply) (acknowledged : Asked → Bool) (more : Body → Bool) (passed : Asked → Bool) (number : ℕ) (sent back : List (Datagram Body)) (c : Clocked Body Asked Reply) (u : Under Body Asked Reply) (s s' : Slave V Body) (m n : Remembered) (begun : Option (Service Asked)) (next next' : Option Plan.Service) (t : Waits) →
-        (f : FrameAs ex processor table x acknowledged more passed number sent back c u s s') → EagerAs ex processor table x acknowledged more passed number sent back c u s s' f m n begun next next' → c.life.stand ≡ Stand.Open → Standing (serving ex) table (x c.spot) acknowledged c.life s m next t →
+        (f : FrameAs ex processor table x acknowledged more passed number sent back c u t s s') → EagerAs ex processor table x acknowledged more passed number sent back c u t s s' f m n begun next next' → c.life.stand ≡ Stand.Open → Standing (serving ex) table (x c.spot) acknowledged c.life s m next t →
         StandsOn ex processor table x acknowledged more passed number sent back c u s s' m n next next' t }
 {}

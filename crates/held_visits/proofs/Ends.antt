@@ -7,7 +7,7 @@ use Rattle.exchange_model.specs.Exchange.{Exchange, Speech, IsLawful}
 use Rattle.exchange_model.specs.Rows.{Row, left}
 use Rattle.held_visits.specs.Held.{Took}
 use Rattle.life_model.specs.Eras.{EraIs}
-use Rattle.life_model.specs.Lives.{Spot, Era, era_next, granted}
+use Rattle.life_model.specs.Lives.{Spot, Era, era_next, granted, passing_begins}
 use Rattle.named_lives.specs.Alike.{Alike, RowIs}
 use Rattle.named_waits.proofs.Alike.{left_same, in_hand}
 use Rattle.segment_model.specs.Ends.{Passing}
@@ -36,7 +36,7 @@ module _ {M Q R : Type 0} (x : Speech M Q R) (acknowledged : Q → Bool) (frame 
   state_hand None took none = some_hand (is_free x d d.now && is_acknowledged acknowledged d d.now) took none
 
 module _ {V A M Q R : Type 0} (x : Exchange V A M Q R) (s : Stated V A Q) (processor : Processor V) (table : ℕ → Table) (spot : Spot) (e : Era M Q R) (opened last : ℕ) (fs : List (Frame M)) (v : V) (r : Registers) (slave : Slave V M)
-    (law : IsLawful x) (stated : IsStated x s) (lived : EraIs x s processor table spot e opened last fs v r slave) (is : Q → Bool) (y : Speech M Q R) (same : Alike is y x.speech) (row : RowIs is e.side.now) (said : NowAnswered y e.side) (unpassed : e.passing ≡ None) where
+    (law : IsLawful x) (stated : IsStated x s) (lived : EraIs x s processor table spot e opened last fs v r slave) (is : Q → Bool) (y : Speech M Q R) (same : Alike is y x.speech) (row : RowIs is e.side.now) (said : NowAnswered y e.side) where
   known : e.account.hand ≡ None → (t : Row M Q R) → e.side.now ≡ Some t → (answer : R × ℕ) → t.answer ≡ Some answer → s.acknowledged t.service ≡ false → (left y t ≡ []) × (e.side.fresh ≡ false)
   known hand t now answer has quiet =
       let k = answered x s processor table spot e opened last fs v r slave law stated lived hand t now answer has quiet in
@@ -58,20 +58,26 @@ module _ {V A M Q R : Type 0} (x : Exchange V A M Q R) (s : Stated V A Q) (proce
         let Goal : Option Q → Type 0 = λ w. (let d = side_next y frame e.side (record { begin = w; hold = grant.hold }) in let j = side_back y frame station back d in HeldStill station back d j → IsFree y s.acknowledged j → IsFree y s.acknowledged e.side) in
         subst Goal (sym wish) (λ g free. ready y s.acknowledged e.side said (known hand) frame station back e.side.halves.out.holding grant.hold g free) h f
 
-    by_begin : (w : Option (Service Q)) → pick.begin ≡ w → (IsFree y s.acknowledged e.side → e.account.hand ≡ None → pick.begin ≡ None → Left) → Took y s.acknowledged is more passed frame e pick →
+    by_begin : e.passing ≡ None → (w : Option (Service Q)) → pick.begin ≡ w → (IsFree y s.acknowledged e.side → e.account.hand ≡ None → e.passing ≡ None → pick.begin ≡ None → Left) → Took y s.acknowledged is more passed frame e pick →
         u.account.hand ≡ None → HeldStill station back u.side k → IsFree y s.acknowledged k → Left
-    by_begin None wish rule took none h f =
+    by_begin unpassed None wish rule took none h f =
         let hand : e.account.hand ≡ None = sym (ap (λ z. (account_begins y s.acknowledged frame e.side e.account e.account.hand z).hand) (granted_none e.passing pick wish)) ∙ none in
-        rule (before hand wish h f) hand wish
-    by_begin (Some (Service.Mails q)) wish rule took none h f =
+        rule (before hand wish h f) hand unpassed wish
+    by_begin unpassed (Some (Service.Mails q)) wish rule took none h f =
         let one = took (Service.Mails q) wish in
         absurd (begun y s.acknowledged more passed e frame pick q station back (same.ends q [] one.0 ∙ law.none q) unpassed wish one.1 h f)
-    by_begin (Some (Service.State target)) wish rule took none h f =
+    by_begin unpassed (Some (Service.State target)) wish rule took none h f =
         let began : grant.begin ≡ Some (Service.State target) = ap (λ z. (granted z pick).begin) unpassed ∙ wish in
         let one = took (Service.State target) wish in
         absurd (state_hand y s.acknowledged frame e.side e.account target e.account.hand
         (sym (ap (λ z. (account_begins y s.acknowledged frame e.side e.account e.account.hand z).started) began) ∙ one.1)
         (sym (ap (λ z. (account_begins y s.acknowledged frame e.side e.account e.account.hand z).hand) began) ∙ none))
 
-    pub ends : (IsFree y s.acknowledged e.side → e.account.hand ≡ None → pick.begin ≡ None → Left) → Took y s.acknowledged is more passed frame e pick → u.account.hand ≡ None → HeldStill station back u.side k → IsFree y s.acknowledged k → Left
-    ends = by_begin pick.begin refl
+    -- none is passed on behind it only where none was before
+    unpassed_before : (p : Option Passing) → passing_begins y s.acknowledged more passed p e.account u.account (granted p pick).begin ≡ None → p ≡ None
+    unpassed_before None none = refl
+    unpassed_before (Some p) none = none
+
+    pub ends : (IsFree y s.acknowledged e.side → e.account.hand ≡ None → e.passing ≡ None → pick.begin ≡ None → Left) → Took y s.acknowledged is more passed frame e pick →
+        u.account.hand ≡ None → u.passing ≡ None → HeldStill station back u.side k → IsFree y s.acknowledged k → Left
+    ends rule took hand unpassed = by_begin (unpassed_before e.passing unpassed) pick.begin refl rule took hand

@@ -1,19 +1,20 @@
 -- What comes into hand with a visit, by its master's choice.
 use Rattle.std.proofs.Common.{◌≡◌, ◌⊎◌, ◌≤◌, ℕ, Bool, true, false, Option, Some, None, List, [], ◌∷◌, ◌++◌, refl, sym, ap, ◌∙◌, subst, if◌then◌else◌, inl, inr}
-use Rattle.std.specs.Prelude.{◌&&◌}
+use Rattle.std.specs.Prelude.{◌&&◌, length, nat_lt}
 use Rattle.exchange_model.specs.Exchange.{Speech}
 use Rattle.exchange_model.specs.Rows.{Row, begun, left}
-use Rattle.life_model.specs.Lives.{Life, Stand, life_next, granted}
+use Rattle.life_model.specs.Lives.{Life, Stand, life_next, granted, passing_begins}
 use Rattle.link_model.specs.Link.{Halves, Link, held_after}
 use Rattle.link_model.specs.Mails.{LinkMail}
 use Rattle.link_model.specs.Master.{out_hold}
 use Rattle.link_model.specs.Slave.{Node, Server}
 use Rattle.run_frames.specs.Waits.{Waits}
+use Rattle.segment_model.specs.Ends.{Passing}
 use Rattle.segment_model.specs.Seats.{Side, Choice, side_begins, side_holds, side_next, next_mail, first_left, is_over, is_none_left}
 use Rattle.state_exchange.specs.Stated.{Service}
 use Rattle.task_model.specs.Accounts.{Account, Duty, Pick, Stage, account_begins, mails_begin, mails_choice, is_free, is_acknowledged, starts, state_begins}
 use Rattle.idle_slaves.specs.Waiting.{Wanted, Memory, Coming}
-use Rattle.idle_slaves.specs.Visited.{IsFor, IsUnpaused, Waiting, Chosen}
+use Rattle.idle_slaves.specs.Visited.{IsFor, IsUnpaused, Waiting, Chosen, is_boxed, is_served, memory_next}
 
 -- A MAIL IS TAKEN UP where none is held, or the halves stay
 pub data Holds {M : Type 0} (h k : Halves M) : Type 0 where
@@ -88,12 +89,53 @@ choose {M} {Q} {R} x acknowledged frame d a None (Some (Service.State target)) h
     go false f = inl refl
 
 -- ---- THE LINK
-same_for : (q : Wanted) (a b : Option Duty) → b ≡ a → IsFor q a → IsFor q b
-same_for q a b e f = subst (λ z. IsFor q z) (sym e) f
+same_for : (q : Wanted) (a b : Option Duty) (p : Option Passing) → b ≡ a → IsFor q a p → IsFor q b p
+same_for q a b p e f = subst (λ z. IsFor q z p) (sym e) f
 
-not_drains : {X : Type 0} (q : Wanted) (a : Option Duty) → a ≡ None → IsFor q a → (q ≡ Wanted.Mails → X) → X
-not_drains Wanted.Mails a e f k = k refl
-not_drains Wanted.Drains a e (duty, is, stage) k = absurd (let no : Some duty ≡ None = sym is ∙ e in cc)
+not_drains : {X : Type 0} (q : Wanted) (a : Option Duty) (p : Option Passing) → a ≡ None → p ≡ None → IsFor q a p → (q ≡ Wanted.Mails → X) → X
+not_drains Wanted.Mails a p e none f k = k refl
+not_drains Wanted.Drains a p e none (inl (duty, is, stage)) k = absurd (let no : Some duty ≡ None = sym is ∙ e in cc)
+not_drains Wanted.Drains a p e none (inr (hand, boxed)) k = absurd (let no : false ≡ true = sym (ap is_boxed none) ∙ boxed in cc)
+
+-- what is remembered stays with the state service in hand
+same_memory : (a b : Option Duty) (m : Memory) → b ≡ a → memory_next a b m ≡ m
+same_memory a b m e = ap (λ z. memory_next a z m) e ∙ go a
+  where
+    go : (z : Option Duty) → memory_next z z m ≡ m
+    go None = refl
+    go (Some duty) = refl
+
+-- A MAIL THAT IS PASSED ON comes into hand only where none is, and then mailbox 0 hasn't taken it
+pub record Passes (old new : Option Passing) : Type 0 where
+  pub for : (q : Wanted) (hand : Option Duty) → IsFor q hand old → IsFor q hand new
+  pub served : is_served new ≡ is_served old
+
+unboxed_for : (q : Wanted) (hand : Option Duty) (p : Option Passing) → is_boxed p ≡ false → IsFor q hand None → IsFor q hand p
+unboxed_for Wanted.Mails hand p e (none, f) = (none, e)
+unboxed_for Wanted.Drains hand p e (inl k) = inl k
+unboxed_for Wanted.Drains hand p e (inr (none, f)) = absurd (cc)
+
+module _ {M Q R : Type 0} (x : Speech M Q R) (acknowledged : Q → Bool) (more : M → Bool) (passed : Q → Bool) (old new : Account Q R) where
+  abbrev begins_by : Option Passing → Option (Service Q) → Option Passing
+  begins_by p begin = passing_begins x acknowledged more passed p old new begin
+
+  begun_passes : (begin : Option (Service Q)) → Passes None (begins_by None begin)
+  begun_passes None = record { for = λ q hand f. f; served = refl }
+  begun_passes (Some (Service.State target)) = record { for = λ q hand f. f; served = refl }
+  begun_passes (Some (Service.Mails q)) = go (passed q && nat_lt (length old.started) (length new.started))
+    where
+      go : (b : Bool) → Passes None (if b then Some Passing.Waiting else None)
+      go true = record { for = λ q' hand f. unboxed_for q' hand (Some Passing.Waiting) refl f; served = refl }
+      go false = record { for = λ q' hand f. f; served = refl }
+
+  next_passes : (p : Option Passing) (pick : Pick Q) → Passes p (begins_by p (granted p pick).begin)
+  next_passes None pick = begun_passes pick.begin
+  next_passes (Some p) pick = record { for = λ q hand f. f; served = refl }
+
+-- what begins is what was chosen, and then no such mail is in hand
+granted_is : {Q : Type 0} (p : Option Passing) (pick : Pick Q) (w : Service Q) → (granted p pick).begin ≡ Some w → (p ≡ None) × (pick.begin ≡ Some w)
+granted_is None pick w e = (refl, e)
+granted_is (Some p) pick w e = absurd (cc)
 
 held_halves : {B S : Type 0} (w : Link B S) (holding : Option (LinkMail B)) (body : B) → holding ≡ None → (held_after w holding body).halves ≡ record w.halves { out = out_hold w.halves.out body }
 held_halves w None body e = refl
@@ -108,17 +150,19 @@ module _ {M Q R S : Type 0} (v : Server M S) (l : Life M Q R) (n : Node M S) (m 
   w = k.link
 
   -- a mail, or nothing
-  with_mail : (j : Life M Q R) → j.stand ≡ Stand.Open → j.era.account.hand ≡ l.era.account.hand → Holds l.era.side.halves j.era.side.halves → Chosen v l j n m t
-  with_mail j stands_open hand (Holds.stays same) = record {
+  with_mail : (j : Life M Q R) → j.stand ≡ Stand.Open → j.era.account.hand ≡ l.era.account.hand → Passes l.era.passing j.era.passing → Holds l.era.side.halves j.era.side.halves → Chosen v l j n m t
+  with_mail j stands_open hand passes (Holds.stays same) = record {
     link = w;
     wanted = k.wanted;
     waits = k.waits;
     was = k.shows;
     coming = Coming.Nothing;
     may = tt;
-    shows = record { halves = k.shows.halves ∙ sym same; node = k.shows.node; hand = same_for k.wanted l.era.account.hand j.era.account.hand hand k.shows.hand; stands = stands_open };
+    shows = record { halves = k.shows.halves ∙ sym same; node = k.shows.node; hand = passes.for k.wanted j.era.account.hand (same_for k.wanted l.era.account.hand j.era.account.hand l.era.passing hand k.shows.hand); stands = stands_open };
+    remembers = same_memory l.era.account.hand j.era.account.hand m hand;
+    served = passes.served;
   }
-  with_mail j stands_open hand (Holds.one body none same) =
+  with_mail j stands_open hand passes (Holds.one body none same) =
       let free : w.halves.out.holding ≡ None = ap (λ h. h.out.holding) k.shows.halves ∙ none in
       record {
         link = w;
@@ -130,33 +174,39 @@ module _ {M Q R S : Type 0} (v : Server M S) (l : Life M Q R) (n : Node M S) (m 
         shows = record {
           halves = held_halves w w.halves.out.holding body free ∙ ap (λ (h : Halves M). record h { out = out_hold h.out body }) k.shows.halves ∙ sym same;
           node = held_node w w.halves.out.holding body ∙ k.shows.node;
-          hand = same_for k.wanted l.era.account.hand j.era.account.hand hand k.shows.hand;
+          hand = passes.for k.wanted j.era.account.hand (same_for k.wanted l.era.account.hand j.era.account.hand l.era.passing hand k.shows.hand);
           stands = stands_open;
         };
+        remembers = same_memory l.era.account.hand j.era.account.hand m hand;
+        served = passes.served;
       }
 
   -- a state service
-  with_state : (j : Life M Q R) (target frame : ℕ) → j.stand ≡ Stand.Open → l.era.account.hand ≡ None → (1 ≤ t.tries → m.paused ≡ false) → j.era.account.hand ≡ Some (record { target = target; frame = frame; stage = Stage.Drains }) → j.era.side.halves ≡ l.era.side.halves → Chosen v l j n m t
-  with_state j target frame stands_open none unpaused hand same = not_drains k.wanted l.era.account.hand none k.shows.hand (λ q. record {
+  with_state : (j : Life M Q R) (target frame : ℕ) → j.stand ≡ Stand.Open → l.era.account.hand ≡ None → l.era.passing ≡ None → Passes l.era.passing j.era.passing → (1 ≤ t.tries → m.paused ≡ false) → j.era.account.hand ≡ Some (record { target = target; frame = frame; stage = Stage.Drains }) → j.era.side.halves ≡ l.era.side.halves → Chosen v l j n m t
+  with_state j target frame stands_open none unpassed passes unpaused hand same = not_drains k.wanted l.era.account.hand l.era.passing none unpassed k.shows.hand (λ q. record {
     link = w;
     wanted = k.wanted;
     waits = k.waits;
     was = k.shows;
     coming = Coming.State;
     may = (q, unpaused);
-    shows = record { halves = k.shows.halves ∙ sym same; node = k.shows.node; hand = (record { target = target; frame = frame; stage = Stage.Drains }, hand, refl); stands = stands_open };
+    shows = record { halves = k.shows.halves ∙ sym same; node = k.shows.node; hand = inl (record { target = target; frame = frame; stage = Stage.Drains }, hand, refl); stands = stands_open };
+    remembers = ap (λ z. memory_next z j.era.account.hand m) none ∙ ap (λ z. memory_next None z m) hand;
+    served = passes.served;
   })
 
-  chosen_by : (j : Life M Q R) (x : Speech M Q R) (frame : ℕ) (p : Pick Q) → IsUnpaused p m t → j.stand ≡ Stand.Open → j.era.side.halves ≡ (side_next x frame l.era.side (mails_choice l.era.account p)).halves → Chooses x frame l.era.side l.era.account p j.era.account → Chosen v l j n m t
-  chosen_by j x frame p unpaused stands_open halves (inl hand) = with_mail j stands_open hand (subst (λ h. Holds l.era.side.halves h) (sym halves) (side_takes x frame l.era.side (mails_choice l.era.account p)))
-  chosen_by j x frame p unpaused stands_open halves (inr (target, none, begin, hand, same)) = with_state j target frame stands_open none (unpaused target begin) hand (halves ∙ same)
+  chosen_by : (j : Life M Q R) (x : Speech M Q R) (frame : ℕ) (p : Pick Q) → IsUnpaused p m t → ((w : Service Q) → p.begin ≡ Some w → l.era.passing ≡ None) → Passes l.era.passing j.era.passing → j.stand ≡ Stand.Open → j.era.side.halves ≡ (side_next x frame l.era.side (mails_choice l.era.account p)).halves → Chooses x frame l.era.side l.era.account p j.era.account → Chosen v l j n m t
+  chosen_by j x frame p unpaused unpassed passes stands_open halves (inl hand) = with_mail j stands_open hand passes (subst (λ h. Holds l.era.side.halves h) (sym halves) (side_takes x frame l.era.side (mails_choice l.era.account p)))
+  chosen_by j x frame p unpaused unpassed passes stands_open halves (inr (target, none, begin, hand, same)) =
+      with_state j target frame stands_open none (unpassed (Service.State target) begin) passes (unpaused target begin) hand (halves ∙ same)
 
   -- by the choice that is granted
-  chosen_at : (x : Speech M Q R) (acknowledged : Q → Bool) (more : M → Bool) (passed : Q → Bool) (frame : ℕ) (pick : Pick Q) → l.era.passing ≡ None → IsUnpaused pick m t → Chosen v l (life_next x acknowledged more passed frame l Stand.Open pick) n m t
-  chosen_at x acknowledged more passed frame pick none unpaused =
+  chosen_at : (x : Speech M Q R) (acknowledged : Q → Bool) (more : M → Bool) (passed : Q → Bool) (frame : ℕ) (pick : Pick Q) → IsUnpaused pick m t → Chosen v l (life_next x acknowledged more passed frame l Stand.Open pick) n m t
+  chosen_at x acknowledged more passed frame pick unpaused =
       let p = granted l.era.passing pick in
-      let same : p ≡ pick = ap (λ z. granted z pick) none in
-      chosen_by (life_next x acknowledged more passed frame l Stand.Open pick) x frame p (subst (λ z. IsUnpaused z m t) (sym same) unpaused) k.shows.stands refl (choose x acknowledged frame l.era.side l.era.account l.era.account.hand p.begin p.hold refl)
+      let j = life_next x acknowledged more passed frame l Stand.Open pick in
+      chosen_by j x frame p (λ target begin. unpaused target (granted_is l.era.passing pick (Service.State target) begin).1) (λ w begin. (granted_is l.era.passing pick w begin).0)
+      (next_passes x acknowledged more passed l.era.account j.era.account l.era.passing pick) k.shows.stands refl (choose x acknowledged frame l.era.side l.era.account l.era.account.hand p.begin p.hold refl)
 
-  pub chosen : (x : Speech M Q R) (acknowledged : Q → Bool) (more : M → Bool) (passed : Q → Bool) (frame : ℕ) (pick : Pick Q) → l.era.passing ≡ None → IsUnpaused pick m t → Chosen v l (life_next x acknowledged more passed frame l l.stand pick) n m t
-  chosen x acknowledged more passed frame pick none unpaused = subst (λ s. Chosen v l (life_next x acknowledged more passed frame l s pick) n m t) (sym k.shows.stands) (chosen_at x acknowledged more passed frame pick none unpaused)
+  pub chosen : (x : Speech M Q R) (acknowledged : Q → Bool) (more : M → Bool) (passed : Q → Bool) (frame : ℕ) (pick : Pick Q) → IsUnpaused pick m t → Chosen v l (life_next x acknowledged more passed frame l l.stand pick) n m t
+  chosen x acknowledged more passed frame pick unpaused = subst (λ s. Chosen v l (life_next x acknowledged more passed frame l s pick) n m t) (sym k.shows.stands) (chosen_at x acknowledged more passed frame pick unpaused)

@@ -11,7 +11,7 @@ use Rattle.run_frames.specs.Goes.{Under, back_life}
 use Rattle.run_frames.specs.Waits.{Waits, waits_on}
 use Rattle.segment_model.specs.Slaves.{Datagram}
 use Rattle.idle_slaves.specs.Frames.{InVain, node_on, memory_on}
-use Rattle.idle_slaves.specs.Visited.{Waiting, Chosen, LifeSpent, life_visit, memory_of}
+use Rattle.idle_slaves.specs.Visited.{Waiting, Chosen, IsStill, LifeSpent, life_visit, memory_of}
 use Rattle.idle_slaves.specs.Waiting.{Memory, memory_behind, tried}
 use Rattle.idle_slaves.proofs.Choosing.{chosen}
 use Rattle.idle_slaves.proofs.Visited.{on, second, none, stepped, life_spent}
@@ -22,27 +22,33 @@ module _ {M Q R S : Type 0} (v : Server M S) (x : Spot → Speech M Q R) (acknow
   behind = back_life x acknowledged more passed number back a u
 
   chose : Chosen v a.life u.life n m t
-  chose = subst (λ z. Chosen v a.life z n m t) (sym i.life) (chosen v a.life n m t k (x a.spot) acknowledged more passed number i.pick i.unpassed i.unpaused)
+  chose = subst (λ z. Chosen v a.life z n m t) (sym i.life) (chosen v a.life n m t k (x a.spot) acknowledged more passed number i.pick i.unpaused)
 
   -- by a visit
   stands : u.life.stand ≡ Stand.Open
   stands = chose.shows.stands
 
-  same : gains (life_back (x a.spot) acknowledged more passed number a.spot [] back u.came u.life Stand.Open) ≡ gains u.life
+  same : gains (life_back (x a.spot) acknowledged more passed number a.spot u.news back u.came u.life Stand.Open) ≡ gains u.life
   same =
-      ap (λ s. gains (life_back (x a.spot) acknowledged more passed number a.spot [] back u.came u.life s)) (sym stands) ∙ i.same
+      ap (λ s. gains (life_back (x a.spot) acknowledged more passed number a.spot u.news back u.came u.life s)) (sym stands) ∙ i.same
       ∙ sym (next_same (x a.spot) acknowledged more passed number a.life a.life.stand i.pick) ∙ ap gains (sym i.life)
+
+  still : (life_back (x a.spot) acknowledged more passed number a.spot u.news back u.came u.life Stand.Open).era.passing ≡ u.life.era.passing
+  still = ap (λ s. (life_back (x a.spot) acknowledged more passed number a.spot u.news back u.came u.life s).era.passing) (sym stands) ∙ i.still
+
+  visit_still : u.under ≡ true → IsStill t.stepped n (life_visit u.life (memory_of a.life u.life m)) u.news u.life (life_back (x a.spot) acknowledged more passed number a.spot u.news back u.came u.life Stand.Open)
+  visit_still e = record { tells = i.tells e; same = still }
 
   visited : u.under ≡ true → Waiting v behind n (memory_behind (memory_of a.life u.life m) (life_visit u.life (memory_of a.life u.life m))) (tried t)
   visited e =
-      subst (λ s. Waiting v (life_back (x a.spot) acknowledged more passed number a.spot [] back u.came u.life s) n (memory_behind (memory_of a.life u.life m) (life_visit u.life (memory_of a.life u.life m))) (tried t)) (sym stands)
-      (on v (x a.spot) acknowledged more passed number a.spot [] back u.came u.life n m t a.life chose i.row (i.visits e) same)
+      subst (λ s. Waiting v (life_back (x a.spot) acknowledged more passed number a.spot u.news back u.came u.life s) n (memory_behind (memory_of a.life u.life m) (life_visit u.life (memory_of a.life u.life m))) (tried t)) (sym stands)
+      (on v (x a.spot) acknowledged more passed number a.spot u.news back u.came u.life n m t a.life chose i.row (i.visits e) same (visit_still e))
 
   -- by none
   left : u.under ≡ false → Waiting v behind n m t
   left e =
       let k' = subst (λ z. Waiting v z n m t) (sym (i.none e).0) k in
-      subst (λ s. Waiting v (life_back (x a.spot) acknowledged more passed number a.spot [] back u.came u.life s) n m t) (sym stands) (none v (x a.spot) acknowledged more passed number a.spot [] back u.came u.life n m t k' (i.none e).1)
+      subst (λ s. Waiting v (life_back (x a.spot) acknowledged more passed number a.spot u.news back u.came u.life s) n m t) (sym stands) (none v (x a.spot) acknowledged more passed number a.spot u.news back u.came u.life n m t k' (i.none e).1 still)
 
   by_under : (b : Bool) → u.under ≡ b →
       Waiting v behind n (if b then memory_behind (memory_of a.life u.life m) (life_visit u.life (memory_of a.life u.life m)) else m) (record t { tries = if b && t.stepped then suc t.tries else t.tries })
@@ -58,7 +64,7 @@ module _ {M Q R S : Type 0} (v : Server M S) (x : Spot → Speech M Q R) (acknow
 
   -- BEFORE THE FRAME it was spent
   once : u.under ≡ true → 1 ≤ t.tries → LifeSpent v a.life n
-  once e one = (second v (x a.spot) acknowledged more passed number a.spot [] back u.came u.life n m t a.life chose i.row (i.visits e) same one).0
+  once e one = (second v (x a.spot) acknowledged more passed number a.spot u.news back u.came u.life n m t a.life chose i.row (i.visits e) same (visit_still e) one).0
 
   counted : (b c : Bool) → u.under ≡ b → 2 ≤ (if b && c then suc t.tries else t.tries) → LifeSpent v a.life n
   counted true true e two = once e (omega (arith, two))

@@ -10,6 +10,7 @@ use Rattle.run_frames.specs.Clocks.{Clocked}
 use Rattle.run_frames.specs.Goes.{Under, back_life}
 use Rattle.run_frames.specs.Waits.{Waits, waits_on}
 use Rattle.segment_model.specs.Ends.{Outcome}
+use Rattle.segment_model.specs.Record.{News}
 use Rattle.segment_model.specs.Seats.{Side}
 use Rattle.segment_model.specs.Slaves.{Registers, Datagram, Access, Found}
 use Rattle.state_exchange.specs.Stated.{Service}
@@ -99,13 +100,13 @@ pub record Stays {M Q R : Type 0} (k : Life M Q R) (duty : Duty) (phase : Phase)
   pub stands : k.stand ≡ Stand.Open
   pub hand : k.era.account.hand ≡ Some (record duty { stage = Stage.Goes phase })
 
-module _ {M Q R : Type 0} (x : Speech M Q R) (acknowledged : Q → Bool) (more : M → Bool) (passed : Q → Bool) (frame : ℕ) (spot : Spot) (back : List (Datagram M)) (came : Option (Bool × Option Found)) (l : Life M Q R) (duty : Duty) (phase : Phase)
+module _ {M Q R : Type 0} (x : Speech M Q R) (acknowledged : Q → Bool) (more : M → Bool) (passed : Q → Bool) (frame : ℕ) (spot : Spot) (ns : List (News M)) (back : List (Datagram M)) (came : Option (Bool × Option Found)) (l : Life M Q R) (duty : Duty) (phase : Phase)
     (stands : l.stand ≡ Stand.Open) (hand : l.era.account.hand ≡ Some duty) (stage : duty.stage ≡ Stage.Goes phase) (stays : returns_to_init duty.target ≡ false) where
   abbrev era : Era M Q R
-  era = era_back x acknowledged more passed spot.station frame [] back l.era
+  era = era_back x acknowledged more passed spot.station frame ns back l.era
 
   abbrev on : Life M Q R
-  on = life_back x acknowledged more passed frame spot [] back came l Stand.Open
+  on = life_back x acknowledged more passed frame spot ns back came l Stand.Open
 
   same_by : era.account.hand ≡ Some (record duty { stage = Stage.Goes phase }) → Stays on duty phase
   same_by e =
@@ -130,7 +131,7 @@ module _ {M Q R : Type 0} (x : Speech M Q R) (acknowledged : Q → Bool) (more :
 
     -- it gained nothing
     no_gain : {X : Type 0} → suc (phase_gains phase) ≤ progress_gains made → X
-    no_gain le = not_less (gains l) (gains on) (state_gains x acknowledged more passed frame spot [] back came l d duty c.one hand c.address c.met (omega (arith, le, ap stage_gains stage))) (omega (arith, same))
+    no_gain le = not_less (gains l) (gains on) (state_gains x acknowledged more passed frame spot ns back came l d duty c.one hand c.address c.met (omega (arith, le, ap stage_gains stage))) (omega (arith, same))
 
     pub not_seen : {X : Type 0} → IsSeen duty.target phase r → X
     not_seen {X} seen = go (reads phase) refl
@@ -183,20 +184,20 @@ module _ {M Q R : Type 0} (table : Table) (x : Spot → Speech M Q R) (acknowled
   hand = ap (λ z. z.era.account.hand) life_is ∙ ap (λ z. z.hand) (next_hand (x a.spot) acknowledged more passed number a.life g.duty i.pick g.hand) ∙ g.hand
 
   abbrev open_behind : Life M Q R
-  open_behind = life_back (x a.spot) acknowledged more passed number a.spot [] back u.came u.life Stand.Open
+  open_behind = life_back (x a.spot) acknowledged more passed number a.spot u.news back u.came u.life Stand.Open
 
   behind_is : behind ≡ open_behind
-  behind_is = ap (λ s. life_back (x a.spot) acknowledged more passed number a.spot [] back u.came u.life s) stands
+  behind_is = ap (λ s. life_back (x a.spot) acknowledged more passed number a.spot u.news back u.came u.life s) stands
 
   same : gains open_behind ≡ gains u.life
   same = sym (ap gains behind_is) ∙ i.same ∙ sym (next_same (x a.spot) acknowledged more passed number a.life a.life.stand i.pick) ∙ ap gains (sym i.life)
 
   left : (b : Bool) → u.under ≡ b → Stays open_behind g.duty g.phase
-  left true e = same_met (x a.spot) acknowledged more passed number a.spot back u.came u.life g.duty g.phase stands hand g.stage g.stays r same (i.visits e)
-  left false e = same_none (x a.spot) acknowledged more passed number a.spot back u.came u.life g.duty g.phase stands hand g.stage g.stays (i.none e)
+  left true e = same_met (x a.spot) acknowledged more passed number a.spot u.news back u.came u.life g.duty g.phase stands hand g.stage g.stays r same (i.visits e)
+  left false e = same_none (x a.spot) acknowledged more passed number a.spot u.news back u.came u.life g.duty g.phase stands hand g.stage g.stays (i.none e)
 
   counted : (b c : Bool) → u.under ≡ b → t.stepped ≡ c → (if b && c then suc t.tries else t.tries) ≡ 0
-  counted true true e f = not_seen (x a.spot) acknowledged more passed number a.spot back u.came u.life g.duty g.phase stands hand g.stage g.stays r same (i.visits e) (g.seen f)
+  counted true true e f = not_seen (x a.spot) acknowledged more passed number a.spot u.news back u.came u.life g.duty g.phase stands hand g.stage g.stays r same (i.visits e) (g.seen f)
   counted true false e f = g.tries
   counted false c e f = g.tries
 

@@ -67,7 +67,7 @@ module _ {M Q R : Type 0} (x : Spot → Speech M Q R) (acknowledged : Q → Bool
   stays s a u t (IsVainFor.gone pick stands life) =
       let same : u.life ≡ a.life = life ∙ ap (λ z. life_next (x a.spot) acknowledged more passed number a.life z pick) stands in
       let gone : u.life.stand ≡ Stand.Gone = ap (λ z. z.stand) same ∙ stands in
-      Stays.gone (ap (λ z. (life_back (x a.spot) acknowledged more passed number a.spot [] back u.came u.life z).stand) gone ∙ gone)
+      Stays.gone (ap (λ z. (life_back (x a.spot) acknowledged more passed number a.spot u.news back u.came u.life z).stand) gone ∙ gone)
 
   pub all_stay : {S : Type 0} (ss : List (Kept M S)) (as' : List (Clocked M Q R)) (us : List (Under M Q R)) (ts : List Waits) → AllVain x acknowledged more passed number back ss as' us ts → AllStay x acknowledged more passed number back ss as' us ts
   all_stay [] [] [] [] all = tt
@@ -89,4 +89,4 @@ clear_way InState.Refetch e = absurd (cc)
 pub begins_waiting : {M Q R S : Type 0} (v : Server M S) (l : Life M Q R) (n : Node M S) (w : Link M S) (q : Wanted) (m : Memory) → Agrees w → Shows l n w q → way_of 1 1 l ≡ None → Waiting v l n m new_waits
 begins_waiting {M = M} v l n w q m agrees shows repaired =
     let way : half_way 1 1 l.era.side.halves.inn.state ≡ None = sym (ap (stand_way 1 1 l.era.side.halves.inn.state) shows.stands) ∙ repaired in
-    record { link = w; wanted = q; waits = IsWaiting.new w q m agrees (ap (λ (h : Halves M). h.inn.state) shows.halves ∙ clear_way l.era.side.halves.inn.state way); shows = shows }
+    record { link = w; wanted = q; waits = IsWaiting.new w q m agrees (ap (λ (h : Halves M). h.inn.state) shows.halves ∙ clear_way l.era.side.halves.inn.state way); shows = shows; unserved = λ no. absurd (omega (arith, no)) }

@@ -19,7 +19,7 @@ is_left {V} {A} {M} x l n k = record {
     withdrawn = sym (ap (λ (z : Node M (Serving V M)). z.inn.withdrawn) k.shows.node) ∙ k.spent.left.withdrawn;
     waiting = none_waits n.node.server.waiting (sym (ap (λ (z : Node M (Serving V M)). first_waiting z.server.waiting) k.shows.node) ∙ k.spent.left.next);
   };
-  hand = k.shows.hand;
+  hand = k.shows.hand.0;
   held = sym (ap (λ (h : Halves M). h.out.holding) k.shows.halves) ∙ k.spent.held;
   clear = sym (ap (λ (h : Halves M). h.inn.state) k.shows.halves) ∙ k.spent.clear;
 }

@@ -34,7 +34,7 @@ pub record Holds {B S : Type 0} (v : Server B S) (w : Link B S) (q : Wanted) (m 
   pub once : 1 ≤ t.tries → After w q m
   pub twice : 2 ≤ t.tries → Twice w q
 
-is_stepped : (b : Bool) (n : ℕ) → (b ≡ false → n ≡ 0) → 1 ≤ n → b ≡ true
+pub is_stepped : (b : Bool) (n : ℕ) → (b ≡ false → n ≡ 0) → 1 ≤ n → b ≡ true
 is_stepped true n f one = refl
 is_stepped false n f one = absurd (let no = f refl in omega (arith, no, one))
 
@@ -171,7 +171,7 @@ tried_none : (b : Bool) (n : ℕ) → (b ≡ false → n ≡ 0) → b ≡ false 
 tried_none true n f e = absurd (cc)
 tried_none false n f e = f refl
 
-tried_more : (b : Bool) (n k : ℕ) → (b ≡ false → n ≡ 0) → suc k ≤ (if b then suc n else n) → (b ≡ true) × (k ≤ n)
+pub tried_more : (b : Bool) (n k : ℕ) → (b ≡ false → n ≡ 0) → suc k ≤ (if b then suc n else n) → (b ≡ true) × (k ≤ n)
 tried_more true n k f le = (refl, omega (arith, le))
 tried_more false n k f le = absurd (let no = f refl in omega (arith, no, le))
 

@@ -1,12 +1,14 @@
 -- Worked visits: a slave with nothing to say, behind a step, and one that waits with a mail.
-use Rattle.std.proofs.Common.{◌≡◌, ℕ, false, true, None, refl, arith}
+use Rattle.std.proofs.Common.{◌≡◌, ℕ, false, true, Some, None, refl, arith}
 use Rattle.std.specs.Prelude.{⊤}
 use Rattle.link_model.specs.Link.{Link, Event, happens, new_link}
 use Rattle.link_model.specs.Slave.{Server}
 use Rattle.link_model.proofs.Law.{new_agrees}
 use Rattle.life_measure.specs.Visits.{Visit, visit_gain, visited}
 use Rattle.run_frames.specs.Waits.{new_waits}
-use Rattle.idle_slaves.specs.Waiting.{Wanted, Memory, Coming, IsWaiting, IsSpent, link_by, visit_with}
+use Rattle.segment_model.specs.Ends.{Passing}
+use Rattle.idle_slaves.specs.Visited.{visit_for}
+use Rattle.idle_slaves.specs.Waiting.{Wanted, Memory, Coming, IsWaiting, IsSpent, link_by, memory_behind, visit_with}
 use Rattle.idle_slaves.proofs.Waiting.{spent}
 
 abbrev quiet : Server ℕ ⊤
@@ -47,3 +49,16 @@ gains = refl
 -- a state service sees mailbox 0 empty at once
 sees : visit_with quiet stepped Wanted.Mails fresh Coming.State ≡ Visit.Full
 sees = refl
+
+-- a mail that is passed on is written; then mailbox 0 is to be seen empty, in turn with mailbox 1, which is read from there on
+sends : visit_for None (Some Passing.Waiting) fresh true ≡ Visit.Write
+sends = refl
+
+sees_boxed : visit_for None (Some Passing.Boxed) fresh false ≡ Visit.Full
+sees_boxed = refl
+
+reads_boxed : visit_for None (Some Passing.Boxed) (memory_behind fresh Visit.Full) false ≡ Visit.Read
+reads_boxed = refl
+
+reads_served : visit_for None (Some Passing.Served) fresh false ≡ Visit.Read
+reads_served = refl

@@ -1,5 +1,5 @@
 -- ONE FRAME THAT CAME BACK, for a slave that waits, as the frames of a run are counted.
-use Rattle.std.specs.Prelude.{◌≡◌, ℕ, suc, ◌%◌, ◌==◌, Bool, true, false, if◌then◌else◌, None, List, []}
+use Rattle.std.specs.Prelude.{◌≡◌, ℕ, suc, ◌%◌, ◌==◌, is_some, Bool, true, false, if◌then◌else◌, List, []}
 use Rattle.exchange_model.specs.Exchange.{Speech}
 use Rattle.life_measure.specs.Gains.{gains}
 use Rattle.life_model.specs.Lives.{Spot, life_next}
@@ -11,7 +11,7 @@ use Rattle.run_frames.specs.Waits.{Waits}
 use Rattle.segment_model.specs.Slaves.{Datagram}
 use Rattle.task_model.specs.Accounts.{Pick}
 use Rattle.idle_slaves.specs.Waiting.{Memory, memory_behind}
-use Rattle.idle_slaves.specs.Visited.{CameBack, HasRow, IsUnpaused, life_visit, memory_of}
+use Rattle.idle_slaves.specs.Visited.{CameBack, HasRow, IsUnpaused, Tells, life_visit, memory_of}
 
 -- the slave behind it: its processor makes a step, or makes none
 abbrev pub node_on : {M Q R S : Type 0} → Server M S → ℕ → Clocked M Q R → Node M S → Node M S
@@ -21,14 +21,15 @@ node_on v number a n = if suc number % a.pace == 0 then processor_step v n else 
 abbrev pub memory_on : {M Q R : Type 0} → Clocked M Q R → Under M Q R → Memory → Memory
 memory_on a u m = if u.under then memory_behind (memory_of a.life u.life m) (life_visit u.life (memory_of a.life u.life m)) else m
 
--- NOTHING WAS GAINED BY IT: what came into hand is the master's choice, of a slave with no mail that is passed on; it had the visit's datagram for the slave,
+-- NOTHING WAS GAINED BY IT, and a mail that is passed on came no step on: what came into hand is the master's choice; it had the visit's datagram for the slave,
 -- or none, and then nothing came into hand
 pub record InVain {M Q R S : Type 0} (x : Spot → Speech M Q R) (acknowledged : Q → Bool) (more : M → Bool) (passed : Q → Bool) (number : ℕ) (back : List (Datagram M)) (a : Clocked M Q R) (u : Under M Q R) (n : Node M S) (m : Memory) (t : Waits) : Type 0 where
   pub pick : Pick Q
   pub life : u.life ≡ life_next (x a.spot) acknowledged more passed number a.life a.life.stand pick
-  pub unpassed : a.life.era.passing ≡ None
   pub unpaused : IsUnpaused pick m t
   pub row : HasRow u.life n
   pub visits : u.under ≡ true → CameBack a.spot.station n u.life.era.side.halves (life_visit u.life (memory_of a.life u.life m)) back
+  pub tells : u.under ≡ true → is_some u.life.era.passing ≡ true → Tells t.stepped n (life_visit u.life (memory_of a.life u.life m)) u.news
   pub none : u.under ≡ false → (u.life ≡ a.life) × (own a.spot.station back ≡ [])
   pub same : gains (back_life x acknowledged more passed number back a u) ≡ gains a.life
+  pub still : (back_life x acknowledged more passed number back a u).era.passing ≡ u.life.era.passing

@@ -1,5 +1,5 @@
 -- ONE VISIT OF AN OPEN SLAVE, by its master's life of it: what came into hand with it, and what its datagram brought.
-use Rattle.std.specs.Prelude.{◌≡◌, ◌==◌, ◌≤◌, ℕ, is_some, Bool, true, false, Option, Some, None, List, [], ◌∷◌}
+use Rattle.std.specs.Prelude.{◌≡◌, ◌⊎◌, ◌==◌, ◌≤◌, ℕ, is_some, Bool, true, false, if◌then◌else◌, Option, Some, None, List, [], ◌∷◌, ⊤}
 use Rattle.exchange_model.specs.Rows.{Row}
 use Rattle.life_measure.specs.Visits.{Visit, mails_visit, drain_visit}
 use Rattle.life_model.specs.Lives.{Life, Stand}
@@ -10,22 +10,42 @@ use Rattle.link_model.specs.Mails.{LinkMail}
 use Rattle.link_model.specs.Master.{InState}
 use Rattle.link_model.specs.Slave.{Node, Server}
 use Rattle.run_frames.specs.Waits.{Waits}
-use Rattle.segment_model.specs.Record.{is_for}
+use Rattle.segment_model.specs.Ends.{Passing}
+use Rattle.segment_model.specs.Record.{News, is_for}
 use Rattle.segment_model.specs.Laws.{IsSettled}
 use Rattle.segment_model.specs.Slaves.{Datagram, Access, Found, Slave}
 use Rattle.state_exchange.specs.Stated.{Service}
 use Rattle.task_model.specs.Accounts.{Duty, Pick, Stage}
-use Rattle.idle_slaves.specs.Waiting.{Wanted, Memory, Coming, MayCome, IsWaiting, IsSpent, link_by, wanted_by}
+use Rattle.idle_slaves.specs.Waiting.{Wanted, Memory, Coming, MayCome, IsWaiting, IsSpent, link_by, wanted_by, memory_by}
 
--- what a slave's visits are for, by the state service in hand: none, or one that drains
-abbrev pub IsFor : Wanted → Option Duty → Type 0
-IsFor Wanted.Mails hand = hand ≡ None
-IsFor Wanted.Drains hand = (duty : Duty) × (hand ≡ Some duty) × (duty.stage ≡ Stage.Drains)
+-- mailbox 0 has taken the mail that is passed on
+abbrev pub is_boxed : Option Passing → Bool
+is_boxed None = false
+is_boxed (Some Passing.Waiting) = false
+is_boxed (Some Passing.Sent) = false
+is_boxed (Some Passing.Boxed) = true
+is_boxed (Some Passing.Served) = false
+is_boxed (Some Passing.Answered) = false
+
+-- the slave has taken it, and no reply came yet
+abbrev pub is_served : Option Passing → Bool
+is_served None = false
+is_served (Some Passing.Waiting) = false
+is_served (Some Passing.Sent) = false
+is_served (Some Passing.Boxed) = false
+is_served (Some Passing.Served) = true
+is_served (Some Passing.Answered) = false
+
+-- what a slave's visits are for, by the state service in hand and by how far a mail that is passed on has come: mailbox 0 is to be seen empty for a service
+-- that drains, and for a mail that it has taken
+abbrev pub IsFor : Wanted → Option Duty → Option Passing → Type 0
+IsFor Wanted.Mails hand passing = (hand ≡ None) × (is_boxed passing ≡ false)
+IsFor Wanted.Drains hand passing = ((duty : Duty) × (hand ≡ Some duty) × (duty.stage ≡ Stage.Drains)) ⊎ ((hand ≡ None) × (is_boxed passing ≡ true))
 
 -- the next visit, by that
-abbrev pub visit_for : Option Duty → Memory → Bool → Visit
-visit_for None m holding = mails_visit m.paused holding
-visit_for (Some duty) m holding = drain_visit m.turn
+abbrev pub visit_for : Option Duty → Option Passing → Memory → Bool → Visit
+visit_for None passing m holding = if is_boxed passing then drain_visit m.turn else mails_visit m.paused holding
+visit_for (Some duty) passing m holding = drain_visit m.turn
 
 -- what the master remembers before it: a state service that came into hand first reads the status of mailbox 0
 abbrev pub memory_next : Option Duty → Option Duty → Memory → Memory
@@ -38,13 +58,13 @@ memory_of old l m = memory_next old.era.account.hand l.era.account.hand m
 
 -- of a life
 abbrev pub life_visit : {M Q R : Type 0} → Life M Q R → Memory → Visit
-life_visit l m = visit_for l.era.account.hand m (is_some l.era.side.halves.out.holding)
+life_visit l m = visit_for l.era.account.hand l.era.passing m (is_some l.era.side.halves.out.holding)
 
 -- A LIFE AND ITS SLAVE AS A LINK: the slave is open, and no state service has drained
 pub record Shows {M Q R S : Type 0} (l : Life M Q R) (n : Node M S) (w : Link M S) (q : Wanted) : Type 0 where
   pub halves : w.halves ≡ l.era.side.halves
   pub node : w.node ≡ n
-  pub hand : IsFor q l.era.account.hand
+  pub hand : IsFor q l.era.account.hand l.era.passing
   pub stands : l.stand ≡ Stand.Open
 
 -- a datagram as the slave met it, by what the visit was: it found a mailbox as it stands
@@ -61,6 +81,18 @@ pub record CameBack {M S : Type 0} (station : ℕ) (n : Node M S) (h : Halves M)
   pub address : is_for station datagram.address ≡ true
   pub meets : Meets n h visit datagram
 
+-- WHAT A VISIT TELLS of a mail that is passed on: mailbox 0 as it was seen; and mailbox 1, where it was read empty and the slave made a step since something was
+-- gained
+abbrev pub Tells : {M S : Type 0} → Bool → Node M S → Visit → List (News M) → Type 0
+Tells stepped n Visit.Write news = ⊤
+Tells stepped n Visit.Read news = stepped ≡ true → n.inn.box ≡ None → news ≡ News.NothingRead ∷ []
+Tells stepped n Visit.Full news = news ≡ News.BoxFull (is_some n.out.box) ∷ []
+
+-- SUCH A MAIL CAME NO STEP ON, from the life before a frame to the one behind it, by what the frame tells
+pub record IsStill {M Q R S : Type 0} (stepped : Bool) (n : Node M S) (visit : Visit) (news : List (News M)) (l k : Life M Q R) : Type 0 where
+  pub tells : is_some l.era.passing ≡ true → Tells stepped n visit news
+  pub same : k.era.passing ≡ l.era.passing
+
 -- a mail stands in mailbox 1 only where a service has come into hand
 abbrev pub HasRow : {M Q R S : Type 0} → Life M Q R → Node M S → Type 0
 HasRow {M} {Q} {R} l n = (b : LinkMail M) → n.inn.box ≡ Some b → (r : Row M Q R) × (l.era.side.now ≡ Some r)
@@ -69,14 +101,16 @@ HasRow {M} {Q} {R} l n = (b : LinkMail M) → n.inn.box ≡ Some b → (r : Row 
 abbrev pub IsUnpaused : {Q : Type 0} → Pick Q → Memory → Waits → Type 0
 IsUnpaused pick m t = (target : ℕ) → pick.begin ≡ Some (Service.State target) → 1 ≤ t.tries → m.paused ≡ false
 
--- A SLAVE THAT WAITS, since something was gained last: its life and its node are such a link
+-- A SLAVE THAT WAITS, since something was gained last: its life and its node are such a link; and one that was visited twice in vain behind a step has taken no
+-- mail that was passed on and has no reply yet
 pub record Waiting {M Q R S : Type 0} (v : Server M S) (l : Life M Q R) (n : Node M S) (m : Memory) (t : Waits) : Type 0 where
   pub link : Link M S
   pub wanted : Wanted
   pub waits : IsWaiting v link wanted m t
   pub shows : Shows l n link wanted
+  pub unserved : 2 ≤ t.tries → is_served l.era.passing ≡ false
 
--- before a visit: the life as it was, and with what came into hand
+-- before a visit: the life as it was, and with what came into hand, which is remembered
 pub record Chosen {M Q R S : Type 0} (v : Server M S) (old l : Life M Q R) (n : Node M S) (m : Memory) (t : Waits) : Type 0 where
   pub link : Link M S
   pub wanted : Wanted
@@ -85,12 +119,16 @@ pub record Chosen {M Q R S : Type 0} (v : Server M S) (old l : Life M Q R) (n : 
   pub coming : Coming M
   pub may : MayCome coming wanted m t link.halves.out.holding
   pub shows : Shows l n (link_by v link coming) (wanted_by wanted coming)
+  pub remembers : memory_of old l m ≡ memory_by m coming
+  pub served : is_served l.era.passing ≡ is_served old.era.passing
 
--- A LIFE WHOSE SLAVE IS SPENT: no mail is held, no state service is in hand, and the slave has nothing left
+-- A LIFE WHOSE SLAVE IS SPENT: no mail is held, no state service is in hand, and the slave has nothing left; nor has mailbox 0 or the slave a mail that was
+-- passed on and has no reply yet
 pub record LifeSpent {M Q R S : Type 0} (v : Server M S) (l : Life M Q R) (n : Node M S) : Type 0 where
   pub link : Link M S
   pub shows : Shows l n link Wanted.Mails
   pub spent : IsSpent v link
+  pub unserved : is_served l.era.passing ≡ false
 
 -- WHAT IS LEFT of a slave then: it is settled, and its master has no mail and no state service in hand and nothing in doubt
 pub record IsLeft {V M Q R : Type 0} (l : Life M Q R) (n : Slave V M) : Type 0 where

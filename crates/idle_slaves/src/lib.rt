@@ -42,7 +42,7 @@ ghost use Rattle.idle_slaves.specs.Runs.{VainIn};
 ghost use Rattle.idle_slaves.specs.Rows.{NeverWaits};
 ghost use Rattle.idle_slaves.specs.Rings.{Kept, AllVain, AllStay, AllSpent};
 ghost use Rattle.idle_slaves.specs.Frames.{InVain, node_on, memory_on};
-ghost use Rattle.idle_slaves.specs.Visited.{Waiting, Shows, Chosen, CameBack, HasRow, IsUnpaused, LifeSpent, IsLeft, life_visit, memory_of};
+ghost use Rattle.idle_slaves.specs.Visited.{Waiting, Shows, Chosen, CameBack, HasRow, IsStill, IsUnpaused, LifeSpent, IsLeft, life_visit, memory_of};
 
 /// A SLAVE THAT WAS VISITED TWICE IN VAIN behind a step of its processor, since something was gained last, is spent: no mail is held for it, both mailboxes
 /// are empty, it has nothing to offer, and no state service drains.
@@ -52,22 +52,25 @@ pub fn waiting_law<B, S>()
     ensures idle { (v : Server B S) (w : Link B S) (q : Wanted) (m : Memory) (t : Waits) (c : Coming B) → IsWaiting v w q m t → 1 ≤ t.tries → MayCome c q m t w.halves.out.holding → IsVain v w q m c → IsIdle v w q c }
 {}
 
-/// BY EACH FRAME THAT CAME BACK AND GAINED NOTHING an open slave waits on, with nothing in doubt and no state service past its drain: where something came
-/// into hand with a visit, where the visit's datagram came back, where the frame had none for it, and by a step of its processor.
+/// BY EACH FRAME THAT CAME BACK AND GAINED NOTHING, and by which no mail that is passed on came a step on, an open slave waits on, with nothing in doubt and no
+/// state service past its drain: where something came into hand with a visit, where the visit's datagram came back, where the frame had none for it, and by a
+/// step of its processor.
 pub fn frame_law<M, Q, R, S>()
     ensures comes { (v : Server M S) (x : Speech M Q R) (acknowledged : Q → Bool) (more : M → Bool) (passed : Q → Bool) (frame : ℕ) (l : Life M Q R) (n : Node M S) (m : Memory) (t : Waits) (pick : Pick Q) →
-        Waiting v l n m t → l.era.passing ≡ None → IsUnpaused pick m t → Chosen v l (life_next x acknowledged more passed frame l l.stand pick) n m t }
+        Waiting v l n m t → IsUnpaused pick m t → Chosen v l (life_next x acknowledged more passed frame l l.stand pick) n m t }
     ensures visited { (v : Server M S) (x : Speech M Q R) (acknowledged : Q → Bool) (more : M → Bool) (passed : Q → Bool) (frame : ℕ) (spot : Spot) (news : List (News M)) (back : List (Datagram M)) (came : Option (Bool × Option Found)) (old l : Life M Q R) (n : Node M S) (m : Memory) (t : Waits) →
         Chosen v old l n m t → HasRow l n → let visit = life_visit l (memory_of old l m) in CameBack spot.station n l.era.side.halves visit back → let k = life_back x acknowledged more passed frame spot news back came l l.stand in gains k ≡ gains l →
-        Waiting v k n (memory_behind (memory_of old l m) visit) (tried t) }
+        IsStill t.stepped n visit news l k → Waiting v k n (memory_behind (memory_of old l m) visit) (tried t) }
     // Such a visit leaves the slave as it was.
     ensures same { (v : Server M S) (x : Speech M Q R) (acknowledged : Q → Bool) (more : M → Bool) (passed : Q → Bool) (frame : ℕ) (spot : Spot) (news : List (News M)) (back : List (Datagram M)) (came : Option (Bool × Option Found)) (old l : Life M Q R) (n : Node M S) (m : Memory) (t : Waits) →
-        Chosen v old l n m t → HasRow l n → (b : CameBack spot.station n l.era.side.halves (life_visit l (memory_of old l m)) back) → gains (life_back x acknowledged more passed frame spot news back came l l.stand) ≡ gains l → node_meets n b.datagram.gram.ask ≡ n }
+        Chosen v old l n m t → HasRow l n → let visit = life_visit l (memory_of old l m) in (b : CameBack spot.station n l.era.side.halves visit back) → let k = life_back x acknowledged more passed frame spot news back came l l.stand in gains k ≡ gains l →
+        IsStill t.stepped n visit news l k → node_meets n b.datagram.gram.ask ≡ n }
     // Where it was the second one behind a step, the slave was spent before it, and with what came into hand.
     ensures idle { (v : Server M S) (x : Speech M Q R) (acknowledged : Q → Bool) (more : M → Bool) (passed : Q → Bool) (frame : ℕ) (spot : Spot) (news : List (News M)) (back : List (Datagram M)) (came : Option (Bool × Option Found)) (old l : Life M Q R) (n : Node M S) (m : Memory) (t : Waits) →
-        Chosen v old l n m t → HasRow l n → CameBack spot.station n l.era.side.halves (life_visit l (memory_of old l m)) back → gains (life_back x acknowledged more passed frame spot news back came l l.stand) ≡ gains l → 1 ≤ t.tries → LifeSpent v old n × LifeSpent v l n }
+        Chosen v old l n m t → HasRow l n → let visit = life_visit l (memory_of old l m) in CameBack spot.station n l.era.side.halves visit back → let k = life_back x acknowledged more passed frame spot news back came l l.stand in gains k ≡ gains l →
+        IsStill t.stepped n visit news l k → 1 ≤ t.tries → LifeSpent v old n × LifeSpent v l n }
     ensures passed { (v : Server M S) (x : Speech M Q R) (acknowledged : Q → Bool) (more : M → Bool) (passed : Q → Bool) (frame : ℕ) (spot : Spot) (news : List (News M)) (back : List (Datagram M)) (came : Option (Bool × Option Found)) (l : Life M Q R) (n : Node M S) (m : Memory) (t : Waits) →
-        Waiting v l n m t → own spot.station back ≡ [] → Waiting v (life_back x acknowledged more passed frame spot news back came l l.stand) n m t }
+        Waiting v l n m t → own spot.station back ≡ [] → let k = life_back x acknowledged more passed frame spot news back came l l.stand in k.era.passing ≡ l.era.passing → Waiting v k n m t }
     ensures steps { (v : Server M S) (l : Life M Q R) (n : Node M S) (m : Memory) (t : Waits) → Waiting v l n m t → Waiting v l (processor_step v n) m (record t { stepped = true }) }
     ensures spent { (v : Server M S) (l : Life M Q R) (n : Node M S) (m : Memory) (t : Waits) → Waiting v l n m t → 2 ≤ t.tries → LifeSpent v l n }
 {}

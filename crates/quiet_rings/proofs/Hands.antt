@@ -125,13 +125,13 @@ module _ {M Q R : Type 0} (x : Spot → Speech M Q R) (acknowledged : Q → Bool
   hands_back back [] [] t k = tt
   hands_back back [] (u ∷ us) t k = absurd t
   hands_back back (c ∷ cs) [] t k = absurd t
-  hands_back back (c ∷ cs) (u ∷ us) t k = (hand_back (x c.spot) acknowledged more passed number c.spot [] back u.came u.life (before c u t.0 k.0), hands_back back cs us t.1 k.1)
+  hands_back back (c ∷ cs) (u ∷ us) t k = (hand_back (x c.spot) acknowledged more passed number c.spot u.news back u.came u.life (before c u t.0 k.0), hands_back back cs us t.1 k.1)
 
   pub hands_lost : (gives : Bool) (recover : ℕ) (cs : List (Clocked M Q R)) (us : List (Under M Q R)) → AllUnder x acknowledged more passed number sent cs us → AllHand cs → AllHand (all_lost x acknowledged more passed gives recover number sent cs us)
   hands_lost gives recover [] [] t k = tt
   hands_lost gives recover [] (u ∷ us) t k = absurd t
   hands_lost gives recover (c ∷ cs) [] t k = absurd t
   hands_lost gives recover (c ∷ cs) (u ∷ us) t k = (
-    hand_given (gives && u.under) recover c.spot number _ (hand_lost (x c.spot) acknowledged more passed number c.spot [] sent u.life (before c u t.0 k.0)),
+    hand_given (gives && u.under) recover c.spot number _ (hand_lost (x c.spot) acknowledged more passed number c.spot u.news sent u.life (before c u t.0 k.0)),
     hands_lost gives recover cs us t.1 k.1,
   )

@@ -6,6 +6,7 @@ use Rattle.exchange_model.specs.Rows.{Row, begun}
 use Rattle.link_model.specs.Master.{InState}
 use Rattle.link_model.specs.Link.{Halves}
 use Rattle.link_model.specs.Frames.{Ask, Gram, halves_without, halves_lost}
+use Rattle.segment_model.specs.Record.{News}
 use Rattle.segment_model.specs.Slaves.{Datagram, grams}
 use Rattle.segment_model.specs.Seats.{Side, side_begins, side_holds, is_over}
 use Rattle.task_model.specs.Accounts.{Pick}
@@ -73,12 +74,12 @@ pub record IsBroken {M Q R : Type 0} (m : Life M Q R) : Type 0 where
 pub stands_open : {M Q R : Type 0} (m : Life M Q R) (stand : Stand) → m.stand ≡ stand → stand ≡ Stand.Open → StandsAt m m.stand
 stands_open m stand e f = subst (StandsAt m) (sym (e ∙ f)) tt
 
-module _ {M Q R : Type 0} (x : Speech M Q R) (acknowledged : Q → Bool) (more : M → Bool) (passed : Q → Bool) (spot : Spot) (sent : List (Datagram M)) where
-  pub lost_access : (l : Life M Q R) (stand : Stand) → l.stand ≡ stand → (let m = life_lost x acknowledged more passed spot [] sent l stand in SameAccess l m ⊎ IsBroken m)
+module _ {M Q R : Type 0} (x : Speech M Q R) (acknowledged : Q → Bool) (more : M → Bool) (passed : Q → Bool) (spot : Spot) (news : List (News M)) (sent : List (Datagram M)) where
+  pub lost_access : (l : Life M Q R) (stand : Stand) → l.stand ≡ stand → (let m = life_lost x acknowledged more passed spot news sent l stand in SameAccess l m ⊎ IsBroken m)
   lost_access l (Stand.Opens o) e = inl (record { stand = refl; state = refl })
   lost_access l Stand.Gone e = inl (record { stand = refl; state = refl })
   lost_access l Stand.Open e =
-      let m = life_lost x acknowledged more passed spot [] sent l Stand.Open in
+      let m = life_lost x acknowledged more passed spot news sent l Stand.Open in
       elim (without spot.station l.era.side.halves (grams (own spot.station sent))) [
         | inl same ↦ inl (record { stand = refl; state = same })
         | inr doubt ↦ inr (record {
@@ -89,15 +90,15 @@ module _ {M Q R : Type 0} (x : Speech M Q R) (acknowledged : Q → Bool) (more :
       ]
 
   -- one that doesn't carry the slave leaves it
-  pub passed_access : (l : Life M Q R) (stand : Stand) → own spot.station sent ≡ [] → SameAccess l (life_lost x acknowledged more passed spot [] sent l stand)
+  pub passed_access : (l : Life M Q R) (stand : Stand) → own spot.station sent ≡ [] → SameAccess l (life_lost x acknowledged more passed spot news sent l stand)
   passed_access l (Stand.Opens o) e = record { stand = refl; state = refl }
   passed_access l Stand.Gone e = record { stand = refl; state = refl }
   passed_access l Stand.Open e = record { stand = refl; state = ap (λ z. (halves_without spot.station l.era.side.halves (grams z)).inn.state) e }
 
-  pub lost_stands : (l : Life M Q R) (stand : Stand) → l.stand ≡ stand → StandsAt l l.stand → (let m = life_lost x acknowledged more passed spot [] sent l stand in StandsAt m m.stand)
+  pub lost_stands : (l : Life M Q R) (stand : Stand) → l.stand ≡ stand → StandsAt l l.stand → (let m = life_lost x acknowledged more passed spot news sent l stand in StandsAt m m.stand)
   lost_stands l (Stand.Opens o) e s = s
   lost_stands l Stand.Gone e s = s
-  lost_stands l Stand.Open e s = stands_open (life_lost x acknowledged more passed spot [] sent l Stand.Open) l.stand refl e
+  lost_stands l Stand.Open e s = stands_open (life_lost x acknowledged more passed spot news sent l Stand.Open) l.stand refl e
 
 -- A GIVE-UP
 pub gives_up_breaks : {M Q R : Type 0} (recover frame : ℕ) (spot : Spot) (l : Life M Q R) → IsBroken (gives_up recover spot frame l)

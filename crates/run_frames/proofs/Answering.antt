@@ -7,19 +7,19 @@ use Rattle.datagrams.specs.Datagram as Raw
 use Rattle.frame_view.specs.Seen.{datagrams_seen}
 use Rattle.frame_view.specs.View.{Lens, datagram_seen, address_of, station_of}
 use Rattle.life_frames.specs.Frames.{FrameFor, HasOne, GramFor, IsOpenGram}
-use Rattle.life_frames.specs.Shares.{came_at, came_of}
+use Rattle.life_frames.specs.Shares.{Asked, came_at, came_of}
 use Rattle.life_frames.proofs.Frames.{own_none, own_one}
 use Rattle.life_model.specs.Lives.{Stand}
 use Rattle.life_model.specs.Own.{own}
 use Rattle.life_model.specs.Tours.{item_at}
-use Rattle.life_runs.specs.Led.{Leads, Turn, IsTurn, AllTurn}
+use Rattle.life_runs.specs.Led.{Leads, Turn, AllTurn}
 use Rattle.link_mails.specs.Body.{Body}
 use Rattle.link_model.specs.Frames as Link
-use Rattle.link_model.specs.Frames.{Ask, Gram, IsSent, in_ask}
+use Rattle.link_model.specs.Frames.{Gram, IsSent, in_ask}
 use Rattle.link_model.specs.Mails.{LinkMail}
 use Rattle.link_model.specs.Master.{InHalf, InState}
 use Rattle.master_duty.specs.Reply.{Reply}
-use Rattle.master_hand.specs.Spoken.{Asked}
+use Rattle.master_hand.specs.Spoken as Spoken
 use Rattle.segment_model.specs.Record.{is_for}
 use Rattle.segment_model.specs.Returned.{IsReturn, Returns}
 use Rattle.segment_model.specs.Slaves.{Datagram, grams}
@@ -95,12 +95,12 @@ half_asks stepped InState.Refetch bit d b r asks answers clear = r.ask ∙ asks
 
 module _ (lens : ℕ → Lens) (made : ℕ) (ds : List Raw.Datagram) (sent back : List (Datagram Body)) (view : sent ≡ datagrams_seen lens ds) (r : Returns sent back) where
   abbrev Slave : Type 0
-  Slave = Clocked Body Asked Reply
+  Slave = Clocked Body Spoken.Asked Reply
 
   -- ONE SLAVE that the frame carries
-  module _ (c : Slave) (a : Leads) (u : Turn) (spot : c.spot ≡ a.lived.spot) (t : IsTurn lens made ds a u) (asks : AsksFirst sent u) (answers : StandAnswers back c u u.lived.life.stand) where
+  module _ (c : Slave) (u : Turn) (spot : c.spot ≡ u.lived.spot) (asked : Asked lens ds u.lived u.share) (asks : AsksFirst sent u) (answers : StandAnswers back c u u.lived.life.stand) where
     station_is : c.spot.station ≡ u.lived.spot.station
-    station_is = ap (λ s. s.station) (spot ∙ sym t.next.spot)
+    station_is = ap (λ s. s.station) spot
 
     carried : (d : Raw.Datagram) → HasOne u.lived.spot u.share.at d ds → ItemBack u.share.at back
     carried d has =
@@ -138,7 +138,7 @@ module _ (lens : ℕ → Lens) (made : ℕ) (ds : List Raw.Datagram) (sent back 
 
         whole : IsSent u.lived.life.era.side.halves.out.holding (Some u.lived.life.era.side.halves.inn) (x.gram ∷ [])
         whole =
-            let halves = (t.asked.asks stand).halves in
+            let halves = (asked.asks stand).halves in
             let mine' = subst (λ z. IsSent u.lived.life.era.side.halves.out.holding (Some u.lived.life.era.side.halves.inn) (Link.own u.lived.spot.station (grams z))) (ap (own u.lived.spot.station) (sym view) ∙ mine) halves in
             subst (λ (b : Bool). IsSent u.lived.life.era.side.halves.out.holding (Some u.lived.life.era.side.halves.inn) (if b then x.gram ∷ [] else [])) (eq-eqb x.gram.station u.lived.spot.station at) mine'
 
@@ -150,8 +150,8 @@ module _ (lens : ℕ → Lens) (made : ℕ) (ds : List Raw.Datagram) (sent back 
     by_stand Stand.Open e under d has gram answered = open_brings d has gram e answered
     by_stand Stand.Gone e under d has gram answered = absurd gram
 
-    one_brings : Brings back c (under_of back u)
-    one_brings = by t.asked.has
+    pub one_brings : Brings back c (under_of back u)
+    one_brings = by asked.has
       where
         by : FrameFor lens u.lived.spot u.lived.life.stand u.share ds → Brings back c (under_of back u)
         by (FrameFor.none out n) = record {
@@ -174,4 +174,4 @@ module _ (lens : ℕ → Lens) (made : ℕ) (ds : List Raw.Datagram) (sent back 
   all_bring [] (a ∷ as') us l t asks answers = absurd l
   all_bring (c ∷ cs) [] us l t asks answers = absurd l
   all_bring (c ∷ cs) (a ∷ as') [] l t asks answers = absurd t
-  all_bring (c ∷ cs) (a ∷ as') (u ∷ us) l t asks answers = (one_brings c a u l.0 t.0 asks.0 answers.0, all_bring cs as' us l.2 t.1 asks.1 answers.1)
+  all_bring (c ∷ cs) (a ∷ as') (u ∷ us) l t asks answers = (one_brings c u (l.0 ∙ sym t.0.next.spot) t.0.asked asks.0 answers.0, all_bring cs as' us l.2 t.1 asks.1 answers.1)

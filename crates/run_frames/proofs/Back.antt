@@ -104,12 +104,12 @@ same_era l (Some duty) = at duty.target duty.stage
         by true = refl
         by false = refl
 
-module _ {M Q R : Type 0} (x : Speech M Q R) (acknowledged : Q → Bool) (more : M → Bool) (passed : Q → Bool) (frame : ℕ) (spot : Spot) (back : List (Datagram M)) (came : Option (Bool × Option Found)) (l : Life M Q R) where
+module _ {M Q R : Type 0} (x : Speech M Q R) (acknowledged : Q → Bool) (more : M → Bool) (passed : Q → Bool) (frame : ℕ) (spot : Spot) (news : List (News M)) (back : List (Datagram M)) (came : Option (Bool × Option Found)) (l : Life M Q R) where
   abbrev era : Era M Q R
-  era = era_back x acknowledged more passed spot.station frame [] back l.era
+  era = era_back x acknowledged more passed spot.station frame news back l.era
 
   abbrev opened : Life M Q R
-  opened = life_back x acknowledged more passed frame spot [] back came l Stand.Open
+  opened = life_back x acknowledged more passed frame spot news back came l Stand.Open
 
   -- its half is that of the epoch
   half_is : opened.era.side.halves ≡ halves_after spot.station l.era.side.halves (grams (own spot.station back))
@@ -129,7 +129,7 @@ module _ {M Q R : Type 0} (x : Speech M Q R) (acknowledged : Q → Bool) (more :
 
       answered : (s : InState) → h.inn.state ≡ s → (s ≡ InState.Clear → ⊥) → IsAnswered spot.station s h.inn.bit d → HalfGone stepped l opened
       answered s e not_clear a = HalfGone.on (λ is. not_clear (sym e ∙ is)) (λ slaves pace w is.
-          (goes x acknowledged more passed slaves pace frame spot [] back came l d w b.one (subst (λ z. IsAnswered spot.station z h.inn.bit d) (sym e) a) is stays).whole)
+          (goes x acknowledged more passed slaves pace frame spot news back came l d w b.one (subst (λ z. IsAnswered spot.station z h.inn.bit d) (sym e) a) is stays).whole)
 
       by : (s : InState) → h.inn.state ≡ s → HalfAsks stepped s h.inn.bit d → HalfGone stepped l opened
       by InState.Clear e asks = HalfGone.same (ap (λ z. z.inn.state) now ∙ clear_stays h d.gram.ask d asks e ∙ sym e) (inl e)

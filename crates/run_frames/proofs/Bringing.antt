@@ -81,9 +81,9 @@ module _ {M Q R : Type 0} (x : Spot → Speech M Q R) (acknowledged : Q → Bool
     one_lost a u t is = by (gives && u.under)
       where
         l : Life M Q R
-        l = life_lost (x a.spot) acknowledged more passed a.spot [] sent u.life u.life.stand
+        l = life_lost (x a.spot) acknowledged more passed a.spot u.news sent u.life u.life.stand
 
-        stays : (s : Stand) → u.life.stand ≡ s → is_opening s ≡ true → is_opening (life_lost (x a.spot) acknowledged more passed a.spot [] sent u.life s).stand ≡ true
+        stays : (s : Stand) → u.life.stand ≡ s → is_opening s ≡ true → is_opening (life_lost (x a.spot) acknowledged more passed a.spot u.news sent u.life s).stand ≡ true
         stays (Stand.Opens o) e f = ap is_opening e
         stays Stand.Open e f = absurd (cc)
         stays Stand.Gone e f = absurd (cc)

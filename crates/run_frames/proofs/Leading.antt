@@ -7,7 +7,7 @@ use Rattle.frame_view.specs.Seen.{seen, datagrams_seen}
 use Rattle.frame_view.specs.View.{Lens, datagram_seen, address_of, place_of}
 use Rattle.frame_view.proofs.Octets.{seen_chained}
 use Rattle.life_frames.specs.Frames.{FrameFor, AllNotFor, IsNotFor}
-use Rattle.life_frames.specs.Shares.{came_at, given_where}
+use Rattle.life_frames.specs.Shares.{Asked as Asks, IsNext, came_at, given_where}
 use Rattle.life_model.specs.Lives.{Spot, Life, life_next, life_lost, life_back}
 use Rattle.life_model.specs.Own.{own}
 use Rattle.life_runs.specs.Led.{Exchanged, Leads, Turn, IsTurn, AllTurn, speech_at, is_passed, led_behind, life_behind}
@@ -18,7 +18,7 @@ use Rattle.segment_model.specs.Record.{is_for}
 use Rattle.segment_model.specs.Slaves.{Datagram, Address}
 use Rattle.segment_ring.specs.declared.wire.Fate.TheVariants.{Pass, Lost}
 use Rattle.run_frames.specs.Clocks.{Clocked}
-use Rattle.run_frames.specs.Goes.{IsUnder, AllUnder, all_lost, all_back, given_if, lost_life, back_life}
+use Rattle.run_frames.specs.Goes.{Under, IsUnder, AllUnder, all_lost, all_back, given_if, lost_life, back_life}
 use Rattle.run_frames.specs.Led.{AreLed, under_of, unders}
 
 -- a datagram of another slave isn't to this station
@@ -52,14 +52,14 @@ module _ (seen_is : SeenIs) (lens : ℕ → Lens) (recover retry made : ℕ) (f 
   abbrev Slave : Type 0
   Slave = Clocked Body Asked Reply
 
-  -- ONE SLAVE
-  one_under : (ds : List Raw.Datagram) (back : List (Datagram Body)) (c : Slave) (a : Leads) (u : Turn) → c.spot ≡ a.lived.spot → c.life ≡ a.lived.life → seen lens f.sent ≡ datagrams_seen lens ds → IsTurn lens made ds a u →
-      IsUnder (speech_at lens) acknowledged is_followed is_passed made (seen lens f.sent) c (under_of back u)
-  one_under ds back c a u spot life view t = record {
-    pick = t.next.pick;
-    life = t.next.life ∙ ap (λ s. life_next (speech_at lens s) acknowledged is_followed is_passed made a.lived.life a.lived.life.stand t.next.pick) (sym spot)
-        ∙ ap (λ l. life_next (speech_at lens c.spot) acknowledged is_followed is_passed made l l.stand t.next.pick) (sym life);
-    none = λ out. ap (own c.spot.station) view ∙ ap (λ s. own s.station (datagrams_seen lens ds)) (spot ∙ sym t.next.spot) ∙ none_of t.asked.has out;
+  -- ONE SLAVE, with its share of the frame
+  pub one_under : (ds : List Raw.Datagram) (c : Slave) (a : Leads) (u : Turn) (v : Under Body Asked Reply) → c.spot ≡ a.lived.spot → c.life ≡ a.lived.life → seen lens f.sent ≡ datagrams_seen lens ds →
+      IsNext (speech_at lens a.lived.spot) acknowledged is_followed is_passed made a.lived u.lived → Asks lens ds u.lived u.share → v.life ≡ u.lived.life → v.under ≡ u.share.under → IsUnder (speech_at lens) acknowledged is_followed is_passed made (seen lens f.sent) c v
+  one_under ds c a u v spot life view next asked same under = record {
+    pick = next.pick;
+    life = same ∙ next.life ∙ ap (λ s. life_next (speech_at lens s) acknowledged is_followed is_passed made a.lived.life a.lived.life.stand next.pick) (sym spot)
+        ∙ ap (λ l. life_next (speech_at lens c.spot) acknowledged is_followed is_passed made l l.stand next.pick) (sym life);
+    none = λ out. ap (own c.spot.station) view ∙ ap (λ s. own s.station (datagrams_seen lens ds)) (spot ∙ sym next.spot) ∙ none_of asked.has (sym under ∙ out);
   }
     where
       none_of : FrameFor lens u.lived.spot u.lived.life.stand u.share ds → u.share.under ≡ false → own u.lived.spot.station (datagrams_seen lens ds) ≡ []
@@ -74,10 +74,10 @@ module _ (seen_is : SeenIs) (lens : ℕ → Lens) (recover retry made : ℕ) (f 
   all_under ds back [] (a ∷ as') us l view t = absurd l
   all_under ds back (c ∷ cs) [] us l view t = absurd l
   all_under ds back (c ∷ cs) (a ∷ as') [] l view t = absurd t
-  all_under ds back (c ∷ cs) (a ∷ as') (u ∷ us) l view t = (one_under ds back c a u l.0 l.1 view t.0, all_under ds back cs as' us l.2 view t.1)
+  all_under ds back (c ∷ cs) (a ∷ as') (u ∷ us) l view t = (one_under ds c a u (under_of back u) l.0 l.1 view t.0.next t.0.asked refl refl, all_under ds back cs as' us l.2 view t.1)
 
   -- behind a lost frame
-  given_same : {Q R : Type 0} (b : Bool) (spot : Spot) (l : Life Body Q R) → given_if b recover spot made l ≡ given_where b recover spot made l
+  pub given_same : {Q R : Type 0} (b : Bool) (spot : Spot) (l : Life Body Q R) → given_if b recover spot made l ≡ given_where b recover spot made l
   given_same true spot l = refl
   given_same false spot l = refl
 

@@ -1,5 +1,5 @@
 pub mod Access
-mod Answering
+pub mod Answering
 mod Back
 mod Bringing
 mod Clocking
@@ -17,8 +17,10 @@ mod Running
 mod Same
 pub mod Stating
 pub mod Tallying
-mod Toured
-mod Touring
+pub mod Toured
+pub mod Touring
+pub mod Visiting
 mod Waiting
 mod Walking
+pub mod Within
 mod Worked

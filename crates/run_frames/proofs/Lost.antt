@@ -59,15 +59,15 @@ module _ {M Q R : Type 0} (before : GainsBefore M Q R) (lost : GainsLost M Q R) 
   }
     where
       l : Life M Q R
-      l = life_lost (x a.spot) acknowledged more passed a.spot [] sent u.life u.life.stand
+      l = life_lost (x a.spot) acknowledged more passed a.spot u.news sent u.life u.life.stand
 
       go : (b : Bool) → (let m = given_if b recover a.spot number l in StandsAt m m.stand)
       go true = gives_up_stands recover number a.spot l
-      go false = lost_stands (x a.spot) acknowledged more passed a.spot sent u.life u.life.stand refl (before_stands slowest a u k t)
+      go false = lost_stands (x a.spot) acknowledged more passed a.spot u.news sent u.life u.life.stand refl (before_stands slowest a u k t)
 
       hands : (b : Bool) → (let m = given_if b recover a.spot number l in HandAt m m.stand)
       hands true = gives_up_hand recover number a.spot l
-      hands false = lost_hand (x a.spot) acknowledged more passed a.spot sent u.life u.life.stand refl (before_hand slowest a u k t)
+      hands false = lost_hand (x a.spot) acknowledged more passed a.spot u.news sent u.life u.life.stand refl (before_hand slowest a u k t)
 
   -- ONE THAT ISN'T CARRIED keeps its access
   pub passed_same : (a : Clocked M Q R) (u : Under M Q R) → Turn a u → u.under ≡ false → SameAccess a.life (behind a u)
@@ -77,20 +77,20 @@ module _ {M Q R : Type 0} (before : GainsBefore M Q R) (lost : GainsLost M Q R) 
       off true b e = e
       off false b e = refl
 
-      go : (b : Bool) → b ≡ false → SameAccess a.life (given_if b recover a.spot number (life_lost (x a.spot) acknowledged more passed a.spot [] sent u.life u.life.stand))
+      go : (b : Bool) → b ≡ false → SameAccess a.life (given_if b recover a.spot number (life_lost (x a.spot) acknowledged more passed a.spot u.news sent u.life u.life.stand))
       go true e = absurd (cc)
-      go false e = same_before a.life u.life _ (before_same a u t) (passed_access (x a.spot) acknowledged more passed a.spot sent u.life u.life.stand (t.none out))
+      go false e = same_before a.life u.life _ (before_same a u t) (passed_access (x a.spot) acknowledged more passed a.spot u.news sent u.life u.life.stand (t.none out))
 
   -- ANY: it keeps its access, or loses no more than a reopening takes
   pub lost_one : (slowest : ℕ) (a : Clocked M Q R) (u : Under M Q R) → IsClocked slowest a → Turn a u → Loses 1 slowest (alone slowest number a) (alone slowest (suc number) (clocked_behind number a (behind a u)))
   lost_one slowest a u k t = go (gives && u.under)
     where
       l : Life M Q R
-      l = life_lost (x a.spot) acknowledged more passed a.spot [] sent u.life u.life.stand
+      l = life_lost (x a.spot) acknowledged more passed a.spot u.news sent u.life u.life.stand
 
       go : (b : Bool) → Loses 1 slowest (alone slowest number a) (alone slowest (suc number) (clocked_behind number a (given_if b recover a.spot number l)))
       go true = Loses.breaks ((gives_up_breaks recover number a.spot l).whole 1 slowest)
-      go false = elim (lost_access (x a.spot) acknowledged more passed a.spot sent u.life u.life.stand refl) [
+      go false = elim (lost_access (x a.spot) acknowledged more passed a.spot u.news sent u.life u.life.stand refl) [
         | inl same ↦ Loses.stays (stays_on 1 slowest 0 0 number a l k (same_before a.life u.life l (before_same a u t) same) (omega arith))
         | inr broke ↦ Loses.breaks (broke.whole 1 slowest)
       ]

@@ -131,7 +131,7 @@ module _ {M Q R : Type 0} (gains_before : GainsBefore M Q R) (openings : Opening
   Result m = Met slaves slowest before later number a m
 
   abbrev behind : Stand → Life M Q R
-  behind s = life_back (x a.spot) acknowledged more passed number a.spot [] back u.came u.life s
+  behind s = life_back (x a.spot) acknowledged more passed number a.spot u.news back u.came u.life s
 
   before_same : SameAccess a.life u.life
   before_same = subst (λ z. SameAccess a.life z) (sym t.life) (next_same (x a.spot) acknowledged more passed number a.life a.life.stand t.pick)
@@ -162,7 +162,7 @@ module _ {M Q R : Type 0} (gains_before : GainsBefore M Q R) (openings : Opening
 
   -- one that is opened
   opening : (o : Opening) → u.life.stand ≡ Stand.Opens o → OpeningBrings a.stepped o u.came → Result (behind (Stand.Opens o))
-  opening o e b = subst Result (sym (ap (λ z. life_back (x a.spot) acknowledged more passed number a.spot [] back z u.life (Stand.Opens o)) b.is)) (by (opening_gone openings a.stepped number u.life o b.done b.found at b.shows))
+  opening o e b = subst Result (sym (ap (λ z. life_back (x a.spot) acknowledged more passed number a.spot u.news back z u.life (Stand.Opens o)) b.is)) (by (opening_gone openings a.stepped number u.life o b.done b.found at b.shows))
     where
       at : IsAt u.life o
       at = subst (StandsAt u.life) e before_stands
@@ -184,7 +184,7 @@ module _ {M Q R : Type 0} (gains_before : GainsBefore M Q R) (openings : Opening
 
   -- one that is open
   abbrev era : Era M Q R
-  era = era_back (x a.spot) acknowledged more passed a.spot.station number [] back u.life.era
+  era = era_back (x a.spot) acknowledged more passed a.spot.station number u.news back u.life.era
 
   abbrev here : Life M Q R
   here = record u.life { era = era }
@@ -228,11 +228,11 @@ module _ {M Q R : Type 0} (gains_before : GainsBefore M Q R) (openings : Opening
 
       by : Reopens here era.account.hand → Result (reopens here era.account.hand)
       by (Reopens.stays zero' is) =
-          half (reopens here era.account.hand) is (half_gone (x a.spot) acknowledged more passed number a.spot back u.came u.life halves a.stepped b (ap (λ z. z.stand) is ∙ e))
+          half (reopens here era.account.hand) is (half_gone (x a.spot) acknowledged more passed number a.spot u.news back u.came u.life halves a.stepped b (ap (λ z. z.stand) is ∙ e))
           (ap reopened is ∙ ap (λ z. eras_reopened u.life.past + z) (zero' ∙ sym none))
       by (Reopens.goes state one is) =
           let r : reopened (reopens here era.account.hand) ≡ eras_reopened u.life.past + duty_reopens era.account.hand = ap reopened is in
-          let won = going_gains (x a.spot) acknowledged more passed number a.spot back u.came u.life went none (inr (b.datagram, b.one)) one in
+          let won = going_gains (x a.spot) acknowledged more passed number a.spot u.news back u.came u.life went none (inr (b.datagram, b.one)) one in
           Met.anew (omega (arith, r, one, before_reopened, none)) (omega (arith, won, before_gains))
 
   -- ANY
@@ -246,7 +246,7 @@ module _ {M Q R : Type 0} (gains_before : GainsBefore M Q R) (openings : Opening
       by Stand.Gone z e f = gone e
       by (Stand.Opens o) true e f = opening o e (subst (StandBrings back a u) e (b.some f))
       by (Stand.Opens o) false e f =
-          subst Result (sym (ap (λ z. life_back (x a.spot) acknowledged more passed number a.spot [] back z u.life (Stand.Opens o)) (b.none f).1)) (kept u.life (record { stand = refl; state = refl }) refl (near (live (Stand.Opens o) e) f))
+          subst Result (sym (ap (λ z. life_back (x a.spot) acknowledged more passed number a.spot u.news back z u.life (Stand.Opens o)) (b.none f).1)) (kept u.life (record { stand = refl; state = refl }) refl (near (live (Stand.Opens o) e) f))
       by Stand.Open true e f = open_met e (subst (StandBrings back a u) e (b.some f))
       by Stand.Open false e f = open_passed e (b.none f).0 (near (live Stand.Open e) f)
 
@@ -254,14 +254,14 @@ module _ {M Q R : Type 0} (gains_before : GainsBefore M Q R) (openings : Opening
   pub opening_none : (o : Opening) → u.life.stand ≡ Stand.Opens o → u.under ≡ true → Brings back a u → reopened (behind u.life.stand) ≡ reopened a.life
   opening_none o e f b =
       let c = subst (StandBrings back a u) e (b.some f) in
-      ap (λ s. reopened (behind s)) e ∙ ap (λ z. reopened (life_back (x a.spot) acknowledged more passed number a.spot [] back z u.life (Stand.Opens o))) c.is ∙ opening_reopened number u.life o c.done c.found ∙ before_reopened
+      ap (λ s. reopened (behind s)) e ∙ ap (λ z. reopened (life_back (x a.spot) acknowledged more passed number a.spot u.news back z u.life (Stand.Opens o))) c.is ∙ opening_reopened number u.life o c.done c.found ∙ before_reopened
 
   -- it is being opened yet, or has nothing to repair
   pub opened_back : (o : Opening) → u.life.stand ≡ Stand.Opens o → u.under ≡ true → Brings back a u → (is_opening (behind u.life.stand).stand ≡ true) ⊎ (way_of 1 1 (behind u.life.stand) ≡ None)
   opened_back o e f b =
       let c = subst (StandBrings back a u) e (b.some f) in
       subst (λ s. (is_opening (behind s).stand ≡ true) ⊎ (way_of 1 1 (behind s) ≡ None)) (sym e)
-      (subst (λ m. (is_opening m.stand ≡ true) ⊎ (way_of 1 1 m ≡ None)) (sym (ap (λ z. life_back (x a.spot) acknowledged more passed number a.spot [] back z u.life (Stand.Opens o)) c.is))
+      (subst (λ m. (is_opening m.stand ≡ true) ⊎ (way_of 1 1 m ≡ None)) (sym (ap (λ z. life_back (x a.spot) acknowledged more passed number a.spot u.news back z u.life (Stand.Opens o)) c.is))
       (opening_ends number u.life o c.done c.found e (subst (StandsAt u.life) e before_stands)))
 
   -- its way is one
@@ -288,7 +288,7 @@ module _ {M Q R : Type 0} (gains_before : GainsBefore M Q R) (openings : Opening
 
       by : (s : Stand) → u.life.stand ≡ s → SameAccess a.life (behind s) × (reopened (behind s) ≡ reopened a.life)
       by Stand.Gone e = same u.life refl
-      by (Stand.Opens o) e = same (behind (Stand.Opens o)) (ap (λ z. life_back (x a.spot) acknowledged more passed number a.spot [] back z u.life (Stand.Opens o)) (b.none out).1)
+      by (Stand.Opens o) e = same (behind (Stand.Opens o)) (ap (λ z. life_back (x a.spot) acknowledged more passed number a.spot u.news back z u.life (Stand.Opens o)) (b.none out).1)
       by Stand.Open e = open_same e (reopens_or here era.account.hand)
 
   -- what stands behind it
@@ -311,9 +311,9 @@ module _ {M Q R : Type 0} (gains_before : GainsBefore M Q R) (openings : Opening
       by Stand.Gone z e f = old
       by (Stand.Opens o) true e f =
           let c = subst (StandBrings back a u) e (b.some f) in
-          subst Both (sym (ap (λ z. life_back (x a.spot) acknowledged more passed number a.spot [] back z u.life (Stand.Opens o)) c.is))
+          subst Both (sym (ap (λ z. life_back (x a.spot) acknowledged more passed number a.spot u.news back z u.life (Stand.Opens o)) c.is))
           (opened_by o e c (opening_gone openings a.stepped number u.life o c.done c.found (subst (StandsAt u.life) e before_stands) c.shows))
-      by (Stand.Opens o) false e f = subst Both (sym (ap (λ z. life_back (x a.spot) acknowledged more passed number a.spot [] back z u.life (Stand.Opens o)) (b.none f).1)) old
+      by (Stand.Opens o) false e f = subst Both (sym (ap (λ z. life_back (x a.spot) acknowledged more passed number a.spot u.news back z u.life (Stand.Opens o)) (b.none f).1)) old
       by Stand.Open z e f = open_by e (reopens_or here era.account.hand)
 
   -- one that is gone stays so

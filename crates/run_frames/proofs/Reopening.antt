@@ -48,12 +48,12 @@ ends_drain Stage.Drains frame a duty (Progress.On (Stage.Goes phase)) none one =
 ends_drain (Stage.Goes old) frame a duty (Progress.On Stage.Drains) none one = absurd (cc)
 ends_drain (Stage.Goes old) frame a duty (Progress.On (Stage.Goes phase)) none one = absurd (cc)
 
-module _ {M Q R : Type 0} (x : Speech M Q R) (acknowledged : Q → Bool) (more : M → Bool) (passed : Q → Bool) (frame : ℕ) (spot : Spot) (back : List (Datagram M)) (came : Option (Bool × Option Found)) (l : Life M Q R) where
+module _ {M Q R : Type 0} (x : Speech M Q R) (acknowledged : Q → Bool) (more : M → Bool) (passed : Q → Bool) (frame : ℕ) (spot : Spot) (news : List (News M)) (back : List (Datagram M)) (came : Option (Bool × Option Found)) (l : Life M Q R) where
   abbrev era : Era M Q R
-  era = era_back x acknowledged more passed spot.station frame [] back l.era
+  era = era_back x acknowledged more passed spot.station frame news back l.era
 
   abbrev opened : Life M Q R
-  opened = life_back x acknowledged more passed frame spot [] back came l Stand.Open
+  opened = life_back x acknowledged more passed frame spot news back came l Stand.Open
 
   -- a state service that begins to reopen the slave has gained
   pub going_gains : WentOn M Q R → duty_reopens l.era.account.hand ≡ 0 → (own spot.station back ≡ []) ⊎ ((d : Datagram M) × (own spot.station back ≡ d ∷ [])) → duty_reopens era.account.hand ≡ 1 → suc (gains l) ≤ gains opened
@@ -79,7 +79,7 @@ module _ {M Q R : Type 0} (x : Speech M Q R) (acknowledged : Q → Bool) (more :
               sym (ap (λ z. duty_reopens (account_met spot.station frame l.era.account z d).hand) e ∙ ap (λ (z : Bool). duty_reopens (if z && not (d.counter == 0) then account_by frame l.era.account duty (access_done duty.target duty.stage d.access d.found) else l.era.account).hand) f
               ∙ ap (λ (z : Bool). duty_reopens (if not z then account_by frame l.era.account duty (access_done duty.target duty.stage d.access d.found) else l.era.account).hand) g) ∙ is in
               let before : goes_to_init duty.target duty.stage ≡ 0 = sym (ap duty_reopens e) ∙ none in
-              went x acknowledged more passed frame spot [] back came l d duty some.1 e f g (ends_drain duty.stage frame l.era.account duty (access_done duty.target duty.stage d.access d.found) before now)
+              went x acknowledged more passed frame spot news back came l d duty some.1 e f g (ends_drain duty.stage frame l.era.account duty (access_done duty.target duty.stage d.access d.found) before now)
           at true true f g = absurd (
               let now = ap (λ z. duty_reopens (account_met spot.station frame l.era.account z d).hand) e ∙ ap (λ (z : Bool). duty_reopens (if z && not (d.counter == 0) then account_by frame l.era.account duty (access_done duty.target duty.stage d.access d.found) else l.era.account).hand) f
               ∙ ap (λ (z : Bool). duty_reopens (if not z then account_by frame l.era.account duty (access_done duty.target duty.stage d.access d.found) else l.era.account).hand) g in

@@ -63,7 +63,7 @@ module _ {M Q R : Type 0} (facts : Known M Q R) (x : Spot → Speech M Q R) (ack
 
   -- ONE SLAVE
   one_grows : (a : Clocked M Q R) (u : Under M Q R) → Turn a u → gains a.life ≤ gains (behind a u)
-  one_grows a u t = subst (λ z. z ≤ gains (behind a u)) (ap gains t.life ∙ facts.before (x a.spot) acknowledged more passed number a.life t.pick) (facts.grows (x a.spot) acknowledged more passed number a.spot [] back u.came u.life)
+  one_grows a u t = subst (λ z. z ≤ gains (behind a u)) (ap gains t.life ∙ facts.before (x a.spot) acknowledged more passed number a.life t.pick) (facts.grows (x a.spot) acknowledged more passed number a.spot u.news back u.came u.life)
 
   pub back_clocked : (slowest : ℕ) (a : Clocked M Q R) (u : Under M Q R) → IsClocked slowest a → Turn a u → Brings back a u → IsClocked slowest (clocked_behind number a (behind a u))
   back_clocked slowest a u k t b =

@@ -34,10 +34,10 @@ next_reopened x acknowledged more passed frame l (Stand.Opens o) pick = refl
 next_reopened x acknowledged more passed frame l Stand.Gone pick = refl
 next_reopened x acknowledged more passed frame l Stand.Open pick = omega (arith, begins_hand x acknowledged frame l.era.side l.era.account l.era.account.hand (granted l.era.passing pick).begin refl)
 
-lost_reopened : {M Q R : Type 0} (x : Speech M Q R) (acknowledged : Q → Bool) (more : M → Bool) (passed : Q → Bool) (spot : Spot) (sent : List (Datagram M)) (l : Life M Q R) (stand : Stand) → reopened (life_lost x acknowledged more passed spot [] sent l stand) ≡ reopened l
-lost_reopened x acknowledged more passed spot sent l (Stand.Opens o) = refl
-lost_reopened x acknowledged more passed spot sent l Stand.Open = refl
-lost_reopened x acknowledged more passed spot sent l Stand.Gone = refl
+lost_reopened : {M Q R : Type 0} (x : Speech M Q R) (acknowledged : Q → Bool) (more : M → Bool) (passed : Q → Bool) (spot : Spot) (news : List (News M)) (sent : List (Datagram M)) (l : Life M Q R) (stand : Stand) → reopened (life_lost x acknowledged more passed spot news sent l stand) ≡ reopened l
+lost_reopened x acknowledged more passed spot news sent l (Stand.Opens o) = refl
+lost_reopened x acknowledged more passed spot news sent l Stand.Open = refl
+lost_reopened x acknowledged more passed spot news sent l Stand.Gone = refl
 
 -- no state service in hand has begun to reopen a slave that is open
 hand_open : {M Q R : Type 0} (m : Life M Q R) (stand : Stand) → m.stand ≡ stand → stand ≡ Stand.Open → duty_reopens m.era.account.hand ≡ 0 → HandAt m m.stand
@@ -50,11 +50,11 @@ next_hand x acknowledged more passed frame l Stand.Gone pick e s = s
 next_hand x acknowledged more passed frame l Stand.Open pick e s =
     hand_open (life_next x acknowledged more passed frame l Stand.Open pick) l.stand refl e (begins_hand x acknowledged frame l.era.side l.era.account l.era.account.hand (granted l.era.passing pick).begin refl ∙ subst (HandAt l) e s)
 
-pub lost_hand : {M Q R : Type 0} (x : Speech M Q R) (acknowledged : Q → Bool) (more : M → Bool) (passed : Q → Bool) (spot : Spot) (sent : List (Datagram M)) (l : Life M Q R) (stand : Stand) → l.stand ≡ stand → HandAt l l.stand →
-    (let m = life_lost x acknowledged more passed spot [] sent l stand in HandAt m m.stand)
-lost_hand x acknowledged more passed spot sent l (Stand.Opens o) e s = s
-lost_hand x acknowledged more passed spot sent l Stand.Gone e s = s
-lost_hand x acknowledged more passed spot sent l Stand.Open e s = hand_open (life_lost x acknowledged more passed spot [] sent l Stand.Open) l.stand refl e (subst (HandAt l) e s)
+pub lost_hand : {M Q R : Type 0} (x : Speech M Q R) (acknowledged : Q → Bool) (more : M → Bool) (passed : Q → Bool) (spot : Spot) (news : List (News M)) (sent : List (Datagram M)) (l : Life M Q R) (stand : Stand) → l.stand ≡ stand → HandAt l l.stand →
+    (let m = life_lost x acknowledged more passed spot news sent l stand in HandAt m m.stand)
+lost_hand x acknowledged more passed spot news sent l (Stand.Opens o) e s = s
+lost_hand x acknowledged more passed spot news sent l Stand.Gone e s = s
+lost_hand x acknowledged more passed spot news sent l Stand.Open e s = hand_open (life_lost x acknowledged more passed spot news sent l Stand.Open) l.stand refl e (subst (HandAt l) e s)
 
 pub gives_up_hand : {M Q R : Type 0} (recover frame : ℕ) (spot : Spot) (l : Life M Q R) → (let m = gives_up recover spot frame l in HandAt m m.stand)
 gives_up_hand {M} {Q} {R} recover frame spot l = go (nat_lt (length l.gave) recover)
@@ -73,20 +73,20 @@ GainsLost M Q R = (x : Speech M Q R) (acknowledged : Q → Bool) (more : M → B
 module _ {M Q R : Type 0} (before : GainsBefore M Q R) (lost : GainsLost M Q R) (x : Spot → Speech M Q R) (acknowledged : Q → Bool) (more : M → Bool) (passed : Q → Bool) (gives : Bool) (recover number : ℕ) (sent : List (Datagram M)) where
   -- ONE SLAVE
   pub one_gains : (a : Clocked M Q R) (u : Under M Q R) → IsUnder x acknowledged more passed number sent a u → gains (lost_life x acknowledged more passed gives recover number sent a u) ≡ gains a.life
-  one_gains a u t = go (gives && u.under) ∙ lost (x a.spot) acknowledged more passed a.spot [] sent u.life ∙ ap gains t.life ∙ before (x a.spot) acknowledged more passed number a.life t.pick
+  one_gains a u t = go (gives && u.under) ∙ lost (x a.spot) acknowledged more passed a.spot u.news sent u.life ∙ ap gains t.life ∙ before (x a.spot) acknowledged more passed number a.life t.pick
     where
       l : Life M Q R
-      l = life_lost (x a.spot) acknowledged more passed a.spot [] sent u.life u.life.stand
+      l = life_lost (x a.spot) acknowledged more passed a.spot u.news sent u.life u.life.stand
 
       go : (b : Bool) → gains (given_if b recover a.spot number l) ≡ gains l
       go true = refl
       go false = refl
 
   pub one_reopened : (a : Clocked M Q R) (u : Under M Q R) → IsUnder x acknowledged more passed number sent a u → reopened (lost_life x acknowledged more passed gives recover number sent a u) ≡ reopened a.life
-  one_reopened a u t = go (gives && u.under) ∙ lost_reopened (x a.spot) acknowledged more passed a.spot sent u.life u.life.stand ∙ ap reopened t.life ∙ next_reopened (x a.spot) acknowledged more passed number a.life a.life.stand t.pick
+  one_reopened a u t = go (gives && u.under) ∙ lost_reopened (x a.spot) acknowledged more passed a.spot u.news sent u.life u.life.stand ∙ ap reopened t.life ∙ next_reopened (x a.spot) acknowledged more passed number a.life a.life.stand t.pick
     where
       l : Life M Q R
-      l = life_lost (x a.spot) acknowledged more passed a.spot [] sent u.life u.life.stand
+      l = life_lost (x a.spot) acknowledged more passed a.spot u.news sent u.life u.life.stand
 
       go : (b : Bool) → reopened (given_if b recover a.spot number l) ≡ reopened l
       go true = refl

@@ -2,7 +2,7 @@
 use Rattle.std.proofs.Common.{◌≡◌, ℕ, ◌+◌, ◌≤◌, ◌==◌, ◌&&◌, not, Bool, true, false, Option, Some, None, List, [], ◌∷◌, ◌++◌, refl, sym, ap, subst, arith, if◌then◌else◌}
 use Rattle.std.specs.Prelude.{⊤}
 use Rattle.exchange_model.specs.Exchange.{Speech}
-use Rattle.segment_model.specs.Record.{is_for}
+use Rattle.segment_model.specs.Record.{News, is_for}
 use Rattle.segment_model.specs.Seats.{Side}
 use Rattle.segment_model.specs.Slaves.{Datagram, Found}
 use Rattle.state_exchange.specs.Stated.{Service}
@@ -91,10 +91,10 @@ next_came x acknowledged more passed frame l (Stand.Opens o) pick c = c
 next_came x acknowledged more passed frame l Stand.Gone pick c = c
 next_came x acknowledged more passed frame l Stand.Open pick c = (c.0, begins_came x acknowledged frame l.era.side l.era.account l.era.account.hand (granted l.era.passing pick).begin c.1)
 
-pub lost_came : {M Q R : Type 0} (x : Speech M Q R) (acknowledged : Q → Bool) (more : M → Bool) (passed : Q → Bool) (spot : Spot) (sent : List (Datagram M)) (l : Life M Q R) (stand : Stand) → LifeCame l → LifeCame (life_lost x acknowledged more passed spot [] sent l stand)
-lost_came x acknowledged more passed spot sent l (Stand.Opens o) c = c
-lost_came x acknowledged more passed spot sent l Stand.Open c = c
-lost_came x acknowledged more passed spot sent l Stand.Gone c = c
+pub lost_came : {M Q R : Type 0} (x : Speech M Q R) (acknowledged : Q → Bool) (more : M → Bool) (passed : Q → Bool) (spot : Spot) (news : List (News M)) (sent : List (Datagram M)) (l : Life M Q R) (stand : Stand) → LifeCame l → LifeCame (life_lost x acknowledged more passed spot news sent l stand)
+lost_came x acknowledged more passed spot news sent l (Stand.Opens o) c = c
+lost_came x acknowledged more passed spot news sent l Stand.Open c = c
+lost_came x acknowledged more passed spot news sent l Stand.Gone c = c
 
 -- by what came back
 met_came : {M Q R : Type 0} (station frame : ℕ) (a : Account Q R) (hand : Option Duty) (d : Datagram M) → a.hand ≡ hand → Came a → Came (account_met station frame a hand d)
@@ -135,13 +135,13 @@ same_past {M} {Q} {R} l (Some duty) = at duty.target duty.stage
         by true = refl
         by false = refl
 
-pub life_back_came : {M Q R : Type 0} (x : Speech M Q R) (acknowledged : Q → Bool) (more : M → Bool) (passed : Q → Bool) (frame : ℕ) (spot : Spot) (back : List (Datagram M)) (came : Option (Bool × Option Found)) (l : Life M Q R) (stand : Stand) → LifeCame l →
-    LifeCame (life_back x acknowledged more passed frame spot [] back came l stand)
-life_back_came x acknowledged more passed frame spot back None l (Stand.Opens o) c = c
-life_back_came x acknowledged more passed frame spot back (Some came) l (Stand.Opens o) c = opening_came frame l o came.0 came.1 c
-life_back_came x acknowledged more passed frame spot back came l Stand.Gone c = c
-life_back_came x acknowledged more passed frame spot back came l Stand.Open c =
-    let e = era_back x acknowledged more passed spot.station frame [] back l.era in
+pub life_back_came : {M Q R : Type 0} (x : Speech M Q R) (acknowledged : Q → Bool) (more : M → Bool) (passed : Q → Bool) (frame : ℕ) (spot : Spot) (news : List (News M)) (back : List (Datagram M)) (came : Option (Bool × Option Found)) (l : Life M Q R) (stand : Stand) → LifeCame l →
+    LifeCame (life_back x acknowledged more passed frame spot news back came l stand)
+life_back_came x acknowledged more passed frame spot news back None l (Stand.Opens o) c = c
+life_back_came x acknowledged more passed frame spot news back (Some came) l (Stand.Opens o) c = opening_came frame l o came.0 came.1 c
+life_back_came x acknowledged more passed frame spot news back came l Stand.Gone c = c
+life_back_came x acknowledged more passed frame spot news back came l Stand.Open c =
+    let e = era_back x acknowledged more passed spot.station frame news back l.era in
     let m = record l { era = e } in
     (subst AllCame (sym (same_past m e.account.hand)) c.0, subst (λ z. Came z.account) (sym (same_era m e.account.hand)) (back_came spot.station frame l.era.account (own spot.station back) c.1))
 
@@ -167,9 +167,9 @@ module _ {M Q R : Type 0} (x : Spot → Speech M Q R) (acknowledged : Q → Bool
   each_lost gives recover number sent [] (u ∷ us) t e = absurd t
   each_lost gives recover number sent (a ∷ as') [] t e = absurd t
   each_lost gives recover number sent (a ∷ as') (u ∷ us) t e =
-      (up (gives && u.under) (lost_came (x a.spot) acknowledged more passed a.spot sent u.life u.life.stand (before number sent a u t.0 e.0)), each_lost gives recover number sent as' us t.1 e.1)
+      (up (gives && u.under) (lost_came (x a.spot) acknowledged more passed a.spot u.news sent u.life u.life.stand (before number sent a u t.0 e.0)), each_lost gives recover number sent as' us t.1 e.1)
     where
-      up : (b : Bool) → LifeCame (life_lost (x a.spot) acknowledged more passed a.spot [] sent u.life u.life.stand) → LifeCame (given_if b recover a.spot number (life_lost (x a.spot) acknowledged more passed a.spot [] sent u.life u.life.stand))
+      up : (b : Bool) → LifeCame (life_lost (x a.spot) acknowledged more passed a.spot u.news sent u.life u.life.stand) → LifeCame (given_if b recover a.spot number (life_lost (x a.spot) acknowledged more passed a.spot u.news sent u.life u.life.stand))
       up true c = c
       up false c = c
 
@@ -178,7 +178,7 @@ module _ {M Q R : Type 0} (x : Spot → Speech M Q R) (acknowledged : Q → Bool
   each_back number sent back [] (u ∷ us) t e = absurd t
   each_back number sent back (a ∷ as') [] t e = absurd t
   each_back number sent back (a ∷ as') (u ∷ us) t e =
-      (life_back_came (x a.spot) acknowledged more passed number a.spot back u.came u.life u.life.stand (before number sent a u t.0 e.0), each_back number sent back as' us t.1 e.1)
+      (life_back_came (x a.spot) acknowledged more passed number a.spot u.news back u.came u.life u.life.stand (before number sent a u t.0 e.0), each_back number sent back as' us t.1 e.1)
 
   run_came : (recover slowest : ℕ) (first : List (Clocked M Q R)) (p : Runs.Progress) (cs : List (Clocked M Q R)) → IsRun x acknowledged more passed recover slowest first p cs → EachCame cs
   run_came recover slowest first p cs (IsRun.start last n k) = all_new first n

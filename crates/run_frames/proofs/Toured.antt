@@ -1,7 +1,6 @@
 -- A run whose frames are visits of one tour is one whose frames count.
-use Rattle.std.proofs.Common.{◌≡◌, ℕ, ◌<◌, Option, None, List, [], ◌∷◌, ◌++◌, length, sym, subst, inl, inr}
+use Rattle.std.proofs.Common.{◌≡◌, ℕ, Option, None, List, [], ◌∷◌, ◌++◌, length, sym, subst}
 use Rattle.std.specs.Prelude.{nat_lt}
-use Rattle.std.proofs.lemmas.Bool.{cases_lt}
 use Rattle.frame_view.specs.Seen.{seen}
 use Rattle.frame_view.specs.View.{Lens}
 use Rattle.life_runs.specs.Led.{Exchanged, Leads, Turn, IsLedFrame, speech_at, is_passed, gives_up_at}
@@ -15,29 +14,25 @@ use Rattle.run_frames.specs.Begins.{AllNew}
 use Rattle.run_frames.specs.Brings.{AllBring}
 use Rattle.run_frames.specs.Clocks.{Clocked}
 use Rattle.run_frames.specs.Goes.{AllUnder, AllClocked}
-use Rattle.run_frames.specs.Led.{AreLed, unders, first_clocked, behind_lost, IsTallied}
-use Rattle.run_frames.specs.Orders.{opened_on, live_round}
+use Rattle.run_frames.specs.Led.{AreLed, unders, first_clocked, IsTallied}
 use Rattle.run_frames.specs.Runs.{Progress}
 use Rattle.run_frames.specs.Toured.{IsToured, AskIn, AnswerIn, WaitIn}
 use Rattle.run_frames.specs.Tours.{last_lost}
 use Rattle.run_frames.proofs.Answering.{all_bring}
-use Rattle.run_frames.proofs.Bringing.{FirstFrom}
 use Rattle.run_frames.proofs.Leading.{SeenIs, all_under, led_view}
-use Rattle.run_frames.proofs.Returning.{known, gains_lost, as_many_under}
-use Rattle.run_frames.proofs.Running.{holds}
-use Rattle.run_frames.proofs.Same.{as_many_lost}
 use Rattle.run_frames.proofs.Tallying.{Known, tallied}
-use Rattle.run_frames.proofs.Touring.{AgainOf, visit_is, again_on, carries, rounds, same_round, stays_opened, first_stays, over_stays}
+use Rattle.run_frames.proofs.Touring.{AgainOf}
+use Rattle.run_frames.proofs.Visiting.{visit_again, visit_carries, visit_rounds}
 
 abbrev Slave : Type 0
 Slave = Clocked Body Asked Reply
 
 -- one frame more
-front_returned : (lens : ℕ → Lens) (fs : List Exchanged) (f : Exchanged) → AllReturned lens (fs ++ f ∷ []) → AllReturned lens fs
+pub front_returned : (lens : ℕ → Lens) (fs : List Exchanged) (f : Exchanged) → AllReturned lens (fs ++ f ∷ []) → AllReturned lens fs
 front_returned lens [] f r = tt
 front_returned lens (e ∷ fs) f r = (r.0, front_returned lens fs f r.1)
 
-last_returned : (lens : ℕ → Lens) (fs : List Exchanged) (f : Exchanged) → AllReturned lens (fs ++ f ∷ []) → f.fate ≡ Pass → Returns (seen lens f.sent) (seen lens f.back)
+pub last_returned : (lens : ℕ → Lens) (fs : List Exchanged) (f : Exchanged) → AllReturned lens (fs ++ f ∷ []) → f.fate ≡ Pass → Returns (seen lens f.sent) (seen lens f.back)
 last_returned lens [] f r = r.0
 last_returned lens (e ∷ fs) f r = last_returned lens fs f r.1
 
@@ -55,63 +50,40 @@ module _ (seen_is : SeenIs) (lens : ℕ → Lens) (recover retry slowest : ℕ) 
       let l' = subst (λ n. IsLedFrame lens n f.sent as' us) (sym k.frames) l in
       all_under seen_is lens recover retry p.frames f l'.datagrams (seen lens f.back) cs as' us k.slaves (led_view seen_is lens recover retry p.frames f l'.datagrams l'.frame) l'.each
 
-  long : (p : Progress) (cs : List Slave) (f : Exchanged) (us : List Turn) → Lists p cs f us → length (unders (seen lens f.back) us) ≡ length cs
-  long p cs f us t = as_many_under (known Body Asked Reply) (speech_at lens) acknowledged is_followed is_passed p.frames (seen lens f.sent) (seen lens f.back) cs (unders (seen lens f.back) us) t
-
   -- what came back brought each slave what its access asks for
   brings : (fs : List Exchanged) (missed : ℕ) (as' : List Leads) (p : Progress) (cs : List Slave) (f : Exchanged) (us : List Turn) → Known lens recover retry slowest first paces fs missed as' p cs → IsLedFrame lens (length fs) f.sent as' us →
       Returns (seen lens f.sent) (seen lens f.back) → AllAsk (seen lens f.sent) us → AllAnswer (seen lens f.back) cs us → AllBring (seen lens f.back) cs (unders (seen lens f.back) us)
   brings fs missed as' p cs f us k l r asks answers =
       all_bring lens (length fs) l.datagrams (seen lens f.sent) (seen lens f.back) (led_view seen_is lens recover retry (length fs) f l.datagrams l.frame) r cs as' us k.slaves l.each asks answers
 
-  -- how many have ended their first bring-up stays
-  opened_same : (p : Progress) (cs : List Slave) → (p.opened < length cs → FirstFrom p.opened cs) → opened_on p.opened cs ≡ p.opened
-  opened_same p cs ring = elim (cases_lt p.opened (length cs)) [
-    | inl less ↦ first_stays p.opened cs (ring less) less
-    | inr more ↦ over_stays p.opened cs more
-  ]
-
   pub toured : (fs : List Exchanged) (again : Option (List ℕ)) (missed : ℕ) (as' : List Leads) (p : Progress) (cs : List Slave) → (t : IsToured lens recover retry slowest first paces fs again missed as' p cs) → AllReturned lens fs → AskIn t → AnswerIn t → WaitIn t → Tours fs again missed as' p cs
   toured fs again missed as' p cs IsToured.start back asks answers waits = record { tallied = IsTallied.start; same = tt }
   toured gs again' missed' bs q ds (IsToured.lost fs again missed as' p cs f us after ps r l fate v) back asks answers waits =
       let h = toured fs again missed as' p cs r (front_returned lens fs f back) asks answers waits in
       let k = tallied seen_is lens recover retry slowest first paces begins fs missed as' p cs h.tallied in
-      let ring = (holds (known Body Asked Reply) (gains_lost Body Asked Reply) (speech_at lens) acknowledged is_followed is_passed recover slowest (first_clocked first paces) p cs k.run).ring in
-      let t = under_all fs missed as' p cs f us k l in
-      let visit = visit_is again (length cs) p.opened p.last cs ps h.same v.places in
       let gives = gives_up_at lens recover retry missed in
-      let vs = unders (seen lens f.back) us in
       record {
-        tallied = IsTallied.lost fs missed as' p cs f us after (last_lost (nat_lt p.opened (length cs)) gives p.last ps) h.tallied l fate (λ under. carries (length cs) p.opened p.last cs vs ps (long p cs f us t) under visit v.under);
-        same = again_on gives (length cs) p.opened p.last cs (behind_lost lens recover retry slowest gives p.frames f us cs) ps
-            (as_many_lost (known Body Asked Reply).before (gains_lost Body Asked Reply) (speech_at lens) acknowledged is_followed is_passed gives recover p.frames (seen lens f.sent) cs vs t)
-            (λ none. subst (λ b. (opened_on p.opened (behind_lost lens recover retry slowest b p.frames f us cs) ≡ p.opened) × (live_round (length cs) p.last (behind_lost lens recover retry slowest b p.frames f us cs) ≡ live_round (length cs) p.last cs)) (sym none) (
-              stays_opened (speech_at lens) acknowledged is_followed is_passed recover p.frames (seen lens f.sent) p.opened cs vs t (opened_same p cs ring),
-              same_round (speech_at lens) acknowledged is_followed is_passed recover p.frames (seen lens f.sent) (length cs) p.last cs vs t,
-            )) visit;
+        tallied = IsTallied.lost fs missed as' p cs f us after (last_lost (nat_lt p.opened (length cs)) gives p.last ps) h.tallied l fate (visit_carries (speech_at lens) acknowledged is_followed is_passed p cs (unders (seen lens f.back) us) (seen lens f.sent) again ps (under_all fs missed as' p cs f us k l) h.same v);
+        same = visit_again (speech_at lens) acknowledged is_followed is_passed p cs (unders (seen lens f.back) us) (seen lens f.sent) again ps (under_all fs missed as' p cs f us k l) h.same v recover slowest (first_clocked first paces) k.run gives;
       }
   toured gs again' missed' bs q ds (IsToured.opening fs again missed as' p cs f us ps r l fate under v) back asks answers waits =
       let h = toured fs again missed as' p cs r (front_returned lens fs f back) asks.1 answers.1 waits in
       let k = tallied seen_is lens recover retry slowest first paces begins fs missed as' p cs h.tallied in
-      let t = under_all fs missed as' p cs f us k l in
-      let visit = visit_is again (length cs) p.opened p.last cs ps h.same v.places in
       record {
-        tallied = IsTallied.opening fs missed as' p cs f us None h.tallied l fate (brings fs missed as' p cs f us k l (last_returned lens fs f back fate) asks.0 answers.0) under (carries (length cs) p.opened p.last cs (unders (seen lens f.back) us) ps (long p cs f us t) under visit v.under);
+        tallied = IsTallied.opening fs missed as' p cs f us None h.tallied l fate (brings fs missed as' p cs f us k l (last_returned lens fs f back fate) asks.0 answers.0) under (visit_carries (speech_at lens) acknowledged is_followed is_passed p cs (unders (seen lens f.back) us) (seen lens f.sent) again ps (under_all fs missed as' p cs f us k l) h.same v under);
         same = tt;
       }
   toured gs again' missed' bs q ds (IsToured.round fs again missed as' p cs f us ps r l fate over v) back asks answers waits =
       let h = toured fs again missed as' p cs r (front_returned lens fs f back) asks.1 answers.1 waits.1 in
       let k = tallied seen_is lens recover retry slowest first paces begins fs missed as' p cs h.tallied in
-      let visit = visit_is again (length cs) p.opened p.last cs ps h.same v.places in
       record {
-        tallied = IsTallied.round fs missed as' p cs f us ps h.tallied l fate (brings fs missed as' p cs f us k l (last_returned lens fs f back fate) asks.0 answers.0) over (rounds (length cs) p.opened p.last cs (unders (seen lens f.back) us) ps over visit v.under) waits.0;
+        tallied = IsTallied.round fs missed as' p cs f us ps h.tallied l fate (brings fs missed as' p cs f us k l (last_returned lens fs f back fate) asks.0 answers.0) over (visit_rounds (speech_at lens) acknowledged is_followed is_passed p cs (unders (seen lens f.back) us) (seen lens f.sent) again ps (under_all fs missed as' p cs f us k l) h.same v over) waits.0;
         same = tt;
       }
   toured gs again' missed' bs q ds (IsToured.enters fs again missed as' p cs f us ps r l fate over v nothing) back asks answers waits =
       let h = toured fs again missed as' p cs r (front_returned lens fs f back) asks.1 answers.1 waits in
       let k = tallied seen_is lens recover retry slowest first paces begins fs missed as' p cs h.tallied in
-      let visit = visit_is again (length cs) p.opened p.last cs ps h.same v.places in
       record {
-        tallied = IsTallied.enters fs missed as' p cs f us ps h.tallied l fate (brings fs missed as' p cs f us k l (last_returned lens fs f back fate) asks.0 answers.0) over (rounds (length cs) p.opened p.last cs (unders (seen lens f.back) us) ps over visit v.under) nothing;
+        tallied = IsTallied.enters fs missed as' p cs f us ps h.tallied l fate (brings fs missed as' p cs f us k l (last_returned lens fs f back fate) asks.0 answers.0) over (visit_rounds (speech_at lens) acknowledged is_followed is_passed p cs (unders (seen lens f.back) us) (seen lens f.sent) again ps (under_all fs missed as' p cs f us k l) h.same v over) nothing;
         same = tt;
       }

@@ -82,7 +82,7 @@ module _ {M Q R : Type 0} (x : Spot → Speech M Q R) (acknowledged : Q → Bool
   one_stand : (a : Clocked M Q R) (u : Under M Q R) → IsUnder x acknowledged more passed number sent a u → (lost_life x acknowledged more passed false recover number sent a u).stand ≡ a.life.stand
   one_stand a u t = by u.life.stand refl ∙ (subst (λ z. SameAccess a.life z) (sym t.life) (next_same (x a.spot) acknowledged more passed number a.life a.life.stand t.pick)).stand
     where
-      by : (s : Stand) → u.life.stand ≡ s → (life_lost (x a.spot) acknowledged more passed a.spot [] sent u.life s).stand ≡ u.life.stand
+      by : (s : Stand) → u.life.stand ≡ s → (life_lost (x a.spot) acknowledged more passed a.spot u.news sent u.life s).stand ≡ u.life.stand
       by (Stand.Opens o) e = refl
       by Stand.Open e = refl
       by Stand.Gone e = refl

@@ -27,7 +27,7 @@ module _ {M Q R : Type 0} (x : Spot → Speech M Q R) (acknowledged : Q → Bool
   -- an access that came back, done, with this
   abbrev goes : ℕ → Option Found → List (Clocked M Q R) → List (Clocked M Q R)
   goes number found [] = []
-  goes number found (c ∷ cs) = all_back x acknowledged more passed number [] (c ∷ []) (record { life = c.life; under = true; came = Some (true, found) } ∷ [])
+  goes number found (c ∷ cs) = all_back x acknowledged more passed number [] (c ∷ []) (record { life = c.life; under = true; came = Some (true, found); news = [] } ∷ [])
 
   -- a step comes behind frames 2, 5 and 8
   clocks : (clock_at 3 0 ≡ 3) × (clock_at 3 2 ≡ 1) × (clock_at 3 3 ≡ 3) × (clock_at 3 4 ≡ 2)
@@ -60,7 +60,7 @@ module _ {M Q R : Type 0} (x : Spot → Speech M Q R) (acknowledged : Q → Bool
   -- a lost frame, by which it is given up or isn't
   abbrev loses : Bool → ℕ → List (Clocked M Q R) → List (Clocked M Q R)
   loses gives number [] = []
-  loses gives number (c ∷ cs) = all_lost x acknowledged more passed gives 1 number [] (c ∷ []) (record { life = c.life; under = true; came = None } ∷ [])
+  loses gives number (c ∷ cs) = all_lost x acknowledged more passed gives 1 number [] (c ∷ []) (record { life = c.life; under = true; came = None; news = [] } ∷ [])
 
   -- it breaks what a reopening takes, or leaves the repair where it was
   lost : tally_of 3 1 0 None 4 1 0 (loses true 3 fourth) ≡ record { frames = 4; lost = 1; gains = 0; reopened = 0; repair = 15; still = 0 }
@@ -98,7 +98,7 @@ module _ {M Q R : Type 0} (x : Spot → Speech M Q R) (acknowledged : Q → Bool
 
   -- an access that came back
   abbrev shown : (c : Clocked M Q R) → Option Found → Under M Q R
-  shown c found = record { life = c.life; under = true; came = Some (true, found) }
+  shown c found = record { life = c.life; under = true; came = Some (true, found); news = [] }
 
   on : (n : ℕ) (c : Clocked M Q R) (o : Opening) (found : Option Found) → c.life.stand ≡ Stand.Opens o → (awaits_at o.again o.step ≡ true → c.stepped ≡ true → (true && is_shown (awaited o) found) ≡ true) → Run (at n) (c ∷ []) →
       Run (record { frames = suc n; lost = 0; still = 0; opened = opened_on 0 (all_back x acknowledged more passed n [] (c ∷ []) (shown c found ∷ [])); last = None; waits = new_waits ∷ [] }) (all_back x acknowledged more passed n [] (c ∷ []) (shown c found ∷ []))
@@ -153,7 +153,7 @@ module _ {M Q R : Type 0} (x : Spot → Speech M Q R) (acknowledged : Q → Bool
   read = record { gram = record { station = 101; ask = Ask.ReadMail; counter = 0; mail = None; acknowledge = false }; address = Address.Station 101; access = Access.Elsewhere; counter = 0; found = None }
 
   abbrev turn : Under M Q R
-  turn = record { life = life_next (x spot) acknowledged more passed 7 awake.life Stand.Open (record { begin = None; hold = false }); under = true; came = None }
+  turn = record { life = life_next (x spot) acknowledged more passed 7 awake.life Stand.Open (record { begin = None; hold = false }); under = true; came = None; news = [] }
 
   alone_under : (k : ℕ) → k < 1 → under_at (turn ∷ []) k ≡ is_in k (0 ∷ [])
   alone_under zero l = refl

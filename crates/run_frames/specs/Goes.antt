@@ -1,6 +1,7 @@
 -- ONE FRAME OF A RUN, for each slave of its ring.
 use Rattle.std.specs.Prelude.{◌≡◌, ◌≤◌, ℕ, suc, ◌%◌, ◌==◌, ◌&&◌, not, Bool, true, false, if◌then◌else◌, Option, Some, None, List, [], ◌∷◌, ⊤}
 use Rattle.exchange_model.specs.Exchange.{Speech}
+use Rattle.segment_model.specs.Record.{News}
 use Rattle.segment_model.specs.Slaves.{Datagram, Found}
 use Rattle.task_model.specs.Accounts.{Pick}
 use Rattle.life_model.specs.Lives.{Stand, Life, Spot, life_next, life_back, life_lost, gives_up}
@@ -24,11 +25,13 @@ stepped_behind pace number same stepped = if suc number % pace == 0 then true el
 abbrev pub clocked_behind : {M Q R : Type 0} → ℕ → Clocked M Q R → Life M Q R → Clocked M Q R
 clocked_behind number a l = record { spot = a.spot; life = l; pace = a.pace; stepped = stepped_behind a.pace number (is_same (way_of 1 1 a.life) (way_of 1 1 l)) a.stepped }
 
--- a slave before a frame: its life by some choice of the master's; whether the frame has a datagram for it, and what an access of its opening brought
+-- a slave before a frame: its life by some choice of the master's; whether the frame has a datagram for it, what an access of its opening brought, and what
+-- the frame tells of a mail that is passed on
 pub record Under (M Q R : Type 0) : Type 0 where
   pub life : Life M Q R
   pub under : Bool
   pub came : Option (Bool × Option Found)
+  pub news : List (News M)
 
 -- given up, or not
 abbrev pub given_if : {M Q R : Type 0} → Bool → ℕ → Spot → ℕ → Life M Q R → Life M Q R
@@ -80,7 +83,7 @@ module _ {M Q R : Type 0} (x : Spot → Speech M Q R) (acknowledged : Q → Bool
 
   -- BEHIND A LOST FRAME, by which the slaves that it carried are given up, or aren't
   abbrev pub lost_life : Bool → ℕ → ℕ → List (Datagram M) → Clocked M Q R → Under M Q R → Life M Q R
-  lost_life gives recover number sent a u = given_if (gives && u.under) recover a.spot number (life_lost (x a.spot) acknowledged more passed a.spot [] sent u.life u.life.stand)
+  lost_life gives recover number sent a u = given_if (gives && u.under) recover a.spot number (life_lost (x a.spot) acknowledged more passed a.spot u.news sent u.life u.life.stand)
 
   -- of all slaves
   abbrev pub all_lost : Bool → ℕ → ℕ → List (Datagram M) → List (Clocked M Q R) → List (Under M Q R) → List (Clocked M Q R)
@@ -89,7 +92,7 @@ module _ {M Q R : Type 0} (x : Spot → Speech M Q R) (acknowledged : Q → Bool
 
   -- BEHIND ONE THAT CAME BACK
   abbrev pub back_life : ℕ → List (Datagram M) → Clocked M Q R → Under M Q R → Life M Q R
-  back_life number back a u = life_back (x a.spot) acknowledged more passed number a.spot [] back u.came u.life u.life.stand
+  back_life number back a u = life_back (x a.spot) acknowledged more passed number a.spot u.news back u.came u.life u.life.stand
 
   -- of all slaves
   abbrev pub all_back : ℕ → List (Datagram M) → List (Clocked M Q R) → List (Under M Q R) → List (Clocked M Q R)

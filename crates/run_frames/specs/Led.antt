@@ -24,7 +24,7 @@ AreLed _ _ = ⊥
 
 -- a slave before a frame, with its share of that, which came back so
 abbrev pub under_of : List (Datagram Body) → Turn → Under Body Asked Reply
-under_of back u = record { life = u.lived.life; under = u.share.under; came = came_at u.share.under u.share.at back }
+under_of back u = record { life = u.lived.life; under = u.share.under; came = came_at u.share.under u.share.at back; news = [] }
 
 -- of all slaves
 abbrev pub unders : List (Datagram Body) → List Turn → List (Under Body Asked Reply)

@@ -33,9 +33,9 @@ given_came true recover spot frame l c = c
 
 behind_came : (lens : ℕ → Lens) (recover retry : ℕ) (gives : Bool) (made : ℕ) (f : Exchanged) (fate : Fate) (l : Lived Asked Reply) (share : Share) → LifeCame l.life → LifeCame (life_behind lens recover retry gives made f fate l share).life
 behind_came lens recover retry gives made f Pass l share c =
-    life_back_came (speech_at lens l.spot) acknowledged is_followed is_passed made l.spot (seen lens f.back) (came_at share.under share.at (seen lens f.back)) l.life l.life.stand c
+    life_back_came (speech_at lens l.spot) acknowledged is_followed is_passed made l.spot [] (seen lens f.back) (came_at share.under share.at (seen lens f.back)) l.life l.life.stand c
 behind_came lens recover retry gives made f (Lost after) l share c =
-    given_came (gives && share.under) recover l.spot made _ (lost_came (speech_at lens l.spot) acknowledged is_followed is_passed l.spot (seen lens f.sent) l.life l.life.stand c)
+    given_came (gives && share.under) recover l.spot made _ (lost_came (speech_at lens l.spot) acknowledged is_followed is_passed l.spot [] (seen lens f.sent) l.life l.life.stand c)
 
 turns_came : (lens : ℕ → Lens) (recover retry : ℕ) (gives : Bool) (made : ℕ) (f : Exchanged) (ds : List Raw.Datagram) (as' : List Leads) (us : List Turn) → AllTurn lens made ds as' us → EachCame as' → EachCame (map (led_behind lens recover retry gives made f) us)
 turns_came lens recover retry gives made f ds [] [] t e = tt

@@ -1,12 +1,12 @@
 -- A slave with nothing to repair, where something was gained just now.
-use Rattle.std.proofs.Common.{◌≡◌, ℕ, Bool, true, false, Option, Some, None, List, length, refl, sym, ap, ◌∙◌, subst, arith, if◌then◌else◌}
+use Rattle.std.proofs.Common.{◌≡◌, ℕ, Bool, true, false, Option, Some, None, List, length, refl, sym, ap, ◌∙◌, subst, arith, if◌then◌else◌, inl}
 use Rattle.eager_slaves.specs.Eager.{Remembered}
 use Rattle.eager_slaves.specs.Standing.{Steps, Standing}
 use Rattle.exchange_model.specs.Exchange.{Exchange, Speech}
 use Rattle.frame_view.specs.View.{Lens}
 use Rattle.idle_slaves.specs.Going.{IsCome}
 use Rattle.idle_slaves.specs.Links.{HasLink}
-use Rattle.idle_slaves.specs.Visited.{IsFor}
+use Rattle.idle_slaves.specs.Visited.{IsFor, is_boxed}
 use Rattle.idle_slaves.specs.Waiting.{Wanted}
 use Rattle.idle_slaves.proofs.Links.{era_link}
 use Rattle.life_measure.specs.Repairs.{way_of, stand_way, half_way}
@@ -82,12 +82,12 @@ module _ (plan : Scenario) (fs : List Exchanged) (place : ℕ) (s : SlaveSpec) (
         let era = o.lives.lives.epoch in
         era_comes ex w.states w.processor (table_of w) (spot_of place s) l.era era.opened (length (all_seen lens fs)) (all_seen lens fs) era.server era.registers slave era.is duty phase hand stage
 
-  module _ (opens : a.lived.life.stand ≡ Stand.Open → IsOpenAt plan fs place s a n) (x : Speech Body Asked Reply) (g : Asked → Bool) (m : Remembered) (next : Option Plan.Service) (way : way_of 1 1 a.lived.life ≡ None) (hand : HandAt a.lived.life a.lived.life.stand) where
+  module _ (opens : a.lived.life.stand ≡ Stand.Open → IsOpenAt plan fs place s a n) (x : Speech Body Asked Reply) (g : Asked → Bool) (m : Remembered) (next : Option Plan.Service) (way : way_of 1 1 a.lived.life ≡ None) (hand : HandAt a.lived.life a.lived.life.stand) (unpassed : a.lived.life.era.passing ≡ None) where
     abbrev Stands : Type 0
     Stands = Standing (serving ex) table x g l slave m next new_waits
 
     -- its link waits
-    fresh : a.lived.life.stand ≡ Stand.Open → a.lived.life.era.side.halves.inn.state ≡ InState.Clear → (q : Wanted) → IsFor q a.lived.life.era.account.hand → Stands
+    fresh : a.lived.life.stand ≡ Stand.Open → a.lived.life.era.side.halves.inn.state ≡ InState.Clear → (q : Wanted) → IsFor q a.lived.life.era.account.hand a.lived.life.era.passing → Stands
     fresh stands clear q k =
         let h = link_at (opens stands) in
         Standing.fresh (record {
@@ -102,7 +102,7 @@ module _ (plan : Scenario) (fs : List Exchanged) (place : ℕ) (s : SlaveSpec) (
 
     -- or its state service goes on
     by_stage : a.lived.life.stand ≡ Stand.Open → a.lived.life.era.side.halves.inn.state ≡ InState.Clear → (duty : Duty) → a.lived.life.era.account.hand ≡ Some duty → (stage : Stage) → duty.stage ≡ stage → duty_reopens a.lived.life.era.account.hand ≡ 0 → Stands
-    by_stage stands clear duty is Stage.Drains e none = fresh stands clear Wanted.Drains (duty, is, e)
+    by_stage stands clear duty is Stage.Drains e none = fresh stands clear Wanted.Drains (inl (duty, is, e))
     by_stage stands clear duty is (Stage.Goes phase) e none =
         Standing.goes (record {
           stands = stands;
@@ -121,7 +121,7 @@ module _ (plan : Scenario) (fs : List Exchanged) (place : ℕ) (s : SlaveSpec) (
         by false e = refl
 
     by_hand : a.lived.life.stand ≡ Stand.Open → a.lived.life.era.side.halves.inn.state ≡ InState.Clear → (h : Option Duty) → a.lived.life.era.account.hand ≡ h → duty_reopens a.lived.life.era.account.hand ≡ 0 → Stands
-    by_hand stands clear None e none = fresh stands clear Wanted.Mails e
+    by_hand stands clear None e none = fresh stands clear Wanted.Mails (e, ap is_boxed unpassed)
     by_hand stands clear (Some duty) e none = by_stage stands clear duty e duty.stage refl none
 
     by_stand : (z : Stand) → a.lived.life.stand ≡ z → stand_way 1 1 a.lived.life.era.side.halves.inn.state z ≡ None → HandAt a.lived.life z → Stands

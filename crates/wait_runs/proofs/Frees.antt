@@ -52,7 +52,7 @@ row_is is now r k e = subst (λ z. RowIs is z) e k
 pub answered_is : {M Q R : Type 0} (x : Speech M Q R) (now : Option (Row M Q R)) (r : Row M Q R) → IsAnswered x now → now ≡ Some r → (frame : ℕ) → answer_after frame r.answer (x.ends r.service (plain x.emission r.heard)) ≡ r.answer
 answered_is x now r k e = subst (λ z. IsAnswered x z) e k
 
-module _ (plan : Scenario) (fs : List Exchanged) (place : ℕ) (s : SlaveSpec) (a : Leads) (n : Node Serving) (o : IsOpenAt plan fs place s a n) (never : NeverWaits (asked (profile_of s) s.boot (lens_of plan.slaves)).exchange) where
+module _ (plan : Scenario) (fs : List Exchanged) (place : ℕ) (s : SlaveSpec) (a : Leads) (n : Node Serving) (o : IsOpenAt plan fs place s a n) (never : NeverWaits (asked (profile_of s) s.boot (lens_of plan.slaves)).exchange) (unpassed : a.lived.life.era.passing ≡ None) where
   abbrev lens : ℕ → Lens
   lens = lens_of plan.slaves
 
@@ -88,6 +88,7 @@ module _ (plan : Scenario) (fs : List Exchanged) (place : ℕ) (s : SlaveSpec) (
         free = free_alike is_service x ex.speech o.alike l.era.side l.era.side.now o.row ∙ f.free;
         done = ap (λ (g : Asked → Bool). is_acknowledged g l.era.side l.era.side.now) (sym o.last) ∙ f.done;
         hand = k.hand;
+        passing = unpassed;
       }
 
   -- it rests

@@ -67,7 +67,7 @@ module _ (plan : Scenario) (fs : List Exchanged) (place : ℕ) (s : SlaveSpec) (
   pub answered_at : NowAnswered (speech_at (lens_of plan.slaves) a.lived.spot) a.lived.life.era.side
   answered_at = answered_alike is_service ex.speech x (alike_back is_service x ex.speech o.alike) a.lived.life.era.side o.row (λ r e. answered_is ex.speech a.lived.life.era.side.now r o.lives.lives.answered e)
 
-  module _ (number : ℕ) (ds : List Raw.Datagram) (u : Turn) (turn : IsTurn (lens_of plan.slaves) number ds a u) (stands : a.lived.life.stand ≡ Stand.Open) (unpassed : a.lived.life.era.passing ≡ None) where
+  module _ (number : ℕ) (ds : List Raw.Datagram) (u : Turn) (turn : IsTurn (lens_of plan.slaves) number ds a u) (stands : a.lived.life.stand ≡ Stand.Open) where
     abbrev e : Era Body Asked Reply
     e = a.lived.life.era
 
@@ -102,7 +102,7 @@ module _ (plan : Scenario) (fs : List Exchanged) (place : ℕ) (s : SlaveSpec) (
     came : Came x acknowledged is_service is_followed is_passed number a.lived.life.era turn.next.pick
     came w is = (wish_is w (sym turn.begun ∙ is), began w is)
 
-    module _ (back : List (Datagram Body)) (came_of : Option (Bool × Option Found)) (rule : IsFree (speech_at (lens_of plan.slaves) a.lived.spot) acknowledged a.lived.life.era.side → a.lived.life.era.account.hand ≡ None → turn.next.pick.begin ≡ None → slice_get a.script a.number ≡ None) where
+    module _ (back : List (Datagram Body)) (came_of : Option (Bool × Option Found)) (rule : IsFree (speech_at (lens_of plan.slaves) a.lived.spot) acknowledged a.lived.life.era.side → a.lived.life.era.account.hand ≡ None → a.lived.life.era.passing ≡ None → turn.next.pick.begin ≡ None → slice_get a.script a.number ≡ None) where
       abbrev mine : List (Datagram Body)
       mine = own a.lived.spot.station back
 
@@ -111,20 +111,20 @@ module _ (plan : Scenario) (fs : List Exchanged) (place : ℕ) (s : SlaveSpec) (
 
       -- where a state service might begin behind the visit, by the test that says which services end with an acknowledgement
       abbrev Ends : (Asked → Bool) → Type 0
-      Ends g = (IsFree x g e.side → e.account.hand ≡ None → pick.begin ≡ None → Left) → Came x g is_service is_followed is_passed number e pick →
-          (next g).account.hand ≡ None → HeldStill a.lived.spot.station mine (next g).side (behind (next g)) → IsFree x g (behind (next g)) → Left
+      Ends g = (IsFree x g e.side → e.account.hand ≡ None → e.passing ≡ None → pick.begin ≡ None → Left) → Came x g is_service is_followed is_passed number e pick →
+          (next g).account.hand ≡ None → (next g).passing ≡ None → HeldStill a.lived.spot.station mine (next g).side (behind (next g)) → IsFree x g (behind (next g)) → Left
 
       all_ends : Ends acknowledged
       all_ends =
           let w = asked (profile_of s) s.boot lens in
           let era = o.lives.lives.epoch in
           subst Ends o.last
-          (λ r t hand held free. ends ex w.states w.processor (table_of w) (spot_of place s) e era.opened (length (all_seen lens fs)) (all_seen lens fs) era.server era.registers (slave_at lens s n) o.lawful o.stated era.is is_service x o.alike o.row answered_at unpassed
-          is_followed is_passed number pick a.lived.spot.station mine Left r t hand held free)
+          (λ r t hand none held free. ends ex w.states w.processor (table_of w) (spot_of place s) e era.opened (length (all_seen lens fs)) (all_seen lens fs) era.server era.registers (slave_at lens s n) o.lawful o.stated era.is is_service x o.alike o.row answered_at
+          is_followed is_passed number pick a.lived.spot.station mine Left r t hand none held free)
 
       pub ends_at : EndsHeld (speech_at (lens_of plan.slaves) a.lived.spot) acknowledged (slice_get a.script a.number ≡ None) a.lived.spot.station back u.lived.life
           (life_back (speech_at (lens_of plan.slaves) a.lived.spot) acknowledged is_followed is_passed number a.lived.spot [] back came_of u.lived.life Stand.Open)
-      ends_at hand held free =
+      ends_at hand none held free =
           let side = side_is x acknowledged is_followed is_passed number a.lived.spot [] back came_of u.lived.life in
-          let all = subst (λ (z : Era Body Asked Reply). z.account.hand ≡ None → HeldStill a.lived.spot.station mine z.side (behind z) → IsFree x acknowledged (behind z) → Left) (sym era_is) (λ h k f. all_ends rule came h k f) in
-          all hand (subst (λ d. HeldStill a.lived.spot.station mine u.lived.life.era.side d) side held) (subst (λ d. IsFree x acknowledged d) side free)
+          let all = subst (λ (z : Era Body Asked Reply). z.account.hand ≡ None → z.passing ≡ None → HeldStill a.lived.spot.station mine z.side (behind z) → IsFree x acknowledged (behind z) → Left) (sym era_is) (λ h p k f. all_ends rule came h p k f) in
+          all hand none (subst (λ d. HeldStill a.lived.spot.station mine u.lived.life.era.side d) side held) (subst (λ d. IsFree x acknowledged d) side free)

@@ -76,7 +76,7 @@ module _ (x : Spot → Speech Body Asked Reply) (number : ℕ) (sent back : List
   grows : (c : Slave) (v : Under Body Asked Reply) → IsUnder x acknowledged is_followed is_passed number sent c v → gains c.life ≤ gains (behind c v)
   grows c v i =
       let same = next_same (x c.spot) acknowledged is_followed is_passed number c.life c.life.stand i.pick in
-      let now = back_grows (x c.spot) acknowledged is_followed is_passed number c.spot [] back v.came v.life v.life.stand in
+      let now = back_grows (x c.spot) acknowledged is_followed is_passed number c.spot v.news back v.came v.life v.life.stand in
       omega (arith, same, ap gains i.life, now)
 
   all_grow : (cs : List Slave) (vs : List (Under Body Asked Reply)) → Lists cs vs → gains_all cs ≤ gains_all (all_back x acknowledged is_followed is_passed number back cs vs)
@@ -122,24 +122,24 @@ module _ (plan : Scenario) where
 
   -- ---- where something was gained just now
   pub all_begin : (fs : List Exchanged) (place : ℕ) (sent : List (Datagram Body)) (ss : List SlaveSpec) (as' : List Leads) (cs : List Slave) (us : List Turn) (ns : List (Node Serving)) (ms : List Remembered) → AllOpenAt plan fs place ss as' ns → AreLed as' cs →
-      AllEager (lens_of plan.slaves) sent ms as' us → AllRepaired cs → AllHand cs → AllStanding ss as' cs ns ms (all_anew cs)
-  all_begin fs place sent [] [] [] [] [] [] o l e r h = tt
-  all_begin fs place sent [] (a ∷ as') cs us ns ms o l e r h = absurd o
-  all_begin fs place sent [] [] (c ∷ cs) us ns ms o l e r h = absurd l
-  all_begin fs place sent [] [] [] (u ∷ us) ns [] o l e r h = absurd e
-  all_begin fs place sent [] [] [] us (n ∷ ns) ms o l e r h = absurd o
-  all_begin fs place sent [] [] [] us [] (m ∷ ms) o l e r h = absurd e
-  all_begin fs place sent (s ∷ ss) [] cs us ns ms o l e r h = absurd o
-  all_begin fs place sent (s ∷ ss) (a ∷ as') [] us ns ms o l e r h = absurd l
-  all_begin fs place sent (s ∷ ss) (a ∷ as') (c ∷ cs) us [] ms o l e r h = absurd o
-  all_begin fs place sent (s ∷ ss) (a ∷ as') (c ∷ cs) [] (n ∷ ns) [] o l e r h = absurd e
-  all_begin fs place sent (s ∷ ss) (a ∷ as') (c ∷ cs) [] (n ∷ ns) (m ∷ ms) o l e r h = absurd e
-  all_begin fs place sent (s ∷ ss) (a ∷ as') (c ∷ cs) (u ∷ us) (n ∷ ns) [] o l e r h = absurd e
-  all_begin fs place sent (s ∷ ss) (a ∷ as') (c ∷ cs) (u ∷ us) (n ∷ ns) (m ∷ ms) o l e r h = (
+      AllEager (lens_of plan.slaves) sent ms as' us → AllRepaired cs → AllHand cs → AllUnpassed as' → AllStanding ss as' cs ns ms (all_anew cs)
+  all_begin fs place sent [] [] [] [] [] [] o l e r h b = tt
+  all_begin fs place sent [] (a ∷ as') cs us ns ms o l e r h b = absurd o
+  all_begin fs place sent [] [] (c ∷ cs) us ns ms o l e r h b = absurd l
+  all_begin fs place sent [] [] [] (u ∷ us) ns [] o l e r h b = absurd e
+  all_begin fs place sent [] [] [] us (n ∷ ns) ms o l e r h b = absurd o
+  all_begin fs place sent [] [] [] us [] (m ∷ ms) o l e r h b = absurd e
+  all_begin fs place sent (s ∷ ss) [] cs us ns ms o l e r h b = absurd o
+  all_begin fs place sent (s ∷ ss) (a ∷ as') [] us ns ms o l e r h b = absurd l
+  all_begin fs place sent (s ∷ ss) (a ∷ as') (c ∷ cs) us [] ms o l e r h b = absurd o
+  all_begin fs place sent (s ∷ ss) (a ∷ as') (c ∷ cs) [] (n ∷ ns) [] o l e r h b = absurd e
+  all_begin fs place sent (s ∷ ss) (a ∷ as') (c ∷ cs) [] (n ∷ ns) (m ∷ ms) o l e r h b = absurd e
+  all_begin fs place sent (s ∷ ss) (a ∷ as') (c ∷ cs) (u ∷ us) (n ∷ ns) [] o l e r h b = absurd e
+  all_begin fs place sent (s ∷ ss) (a ∷ as') (c ∷ cs) (u ∷ us) (n ∷ ns) (m ∷ ms) o l e r h b = (
     subst (λ (y : Life Body Asked Reply). Standing (serving (asked (profile_of s) s.boot lens).exchange) (table_of (asked (profile_of s) s.boot lens) s.station) (speech_at lens c.spot) acknowledged y (slave_at lens s n) m (slice_get a.script a.number) new_waits) (sym l.1)
         (begins plan fs place s a n o.0.stands (speech_at lens c.spot) acknowledged m (slice_get a.script a.number)
-        (subst (λ (y : Life Body Asked Reply). way_of 1 1 y ≡ None) l.1 r.0) (subst (λ (y : Life Body Asked Reply). HandAt y y.stand) l.1 h.0)),
-    all_begin fs (suc place) sent ss as' cs us ns ms o.1 l.2 e.1 r.1 h.1,
+        (subst (λ (y : Life Body Asked Reply). way_of 1 1 y ≡ None) l.1 r.0) (subst (λ (y : Life Body Asked Reply). HandAt y y.stand) l.1 h.0) b.0),
+    all_begin fs (suc place) sent ss as' cs us ns ms o.1 l.2 e.1 r.1 h.1 b.1,
   )
 
   -- ---- a slave that stands has nothing to repair

@@ -1,12 +1,14 @@
 -- One slave of the run by a frame that came back and gained nothing.
-use Rattle.std.proofs.Common.{◌≡◌, ◌⊎◌, ◌≤◌, ℕ, suc, ◌%◌, ◌==◌, true, false, Option, Some, None, List, [], refl, sym, ap, ◌∙◌, subst, arith, if◌then◌else◌, inl, inr}
-use Rattle.std.specs.Prelude.{slice_get}
+use Rattle.std.proofs.Common.{◌≡◌, ◌⊎◌, ◌≤◌, ℕ, suc, ◌%◌, ◌==◌, Bool, true, false, is_some, Option, Some, None, List, [], refl, sym, ap, ◌∙◌, subst, arith, if◌then◌else◌, inl, inr}
+use Rattle.std.specs.Prelude.{◌&&◌, length, nat_lt, slice_get}
 use Rattle.datagrams.specs.Datagram as Raw
 use Rattle.eager_slaves.specs.Eager.{Remembered, IsClear, NoneLeft, MayBegin, IsAtEnd, IsEager, RemembersOn, GetsNone}
 use Rattle.eager_slaves.specs.Standing.{Unvisited, Visited, Standing, IsDone}
 use Rattle.eager_slaves.proofs.Choices.{stand_next}
 use Rattle.eager_slaves.specs.Frames.{One, FrameAs}
 use Rattle.eager_slaves.proofs.Sent.{one_sent, none_sent}
+use Rattle.eager_slaves.proofs.Facts.{unvisited_waits}
+use Rattle.eager_slaves.proofs.Goings.{going_silent, going_stands}
 use Rattle.eager_slaves.proofs.Slaves as Slaves
 use Rattle.exchange_model.specs.Exchange.{Exchange, Speech}
 use Rattle.exchange_model.specs.Rows.{begun}
@@ -18,8 +20,9 @@ use Rattle.held_visits.proofs.Held.{unpaused as held_unpaused}
 use Rattle.idle_slaves.specs.Going.{Going}
 use Rattle.idle_slaves.specs.Links.{HasLink}
 use Rattle.idle_slaves.specs.Visited.{LifeSpent, Waiting, IsUnpaused}
+use Rattle.idle_slaves.proofs.Returning.{passing_is}
 use Rattle.life_measure.specs.Gains.{gains}
-use Rattle.life_model.specs.Lives.{Life, Spot, Stand, life_next, life_back, era_next, granted}
+use Rattle.life_model.specs.Lives.{Life, Spot, Stand, life_next, life_back, era_next, granted, passes, passing_begins}
 use Rattle.life_model.specs.Own.{own}
 use Rattle.life_runs.specs.First.{lens_of}
 use Rattle.life_runs.specs.Led.{Exchanged, Leads, Turn, IsTurn, Comes, Took, speech_at, is_passed}
@@ -37,6 +40,7 @@ use Rattle.run_frames.specs.Goes.{Under, back_life}
 use Rattle.run_frames.specs.Led.{under_of}
 use Rattle.run_frames.specs.Orders.{is_live}
 use Rattle.run_frames.specs.Waits.{Waits, waits_on}
+use Rattle.segment_model.specs.Ends.{Passing}
 use Rattle.segment_model.specs.Seats.{Side, side_next}
 use Rattle.segment_model.specs.Slaves.{Datagram, Slave, grams, serving, slave_after, slave_steps, frame_after}
 use Rattle.segment_plan.specs.declared.plan.Scenario.{Scenario}
@@ -52,12 +56,20 @@ use Rattle.state_exchange.specs.Families.{InState}
 use Rattle.state_exchange.specs.Stated.{Service}
 use Rattle.state_model.specs.States.{Table}
 use Rattle.states_come.specs.Steps.{StepsAlone}
-use Rattle.task_model.specs.Accounts.{Pick, account_begins, starts, mails_choice}
+use Rattle.task_model.specs.Accounts.{Account, Pick, account_begins, starts, mails_choice}
 use Rattle.wait_runs.specs.Eager.{IsResting}
 use Rattle.wait_runs.proofs.Begins.{link_at, alone_at}
 use Rattle.wait_runs.proofs.Frees.{frees, rests}
 use Rattle.wait_runs.proofs.Held.{answered_at, states_at, ends_at}
 use Rattle.wait_runs.proofs.Took.{first_mail, state_took, mails_took, begun_row, mails_is}
+
+-- a service of the slave's passes no mail on
+plain_service : (q : Asked) → is_service q ≡ true → is_passed q ≡ false
+plain_service (Asked.sdo q) e = refl
+plain_service (Asked.file q) e = refl
+plain_service (Asked.drive q) e = refl
+plain_service (Asked.net q) e = refl
+plain_service (Asked.passed m) e = absurd (cc)
 
 -- a script at its end stays there
 script_end : (room : ℕ) (script : List Plan.Service) (n n' : ℕ) (begun : Option (Service Asked)) → Comes room script n begun n' → slice_get script n ≡ None → slice_get script n' ≡ None
@@ -150,12 +162,46 @@ module _ (plan : Scenario) (fs : List Exchanged) (place number : ℕ) (sent back
     z : IsMet lens sent back number c.pace s n k
     z = met stands_a
 
-    abbrev frame : FrameAs ex (asked (profile_of s) s.boot lens).processor table x acknowledged is_followed is_passed number sent back c v slave slave'
+    -- no mail is passed on
+    unpassed_c : c.life.era.passing ≡ None
+    unpassed_c = ap (λ (l : Life Body Asked Reply). l.era.passing) life ∙ unpassed
+
+    wish : (granted c.life.era.passing turn.next.pick).begin ≡ u.begun
+    wish = ap (λ z. (granted z turn.next.pick).begin) unpassed_c ∙ turn.begun
+
+    at_open : u.lived.life ≡ life_next (x c.spot) acknowledged is_followed is_passed number c.life Stand.Open turn.next.pick
+    at_open = life_is ∙ ap (λ y. life_next (x c.spot) acknowledged is_followed is_passed number c.life y turn.next.pick) stands
+
+    none_passes : (b : Option (Service Asked)) → u.begun ≡ b → passing_begins (x c.spot) acknowledged is_followed is_passed None c.life.era.account u.lived.life.era.account b ≡ None
+    none_passes None is = refl
+    none_passes (Some (Service.State target)) is = refl
+    none_passes (Some (Service.Mails q)) is =
+        ap (λ (z : Bool). if z && nat_lt (length c.life.era.account.started) (length u.lived.life.era.account.started) then Some Passing.Waiting else None)
+        (plain_service q (mails_is (lens a.lived.spot.station).out a.script a.number q u.begun u.number turn.comes is))
+
+    unpassed_u : u.lived.life.era.passing ≡ None
+    unpassed_u =
+        ap (λ (l : Life Body Asked Reply). l.era.passing) at_open
+        ∙ ap (λ (n : Account Asked Reply). passing_begins (x c.spot) acknowledged is_followed is_passed c.life.era.passing c.life.era.account n (granted c.life.era.passing turn.next.pick).begin) (sym (ap (λ (l : Life Body Asked Reply). l.era.account) at_open))
+        ∙ ap (λ b. passing_begins (x c.spot) acknowledged is_followed is_passed c.life.era.passing c.life.era.account u.lived.life.era.account b) wish
+        ∙ ap (λ p. passing_begins (x c.spot) acknowledged is_followed is_passed p c.life.era.account u.lived.life.era.account u.begun) unpassed_c ∙ none_passes u.begun refl
+
+    open_u : u.lived.life.stand ≡ Stand.Open
+    open_u = ap (λ (l : Life Body Asked Reply). l.stand) at_open ∙ stands
+
+    still : behind.era.passing ≡ u.lived.life.era.passing
+    still =
+        ap (λ y. (life_back (x c.spot) acknowledged is_followed is_passed number c.spot [] back v.came u.lived.life y).era.passing) open_u
+        ∙ passing_is (x c.spot) acknowledged is_followed is_passed number c.spot [] back v.came u.lived.life
+        ∙ ap (λ p. passes (x c.spot) acknowledged is_followed is_passed p []) unpassed_u ∙ sym unpassed_u
+
+    abbrev frame : FrameAs ex (asked (profile_of s) s.boot lens).processor table x acknowledged is_followed is_passed number sent back c v t slave slave'
     frame = record {
       pick = turn.next.pick;
       life = life_is;
-      unpassed = ap (λ (l : Life Body Asked Reply). l.era.passing) life ∙ unpassed;
       same = same;
+      still = still;
+      tells = λ open_now some d one. absurd (let no : false ≡ true = sym (ap is_some unpassed_u) ∙ some in cc);
       one = one;
       none = none;
       back_is = subst (λ (h : ℕ). own h back ≡ frame_after h slave (own h sent)) (sym station_is) z.back_is;
@@ -169,20 +215,10 @@ module _ (plan : Scenario) (fs : List Exchanged) (place number : ℕ) (sent back
 
     frees_c : LifeSpent (serving ex) c.life slave.node → NoneLeft (x c.spot) c.life → MayBegin (x c.spot) c.life
     frees_c = subst (λ (l : Life Body Asked Reply). LifeSpent (serving ex) l slave.node → NoneLeft (x c.spot) l → MayBegin (x c.spot) l) (sym life)
-        (subst (λ (y : Spot). LifeSpent (serving ex) a.lived.life slave.node → NoneLeft (x y) a.lived.life → MayBegin (x y) a.lived.life) (sym spot) (frees plan fs place s a n o never))
-
-    -- where nothing is in hand nothing began
-    unpassed_c : c.life.era.passing ≡ None
-    unpassed_c = ap (λ (l : Life Body Asked Reply). l.era.passing) life ∙ unpassed
-
-    wish : (granted c.life.era.passing turn.next.pick).begin ≡ u.begun
-    wish = ap (λ z. (granted z turn.next.pick).begin) unpassed_c ∙ turn.begun
+        (subst (λ (y : Spot). LifeSpent (serving ex) a.lived.life slave.node → NoneLeft (x y) a.lived.life → MayBegin (x y) a.lived.life) (sym spot) (frees plan fs place s a n o never unpassed))
 
     abbrev pick : Pick Asked
     pick = granted c.life.era.passing turn.next.pick
-
-    at_open : u.lived.life ≡ life_next (x c.spot) acknowledged is_followed is_passed number c.life Stand.Open turn.next.pick
-    at_open = life_is ∙ ap (λ y. life_next (x c.spot) acknowledged is_followed is_passed number c.life y turn.next.pick) stands
 
     took : (w : Service Asked) → u.begun ≡ Some w → (account_begins (x c.spot) acknowledged number c.life.era.side c.life.era.account c.life.era.account.hand (Some w)).started ≡ starts c.life.era.account w number
     took w e =
@@ -215,7 +251,7 @@ module _ (plan : Scenario) (fs : List Exchanged) (place number : ℕ) (sent back
 
     rests_c : IsDone (serving ex) (x c.spot) c.life slave m (slice_get a.script a.number) → Rest
     rests_c d =
-        inr (rests plan fs place s a n o never m stands_a
+        inr (rests plan fs place s a n o never unpassed m stands_a
         (subst (λ (y : Spot). IsDone (serving ex) (x y) a.lived.life slave m (slice_get a.script a.number)) spot (subst (λ (l : Life Body Asked Reply). IsDone (serving ex) (x c.spot) l slave m (slice_get a.script a.number)) life d)))
 
     -- what was heard is the answer; and a state service that began was left of the script
@@ -226,7 +262,7 @@ module _ (plan : Scenario) (fs : List Exchanged) (place number : ℕ) (sent back
     States y l = (target : ℕ) → u.begun ≡ Some (Service.State target) → ((era_next (x y) acknowledged is_followed is_passed number l.era turn.next.pick).account.started ≡ starts l.era.account (Service.State target) number) × (slice_get a.script a.number ≡ None → ⊥)
 
     states_c : States c.spot c.life
-    states_c = subst (λ l. States c.spot l) (sym life) (subst (λ y. States y a.lived.life) (sym spot) (λ target is. states_at plan fs place s a n o number ds u turn stands_a unpassed target is))
+    states_c = subst (λ l. States c.spot l) (sym life) (subst (λ y. States y a.lived.life) (sym spot) (λ target is. states_at plan fs place s a n o number ds u turn stands_a target is))
 
     -- at a write in vain
     ends_c : u.share.under ≡ true → IsClear c.life → EndsHeld (x c.spot) acknowledged (slice_get a.script a.number ≡ None) c.spot.station back u.lived.life behind
@@ -235,29 +271,29 @@ module _ (plan : Scenario) (fs : List Exchanged) (place number : ℕ) (sent back
         let open_now : u.lived.life.stand ≡ Stand.Open = ap (λ (l : Life Body Asked Reply). l.stand) life_is ∙ stand_next (x c.spot) acknowledged is_followed is_passed number c.life turn.next.pick ∙ stands in
         subst (λ z. EndsHeld (x c.spot) acknowledged (slice_get a.script a.number ≡ None) c.spot.station back u.lived.life (life_back (x c.spot) acknowledged is_followed is_passed number c.spot [] back v.came u.lived.life z)) (sym open_now)
         (subst (λ (y : Spot). EndsHeld (x y) acknowledged (slice_get a.script a.number ≡ None) y.station back u.lived.life (life_back (x y) acknowledged is_followed is_passed number y [] back v.came u.lived.life Stand.Open)) (sym spot)
-        (ends_at plan fs place s a n o number ds u turn stands_a unpassed back v.came (λ free hand none. (eager.ends e clear_a (record { free = free.free; done = free.done; hand = hand }) (sym turn.begun ∙ none)).script)))
+        (ends_at plan fs place s a n o number ds u turn stands_a back v.came (λ free hand passing none. (eager.ends e clear_a (record { free = free.free; done = free.done; hand = hand; passing = passing }) (sym turn.begun ∙ none)).script)))
 
     -- no mail is heard of it
     abbrev Quiet : Type 0
     Quiet = all_accepted c.spot.station u.lived.life.era.side.halves (grams (own c.spot.station back)) ≡ []
 
     waits_quiet : Waiting (serving ex) c.life slave.node m.memory t → IsUnpaused turn.next.pick m.memory t → Quiet
-    waits_quiet k pause = Slaves.waits_silent ex (asked (profile_of s) s.boot lens).processor table x acknowledged is_followed is_passed number sent back c v slave slave' frame m m' (slice_get a.script a.number) u.begun turn.begun eager_c remembers_c t link k pause
+    waits_quiet k pause = Slaves.waits_silent ex (asked (profile_of s) s.boot lens).processor table x acknowledged is_followed is_passed number sent back c v t slave slave' frame m m' (slice_get a.script a.number) u.begun turn.begun eager_c remembers_c link k pause
 
     visited_quiet : Visited (serving ex) (x c.spot) c.life slave.node m.memory t → HeldUp (x c.spot) acknowledged (slice_get a.script a.number ≡ None) c.life m.memory t → Quiet
-    visited_quiet k held = waits_quiet k.waits (held_unpaused (x c.spot) acknowledged is_followed is_passed number c.life m.memory t turn.next.pick (slice_get a.script a.number ≡ None) unpassed_c held (λ target e. states_c target (sym turn.begun ∙ e)))
+    visited_quiet k held = waits_quiet k.waits (held_unpaused (x c.spot) acknowledged is_followed is_passed number c.life m.memory t turn.next.pick (slice_get a.script a.number ≡ None) held (λ target e. states_c target (sym turn.begun ∙ e)))
 
     fresh_quiet : Unvisited (serving ex) c.life slave.node t → Quiet
-    fresh_quiet k = waits_quiet (Slaves.unvisited_waits (serving ex) c.life slave.node t m.memory k) (λ target e one. absurd (let none = k.tries in omega (arith, none, one)))
+    fresh_quiet k = waits_quiet (unvisited_waits (serving ex) c.life slave.node t m.memory k) (λ target e one. absurd (let none = k.tries in omega (arith, none, one)))
 
     going_quiet : Going table c.life slave.registers t → c.life.era.side.halves.inn.state ≡ HalfState.Clear → Quiet
-    going_quiet g clear = Slaves.going_silent ex (asked (profile_of s) s.boot lens).processor table x acknowledged is_followed is_passed number sent back c v slave slave' frame m m' (slice_get a.script a.number) u.begun turn.begun eager_c remembers_c t link g clear
+    going_quiet g clear = going_silent ex (asked (profile_of s) s.boot lens).processor table x acknowledged is_followed is_passed number sent back c v t slave slave' frame m (slice_get a.script a.number) u.begun eager_c g clear
 
     visited : GetsNone m m' → (k : Visited (serving ex) (x c.spot) c.life slave.node m.memory t) → (t.stepped ≡ true → slave.registers.control ≡ None) → (2 ≤ t.tries → IsAtEnd (slice_get a.script a.number) m) →
         HeldUp (x c.spot) acknowledged (slice_get a.script a.number ≡ None) c.life m.memory t → Behind × (WaitsYet ⊎ Rest)
     visited gets k control end held = (
-      Slaves.visited_stands ex (asked (profile_of s) s.boot lens).processor table x acknowledged is_followed is_passed number sent back c v slave slave' frame m m' (slice_get a.script a.number) u.begun turn.begun eager_c remembers_c t (slice_get u.script u.number) gets script link answered_c states_c ends_c frees_c settles k control end held,
-      elim (Slaves.visited_waits ex (asked (profile_of s) s.boot lens).processor table x acknowledged is_followed is_passed number sent back c v slave slave' frame m m' (slice_get a.script a.number) u.begun turn.begun eager_c remembers_c t (slice_get u.script u.number) gets script link answered_c states_c ends_c frees_c settles k control end held) [
+      Slaves.visited_stands ex (asked (profile_of s) s.boot lens).processor table x acknowledged is_followed is_passed number sent back c v t slave slave' frame m m' (slice_get a.script a.number) u.begun turn.begun eager_c remembers_c (slice_get u.script u.number) gets script link answered_c states_c ends_c frees_c settles k control end held,
+      elim (Slaves.visited_waits ex (asked (profile_of s) s.boot lens).processor table x acknowledged is_followed is_passed number sent back c v t slave slave' frame m m' (slice_get a.script a.number) u.begun turn.begun eager_c remembers_c (slice_get u.script u.number) gets script link answered_c states_c ends_c frees_c settles k control end held) [
         | inl waits ↦ inl waits
         | inr done ↦ inr (rests_c done)
       ],
@@ -265,12 +301,12 @@ module _ (plan : Scenario) (fs : List Exchanged) (place number : ℕ) (sent back
 
     fresh : GetsNone m m' → (k : Unvisited (serving ex) c.life slave.node t) → (t.stepped ≡ true → slave.registers.control ≡ None) → Behind × (WaitsYet ⊎ Rest)
     fresh gets k control =
-        let both = Slaves.fresh_stands ex (asked (profile_of s) s.boot lens).processor table x acknowledged is_followed is_passed number sent back c v slave slave' frame m m' (slice_get a.script a.number) u.begun turn.begun eager_c remembers_c t (slice_get u.script u.number) gets script link answered_c states_c ends_c frees_c settles k control in
+        let both = Slaves.fresh_stands ex (asked (profile_of s) s.boot lens).processor table x acknowledged is_followed is_passed number sent back c v t slave slave' frame m m' (slice_get a.script a.number) u.begun turn.begun eager_c remembers_c (slice_get u.script u.number) gets script link answered_c states_c ends_c frees_c settles k control in
         (both.0, inl both.1)
 
-    going : GetsNone m m' → (g : Going table c.life slave.registers t) → c.life.era.side.halves.inn.state ≡ HalfState.Clear → Behind × (WaitsYet ⊎ Rest)
-    going gets g clear =
-        let both = Slaves.going_stands ex (asked (profile_of s) s.boot lens).processor table x acknowledged is_followed is_passed number sent back c v slave slave' frame m m' (slice_get a.script a.number) u.begun turn.begun eager_c remembers_c t (slice_get u.script u.number) gets script link answered_c states_c ends_c frees_c settles g clear in
+    going : (g : Going table c.life slave.registers t) → c.life.era.side.halves.inn.state ≡ HalfState.Clear → Behind × (WaitsYet ⊎ Rest)
+    going g clear =
+        let both = going_stands ex (asked (profile_of s) s.boot lens).processor table x acknowledged is_followed is_passed number sent back c v t slave slave' frame m (slice_get a.script a.number) u.begun eager_c g clear m' (slice_get u.script u.number) in
         (both.0, inl both.1)
 
   -- ---- one that was given up for good
@@ -285,7 +321,7 @@ module _ (plan : Scenario) (fs : List Exchanged) (place number : ℕ) (sent back
   stands_on gets (Standing.gone e) = gone e
   stands_on gets (Standing.fresh k control) = fresh k.shows.stands gets k control
   stands_on gets (Standing.waits k control end held) = visited k.waits.shows.stands gets k control end held
-  stands_on gets (Standing.goes g clear) = going g.stands gets g clear
+  stands_on gets (Standing.goes g clear) = going g.stands g clear
 
   -- no mail is heard of an open one
   pub quiet_at : Before → u.lived.life.stand ≡ Stand.Open → all_accepted u.lived.spot.station u.lived.life.era.side.halves (grams (own u.lived.spot.station back)) ≡ []

@@ -177,7 +177,7 @@ module _ (seen_is : SeenIs) (plan : Scenario) (laws : Laws plan) (never : NeverA
         before : (still : ℕ) → p.still ≡ still → AllStanding plan plan.slaves as' cs (ring_after (ring_of plan) fs).nodes ms p.waits
         before zero is =
             subst (λ ws. AllStanding plan plan.slaves as' cs (ring_after (ring_of plan) fs).nodes ms ws) (sym (h.anew is))
-            (all_begin plan fs 0 (seen lens f.sent) plan.slaves as' cs us (ring_after (ring_of plan) fs).nodes ms opens h.led e.eager (all_repaired slowest p.opened p.frames p.last cs over same.0) h.hands)
+            (all_begin plan fs 0 (seen lens f.sent) plan.slaves as' cs us (ring_after (ring_of plan) fs).nodes ms opens h.led e.eager (all_repaired slowest p.opened p.frames p.last cs over same.0) h.hands e.unpassed)
         before (suc n) is = h.stands (omega (arith, is))
 
         silent : AllSilent (seen (lens_of plan.slaves) f.back) us

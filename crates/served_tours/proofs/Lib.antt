@@ -1,0 +1,3 @@
+mod Toured
+mod Slaves
+pub mod Runs

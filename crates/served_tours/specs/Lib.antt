@@ -1,0 +1,2 @@
+pub mod Toured
+pub mod Answered
