@@ -2,8 +2,6 @@
 use Rattle.std.proofs.Common.{◌≡◌, ℕ, zero, suc, Bool, true, false, Option, Some, None, List, [], ◌∷◌, ◌++◌, length, map, refl, sym, ap, ◌∙◌, subst}
 use Rattle.std.specs.Prelude.{filter}
 use Rattle.std.proofs.lemmas.List.Elements.{filter-append}
-use Rattle.master_node.proofs.Filtered.{filter_told}
-use Rattle.master_node.proofs.Listing.{told_same}
 use Rattle.master_node.specs.Begins.{begun_of}
 use Rattle.master_node.specs.Besides.{given_told}
 use Rattle.master_node.specs.Events.{ServedBegin, begun_told, oldest_in, served_tells}
@@ -34,17 +32,20 @@ use Rattle.segment_ring.specs.declared.wire.Fate.{Fate}
 use Rattle.segment_ring.specs.declared.wire.Fate.TheVariants as Fates
 use Rattle.served_runs.specs.Served.{Serves, ServedTurn, served_behind}
 
--- all of what came into hand gets known
+-- where all that is told of a slave gets known, all that is told of these does
+known_in : (tells : ℕ → List Event) → ((k : ℕ) → filter is_gateway (tells k) ≡ tells k) → (ps : List ℕ) → filter is_gateway (told_in tells ps) ≡ told_in tells ps
+known_in tells h [] = refl
+known_in tells h (p ∷ ps) = filter-append is_gateway (tells p) (told_in tells ps) ∙ (λ i. h p i ++ known_in tells h ps i)
+
+-- so it is with what came into hand
 begins_known : (place number forwards oldest : ℕ) (b : Option (Service Asked)) → filter is_gateway (begun_told place number forwards oldest b) ≡ begun_told place number forwards oldest b
 begins_known place number forwards oldest None = refl
 begins_known place number forwards oldest (Some s) = refl
 
 pub began_known : (ws : List Serves) (forwards : ℕ → ℕ) (begun : ℕ → Option (Service Asked)) (ps : List ℕ) → filter is_gateway (told_in (λ k. served_tells ws k (forwards k) (begun k)) ps) ≡ told_in (λ k. served_tells ws k (forwards k) (begun k)) ps
-began_known ws forwards begun ps =
-    filter_told (λ k. served_tells ws k (forwards k) (begun k)) ps
-    ∙ told_same (λ k. filter is_gateway (served_tells ws k (forwards k) (begun k))) (λ k. served_tells ws k (forwards k) (begun k)) ps (λ k there. begins_known k (number_at (map run_lead ws) k) (forwards k) (oldest_in ws k) (begun k))
+began_known ws forwards begun ps = known_in (λ k. served_tells ws k (forwards k) (begun k)) (λ k. begins_known k (number_at (map run_lead ws) k) (forwards k) (oldest_in ws k) (begun k)) ps
 
--- and each give-up
+-- and with each give-up
 given_known : (place : ℕ) (news : Option Turned) → filter is_gateway (given_told place news) ≡ given_told place news
 given_known place None = refl
 given_known place (Some Turned.GivenUp) = refl
@@ -58,10 +59,7 @@ told_known tells h (v ∷ vs) (w ∷ ws) zero = h v w
 told_known tells h (v ∷ vs) (w ∷ ws) (suc k) = told_known tells h vs ws k
 
 pub lost_known : (vs : List ServedTurn) (ws : List Serves) (ps : List ℕ) → filter is_gateway (told_in (λ k. lost_at vs ws k) ps) ≡ told_in (λ k. lost_at vs ws k) ps
-lost_known vs ws ps =
-    filter_told (λ k. lost_at vs ws k) ps
-    ∙ told_same (λ k. filter is_gateway (lost_at vs ws k)) (λ k. lost_at vs ws k) ps
-    (λ k there. told_known (λ v w. lost_told k v.turn.lived.life w.lead.lived.life) (λ v w. given_known k (turned v.turn.lived.life w.lead.lived.life)) vs ws k)
+lost_known vs ws ps = known_in (λ k. lost_at vs ws k) (λ k. told_known (λ v w. lost_told k v.turn.lived.life w.lead.lived.life) (λ v w. given_known k (turned v.turn.lived.life w.lead.lived.life)) vs ws k) ps
 
 -- BEHIND A FRAME, by its fate
 pub told_pass : (lens : ℕ → Lens) (f : Exchanged) (vs : List ServedTurn) (ws : List Serves) (ps : List ℕ) (back : List ℕ) (es : List Event) → f.fate ≡ Fates.Pass → f.back ≡ back → filter is_gateway es ≡ told_in (λ k. lives_told (seen lens back) vs ws k) ps →

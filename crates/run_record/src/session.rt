@@ -266,7 +266,7 @@ impl Session {
         })
     }
 
-    /// Whether nothing is left to do, for the master and at each live slave.
+    /// Whether nothing is left to do, for the master and at each live slave. Where something is, and a serving is led, some slave is live.
     pub fn settled(&self) -> bool
         ensures rest { OnTrue result (are_at_rest (session_rows self.now) ≡ true) }
         ensures left { OnTrue result (IsLeftBy self.now.master) }
@@ -357,7 +357,8 @@ impl Session {
         Ok(false)
     }
 
-    /// Sends one frame, behind which the processors of the slaves make their steps. The frame and what happened stand in the book.
+    /// Sends one frame, behind which the processors of the slaves make their steps. The frame and what happened stand in the book. Who asked gets to know of it just
+    /// what the lives of a serving tell: which mails came into hand, their replies, that no more follow, and which slaves were given up.
     pub fn step(&mut self, alloc: Global, book: &mut Book) -> Result<(), NoMemory>
         requires { self.old.ring.number < self.old.budget }
         ensures ok { OnOk result ((f : Recorded) × Steps self.old book.old self.new book.new f × ServingGoesOn self.old self.new f) }
