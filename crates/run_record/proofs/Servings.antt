@@ -109,84 +109,6 @@ behind_mails lens recover retry gives made f (v ∷ vs) = ap (λ z. turn_mails v
 one_more : (fs : List Exchanged) (f : Exchanged) → suc (length fs) ≡ length (fs ++ f ∷ [])
 one_more fs f = let k = length-append fs (f ∷ []) in omega (arith, k)
 
--- ONE FRAME MORE: what the master says of it before, and of its return or loss; and what is noted of it
-module _ (s s' : SessionState) (m : MasterNode) (f : Exchanged) (result : Next) (idle : (result ≡ nexts.Idle) ↔ (has_live s.master ≡ false))
-    (serves : result ≡ nexts.Frame → (lens : ℕ → Lens) (recover retry missed made : ℕ) (ws : List Serves) → suc made < 2 ^ 32 → ServedShows lens recover retry s.master missed made ws →
-    (vs : List ServedTurn) × IsServedFrame lens made f.sent ws vs × ServedUnder lens recover retry m f.sent missed made vs × ServedBegin (λ k. forwards_at s.master.posts.items k) ws vs m)
-    (served : (lens : ℕ → Lens) (recover retry missed made : ℕ) (vs : List ServedTurn) → ServedUnder lens recover retry m f.sent missed made vs → (f.fate ≡ Fates.Pass → Returns (seen lens f.sent) (seen lens f.back)) →
-    ServedShows lens recover retry s'.master (missed_behind lens recover retry f.fate missed) (suc made) (map (served_behind lens recover retry (gives_up_at lens recover retry missed) made f) vs))
-    (whole : listed s'.master.list.rows.items s'.master.list.count ≡ events_in m ++ events_in s'.master) (told : TellsBehind f.fate f.back m s'.master)
-    (fate : f.fate ≡ fate_at s.ring.lose s.ring.number) (back : f.back ≡ ring_returned node_passed s.ring f.sent) (few : suc s.ring.number < 2 ^ 32) (asked : s'.asked ≡ s.asked) (waiting : s'.waiting ≡ map waiting_of s'.master.posts.items)
-    (r r' : Log) (same : r.recover ≡ s.recover) (before : gaves_noted r.notes ≡ gaves_noted s.notes) (after : s'.notes ≡ r'.notes) (noted : GaveBy f.fate s.ring.number s'.master r r')
-    (plan : Scenario) (fs : List Exchanged) (recover : s.recover ≡ plan.recover) (number : length fs ≡ s.ring.number) (live : has_live s.master ≡ true) (old : Serving plan s fs) where
-  abbrev lens : ℕ → Lens
-  lens = lens_of plan.slaves
-
-  abbrev l : ServedLeading plan s.master fs
-  l = old.leading
-
-  abbrev gives : Bool
-  gives = gives_up_at lens plan.recover plan.retry l.missed
-
-  abbrev missed : ℕ
-  missed = missed_behind lens plan.recover plan.retry f.fate l.missed
-
-  made : (vs : List ServedTurn) × IsServedFrame lens (length fs) f.sent l.serves vs × ServedUnder lens plan.recover plan.retry m f.sent l.missed (length fs) vs × ServedBegin (λ k. forwards_at s.master.posts.items k) l.serves vs m
-  made = serves (next_frame s.master result idle live) lens plan.recover plan.retry l.missed (length fs) l.serves (subst (λ (n : ℕ). suc n < 2 ^ 32) (sym number) few) l.shows
-
-  abbrev behind : List Serves
-  behind = map (served_behind lens plan.recover plan.retry gives (length fs) f) made.0
-
-  returned : f.fate ≡ Fates.Pass → Returns (seen lens f.sent) (seen lens f.back)
-  returned = λ pass. subst (λ (octets : List ℕ). Returns (seen lens f.sent) (seen lens octets)) (sym back) (Returned.ring_back lens s.ring f.sent (chained made.1.datagrams) made.1.frame (sym fate ∙ pass))
-
-  shown : ServedShows lens plan.recover plan.retry s'.master missed (suc (length fs)) behind
-  shown = served lens plan.recover plan.retry l.missed (length fs) made.0 made.2 returned
-
-  lives : IsServedLed lens plan.recover plan.retry (all_serve plan.paces (first_leads plan)) (fs ++ f ∷ []) missed behind
-  lives = IsServedLed.on fs l.missed l.serves f made.0 l.lives made.1
-
-  -- what is noted of give-ups
-  gave : gaves_noted s'.notes ≡ map gave_of (map run_lead behind)
-  gave =
-      let here = subst (λ (n : ℕ). HasLives lens n s'.master (map lived_of (map run_lead behind))) (sym (same ∙ recover)) (has_lives lens plan.recover plan.retry missed (suc (length fs)) s'.master behind shown) in
-      let all = subst (λ (n : ℕ). AllCounted n (map run_lead behind)) (sym (same ∙ recover)) (served_counted plan (fs ++ f ∷ []) missed behind lives) in
-      let give = all_give lens plan.recover plan.retry gives (length fs) f made.1.datagrams l.serves made.0 made.1.each in
-      ap gaves_noted after
-      ∙ noted_now f.fate s.ring.number (map gave_of (map run_lead l.serves)) (map gave_of (map run_lead behind)) (subst (λ (n : ℕ). AllBoth (λ o k. GivesOne f.fate n o k) (map gave_of (map run_lead l.serves)) (map gave_of (map run_lead behind))) number give)
-      (gaves_noted r.notes) (gaves_noted r'.notes) (before ∙ old.gave) (noted_by f.fate s.ring.number s'.master r r' lens (map run_lead behind) noted here all)
-
-  goes : Serving plan s' (fs ++ f ∷ [])
-  goes = record {
-    leading = record { missed = missed; serves = behind; lives = lives; shows = subst (λ (n : ℕ). ServedShows lens plan.recover plan.retry s'.master missed n behind) (one_more fs f) shown };
-    gave = gave;
-    asked = behind_mails lens plan.recover plan.retry gives (length fs) f made.0 ∙ turned_mails lens (length fs) made.1.datagrams l.serves made.0 made.1.each ∙ old.asked ∙ sym asked;
-    waiting = shown_wait lens plan.recover plan.retry missed (suc (length fs)) s'.master behind shown ∙ sym waiting;
-  }
-
-  pub on_frame : ServesOn plan s s' fs f old
-  unfolding goes
-  on_frame = record {
-    turns = made.0;
-    frame = made.1;
-    new = goes;
-    missed = refl;
-    serves = refl;
-    tells = tells_frame lens plan.recover plan.retry l.missed (length fs) (λ k. forwards_at s.master.posts.items k) m s'.master f l.serves behind made.0 made.3 made.2 whole (told lens plan.recover plan.retry l.missed (length fs) made.0 f refl refl made.2 returned);
-  }
-
-pub serving_on : (t s s' : SessionState) (m : MasterNode) (f : SentFrame) (result : Next) → t ≡ s → (result ≡ nexts.Idle) ↔ (has_live t.master ≡ false) →
-    (result ≡ nexts.Frame → (lens : ℕ → Lens) (recover retry missed made : ℕ) (ws : List Serves) → suc made < 2 ^ 32 → ServedShows lens recover retry t.master missed made ws →
-    (vs : List ServedTurn) × IsServedFrame lens made f.sent ws vs × ServedUnder lens recover retry m f.sent missed made vs × ServedBegin (λ k. forwards_at t.master.posts.items k) ws vs m) →
-    ((lens : ℕ → Lens) (recover retry missed made : ℕ) (vs : List ServedTurn) → ServedUnder lens recover retry m f.sent missed made vs → (f.fate ≡ Fates.Pass → Returns (seen lens f.sent) (seen lens f.back)) →
-    ServedShows lens recover retry s'.master (missed_behind lens recover retry f.fate missed) (suc made) (map (served_behind lens recover retry (gives_up_at lens recover retry missed) made (exchanged f)) vs)) →
-    listed s'.master.list.rows.items s'.master.list.count ≡ events_in m ++ events_in s'.master → TellsBehind f.fate f.back m s'.master →
-    IsRecorded t.ring f → suc t.ring.number < 2 ^ 32 → s'.asked ≡ t.asked → s'.waiting ≡ map waiting_of s'.master.posts.items →
-    (r r' : Log) → r.recover ≡ t.recover → gaves_noted r.notes ≡ gaves_noted t.notes → s'.notes ≡ r'.notes → GaveBy f.fate t.ring.number s'.master r r' → ServingGoesOn s s' f
-serving_on t s s' m f result view idle serves served whole told recorded few asked waiting r r' same before after noted =
-    subst (λ (z : SessionState). ServingGoesOn z s' f) view
-    (λ plan fs recover number live old. on_frame t s' m (exchanged f) result idle serves served whole told recorded.fate recorded.back few asked waiting r r' same before after noted plan fs recover number live old)
-
 -- ONE MAIL MORE
 more_asked : (ks : List Keyed) (k : Keyed) → map as_asked (ks ++ k ∷ []) ≡ map as_asked ks ++ as_asked k ∷ []
 more_asked [] k = refl
@@ -276,3 +198,81 @@ pub serving_stays : (t s s' : SessionState) (slave key : ℕ) (mail : Mail) → 
     s'.asked ≡ s.asked → s'.waiting ≡ map waiting_of s'.master.posts.items → s'.notes ≡ t.notes → ServingAsks slave key mail s s' false
 serving_stays t s s' slave key mail view tour number stays asked waiting notes =
     subst (λ (z : SessionState). ServingAsks slave key mail z s' false) view (none_asked t s' slave key mail tour number stays (asked ∙ ap (λ (z : SessionState). z.asked) (sym view)) waiting notes)
+
+-- ONE FRAME MORE: what the master says of it before, and of its return or loss; and what is noted of it
+module _ (s s' : SessionState) (m : MasterNode) (f : Exchanged) (result : Next) (idle : (result ≡ nexts.Idle) ↔ (has_live s.master ≡ false))
+    (serves : result ≡ nexts.Frame → (lens : ℕ → Lens) (recover retry missed made : ℕ) (ws : List Serves) → suc made < 2 ^ 32 → ServedShows lens recover retry s.master missed made ws →
+    (vs : List ServedTurn) × IsServedFrame lens made f.sent ws vs × ServedUnder lens recover retry m f.sent missed made vs × ServedBegin (λ k. forwards_at s.master.posts.items k) ws vs m)
+    (served : (lens : ℕ → Lens) (recover retry missed made : ℕ) (vs : List ServedTurn) → ServedUnder lens recover retry m f.sent missed made vs → (f.fate ≡ Fates.Pass → Returns (seen lens f.sent) (seen lens f.back)) →
+    ServedShows lens recover retry s'.master (missed_behind lens recover retry f.fate missed) (suc made) (map (served_behind lens recover retry (gives_up_at lens recover retry missed) made f) vs))
+    (whole : listed s'.master.list.rows.items s'.master.list.count ≡ events_in m ++ events_in s'.master) (told : TellsBehind f.fate f.back m s'.master)
+    (fate : f.fate ≡ fate_at s.ring.lose s.ring.number) (back : f.back ≡ ring_returned node_passed s.ring f.sent) (few : suc s.ring.number < 2 ^ 32) (asked : s'.asked ≡ s.asked) (waiting : s'.waiting ≡ map waiting_of s'.master.posts.items)
+    (r r' : Log) (same : r.recover ≡ s.recover) (before : gaves_noted r.notes ≡ gaves_noted s.notes) (after : s'.notes ≡ r'.notes) (noted : GaveBy f.fate s.ring.number s'.master r r')
+    (plan : Scenario) (fs : List Exchanged) (recover : s.recover ≡ plan.recover) (number : length fs ≡ s.ring.number) (live : has_live s.master ≡ true) (old : Serving plan s fs) where
+  abbrev lens : ℕ → Lens
+  lens = lens_of plan.slaves
+
+  abbrev l : ServedLeading plan s.master fs
+  l = old.leading
+
+  abbrev gives : Bool
+  gives = gives_up_at lens plan.recover plan.retry l.missed
+
+  abbrev missed : ℕ
+  missed = missed_behind lens plan.recover plan.retry f.fate l.missed
+
+  made : (vs : List ServedTurn) × IsServedFrame lens (length fs) f.sent l.serves vs × ServedUnder lens plan.recover plan.retry m f.sent l.missed (length fs) vs × ServedBegin (λ k. forwards_at s.master.posts.items k) l.serves vs m
+  made = serves (next_frame s.master result idle live) lens plan.recover plan.retry l.missed (length fs) l.serves (subst (λ (n : ℕ). suc n < 2 ^ 32) (sym number) few) l.shows
+
+  abbrev behind : List Serves
+  behind = map (served_behind lens plan.recover plan.retry gives (length fs) f) made.0
+
+  returned : f.fate ≡ Fates.Pass → Returns (seen lens f.sent) (seen lens f.back)
+  returned = λ pass. subst (λ (octets : List ℕ). Returns (seen lens f.sent) (seen lens octets)) (sym back) (Returned.ring_back lens s.ring f.sent (chained made.1.datagrams) made.1.frame (sym fate ∙ pass))
+
+  shown : ServedShows lens plan.recover plan.retry s'.master missed (suc (length fs)) behind
+  shown = served lens plan.recover plan.retry l.missed (length fs) made.0 made.2 returned
+
+  lives : IsServedLed lens plan.recover plan.retry (all_serve plan.paces (first_leads plan)) (fs ++ f ∷ []) missed behind
+  lives = IsServedLed.on fs l.missed l.serves f made.0 l.lives made.1
+
+  -- what is noted of give-ups
+  gave : gaves_noted s'.notes ≡ map gave_of (map run_lead behind)
+  gave =
+      let here = subst (λ (n : ℕ). HasLives lens n s'.master (map lived_of (map run_lead behind))) (sym (same ∙ recover)) (has_lives lens plan.recover plan.retry missed (suc (length fs)) s'.master behind shown) in
+      let all = subst (λ (n : ℕ). AllCounted n (map run_lead behind)) (sym (same ∙ recover)) (served_counted plan (fs ++ f ∷ []) missed behind lives) in
+      let give = all_give lens plan.recover plan.retry gives (length fs) f made.1.datagrams l.serves made.0 made.1.each in
+      ap gaves_noted after
+      ∙ noted_now f.fate s.ring.number (map gave_of (map run_lead l.serves)) (map gave_of (map run_lead behind)) (subst (λ (n : ℕ). AllBoth (λ o k. GivesOne f.fate n o k) (map gave_of (map run_lead l.serves)) (map gave_of (map run_lead behind))) number give)
+      (gaves_noted r.notes) (gaves_noted r'.notes) (before ∙ old.gave) (noted_by f.fate s.ring.number s'.master r r' lens (map run_lead behind) noted here all)
+
+  goes : Serving plan s' (fs ++ f ∷ [])
+  goes = record {
+    leading = record { missed = missed; serves = behind; lives = lives; shows = subst (λ (n : ℕ). ServedShows lens plan.recover plan.retry s'.master missed n behind) (one_more fs f) shown };
+    gave = gave;
+    asked = behind_mails lens plan.recover plan.retry gives (length fs) f made.0 ∙ turned_mails lens (length fs) made.1.datagrams l.serves made.0 made.1.each ∙ old.asked ∙ sym asked;
+    waiting = shown_wait lens plan.recover plan.retry missed (suc (length fs)) s'.master behind shown ∙ sym waiting;
+  }
+
+  pub on_frame : ServesOn plan s s' fs f old
+  unfolding goes
+  on_frame = record {
+    turns = made.0;
+    frame = made.1;
+    new = goes;
+    missed = refl;
+    serves = refl;
+    tells = tells_frame lens plan.recover plan.retry l.missed (length fs) (λ k. forwards_at s.master.posts.items k) m s'.master f l.serves behind made.0 made.3 made.2 whole (told lens plan.recover plan.retry l.missed (length fs) made.0 f refl refl made.2 returned);
+  }
+
+pub serving_on : (t s s' : SessionState) (m : MasterNode) (f : SentFrame) (result : Next) → t ≡ s → (result ≡ nexts.Idle) ↔ (has_live t.master ≡ false) →
+    (result ≡ nexts.Frame → (lens : ℕ → Lens) (recover retry missed made : ℕ) (ws : List Serves) → suc made < 2 ^ 32 → ServedShows lens recover retry t.master missed made ws →
+    (vs : List ServedTurn) × IsServedFrame lens made f.sent ws vs × ServedUnder lens recover retry m f.sent missed made vs × ServedBegin (λ k. forwards_at t.master.posts.items k) ws vs m) →
+    ((lens : ℕ → Lens) (recover retry missed made : ℕ) (vs : List ServedTurn) → ServedUnder lens recover retry m f.sent missed made vs → (f.fate ≡ Fates.Pass → Returns (seen lens f.sent) (seen lens f.back)) →
+    ServedShows lens recover retry s'.master (missed_behind lens recover retry f.fate missed) (suc made) (map (served_behind lens recover retry (gives_up_at lens recover retry missed) made (exchanged f)) vs)) →
+    listed s'.master.list.rows.items s'.master.list.count ≡ events_in m ++ events_in s'.master → TellsBehind f.fate f.back m s'.master →
+    IsRecorded t.ring f → suc t.ring.number < 2 ^ 32 → s'.asked ≡ t.asked → s'.waiting ≡ map waiting_of s'.master.posts.items →
+    (r r' : Log) → r.recover ≡ t.recover → gaves_noted r.notes ≡ gaves_noted t.notes → s'.notes ≡ r'.notes → GaveBy f.fate t.ring.number s'.master r r' → ServingGoesOn s s' f
+serving_on t s s' m f result view idle serves served whole told recorded few asked waiting r r' same before after noted =
+    subst (λ (z : SessionState). ServingGoesOn z s' f) view
+    (λ plan fs recover number live old. on_frame t s' m (exchanged f) result idle serves served whole told recorded.fate recorded.back few asked waiting r r' same before after noted plan fs recover number live old)
