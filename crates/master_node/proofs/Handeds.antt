@@ -192,12 +192,12 @@ module _ (x : Speech Body Asked Reply) where
     lost_so l stand = life_lost x acknowledged is_followed is_passed spot (news_lost spot.station kept sent) sent l stand
 
     -- nothing of the slave changes but how far its mail has come
-    record LostOn (l m : Life Body Asked Reply) : Type 0 where
-      stand : m.stand ≡ l.stand
-      duty : m.era.account.hand ≡ l.era.account.hand
-      passing : is_some m.era.passing ≡ is_some l.era.passing
+    pub record LostOn (l m : Life Body Asked Reply) : Type 0 where
+      pub stand : m.stand ≡ l.stand
+      pub duty : m.era.account.hand ≡ l.era.account.hand
+      pub passing : is_some m.era.passing ≡ is_some l.era.passing
 
-    lost_on : (l : Life Body Asked Reply) (stand : Lives.Stand) → LostOn l (lost_so l stand)
+    pub lost_on : (l : Life Body Asked Reply) (stand : Lives.Stand) → LostOn l (lost_so l stand)
     lost_on l (Lives.Stand.Opens o) = record { stand = refl; duty = refl; passing = refl }
     lost_on l Lives.Stand.Open = record { stand = refl; duty = refl; passing = all_sent l.era.passing _ }
     lost_on l Lives.Stand.Gone = record { stand = refl; duty = refl; passing = refl }

@@ -61,3 +61,5 @@ pub mod Queued
 pub mod Recalled
 pub mod Newest
 pub mod Unvisited
+pub mod PacketRows
+pub mod Inhand

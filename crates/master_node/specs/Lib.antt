@@ -55,3 +55,4 @@ pub mod Dropped
 pub mod Entering
 pub mod Starts
 pub mod Recalled
+pub mod Backtold
