@@ -20,9 +20,9 @@ use Rattle.master_tour.specs.Stands.{Counts}
 use Rattle.master_tour.specs.of_life_model.Lives
 use Rattle.master_tour.specs.of_life_model.Lives.{Life, Spot, granted, life_lost, life_next, new_life}
 use Rattle.master_tour.specs.of_life_model.Own
-use Rattle.master_node.specs.Backtold.{AnswerHas, HasInHand, HasPassed, NewestHas, OpenHas, PacketHas, ServiceHas}
 use Rattle.master_node.specs.Begins.{is_other}
 use Rattle.master_node.specs.Handed.{HasBegun}
+use Rattle.master_node.specs.Inhand.{AnswerHas, HasInHand, HasPassed, MailsWork, NewestHas, OpenHas, PacketHas, ServiceHas, WorkOf}
 use Rattle.master_node.specs.Passes.{BeginsFree}
 use Rattle.master_node.specs.declared.post.Work.{Work}
 use Rattle.master_node.proofs.Frees.{none_next}
@@ -95,18 +95,6 @@ module _ (areas : Areas) where
   open_held known d hold None None work h = newest_held known d hold work h
   open_held known d hold None (Some p) work h = (held_passed d (next_mail x d.now d.halves.out.holding hold) h.0, h.1)
   open_held known d hold (Some duty) passing work h = (h.0, newest_held known d hold Work.Nothing h.1, h.2)
-
-  -- what came into hand of a slave, as its post has it: by mails
-  abbrev pub MailsWork : Bool → Bool → Work → Type 0
-  MailsWork true other new = (key : ℕ) × (new ≡ Work.Passed key)
-  MailsWork false true new = new ≡ Work.Mails
-  MailsWork false false new = new ≡ Work.Packet
-
-  -- and a change of state; where nothing came that stays
-  abbrev pub WorkOf : Option (Service Asked) → Work → Work → Type 0
-  WorkOf None old new = new ≡ old
-  WorkOf (Some (Service.State target)) old new = new ≡ Work.State
-  WorkOf (Some (Service.Mails q)) old new = MailsWork (is_passed q) (is_other q) new
 
   -- the row that came into hand
   record NewRow (q : Asked) (k : Side Body Asked Reply) : Type 0 where

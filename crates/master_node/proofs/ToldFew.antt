@@ -11,10 +11,11 @@ use Rattle.master_side.specs.Free.{is_free_side}
 use Rattle.master_side.specs.declared.hand.Hand.{Ghosts}
 use Rattle.master_side.specs.declared.hand.Heard.{Heard}
 use Rattle.master_side.specs.declared.passing.Passing.{Passing}
+use Rattle.master_tour.specs.declared.stop.Stand.{Stand}
 use Rattle.master_tour.specs.declared.stop.Stop.{Stop}
 use Rattle.master_tour.specs.declared.stop.Turned.{Turned}
 use Rattle.master_hand.specs.Hears.{answer_kept}
-use Rattle.master_node.specs.Besides.{Does, answered_does, back_does, by_stop, emergency_told, given_at, given_told, handed_where, heard_does, mail_does, met_where, over_does, passed_where, reply_told, stays, turned_where}
+use Rattle.master_node.specs.Besides.{Does, answered_does, back_does, by_stop, emergency_told, given_at, given_told, handed_where, heard_does, mail_does, met_at, met_where, over_does, passed_where, reply_told, stays, turned_where}
 use Rattle.master_node.specs.Handed.{work_at}
 use Rattle.master_node.specs.Listing.{told_in}
 use Rattle.master_node.specs.declared.event.Event.{Event}
@@ -93,6 +94,11 @@ met_three place news (Some (Met.On duty)) w = one_more place news (met_where pla
 met_three place news (Some Met.Reached) w = one_more place news (met_where place (Some Met.Reached) w) (omega arith)
 met_three place news (Some (Met.Refused code)) w = one_more place news (met_where place (Some (Met.Refused code)) w) (omega arith)
 
+stood_three : (place : ℕ) (news : Option Turned) (stand : Stand) (o : Option Met) (w : Work) → ThreeBy place news (met_at place stand o w)
+stood_three place news (Stand.Opening up) o w = one_more place news (stays w) (omega arith)
+stood_three place news Stand.Open o w = met_three place news o w
+stood_three place news Stand.Gone o w = one_more place news (stays w) (omega arith)
+
 passed_three : (place key : ℕ) (news : Option Turned) (p : Option Passing) (w : Work) → ThreeBy place news (passed_where place key p w)
 passed_three place key news None w = omega (arith, turned_one place news)
 passed_three place key news (Some p) w = one_more place news (passed_where place key (Some p) w) (omega arith)
@@ -102,7 +108,7 @@ over_three place s Work.Nothing = one_more place s.news (over_does place s Work.
 over_three place s Work.Mails = one_more place s.news (over_does place s Work.Mails) (omega arith)
 over_three place s Work.Packet = handed_three place s.news (is_free_side s.side) Work.Packet
 over_three place s (Work.Passed key) = passed_three place key s.news s.side.passing (Work.Passed key)
-over_three place s Work.State = met_three place s.news s.side.duty Work.State
+over_three place s Work.State = stood_three place s.news s.stand s.side.duty Work.State
 
 -- FIVE EVENTS A SLAVE
 back_five : {G : Ghosts InHand} (place : ℕ) (s : Stop InHand G) (w : Work) → length (back_does place s w).told ≤ 5

@@ -1,5 +1,5 @@
 -- WHAT A FRAME THAT CAME BACK TELLS of a slave, by its life before the frame and behind it.
-use Rattle.std.specs.Prelude.{◌≡◌, ◌⊎◌, ◌&&◌, not, nat_lt, ℕ, zero, suc, Bool, true, false, is_some, if◌then◌else◌, Option, Some, None, List, [], ◌∷◌, ◌++◌, length}
+use Rattle.std.specs.Prelude.{◌&&◌, not, ℕ, zero, suc, Bool, true, false, is_some, if◌then◌else◌, Option, Some, None, List, [], ◌∷◌, ◌++◌, length}
 use Rattle.life_runs.specs.Led.{speech_at}
 use Rattle.life_runs.specs.of_frame_view.View.{Lens}
 use Rattle.mailbox_mail.specs.declared.outcome.ReplyKind.{ReplyKind}
@@ -7,11 +7,10 @@ use Rattle.master_duty.specs.Reply.{Reply}
 use Rattle.master_duty.specs.of_exchange_model.Exchange.{Speech}
 use Rattle.master_duty.specs.of_exchange_model.Rows.{Row}
 use Rattle.master_duty.specs.of_segment_model.Ends.{Outcome, Passing}
-use Rattle.master_duty.specs.of_segment_model.Seats.{Side}
 use Rattle.master_duty.specs.of_segment_model.Slaves.{Datagram}
-use Rattle.master_duty.specs.of_task_model.Accounts.{Change, Duty, is_free, new_account}
+use Rattle.master_duty.specs.of_task_model.Accounts.{Change, is_free}
 use Rattle.master_hand.specs.Brings.{emergencies_in}
-use Rattle.master_hand.specs.Spoken.{Asked, is_passed}
+use Rattle.master_hand.specs.Spoken.{Asked}
 use Rattle.master_side.specs.Recall.{Recall}
 use Rattle.master_side.specs.of_link_mails.Body.{Body}
 use Rattle.master_tour.specs.Brings.{accepted_in}
@@ -24,10 +23,9 @@ use Rattle.served_runs.specs.Told.{Passed, replies_in}
 use Rattle.master_hand.specs.Hears.{kind_in}
 use Rattle.master_node.specs.Begins.{is_other}
 use Rattle.master_node.specs.Gateways.{replies_told}
+pub use Rattle.master_node.specs.Inhand.{AnswerHas, HasInHand, HasPassed, IsFresh, MailsWork, NewestHas, OpenHas, OpeningHas, PacketHas, ServiceHas, WorkOf}
 use Rattle.master_node.specs.Lifetold.{told_at}
-use Rattle.master_node.specs.Named.{is_left}
 use Rattle.master_node.specs.declared.event.Event.{Event}
-use Rattle.master_node.specs.declared.post.Work.{Work}
 
 -- ---- what is told of an open slave
 
@@ -106,46 +104,6 @@ turned_told place own (Some Turned.GivenUp) = []
 turned_told place own (Some Turned.Cleared) = Event.Cleared place own ∷ []
 turned_told place own (Some Turned.Opened) = opened_told place own
 
--- ---- WHAT A POST HAS IN HAND, by its slave's life between two frames
-
--- a service of the script by mails, until it has its answer
-abbrev pub AnswerHas : Bool → Work → Type 0
-AnswerHas false work = work ≡ Work.Mails
-AnswerHas true work = work ≡ Work.Nothing
-
--- a packet, until it is over and its hand knows its mails then; was that so once, it is in hand no more, whatever the hand knows later
-abbrev pub PacketHas : Bool → Bool → Work → Type 0
-PacketHas false knows work = work ≡ Work.Packet
-PacketHas true true work = work ≡ Work.Nothing
-PacketHas true false work = (work ≡ Work.Packet) ⊎ (work ≡ Work.Nothing)
-
--- by the newest service: whether it passes a mail on, which is over here, whether it is no packet, and whether it has its answer
-abbrev pub ServiceHas : Bool → Bool → Bool → Bool → Bool → Work → Type 0
-ServiceHas true other free knows answered work = work ≡ Work.Nothing
-ServiceHas false true free knows answered work = AnswerHas answered work
-ServiceHas false false free knows answered work = PacketHas free knows work
-
-abbrev pub NewestHas : Bool → Bool → Option (Row Body Asked Reply) → Work → Type 0
-NewestHas free knows None work = work ≡ Work.Nothing
-NewestHas free knows (Some r) work = ServiceHas (is_passed r.service) (is_other r.service) free knows (is_some r.answer) work
-
--- the newest service passes a mail on
-pub record HasPassed (now : Option (Row Body Asked Reply)) : Type 0 where
-  pub row : Row Body Asked Reply
-  pub is : now ≡ Some row
-  pub passed : is_passed row.service ≡ true
-
--- an opening that has shown Init has nothing of its epoch yet
-pub record IsFresh (l : Life Body Asked Reply) : Type 0 where
-  pub row : l.era.side.now ≡ None
-  pub account : l.era.account ≡ new_account
-  pub passing : l.era.passing ≡ None
-
--- of one that is opened: the change of state that wanted it
-abbrev pub OpeningHas : Bool → Work → Type 0
-OpeningHas true work = work ≡ Work.State
-OpeningHas false work = work ≡ Work.Nothing
-
 module _ (x : Speech Body Asked Reply) where
   -- OF AN OPEN SLAVE, by its side and account before the frame and behind it, the mails accepted and the mail in hand; just one service is in hand
   abbrev pub open_told : Bool → ℕ → Option Passed → List Body → Life Body Asked Reply → Life Body Asked Reply → List Event
@@ -158,18 +116,6 @@ module _ (x : Speech Body Asked Reply) where
   returned_told knows place hand ms l m (Lives.Stand.Opens o) = turned_told place o.own (turned l m)
   returned_told knows place hand ms l m Lives.Stand.Open = open_told knows place hand ms l m
   returned_told knows place hand ms l m Lives.Stand.Gone = []
-
-  -- OF AN OPEN SLAVE: a change of state, where one is in hand, and the newest service is over then; a mail that isn't over; or what the newest service has
-  abbrev pub OpenHas : Bool → Side Body Asked Reply → Option Duty → Option Passing → Work → Type 0
-  OpenHas knows d None None work = NewestHas (is_free x d d.now) knows d.now work
-  OpenHas knows d None (Some passing) work = HasPassed d.now × ((key : ℕ) × (work ≡ Work.Passed key))
-  OpenHas knows d (Some duty) passing work = (passing ≡ None) × NewestHas (is_free x d d.now) knows d.now Work.Nothing × (work ≡ Work.State)
-
-  -- THE POST HAS IN HAND WHAT ITS SLAVE'S LIFE HAS, by how the master stands to it
-  abbrev pub HasInHand : Bool → Life Body Asked Reply → Lives.Stand → Work → Type 0
-  HasInHand knows l (Lives.Stand.Opens o) work = OpeningHas o.own work × (is_left (Lives.Stand.Opens o) ≡ false → IsFresh l)
-  HasInHand knows l Lives.Stand.Open work = OpenHas knows l.era.side l.era.account.hand l.era.passing work
-  HasInHand knows l Lives.Stand.Gone work = work ≡ Work.Nothing
 
 -- whether the hand of the slave at a place knows its mails, by what a master remembers
 abbrev pub known_at : List Recall → ℕ → Bool

@@ -11,6 +11,7 @@ use Rattle.master_side.specs.Free.{is_free_side}
 use Rattle.master_side.specs.declared.hand.Hand.{Ghosts}
 use Rattle.master_side.specs.declared.hand.Heard.{Heard}
 use Rattle.master_side.specs.declared.passing.Passing.{Passing}
+use Rattle.master_tour.specs.declared.stop.Stand.{Stand}
 use Rattle.master_tour.specs.declared.stop.Stop.{Stop}
 use Rattle.master_tour.specs.declared.stop.Turned.{Turned}
 use Rattle.master_hand.specs.Hears.{answer_kept}
@@ -133,8 +134,14 @@ met_where place (Some (Met.On duty)) work = stays work
 met_where place (Some Met.Reached) work = answers place ReplyKind.Done
 met_where place (Some (Met.Refused code)) work = answers place (ReplyKind.StateRefused code)
 
+-- of an open slave; one that is opened answers it once it is open
+abbrev pub met_at : ℕ → Stand → Option Met → Work → Does
+met_at place (Stand.Opening up) duty work = stays work
+met_at place Stand.Open duty work = met_where place duty work
+met_at place Stand.Gone duty work = stays work
+
 abbrev pub met_does : {G : Ghosts InHand} → ℕ → Stop InHand G → Work → Does
-met_does place s work = met_where place s.side.duty work
+met_does place s work = met_at place s.stand s.side.duty work
 
 -- WHAT IS IN HAND MAY BE OVER, where it has no reply by mails of its own
 abbrev pub over_does : {G : Ghosts InHand} → ℕ → Stop InHand G → Work → Does

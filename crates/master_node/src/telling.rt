@@ -11,7 +11,7 @@ use ec_fields::buffer_of;
 use mailbox_mail::ReplyKind;
 use master_duty::Met;
 use master_side::Heard;
-use master_tour::Turned;
+use master_tour::{Stand, Turned};
 
 // Whether a frame turned a slave into one that is given up.
 fn is_given_up(news: Option<Turned>) -> bool
@@ -194,7 +194,7 @@ impl MasterNode {
         }
     }
 
-    // A state service is over once it has met its target or a refusal.
+    // A state service of an open slave is over once it has met its target or a refusal. One that is opened answers it once it is open.
     fn met(&mut self, place: usize)
         requires { place < vec_len self.old.posts }
         ensures posts { vec_len self.new.posts ≡ vec_len self.old.posts }
@@ -204,7 +204,11 @@ impl MasterNode {
         ensures works { NonePassed self.old.posts.items place → EndsWork (λ k. passing_at self.old.tour.stops.items k) [] self.old.posts.items self.new.posts.items }
         ensures told { DoesSo (λ s w. met_does place s w) place self.old self.new }
     {
-        match self.tour.stops[place].side.duty {
+        let stop = &self.tour.stops[place];
+        if !matches!(stop.stand, Stand::Open) {
+            return;
+        }
+        match stop.side.duty {
             Some(Met::Reached) => self.answered(place, ReplyKind::Done),
             Some(Met::Refused(code)) => self.answered(place, ReplyKind::StateRefused(code)),
             Some(Met::On(_)) => {}

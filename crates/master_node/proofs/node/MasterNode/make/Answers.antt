@@ -184,13 +184,14 @@ returns-clause-serves c = λ lens recover retry missed made forwards ws some sma
       awaits = λ w. ap (λ z. awaits_reply z.hand.course z.hand.which z.hand.clients) p.0 ∙ w;
       read = (ap (λ z. z.read_at) p.0, ap (λ z. z.pace) p.0);
       out = ap (λ z. z.out.len) p.0;
+      known = ap (λ z. knows z.hand.course) p.0;
     }) e.each in
     let f = c.fill.ensures.serves lens recover made forwards ws x.distinct
     (λ left. record {
       begun = nothing;
       frame = subst (λ n. FrameMade (λ ds i a s. StopFills lens recover made nothing index left ds i a s) c.begin.new.frame.items n lives ts) (sym e.count) (e.made (speech_at lens) is_followed is_passed made recover index lens left lives nothing (λ k. refl) before);
       each = Served.firsts_serving lens recover made left 0 ws m.posts.items ss ts x.each alike;
-      handed = Served.firsts_handing lens recover made ws m.posts.items ss x.each;
+      handed = Served.firsts_handing lens recover made 0 ws m.posts.items ss ts x.each alike;
       numbered = x.numbered;
       listing = listed_nothing (served_tells ws) forwards left as' _ (record { few = unlisted.few; none = unlisted.none; counts = unlisted.counts });
     })
