@@ -126,14 +126,14 @@ module _ (x : Speech Body Asked Reply) (frame : ℕ) (spot : Spot) (ns : List (N
   passes_some None t = t
   passes_some (Some p) t = refl
 
-  last_left : (o : Lives.Opening) → (o.step == Lives.last_step o) ≡ true → is_left (Lives.Stand.Opens o) ≡ false
+  pub last_left : (o : Lives.Opening) → (o.step == Lives.last_step o) ≡ true → is_left (Lives.Stand.Opens o) ≡ false
   last_left o e = go o.again e
     where
       go : (again : Bool) → (o.step == (if again then 9 else 5)) ≡ true → (again && nat_lt o.step 3) ≡ false
       go false f = refl
       go true f = grind (arith, nat_tests, f)
 
-  steps_left : (o : Lives.Opening) → Lives.shows_clear o ≡ false → is_left (Lives.Stand.Opens (record o { step = suc o.step })) ≡ false → is_left (Lives.Stand.Opens o) ≡ false
+  pub steps_left : (o : Lives.Opening) → Lives.shows_clear o ≡ false → is_left (Lives.Stand.Opens (record o { step = suc o.step })) ≡ false → is_left (Lives.Stand.Opens o) ≡ false
   steps_left o e n = go o.again e n
     where
       go : (again : Bool) → (again && o.step == 2) ≡ false → (again && nat_lt (suc o.step) 3) ≡ false → (again && nat_lt o.step 3) ≡ false

@@ -63,3 +63,9 @@ pub mod Newest
 pub mod Unvisited
 pub mod PacketRows
 pub mod Inhand
+pub mod FreePackets
+pub mod Rowtells
+pub mod Changes
+pub mod Backopen
+pub mod Reopeneds
+pub mod Backinhand
