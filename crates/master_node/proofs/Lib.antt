@@ -69,3 +69,4 @@ pub mod Changes
 pub mod Backopen
 pub mod Reopeneds
 pub mod Backinhand
+pub mod Backtolds
