@@ -1,13 +1,11 @@
 -- BEHIND A FRAME THAT CAME BACK a post has in hand what the life behind it has, and just what the lives tell was told.
 use Rattle.std.proofs.Common.{◌≡◌, ◌==◌, ℕ, suc, Bool, true, false, Option, Some, None, List, [], ◌∷◌, ◌++◌, length, refl, sym, ap, ◌∙◌, subst, append_assoc, append-nil}
-use Rattle.std.specs.Prelude.{◌&&◌, is_some, nat_lt, option_map, if◌then◌else◌}
+use Rattle.std.specs.Prelude.{◌&&◌, is_some, option_map, if◌then◌else◌}
 use Rattle.life_runs.specs.of_life_frames.of_exchange_model.Areas.{Areas}
 use Rattle.master_duty.specs.Reply.{Reply}
 use Rattle.master_duty.specs.of_exchange_model.Exchange.{Speech}
-use Rattle.master_duty.specs.of_exchange_model.Rows.{Row, row_heard}
-use Rattle.master_duty.specs.of_segment_model.Ends as Ends
+use Rattle.master_duty.specs.of_exchange_model.Rows.{row_heard}
 use Rattle.master_duty.specs.of_segment_model.Record.{News}
-use Rattle.master_duty.specs.of_segment_model.Seats.{Side}
 use Rattle.master_duty.specs.of_segment_model.Slaves.{Datagram, Found, grams}
 use Rattle.master_duty.specs.of_task_model.Accounts.{Account, Change, Duty, is_free}
 use Rattle.master_duty.specs.declared.stage.Met.{Met}
@@ -32,7 +30,7 @@ use Rattle.master_tour.specs.of_life_model.Lives.{Era, Life, Spot, life_back, pa
 use Rattle.master_tour.specs.of_life_model.Own
 use Rattle.served_runs.specs.Told.{Passed}
 use Rattle.master_node.specs.Backtold.{HasInHand, IsFresh, NewestHas, OpenHas, OpeningHas, answer_told, changes_told, emergencies_told, has_packet, kind_of, open_told, packet_told, passed_told, returned_told, turned_told}
-use Rattle.master_node.specs.Besides.{Does, back_does, behind, heard_does, is_state, met_where, opened_where, over_does, stays, then_does, turned_does, turned_where}
+use Rattle.master_node.specs.Besides.{Does, back_does, behind, heard_does, is_state, met_at, met_where, opened_where, over_does, stays, then_does, turned_does, turned_where}
 use Rattle.master_node.specs.Named.{IsHanded, is_left}
 use Rattle.master_node.specs.declared.event.Event.{Event}
 use Rattle.master_node.specs.declared.post.Work.{Work}
@@ -44,14 +42,13 @@ use Rattle.master_node.proofs.PacketRows.{idle_back}
 use Rattle.master_node.proofs.Reopeneds.{OpenAfter, Reopened, cleared_turned, now, open_after, open_turned, opened_turned, same_turned, steps_turned}
 use Rattle.master_node.proofs.Rowtells.{IsQuiet, mails_does, rest_does}
 
--- WHAT A STOP SHOWS of the life behind a frame, where its slave is open then; where it isn't nothing of it is over
-pub record ShowsBehind (x : Speech Body Asked Reply) (known' : Bool) (place : ℕ) (t : Stop InHand Impl.ghosts) (m : Life Body Asked Reply) : Type 0 where
+-- WHAT A STOP SHOWS of the life behind a frame, where its slave is open then
+pub record ShowsBehind (x : Speech Body Asked Reply) (known' : Bool) (t : Stop InHand Impl.ghosts) (m : Life Body Asked Reply) : Type 0 where
   pub stands : t.stand ≡ Stand.Open → m.stand ≡ Lives.Stand.Open
   pub opens : m.stand ≡ Lives.Stand.Open → t.stand ≡ Stand.Open
   pub side : t.stand ≡ Stand.Open → SideShows (Shows t.side.hand.course t.side.hand.which t.side.hand.clients x) t.side.out t.side.inn t.side.fresh t.side.duty m.era.side m.era.account
   pub passing : t.stand ≡ Stand.Open → is_some t.side.passing ≡ is_some m.era.passing
   pub knows_is : knows t.side.hand.course ≡ known'
-  pub rests : (t.stand ≡ Stand.Open → ⊥) → (work : Work) → over_does place t work ≡ stays work
 
 -- what is done where the slave didn't turn
 turned_none : (place : ℕ) (t : Stop InHand Impl.ghosts) (w : Work) → t.news ≡ None → turned_does place t w ≡ stays w
@@ -62,6 +59,15 @@ none_behind d = λ i. record { told = append-nil d.told i; work = d.work }
 
 then_turned : (place : ℕ) (t : Stop InHand Impl.ghosts) (d : Does) → t.news ≡ None → then_does d (λ w. turned_does place t w) ≡ d
 then_turned place t d e = (λ i. then_does d (λ w. turned_none place t w e i)) ∙ none_behind d
+
+-- a change of state of a slave that isn't open isn't over
+shut_over : (place : ℕ) (t : Stop InHand Impl.ghosts) → (t.stand ≡ Stand.Open → ⊥) → over_does place t Work.State ≡ stays Work.State
+shut_over place t n = go t.stand n
+  where
+    go : (stand : Stand) → (stand ≡ Stand.Open → ⊥) → met_at place stand t.side.duty Work.State ≡ stays Work.State
+    go Stand.Open n = absurd (n refl)
+    go (Stand.Opening up) n = refl
+    go Stand.Gone n = refl
 
 -- the emergencies first, and then the rest
 rest_behind : (place : ℕ) (es : List Event) (got : Option Heard) (t : Stop InHand Impl.ghosts) (old : Work) →
@@ -113,8 +119,9 @@ module _ (areas : Areas) (made place : ℕ) (spot : Spot) (ns : List (News Body)
   now_is : OpenGiven → e.side.now ≡ option_map (Open.row_heard' areas place made ms known known' hand t l.era.side e.side l.era.account e.account) l.era.side.now
   now_is g = ap (λ z. option_map (λ r. row_heard x made z r) l.era.side.now) (sym (g.accepted ∙ ap (λ z. accepted_at spot.station l.era.side.halves back z) g.opened))
 
-  behind_is : (m : Life Body Asked Reply) → OpenGiven → OpenAfter l e m → t.stand ≡ Stand.Open → ShowsBehind x known' place t m → Open.Behind areas place made ms known known' hand t l.era.side e.side l.era.account e.account l.era.passing e.passing old
+  behind_is : (m : Life Body Asked Reply) → OpenGiven → OpenAfter l e m → t.stand ≡ Stand.Open → ShowsBehind x known' t m → Open.Behind areas place made ms known known' hand t l.era.side e.side l.era.account e.account l.era.passing e.passing old
   behind_is m g a s b = record {
+    stand = s;
     now = now_is g;
     held = λ n. idle_back spot.station l.era.side.halves (grams (Own.own spot.station back)) n;
     went = λ duty n. hand_back spot.station made l.era.account (Own.own spot.station back) duty n;
@@ -147,7 +154,7 @@ module _ (areas : Areas) (made place : ℕ) (spot : Spot) (ns : List (News Body)
       five (emergencies_told place (emergencies_in ms)) passed_now answer_now packet_now changes_now ∙ sym (ap (λ z. open_told x known' place hand ms l (record m { era = z })) a.era)
 
   -- it stays open
-  stays_open : (m : Life Body Asked Reply) → OpenGiven → OpenAfter l e m → m.stand ≡ Lives.Stand.Open → t.news ≡ None → ShowsBehind x known' place t m → Served Lives.Stand.Open m
+  stays_open : (m : Life Body Asked Reply) → OpenGiven → OpenAfter l e m → m.stand ≡ Lives.Stand.Open → t.news ≡ None → ShowsBehind x known' t m → Served Lives.Stand.Open m
   stays_open m g a s n b =
       let w = Open.open_tells areas place made ms known known' hand t l.era.side e.side l.era.account e.account l.era.passing e.passing old (behind_is m g a (b.opens s) b) still_passing g.has in
       let d = still_does place ms t old g.brings n in
@@ -181,14 +188,14 @@ module _ (areas : Areas) (made place : ℕ) (spot : Spot) (ns : List (News Body)
         over = went_on l.era.account.over e.account.over e.account.hand (hand_back spot.station made l.era.account (Own.own spot.station back) was n) duty h;
       }
 
-  leaves_open : (m : Life Body Asked Reply) (duty : Duty) (state : ℕ) → OpenGiven → OpenAfter l e m → e.account.hand ≡ Some duty → m.stand ≡ Lives.reopening state true → t.news ≡ None → ShowsBehind x known' place t m → Served Lives.Stand.Open m
+  leaves_open : (m : Life Body Asked Reply) (duty : Duty) (state : ℕ) → OpenGiven → OpenAfter l e m → e.account.hand ≡ Some duty → m.stand ≡ Lives.reopening state true → t.news ≡ None → ShowsBehind x known' t m → Served Lives.Stand.Open m
   leaves_open m duty state g a h s n b =
       let c = changing g duty h in
       let r = Open.nothing_rows areas place made ms known known' hand t l.era.side e.side l.era.account e.account (now_is g) (λ i. idle_back spot.station l.era.side.halves (grams (Own.own spot.station back)) i) c.rows in
       let shut : t.stand ≡ Stand.Open → ⊥ = λ o. absurd (let bad : Lives.Stand.Open ≡ Lives.reopening state true = sym (b.stands o) ∙ s in cc) in
       let d = still_does place ms t old g.brings n
-          ∙ ap (λ z. behind (emergencies_told place (emergencies_in ms)) (rest_does place t z)) c.state
-          ∙ ap (λ z. behind (emergencies_told place (emergencies_in ms)) z) (Open.state_rest areas place made ms known known' hand t l.era.side e.side l.era.account e.account ∙ b.rests shut Work.State) in
+      ∙ ap (λ z. behind (emergencies_told place (emergencies_in ms)) (rest_does place t z)) c.state
+      ∙ ap (λ z. behind (emergencies_told place (emergencies_in ms)) z) (Open.state_rest areas place made ms known known' hand t l.era.side e.side l.era.account e.account ∙ shut_over place t shut) in
       let none = Open.rows_then areas place made ms known known' hand t l.era.side e.side l.era.account e.account [] (ap (λ z. changes_told place (length l.era.account.over) z) c.over ∙ none_more place l.era.account.over) r.0 in
       record {
         told = ap (λ z. z.told) d
@@ -197,7 +204,7 @@ module _ (areas : Areas) (made place : ℕ) (spot : Spot) (ns : List (News Body)
         has = subst (λ z. HasInHand x known' m z (back_does place t old).work) (sym s) (ap (λ z. z.work) d, λ f. absurd (let bad : true ≡ false = f in cc));
       }
 
-  open_served : (m : Life Body Asked Reply) → OpenGiven → OpenAfter l e m → t.news ≡ turned l m → ShowsBehind x known' place t m → Served Lives.Stand.Open m
+  open_served : (m : Life Body Asked Reply) → OpenGiven → OpenAfter l e m → t.news ≡ turned l m → ShowsBehind x known' t m → Served Lives.Stand.Open m
   open_served m g a n b = go m.stand refl a.stand
     where
       still : t.news ≡ None
@@ -246,21 +253,26 @@ module _ (areas : Areas) (made place : ℕ) (spot : Spot) (ns : List (News Body)
   fresh_met (Some Met.Reached) d o = absurd (no_newest o.front o.change (sym o.is))
   fresh_met (Some (Met.Refused code)) d o = absurd (no_newest o.front o.change (sym o.is))
 
-  fresh_over : (own : Bool) (m : Life Body Asked Reply) → OpeningHas own old → IsFresh m → t.stand ≡ Stand.Open → ShowsBehind x known' place t m → over_does place t old ≡ stays old
+  fresh_over : (own : Bool) (m : Life Body Asked Reply) → OpeningHas own old → IsFresh m → t.stand ≡ Stand.Open → ShowsBehind x known' t m → over_does place t old ≡ stays old
   fresh_over false m h f s b = ap (λ w. over_does place t w) h ∙ sym (ap (λ w. stays w) h)
   fresh_over true m h f s b =
       let k = b.side s in
       ap (λ w. over_does place t w) h
+      ∙ ap (λ z. met_at place z t.side.duty Work.State) s
       ∙ fresh_met t.side.duty (subst (λ (z : Account Asked Reply). DutyShows (in_hand t.side.duty) z.hand) f.account k.state) (subst (λ (z : Account Asked Reply). OverShows t.side.duty z.over) f.account k.over)
       ∙ sym (ap (λ w. stays w) h)
 
-  opens_over : (own : Bool) (m : Life Body Asked Reply) → OpeningHas own old → (m.stand ≡ Lives.Stand.Open → IsFresh m) → ShowsBehind x known' place t m → over_does place t old ≡ stays old
+  shut_opens : (own : Bool) → OpeningHas own old → (t.stand ≡ Stand.Open → ⊥) → over_does place t old ≡ stays old
+  shut_opens true h n = ap (λ w. over_does place t w) h ∙ shut_over place t n ∙ sym (ap (λ w. stays w) h)
+  shut_opens false h n = ap (λ w. over_does place t w) h ∙ sym (ap (λ w. stays w) h)
+
+  opens_over : (own : Bool) (m : Life Body Asked Reply) → OpeningHas own old → (m.stand ≡ Lives.Stand.Open → IsFresh m) → ShowsBehind x known' t m → over_does place t old ≡ stays old
   opens_over own m h f b = go t.stand refl
     where
       go : (stand : Stand) → t.stand ≡ stand → over_does place t old ≡ stays old
       go Stand.Open s = fresh_over own m h (f (b.stands s)) s b
-      go (Stand.Opening up) s = b.rests (λ o. absurd (let bad : Stand.Opening up ≡ Stand.Open = sym s ∙ o in cc)) old
-      go Stand.Gone s = b.rests (λ o. absurd (let bad : Stand.Gone ≡ Stand.Open = sym s ∙ o in cc)) old
+      go (Stand.Opening up) s = shut_opens own h (λ o. absurd (let bad : Stand.Opening up ≡ Stand.Open = sym s ∙ o in cc))
+      go Stand.Gone s = shut_opens own h (λ o. absurd (let bad : Stand.Gone ≡ Stand.Open = sym s ∙ o in cc))
 
   -- what is asked of one that is opened
   pub record OpensGiven (o : Lives.Opening) : Type 0 where
@@ -276,7 +288,7 @@ module _ (areas : Areas) (made place : ℕ) (spot : Spot) (ns : List (News Body)
       (ap (λ z. z.told) d ∙ (turns_so o.own turn g.own).told ∙ ap (turned_told place o.own) (sym s), ap (λ z. z.work) d)
 
   opening_served : (o p : Lives.Opening) (m : Life Body Asked Reply) (turn : Option Turned) → OpensGiven o → t.news ≡ turned l m → turned l m ≡ turn → (turn ≡ Some Turned.Opened → ⊥) → m.stand ≡ Lives.Stand.Opens p → p.own ≡ o.own → (is_left (Lives.Stand.Opens p) ≡ false → IsFresh m) →
-      ShowsBehind x known' place t m → Served (Lives.Stand.Opens o) m
+      ShowsBehind x known' t m → Served (Lives.Stand.Opens o) m
   opening_served o p m turn g n s not_open stand own fresh b =
       let k = opens_over o.own m g.own (λ e. absurd (let bad : Lives.Stand.Opens p ≡ Lives.Stand.Open = sym stand ∙ e in cc)) b in
       let w = turned_so o m turn g n s k in
@@ -286,7 +298,7 @@ module _ (areas : Areas) (made place : ℕ) (spot : Spot) (ns : List (News Body)
         has = subst (λ z. HasInHand x known' m z (back_does place t old).work) (sym stand) (subst (λ z. OpeningHas z (back_does place t old).work) (sym own) (subst (λ z. OpeningHas o.own z) (sym kept) g.own), fresh);
       }
 
-  opened_served : (o : Lives.Opening) (m : Life Body Asked Reply) → OpensGiven o → t.news ≡ turned l m → turned l m ≡ Some Turned.Opened → m.stand ≡ Lives.Stand.Open → IsFresh m → ShowsBehind x known' place t m → Served (Lives.Stand.Opens o) m
+  opened_served : (o : Lives.Opening) (m : Life Body Asked Reply) → OpensGiven o → t.news ≡ turned l m → turned l m ≡ Some Turned.Opened → m.stand ≡ Lives.Stand.Open → IsFresh m → ShowsBehind x known' t m → Served (Lives.Stand.Opens o) m
   opened_served o m g n s stand fresh b =
       let k = opens_over o.own m g.own (λ e. fresh) b in
       let w = turned_so o m (Some Turned.Opened) g n s k in
@@ -302,7 +314,7 @@ module _ (areas : Areas) (made place : ℕ) (spot : Spot) (ns : List (News Body)
 
   -- by its access that came back
   abbrev OpensTo : Lives.Opening → Life Body Asked Reply → Type 0
-  OpensTo o m = t.news ≡ turned l m → ShowsBehind x known' place t m → Served (Lives.Stand.Opens o) m
+  OpensTo o m = t.news ≡ turned l m → ShowsBehind x known' t m → Served (Lives.Stand.Opens o) m
 
   abbrev behind_so : Option (Bool × Option Found) → Lives.Stand → Life Body Asked Reply
   behind_so came stand = life_back x acknowledged is_followed is_passed made spot ns back came l stand
@@ -335,13 +347,13 @@ module _ (areas : Areas) (made place : ℕ) (spot : Spot) (ns : List (News Body)
   -- THE POST BEHIND A FRAME THAT CAME BACK
   pub back_inhand : (came : Option (Bool × Option Found)) (m : Life Body Asked Reply) → m ≡ behind_so came l.stand → ms ≡ accepted_in spot l back → HasInHand x known l l.stand old → IsHanded old hand l →
       (l.stand ≡ Lives.Stand.Open → IsQuiet x l.era.side.now) → (l.stand ≡ Lives.Stand.Open → known' ≡ true → known ≡ true) → Brought (Brings t.side.hand.found) t.side.heard ms → ((key : ℕ) → old ≡ Work.Passed key → Brought (Replies t.side.hand.found true) t.side.heard ms) →
-      t.news ≡ turned l m → ShowsBehind x known' place t m → Served l.stand m
-  back_inhand came m is acc h i quiet sure brings replies n b = subst (λ z. Served l.stand z) (sym is) (go l.stand refl h (subst (λ z. t.news ≡ turned l z) is n) (subst (λ z. ShowsBehind x known' place t z) is b))
+      t.news ≡ turned l m → ShowsBehind x known' t m → Served l.stand m
+  back_inhand came m is acc h i quiet sure brings replies n b = subst (λ z. Served l.stand z) (sym is) (go l.stand refl h (subst (λ z. t.news ≡ turned l z) is n) (subst (λ z. ShowsBehind x known' t z) is b))
     where
       accepted_so : (stand : Lives.Stand) → l.stand ≡ stand → ms ≡ accepted_at spot.station l.era.side.halves back stand
       accepted_so stand s = acc ∙ ap (λ z. accepted_at spot.station l.era.side.halves back z) s
 
-      go : (stand : Lives.Stand) → l.stand ≡ stand → HasInHand x known l stand old → t.news ≡ turned l (behind_so came stand) → ShowsBehind x known' place t (behind_so came stand) → Served stand (behind_so came stand)
+      go : (stand : Lives.Stand) → l.stand ≡ stand → HasInHand x known l stand old → t.news ≡ turned l (behind_so came stand) → ShowsBehind x known' t (behind_so came stand) → Served stand (behind_so came stand)
       go (Lives.Stand.Opens o) s h n b = opens_served o came s (record { none = accepted_so (Lives.Stand.Opens o) s; brings = brings; own = h.0; fresh = h.1 }) n b
       go Lives.Stand.Open s h n b = open_served (behind_so came Lives.Stand.Open) (record { opened = s; accepted = acc; has = h; handed = i; quiet = quiet s; sure = sure s; brings = brings; replies = replies }) (open_after x made spot ns back l came s) n b
       go Lives.Stand.Gone s h n b = gone_by came n

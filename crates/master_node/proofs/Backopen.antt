@@ -1,40 +1,39 @@
 -- WHAT AN OPEN SLAVE TELLS behind a frame that came back, by its side and account, and what its post has in hand then.
-use Rattle.std.proofs.Common.{◌≡◌, ◌⊎◌, ℕ, Bool, true, false, Option, Some, None, List, [], ◌∷◌, ◌++◌, length, refl, sym, ap, ◌∙◌, subst, append_assoc, append-nil}
-use Rattle.std.specs.Prelude.{◌&&◌, not, is_some, option_map, if◌then◌else◌}
+use Rattle.std.proofs.Common.{◌≡◌, ℕ, Bool, true, false, Option, Some, None, List, [], ◌++◌, length, refl, sym, ap, ◌∙◌, subst, append_assoc, append-nil}
+use Rattle.std.specs.Prelude.{◌&&◌, not, is_some, option_map}
 use Rattle.life_runs.specs.of_life_frames.of_exchange_model.Areas.{Areas}
 use Rattle.mailbox_mail.specs.declared.mail.Mail.{Mail}
-use Rattle.mailbox_mail.specs.declared.outcome.ReplyKind.{ReplyKind}
 use Rattle.master_duty.specs.Reply.{Reply}
 use Rattle.master_duty.specs.of_exchange_model.Exchange.{Speech, plain}
-use Rattle.master_duty.specs.of_exchange_model.Rows.{Row, answer_after}
+use Rattle.master_duty.specs.of_exchange_model.Rows.{Row}
 use Rattle.master_duty.specs.of_segment_model.Ends as Ends
 use Rattle.master_duty.specs.of_segment_model.Seats.{Side}
-use Rattle.master_duty.specs.of_task_model.Accounts.{Account, Change, Duty, is_free}
+use Rattle.master_duty.specs.of_task_model.Accounts.{Account, Duty, is_free}
 use Rattle.master_hand.proofs.Replies.{replies_are}
-use Rattle.master_hand.specs.Brings.{Brings, as_list, emergencies_in, emergency_in, emergency_kept}
+use Rattle.master_hand.specs.Brings.{Brings, as_list, emergencies_in, emergency_in}
 use Rattle.master_hand.specs.Passed.{body_of}
 use Rattle.master_hand.specs.Replied.{Replies, replies_of, reply_kept}
 use Rattle.master_hand.specs.Shown.{Shows, knows}
-use Rattle.master_hand.specs.Spoken.{Asked, emission, ends, hand_speech, is_passed}
+use Rattle.master_hand.specs.Spoken.{Asked, emission, ends, hand_speech}
 use Rattle.master_hand.specs.contracts.hand.InHandHand.TheImpl as Impl
-use Rattle.master_hand.specs.declared.found.Found.{Found}
 use Rattle.master_hand.specs.declared.hand.InHand.{InHand}
 use Rattle.master_side.specs.Heard.{Brought}
 use Rattle.master_side.specs.Shown.{SideShows}
 use Rattle.master_side.specs.declared.hand.Heard.{Heard}
 use Rattle.master_side.specs.declared.passing.Passing.{Passing}
 use Rattle.master_side.specs.of_link_mails.Body.{Body}
+use Rattle.master_tour.specs.declared.stop.Stand.{Stand}
 use Rattle.master_tour.specs.declared.stop.Stop.{Stop}
 use Rattle.served_runs.specs.Told.{Passed, replies_in}
-use Rattle.master_node.specs.Backtold.{HasPassed, NewestHas, OpenHas, ServiceHas, answer_told, changes_told, emergencies_told, ended_told, has_packet, kind_by, kind_of, packet_told, passed_told}
+use Rattle.master_node.specs.Backtold.{HasPassed, NewestHas, OpenHas, ServiceHas, answer_told, changes_told, emergencies_told, ended_told, has_packet, kind_of, packet_told, passed_told}
 use Rattle.master_node.specs.Begins.{is_other}
-use Rattle.master_node.specs.Besides.{Does, behind, emergency_told, heard_does, met_where, over_does, passed_where, reply_told, stays, then_does}
+use Rattle.master_node.specs.Besides.{Does, behind, emergency_told, heard_does, met_at, met_where, over_does, passed_where, reply_told, stays, then_does}
 use Rattle.master_node.specs.Gateways.{replies_told}
 use Rattle.master_node.specs.declared.event.Event.{Event}
 use Rattle.master_node.specs.declared.post.Work.{Work}
 use Rattle.master_node.proofs.Changes.{StateHas, Went, none_more, state_tells}
 use Rattle.master_node.proofs.FreePackets.{free_packet}
-use Rattle.master_node.proofs.PacketRows.{SamePacket, stays_over}
+use Rattle.master_node.proofs.PacketRows.{stays_over}
 use Rattle.master_node.proofs.Rowtells.{IsQuiet, NewestTells, RowShown, heard, kept_kind, kind_told, mails_does, mails_still, newest_nothing, newest_rests, passed_kind, passed_other, rest_does}
 
 -- ---- THE EMERGENCIES
@@ -88,8 +87,9 @@ module _ (areas : Areas) (place frame : ℕ) (ms : List Body) (known known' : Bo
   abbrev rows_told : List Event
   rows_told = answer_told place (kind_of d.now) (kind_of f.now) ++ packet_told place (has_packet d.now) known' (is_free x d d.now) (is_free x f f.now)
 
-  -- what is asked of the sides before the frame and behind it, and of the stop
+  -- what is asked of the sides before the frame and behind it, and of the stop, which is open
   pub record Behind (p q : Option Ends.Passing) (old : Work) : Type 0 where
+    pub stand : t.stand ≡ Stand.Open
     pub now : f.now ≡ option_map (heard areas place frame ms known known' t) d.now
     pub held : d.halves.out.holding ≡ None → f.halves.out.holding ≡ None
     pub went : (duty : Duty) → a.hand ≡ Some duty → Went a.over b.hand b.over
@@ -171,7 +171,7 @@ module _ (areas : Areas) (place frame : ℕ) (ms : List Body) (known known' : Bo
       let s = state_tells place a.over b.over b.hand t.side.duty (k.went duty e) k.shown.state k.shown.over in
       let r = nothing_rows k.now k.held h.1 in
       subst (λ z. Tells None None b.hand (rest_does place t z)) (sym h.2)
-      (subst (λ z. Tells None None b.hand z) (sym state_rest)
+      (subst (λ z. Tells None None b.hand z) (sym (state_rest ∙ ap (λ z. met_at place z t.side.duty Work.State) k.stand))
       (record {
         is = s.is ∙ rows_then (changes_told place (length a.over) b.over) refl r.0;
         has = by b.hand s.has r.1;
@@ -186,7 +186,7 @@ module _ (areas : Areas) (place frame : ℕ) (ms : List Body) (known known' : Bo
   passed_rows p n =
       let e : f.now ≡ Some (row_heard' p.row) = n ∙ ap (λ z. option_map row_heard' z) p.is in (
         (λ i. answer_told place (kind_of (p.is i)) (kind_of (e i)) ++ packet_told place (has_packet (p.is i)) known' (is_free x d d.now) (is_free x f f.now))
-        ∙ (λ i. kind_told place frame p.row.answer (ends areas p.row.service (plain emission (p.row.heard ++ ms))) (passed_kind areas p.row.service (plain emission (p.row.heard ++ ms)) p.passed) i ++ packet_told place (not (passed_other p.row.service p.passed i)) known' (is_free x d d.now) (is_free x f f.now)),
+            ∙ (λ i. kind_told place frame p.row.answer (ends areas p.row.service (plain emission (p.row.heard ++ ms))) (passed_kind areas p.row.service (plain emission (p.row.heard ++ ms)) p.passed) i ++ packet_told place (not (passed_other p.row.service p.passed i)) known' (is_free x d d.now) (is_free x f f.now)),
         record { row = row_heard' p.row; is = e; passed = p.passed },
         λ free. subst (λ z. NewestHas free known' z Work.Nothing) (sym e) (subst (λ z. ServiceHas z (is_other p.row.service) free known' (is_some (row_heard' p.row).answer) Work.Nothing) (sym p.passed) refl),
       )

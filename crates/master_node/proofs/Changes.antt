@@ -9,7 +9,7 @@ use Rattle.master_duty.specs.of_segment_model.Slaves.{Datagram}
 use Rattle.master_duty.specs.of_task_model.Accounts.{Account, Change, Duty, Progress, access_done, account_back, account_by, account_met}
 use Rattle.master_hand.specs.Spoken.{Asked}
 use Rattle.master_side.specs.Carried.{in_hand}
-use Rattle.master_side.specs.Shown.{DutyShows, HasOver, OverShows}
+use Rattle.master_side.specs.Shown.{DutyShows, OverShows}
 use Rattle.master_side.specs.of_link_mails.Body.{Body}
 use Rattle.master_node.specs.Backtold.{change_kind, changes_told}
 use Rattle.master_node.specs.Besides.{met_where}

@@ -1,8 +1,7 @@
 -- A SIDE WHOSE NEWEST SERVICE IS A PACKET is free just where that is over and its hand knows its mails.
-use Rattle.std.proofs.Common.{◌≡◌, Bool, true, false, Option, Some, None, List, [], ◌∷◌, refl, sym, ap, ◌∙◌, subst}
+use Rattle.std.proofs.Common.{◌≡◌, Bool, true, false, Option, Some, None, List, [], ◌∷◌, refl, sym, ap, ◌∙◌}
 use Rattle.std.specs.Prelude.{◌&&◌, not, is_none, is_some, option_map, if◌then◌else◌}
 use Rattle.mailbox_mail.specs.declared.mail.Mail.{Mail}
-use Rattle.mailbox_master.specs.Links.{OutLink}
 use Rattle.master_duty.specs.Reply.{Reply}
 use Rattle.master_duty.specs.of_exchange_model.Exchange.{Speech}
 use Rattle.master_duty.specs.of_exchange_model.Rows.{Row}
@@ -12,7 +11,7 @@ use Rattle.master_duty.specs.of_task_model.Accounts.{Account, is_free}
 use Rattle.master_hand.proofs.Hands.{goes_is, sent_free}
 use Rattle.master_hand.proofs.Knowing.{goes_over}
 use Rattle.master_hand.specs.Over.{done_by, is_sent_by, over_by}
-use Rattle.master_hand.specs.Shown.{HandShows, Shows, knows}
+use Rattle.master_hand.specs.Shown.{Shows, knows}
 use Rattle.master_hand.specs.Spoken.{Asked, net}
 use Rattle.master_hand.specs.Talk.{Talking, client_awaits, client_later, is_handed, is_read, which_of}
 use Rattle.master_hand.specs.contracts.hand.InHandHand.TheImpl as Impl
@@ -79,9 +78,9 @@ module _ (which : Which) (c : Talking) (fresh : Bool) (state : Option Mail) (x :
   sent_is : Shows Course.Goes which c x d.now → is_sent_by false which c fresh idle ≡ is_free x d d.now
   sent_is s = same_test (is_sent_by false which c fresh idle) (is_free x d d.now)
       (λ e. (let b = both (is_none_left (client_later which c [])) (if is_handed which then idle else false && not fresh) e in
-          sent_free false Course.Goes which c fresh idle x d (goes_is Course.Goes which c d.now refl) (none_in (client_later which c []) b.0) b.1 unsent holds s))
+      sent_free false Course.Goes which c fresh idle x d (goes_is Course.Goes which c d.now refl) (none_in (client_later which c []) b.0) b.1 unsent holds s))
       (λ e. (let o = goes_over Course.Goes which c fresh idle x d refl unsent idles s e in
-          (λ i. is_none_left (o.left i) && o.done i)))
+      (λ i. is_none_left (o.left i) && o.done i)))
 
   packet_free : (course : Course) → Shows course which c x d.now → (over_by course which c fresh idle && done_by course which idle) ≡ (knows course && is_free x d d.now)
   packet_free Course.Nothing s = absurd (let bad : None ≡ Some r = sym s.1 ∙ now in cc)

@@ -28,6 +28,7 @@ use Rattle.served_runs.specs.Told.{Passed, told_on}
 use Rattle.master_node.specs.Handed.{HasBegun, IsDuty, IsHanded, StaysNamed, hand_behind, is_left, newest}
 use Rattle.master_node.specs.Passes.{BeginsFree}
 use Rattle.master_node.specs.declared.post.Work.{Work}
+use Rattle.master_node.proofs.Changes.{none_back}
 use Rattle.master_node.proofs.Mailed.{next_passing}
 
 -- no script passes a mail on
@@ -70,8 +71,7 @@ told_named p ms (Some r) q e = (let same : r ≡ q = cc in (_, refl, ap (λ z. z
 
 -- the account with no change of state in hand gets none by a frame
 stays_free : (station frame : ℕ) (a : Account Asked Reply) (ds : List (Datagram Body)) → a.hand ≡ None → (account_back station frame a ds).hand ≡ None
-stays_free station frame a [] e = e
-stays_free station frame a (d ∷ ds) e = ap (λ (z : Option Accounts.Duty). (account_back station frame (Accounts.account_met station frame a z d) ds).hand) e ∙ stays_free station frame a ds e
+stays_free station frame a ds e = ap (λ z. z.hand) (none_back station frame a ds e) ∙ e
 
 module _ (x : Speech Body Asked Reply) (frame : ℕ) (spot : Spot) (ns : List (News Body)) (back : List (Datagram Body)) where
   abbrev behind_so : Option (Bool × Option Found) → Life Body Asked Reply → Lives.Stand → Life Body Asked Reply

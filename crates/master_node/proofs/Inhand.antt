@@ -1,15 +1,14 @@
 -- WHAT A POST HAS IN HAND is what its slave's life has: before the first frame, at a visit, and behind a lost frame.
-use Rattle.std.proofs.Common.{◌≡◌, ◌⊎◌, inl, inr, ℕ, Bool, true, false, Option, Some, None, List, [], ◌∷◌, ◌++◌, length, refl, sym, ap, ◌∙◌, subst}
+use Rattle.std.proofs.Common.{◌≡◌, inr, ℕ, Bool, true, false, Option, Some, None, List, [], ◌∷◌, length, refl, sym, ap, ◌∙◌, subst}
 use Rattle.std.specs.Prelude.{◌&&◌, is_some, nat_lt, option_map, if◌then◌else◌}
 use Rattle.life_runs.specs.of_life_frames.Shares.{given_where}
 use Rattle.life_runs.specs.of_life_frames.of_exchange_model.Areas.{Areas}
-use Rattle.mailbox_master.specs.of_link_model.Mails.{LinkMail}
 use Rattle.master_duty.specs.Reply.{Reply}
 use Rattle.master_duty.specs.of_exchange_model.Exchange.{Speech}
 use Rattle.master_duty.specs.of_exchange_model.Rows.{Row, begun, row_told}
 use Rattle.master_duty.specs.of_segment_model.Ends as Ends
 use Rattle.master_duty.specs.of_segment_model.Record.{Kept}
-use Rattle.master_duty.specs.of_segment_model.Seats.{Side, is_over, next_mail, side_holds, side_next}
+use Rattle.master_duty.specs.of_segment_model.Seats.{Side, next_mail, side_holds, side_next}
 use Rattle.master_duty.specs.of_segment_model.Slaves.{Datagram, grams}
 use Rattle.master_duty.specs.of_state_exchange.Stated.{Service}
 use Rattle.master_duty.specs.of_task_model.Accounts.{Account, Duty, Pick, account_begins, is_acknowledged, is_free, mails_begin, starts, state_begins}
@@ -26,9 +25,9 @@ use Rattle.master_node.specs.Inhand.{AnswerHas, HasInHand, HasPassed, MailsWork,
 use Rattle.master_node.specs.Passes.{BeginsFree}
 use Rattle.master_node.specs.declared.post.Work.{Work}
 use Rattle.master_node.proofs.Frees.{none_next}
-use Rattle.master_node.proofs.Handeds.{LostOn, begun_is, lost_on}
+use Rattle.master_node.proofs.Handeds.{begun_is, lost_on}
 use Rattle.master_node.proofs.Newest.{Newest, newest, no_more}
-use Rattle.master_node.proofs.PacketRows.{held_open, out_lost, packet_begins, script_answered, SamePacket, same_over}
+use Rattle.master_node.proofs.PacketRows.{held_open, out_lost, packet_begins, script_answered, same_over}
 
 -- BEFORE THE FIRST FRAME nothing is in hand
 pub new_inhand : (x : Speech Body Asked Reply) (known : Bool) (state : ℕ) → (let l : Life Body Asked Reply = new_life state in HasInHand x known l l.stand Work.Nothing)

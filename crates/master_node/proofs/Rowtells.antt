@@ -1,13 +1,11 @@
 -- WHAT THE NEWEST SERVICE OF AN OPEN SLAVE TELLS behind a frame that came back, and what its post has in hand of it then.
-use Rattle.std.proofs.Common.{◌≡◌, ◌⊎◌, inl, inr, ℕ, Bool, true, false, Option, Some, None, List, [], ◌∷◌, ◌++◌, refl, sym, ap, ◌∙◌, subst, append-nil}
+use Rattle.std.proofs.Common.{◌≡◌, ◌⊎◌, inl, inr, ℕ, Bool, true, false, Option, Some, None, List, [], ◌++◌, refl, sym, ap, ◌∙◌, subst, append-nil}
 use Rattle.std.specs.Prelude.{◌&&◌, not, is_some, option_map, if◌then◌else◌}
 use Rattle.life_runs.specs.of_life_frames.of_exchange_model.Areas.{Areas}
 use Rattle.mailbox_mail.specs.declared.outcome.ReplyKind.{ReplyKind}
 use Rattle.master_duty.specs.Reply.{Reply}
 use Rattle.master_duty.specs.of_exchange_model.Exchange.{Speech, plain}
 use Rattle.master_duty.specs.of_exchange_model.Rows.{Row, answer_after, row_heard}
-use Rattle.master_duty.specs.of_segment_model.Seats.{Side}
-use Rattle.master_duty.specs.of_task_model.Accounts.{is_free}
 use Rattle.master_hand.specs.Hears.{answer_kept, kind_in}
 use Rattle.master_hand.specs.Shown.{HandShows, Shows, has_reply}
 use Rattle.master_hand.specs.Spoken.{Asked, drive, emission, ends, file, hand_speech, is_passed, net, passed, replied, sdo}
@@ -23,9 +21,8 @@ use Rattle.master_tour.specs.declared.stop.Stop.{Stop}
 use Rattle.master_node.specs.Backtold.{AnswerHas, NewestHas, PacketHas, ServiceHas, answer_told, has_packet, kind_by, kind_of, over_told, packet_told}
 use Rattle.master_node.specs.Begins.{is_other}
 use Rattle.master_node.specs.Besides.{Does, answered_does, handed_where, mail_does, over_does, stays, then_does}
-use Rattle.master_node.specs.declared.event.Event.{Event}
 use Rattle.master_node.specs.declared.post.Work.{Work}
-use Rattle.master_node.proofs.PacketRows.{SamePacket, packet_ends, stays_over}
+use Rattle.master_node.proofs.PacketRows.{packet_ends}
 
 -- THE KIND OF A HAND'S ANSWER is that of the row that it shows
 no_answer : (o : Option (Reply × ℕ)) → is_some o ≡ false → None ≡ kind_by o
@@ -50,6 +47,26 @@ kept_kind h x now s = kept_by h.course h.which h.clients now s.1
 -- A HAND SHOWS no row whose reply is whole and that has no answer yet
 abbrev pub IsQuiet : Speech Body Asked Reply → Option (Row Body Asked Reply) → Type 0
 IsQuiet x now = (r : Row Body Asked Reply) → now ≡ Some r → r.answer ≡ None → x.ends r.service (plain x.emission r.heard) ≡ None
+
+row_of : (g r : Row Body Asked Reply) (now : Option (Row Body Asked Reply)) → now ≡ Some g → now ≡ Some r → g ≡ r
+row_of g r now e f = (let both : Some g ≡ Some r = sym e ∙ f in cc)
+
+whole_none : (c : Talking) (g r : Row Body Asked Reply) {now : Option (Row Body Asked Reply)} {w : Option Reply} → now ≡ Some g → now ≡ Some r → ends c.areas g.service (plain emission g.heard ++ []) ≡ w → (g.answer ≡ None → w ≡ None) → r.answer ≡ None →
+    ends c.areas r.service (plain emission r.heard) ≡ None
+whole_none c g r {now} e f goes quiet n =
+    let same = row_of g r now e f in
+    ap (λ (z : Row Body Asked Reply). ends c.areas z.service (plain emission z.heard)) (sym same) ∙ ap (λ z. ends c.areas g.service z) (sym (append-nil (plain emission g.heard))) ∙ goes ∙ quiet (ap (λ z. z.answer) same ∙ n)
+
+quiet_by : (course : Course) (which : Which) (c : Talking) (now : Option (Row Body Asked Reply)) → HandShows course which c now → IsQuiet (hand_speech c.areas) now
+quiet_by Course.Nothing which c now s = λ r e n. absurd (let bad : None ≡ Some r = sym s ∙ e in cc)
+quiet_by Course.Goes which c now g = λ r e n. whole_none c g.row r g.is e (g.talks.goes []) (λ z. g.quiet z) n
+quiet_by Course.Answered which c now g = λ r e n. whole_none c g.row r g.is e (g.talks.goes []) (λ z. g.quiet z) n
+quiet_by Course.Mute which c now g = λ r e n. whole_none c g.row r g.is e (g.goes []) (λ z. g.quiet z) n
+quiet_by Course.Closed which c now g = λ r e n. absurd (let bad : None ≡ Some g.answer = sym (ap (λ z. z.answer) (row_of g.row r now g.is e) ∙ n) ∙ g.answered in cc)
+quiet_by Course.Astray which c now g = λ r e n. whole_none c g.row r g.is e (g.goes []) (λ z. g.quiet z) n
+
+pub quiet_shown : (h : InHand) (x : Speech Body Asked Reply) (now : Option (Row Body Asked Reply)) → Shows h.course h.which h.clients x now → IsQuiet x now
+quiet_shown h x now s = subst (λ z. IsQuiet z now) (sym s.0) (quiet_by h.course h.which h.clients now s.1)
 
 -- what a mail that is passed on completes has no kind
 pub passed_kind : (areas : Areas) (q : Asked) (hs : List Body) → is_passed q ≡ true → kind_in (ends areas q hs) ≡ None

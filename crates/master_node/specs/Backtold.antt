@@ -1,5 +1,5 @@
 -- WHAT A FRAME THAT CAME BACK TELLS of a slave, by its life before the frame and behind it.
-use Rattle.std.specs.Prelude.{◌&&◌, not, ℕ, zero, suc, Bool, true, false, is_some, if◌then◌else◌, Option, Some, None, List, [], ◌∷◌, ◌++◌, length}
+use Rattle.std.specs.Prelude.{◌&&◌, not, ℕ, zero, suc, Bool, true, false, is_some, Option, Some, None, List, [], ◌∷◌, ◌++◌, length}
 use Rattle.life_runs.specs.Led.{speech_at}
 use Rattle.life_runs.specs.of_frame_view.View.{Lens}
 use Rattle.mailbox_mail.specs.declared.outcome.ReplyKind.{ReplyKind}
