@@ -39,7 +39,7 @@ returns-then-not-matches-clause-told c =
     let s = c.index-stop.result.now in
     let w = work_at m.posts.items place in
     let l : place < length m.tour.stops.items = omega (arith, c.requires, m.paired, m.tour.stops.ok.0) in
-    let n : s.stand ≡ Stand.Open → ⊥ = λ e. elim c.match-matches.branch [ | in-Open z ↦ absurd (never (sym c.if-not-matches.true ∙ z.matches-is)) | in_default z ↦ ?not_open ] in
+    let n : s.stand ≡ Stand.Open → ⊥ = λ e. elim c.match-matches.branch [ | in-Open z ↦ absurd (never (sym c.if-not-matches.true ∙ z.matches-is)) | in_default z ↦ z.in_default.not-Open e ] in
     so_here (λ t v. met_does place t v) place m m s l c.index-stop.ensures
     (does_as place (stays w) (met_does place s w) m m (met_shut place s.stand s.side.duty w n) (does_none place m m refl refl))
 
