@@ -7,8 +7,8 @@ use Rattle.counters_kept.specs.Lives.{LifeKept}
 use Rattle.counters_kept.proofs.Lives.{next_life}
 use Rattle.life_runs.specs.of_frame_view.View.{Lens}
 use Rattle.life_runs.specs.of_frame_view.Seen.{seen, datagrams_seen}
-use Rattle.life_runs.specs.of_life_frames.Shares.{Lived, AllBoth, AllThree}
-use Rattle.life_runs.specs.Led.{speech_at}
+use Rattle.life_runs.specs.of_life_frames.Shares.{Lived, AllBoth, AllThree, AreDistinct}
+use Rattle.life_runs.specs.Led.{Turn, speech_at}
 use Rattle.mailbox_master.specs.Any.{in_area_len}
 use Rattle.master_duty.specs.Reply.{Reply}
 use Rattle.master_duty.specs.of_state_exchange.Stated.{Service}
@@ -29,6 +29,7 @@ use Rattle.master_tour.specs.of_life_model.Lives.{Life, Spot}
 use Rattle.segment_plan.specs.declared.service.Service as Plan
 use Rattle.served_runs.specs.Served.{AllServedTurn, IsServedTurn, Keyed, Serves, ServedComes, ServedTurn}
 use Rattle.served_runs.specs.Told.{Passed}
+use Rattle.master_node.specs.Begins.{begun_of}
 use Rattle.master_node.specs.Events.{served_tells}
 use Rattle.master_node.specs.Filling.{StopFills}
 use Rattle.master_node.specs.Handed.{IsHanding}
@@ -38,7 +39,7 @@ use Rattle.master_node.specs.Inhand.{HasInHand, WorkOf}
 use Rattle.master_node.specs.Passes.{BeginsFree, IsPassing, IsServing, ThreeFrom}
 use Rattle.master_node.specs.Serving.{IsServed, IsServedUnder, MayPass, ServedShows, mails_in, run_lead, run_turn, waits_of}
 use Rattle.master_node.specs.Rooms.{FitAgain}
-use Rattle.master_node.specs.Shows.{GoesOn, lived_of, side_shows}
+use Rattle.master_node.specs.Shows.{GoesOn, GoesUnder, lived_of, side_shows, turned_of}
 use Rattle.master_node.specs.declared.node.MasterNode.{MasterNode}
 use Rattle.master_node.specs.declared.post.Post.{Post}
 use Rattle.master_node.specs.declared.post.Work.{Work}
@@ -54,6 +55,17 @@ use Rattle.master_node.proofs.ServedVisits.{Alike, serving_alike}
 pub map_map : {A B C : Type 0} (g : B → C) (f : A → B) (xs : List A) → map g (map f xs) ≡ map (λ x. g (f x)) xs
 map_map g f [] = refl
 map_map g f (x ∷ xs) = ap (λ z. g (f x) ∷ z) (map_map g f xs)
+
+-- the turns of a serving are those of its run
+module _ (us : List Turn) (vs : List ServedTurn) (are : map run_turn vs ≡ us) where
+  pub sent_distinct : AreDistinct (map turned_of us) → AreDistinct (map (λ v. v.turn.lived) vs)
+  sent_distinct d = subst (λ z. AreDistinct z) (ap (map turned_of) (sym are) ∙ map_map turned_of run_turn vs) d
+
+  pub sent_goes : (visit : List ℕ) (opened : ℕ) → GoesUnder visit opened us → GoesUnder visit opened (map run_turn vs)
+  sent_goes visit opened g = subst (λ z. GoesUnder visit opened z) (sym are) g
+
+  pub sent_begun : (begun : ℕ → Option (Service Asked)) → ((k : ℕ) → begun_of us k ≡ begun k) → (k : ℕ) → begun_of (map run_turn vs) k ≡ begun k
+  sent_begun begun h k = ap (λ z. begun_of z k) are ∙ h k
 
 pub three_long : {A B S : Type 0} (P : ℕ → A → B → S → Type 0) (i : ℕ) (as' : List A) (bs : List B) (ss : List S) → ThreeFrom P i as' bs ss → length ss ≡ length as'
 three_long P i [] [] [] p = refl

@@ -21,7 +21,7 @@ use Rattle.master_duty.specs.of_segment_model.Slaves.{Access, Datagram, Found}
 use Rattle.master_duty.specs.of_task_model.Accounts as Accounts
 use Rattle.master_duty.specs.of_task_model.Accounts.{Account, duty_access}
 use Rattle.master_hand.specs.Laying.{scripted}
-use Rattle.master_hand.specs.Shown.{awaits_reply}
+use Rattle.master_hand.specs.Shown.{awaits_reply, knows}
 use Rattle.master_hand.specs.Spoken.{Asked, acknowledged, is_followed, is_passed}
 use Rattle.master_hand.specs.declared.hand.InHand.{InHand}
 use Rattle.master_side.specs.Passing.{PassingShows, counts_at, news_back}
@@ -45,7 +45,9 @@ use Rattle.master_tour.proofs.Passings.{nothing_told}
 use Rattle.master_tour.proofs.Unders.{SameAim, under_back}
 use Rattle.counters_kept.specs.of_news_kept.Counts.{counts_on}
 use Rattle.served_runs.specs.Served.{Serves, ServedTurn, served_behind}
+use Rattle.master_node.specs.Besides.{back_does, by_stop, stays}
 use Rattle.master_node.specs.Handed.{work_at}
+use Rattle.master_node.specs.Inhand.{HasInHand}
 use Rattle.master_node.specs.Named.{StaysNamed}
 use Rattle.master_node.specs.Serving.{IsServed, IsServedUnder, run_lead, run_turn, waits_of}
 use Rattle.master_node.specs.Shows.{GoesOn, GoesUnder, IsLived, is_opening_lead, lived_of, side_shows}
@@ -136,6 +138,17 @@ stand_same lens spot made ns ms back (Some got) l Lives.Stand.Gone = refl
 abbrev CountsBehind : {G : Ghosts InHand} → ℕ → List (Datagram Body) → Stop InHand G → Stop InHand G → Life Body Asked Reply → Type 0
 CountsBehind made back s t l = (counts : Bool) → StopCounts s made counts → StopCounts t (suc made) (counts_on l.stand s.side.station s.side.pace made back counts)
 
+module _ (lens : ℕ → Lens) where
+  -- the life of a slave behind a frame of which this came back
+  abbrev pub life_behind : {G : Ghosts InHand} → ℕ → List (Datagram Body) → ServedTurn → Stop InHand G → Life Body Asked Reply
+  life_behind made back v s =
+      let a = v.turn.lived in
+      life_back (speech_at lens a.spot) acknowledged is_followed is_passed made a.spot (news_back a.spot.station v.kept v.counts back) back (came_at s.under s.at back) a.life a.life.stand
+
+  -- what its post has in hand then
+  abbrev pub InHandBehind : {G : Ghosts InHand} → ℕ → List (Datagram Body) → ServedTurn → Post → Stop InHand G → Stop InHand G → Type 0
+  InHandBehind made back v q s t = HasInHand (speech_at lens v.turn.lived.spot) (knows t.side.hand.course) (life_behind made back v s) (life_behind made back v s).stand q.work
+
 module _ (lens : ℕ → Lens) (recover retry : ℕ) where
   -- a frame that came back with these octets
   abbrev passed_so : Exchanged → List ℕ → Exchanged
@@ -151,9 +164,9 @@ module _ (lens : ℕ → Lens) (recover retry : ℕ) where
         StandPassing t.stand (awaits_reply t.side.hand.course t.side.hand.which t.side.hand.clients) t.side.passing
         (life_back (speech_at lens v.turn.lived.spot) acknowledged is_followed is_passed made v.turn.lived.spot (news_back s.side.station v.kept (counts_at s.side.read_at s.side.pace made) (seen lens back)) (seen lens back)
         (came_at s.under s.at (seen lens back)) v.turn.lived.life v.turn.lived.life.stand) →
-        CountsBehind made (seen lens back) s t v.turn.lived.life → t.side.pace ≡ s.side.pace → scripted t.side.hand.laying ≡ scripted s.side.hand.laying → waits_of q ≡ waits_of p → (b : Bool) → (b ≡ true → s.under ≡ false) → StaysNamed p.work q.work (b || is_some t.side.passing) →
+        CountsBehind made (seen lens back) s t v.turn.lived.life → t.side.pace ≡ s.side.pace → scripted t.side.hand.laying ≡ scripted s.side.hand.laying → waits_of q ≡ waits_of p → (b : Bool) → (b ≡ true → s.under ≡ false) → StaysNamed p.work q.work (b || is_some t.side.passing) → InHandBehind made (seen lens back) v q s t →
         IsServed lens recover (suc made) (served_behind lens recover retry gives made (passed_so f back) v) q t
-    served_so f octets back v p q s t i r lives passes counts pace script waits b still works =
+    served_so f octets back v p q s t i r lives passes counts pace script waits b still works inhand =
         let l = v.turn.lived.life in
         let spot = v.turn.lived.spot in
         let x = speech_at lens spot in
@@ -196,6 +209,7 @@ module _ (lens : ℕ → Lens) (recover retry : ℕ) where
           waits = waits ∙ h.waits;
           fits = h.fits;
           handed = back_handed x made spot news (seen lens back) came l p.work q.work v.hand (accepted_in spot l (seen lens back)) h.handed (stays_where p.work q.work (b || is_some t.side.passing) _ goes works);
+          inhand = subst (λ (z : Share). (let m = life_back x acknowledged is_followed is_passed made spot news (seen lens back) (came_at z.under z.at (seen lens back)) l l.stand in HasInHand x (knows t.side.hand.course) m m.stand q.work)) share inhand;
         }
 
     -- a slave with a mail in hand stays open
@@ -212,31 +226,35 @@ module _ (lens : ℕ → Lens) (recover retry : ℕ) where
         StandPassing t.stand (awaits_reply t.side.hand.course t.side.hand.which t.side.hand.clients) t.side.passing
         (life_back (speech_at lens v.turn.lived.spot) acknowledged is_followed is_passed made v.turn.lived.spot (news_back s.side.station v.kept (counts_at s.side.read_at s.side.pace made) (seen lens back)) (seen lens back)
         (came_at s.under s.at (seen lens back)) v.turn.lived.life v.turn.lived.life.stand) →
-        CountsBehind made (seen lens back) s t v.turn.lived.life → t.side.pace ≡ s.side.pace → scripted t.side.hand.laying ≡ scripted s.side.hand.laying → waits_of q ≡ waits_of p → (still : Bool) → (still ≡ true → s.under ≡ false) → StaysNamed p.work q.work (still || is_some t.side.passing) →
+        CountsBehind made (seen lens back) s t v.turn.lived.life → t.side.pace ≡ s.side.pace → scripted t.side.hand.laying ≡ scripted s.side.hand.laying → waits_of q ≡ waits_of p → (still : Bool) → (still ≡ true → s.under ≡ false) → StaysNamed p.work q.work (still || is_some t.side.passing) → InHandBehind made (seen lens back) v q s t →
         IsServed lens recover (suc made) (served_behind lens recover retry gives made f v) q t
-    served_back f octets back v p q s t is b i r lives passes counts pace script waits still unread works =
-        subst (λ (z : Exchanged). IsServed lens recover (suc made) (served_behind lens recover retry gives made z v) q t) (sym (so_is f back is b)) (served_so f octets back v p q s t i r lives passes counts pace script waits still unread works)
+    served_back f octets back v p q s t is b i r lives passes counts pace script waits still unread works inhand =
+        subst (λ (z : Exchanged). IsServed lens recover (suc made) (served_behind lens recover retry gives made z v) q t) (sym (so_is f back is b)) (served_so f octets back v p q s t i r lives passes counts pace script waits still unread works inhand)
+
+    -- what the posts have in hand behind a frame that visited but these
+    abbrev pub behind_at : {G : Ghosts InHand} → (ℕ → ℕ) → (ℕ → Bool) → List Post → List (Stop InHand G) → ℕ → Work
+    behind_at at still ps ts k = if still k then work_at ps k else (by_stop (stays (work_at ps k)) (λ t. back_does (at k) t (work_at ps k)) ts k).work
 
     module _ (f : Exchanged) where
       -- all of them
-      pub all_served : {G : Ghosts InHand} (octets : List ℕ) (T : Lived Asked Reply → Stop InHand G → Stop InHand G → Type 0) (E : Stop InHand G → Stop InHand G → Type 0) (still : ℕ → Bool) (vs : List ServedTurn) (ps qs : List Post) (ss ts : List (Stop InHand G)) →
-          ((k : ℕ) → still k ≡ true → holds_at (λ s. s.under) ss k ≡ false) → ((k : ℕ) → StaysNamed (work_at ps k) (work_at qs k) (still k || holds_at (λ t. is_some t.side.passing) ts k)) →
+      pub all_served : {G : Ghosts InHand} (octets : List ℕ) (T : Lived Asked Reply → Stop InHand G → Stop InHand G → Type 0) (E : Stop InHand G → Stop InHand G → Type 0) (at : ℕ → ℕ) (still : ℕ → Bool) (vs : List ServedTurn) (ps qs : List Post) (ss ts : List (Stop InHand G)) →
+          ((k : ℕ) → still k ≡ true → holds_at (λ s. s.under) ss k ≡ false) → ((k : ℕ) → StaysNamed (work_at ps k) (work_at qs k) (still k || holds_at (λ t. is_some t.side.passing) ts k)) → ((k : ℕ) → work_at qs k ≡ behind_at at still ps ts k) →
           AllThree (λ v p s. IsServedUnder lens recover octets made v p s) vs ps ss → map waits_of qs ≡ map waits_of ps → AllThree T (map (λ v. v.turn.lived) vs) ss ts → EachPair E ss ts →
-          ((v : ServedTurn) (p q : Post) (s t : Stop InHand G) → IsServedUnder lens recover octets made v p s → waits_of q ≡ waits_of p → (b : Bool) → (b ≡ true → s.under ≡ false) → StaysNamed p.work q.work (b || is_some t.side.passing) → T v.turn.lived s t → E s t → IsServed lens recover (suc made) (served_behind lens recover retry gives made f v) q t) →
+          ((v : ServedTurn) (p q : Post) (s t : Stop InHand G) → IsServedUnder lens recover octets made v p s → waits_of q ≡ waits_of p → (b : Bool) → (b ≡ true → s.under ≡ false) → StaysNamed p.work q.work (b || is_some t.side.passing) → (k : ℕ) → q.work ≡ (if b then p.work else (back_does k t p.work).work) → T v.turn.lived s t → E s t → IsServed lens recover (suc made) (served_behind lens recover retry gives made f v) q t) →
           AllThree (λ w q t. IsServed lens recover (suc made) w q t) (map (served_behind lens recover retry gives made f) vs) qs ts
-      all_served octets T E still [] [] [] [] [] u g i w t e h = tt
-      all_served octets T E still [] [] [] [] (y ∷ ts) u g i w t e h = absurd e
-      all_served octets T E still [] [] (q ∷ qs) [] ts u g i w t e h = absurd (cc)
-      all_served octets T E still [] [] qs (s ∷ ss) ts u g i w t e h = absurd i
-      all_served octets T E still [] (p ∷ ps) qs [] ts u g i w t e h = absurd i
-      all_served octets T E still [] (p ∷ ps) qs (s ∷ ss) ts u g i w t e h = absurd i
-      all_served octets T E still (v ∷ vs) [] qs [] ts u g i w t e h = absurd i
-      all_served octets T E still (v ∷ vs) [] qs (s ∷ ss) ts u g i w t e h = absurd i
-      all_served octets T E still (v ∷ vs) (p ∷ ps) qs [] ts u g i w t e h = absurd i
-      all_served octets T E still (v ∷ vs) (p ∷ ps) [] (s ∷ ss) ts u g i w t e h = absurd (cc)
-      all_served octets T E still (v ∷ vs) (p ∷ ps) (q ∷ qs) (s ∷ ss) [] u g i w t e h = absurd e
-      all_served octets T E still (v ∷ vs) (p ∷ ps) (q ∷ qs) (s ∷ ss) (y ∷ ts) u g i w t e h =
-          (h v p q s y i.0 (ap (first (waits_of p)) w) (still zero) (u zero) (g zero) t.0 e.0, all_served octets T E (λ k. still (suc k)) vs ps qs ss ts (λ k. u (suc k)) (λ k. g (suc k)) i.1 (ap rest w) t.1 e.1 h)
+      all_served octets T E at still [] [] [] [] [] u g a i w t e h = tt
+      all_served octets T E at still [] [] [] [] (y ∷ ts) u g a i w t e h = absurd e
+      all_served octets T E at still [] [] (q ∷ qs) [] ts u g a i w t e h = absurd (cc)
+      all_served octets T E at still [] [] qs (s ∷ ss) ts u g a i w t e h = absurd i
+      all_served octets T E at still [] (p ∷ ps) qs [] ts u g a i w t e h = absurd i
+      all_served octets T E at still [] (p ∷ ps) qs (s ∷ ss) ts u g a i w t e h = absurd i
+      all_served octets T E at still (v ∷ vs) [] qs [] ts u g a i w t e h = absurd i
+      all_served octets T E at still (v ∷ vs) [] qs (s ∷ ss) ts u g a i w t e h = absurd i
+      all_served octets T E at still (v ∷ vs) (p ∷ ps) qs [] ts u g a i w t e h = absurd i
+      all_served octets T E at still (v ∷ vs) (p ∷ ps) [] (s ∷ ss) ts u g a i w t e h = absurd (cc)
+      all_served octets T E at still (v ∷ vs) (p ∷ ps) (q ∷ qs) (s ∷ ss) [] u g a i w t e h = absurd e
+      all_served octets T E at still (v ∷ vs) (p ∷ ps) (q ∷ qs) (s ∷ ss) (y ∷ ts) u g a i w t e h =
+          (h v p q s y i.0 (ap (first (waits_of p)) w) (still zero) (u zero) (g zero) (at zero) (a zero) t.0 e.0, all_served octets T E (λ k. at (suc k)) (λ k. still (suc k)) vs ps qs ss ts (λ k. u (suc k)) (λ k. g (suc k)) (λ k. a (suc k)) i.1 (ap rest w) t.1 e.1 h)
         where
           first : {A : Type 0} → A → List A → A
           first a [] = a

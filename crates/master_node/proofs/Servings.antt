@@ -13,14 +13,15 @@ use Rattle.master_duty.specs.of_segment_model.Record.{nothing_kept}
 use Rattle.master_tour.specs.Counting.{StandCounts}
 use Rattle.master_tour.specs.Passing.{StandPassing}
 use Rattle.master_tour.specs.declared.stop.Stand.{Stand}
-use Rattle.master_tour.specs.of_life_model.Lives.{Life}
+use Rattle.master_tour.specs.of_life_model.Lives.{Life, new_life}
 use Rattle.counters_kept.specs.of_news_kept.Counts.{CountsAt}
 use Rattle.counters_kept.proofs.of_news_kept.Kepts.{new_kept}
 use Rattle.segment_plan.specs.declared.service.Service as Plan
 use Rattle.segment_plan.specs.declared.slave.SlaveSpec.{SlaveSpec}
 use Rattle.life_runs.specs.of_frame_view.View.{Lens}
 use Rattle.life_runs.specs.of_life_frames.Shares.{AllBoth, AllThree}
-use Rattle.life_runs.specs.Led.{Leads}
+use Rattle.life_runs.specs.Led.{Leads, speech_at}
+use Rattle.master_hand.specs.Shown.{knows}
 use Rattle.master_hand.specs.declared.hand.InHand.{InHand}
 use Rattle.master_side.specs.declared.hand.Hand.{Ghosts}
 use Rattle.master_side.specs.of_mailbox_mail.declared.mail.Mail.{Mail}
@@ -28,6 +29,7 @@ use Rattle.master_tour.specs.Walks.{StepsAt}
 use Rattle.master_tour.specs.declared.stop.Stop.{Stop}
 use Rattle.served_runs.specs.Served.{Keyed, Serves, MayAsk, asked_at, all_serve, new_serves}
 use Rattle.master_node.specs.Appends.{AppendsMail}
+use Rattle.master_node.specs.Inhand.{HasInHand}
 use Rattle.master_node.specs.Lives.{waiting_at}
 use Rattle.master_node.specs.Named.{IsHanded}
 use Rattle.master_node.specs.Serving.{FitsAt, IsAsked, IsPaced, IsServed, MayPass, TellsOnly, run_lead, waits_of}
@@ -36,6 +38,7 @@ use Rattle.master_node.specs.declared.node.MasterNode.{MasterNode}
 use Rattle.master_node.specs.declared.post.Asked.{Asked}
 use Rattle.master_node.specs.declared.post.Post.{Post}
 use Rattle.master_node.specs.declared.post.Work.{Work}
+use Rattle.master_node.proofs.Inhand.{new_inhand}
 
 abbrev EachOf : {T : Type 0} → (T → Type 0) → List T → Type 0
 EachOf P [] = ⊤
@@ -81,6 +84,7 @@ module _ {G : Ghosts InHand} (lens : ℕ → Lens) (recover made key : ℕ) (mai
     waits = ap (map keyed) a.waits ∙ keyed_more p.mails.items (a.asked ∷ []) ∙ ap (λ z. z ++ keyed a.asked ∷ []) h.waits;
     fits = All-push (λ k. MayPass (lens w.lead.lived.spot.station).out k) w.waits (keyed a.asked) h.fits (a.bare.0, a.bare.1, subst (λ z. 6 + length z ≤ (lens w.lead.lived.spot.station).out) (sym a.body) f);
     handed = subst (λ z. IsHanded z w.hand w.lead.lived.life) (sym o) h.handed;
+    inhand = subst (λ z. HasInHand (speech_at lens w.lead.lived.spot) (knows s.side.hand.course) w.lead.lived.life w.lead.lived.life.stand z) (sym o) h.inhand;
   }
 
   pub asked_so : (place : ℕ) (ws : List Serves) (ps qs : List Post) (ss : List (Stop InHand G)) → waiting_at ps place < 64 → FitsAt lens place (length mail.body.items) ws → AllThree (λ w p s. IsServed lens recover made w p s) ws ps ss →
@@ -188,7 +192,7 @@ module _ {G : Ghosts InHand} (lens : ℕ → Lens) (recover : ℕ) where
     fits = All-nil (λ k. MayPass (lens a.lived.spot.station).out k);
     handed = record { named = λ key e. absurd (let bad = sym o ∙ e in cc); only = λ i t. absurd (none_some a.lived.life.era.passing l.own t) };
     inhand = subst (λ z. HasInHand (speech_at lens a.lived.spot) (knows s.side.hand.course) a.lived.life a.lived.life.stand z) (sym o)
-        (subst (λ (z : Life Body Asked Reply). HasInHand (speech_at lens a.lived.spot) (knows s.side.hand.course) z z.stand Work.Nothing) (sym new.1) (new_inhand (speech_at lens a.lived.spot) (knows s.side.hand.course) new.0));
+        (subst (λ (z : Life Body Talk.Asked Reply). HasInHand (speech_at lens a.lived.spot) (knows s.side.hand.course) z z.stand Work.Nothing) (sym new.1) (new_inhand (speech_at lens a.lived.spot) (knows s.side.hand.course) new.0));
   }
 
   pub firsts_served : (paces : List ℕ) (as' : List Leads) (ps : List Post) (ss : List (Stop InHand G)) → AllBoth (λ a s. IsLead lens recover a s) as' ss → AllBoth (λ pace s. IsPaced pace s) paces ss → All WaitsNone ps → All (λ p. p.work ≡ Work.Nothing) ps → length ps ≡ length ss →

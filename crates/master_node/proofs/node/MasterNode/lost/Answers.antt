@@ -157,7 +157,7 @@ returns-clause-served c = λ lens recover retry missed made after octets vs f p 
     let given = not (nat_lt m.tour.missed m.tour.retry) in
     let comes : nat_lt m.tour.missed m.tour.retry ≡ nat_lt missed retry = λ i. nat_lt (u.missed_is i) (u.retry_is i) in
     let three = e.shown lens octets (λ spot. speech_at lens spot) is_followed is_passed made recover (map (λ v. v.turn.lived) vs) (three_both _ _ (λ v. v.turn.lived) (λ v x s i. (i.served.lives, i.way)) vs m.posts.items ss u.each) in
-    let toured = pair_both _ _ ss ts e.stays (pair_both _ _ ss ts (e.passing lens octets) (pair_both _ _ ss ts e.counts e.pace)) in
+    let toured = pair_both _ _ ss ts e.stays (pair_both _ _ ss ts (e.passing lens octets) (pair_both _ _ ss ts e.counts (pair_both _ _ ss ts e.pace e.recalled))) in
     let gave = Losts.gave_all (λ v q s. IsServedUnder lens recover octets made v q s) _ (λ t. is_given_up t.news) (λ s. s.under) given
     (λ v q s t i y.
     let l = v.turn.lived.life in
@@ -175,7 +175,7 @@ returns-clause-served c = λ lens recover retry missed made after octets vs f p 
     let shown = i.served.lives.shown in
     Losts.served_lost lens recover retry gives made f octets after p b given v q r s t (ap not comes) i a
     (z.1.0 x made recover spot v.kept l i.served.lives.planned.stands i.way shown (stands_kept s.stand v.kept l (λ o. (subst (λ y. StandShows (λ d g. side_shows lens recover s spot d g) spot y l) o shown.stood).0) i.served.kept) i.served.passing)
-    (z.1.1.0 x made recover spot l shown) z.1.1.1 z.0.0 w o) in
+    (z.1.1.0 x made recover spot l shown) z.1.1.1.0 z.0.0 w o (λ h. (z.1.1.1.1.0 h).3)) in
     let there = subst (λ z. AllThree (λ w q t. IsServed lens recover (suc made) w q t) (map (served_behind lens recover retry gives made f) vs) n.posts.items z.stops.items) (sym k.tour) each in
     record {
       each = there;
