@@ -82,10 +82,9 @@ none_told : (x : Speech Body Asked Reply) (station : ℕ) (kept : Kept) (counts 
     passes_on x p (news_back station kept counts back) ≡ p
 none_told x station kept counts back awaits passing p a e s = (nothing_told x acknowledged is_followed is_passed station kept counts back awaits passing p a e s).is ∙ sym s.is
 
-still_told : {T : Type 0} (f : Option T → Option T) (station at : ℕ) (under : Bool) (carried : Carried) (h : Halves Body) (due : Option Access) (back : List (Datagram Body)) (p : Option T) → under ≡ false → Under station at under carried h due back →
-    (mine station back ≡ [] → f p ≡ p) → f p ≡ p
-still_told f station at under carried h due back p n (Under.none k e) g = g e
-still_told f station at under carried h due back p n (Under.has b k i e m) g = absurd (let bad = sym n ∙ k in cc)
+unread_none : (station at : ℕ) (under : Bool) (carried : Carried) (h : Halves Body) (due : Option Access) (back : List (Datagram Body)) → Under station at under carried h due back → under ≡ false → mine station back ≡ []
+unread_none station at under carried h due back (Under.none k e) n = e
+unread_none station at under carried h due back (Under.has b k i e m) n = absurd (let bad : true ≡ false = sym k ∙ n in cc)
 
 goes_by : (b p l : Bool) → (b ≡ true → l ≡ true) → l ≡ p → (b || p) ≡ l
 goes_by true p l on alike = sym (on refl)
@@ -149,6 +148,37 @@ module _ (lens : ℕ → Lens) where
   abbrev pub InHandBehind : {G : Ghosts InHand} → ℕ → List (Datagram Body) → ServedTurn → Post → Stop InHand G → Stop InHand G → Type 0
   InHandBehind made back v q s t = HasInHand (speech_at lens v.turn.lived.spot) (knows t.side.hand.course) (life_behind made back v s) (life_behind made back v s).stand q.work
 
+module _ (lens : ℕ → Lens) (recover made : ℕ) where
+  -- how far its mail has come, by whether an empty read counts
+  pub passes_behind : {G : Ghosts InHand} (octets : List ℕ) (back : List (Datagram Body)) (v : ServedTurn) (p : Post) (s t : Stop InHand G) → IsServedUnder lens recover octets made v p s →
+      StandPassing t.stand (awaits_reply t.side.hand.course t.side.hand.which t.side.hand.clients) t.side.passing
+      (life_back (speech_at lens v.turn.lived.spot) acknowledged is_followed is_passed made v.turn.lived.spot (news_back s.side.station v.kept (counts_at s.side.read_at s.side.pace made) back) back (came_at s.under s.at back) v.turn.lived.life v.turn.lived.life.stand) →
+      StandPassing t.stand (awaits_reply t.side.hand.course t.side.hand.which t.side.hand.clients) t.side.passing (life_behind lens made back v s)
+  passes_behind octets back v p s t i passes =
+      let l = v.turn.lived.life in
+      let spot = v.turn.lived.spot in
+      let h = i.served in
+      let same : l.stand ≡ Lives.Stand.Open → news_back s.side.station v.kept (counts_at s.side.read_at s.side.pace made) back ≡ news_back spot.station v.kept v.counts back = λ o.
+      (λ j. news_back (h.lives.planned.stands.station_is j) v.kept ((counts_is s.stand s.side.read_at s.side.pace made v.counts (open_stand (λ d b. side_shows lens recover s spot d b) spot s.stand l h.lives.shown.stood o) h.counts) j) back) in
+      subst (λ z. StandPassing t.stand (awaits_reply t.side.hand.course t.side.hand.which t.side.hand.clients) t.side.passing z) (news_same lens spot made _ (news_back spot.station v.kept v.counts back) back (came_at s.under s.at back) l same) passes
+
+  -- and where the frame had nothing of it
+  pub unread_behind : {G : Ghosts InHand} (octets back : List ℕ) (v : ServedTurn) (p : Post) (s : Stop InHand G) → IsServedUnder lens recover octets made v p s → Returns (seen lens octets) (seen lens back) → s.under ≡ false → v.turn.lived.life.stand ≡ Lives.Stand.Open →
+      (mine v.turn.lived.spot.station (seen lens back) ≡ []) × (passes_on (speech_at lens v.turn.lived.spot) v.turn.lived.life.era.passing (news_back v.turn.lived.spot.station v.kept v.counts (seen lens back)) ≡ v.turn.lived.life.era.passing)
+  unread_behind octets back v p s i r still o =
+      let l = v.turn.lived.life in
+      let spot = v.turn.lived.spot in
+      let h = i.served in
+      let station = h.lives.planned.stands.station_is in
+      let open_s = open_stand (λ d b. side_shows lens recover s spot d b) spot s.stand l h.lives.shown.stood o in
+      let none = unread_none _ s.at s.under s.side.carried _ _ _ (under_back s.side.station s.at s.under s.side.carried l.era.side.halves (duty_access l.era.account.hand) (seen lens octets) (seen lens back) r
+      (subst (λ z. StandUnder lens s.side.station s.at s.under s.side.carried z l (seen lens octets)) open_s i.way)) still in
+      let here = ap (λ z. mine z (seen lens back)) (sym station) ∙ none in (
+        here,
+        none_told (speech_at lens spot) spot.station v.kept v.counts (seen lens back) _ s.side.passing l.era.passing (seen_aims lens back spot.station (subst (λ z. nat_le 1 z ≡ true) station s.named)) here
+            (subst (λ z. StandPassing z (awaits_reply s.side.hand.course s.side.hand.which s.side.hand.clients) s.side.passing l) open_s h.passing),
+      )
+
 module _ (lens : ℕ → Lens) (recover retry : ℕ) where
   -- a frame that came back with these octets
   abbrev passed_so : Exchanged → List ℕ → Exchanged
@@ -164,7 +194,7 @@ module _ (lens : ℕ → Lens) (recover retry : ℕ) where
         StandPassing t.stand (awaits_reply t.side.hand.course t.side.hand.which t.side.hand.clients) t.side.passing
         (life_back (speech_at lens v.turn.lived.spot) acknowledged is_followed is_passed made v.turn.lived.spot (news_back s.side.station v.kept (counts_at s.side.read_at s.side.pace made) (seen lens back)) (seen lens back)
         (came_at s.under s.at (seen lens back)) v.turn.lived.life v.turn.lived.life.stand) →
-        CountsBehind made (seen lens back) s t v.turn.lived.life → t.side.pace ≡ s.side.pace → scripted t.side.hand.laying ≡ scripted s.side.hand.laying → waits_of q ≡ waits_of p → (b : Bool) → (b ≡ true → s.under ≡ false) → StaysNamed p.work q.work (b || is_some t.side.passing) → InHandBehind made (seen lens back) v q s t →
+        CountsBehind made (seen lens back) s t v.turn.lived.life → t.side.pace ≡ s.side.pace → scripted t.side.hand.laying ≡ scripted s.side.hand.laying → waits_of q ≡ waits_of p → (b : Bool) → (b ≡ true → s.under ≡ false) → StaysNamed p.work q.work (b || is_some t.side.passing) → InHandBehind lens made (seen lens back) v q s t →
         IsServed lens recover (suc made) (served_behind lens recover retry gives made (passed_so f back) v) q t
     served_so f octets back v p q s t i r lives passes counts pace script waits b still works inhand =
         let l = v.turn.lived.life in
@@ -175,8 +205,6 @@ module _ (lens : ℕ → Lens) (recover retry : ℕ) where
         let share : record { under = s.under; at = s.at } ≡ v.turn.share = λ j. record { under = (sym i.under) j; at = (sym i.at) j } in
         let station = h.lives.planned.stands.station_is in
         let stands = open_stand (λ d b. side_shows lens recover s spot d b) spot s.stand l h.lives.shown.stood in
-        let same : l.stand ≡ Lives.Stand.Open → news_back s.side.station v.kept (counts_at s.side.read_at s.side.pace made) (seen lens back) ≡ news = λ o.
-        (λ j. news_back (station j) v.kept ((counts_is s.stand s.side.read_at s.side.pace made v.counts (stands o) h.counts) j) (seen lens back)) in
         let under : l.stand ≡ Lives.Stand.Open → Under spot.station s.at s.under s.side.carried l.era.side.halves (duty_access l.era.account.hand) (seen lens back) = λ o.
         subst (λ z. Under z s.at s.under s.side.carried l.era.side.halves (duty_access l.era.account.hand) (seen lens back)) station
         (under_back s.side.station s.at s.under s.side.carried l.era.side.halves (duty_access l.era.account.hand) (seen lens octets) (seen lens back) r
@@ -185,16 +213,14 @@ module _ (lens : ℕ → Lens) (recover retry : ℕ) where
         let lived = subst (λ z. IsLived lens recover (lived_back x acknowledged is_followed is_passed made (seen lens back) v.turn.lived z news) t) share (lives news) in
         let passing = subst (λ (z : Share). StandPassing t.stand (awaits_reply t.side.hand.course t.side.hand.which t.side.hand.clients) t.side.passing
         (life_back x acknowledged is_followed is_passed made spot news (seen lens back) (came_at z.under z.at (seen lens back)) l l.stand)) share
-        (subst (λ z. StandPassing t.stand (awaits_reply t.side.hand.course t.side.hand.which t.side.hand.clients) t.side.passing z) (news_same lens spot made _ news (seen lens back) (came_at s.under s.at (seen lens back)) l same) passes) in
+        (passes_behind lens recover made octets (seen lens back) v p s t i passes) in
         let goes : (key : ℕ) → p.work ≡ Work.Passed key → (b || is_some t.side.passing) ≡ is_some (life_back x acknowledged is_followed is_passed made spot news (seen lens back) came l l.stand).era.passing = λ key e.
         (let n = h.handed.named key e in
         let opens = stays_open x made spot news (seen lens back) came l l.stand n.opened n.opened n.alone in
         let alike = waits_alike t.stand _ t.side.passing _ passing (open_stand _ spot t.stand _ lived.shown.stood opens.0) in
         let on : b ≡ true → is_some (life_back x acknowledged is_followed is_passed made spot news (seen lens back) came l l.stand).era.passing ≡ true = λ y.
         ap (λ (z : Option _). is_some z) (back_passing x made spot news (seen lens back) came l l.stand n.opened
-        ∙ still_told (λ z. passes_on x z news) spot.station s.at s.under s.side.carried l.era.side.halves (duty_access l.era.account.hand) (seen lens back) l.era.passing (still y) (under n.opened)
-        (λ none. none_told x spot.station v.kept v.counts (seen lens back) _ s.side.passing l.era.passing (seen_aims lens back spot.station (subst (λ z. nat_le 1 z ≡ true) station s.named)) none
-        (subst (λ z. StandPassing z (awaits_reply s.side.hand.course s.side.hand.which s.side.hand.clients) s.side.passing l) (stands n.opened) h.passing))) ∙ n.passing in
+        ∙ (unread_behind lens recover made octets back v p s i r (still y) n.opened).1) ∙ n.passing in
         goes_by b _ _ on alike) in
         record {
           lives = lived;
@@ -226,7 +252,7 @@ module _ (lens : ℕ → Lens) (recover retry : ℕ) where
         StandPassing t.stand (awaits_reply t.side.hand.course t.side.hand.which t.side.hand.clients) t.side.passing
         (life_back (speech_at lens v.turn.lived.spot) acknowledged is_followed is_passed made v.turn.lived.spot (news_back s.side.station v.kept (counts_at s.side.read_at s.side.pace made) (seen lens back)) (seen lens back)
         (came_at s.under s.at (seen lens back)) v.turn.lived.life v.turn.lived.life.stand) →
-        CountsBehind made (seen lens back) s t v.turn.lived.life → t.side.pace ≡ s.side.pace → scripted t.side.hand.laying ≡ scripted s.side.hand.laying → waits_of q ≡ waits_of p → (still : Bool) → (still ≡ true → s.under ≡ false) → StaysNamed p.work q.work (still || is_some t.side.passing) → InHandBehind made (seen lens back) v q s t →
+        CountsBehind made (seen lens back) s t v.turn.lived.life → t.side.pace ≡ s.side.pace → scripted t.side.hand.laying ≡ scripted s.side.hand.laying → waits_of q ≡ waits_of p → (still : Bool) → (still ≡ true → s.under ≡ false) → StaysNamed p.work q.work (still || is_some t.side.passing) → InHandBehind lens made (seen lens back) v q s t →
         IsServed lens recover (suc made) (served_behind lens recover retry gives made f v) q t
     served_back f octets back v p q s t is b i r lives passes counts pace script waits still unread works inhand =
         subst (λ (z : Exchanged). IsServed lens recover (suc made) (served_behind lens recover retry gives made z v) q t) (sym (so_is f back is b)) (served_so f octets back v p q s t i r lives passes counts pace script waits still unread works inhand)
