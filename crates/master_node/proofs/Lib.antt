@@ -71,3 +71,4 @@ pub mod Reopeneds
 pub mod Backtolds
 pub mod Unread
 pub mod Backinhand
+pub mod Backtolds

@@ -45,6 +45,7 @@ impl MasterNode {
     ghost use Rattle.master_node.specs.Listing.{events_before, events_in, told_in};
     ghost use Rattle.master_node.specs.Gateways.{TellsGateway, lives_told};
     ghost use Rattle.master_node.specs.Lifetold.{TellsJust, lost_at};
+    ghost use Rattle.master_node.specs.Backtold.{returned_at};
     ghost use Rattle.master_tour.specs.Orders.{AreOnce};
     ghost use Rattle.master_node.specs.Handed.{DropsWork, EndsWork, NonePassed, passing_at, work_at};
     ghost use Rattle.master_node.specs.declared.post.Work.{Work};
@@ -333,7 +334,7 @@ impl MasterNode {
         }
     }
 
-    /// The frame that `next` made came back. Of a mail that is passed on just its replies are told, under the key of its asker, and that no more follows.
+    /// The frame that `next` made came back. Just what the lives of the slaves that it carried tell is told; of a mail that is passed on its replies, under the key of its asker, and that no more follows.
     pub fn returned(&mut self, frame: &FrameBuf)
         ensures posts { vec_len self.new.posts ≡ vec_len self.old.posts }
         ensures leads { (lens : ℕ → Lens) (recover retry missed number : ℕ) (octets : List ℕ) (us : List Turn) (f : Exchanged) → f.fate ≡ Fate.Pass → f.back ≡ frame.now.items → MasterUnder lens recover retry self.old octets missed us → Returns (seen lens octets) (seen lens frame.now.items) →
@@ -353,6 +354,8 @@ impl MasterNode {
             AllVisit (seen lens octets) (recalls self.old) us → AllRecall lens (seen lens frame.now.items) us (recalls self.old) (recalls self.new) }
         ensures gateway { (lens : ℕ → Lens) (recover retry missed made : ℕ) (octets : List ℕ) (vs : List ServedTurn) (f : Exchanged) → f.fate ≡ Fate.Pass → f.back ≡ frame.now.items → ServedUnder lens recover retry self.old octets missed made vs → Returns (seen lens octets) (seen lens frame.now.items) →
             TellsGateway (λ k. lives_told (seen lens frame.now.items) vs (map (served_behind lens recover retry (gives_up_at lens recover retry missed) made f) vs) k) self.old self.new }
+        ensures told { (lens : ℕ → Lens) (recover retry missed made : ℕ) (octets : List ℕ) (vs : List ServedTurn) (f : Exchanged) → f.fate ≡ Fate.Pass → f.back ≡ frame.now.items → ServedUnder lens recover retry self.old octets missed made vs → Returns (seen lens octets) (seen lens frame.now.items) →
+            TellsJust (λ k. returned_at lens (seen lens frame.now.items) (recalls self.new) vs (map (served_behind lens recover retry (gives_up_at lens recover retry missed) made f) vs) k) self.old self.new }
         ensures whole { listed self.new.list.rows.items self.new.list.count ≡ take self.old.list.before self.old.list.rows.items ++ events_in self.new }
     {
         self.list.ends();
