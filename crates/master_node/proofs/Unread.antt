@@ -110,8 +110,10 @@ module _ (lens : ℕ → Lens) (recover made : ℕ) (octets back : List ℕ) whe
   abbrev grams : List (Datagram Body)
   grams = seen lens back
 
-  still_inhand : (v : ServedTurn) (p : Post) (s t : Stop InHand Impl.ghosts) → IsServedUnder lens recover octets made v p s → Returns (seen lens octets) grams → s.under ≡ false → TourSays lens made grams v s t →
-      (let m = life_behind lens made grams v s in HasInHand (speech_at lens v.turn.lived.spot) (knows t.side.hand.course) m m.stand p.work)
+  abbrev HasHere : ServedTurn → Stop InHand Impl.ghosts → Stop InHand Impl.ghosts → Work → Type 0
+  HasHere v s t work = HasInHand (speech_at lens v.turn.lived.spot) (knows t.side.hand.course) (life_behind lens made grams v s) (life_behind lens made grams v s).stand work
+
+  still_inhand : (v : ServedTurn) (p : Post) (s t : Stop InHand Impl.ghosts) → IsServedUnder lens recover octets made v p s → Returns (seen lens octets) grams → s.under ≡ false → TourSays lens made grams v s t → HasHere v s t p.work
   still_inhand v p s t i r still says =
       let l = v.turn.lived.life in
       let spot = v.turn.lived.spot in
@@ -132,9 +134,6 @@ module _ (lens : ℕ → Lens) (recover made : ℕ) (octets back : List ℕ) whe
       StoodSo lens made grams recover v.turn.lived.spot t (life_behind lens made grams v s) → PassesSo lens made grams recover t (life_behind lens made grams v s) → TourSays lens made grams v s t → InHandBehind lens made grams v q s t
   behind_inhand place v p q s t unread i r none work stood passing says = go unread none work
     where
-      abbrev m : Life Body Asked Reply
-      m = life_behind lens made grams v s
-
       go : (unread : Bool) → (unread ≡ true → s.under ≡ false) → q.work ≡ (if unread then p.work else (back_does place t p.work).work) → InHandBehind lens made grams v q s t
-      go true n w = subst (λ z. HasInHand (speech_at lens v.turn.lived.spot) (knows t.side.hand.course) m m.stand z) (sym w) (still_inhand v p s t i r (n refl) says)
-      go false n w = subst (λ z. HasInHand (speech_at lens v.turn.lived.spot) (knows t.side.hand.course) m m.stand z) (sym w) (one_back lens made grams recover octets place v p s t i stood passing says).has
+      go true n w = subst (λ z. HasHere v s t z) (sym w) (still_inhand v p s t i r (n refl) says)
+      go false n w = subst (λ z. HasHere v s t z) (sym w) (one_back lens made grams recover octets place v p s t i stood passing says).has
