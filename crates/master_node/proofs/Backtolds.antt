@@ -1,5 +1,5 @@
 -- WHAT A FRAME THAT CAME BACK TELLS of the slaves that it carried is just what their lives tell.
-use Rattle.std.proofs.Common.{◌≡◌, ℕ, zero, suc, true, List, [], ◌∷◌, refl, sym, ap, ◌∙◌, subst}
+use Rattle.std.proofs.Common.{◌≡◌, ℕ, zero, suc, Bool, true, List, [], ◌∷◌, refl, sym, ap, ◌∙◌, subst}
 use Rattle.std.specs.Prelude.{map}
 use Rattle.life_runs.specs.Led.{Exchanged, speech_at}
 use Rattle.life_runs.specs.of_frame_view.Seen.{seen}
@@ -41,21 +41,16 @@ use Rattle.master_node.specs.declared.post.Work.{Work}
 use Rattle.master_node.proofs.Backinhand.{Served, ShowsBehind, back_inhand}
 use Rattle.master_node.proofs.Rowtells.{quiet_shown}
 use Rattle.master_node.proofs.ServedSents.{waits_alike}
-use Rattle.master_node.proofs.Serveds.{open_stand}
+use Rattle.master_node.proofs.Serveds.{life_behind, open_stand}
 
 -- the lengths of a slave's mailboxes
 abbrev areas_at : (ℕ → Lens) → Spot → Areas
 areas_at lens spot = record { out = (lens spot.station).out; back = (lens spot.station).back }
 
 module _ (lens : ℕ → Lens) (made : ℕ) (back : List (Datagram Body)) where
-  -- the life of a slave behind the frame, by its share of that
-  abbrev pub life_after : ServedTurn → Stop InHand Impl.ghosts → Life Body Asked Reply
-  life_after v s =
-      life_back (speech_at lens v.turn.lived.spot) acknowledged is_followed is_passed made v.turn.lived.spot (news_back v.turn.lived.spot.station v.kept v.counts back) back (came_at s.under s.at back) v.turn.lived.life v.turn.lived.life.stand
-
   -- WHAT THE TOUR SAYS of a slave behind the frame, by its life before it
   pub record TourSays (v : ServedTurn) (s t : Stop InHand Impl.ghosts) : Type 0 where
-    pub told : t.news ≡ turned v.turn.lived.life (life_after v s)
+    pub told : t.news ≡ turned v.turn.lived.life (life_behind lens made back v s)
     pub brings : Brought (Brings t.side.hand.found) t.side.heard (accepted_in v.turn.lived.spot v.turn.lived.life back)
     pub replied : Brought (Replies t.side.hand.found (awaits_reply s.side.hand.course s.side.hand.which s.side.hand.clients)) t.side.heard (accepted_in v.turn.lived.spot v.turn.lived.life back)
     pub recalls : StopBack (speech_at lens v.turn.lived.spot) v.turn.lived.spot v.turn.lived.life back (knows s.side.hand.course) (knows t.side.hand.course) s t
@@ -70,7 +65,7 @@ module _ (lens : ℕ → Lens) (made : ℕ) (back : List (Datagram Body)) where
 
     shows_behind : (spot : Spot) (t : Stop InHand Impl.ghosts) (m : Life Body Asked Reply) → StoodSo spot t m → PassesSo t m → ShowsBehind (speech_at lens spot) (knows t.side.hand.course) t m
     shows_behind spot t m stood passing =
-        let shows = λ o. subst (λ z. StandShows (λ d a. side_shows lens recover t spot d a) spot z m) o stood in
+        let shows : t.stand ≡ Stand.Open → StandShows (λ d a. side_shows lens recover t spot d a) spot Stand.Open m = λ o. subst (λ z. StandShows (λ d a. side_shows lens recover t spot d a) spot z m) o stood in
         record {
           stands = λ o. (shows o).0;
           opens = λ e. open_stand (λ d a. side_shows lens recover t spot d a) spot t.stand m stood e;
@@ -80,9 +75,9 @@ module _ (lens : ℕ → Lens) (made : ℕ) (back : List (Datagram Body)) where
         }
 
     -- ONE SLAVE: just what its life tells is told of it, and its post has in hand what the life behind the frame has
-    pub one_back : (octets : List ℕ) (place : ℕ) (v : ServedTurn) (p : Post) (s t : Stop InHand Impl.ghosts) → IsServedUnder lens recover octets made v p s → StoodSo v.turn.lived.spot t (life_after v s) → PassesSo t (life_after v s) → TourSays v s t →
+    pub one_back : (octets : List ℕ) (place : ℕ) (v : ServedTurn) (p : Post) (s t : Stop InHand Impl.ghosts) → IsServedUnder lens recover octets made v p s → StoodSo v.turn.lived.spot t (life_behind lens made back v s) → PassesSo t (life_behind lens made back v s) → TourSays v s t →
         Served (areas_at lens v.turn.lived.spot) made place v.turn.lived.spot (news_back v.turn.lived.spot.station v.kept v.counts back) (knows s.side.hand.course) (knows t.side.hand.course) back v.hand (accepted_in v.turn.lived.spot v.turn.lived.life back) v.turn.lived.life p.work t
-        v.turn.lived.life.stand (life_after v s)
+        v.turn.lived.life.stand (life_behind lens made back v s)
     one_back octets place v p s t i stood passing says =
         let l = v.turn.lived.life in
         let spot = v.turn.lived.spot in
@@ -91,21 +86,21 @@ module _ (lens : ℕ → Lens) (made : ℕ) (back : List (Datagram Body)) where
         let shown = i.served.lives.shown.stood in
         let open_s : l.stand ≡ Lives.Stand.Open → s.stand ≡ Stand.Open = open_stand (λ d a. side_shows lens recover s spot d a) spot s.stand l shown in
         let side_s = λ (o : l.stand ≡ Lives.Stand.Open). (subst (λ z. StandShows (λ d a. side_shows lens recover s spot d a) spot z l) (open_s o) shown).1 in
-        back_inhand (areas_at lens spot) made place spot (news_back spot.station v.kept v.counts back) (knows s.side.hand.course) (knows t.side.hand.course) back v.hand ms l p.work t (came_at s.under s.at back) (life_after v s) refl refl i.served.inhand i.served.handed
+        back_inhand (areas_at lens spot) made place spot (news_back spot.station v.kept v.counts back) (knows s.side.hand.course) (knows t.side.hand.course) back v.hand ms l p.work t (came_at s.under s.at back) (life_behind lens made back v s) refl refl i.served.inhand i.served.handed
         (λ o. quiet_shown s.side.hand (speech_at lens spot) l.era.side.now (side_s o).row) (λ o k. says.recalls.sure (open_s o) k) says.brings
         (λ key e.
         let n = i.served.handed.named key e in
         let o = open_s n.opened in
         let awaited : awaits ≡ true = (subst (λ z. StandPassing z awaits s.side.passing l) o i.served.passing).awaited (sym (waits_alike s.stand awaits s.side.passing l i.served.passing o) ∙ n.passing) in
         subst (λ z. Brought (Replies t.side.hand.found z) t.side.heard ms) awaited says.replied)
-        says.told (shows_behind spot t (life_after v s) stood passing)
+        says.told (shows_behind spot t (life_behind lens made back v s) stood passing)
 
 module _ (lens : ℕ → Lens) (recover retry : ℕ) (gives : Bool) (made : ℕ) (f : Exchanged) (octets back : List ℕ) (is : f.fate ≡ Pass) (b : f.back ≡ back) where
   abbrev behind : ServedTurn → Serves
   behind v = served_behind lens recover retry gives made f v
 
   -- the life behind the frame, as the serving has it
-  life_is : (v : ServedTurn) (p : Post) (s : Stop InHand Impl.ghosts) → IsServedUnder lens recover octets made v p s → life_after lens made (seen lens back) v s ≡ (behind v).lead.lived.life
+  life_is : (v : ServedTurn) (p : Post) (s : Stop InHand Impl.ghosts) → IsServedUnder lens recover octets made v p s → life_behind lens made (seen lens back) v s ≡ (behind v).lead.lived.life
   life_is v p s i =
       let l = v.turn.lived.life in
       let spot = v.turn.lived.spot in

@@ -1,5 +1,5 @@
 -- HOW MUCH A FRAME TELLS at most.
-use Rattle.std.proofs.Common.{◌≤◌, ◌+◌, ◌*◌, ℕ, zero, suc, Bool, true, false, Option, Some, None, List, [], ◌∷◌, ◌++◌, arith, length}
+use Rattle.std.proofs.Common.{◌≡◌, ap, ◌∙◌, ◌≤◌, ◌+◌, ◌*◌, ℕ, zero, suc, Bool, true, false, Option, Some, None, List, [], ◌∷◌, ◌++◌, arith, length}
 use Rattle.std.proofs.lemmas.List.{length-append}
 use Rattle.mailbox_mail.specs.declared.mail.Mail.{Mail}
 use Rattle.mailbox_mail.specs.declared.outcome.ReplyKind.{ReplyKind}
@@ -15,10 +15,11 @@ use Rattle.master_tour.specs.declared.stop.Stand.{Stand}
 use Rattle.master_tour.specs.declared.stop.Stop.{Stop}
 use Rattle.master_tour.specs.declared.stop.Turned.{Turned}
 use Rattle.master_hand.specs.Hears.{answer_kept}
-use Rattle.master_node.specs.Besides.{Does, answered_does, back_does, by_stop, emergency_told, given_at, given_told, handed_where, heard_does, mail_does, met_at, met_where, over_does, passed_where, reply_told, stays, turned_where}
+use Rattle.master_node.specs.Besides.{Does, TellsAll, answered_does, back_does, by_stop, emergency_told, given_at, given_told, handed_where, heard_does, mail_does, met_at, met_where, over_does, passed_where, reply_told, stays, turned_where}
 use Rattle.master_node.specs.Handed.{work_at}
-use Rattle.master_node.specs.Listing.{told_in}
+use Rattle.master_node.specs.Listing.{events_in, told_in}
 use Rattle.master_node.specs.declared.event.Event.{Event}
+use Rattle.master_node.specs.declared.node.MasterNode.{MasterNode}
 use Rattle.master_node.specs.declared.post.Post.{Post}
 use Rattle.master_node.specs.declared.post.Work.{Work}
 
@@ -30,6 +31,10 @@ told_five tells h (p ∷ ps) = omega (arith, length-append (tells p) (told_in te
 pub told_one : (tells : ℕ → List Event) → ((k : ℕ) → length (tells k) ≤ 1) → (ps : List ℕ) → length (told_in tells ps) ≤ length ps
 told_one tells h [] = omega arith
 told_one tells h (p ∷ ps) = omega (arith, length-append (tells p) (told_in tells ps), h p, told_one tells h ps)
+
+-- just these are listed, where what was listed before the step leaves room for them
+pub just_told : {m n : MasterNode} (es : List Event) (before : ℕ) → TellsAll es m n → before ≤ 16 → m.list.count ≡ before → events_in m ≡ [] → length es ≤ 80 → events_in n ≡ es
+just_told es before t few is last most = t.told (omega (arith, is, few, most)) ∙ ap (λ z. z ++ es) last
 
 -- of whichever slave stands there
 stop_all : {A : Type 0} {G : Ghosts InHand} (P : A → Type 0) (none : A) (does : Stop InHand G → A) → P none → ((s : Stop InHand G) → P (does s)) → (ss : List (Stop InHand G)) (k : ℕ) → P (by_stop none does ss k)

@@ -53,7 +53,7 @@ use Rattle.master_node.specs.Lifetold.{lost_at}
 use Rattle.master_node.proofs.Listing.{listed_whole, told_same}
 use Rattle.master_node.proofs.Turneds.{lost_turned, turned_all}
 use Rattle.master_node.specs.Listing.{events_in, told_in}
-use Rattle.master_node.proofs.ToldFew.{given_few, told_one}
+use Rattle.master_node.proofs.ToldFew.{just_told, given_few, told_one}
 use Rattle.master_node.proofs.node.MasterNode.lost.Goals as goal
 
 pub returns-clause-leads : goal.returns-clause-leads
@@ -213,8 +213,7 @@ returns-clause-told c = λ lens recover retry missed made after octets vs f p b 
     let follows = y.0 (speech_at lens spot) is_followed is_passed made recover spot news l i.served.lives.planned.stands i.way i.served.lives.shown in
     lost_turned lens recover retry gives given made f octets after p b comes v q s t.news i follows.told)
     vs m.posts.items ss ts u.each (c.lost.ensures.lives lens octets) k in
-    c.all_given_up.ensures.told.told (omega (arith, before, few, told_one (λ k. given_at ts k) (λ k. given_few ts k) visit, most))
-    ∙ (λ i. c.ends.ensures.last i ++ told_in (λ k. given_at ts k) visit)
+    just_told (told_in (λ k. given_at ts k) visit) m.list.before c.all_given_up.ensures.told few before c.ends.ensures.last (omega (arith, told_one (λ k. given_at ts k) (λ k. given_few ts k) visit, most))
     ∙ told_same (λ k. given_at ts k) (λ k. lost_at vs (map on vs) k) visit (λ k w. same k)
     ∙ ap (λ z. told_in (λ k. lost_at vs (map on vs) k) z.items) c.lost.ensures.tour.0
 

@@ -55,7 +55,7 @@ use Rattle.master_node.specs.Besides.{back_does, by_stop, stays}
 use Rattle.master_node.specs.Gateways.{is_gateway, lives_told}
 use Rattle.master_node.specs.Handed.{work_at}
 use Rattle.master_node.specs.Listing.{events_in, told_in}
-use Rattle.master_node.proofs.ToldFew.{back_few, told_five}
+use Rattle.master_node.proofs.ToldFew.{back_few, just_told, told_five}
 use Rattle.master_node.proofs.Filtered.{filter_told, gateway_by, place_asked}
 use Rattle.master_node.proofs.Gateways.{all_told}
 use Rattle.master_node.proofs.Backtolds.{back_all}
@@ -231,17 +231,15 @@ returns-clause-gateway c = λ lens recover retry missed made octets vs f p b u r
     let visit = c.returned.new.self.visit.items in
     let tells = λ (k : ℕ). (by_stop (stays (work_at m.posts.items k)) (λ t. back_does k t (work_at m.posts.items k)) ts k).told in
     let asked = λ (k : ℕ). by_stop [] (λ t. gateway_by (work_at m.posts.items k) t) ts k in
-    let all = c.all_back.ensures.told once in
     let most : length visit ≤ 16 = (let v = ap (λ z. length z.items) e.tour.0 in omega (arith, v, u.fits.few)) in
-    ap (filter is_gateway) (all.told (omega (arith, before, few, told_five tells (λ k. back_few m.posts.items ts k) visit, most)))
-    ∙ (λ i. filter is_gateway (c.ends.ensures.last i ++ told_in tells visit))
+    ap (filter is_gateway) (just_told (told_in tells visit) m.list.before (c.all_back.ensures.told once) few before c.ends.ensures.last (omega (arith, told_five tells (λ k. back_few m.posts.items ts k) visit, most)))
     ∙ filter_told tells visit
     ∙ told_same (λ k. filter is_gateway (tells k)) asked visit (λ k w. place_asked m.posts.items ts k)
     ∙ told_same asked (λ k. lives_told back vs ws k) visit (λ k w. same k)
     ∙ ap (λ z. told_in (λ k. lives_told back vs ws k) z.items) e.tour.0
 
-pub returns-clause-told : goal.returns-clause-told
-returns-clause-told c = λ lens recover retry missed made octets vs f p b u r few.
+told_by : goal.returns-clause-served → goal.returns-clause-told
+told_by shown c = λ lens recover retry missed made octets vs f p b u r few.
     let m = c.args.self.now in
     let n = c.all_back.new.self in
     let e = c.returned.ensures in
@@ -251,7 +249,7 @@ returns-clause-told c = λ lens recover retry missed made octets vs f p b u r fe
     let back = seen lens c.args.frame.now.items in
     let gives = gives_up_at lens recover retry missed in
     let ws = map (served_behind lens recover retry gives made f) vs in
-    let served = returns-clause-served c lens recover retry missed made octets vs f p b u r in
+    let served = shown c lens recover retry missed made octets vs f p b u r in
     let there = subst (λ z. AllThree (λ w q t. IsServed lens recover (suc made) w q t) ws n.posts.items z.stops.items) tour served.each in
     let each = pair_both _ _ ss ts (e.lives lens (seen lens octets) r u.sent) (pair_both _ _ ss ts (e.brought lens (seen lens octets) r u.sent) (pair_both _ _ ss ts e.replied (e.recalls lens (seen lens octets) r u.sent))) in
     let same = λ (k : ℕ). back_all lens recover retry gives made f octets c.args.frame.now.items p b k _
@@ -272,12 +270,13 @@ returns-clause-told c = λ lens recover retry missed made octets vs f p b u r fe
     let before = c.ends.ensures.few in
     let visit = c.returned.new.self.visit.items in
     let tells = λ (k : ℕ). (by_stop (stays (work_at m.posts.items k)) (λ t. back_does k t (work_at m.posts.items k)) ts k).told in
-    let all = c.all_back.ensures.told once in
     let most : length visit ≤ 16 = (let v = ap (λ z. length z.items) e.tour.0 in omega (arith, v, u.fits.few)) in
-    all.told (omega (arith, before, few, told_five tells (λ k. back_few m.posts.items ts k) visit, most))
-    ∙ (λ i. c.ends.ensures.last i ++ told_in tells visit)
+    just_told (told_in tells visit) m.list.before (c.all_back.ensures.told once) few before c.ends.ensures.last (omega (arith, told_five tells (λ k. back_few m.posts.items ts k) visit, most))
     ∙ told_same tells (λ k. returned_at lens back (map (λ t. recall_of t) ts) vs ws k) visit (λ k w. same k)
     ∙ (λ i. told_in (λ k. returned_at lens back (map (λ t. recall_of t) (sym tour i).stops.items) vs ws k) (e.tour.0 i).items)
+
+pub returns-clause-told : goal.returns-clause-told
+returns-clause-told = told_by returns-clause-served
 
 pub returns-clause-whole : goal.returns-clause-whole
 returns-clause-whole c = listed_whole c.all_back.new.self ∙ ap (λ z. z ++ events_in c.all_back.new.self) (c.all_back.ensures.head ∙ c.ends.ensures.head)
