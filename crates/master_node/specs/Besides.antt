@@ -1,5 +1,5 @@
 -- WHAT A STEP TELLS, by what the posts have in hand and by the sides of their slaves.
-use Rattle.std.specs.Prelude.{◌≡◌, ◌≤◌, ◌+◌, ◌==◌, ℕ, zero, suc, Bool, true, false, Option, Some, None, List, [], ◌∷◌, ◌++◌, length}
+use Rattle.std.specs.Prelude.{not, if◌then◌else◌, ◌≡◌, ◌≤◌, ◌+◌, ◌==◌, ℕ, zero, suc, Bool, true, false, Option, Some, None, List, [], ◌∷◌, ◌++◌, length}
 use Rattle.mailbox_mail.specs.declared.mail.Mail.{Mail}
 use Rattle.mailbox_mail.specs.declared.outcome.ReplyKind.{ReplyKind}
 use Rattle.master_duty.specs.declared.stage.Met.{Met}
@@ -11,6 +11,7 @@ use Rattle.master_side.specs.Free.{is_free_side}
 use Rattle.master_side.specs.declared.hand.Hand.{Ghosts}
 use Rattle.master_side.specs.declared.hand.Heard.{Heard}
 use Rattle.master_side.specs.declared.passing.Passing.{Passing}
+use Rattle.master_tour.specs.Made.{is_in}
 use Rattle.master_tour.specs.declared.stop.Stand.{Stand}
 use Rattle.master_tour.specs.declared.stop.Stop.{Stop}
 use Rattle.master_tour.specs.declared.stop.Turned.{Turned}
@@ -181,6 +182,10 @@ back_does place s work = then_does (then_does (heard_does place s.side.heard s w
 -- what is told of the slave at a place
 abbrev pub back_told : MasterNode → ℕ → List Event
 back_told m k = (does_at (λ s w. back_does k s w) m k).told
+
+-- BEHIND IT the posts of the slaves that it carried have in hand what that leaves, and all others what they had
+abbrev pub HasBack : MasterNode → MasterNode → Type 0
+HasBack m n = (k : ℕ) → work_at n.posts.items k ≡ (if not (is_in k m.tour.visit.items) then work_at m.posts.items k else (does_at (λ s w. back_does k s w) m k).work)
 
 -- A SLAVE WAS GIVEN UP, or wasn't
 abbrev pub given_told : ℕ → Option Turned → List Event

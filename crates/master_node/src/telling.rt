@@ -40,7 +40,7 @@ impl MasterNode {
     ghost use Rattle.master_node.specs.Shows.{MasterShows, MasterUnder};
     ghost use Rattle.master_node.specs.Serving.{TellsOnly, ServedShows, ServedUnder, mails_in};
     ghost use Rattle.master_node.specs.Dropped.{Drops, gave_at};
-    ghost use Rattle.master_node.specs.Besides.{DoesAt, DoesSo, TellsAll, accepted_does, answers, back_does, back_told, complete_does, emitted_does, given_at, handed_does, heard_does, is_state, met_does, over_does, passed_does, replied_does, turned_does};
+    ghost use Rattle.master_node.specs.Besides.{DoesAt, DoesSo, HasBack, TellsAll, accepted_does, answers, back_does, back_told, complete_does, emitted_does, given_at, handed_does, heard_does, is_state, met_does, over_does, passed_does, replied_does, turned_does};
     ghost use Rattle.master_node.specs.Listed.{listed};
     ghost use Rattle.master_node.specs.Listing.{events_before, events_in, told_in};
     ghost use Rattle.master_node.specs.Gateways.{TellsGateway, lives_told};
@@ -326,6 +326,7 @@ impl MasterNode {
         ensures works { EndsWork (λ k. passing_at self.old.tour.stops.items k) self.old.tour.visit.items self.old.posts.items self.new.posts.items }
         ensures head { events_before self.new ≡ events_before self.old }
         ensures told { AreOnce self.old.tour.visit.items → TellsAll (told_in (back_told self.old) self.old.tour.visit.items) self.old self.new }
+        ensures has { AreOnce self.old.tour.visit.items → HasBack self.old self.new }
     {
         for k in 0..self.tour.visit.len() {
             let place = self.tour.visit.as_slice()[k];

@@ -41,7 +41,8 @@ use Rattle.master_tour.specs.of_life_model.Lives.{life_back}
 use Rattle.served_runs.specs.Served.{served_behind}
 use Rattle.master_node.specs.Serving.{IsServed, run_lead}
 use Rattle.master_node.specs.Shows.{GoesOn, side_shows}
-use Rattle.master_node.proofs.Serveds.{back_made, served_back, all_served, distinct_served, back_spot, goes_served, opens_served, long_served, three_both}
+use Rattle.master_node.proofs.Serveds.{back_made, served_back, all_served, distinct_served, back_spot, goes_served, opens_served, long_served, passes_behind, three_both}
+use Rattle.master_node.proofs.Unread.{behind_inhand}
 use Rattle.std.specs.Prelude.{not}
 use Rattle.master_tour.specs.Goes.{holds_at}
 use Rattle.master_tour.specs.Made.{is_in}
@@ -173,19 +174,29 @@ returns-clause-served c = λ lens recover retry missed made octets vs f p b u r.
     let number : (m.made + (2 ^ 32 - 1)) % 2 ^ 32 ≡ made = back_made m.made made u.made_is u.early in
     let three = e.shown lens (seen lens octets) r u.sent (λ spot. speech_at lens spot) is_followed is_passed made recover (map (λ v. v.turn.lived) vs)
     (three_both _ _ (λ v. v.turn.lived) (λ v k s i. (i.served.lives, i.way)) vs m.posts.items ss u.each) in
-    let toured = pair_both _ _ ss ts e.stays (pair_both _ _ ss ts (e.passing lens (seen lens octets) r u.sent) (pair_both _ _ ss ts (e.counts lens (seen lens octets) r u.sent) e.pace)) in
+    let says = pair_both _ _ ss ts (e.lives lens (seen lens octets) r u.sent) (pair_both _ _ ss ts (e.brought lens (seen lens octets) r u.sent) (pair_both _ _ ss ts e.replied (e.recalls lens (seen lens octets) r u.sent))) in
+    let toured = pair_both _ _ ss ts e.stays (pair_both _ _ ss ts (e.passing lens (seen lens octets) r u.sent) (pair_both _ _ ss ts (e.counts lens (seen lens octets) r u.sent) (pair_both _ _ ss ts e.pace says))) in
+    let once = subst (λ z. AreOnce z.items) (sym e.tour.0) u.goes.comes.once in
     let still = λ (j : ℕ). not (is_in j c.returned.new.self.visit.items) in
     let unread = λ (j : ℕ) (y : still j ≡ true). unvisited (holds_at (λ s. s.under) ss j) (is_in j c.returned.new.self.visit.items) (λ x. ap (λ z. is_in j z.items) e.tour.0 ∙ u.carried j x) y in
-    let each = all_served lens recover retry gives made f octets _ _ still vs m.posts.items n.posts.items ss ts unread c.all_back.ensures.works.each u.each tells.mails three toured
-    (λ v k q s t i w d n o a z.
+    let each = all_served lens recover retry gives made f octets _ _ (λ j. j) still vs m.posts.items n.posts.items ss ts unread c.all_back.ensures.works.each (c.all_back.ensures.has once) u.each tells.mails three toured
+    (λ v k q s t i w d n o j y a z.
     let l = v.turn.lived.life in
     let spot = v.turn.lived.spot in
     let x = speech_at lens spot in
     let shown = i.served.lives.shown in
-    served_back lens recover retry gives made f octets c.args.frame.now.items v k q s t p b i r a
-    (subst (λ j. StandPassing t.stand (awaits_reply t.side.hand.course t.side.hand.which t.side.hand.clients) t.side.passing (life_back x acknowledged is_followed is_passed made spot (news_back s.side.station v.kept (counts_at s.side.read_at s.side.pace j) back) back (came_at s.under s.at back) l l.stand)) number
-    (z.1.0 x made recover spot v.kept l i.served.lives.planned.stands i.way shown (stands_kept s.stand v.kept l (λ o. (subst (λ y. StandShows (λ d g. side_shows lens recover s spot d g) spot y l) o shown.stood).0) i.served.kept) i.served.passing))
-    (subst (λ j. CountsOn j back s t l) number (z.1.1.0 x recover spot l i.way shown)) z.1.1.1 z.0.0 w d n o) in
+    let at = i.served.lives.planned.stands in
+    let passes =
+    subst (λ j. StandPassing t.stand (awaits_reply t.side.hand.course t.side.hand.which t.side.hand.clients) t.side.passing (life_back x acknowledged is_followed is_passed made spot (news_back s.side.station v.kept (counts_at s.side.read_at s.side.pace j) back) back (came_at s.under s.at back) l l.stand)) number
+    (z.1.0 x made recover spot v.kept l i.served.lives.planned.stands i.way shown (stands_kept s.stand v.kept l (λ o. (subst (λ y. StandShows (λ d g. side_shows lens recover s spot d g) spot y l) o shown.stood).0) i.served.kept) i.served.passing) in
+    served_back lens recover retry gives made f octets c.args.frame.now.items v k q s t p b i r a passes
+    (subst (λ j. CountsOn j back s t l) number (z.1.1.0 x recover spot l i.way shown)) z.1.1.1.0 z.0.0 w d n o
+    (behind_inhand lens recover made octets c.args.frame.now.items j v k q s t d i r n y (a (news_back spot.station v.kept v.counts back)).shown.stood (passes_behind lens recover made octets back v k s t i passes) (record {
+      told = (z.1.1.1.1.0.0 x is_followed is_passed made recover spot (news_back spot.station v.kept v.counts back) l at i.way shown).told;
+      brings = z.1.1.1.1.1.0 x recover spot l at i.way shown;
+      replied = z.1.1.1.1.1.1.0 lens (seen lens octets) r u.sent x recover spot l at i.way shown;
+      recalls = z.1.1.1.1.1.1.1 x recover spot l at i.way shown;
+    }))) in
     let there = subst (λ z. AllThree (λ w q t. IsServed lens recover (suc made) w q t) (map (served_behind lens recover retry gives made f) vs) n.posts.items z.stops.items) (sym tells.tour) each in
     record {
       each = there;
