@@ -5,7 +5,7 @@ use Rattle.life_runs.specs.Led.{Exchanged, speech_at}
 use Rattle.life_runs.specs.of_frame_view.Seen.{seen}
 use Rattle.life_runs.specs.of_frame_view.View.{Lens}
 use Rattle.life_runs.specs.of_life_frames.of_exchange_model.Areas.{Areas}
-use Rattle.life_runs.specs.of_life_frames.Shares.{AllThree, came_at}
+use Rattle.life_runs.specs.of_life_frames.Shares.{AllThree, Lived, came_at}
 use Rattle.life_runs.specs.of_segment_ring.declared.wire.Fate.TheVariants.{Pass}
 use Rattle.master_duty.specs.Reply.{Reply}
 use Rattle.master_duty.specs.of_segment_model.Slaves.{Datagram}
@@ -100,12 +100,12 @@ module _ (lens : ℕ → Lens) (recover retry : ℕ) (gives : Bool) (made : ℕ)
   behind v = served_behind lens recover retry gives made f v
 
   -- the life behind the frame, as the serving has it
-  life_is : (v : ServedTurn) (p : Post) (s : Stop InHand Impl.ghosts) → IsServedUnder lens recover octets made v p s → life_behind lens made (seen lens back) v s ≡ (behind v).lead.lived.life
-  life_is v p s i =
-      let l = v.turn.lived.life in
-      let spot = v.turn.lived.spot in
-      (λ j. life_back (speech_at lens spot) acknowledged is_followed is_passed made spot (news_back spot.station v.kept v.counts (seen lens back)) (seen lens back) (came_at (sym i.under j) (sym i.at j) (seen lens back)) l l.stand)
-      ∙ (λ j. (served_behind lens recover retry gives made (record { sent = f.sent; fate = sym is j; back = sym b j }) v).lead.lived.life)
+  lived_is : (v : ServedTurn) (p : Post) (s : Stop InHand Impl.ghosts) → IsServedUnder lens recover octets made v p s → record { spot = v.turn.lived.spot; life = life_behind lens made (seen lens back) v s } ≡ (behind v).lead.lived
+  lived_is v p s i =
+      let a = v.turn.lived in
+      let news = news_back a.spot.station v.kept v.counts (seen lens back) in
+      (λ j. record { spot = a.spot; life = life_back (speech_at lens a.spot) acknowledged is_followed is_passed made a.spot news (seen lens back) (came_at (sym i.under j) (sym i.at j) (seen lens back)) a.life a.life.stand })
+      ∙ (λ j. (served_behind lens recover retry gives made (record { sent = f.sent; fate = sym is j; back = sym b j }) v).lead.lived)
 
   abbrev tells_of : ℕ → Bool → ServedTurn → Serves → List Event
   tells_of place known v w = returned_told (speech_at lens v.turn.lived.spot) known place v.hand (accepted_in v.turn.lived.spot v.turn.lived.life (seen lens back)) v.turn.lived.life w.lead.lived.life v.turn.lived.life.stand
@@ -113,11 +113,11 @@ module _ (lens : ℕ → Lens) (recover retry : ℕ) (gives : Bool) (made : ℕ)
   one_told : (place : ℕ) (v : ServedTurn) (p q : Post) (s t : Stop InHand Impl.ghosts) → IsServedUnder lens recover octets made v p s → IsServed lens recover (suc made) (behind v) q t → TourSays lens made (seen lens back) v s t →
       (back_does place t p.work).told ≡ tells_of place (knows t.side.hand.course) v (behind v)
   one_told place v p q s t i j says =
-      let same = life_is v p s i in
-      let stood = subst (λ z. StoodSo lens made (seen lens back) recover v.turn.lived.spot t z) (sym same) j.lives.shown.stood in
-      let passing = subst (λ z. PassesSo lens made (seen lens back) recover t z) (sym same) j.passing in
+      let same = lived_is v p s i in
+      let stood = subst (λ (a : Lived Asked Reply). StoodSo lens made (seen lens back) recover a.spot t a.life) (sym same) j.lives.shown.stood in
+      let passing = subst (λ (a : Lived Asked Reply). PassesSo lens made (seen lens back) recover t a.life) (sym same) j.passing in
       (one_back lens made (seen lens back) recover octets place v p s t i stood passing says).told
-      ∙ ap (λ z. returned_told (speech_at lens v.turn.lived.spot) (knows t.side.hand.course) place v.hand (accepted_in v.turn.lived.spot v.turn.lived.life (seen lens back)) v.turn.lived.life z v.turn.lived.life.stand) same
+      ∙ ap (λ (a : Lived Asked Reply). returned_told (speech_at lens v.turn.lived.spot) (knows t.side.hand.course) place v.hand (accepted_in v.turn.lived.spot v.turn.lived.life (seen lens back)) v.turn.lived.life a.life v.turn.lived.life.stand) same
 
   -- OF ALL SLAVES
   pub back_all : (place : ℕ) (K : Stop InHand Impl.ghosts → Stop InHand Impl.ghosts → Type 0) → ((v : ServedTurn) (p : Post) (s t : Stop InHand Impl.ghosts) → IsServedUnder lens recover octets made v p s → K s t → TourSays lens made (seen lens back) v s t) → (vs : List ServedTurn) (ps qs : List Post) (ss ts : List (Stop InHand Impl.ghosts)) →

@@ -238,8 +238,8 @@ returns-clause-gateway c = λ lens recover retry missed made octets vs f p b u r
     ∙ told_same asked (λ k. lives_told back vs ws k) visit (λ k w. same k)
     ∙ ap (λ z. told_in (λ k. lives_told back vs ws k) z.items) e.tour.0
 
-told_by : goal.returns-clause-served → goal.returns-clause-told
-told_by shown c = λ lens recover retry missed made octets vs f p b u r few.
+pub returns-clause-told : goal.returns-clause-told
+returns-clause-told c = λ lens recover retry missed made octets vs f p b u r few.
     let m = c.args.self.now in
     let n = c.all_back.new.self in
     let e = c.returned.ensures in
@@ -249,7 +249,7 @@ told_by shown c = λ lens recover retry missed made octets vs f p b u r few.
     let back = seen lens c.args.frame.now.items in
     let gives = gives_up_at lens recover retry missed in
     let ws = map (served_behind lens recover retry gives made f) vs in
-    let served = shown c lens recover retry missed made octets vs f p b u r in
+    let served = returns-clause-served c lens recover retry missed made octets vs f p b u r in
     let there = subst (λ z. AllThree (λ w q t. IsServed lens recover (suc made) w q t) ws n.posts.items z.stops.items) tour served.each in
     let each = pair_both _ _ ss ts (e.lives lens (seen lens octets) r u.sent) (pair_both _ _ ss ts (e.brought lens (seen lens octets) r u.sent) (pair_both _ _ ss ts e.replied (e.recalls lens (seen lens octets) r u.sent))) in
     let same = λ (k : ℕ). back_all lens recover retry gives made f octets c.args.frame.now.items p b k _
@@ -274,9 +274,6 @@ told_by shown c = λ lens recover retry missed made octets vs f p b u r few.
     just_told (told_in tells visit) m.list.before (c.all_back.ensures.told once) few before c.ends.ensures.last (omega (arith, told_five tells (λ k. back_few m.posts.items ts k) visit, most))
     ∙ told_same tells (λ k. returned_at lens back (map (λ t. recall_of t) ts) vs ws k) visit (λ k w. same k)
     ∙ (λ i. told_in (λ k. returned_at lens back (map (λ t. recall_of t) (sym tour i).stops.items) vs ws k) (e.tour.0 i).items)
-
-pub returns-clause-told : goal.returns-clause-told
-returns-clause-told = told_by returns-clause-served
 
 pub returns-clause-whole : goal.returns-clause-whole
 returns-clause-whole c = listed_whole c.all_back.new.self ∙ ap (λ z. z ++ events_in c.all_back.new.self) (c.all_back.ensures.head ∙ c.ends.ensures.head)
