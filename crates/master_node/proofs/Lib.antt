@@ -68,7 +68,6 @@ pub mod Rowtells
 pub mod Changes
 pub mod Backopen
 pub mod Reopeneds
-pub mod Backtolds
-pub mod Unread
 pub mod Backinhand
 pub mod Backtolds
+pub mod Unread
