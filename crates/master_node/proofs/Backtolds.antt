@@ -37,7 +37,6 @@ use Rattle.master_node.specs.Serving.{IsServed, IsServedUnder}
 use Rattle.master_node.specs.Shows.{side_shows}
 use Rattle.master_node.specs.declared.event.Event.{Event}
 use Rattle.master_node.specs.declared.post.Post.{Post}
-use Rattle.master_node.specs.declared.post.Work.{Work}
 use Rattle.master_node.proofs.Backinhand.{Served, ShowsBehind, back_inhand}
 use Rattle.master_node.proofs.Rowtells.{quiet_shown}
 use Rattle.master_node.proofs.ServedSents.{waits_alike}

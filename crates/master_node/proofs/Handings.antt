@@ -159,9 +159,11 @@ module _ (w : Serves) (p mid q : Post) (lay : Waiting) (room : ℕ) (ks : List K
   mail_on (k ∷ rest) is some fits ready e next o =
       let r = (ready (All-head (λ k. MayPass room k) k rest fits)).1 in
       let came : b ≡ Some (Service.Mails (passed k.mail)) = e ∙ ap (λ z. wished Wish.Mails z) r in
-      subst (λ z. Now z) (sym came)
-      (λ l h. subst (λ z. IsHanded z (hand_behind w.waits w.hand (Some (Service.Mails (passed k.mail)))) l) (sym (o ∙ next))
-      (subst (λ z. IsHanded (Work.Passed k.key) (hand_behind z w.hand (Some (Service.Mails (passed k.mail)))) l) (is ∙ same) (takes_mail w.lead.lived.life l k rest w.hand (begins _ came).0 h)), (k.key, o ∙ next))
+      subst (λ z. Now z) (sym came) (
+        λ l h. subst (λ z. IsHanded z (hand_behind w.waits w.hand (Some (Service.Mails (passed k.mail)))) l) (sym (o ∙ next))
+            (subst (λ z. IsHanded (Work.Passed k.key) (hand_behind z w.hand (Some (Service.Mails (passed k.mail)))) l) (is ∙ same) (takes_mail w.lead.lived.life l k rest w.hand (begins _ came).0 h)),
+        (k.key, o ∙ next),
+      )
 
   pub handing_on : (coming : Option Coming) (result : Bool) → b ≡ wish_begun result (wish_of coming) (ready_of lay) → result ≡ stand_begins stand (begins_by free (wish_of coming) (ready_of lay)) → IsLaid coming lay.laid → LaysMail coming room ks lay → MailWaits ks coming →
       All (λ k. MayPass room k) ks → LaysWork coming p mid → q.work ≡ work_from (where_began result coming) mid → Now b

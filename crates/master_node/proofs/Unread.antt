@@ -10,7 +10,7 @@ use Rattle.master_duty.specs.of_exchange_model.Exchange.{Speech, plain}
 use Rattle.master_duty.specs.of_exchange_model.Rows.{Row, answer_after, row_heard}
 use Rattle.master_duty.specs.of_segment_model.Record.{News}
 use Rattle.master_duty.specs.of_segment_model.Returned.{Returns}
-use Rattle.master_duty.specs.of_segment_model.Seats.{Side, side_back}
+use Rattle.master_duty.specs.of_segment_model.Seats.{side_back}
 use Rattle.master_duty.specs.of_segment_model.Slaves.{Datagram, Found}
 use Rattle.master_duty.specs.of_task_model.Accounts.{Duty, account_back}
 use Rattle.master_hand.specs.Shown.{knows}

@@ -33,14 +33,12 @@ use Rattle.master_node.specs.Starts.{HasStarted}
 use Rattle.master_node.proofs.Starts.{all_start}
 use Rattle.life_runs.specs.of_life_frames.Shares.{AreDistinct}
 use Rattle.master_hand.specs.Shown.{awaits_reply}
-use Rattle.master_node.specs.Serving.{IsServed, run_lead, run_turn}
-use Rattle.master_node.specs.Shows.{GoesUnder, turned_of}
+use Rattle.master_node.specs.Serving.{IsServed, run_lead}
 use Rattle.life_runs.specs.of_life_frames.Shares.{AllFrom, AllThree}
 use Rattle.master_hand.specs.Laying.{scripted}
 use Rattle.master_node.specs.Shows.{IsLived}
 use Rattle.master_node.proofs.Serveds.{long_served, three_both}
 use Rattle.master_node.proofs.ServedSents as Served
-use Rattle.master_node.specs.Begins.{begun_of}
 use Rattle.master_node.specs.Events.{served_tells}
 use Rattle.master_node.proofs.ServedTells.{served_begin}
 use Rattle.master_node.proofs.ServedVisits.{Alike}
@@ -232,8 +230,7 @@ returns-clause-serves c = λ lens recover retry missed made forwards ws some sma
     let us = turns lens recover made begun octets z.datagrams is as' z.lives t2.stops.items in
     let sends = subst (λ y. AllThree (λ a b s. Served.Sends lens recover made begun octets z.datagrams is a b s) y z.lives t2.stops.items) (sym flat) z.each in
     let bare = Steps.from_map _ (λ n a s. is_in n left ≡ true → s.under ≡ false) (λ i a s w. w.bare) 0 as' t2.stops.items
-    (from_map lived_of (λ i a s. StopFills lens recover made begun (c.fill.new.self.made % 256) left filling.frame.datagrams i a s) 0 as' t2.stops.items (subst (λ y. AllFrom (λ i a s. StopFills lens recover made begun (c.fill.new.self.made % 256) left filling.frame.datagrams i a s) 0 y t2.stops.items) (sym flat) filling.frame.each)) in
-    (
+    (from_map lived_of (λ i a s. StopFills lens recover made begun (c.fill.new.self.made % 256) left filling.frame.datagrams i a s) 0 as' t2.stops.items (subst (λ y. AllFrom (λ i a s. StopFills lens recover made begun (c.fill.new.self.made % 256) left filling.frame.datagrams i a s) 0 y t2.stops.items) (sym flat) filling.frame.each)) in (
       sent.sent,
       record { datagrams = z.datagrams; frame = z.frame; each = sent.each },
       record {

@@ -39,7 +39,7 @@ returns-then-not-matches-clause-told c =
     let s = c.index-stop.result.now in
     let w = work_at m.posts.items place in
     let l : place < length m.tour.stops.items = omega (arith, c.requires, m.paired, m.tour.stops.ok.0) in
-    let n : s.stand ≡ Stand.Open → ⊥ = λ e. elim c.match-matches.branch [ | in-Open z ↦ absurd (never (sym c.if-not-matches.true ∙ z.matches-is)) | in_default z ↦ z.in_default.not-Open e ] in
+    let n : s.stand ≡ Stand.Open → ⊥ = λ e. elim c.match-matches.branch [ in-Open z ↦ absurd (never (sym c.if-not-matches.true ∙ z.matches-is)) | in_default z ↦ z.in_default.not-Open e ] in
     so_here (λ t v. met_does place t v) place m m s l c.index-stop.ensures
     (does_as place (stays w) (met_does place s w) m m (met_shut place s.stand s.side.duty w n) (does_none place m m refl refl))
 
@@ -74,7 +74,7 @@ returns-in-Some-Reached-clause-told c =
     let s = c.index-stop.result.now in
     let w = work_at m.posts.items place in
     let l : place < length m.tour.stops.items = omega (arith, c.requires, m.paired, m.tour.stops.ok.0) in
-    let o : s.stand ≡ Stand.Open = elim c.match-matches.branch [ | in-Open z ↦ z.in-Open.is | in_default z ↦ absurd (never (sym z.matches-is ∙ c.if-not-matches.false)) ] in
+    let o : s.stand ≡ Stand.Open = elim c.match-matches.branch [ in-Open z ↦ z.in-Open.is | in_default z ↦ absurd (never (sym z.matches-is ∙ c.if-not-matches.false)) ] in
     so_here (λ t v. met_does place t v) place m c.answered.new.self s l c.index-stop.ensures
     (does_as place (answers place ReplyKind.Done) (met_does place s w) m c.answered.new.self (ap (λ z. met_where place z w) (sym (c.in-Some-Reached.is ∙ ap Some (rw c.in-Some-Reached.is at c.in-Some-Reached.field-0-is))) ∙ met_open place s.stand s.side.duty w o) c.answered.ensures.told)
 
@@ -85,7 +85,7 @@ returns-in-Some-Refused-clause-told c =
     let s = c.index-stop.result.now in
     let w = work_at m.posts.items place in
     let l : place < length m.tour.stops.items = omega (arith, c.requires, m.paired, m.tour.stops.ok.0) in
-    let o : s.stand ≡ Stand.Open = elim c.match-matches.branch [ | in-Open z ↦ z.in-Open.is | in_default z ↦ absurd (never (sym z.matches-is ∙ c.if-not-matches.false)) ] in
+    let o : s.stand ≡ Stand.Open = elim c.match-matches.branch [ in-Open z ↦ z.in-Open.is | in_default z ↦ absurd (never (sym z.matches-is ∙ c.if-not-matches.false)) ] in
     so_here (λ t v. met_does place t v) place m c.answered-in-Some-Refused.new.self s l c.index-stop.ensures
     (does_as place (answers place (ReplyKind.StateRefused c.in-Some-Refused.code)) (met_does place s w) m c.answered-in-Some-Refused.new.self (ap (λ z. met_where place z w) (sym (c.in-Some-Refused.is ∙ ap Some (rw c.in-Some-Refused.is at c.in-Some-Refused.field-0-is))) ∙ met_open place s.stand s.side.duty w o) c.answered-in-Some-Refused.ensures.told)
 
@@ -96,7 +96,7 @@ returns-in-Some-On-clause-told c =
     let s = c.index-stop.result.now in
     let w = work_at m.posts.items place in
     let l : place < length m.tour.stops.items = omega (arith, c.requires, m.paired, m.tour.stops.ok.0) in
-    let o : s.stand ≡ Stand.Open = elim c.match-matches.branch [ | in-Open z ↦ z.in-Open.is | in_default z ↦ absurd (never (sym z.matches-is ∙ c.if-not-matches.false)) ] in
+    let o : s.stand ≡ Stand.Open = elim c.match-matches.branch [ in-Open z ↦ z.in-Open.is | in_default z ↦ absurd (never (sym z.matches-is ∙ c.if-not-matches.false)) ] in
     so_here (λ t v. met_does place t v) place m m s l c.index-stop.ensures
     (does_as place (stays w) (met_does place s w) m m (ap (λ z. met_where place z w) (sym (c.in-Some-On.is ∙ ap Some (rw c.in-Some-On.is at c.in-Some-On.field-0-is))) ∙ met_open place s.stand s.side.duty w o) (does_none place m m refl refl))
 
@@ -107,6 +107,6 @@ returns-in-None-clause-told c =
     let s = c.index-stop.result.now in
     let w = work_at m.posts.items place in
     let l : place < length m.tour.stops.items = omega (arith, c.requires, m.paired, m.tour.stops.ok.0) in
-    let o : s.stand ≡ Stand.Open = elim c.match-matches.branch [ | in-Open z ↦ z.in-Open.is | in_default z ↦ absurd (never (sym z.matches-is ∙ c.if-not-matches.false)) ] in
+    let o : s.stand ≡ Stand.Open = elim c.match-matches.branch [ in-Open z ↦ z.in-Open.is | in_default z ↦ absurd (never (sym z.matches-is ∙ c.if-not-matches.false)) ] in
     so_here (λ t v. met_does place t v) place m m s l c.index-stop.ensures
     (does_as place (stays w) (met_does place s w) m m (ap (λ z. met_where place z w) (sym c.in-None.is) ∙ met_open place s.stand s.side.duty w o) (does_none place m m refl refl))
