@@ -49,6 +49,7 @@ mod Turneds
 pub mod Mailed
 pub mod FreeKept
 pub mod ServedVisits
+pub mod Threes
 pub mod ServedTells
 pub mod Roundings
 pub mod ServedSents

@@ -4,7 +4,7 @@ use Rattle.std.specs.Prelude.{◌&&◌, is_some, is_none, map, All, IfSome, slic
 use Rattle.std.proofs.lemmas.Bool.{eq-eqb, eqb-true}
 use Rattle.datagrams.specs.Datagram as Raw
 use Rattle.life_runs.specs.of_frame_view.View.{Lens}
-use Rattle.life_runs.specs.of_life_frames.Shares.{Lived, AllBoth, AllFrom, AreDistinct, IsElsewhere}
+use Rattle.life_runs.specs.of_life_frames.Shares.{Lived, AllFrom, AreDistinct, IsElsewhere}
 use Rattle.life_runs.specs.Led.{speech_at}
 use Rattle.mailbox_master.specs.Any.{in_area_len}
 use Rattle.master_duty.specs.Reply.{Reply}
@@ -54,6 +54,7 @@ use Rattle.master_node.proofs.Handings.{handing_on}
 use Rattle.master_node.proofs.Kepts.{lives_kept, stop_same}
 use Rattle.master_node.proofs.Lists.{no_end, no_step, steps_each, steps_got, steps_map, steps_mid, steps_trans}
 use Rattle.master_node.proofs.Mailed.{next_passing, none_begun, none_came, served_came, stand_awaits, stand_same}
+use Rattle.master_node.proofs.Threes.{three_with}
 use Rattle.master_node.proofs.Visits.{Began, SomeKept}
 
 -- A SLAVE THAT STAYS but for what is held, and for its place in the frame
@@ -87,29 +88,6 @@ serving_alike lens begun made left i w ks s t h k = record {
   pace = k.read.1 ∙ h.pace;
   fits = h.fits;
 }
-
-pub three_each : {A B S : Type 0} (P T : ℕ → A → B → S → Type 0) (K : S → S → Type 0) → ((i : ℕ) (a : A) (b : B) (s t : S) → P i a b s → K s t → T i a b t) → (i : ℕ) (as' : List A) (bs : List B) (ss ts : List S) → ThreeFrom P i as' bs ss → EachPair K ss ts → ThreeFrom T i as' bs ts
-three_each P T K h i [] [] [] [] p k = tt
-three_each P T K h i [] [] [] (t ∷ ts) p k = absurd k
-three_each P T K h i [] [] (s ∷ ss) ts p k = absurd p
-three_each P T K h i [] (b ∷ bs) [] ts p k = absurd p
-three_each P T K h i [] (b ∷ bs) (s ∷ ss) ts p k = absurd p
-three_each P T K h i (a ∷ as') [] [] ts p k = absurd p
-three_each P T K h i (a ∷ as') [] (s ∷ ss) ts p k = absurd p
-three_each P T K h i (a ∷ as') (b ∷ bs) [] ts p k = absurd p
-three_each P T K h i (a ∷ as') (b ∷ bs) (s ∷ ss) [] p k = absurd k
-three_each P T K h i (a ∷ as') (b ∷ bs) (s ∷ ss) (t ∷ ts) p k = (h i a b s t p.0 k.0, three_each P T K h (suc i) as' bs ss ts p.1 k.1)
-
--- with what two of the lists say
-pub three_with : {A B C S : Type 0} (f : A → C) (Q : ℕ → C → S → Type 0) (P : ℕ → A → B → S → Type 0) (i : ℕ) (as' : List A) (bs : List B) (ss : List S) → AllFrom Q i (map f as') ss → ThreeFrom P i as' bs ss → ThreeFrom (λ j a b s. Q j (f a) s × P j a b s) i as' bs ss
-three_with f Q P i [] [] [] q p = tt
-three_with f Q P i [] [] (s ∷ ss) q p = absurd p
-three_with f Q P i [] (b ∷ bs) [] q p = absurd p
-three_with f Q P i [] (b ∷ bs) (s ∷ ss) q p = absurd p
-three_with f Q P i (a ∷ as') [] [] q p = absurd p
-three_with f Q P i (a ∷ as') [] (s ∷ ss) q p = absurd p
-three_with f Q P i (a ∷ as') (b ∷ bs) [] q p = absurd p
-three_with f Q P i (a ∷ as') (b ∷ bs) (s ∷ ss) q p = ((q.0, p.0), three_with f Q P (suc i) as' bs ss q.1 p.1)
 
 -- what is ahead of a slave
 pub record Ahead {G : Ghosts InHand} (coming : Option Coming) (s : Stop InHand G) : Type 0 where

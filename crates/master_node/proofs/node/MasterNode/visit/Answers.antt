@@ -64,6 +64,7 @@ use Rattle.master_node.specs.Passes.{IsNextState, IsServing, waits_in}
 use Rattle.master_node.specs.Serving.{mails_in, run_lead}
 use Rattle.master_node.specs.Passes.{ThreeFrom}
 use Rattle.master_node.proofs.ServedVisits as Served
+use Rattle.master_node.proofs.Threes.{three_each}
 use Rattle.master_node.proofs.FreeKept as Frees
 use Rattle.std.proofs.Common.{length}
 use Rattle.life_runs.specs.of_life_frames.Shares.{AreDistinct}
@@ -362,9 +363,9 @@ returns-then-not-fits-clause-serves c = λ lens recover made forwards left next 
       begun = f.begun;
       frame = subst (λ n. FrameMade (λ ds i a s. StopFills lens recover made f.begun (m.made % 256) left ds i a s) c.args.into.now.items n (map (λ w. lived_of (run_lead w)) ws) s1) (sym e.count)
           (e.made (speech_at lens) is_followed is_passed made recover (m.made % 256) m.tour.count lens left (map (λ w. lived_of (run_lead w)) ws) c.args.into.now.items f.begun d at f.frame);
-      each = Served.three_each (λ i w ks s. IsServing lens f.begun made left i w ks s) (λ i w ks s. IsServing lens f.begun made left i w ks s) (λ s t. Served.Alike s t) (λ i w ks s t h k. Served.serving_alike lens f.begun made left i w ks s t h k)
+      each = three_each (λ i w ks s. IsServing lens f.begun made left i w ks s) (λ i w ks s. IsServing lens f.begun made left i w ks s) (λ s t. Served.Alike s t) (λ i w ks s t h k. Served.serving_alike lens f.begun made left i w ks s t h k)
           0 ws (mails_in m) s0 s1 f.each alike;
-      handed = Served.three_each (λ i w p s. IsHanding lens f.begun w p.work (knows s.side.hand.course)) (λ i w p s. IsHanding lens f.begun w p.work (knows s.side.hand.course)) (λ s t. Served.Alike s t)
+      handed = three_each (λ i w p s. IsHanding lens f.begun w p.work (knows s.side.hand.course)) (λ i w p s. IsHanding lens f.begun w p.work (knows s.side.hand.course)) (λ s t. Served.Alike s t)
           (λ i w p s t h k. subst (λ z. IsHanding lens f.begun w p.work z) (sym k.known) h) 0 ws m.posts.items s0 s1 f.handed alike;
       numbered = f.numbered;
       listing = listed_on (served_tells ws) forwards left f.begun (map run_lead ws) m _ refl refl f.listing;
@@ -418,9 +419,9 @@ returns-clause-serves c = λ lens recover made forwards left next ws few d at ov
     let made_frame = Served.frame lens recover made coming r place got s0 s1 s2 s3 s4 rooms frees ahead readied visited came index f.begun left next lives c.args.into.now.items c.visit-began.new.frame.items m.tour.count c.lay.new.self.tour.count c.visit-began.new.self.count
     (c.lay.ensures.kept.0.count ∙ e.count) before
     (λ g. v.made (speech_at lens) is_followed is_passed made recover lens left next lives f.begun begun d at over fewer (subst (λ z. IfSome (slice_get s2 place) (λ s. ComesAt f.begun begun s.place (wish_begun r z (ready_of s.side.hand.laying)))) (sym c.wish_of-wish.ensures) (Served.comes lens recover made coming r place got s0 s1 s2 s3 s4 rooms frees ahead readied visited came f.begun)) g) in
-    let all = Served.three_each (λ i w ks s. IsServing lens f.begun made left i w ks s) (λ i w ks s. IsServing lens f.begun made left i w ks s) (λ s t. Served.Alike s t) (λ i w ks s t h k. Served.serving_alike lens f.begun made left i w ks s t h k) 0 ws (mails_in m) s0 s1 f.each alike in
+    let all = three_each (λ i w ks s. IsServing lens f.begun made left i w ks s) (λ i w ks s. IsServing lens f.begun made left i w ks s) (λ s t. Served.Alike s t) (λ i w ks s t h k. Served.serving_alike lens f.begun made left i w ks s t h k) 0 ws (mails_in m) s0 s1 f.each alike in
     let served = Served.serving lens recover made coming r place got s0 s1 s2 s3 s4 rooms frees ahead readied visited came f.begun index left next before.datagrams fewer c.coming-coming.ensures.oldest ws (mails_in m) (mails_in c.lay.new.self) at over d before.each all c.lay.ensures.mails refl in
-    let handed = Served.three_each (λ i w p s. IsHanding lens f.begun w p.work (knows s.side.hand.course)) (λ i w p s. IsHanding lens f.begun w p.work (knows s.side.hand.course)) (λ s t. Served.Alike s t)
+    let handed = three_each (λ i w p s. IsHanding lens f.begun w p.work (knows s.side.hand.course)) (λ i w p s. IsHanding lens f.begun w p.work (knows s.side.hand.course)) (λ s t. Served.Alike s t)
     (λ i w p s t h k. subst (λ z. IsHanding lens f.begun w p.work z) (sym k.known) h) 0 ws m.posts.items s0 s1 f.handed alike in
     let moved = steps_trans _ _ (λ p q. Served.Moved lens recover made coming r place got s0 s1 s2 s3 s4 rooms frees ahead readied visited came f.begun index left next before.datagrams fewer c.coming-coming.ensures.oldest p q) place m.posts.items c.lay.new.self.posts.items c.came.new.self.posts.items
     (λ p x q a b. record { mid = x; lays = a; works = b }) c.lay.ensures.works c.came.ensures.works in
