@@ -3,6 +3,7 @@ pub mod Cut
 pub mod Desks
 pub mod Ended
 pub mod Judged
+pub mod Leds
 pub mod Room
 pub mod Told
 pub mod Turns
