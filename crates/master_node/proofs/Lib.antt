@@ -61,3 +61,13 @@ pub mod Queued
 pub mod Recalled
 pub mod Newest
 pub mod Unvisited
+pub mod PacketRows
+pub mod Inhand
+pub mod FreePackets
+pub mod Rowtells
+pub mod Changes
+pub mod Backopen
+pub mod Reopeneds
+pub mod Backinhand
+pub mod Backtolds
+pub mod Unread
