@@ -1,8 +1,12 @@
 pub mod Accounts
 pub mod Cut
+pub mod Desking
 pub mod Desks
 pub mod Ended
 pub mod Judged
+pub mod Places
 pub mod Room
+pub mod Rooms
 pub mod Told
 pub mod Turns
+pub mod Views
