@@ -52,7 +52,7 @@ known_at [] n g e = absurd (cc)
 known_at (h ∷ gs) zero g e = omega arith
 known_at (h ∷ gs) (suc n) g e = (let l = known_at gs n g e in omega (arith, l))
 
-none_begun : (gs : List GramIn) (w : Serves) (begun : List Request) → w.lead.lived.life.era.passing ≡ None → AllBoth (IsFor gs) begun (keyed_in w.hand w.lead.lived.life.era.passing) → begun ≡ []
+pub none_begun : (gs : List GramIn) (w : Serves) (begun : List Request) → w.lead.lived.life.era.passing ≡ None → AllBoth (IsFor gs) begun (keyed_in w.hand w.lead.lived.life.era.passing) → begun ≡ []
 none_begun gs w begun free a = by w.hand (subst (λ p. AllBoth (IsFor gs) begun (keyed_in w.hand p)) free a)
   where
     none : (rs : List Request) → AllBoth (IsFor gs) rs [] → rs ≡ []

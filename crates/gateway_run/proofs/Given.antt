@@ -103,7 +103,7 @@ module _ (gs : List GramIn) (slave : ℕ) (w v : Serves) (came : List ℕ) (wait
       not_waiting z e = rises_apart number came (grams_of waiting) d.rising (among_at number came row.index row.its)
 
 -- THE ROW OF THE MAIL IN HAND is the last of those that were passed on
-last_same : {T : Type 0} (xs ys : List T) (x y : T) → xs ++ x ∷ [] ≡ ys ++ y ∷ [] → (x ≡ y) × (length xs ≡ length ys)
+pub last_same : {T : Type 0} (xs ys : List T) (x y : T) → xs ++ x ∷ [] ≡ ys ++ y ∷ [] → (x ≡ y) × (length xs ≡ length ys)
 last_same [] [] x y e = ((let all = e in cc), refl)
 last_same [] (b ∷ ys) x y e = absurd (none ys (let all : [] ≡ ys ++ y ∷ [] = cc in all))
   where

@@ -1,7 +1,7 @@
 -- WHAT COMES INTO HAND OF A SLAVE, AND WHAT IS TOLD OF IT, as its desk has it.
 use Rattle.std.proofs.Common.{◌≡◌, ℕ, zero, suc, ◌+◌, ◌<◌, Bool, true, false, inl, inr, Option, Some, None, List, [], ◌∷◌, ◌++◌, length, map, refl, sym, ap, ◌∙◌, subst, eq-eqb, eqb-true, append-nil, append_assoc, length-append, arith}
 use Rattle.std.specs.Prelude.{◌≢◌, ◌==◌, ◌⊎◌, if◌then◌else◌, slice_get, All}
-use Rattle.std.proofs.lemmas.List.Elements.{All-nil, All-head, All-tail, All-cons, All-push}
+use Rattle.std.proofs.lemmas.List.Elements.{All-nil, All-head, All-tail, All-cons, All-push, All-weaker}
 use Rattle.exchange_model.specs.Exchange.{plain}
 use Rattle.exchange_model.specs.Rows.{Row}
 use Rattle.exchange_model.proofs.Words.{plain-append}
@@ -103,6 +103,13 @@ among_at number [] k e = absurd (cc)
 among_at number (n ∷ ns) zero e = in_head number n true (eq-eqb number n (let same : n ≡ number = cc in sym same)) ns
 among_at number (n ∷ ns) (suc k) e = in_back number (n ∷ []) ns (among_at number ns k e)
 
+-- each is among all
+pub all_among : (qs : List Request) → All (λ (r : Request). is_in r.gram (grams_of qs) ≡ true) qs
+all_among [] = All-nil (λ (r : Request). is_in r.gram [] ≡ true)
+all_among (q ∷ qs) =
+    All-cons (λ (r : Request). is_in r.gram (grams_of (q ∷ qs)) ≡ true) q qs (in_head q.gram q.gram true (eq-eqb q.gram q.gram refl) (grams_of qs))
+    (All-weaker (λ (r : Request). is_in r.gram (grams_of qs) ≡ true) (λ (r : Request). is_in r.gram (grams_of (q ∷ qs)) ≡ true) (λ r e. in_back r.gram (q.gram ∷ []) (grams_of qs) e) qs (all_among qs))
+
 pub at_last : {T : Type 0} (xs : List T) (y : T) → slice_get (xs ++ y ∷ []) (length xs) ≡ Some y
 at_last [] y = refl
 at_last (x ∷ xs) y = at_last xs y
@@ -125,7 +132,7 @@ row_stays w v came more number asked told rows stay h =
     }
 
 -- NOTHING COMES INTO HAND, or a service of its own: its desk stays, where what is passed on stays
-keyed_none : (hand : Option Passed) → keyed_in hand None ≡ []
+pub keyed_none : (hand : Option Passed) → keyed_in hand None ≡ []
 keyed_none None = refl
 keyed_none (Some p) = refl
 

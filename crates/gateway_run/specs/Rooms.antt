@@ -1,7 +1,9 @@
 -- WHAT A DESK HAS OF ONE SLAVE: the requests whose mails wait for it, and the one whose mail is in its hand; and what was owed by one datagram.
-use Rattle.std.specs.Prelude.{◌<◌, ℕ, ◌==◌, ◌&&◌, Bool, List, [], ◌∷◌, map, filter, All}
+use Rattle.std.specs.Prelude.{◌<◌, ℕ, ◌==◌, ◌&&◌, Bool, List, [], ◌∷◌, ◌++◌, map, filter, All}
 use Rattle.mailbox_mail.specs.declared.mail.Mail.{Mail}
-use Rattle.gateway_run.specs.Account.{Owing, is_of, waits_at}
+use Rattle.master_node.specs.declared.event.Event.{Event}
+use Rattle.master_node.specs.declared.event.Event.TheVariants as events
+use Rattle.gateway_run.specs.Account.{Owing, has_key, is_of, left_by, waits_at}
 use Rattle.gateway_run.specs.Desk.{AreUnlike}
 use Rattle.gateway_run.specs.declared.desk.Request.{Request}
 
@@ -32,6 +34,16 @@ grams_of rs = map (λ (r : Request). r.gram) rs
 -- no two requests are of one datagram
 abbrev pub AreFiled : List Request → Type 0
 AreFiled rs = AreUnlike (λ (r : Request). r.gram) rs
+
+-- WHICH DATAGRAMS' ROWS AN EVENT ENDS: that of the request under whose key no more follows
+abbrev pub done_by : Event → List Request → List ℕ
+done_by (events.GatewayDone key) rs = grams_of (filter (has_key key) rs)
+done_by event rs = []
+
+-- the same of events one behind the other
+abbrev pub done_by_all : List Event → List Request → List ℕ
+done_by_all [] rs = []
+done_by_all (event ∷ more) rs = done_by event rs ++ done_by_all more (left_by event rs)
 
 -- the mails that were owed by the datagram of this number, in order
 abbrev pub owed_for : ℕ → List Owing → List Mail
