@@ -1,15 +1,16 @@
 -- WHAT THE EVENTS OF ONE SLAVE leave of its requests, and what they make owed by each datagram.
-use Rattle.std.proofs.Common.{◌≡◌, ℕ, List, [], ◌∷◌, ◌++◌, map, Bool, true, false, refl, sym, ap, ◌∙◌, subst, eq-eqb}
-use Rattle.std.specs.Prelude.{◌≢◌, ◌==◌, ◌&&◌, not, cond, filter, find, Some, All, Ok, Err}
-use Rattle.std.proofs.lemmas.List.Elements.{All-head, All-tail, All-filter}
+use Rattle.std.proofs.Common.{◌≡◌, ℕ, List, [], ◌∷◌, ◌++◌, map, Bool, true, false, refl, sym, ap, ◌∙◌, subst, eq-eqb, eqb-true}
+use Rattle.std.specs.Prelude.{◌≢◌, ◌==◌, ◌&&◌, not, cond, if◌then◌else◌, filter, find, Some, All, Ok, Err}
+use Rattle.std.proofs.lemmas.List.Elements.{All-nil, All-cons, All-head, All-tail, All-filter}
 use Rattle.gateway_run.specs.Replies.{mails_told}
 use Rattle.mailbox_mail.specs.Mail.{error_of}
+use Rattle.master_node.specs.of_master_tour.Made.{is_in}
 use Rattle.master_node.specs.Gateways.{replies_told}
 use Rattle.master_node.specs.of_life_runs.of_link_mails.Body.{Body}
 use Rattle.mailbox_mail.specs.declared.mail.Mail.{Mail}
 use Rattle.gateway_run.specs.Account.{owing, IsFree, begun_first, elsewhere, has_key, is_elsewhere, left_by_all, others, owed_by_all, owed_to, waits_at}
 use Rattle.gateway_run.specs.Desk.{AreApart}
-use Rattle.gateway_run.specs.Rooms.{AreFiled, begun_of, has_begun, owed_for, waiting_of}
+use Rattle.gateway_run.specs.Rooms.{AreFiled, begun_of, grams_of, has_begun, owed_for, waiting_of}
 use Rattle.gateway_run.specs.declared.desk.Request.{Request}
 use Rattle.gateway_run.proofs.Accounts.{others_free, others_kept}
 use Rattle.gateway_run.proofs.Rooms.{both_left, filter_none, not_same, owed_append, owed_one, owed_other}
@@ -130,12 +131,20 @@ gone_waits i rs = filter_none (is_elsewhere i) (waits_at i) rs (λ r e. ap (λ (
 pub gone_begun : (i : ℕ) (rs : List Request) → begun_of i (elsewhere i rs) ≡ []
 gone_begun i rs = filter_none (is_elsewhere i) (has_begun i) rs (λ r e. ap (λ (z : Bool). not z) (both_left (r.slave == i) r.begun e))
 
-pub cut_here : (before after : List Request) (r : Request) → AreFiled (before ++ r ∷ after) → owed_for r.gram (map (owing (error_of 5)) (before ++ r ∷ after)) ≡ error_of 5 ∷ []
-cut_here [] after r filed = owed_append r.gram (owing (error_of 5) r ∷ []) (map (owing (error_of 5)) after) ∙ (λ k. owed_one (error_of 5) r k ++ cut_none r.gram after filed.0 k)
-cut_here (q ∷ before) after r filed =
-    owed_append r.gram (owing (error_of 5) q ∷ []) (map (owing (error_of 5)) (before ++ r ∷ after))
-    ∙ (λ k. owed_other r.gram (error_of 5) q (λ s. middle before (λ x. x ≢ q.gram) filed.0 (sym s)) k ++ cut_here before after r filed.1 k)
+pub none_in : (n : ℕ) (qs : List Request) → is_in n (grams_of qs) ≡ false → All (λ (q : Request). q.gram ≢ n) qs
+none_in n [] e = All-nil (λ (q : Request). q.gram ≢ n)
+none_in n (q ∷ qs) e = go (n == q.gram) refl (λ f. none_in n qs f)
   where
-    middle : (qs : List Request) (P : ℕ → Type 0) → All (λ (x : Request). P x.gram) (qs ++ r ∷ after) → P r.gram
-    middle [] P all = All-head (λ (x : Request). P x.gram) r after all
-    middle (y ∷ qs) P all = middle qs P (All-tail (λ (x : Request). P x.gram) y (qs ++ r ∷ after) all)
+    go : (b : Bool) → (n == q.gram) ≡ b → (is_in n (grams_of qs) ≡ false → All (λ (q : Request). q.gram ≢ n) qs) → All (λ (q : Request). q.gram ≢ n) (q ∷ qs)
+    go true f on = absurd (let bad : true ≡ false = sym (ap (λ z. if z then true else is_in n (grams_of qs)) f) ∙ e in cc)
+    go false f on = All-cons (λ (q : Request). q.gram ≢ n) q qs (λ s. (let bad : true ≡ false = sym (eq-eqb n q.gram (sym s)) ∙ f in cc)) (on (sym (ap (λ z. if z then true else is_in n (grams_of qs)) f) ∙ e))
+
+pub cut_among : (n : ℕ) (qs : List Request) → AreFiled qs → is_in n (grams_of qs) ≡ true → owed_for n (map (owing (error_of 5)) qs) ≡ error_of 5 ∷ []
+cut_among n [] filed e = absurd (cc)
+cut_among n (q ∷ qs) filed e = owed_append n (owing (error_of 5) q ∷ []) (map (owing (error_of 5)) qs) ∙ go (n == q.gram) refl (λ f. cut_among n qs filed.1 f)
+  where
+    go : (b : Bool) → (n == q.gram) ≡ b → (is_in n (grams_of qs) ≡ true → owed_for n (map (owing (error_of 5)) qs) ≡ error_of 5 ∷ []) → owed_for n (owing (error_of 5) q ∷ []) ++ owed_for n (map (owing (error_of 5)) qs) ≡ error_of 5 ∷ []
+    go true f on =
+        let same : n ≡ q.gram = eqb-true n q.gram f in
+        subst (λ k. owed_for k (owing (error_of 5) q ∷ []) ++ owed_for k (map (owing (error_of 5)) qs) ≡ error_of 5 ∷ []) (sym same) (λ k. owed_one (error_of 5) q k ++ cut_none q.gram qs filed.0 k)
+    go false f on = (λ k. owed_other n (error_of 5) q (λ s. (let bad : true ≡ false = sym (eq-eqb n q.gram (sym s)) ∙ f in cc)) k ++ on (sym (ap (λ z. if z then true else is_in n (grams_of qs)) f) ∙ e) k)

@@ -24,24 +24,24 @@ use Rattle.gateway_run.proofs.Hands.{all_among, all_in, among_at, at_last, in_he
 use Rattle.gateway_run.proofs.Behind.{InHand, done_none, done_one, ends, finished, in_hand, owes, stays, told_of}
 use Rattle.gateway_run.proofs.Given.{IsTold, desk_told, fares_told, last_same}
 
+-- A DATAGRAM OF THIS SLAVE
+pub record IsOurs (gs : List GramIn) (slave n : ℕ) : Type 0 where
+  pub gram : GramIn
+  pub there : slice_get gs n ≡ Some gram
+  pub queued : gram.queued ≡ Some slave
+
+-- what these events make owed besides, and which rows they end, of the datagrams of this slave
+pub record OwesBesides (gs : List GramIn) (slave : ℕ) (os more : List Owing) (rs : List Request) (es : List Event) (done done' : ℕ → Bool) : Type 0 where
+  pub owed : (n : ℕ) → IsOurs gs slave n → owed_for n (os ++ more) ≡ owed_for n os ++ owed_for n (owed_by_all es rs)
+  pub ended : (n : ℕ) → IsOurs gs slave n → done' n ≡ (if is_in n (done_by_all es rs) then true else done n)
+
+-- ITS DESK BEHIND THE FRAME, with these requests left, and what each of its datagrams got
+pub record HasTold (gs : List GramIn) (slave : ℕ) (w v : Serves) (os more : List Owing) (came : List ℕ) (rs : List Request) (done done' : ℕ → Bool) (qs : List Request) : Type 0 where
+  pub desk : IsDesk gs (os ++ more) slave v came (waiting_of slave qs) (begun_of slave qs)
+  pub fares : (number : ℕ) (asked : Mail) (o : IsOurs gs slave number) → request_in o.gram.bytes ≡ Ok asked →
+      Fares w came (waiting_of slave rs) (begun_of slave rs) (done number) number asked (owed_for number os) → Fares v came (waiting_of slave qs) (begun_of slave qs) (done' number) number asked (owed_for number (os ++ more))
+
 module _ (gs : List GramIn) (slave : ℕ) (w v : Serves) (os more : List Owing) (came : List ℕ) (rs : List Request) (es : List Event) (done done' : ℕ → Bool) where
-  -- A DATAGRAM OF THIS SLAVE
-  pub record IsOurs (n : ℕ) : Type 0 where
-    pub gram : GramIn
-    pub there : slice_get gs n ≡ Some gram
-    pub queued : gram.queued ≡ Some slave
-
-  -- what these events make owed besides, and which rows they end, of the datagrams of this slave
-  pub record OwesBesides : Type 0 where
-    pub owed : (n : ℕ) → IsOurs n → owed_for n (os ++ more) ≡ owed_for n os ++ owed_for n (owed_by_all es rs)
-    pub ended : (n : ℕ) → IsOurs n → done' n ≡ (if is_in n (done_by_all es rs) then true else done n)
-
-  -- ITS DESK BEHIND THE FRAME, with these requests left, and what each of its datagrams got
-  pub record HasTold (qs : List Request) : Type 0 where
-    pub desk : IsDesk gs (os ++ more) slave v came (waiting_of slave qs) (begun_of slave qs)
-    pub fares : (number : ℕ) (asked : Mail) (o : IsOurs number) → request_in o.gram.bytes ≡ Ok asked →
-        Fares w came (waiting_of slave rs) (begun_of slave rs) (done number) number asked (owed_for number os) → Fares v came (waiting_of slave qs) (begun_of slave qs) (done' number) number asked (owed_for number (os ++ more))
-
   -- WHAT IS KNOWN where a mail was passed on last
   module _ (p : Passed) (new : List Body) where
     pub record IsBehind : Type 0 where
@@ -51,15 +51,15 @@ module _ (gs : List GramIn) (slave : ℕ) (w v : Serves) (os more : List Owing) 
       pub stay : AllBoth Stays (passed_rows w.lead.lived.life) (passed_rows v.lead.lived.life)
       pub gone : WasGivenUp w → WasGivenUp v
       pub own : TellsOwn (record p { told = p.told ++ new }) v.lead.lived.life.era.passing v.lead.lived.life.era.side.now
-      pub owes : OwesBesides
-      pub ours : All (λ (r : Request). IsOurs r.gram) rs
+      pub owes : OwesBesides gs slave os more rs es done done'
+      pub ours : All (λ (r : Request). IsOurs gs slave r.gram) rs
       pub undone : All (λ (r : Request). done r.gram ≡ false) rs
 
     module _ (b : IsBehind) (d : IsDesk gs os slave w came (waiting_of slave rs) (begun_of slave rs)) where
       last : IsNewest gs slave came os p
       last = d.newest p b.hand
 
-      last_ours : IsOurs last.number
+      last_ours : IsOurs gs slave last.number
       last_ours = record { gram = last.gram; there = last.there; queued = last.queued }
 
       -- none that waits is the one in hand
@@ -71,8 +71,8 @@ module _ (gs : List GramIn) (slave : ℕ) (w v : Serves) (os more : List Owing) 
       all_waiting = All-weaker (λ (r : Request). is_in r.gram (grams_of (waiting_of slave rs)) ≡ true) (λ (r : Request). last.number ≢ r.gram) not_last (waiting_of slave rs) (all_among (waiting_of slave rs))
 
       -- those that wait are this slave's
-      ours_waiting : All (λ (r : Request). IsOurs r.gram) (waiting_of slave rs)
-      ours_waiting = All-filter (waits_at slave) (λ (r : Request). IsOurs r.gram) rs b.ours
+      ours_waiting : All (λ (r : Request). IsOurs gs slave r.gram) (waiting_of slave rs)
+      ours_waiting = All-filter (waits_at slave) (λ (r : Request). IsOurs gs slave r.gram) rs b.ours
 
       -- the request in hand is of the last datagram
       its_gram : (r : Request) → begun_of slave rs ≡ r ∷ [] → last.number ≡ r.gram
@@ -80,10 +80,10 @@ module _ (gs : List GramIn) (slave : ℕ) (w v : Serves) (os more : List Owing) 
 
       -- NOTHING OF IT IS TOLD, and its request stays as it is
       module _ (was : Bool) (none : (n : ℕ) → owed_for n (owed_by_all es rs) ≡ []) (never : (n : ℕ) → is_in n (done_by_all es rs) ≡ false) (nothing : new ≡ []) (keyed : AllBoth (IsFor gs) (begun_of slave rs) (keyed_in v.hand v.lead.lived.life.era.passing)) where
-        same_owed : (n : ℕ) → IsOurs n → owed_for n (os ++ more) ≡ owed_for n os
+        same_owed : (n : ℕ) → IsOurs gs slave n → owed_for n (os ++ more) ≡ owed_for n os
         same_owed n o = b.owes.owed n o ∙ ap (λ ms. owed_for n os ++ ms) (none n) ∙ append-nil (owed_for n os)
 
-        same_done : (n : ℕ) → IsOurs n → done' n ≡ done n
+        same_done : (n : ℕ) → IsOurs gs slave n → done' n ≡ done n
         same_done n o = b.owes.ended n o ∙ ap (λ z. if z then true else done n) (never n)
 
         told : IsTold gs slave w v came (waiting_of slave rs) (begun_of slave rs) (begun_of slave rs) p new os more
@@ -95,10 +95,10 @@ module _ (gs : List GramIn) (slave : ℕ) (w v : Serves) (os more : List Owing) 
           still = λ r e. e;
           in_hand = keyed;
           owed = λ n. same_owed n.number (record { gram = n.gram; there = n.there; queued = n.queued }) ∙ sym (append-nil (owed_for n.number os)) ∙ ap (λ l. owed_for n.number os ++ mails_told l) (sym nothing);
-          others = All-weaker (λ (r : Request). IsOurs r.gram) (λ (r : Request). owed_for r.gram (os ++ more) ≡ owed_for r.gram os) (λ r o. same_owed r.gram o) (waiting_of slave rs) ours_waiting;
+          others = All-weaker (λ (r : Request). IsOurs gs slave r.gram) (λ (r : Request). owed_for r.gram (os ++ more) ≡ owed_for r.gram os) (λ r o. same_owed r.gram o) (waiting_of slave rs) ours_waiting;
         }
 
-        pub tells_nothing : HasTold rs
+        pub tells_nothing : HasTold gs slave w v os more came rs done done' rs
         tells_nothing = record {
           desk = desk_told gs slave w v came (waiting_of slave rs) (begun_of slave rs) (begun_of slave rs) p new os more told d;
           fares = λ number asked o request f. fares_told gs slave w v came (waiting_of slave rs) (begun_of slave rs) (begun_of slave rs) p new os more told d (done number) (done' number) number asked o.gram o.there request b.gone b.own
@@ -124,7 +124,7 @@ module _ (gs : List GramIn) (slave : ℕ) (w v : Serves) (os more : List Owing) 
           owed_last : owed_for last.number (os ++ more) ≡ owed_for last.number os ++ mails_told new
           owed_last = b.owes.owed last.number last_ours ∙ ap (λ ms. owed_for last.number os ++ ms) (ap (owed_for last.number) owed_all ∙ ap (λ n. owed_for n (map (λ m. owing m i.request) (mails_told new))) number_is ∙ owed_its i.request (mails_told new))
 
-          owed_others : (n : ℕ) → IsOurs n → i.request.gram ≢ n → owed_for n (os ++ more) ≡ owed_for n os
+          owed_others : (n : ℕ) → IsOurs gs slave n → i.request.gram ≢ n → owed_for n (os ++ more) ≡ owed_for n os
           owed_others n o off = b.owes.owed n o ∙ ap (λ ms. owed_for n os ++ ms) (ap (owed_for n) owed_all ∙ owed_not n i.request (mails_told new) off) ∙ append-nil (owed_for n os)
 
           waiting_same : All (λ (r : Request). owed_for r.gram (os ++ more) ≡ owed_for r.gram os) (waiting_of slave rs)
@@ -138,7 +138,7 @@ module _ (gs : List GramIn) (slave : ℕ) (w v : Serves) (os more : List Owing) 
           not_begun number e s = (let bad : true ≡ false = sym (in_head number i.request.gram true (eq-eqb number i.request.gram (sym s)) []) ∙ sym (ap (λ bs. is_in number (grams_of bs)) i.is) ∙ e in cc)
 
         -- it goes on
-        pub tells_on : (y : Passing) → v.lead.lived.life.era.passing ≡ Some y → es ≡ told_of gs slave w v os more came rs p new true true → HasTold rs
+        pub tells_on : (y : Passing) → v.lead.lived.life.era.passing ≡ Some y → es ≡ told_of gs slave w v os more came rs p new true true → HasTold gs slave w v os more came rs done done' rs
         tells_on y goes tells = record {
           desk = desk_told gs slave w v came (waiting_of slave rs) (begun_of slave rs) (begun_of slave rs) p new os more told d;
           fares = λ number asked o request f. fares_told gs slave w v came (waiting_of slave rs) (begun_of slave rs) (begun_of slave rs) p new os more told d (done number) (done' number) number asked o.gram o.there request b.gone b.own
@@ -146,7 +146,7 @@ module _ (gs : List GramIn) (slave : ℕ) (w v : Serves) (os more : List Owing) 
               (λ e. (owed_others true tells number o (not_begun true tells number e), same_done number o, e)) f;
         }
           where
-            same_done : (n : ℕ) → IsOurs n → done' n ≡ done n
+            same_done : (n : ℕ) → IsOurs gs slave n → done' n ≡ done n
             same_done n o = b.owes.ended n o ∙ ap (λ z. if z then true else done n) (ap (λ l. is_in n (done_by_all l rs)) tells ∙ done_none gs slave w v os more came rs p new apart i n)
 
             undone : (number : ℕ) → is_in number (grams_of (begun_of slave rs)) ≡ true → done number ≡ false
@@ -165,7 +165,7 @@ module _ (gs : List GramIn) (slave : ℕ) (w v : Serves) (os more : List Owing) 
             }
 
         -- it is over, with all its replies
-        pub tells_over : v.lead.lived.life.era.passing ≡ None → AreAll (p.told ++ new) → es ≡ told_of gs slave w v os more came rs p new true false → HasTold (others p.key rs)
+        pub tells_over : v.lead.lived.life.era.passing ≡ None → AreAll (p.told ++ new) → es ≡ told_of gs slave w v os more came rs p new true false → HasTold gs slave w v os more came rs done done' (others p.key rs)
         tells_over over all tells = record {
           desk = subst (λ bs. IsDesk gs (os ++ more) slave v came (waiting_of slave (others p.key rs)) bs) (sym left.1) (subst (λ ws. IsDesk gs (os ++ more) slave v came ws []) (sym left.0)
               (desk_told gs slave w v came (waiting_of slave rs) (begun_of slave rs) [] p new os more told d));
