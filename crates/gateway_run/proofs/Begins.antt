@@ -2,7 +2,7 @@
 use Rattle.std.proofs.Common.{◌≡◌, ℕ, Bool, true, false, Option, Some, None, List, [], ◌∷◌, ◌++◌, refl, sym, ap, ◌∙◌, subst, append-nil, eqb-true}
 use Rattle.std.specs.Prelude.{◌==◌, if◌then◌else◌, not, slice_get, All, Ok}
 use Rattle.std.proofs.lemmas.List.Elements.{All-head, filter_passes}
-use Rattle.exchange_model.specs.Rows.{Row, begun}
+use Rattle.master_node.specs.of_life_frames.of_exchange_model.Rows.{Row, begun}
 use Rattle.gateway_core.specs.Framing.{request_in}
 use Rattle.kept_rows.specs.Rows.{Stays, passed_rows, row_begun}
 use Rattle.kept_rows.proofs.Next.{next_free, next_passing, next_stays}

@@ -4,7 +4,7 @@ use Rattle.std.specs.Prelude.{◌≢◌, ◌==◌, ◌&&◌, if◌then◌else◌
 use Rattle.std.proofs.lemmas.List.Elements.{All-nil, All-cons, All-head, All-tail}
 use Rattle.gateway_core.specs.Framing.{request_in}
 use Rattle.kept_rows.proofs.Behind.{behind_stays}
-use Rattle.kept_rows.specs.Rows.{Stays, passed_rows}
+use Rattle.kept_rows.specs.Rows.{AreAll, Stays, passed_rows}
 use Rattle.kept_rows.specs.of_served_runs.Served.{Keyed, Serves, ServedTurn, served_behind}
 use Rattle.kept_rows.specs.of_served_runs.Told.{Passed, TellsOwn, replies_in}
 use Rattle.mailbox_mail.specs.Mail.{error_of}
@@ -20,10 +20,10 @@ use Rattle.run_book.specs.declared.book.GramIn.{GramIn}
 use Rattle.gateway_run.specs.Account.{IsFree, Owing, owing, has_key, left_by, left_by_all, others, owed_by_all, waits_at}
 use Rattle.gateway_run.specs.Desk.{AreApart}
 use Rattle.gateway_run.specs.Rooms.{begun_of, done_by, done_by_all, grams_of, has_begun, owed_for, waiting_of}
-use Rattle.gateway_run.specs.Replies.{AreAll, Fares, IsDesk, IsFor, IsNew, IsNewest, StandsSo, WasGivenUp, keyed_in, mails_told}
+use Rattle.gateway_run.specs.Replies.{Fares, IsDesk, IsFor, IsNew, IsNewest, StandsSo, WasGivenUp, keyed_in, mails_told}
 use Rattle.gateway_run.specs.declared.desk.Request.{Request}
 use Rattle.gateway_run.proofs.Rooms.{not_same, owed_append}
-use Rattle.gateway_run.proofs.Views.{left_append, owed_both}
+use Rattle.gateway_run.proofs.Views.{given_both, left_append, owed_both}
 use Rattle.gateway_run.proofs.Desking.{begun_waits, done_here, found_kept, owed_its, owed_not, replies_here}
 use Rattle.gateway_run.proofs.Hands.{rises_apart}
 use Rattle.gateway_run.proofs.Given.{IsTold, desk_told, fares_told}
@@ -88,12 +88,8 @@ module _ (gs : List GramIn) (slave : ℕ) (w v : Serves) (os more : List Owing) 
     replies_end (Ok m ∷ bs) qs = replies_end bs qs
     replies_end (Err fault ∷ bs) qs = replies_end bs qs
 
-    done_both : (es fs : List Event) (qs : List Request) → done_by_all (es ++ fs) qs ≡ done_by_all es qs ++ done_by_all fs (left_by_all es qs)
-    done_both [] fs qs = refl
-    done_both (e ∷ es) fs qs = ap (λ ns. done_by e qs ++ ns) (done_both es fs (left_by e qs)) ∙ sym (append_assoc (done_by e qs) (done_by_all es (left_by e qs)) (done_by_all fs (left_by_all es (left_by e qs))))
-
     pub done_none : (n : ℕ) → is_in n (done_by_all (told_of true true) rs) ≡ false
-    done_none n = ap (is_in n) (done_both (replies_told p.key new) [] rs ∙ (λ k. replies_end new rs k ++ []))
+    done_none n = ap (is_in n) (given_both done_by (replies_told p.key new) [] rs ∙ (λ k. replies_end new rs k ++ []))
 
     kept_key : (qs : List Request) → AreApart qs → find (has_key p.key) qs ≡ Some i.request → filter (has_key p.key) qs ≡ i.request ∷ []
     kept_key [] a e = absurd (cc)
@@ -108,7 +104,7 @@ module _ (gs : List GramIn) (slave : ℕ) (w v : Serves) (os more : List Owing) 
 
     pub done_one : done_by_all (told_of true false) rs ≡ i.request.gram ∷ []
     done_one =
-        done_both (replies_told p.key new) (done_told p.key true false) rs
+        given_both done_by (replies_told p.key new) (done_told p.key true false) rs
         ∙ (λ k. replies_end new rs k ++ (grams_of (filter (has_key p.key) (replied.0 k)) ++ []))
         ∙ append-nil (grams_of (filter (has_key p.key) rs))
         ∙ ap grams_of (kept_key rs apart found)

@@ -4,8 +4,8 @@ use Rattle.std.specs.Prelude.{◌≢◌, ◌&&◌, nat_lt, if◌then◌else◌, 
 use Rattle.std.proofs.lemmas.Bool.Decides.{nat_tests}
 use Rattle.std.proofs.lemmas.List.Elements.{All-nil, All-weaker, All-filter}
 use Rattle.gateway_core.specs.Framing.{request_in}
-use Rattle.kept_rows.proofs.Behind.{behind_stays}
-use Rattle.kept_rows.specs.Rows.{Stays, passed_rows}
+use Rattle.kept_rows.proofs.Behind.{behind_stays, unpassed_behind}
+use Rattle.kept_rows.specs.Rows.{AreAll, Stays, passed_rows}
 use Rattle.kept_rows.specs.of_served_runs.Served.{Serves, ServedTurn, TellsSo, served_behind}
 use Rattle.kept_rows.specs.of_served_runs.Told.{Passed, TellsOwn, replies_in, told_on}
 use Rattle.mailbox_mail.specs.Mail.{error_of}
@@ -27,12 +27,11 @@ use Rattle.master_node.specs.of_master_tour.Brings.{accepted_in}
 use Rattle.master_node.specs.of_segment_model.Ends.{Passing}
 use Rattle.master_node.specs.of_segment_ring.declared.wire.Fate.{Fate}
 use Rattle.master_node.specs.of_segment_ring.declared.wire.Fate.TheVariants.{Pass, Lost}
-use Rattle.master_tour.proofs.Unpassed.{unpassed_back}
 use Rattle.run_book.specs.declared.book.GramIn.{GramIn}
 use Rattle.gateway_run.specs.Account.{Owing, left_by_all, owed_by_all}
 use Rattle.gateway_run.specs.Desk.{AreApart}
 use Rattle.gateway_run.specs.Rooms.{begun_of, done_by_all, owed_for, waiting_of}
-use Rattle.gateway_run.specs.Replies.{AreAll, Fares, IsDesk, IsFor, IsNew, WasGivenUp, keyed_in}
+use Rattle.gateway_run.specs.Replies.{Fares, IsDesk, IsFor, IsNew, WasGivenUp, keyed_in}
 use Rattle.gateway_run.specs.declared.desk.Request.{Request}
 use Rattle.gateway_run.proofs.Behind.{ends, stays, in_hand, told_of}
 use Rattle.gateway_run.proofs.Hands.{desk_same, fares_same, keyed_none}
@@ -132,9 +131,9 @@ module _ (lens : ℕ → Lens) (recover retry : ℕ) (gives : Bool) (made : ℕ)
       by_passing None g q f =
           let none : new ≡ [] = ap (λ o. replies_in o accepted) g in
           let quiet : tells ≡ [] = tells_so q f None g ∙ ap (λ l. replies_told p.key l ++ []) none in
-          let over = unpassed_back (speech_at lens v.turn.lived.spot) acknowledged is_followed is_passed made (seen lens back) v.turn.lived v.turn.share (news_back v.turn.lived.spot.station v.kept v.counts (seen lens back)) g in
+          let over = unpassed_behind lens recover retry gives made (record { sent = sent; fate = Pass; back = back }) v g in
           let keyed : AllBoth (IsFor gs) (begun_of slave rs) (keyed_in (behind Pass).hand (behind Pass).lead.lived.life.era.passing) =
-              subst (AllBoth (IsFor gs) (begun_of slave rs)) (ap (keyed_in v.hand) g ∙ keyed_none v.hand ∙ sym (ap (keyed_in (behind Pass).hand) over ∙ keyed_none (behind Pass).hand)) d.in_hand in
+          subst (AllBoth (IsFor gs) (begun_of slave rs)) (ap (keyed_in v.hand) g ∙ keyed_none v.hand ∙ sym (ap (keyed_in (behind Pass).hand) over ∙ keyed_none (behind Pass).hand)) d.in_hand in
           subst Told (sym (ap (λ l. left_by_all l rs) quiet))
           (tells_nothing gs slave before (behind Pass) os more came rs [] done done' p new (known [] quiet) d false (λ n. refl) (λ n. refl) none keyed)
       by_passing (Some x) g (Some y) f =

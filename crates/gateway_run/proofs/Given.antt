@@ -2,10 +2,10 @@
 use Rattle.std.proofs.Common.{◌≡◌, ℕ, zero, suc, ◌+◌, ◌<◌, Bool, true, false, inl, inr, Option, Some, None, List, [], ◌∷◌, ◌++◌, length, map, refl, sym, ap, ◌∙◌, subst, eq-eqb, eqb-true, append-nil, append_assoc, length-append, arith}
 use Rattle.std.specs.Prelude.{◌==◌, ◌≢◌, if◌then◌else◌, cond, filter, slice_get, All, Ok, Err}
 use Rattle.std.proofs.lemmas.List.Elements.{All-nil, All-head, All-tail, All-cons, All-push, filter-append}
-use Rattle.exchange_model.specs.Exchange.{plain}
-use Rattle.exchange_model.specs.Rows.{Row}
+use Rattle.master_node.specs.of_life_frames.of_exchange_model.Exchange.{plain}
+use Rattle.master_node.specs.of_life_frames.of_exchange_model.Rows.{Row}
 use Rattle.gateway_core.specs.Framing.{request_in}
-use Rattle.kept_rows.specs.Rows.{Stays, eras_rows, is_passed_row, passed_rows}
+use Rattle.kept_rows.specs.Rows.{AreAll, Stays, eras_rows, is_passed_row, passed_rows}
 use Rattle.kept_rows.specs.of_served_runs.Served.{Keyed, Serves}
 use Rattle.kept_rows.specs.of_served_runs.Told.{Passed, TellsOwn}
 use Rattle.mailbox_mail.specs.Mail.{error_of}
@@ -21,7 +21,7 @@ use Rattle.master_node.specs.of_segment_model.Seats.{newest}
 use Rattle.run_book.specs.declared.book.GramIn.{GramIn}
 use Rattle.gateway_run.specs.Account.{Owing}
 use Rattle.gateway_run.specs.Rooms.{AreRising, grams_of, owed_for}
-use Rattle.gateway_run.specs.Replies.{AreAll, Fares, Fares.dropped, Fares.replies, Fares.waits, HasRow, IsDesk, IsFor, IsHeard, IsNew, IsNewest, IsSame, StandsSo, WasGivenUp, keyed_in, mails_told}
+use Rattle.gateway_run.specs.Replies.{Fares, Fares.dropped, Fares.replies, Fares.waits, HasRow, IsDesk, IsFor, IsHeard, IsNew, IsNewest, IsSame, StandsSo, WasGivenUp, keyed_in, mails_told}
 use Rattle.gateway_run.specs.declared.desk.Request.{Request}
 use Rattle.gateway_run.proofs.Hands.{all_in, among_at, at_last, both_many, in_append, in_head, rises_apart, rises_first, row_stays}
 
@@ -48,20 +48,20 @@ module _ (gs : List GramIn) (slave : ℕ) (w v : Serves) (came : List ℕ) (wait
     in_hand = t.in_hand;
     its = λ r e. d.its r (t.still r e);
     newest = λ q e. (
-      let n = d.newest p t.hand in
-      let same : record p { told = p.told ++ new } ≡ q = (let all : Some (record p { told = p.told ++ new }) ≡ Some q = sym t.behind ∙ e in cc) in
-      subst (IsNewest gs slave came (os ++ more)) same (record {
-        before = n.before;
-        number = n.number;
-        last = n.last;
-        gram = n.gram;
-        there = n.there;
-        queued = n.queued;
-        asked = n.asked;
-        request = n.request;
-        same = n.same;
-        owed = t.owed n ∙ ap (λ l. l ++ mails_told new) n.owed ∙ sym (told_append p.told new);
-      }));
+        let n = d.newest p t.hand in
+        let same : record p { told = p.told ++ new } ≡ q = (let all : Some (record p { told = p.told ++ new }) ≡ Some q = sym t.behind ∙ e in cc) in
+        subst (IsNewest gs slave came (os ++ more)) same (record {
+          before = n.before;
+          number = n.number;
+          last = n.last;
+          gram = n.gram;
+          there = n.there;
+          queued = n.queued;
+          asked = n.asked;
+          request = n.request;
+          same = n.same;
+          owed = t.owed n ∙ ap (λ l. l ++ mails_told new) n.owed ∙ sym (told_append p.told new);
+        }));
     new = λ k r less. t.others k r less ∙ d.new k r less;
     many = d.many ∙ both_many Stays (passed_rows w.lead.lived.life) (passed_rows v.lead.lived.life) t.stay;
     known = d.known;
@@ -118,22 +118,23 @@ last_same (a ∷ xs) [] x y e = absurd (none xs (let all : xs ++ x ∷ [] ≡ []
 last_same (a ∷ xs) (b ∷ ys) x y e = (let rest : xs ++ x ∷ [] ≡ ys ++ y ∷ [] = cc in let later = last_same xs ys x y rest in (later.0, ap suc later.1))
 
 pub passed_last : (l : Life Body Asked Reply) (row : Row Body Asked Reply) → l.era.side.now ≡ Some row → is_passed row.service ≡ true → (before : List (Row Body Asked Reply)) × (passed_rows l ≡ before ++ row ∷ [])
-passed_last l row e p =
-    (filter is_passed_row (eras_rows l.past ++ l.era.side.past),
-    ap (λ n. filter is_passed_row (eras_rows l.past ++ (l.era.side.past ++ newest n))) e
-    ∙ ap (filter is_passed_row) (sym (append_assoc (eras_rows l.past) l.era.side.past (row ∷ [])))
-    ∙ filter-append is_passed_row (eras_rows l.past ++ l.era.side.past) (row ∷ [])
-    ∙ ap (λ b. filter is_passed_row (eras_rows l.past ++ l.era.side.past) ++ cond b (row ∷ []) []) p)
+passed_last l row e p = (
+  filter is_passed_row (eras_rows l.past ++ l.era.side.past),
+  ap (λ n. filter is_passed_row (eras_rows l.past ++ (l.era.side.past ++ newest n))) e
+      ∙ ap (filter is_passed_row) (sym (append_assoc (eras_rows l.past) l.era.side.past (row ∷ [])))
+      ∙ filter-append is_passed_row (eras_rows l.past ++ l.era.side.past) (row ∷ [])
+      ∙ ap (λ b. filter is_passed_row (eras_rows l.past ++ l.era.side.past) ++ cond b (row ∷ []) []) p,
+)
 
 module _ (gs : List GramIn) (slave : ℕ) (v : Serves) (came : List ℕ) (os : List Owing) (p q : Passed) where
   pub newest_row : (n : IsNewest gs slave came os p) → q.mail ≡ p.mail → length came ≡ length (passed_rows v.lead.lived.life) → TellsOwn q v.lead.lived.life.era.passing v.lead.lived.life.era.side.now → HasRow v came n.number n.asked q.told
   newest_row n mail many t =
       let last = passed_last v.lead.lived.life t.row t.is (ap is_passed t.service) in
       let place : length n.before ≡ length last.0 = (
-        let a = ap length n.last ∙ length-append n.before (n.number ∷ []) in
-        let b = ap length last.1 ∙ length-append last.0 (t.row ∷ []) in
-        let c = many in
-        omega (arith, a, b, c)) in
+      let a = ap length n.last ∙ length-append n.before (n.number ∷ []) in
+      let b = ap length last.1 ∙ length-append last.0 (t.row ∷ []) in
+      let c = many in
+      omega (arith, a, b, c)) in
       record {
         index = length n.before;
         its = ap (λ ns. slice_get ns (length n.before)) n.last ∙ at_last n.before n.number;

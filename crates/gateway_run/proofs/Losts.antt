@@ -2,8 +2,8 @@
 use Rattle.std.proofs.Common.{◌≡◌, ℕ, Bool, true, false, Option, Some, None, List, [], ◌∷◌, ◌++◌, map, refl, sym, ap, ◌∙◌, subst, append-nil, eq-eqb, eqb-true}
 use Rattle.std.specs.Prelude.{◌≢◌, ◌==◌, ◌&&◌, if◌then◌else◌, slice_get, All, Ok}
 use Rattle.std.proofs.lemmas.List.Elements.{All-nil, All-cons, All-head, All-tail}
-use Rattle.exchange_model.specs.Exchange.{Speech}
-use Rattle.kept_rows.proofs.Behind.{behind_stays}
+use Rattle.master_node.specs.of_life_frames.of_exchange_model.Exchange.{Speech}
+use Rattle.kept_rows.proofs.Behind.{Goes, behind_stays, lost_goes, unpassed_behind}
 use Rattle.kept_rows.specs.Rows.{Stays, passed_rows}
 use Rattle.kept_rows.specs.of_served_runs.Served.{Keyed, Serves, ServedTurn, TellsSo, gives_it, served_behind}
 use Rattle.kept_rows.specs.of_served_runs.Told.{Passed, TellsOwn, replies_in, told_on}
@@ -25,7 +25,6 @@ use Rattle.master_node.specs.of_segment_model.Ends.{Passing, passing_after}
 use Rattle.master_node.specs.of_segment_model.Record.{News}
 use Rattle.master_node.specs.of_segment_ring.declared.wire.Fate.{Fate}
 use Rattle.master_node.specs.of_segment_ring.declared.wire.Fate.TheVariants.{Pass, Lost}
-use Rattle.master_tour.proofs.Unpassed.{unpassed_lost}
 use Rattle.run_book.specs.declared.book.GramIn.{GramIn}
 use Rattle.gateway_run.specs.Account.{Owing, elsewhere, left_by_all, owed_by_all, owing}
 use Rattle.gateway_run.specs.Rooms.{AreFiled, begun_of, grams_of, owed_for, waiting_of}
@@ -37,22 +36,6 @@ use Rattle.gateway_run.proofs.Frames.{tells_none}
 use Rattle.gateway_run.proofs.Given.{desk_gone, fares_gone}
 use Rattle.gateway_run.proofs.Hands.{keyed_none}
 use Rattle.gateway_run.proofs.Telling.{HasTold, IsBehind, IsOurs, OwesBesides, tells_nothing}
-
--- a lost frame ends no mail that is passed on
-pub record Goes (p : Option Passing) : Type 0 where
-  pub passing : Passing
-  pub is : p ≡ Some passing
-
-told_goes : (emission more : Body → Bool) (x : Passing) (m : Body) → Goes (passing_after emission more x (News.Told m))
-told_goes emission more Passing.Waiting m = record { passing = Passing.Sent; is = refl }
-told_goes emission more Passing.Sent m = record { passing = Passing.Sent; is = refl }
-told_goes emission more Passing.Boxed m = record { passing = Passing.Boxed; is = refl }
-told_goes emission more Passing.Served m = record { passing = Passing.Served; is = refl }
-told_goes emission more Passing.Answered m = record { passing = Passing.Answered; is = refl }
-
-lost_goes : (x : Speech Body Asked Reply) (p : Option Passing) (ms : List Body) → Goes p → Goes (passes x acknowledged is_followed is_passed p (map (λ m. News.Told m) ms ++ []))
-lost_goes x p [] g = subst (λ o. Goes (passes x acknowledged is_followed is_passed o [])) (sym g.is) (record { passing = g.passing; is = refl })
-lost_goes x p (m ∷ ms) g = subst (λ o. Goes (passes x acknowledged is_followed is_passed o (News.Told m ∷ (map (λ k. News.Told k) ms ++ [])))) (sym g.is) (lost_goes x (passing_after x.emission is_followed g.passing (News.Told m)) ms (told_goes x.emission is_followed g.passing m))
 
 module _ (lens : ℕ → Lens) (recover retry : ℕ) (gives : Bool) (made after : ℕ) (sent back : List ℕ) (v : ServedTurn) (gs : List GramIn) (slave : ℕ) (os more : List Owing) (came : List ℕ) (rs : List Request) (done done' : ℕ → Bool) where
   -- the slave behind it
@@ -145,19 +128,11 @@ module _ (lens : ℕ → Lens) (recover retry : ℕ) (gives : Bool) (made after 
 
           -- an open slave's mail goes on
           goes : Goes v.turn.lived.life.era.passing → Goes lost.lead.lived.life.era.passing
-          goes o = subst (λ z. Goes (given_where z recover v.turn.lived.spot made (life_lost x acknowledged is_followed is_passed v.turn.lived.spot ns (seen lens sent) v.turn.lived.life v.turn.lived.life.stand)).era.passing) (sym g)
-              (subst (λ s. Goes (life_lost x acknowledged is_followed is_passed v.turn.lived.spot ns (seen lens sent) v.turn.lived.life s).era.passing) (sym (k.opened p e))
-              (lost_goes x v.turn.lived.life.era.passing _ o))
-            where
-              x : Speech Body Asked Reply
-              x = speech_at lens v.turn.lived.spot
-
-              ns : List (News Body)
-              ns = news_lost v.turn.lived.spot.station v.kept (seen lens sent)
+          goes o = lost_goes lens recover retry gives made (record { sent = sent; fate = Lost after; back = back }) v after g (k.opened p e) o
 
           keyed : (o : Option Passing) → v.turn.lived.life.era.passing ≡ o → AllBoth (IsFor gs) (begun_of slave rs) (keyed_in lost.hand lost.lead.lived.life.era.passing)
           keyed None f =
-              let over = unpassed_lost (speech_at lens v.turn.lived.spot) acknowledged is_followed is_passed gives recover made (seen lens sent) v.turn.lived v.turn.share (news_lost v.turn.lived.spot.station v.kept (seen lens sent)) f in
+              let over = unpassed_behind lens recover retry gives made (record { sent = sent; fate = Lost after; back = back }) v f in
               subst (AllBoth (IsFor gs) (begun_of slave rs)) (ap (keyed_in v.hand) f ∙ keyed_none v.hand ∙ sym (ap (keyed_in lost.hand) over ∙ keyed_none lost.hand)) d.in_hand
           keyed (Some y) f =
               let on = goes (record { passing = y; is = f }) in

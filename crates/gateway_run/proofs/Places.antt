@@ -6,11 +6,10 @@ use Rattle.master_node.specs.Listing.{told_in}
 use Rattle.master_node.specs.of_master_tour.Made.{is_in}
 use Rattle.master_node.specs.of_master_tour.Orders.{AreOnce}
 use Rattle.master_node.specs.declared.event.Event.{Event}
-use Rattle.gateway_run.specs.Account.{is_of, left_by_all, owed_by_all}
-use Rattle.gateway_run.specs.Rooms.{owed_for, requests_of}
+use Rattle.gateway_run.specs.Account.{is_of, left_by_all}
+use Rattle.gateway_run.specs.Rooms.{given_by, requests_of}
 use Rattle.gateway_run.specs.declared.desk.Request.{Request}
-use Rattle.gateway_run.proofs.Rooms.{owed_append}
-use Rattle.gateway_run.proofs.Views.{AreOf, are_of_on, events_here, events_other, events_keep, events_none, all_owed_here, left_append, owed_both}
+use Rattle.gateway_run.proofs.Views.{AreOf, IsHere, are_of_on, events_here, events_other, events_keep, given_both, given_here, given_none, left_append}
 
 -- what is told of the slave at a place, where it is among these
 abbrev pub told_where : (ℕ → List Event) → ℕ → List ℕ → List Event
@@ -49,22 +48,25 @@ module _ (i n : ℕ) where
             not_both : (a b : ℕ) → a ≡ b → (a == b) ≡ false → ⊥
             not_both a b s f = (let t = eq-eqb a b s in let bad : true ≡ false = sym t ∙ f in cc)
 
-    pub places_owe : (ps : List ℕ) (rs : List Request) → AreOnce ps → ((k : ℕ) → AreOf k rs (tells k)) → IsAlone rs → owed_for n (owed_by_all (told_in tells ps) rs) ≡ owed_for n (owed_by_all (told_where tells i ps) (requests_of i rs))
-    places_owe [] rs once own alone = refl
-    places_owe (p ∷ ps) rs once own alone =
-        ap (owed_for n) (owed_both (tells p) (told_in tells ps) rs)
-        ∙ owed_append n (owed_by_all (tells p) rs) (owed_by_all (told_in tells ps) (left_by_all (tells p) rs))
-        ∙ ap (λ ms. owed_for n (owed_by_all (tells p) rs) ++ ms) (places_owe ps (left_by_all (tells p) rs) once.1 (λ k. are_of_on k (tells k) (tells p) rs (own k)) (events_keep (λ (r : Request). r.slave ≢ i → r.gram ≢ n) (λ r q. q) (tells p) rs alone))
-        ∙ go (i == p) refl
-      where
-        go : (b : Bool) → (i == p) ≡ b → owed_for n (owed_by_all (tells p) rs) ++ owed_for n (owed_by_all (told_where tells i ps) (requests_of i (left_by_all (tells p) rs))) ≡
-            owed_for n (owed_by_all (if (if b then true else is_in i ps) then tells i else []) (requests_of i rs))
-        go true e =
-            let same : i ≡ p = eqb-true i p e in
-            let gone : is_in i ps ≡ false = ap (λ k. is_in k ps) same ∙ once.0 in
-            ap (λ (z : Bool). owed_for n (owed_by_all (tells p) rs) ++ owed_for n (owed_by_all (if z then tells i else []) (requests_of i (left_by_all (tells p) rs)))) gone
-            ∙ append-nil (owed_for n (owed_by_all (tells p) rs))
-            ∙ subst (λ k. owed_for n (owed_by_all (tells k) rs) ≡ owed_for n (owed_by_all (tells i) (requests_of i rs))) same (ap (owed_for n) (all_owed_here i (tells i) rs (own i)))
-        go false e =
-            let off : i ≡ p → ⊥ = (λ s. let t = eq-eqb i p s in let bad : true ≡ false = sym t ∙ e in cc) in
-            (λ k. (ap (owed_for n) (all_owed_here p (tells p) rs (own p)) ∙ events_none n (tells p) (requests_of p rs) (not_mine p rs (λ s. off (sym s)) alone)) k ++ owed_for n (owed_by_all (told_where tells i ps) (events_other i p off (tells p) rs (own p) k)))
+    -- WHAT ALL OF THEM GIVE, of one datagram of that slave, is what its own give
+    module _ {X Y : Type 0} (gives : Event → List Request → List X) (here : IsHere gives) (part : List X → List Y) (parts : (xs ys : List X) → part (xs ++ ys) ≡ part xs ++ part ys) (empty : part [] ≡ []) (none : (e : Event) (rs : List Request) → All (λ (r : Request). r.gram ≢ n) rs → part (gives e rs) ≡ []) where
+      pub places_give : (ps : List ℕ) (rs : List Request) → AreOnce ps → ((k : ℕ) → AreOf k rs (tells k)) → IsAlone rs → part (given_by gives (told_in tells ps) rs) ≡ part (given_by gives (told_where tells i ps) (requests_of i rs))
+      places_give [] rs once own alone = refl
+      places_give (p ∷ ps) rs once own alone =
+          ap part (given_both gives (tells p) (told_in tells ps) rs)
+          ∙ parts (given_by gives (tells p) rs) (given_by gives (told_in tells ps) (left_by_all (tells p) rs))
+          ∙ ap (λ ms. part (given_by gives (tells p) rs) ++ ms) (places_give ps (left_by_all (tells p) rs) once.1 (λ k. are_of_on k (tells k) (tells p) rs (own k)) (events_keep (λ (r : Request). r.slave ≢ i → r.gram ≢ n) (λ r q. q) (tells p) rs alone))
+          ∙ go (i == p) refl
+        where
+          go : (b : Bool) → (i == p) ≡ b → part (given_by gives (tells p) rs) ++ part (given_by gives (told_where tells i ps) (requests_of i (left_by_all (tells p) rs))) ≡
+              part (given_by gives (if (if b then true else is_in i ps) then tells i else []) (requests_of i rs))
+          go true e =
+              let same : i ≡ p = eqb-true i p e in
+              let gone : is_in i ps ≡ false = ap (λ k. is_in k ps) same ∙ once.0 in
+              ap (λ (z : Bool). part (given_by gives (tells p) rs) ++ part (given_by gives (if z then tells i else []) (requests_of i (left_by_all (tells p) rs)))) gone
+              ∙ ap (λ ms. part (given_by gives (tells p) rs) ++ ms) empty
+              ∙ append-nil (part (given_by gives (tells p) rs))
+              ∙ subst (λ k. part (given_by gives (tells k) rs) ≡ part (given_by gives (tells i) (requests_of i rs))) same (ap part (given_here gives here i (tells i) rs (own i)))
+          go false e =
+              let off : i ≡ p → ⊥ = (λ s. let t = eq-eqb i p s in let bad : true ≡ false = sym t ∙ e in cc) in
+              (λ k. (ap part (given_here gives here p (tells p) rs (own p)) ∙ given_none n gives part parts empty none (tells p) (requests_of p rs) (not_mine p rs (λ s. off (sym s)) alone)) k ++ part (given_by gives (told_where tells i ps) (events_other i p off (tells p) rs (own p) k)))

@@ -1,6 +1,6 @@
 -- What an event of one slave leaves of the requests of the others, and what it makes owed by them: nothing changes.
 use Rattle.std.proofs.Common.{◌≡◌, ℕ, List, [], ◌∷◌, ◌++◌, map, Bool, true, false, refl, sym, ap, ◌∙◌, eq-eqb, eqb-true}
-use Rattle.std.specs.Prelude.{◌≢◌, ◌==◌, ◌&&◌, not, cond, filter, find, Some, All}
+use Rattle.std.specs.Prelude.{◌≢◌, ◌==◌, ◌&&◌, not, cond, filter, find, slice_index_or, Some, All}
 use Rattle.std.proofs.lemmas.List.Elements.{All-head, All-tail, filter-append}
 use Rattle.mailbox_mail.specs.declared.mail.Mail.{Mail}
 use Rattle.gateway_run.specs.Account.{Owing, owing, begun_first, elsewhere, has_key, is_elsewhere, is_of, is_other, others, waits_at}
@@ -116,6 +116,13 @@ found_here j key (r ∷ rs) own = go (is_of j r) refl (has_key key r) refl (foun
     go true e false f on = on ∙ sym (ap (λ (z : Bool). cond z (Some r) (find (has_key key) (requests_of j rs))) f)
     go false e true f on = absurd (here (off e) (eqb-true r.key key f))
     go false e false f on = on
+
+pub keys_here : (j key : ℕ) (rs : List Request) → IsOwnKey j key rs → filter (has_key key) rs ≡ filter (has_key key) (requests_of j rs)
+keys_here j key rs own = sym (filter_within (is_of j) (has_key key) rs (λ k d less e. here (slice_index_or rs k d) (is_of j (slice_index_or rs k d)) refl (own k d less) (eqb-true (slice_index_or rs k d).key key e)))
+  where
+    here : (r : Request) (z : Bool) → is_of j r ≡ z → (r.slave ≢ j → r.key ≢ key) → r.key ≡ key → z ≡ true
+    here r true f h e = refl
+    here r false f h e = absurd (h (λ s. (let bad : true ≡ false = sym (eq-eqb r.slave j s) ∙ f in cc)) e)
 
 -- the requests that wait for a slave are its own
 pub waits_here : (j : ℕ) (rs : List Request) → filter (waits_at j) (requests_of j rs) ≡ filter (waits_at j) rs

@@ -3,7 +3,7 @@ use Rattle.std.proofs.Common.{◌≡◌, ℕ, Bool, true, false, inl, inr, Optio
 use Rattle.std.specs.Prelude.{◌≢◌, ◌==◌, ◌&&◌, if◌then◌else◌, cond, filter, length, slice_get, slice_index_or, All, Ok}
 use Rattle.std.proofs.lemmas.List.Elements.{All-nil, All-cons, All-head, All-tail, All-filter, All-map, All-weaker}
 use Rattle.gateway_core.specs.Framing.{request_in}
-use Rattle.kept_rows.specs.Rows.{Stays, passed_rows}
+use Rattle.kept_rows.specs.Rows.{AreAll, Stays, passed_rows}
 use Rattle.kept_rows.specs.of_served_runs.Served.{Serves}
 use Rattle.kept_rows.specs.of_served_runs.Told.{Passed, TellsOwn}
 use Rattle.mailbox_mail.specs.Mail.{error_of}
@@ -17,7 +17,7 @@ use Rattle.run_book.specs.declared.book.GramIn.{GramIn}
 use Rattle.gateway_run.specs.Account.{Owing, owing, has_key, left_by_all, others, owed_by_all, waits_at}
 use Rattle.gateway_run.specs.Desk.{AreApart}
 use Rattle.gateway_run.specs.Rooms.{begun_of, done_by_all, grams_of, has_begun, owed_for, waiting_of}
-use Rattle.gateway_run.specs.Replies.{AreAll, Fares, IsDesk, IsFor, IsNew, IsNewest, StandsSo, WasGivenUp, keyed_in, mails_told}
+use Rattle.gateway_run.specs.Replies.{Fares, IsDesk, IsFor, IsNew, IsNewest, StandsSo, WasGivenUp, keyed_in, mails_told}
 use Rattle.gateway_run.specs.declared.desk.Request.{Request}
 use Rattle.gateway_run.proofs.Desking.{owed_its, owed_not}
 use Rattle.gateway_run.proofs.Hands.{all_among, all_in, among_at, at_last, in_head, rises_apart}

@@ -10,10 +10,10 @@ use Rattle.master_node.specs.declared.event.Origin.{Origin}
 use Rattle.master_node.specs.declared.event.Origin.TheVariants as origins
 use Rattle.gateway_run.specs.Account.{owing, cut_off, elsewhere, has_key, is_elsewhere, is_of, is_other, left_by, left_by_all, owed_by, owed_by_all, owed_to, replied, waits_at}
 use Rattle.gateway_run.specs.Desk.{AreUnlike}
-use Rattle.gateway_run.specs.Rooms.{owed_for, requests_of}
+use Rattle.gateway_run.specs.Rooms.{done_by, given_by, grams_of, only, owed_for, requests_of}
 use Rattle.gateway_run.specs.declared.desk.Request.{Request}
 use Rattle.gateway_run.proofs.Accounts.{begun_keeps, unlike_begun, unlike_filter}
-use Rattle.gateway_run.proofs.Rooms.{IsOwnKey, begins_here, begins_other, done_other, filter_swap, found_here, gone_other, owed_append, owed_other, waits_here}
+use Rattle.gateway_run.proofs.Rooms.{IsOwnKey, not_same, keys_here, begins_here, begins_other, done_other, filter_swap, found_here, gone_other, owed_append, owed_other, waits_here}
 
 -- AN EVENT IS OF ONE SLAVE: it came into its hand, it was given up, or it is told under a key that no request of another slave has
 abbrev pub IsOf : ℕ → List Request → Event → Type 0
@@ -105,11 +105,31 @@ owed_here j (events.Emergency slave octets) rs o = refl
 owed_here j (events.Cleared slave own) rs o = refl
 owed_here j (events.Opened slave) rs o = refl
 
-pub all_owed_here : (j : ℕ) (es : List Event) (rs : List Request) → AreOf j rs es → owed_by_all es rs ≡ owed_by_all es (requests_of j rs)
-all_owed_here j [] rs o = refl
-all_owed_here j (e ∷ es) rs o =
-    (λ k. owed_here j e rs o.0 k ++ all_owed_here j es (left_by e rs) (are_of_stays j es e rs o.1) k)
-    ∙ ap (λ qs. owed_by e (requests_of j rs) ++ owed_by_all es qs) (event_here j e rs o.0)
+done_here : (j : ℕ) (e : Event) (rs : List Request) → IsOf j rs e → done_by e rs ≡ done_by e (requests_of j rs)
+done_here j (events.Began slave origin) rs o = refl
+done_here j (events.GivenUp slave) rs o = refl
+done_here j (events.GatewayReply key mail) rs o = refl
+done_here j (events.GatewayDone key) rs o = ap grams_of (keys_here j key rs o)
+done_here j (events.Answered slave kind) rs o = refl
+done_here j (events.Emergency slave octets) rs o = refl
+done_here j (events.Cleared slave own) rs o = refl
+done_here j (events.Opened slave) rs o = refl
+
+-- so it is with all that they give
+abbrev pub IsHere : {X : Type 0} → (Event → List Request → List X) → Type 0
+IsHere gives = (j : ℕ) (e : Event) (rs : List Request) → IsOf j rs e → gives e rs ≡ gives e (requests_of j rs)
+
+pub given_here : {X : Type 0} (gives : Event → List Request → List X) → IsHere gives → (j : ℕ) (es : List Event) (rs : List Request) → AreOf j rs es → given_by gives es rs ≡ given_by gives es (requests_of j rs)
+given_here gives here j [] rs o = refl
+given_here gives here j (e ∷ es) rs o =
+    (λ k. here j e rs o.0 k ++ given_here gives here j es (left_by e rs) (are_of_stays j es e rs o.1) k)
+    ∙ ap (λ qs. gives e (requests_of j rs) ++ given_by gives es qs) (event_here j e rs o.0)
+
+pub owed_is_here : IsHere owed_by
+owed_is_here = owed_here
+
+pub done_is_here : IsHere done_by
+done_is_here = done_here
 
 -- OF ANOTHER SLAVE nothing changes
 module _ (i j : ℕ) (apart : i ≢ j) where
@@ -161,20 +181,51 @@ module _ (n : ℕ) where
   event_none (events.Cleared slave own) rs off = refl
   event_none (events.Opened slave) rs off = refl
 
-  pub events_none : (es : List Event) (rs : List Request) → IsNone rs → owed_for n (owed_by_all es rs) ≡ []
-  events_none [] rs off = refl
-  events_none (e ∷ es) rs off =
-      owed_append n (owed_by e rs) (owed_by_all es (left_by e rs))
-      ∙ (λ k. event_none e rs off k ++ events_none es (left_by e rs) (event_keeps (λ (r : Request). r.gram ≢ n) (λ r p. p) e rs off) k)
+  pub owed_none : (e : Event) (rs : List Request) → IsNone rs → owed_for n (owed_by e rs) ≡ []
+  owed_none e rs off = event_none e rs off
+
+  -- nor does it end a row of it
+  kept_none : (key : ℕ) (rs : List Request) → IsNone rs → only n (grams_of (filter (has_key key) rs)) ≡ []
+  kept_none key rs off = grams_none (filter (has_key key) rs) (All-filter (has_key key) (λ (r : Request). r.gram ≢ n) rs off)
+    where
+      grams_none : (qs : List Request) → IsNone qs → only n (grams_of qs) ≡ []
+      grams_none [] off = refl
+      grams_none (q ∷ qs) off = ap (λ (z : Bool). cond z (q.gram ∷ only n (grams_of qs)) (only n (grams_of qs))) (not_same n q.gram (λ s. All-head (λ (r : Request). r.gram ≢ n) q qs off (sym s))) ∙ grams_none qs (All-tail (λ (r : Request). r.gram ≢ n) q qs off)
+
+  pub done_none : (e : Event) (rs : List Request) → IsNone rs → only n (done_by e rs) ≡ []
+  done_none (events.Began slave origin) rs off = refl
+  done_none (events.GivenUp slave) rs off = refl
+  done_none (events.GatewayReply key mail) rs off = refl
+  done_none (events.GatewayDone key) rs off = kept_none key rs off
+  done_none (events.Answered slave kind) rs off = refl
+  done_none (events.Emergency slave octets) rs off = refl
+  done_none (events.Cleared slave own) rs off = refl
+  done_none (events.Opened slave) rs off = refl
+
+  -- of all that events give, what is of one datagram
+  module _ {X Y : Type 0} (gives : Event → List Request → List X) (part : List X → List Y) (parts : (xs ys : List X) → part (xs ++ ys) ≡ part xs ++ part ys) (empty : part [] ≡ []) (none : (e : Event) (rs : List Request) → IsNone rs → part (gives e rs) ≡ []) where
+    pub given_none : (es : List Event) (rs : List Request) → IsNone rs → part (given_by gives es rs) ≡ []
+    given_none [] rs off = empty
+    given_none (e ∷ es) rs off =
+        parts (gives e rs) (given_by gives es (left_by e rs))
+        ∙ (λ k. none e rs off k ++ given_none es (left_by e rs) (event_keeps (λ (r : Request). r.gram ≢ n) (λ r p. p) e rs off) k)
 
 -- EVENTS ONE BEHIND THE OTHER
 pub left_append : (es fs : List Event) (rs : List Request) → left_by_all (es ++ fs) rs ≡ left_by_all fs (left_by_all es rs)
 left_append [] fs rs = refl
 left_append (e ∷ es) fs rs = left_append es fs (left_by e rs)
 
+pub given_both : {X : Type 0} (gives : Event → List Request → List X) (es fs : List Event) (rs : List Request) → given_by gives (es ++ fs) rs ≡ given_by gives es rs ++ given_by gives fs (left_by_all es rs)
+given_both gives [] fs rs = refl
+given_both gives (e ∷ es) fs rs = ap (λ os. gives e rs ++ os) (given_both gives es fs (left_by e rs)) ∙ sym (append_assoc (gives e rs) (given_by gives es (left_by e rs)) (given_by gives fs (left_by_all es (left_by e rs))))
+
+-- what is owed is given so
+pub owed_is : (es : List Event) (rs : List Request) → owed_by_all es rs ≡ given_by owed_by es rs
+owed_is [] rs = refl
+owed_is (e ∷ es) rs = ap (λ os. owed_by e rs ++ os) (owed_is es (left_by e rs))
+
 pub owed_both : (es fs : List Event) (rs : List Request) → owed_by_all (es ++ fs) rs ≡ owed_by_all es rs ++ owed_by_all fs (left_by_all es rs)
-owed_both [] fs rs = refl
-owed_both (e ∷ es) fs rs = ap (λ os. owed_by e rs ++ os) (owed_both es fs (left_by e rs)) ∙ sym (append_assoc (owed_by e rs) (owed_by_all es (left_by e rs)) (owed_by_all fs (left_by_all es (left_by e rs))))
+owed_both es fs rs = owed_is (es ++ fs) rs ∙ given_both owed_by es fs rs ∙ sym (λ k. owed_is es rs k ++ owed_is fs (left_by_all es rs) k)
 
 -- KEYS AND DATAGRAMS STAY APART
 module _ (number : Request → ℕ) (stays : (r : Request) → number (record r { begun = true }) ≡ number r) where

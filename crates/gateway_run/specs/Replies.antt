@@ -1,11 +1,11 @@
 -- WHAT EACH DATAGRAM OF A SERVING GOT, by the lives of the slaves: nothing, one error, or the first of the replies of its own row, and all of them where that is
 -- done.
 use Rattle.std.specs.Prelude.{◌≡◌, ◌≢◌, ◌<◌, ◌⊎◌, ℕ, suc, Bool, true, false, Option, Some, None, List, [], ◌∷◌, ◌++◌, length, map, slice_get, All, Ok, Err, ⊤}
-use Rattle.exchange_model.specs.Exchange.{plain}
-use Rattle.exchange_model.specs.Rows.{Row}
+use Rattle.master_node.specs.of_life_frames.of_exchange_model.Exchange.{plain}
+use Rattle.master_node.specs.of_life_frames.of_exchange_model.Rows.{Row}
 use Rattle.gateway_core.specs.Framing.{request_in}
 use Rattle.gateway_core.specs.declared.framing.GatewayFault.{GatewayFault}
-use Rattle.kept_rows.specs.Rows.{passed_rows}
+use Rattle.kept_rows.specs.Rows.{AreAll, passed_rows}
 use Rattle.kept_rows.specs.of_served_runs.Served.{Keyed, Serves}
 use Rattle.kept_rows.specs.of_served_runs.Told.{Passed}
 use Rattle.mailbox_mail.specs.Mail.{error_of}
@@ -13,7 +13,7 @@ use Rattle.mailbox_mail.specs.declared.mail.Mail.{Mail}
 use Rattle.master_node.specs.of_life_frames.Shares.{AllBoth}
 use Rattle.master_node.specs.of_life_runs.of_link_mails.Body.{Body}
 use Rattle.master_node.specs.of_master_duty.Reply.{Reply}
-use Rattle.master_node.specs.of_master_hand.Spoken.{Asked, emission, is_followed, passed}
+use Rattle.master_node.specs.of_master_hand.Spoken.{Asked, emission, passed}
 use Rattle.master_node.specs.of_master_tour.Made.{is_in}
 use Rattle.master_node.specs.of_segment_model.Ends.{Passing}
 use Rattle.run_book.specs.declared.book.GramIn.{GramIn}
@@ -22,7 +22,6 @@ use Rattle.run_record.specs.Led.{exchanged}
 use Rattle.run_record.specs.Served.{Serving}
 use Rattle.run_record.specs.Session.{SessionState}
 use Rattle.segment_plan.specs.declared.plan.Scenario.{Scenario}
-use Rattle.serving_model.specs.Passing.{ends_told}
 use Rattle.gateway_run.specs.Account.{Owing}
 use Rattle.gateway_run.specs.Rooms.{AreFiled, AreRising, begun_of, grams_of, owed_for, waiting_of}
 use Rattle.gateway_run.specs.declared.desk.Request.{Request}
@@ -50,10 +49,6 @@ pub record HasRow (w : Serves) (came : List ℕ) (number : ℕ) (asked : Mail) (
   pub service : row.service ≡ passed mail
   pub rest : List Body
   pub heard : plain emission row.heard ≡ told ++ rest
-
--- THESE ARE ALL REPLIES: the last of them tells that no other follows; or its server took the mail, and there is none
-abbrev pub AreAll : List Body → Type 0
-AreAll told = (told ≡ []) ⊎ (ends_told is_followed told ≡ true)
 
 -- a slave was given up, for good or not
 abbrev pub WasGivenUp : Serves → Type 0

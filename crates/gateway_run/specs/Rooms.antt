@@ -35,15 +35,23 @@ grams_of rs = map (λ (r : Request). r.gram) rs
 abbrev pub AreFiled : List Request → Type 0
 AreFiled rs = AreUnlike (λ (r : Request). r.gram) rs
 
+-- this number among these
+abbrev pub only : ℕ → List ℕ → List ℕ
+only n ns = filter (λ k. n == k) ns
+
 -- WHICH DATAGRAMS' ROWS AN EVENT ENDS: that of the request under whose key no more follows
 abbrev pub done_by : Event → List Request → List ℕ
 done_by (events.GatewayDone key) rs = grams_of (filter (has_key key) rs)
 done_by event rs = []
 
--- the same of events one behind the other
+-- what events give, one behind the other, each by the requests that those before it left
+abbrev pub given_by : {X : Type 0} → (Event → List Request → List X) → List Event → List Request → List X
+given_by gives [] rs = []
+given_by gives (event ∷ more) rs = gives event rs ++ given_by gives more (left_by event rs)
+
+-- the rows that they end
 abbrev pub done_by_all : List Event → List Request → List ℕ
-done_by_all [] rs = []
-done_by_all (event ∷ more) rs = done_by event rs ++ done_by_all more (left_by event rs)
+done_by_all es rs = given_by done_by es rs
 
 -- the mails that were owed by the datagram of this number, in order
 abbrev pub owed_for : ℕ → List Owing → List Mail

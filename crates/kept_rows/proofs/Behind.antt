@@ -1,11 +1,12 @@
 -- Behind a frame the rows of each life stay.
-use Rattle.std.proofs.Common.{◌≡◌, ℕ, Bool, true, false, Option, Some, None, List, [], ◌∷◌, ◌++◌, refl, sym, ◌∙◌, subst, append-nil}
+use Rattle.std.proofs.Common.{◌≡◌, ℕ, Bool, true, false, Option, Some, None, List, [], ◌∷◌, ◌++◌, map, refl, sym, ◌∙◌, subst, append-nil}
 use Rattle.std.specs.Prelude.{◌&&◌, ◌==◌, if◌then◌else◌}
 use Rattle.life_frames.specs.of_exchange_model.Exchange.{Speech}
-use Rattle.life_frames.specs.of_life_model.Lives.{Era, Life, Opening, Spot, Stand, clears, era_back, is_shown, last_step, life_back, life_lost, opening_back, opens, opens_state, reopening, reopens, reopens_at, returns_to_init, shows_clear, steps_on}
+use Rattle.life_frames.specs.of_life_model.Lives.{Era, Life, Opening, Spot, Stand, clears, era_back, is_shown, last_step, life_back, life_lost, opening_back, opens, opens_state, passes, reopening, reopens, reopens_at, returns_to_init, shows_clear, steps_on}
 use Rattle.life_frames.specs.of_life_model.Own.{own}
 use Rattle.life_frames.specs.of_link_model.Frames.{all_accepted}
-use Rattle.life_frames.specs.of_segment_model.Record.{News}
+use Rattle.life_frames.specs.of_segment_model.Ends.{Passing, passing_after}
+use Rattle.life_frames.specs.of_segment_model.Record.{News, all_told}
 use Rattle.life_frames.specs.of_segment_model.Seats.{newest, rows_of}
 use Rattle.life_frames.specs.of_segment_model.Slaves.{Datagram, Found, grams}
 use Rattle.life_frames.specs.of_task_model.Accounts as Accounts
@@ -20,7 +21,8 @@ use Rattle.life_runs.specs.of_master_side.Passing.{news_back, news_lost}
 use Rattle.life_runs.specs.of_segment_ring.declared.wire.Fate.{Fate}
 use Rattle.life_runs.specs.of_segment_ring.declared.wire.Fate.TheVariants.{Pass, Lost}
 use Rattle.life_runs.specs.Led.{Exchanged, speech_at}
-use Rattle.served_runs.specs.Served.{ServedTurn, served_behind, served_life}
+use Rattle.master_tour.proofs.Unpassed.{unpassed_back, unpassed_lost}
+use Rattle.served_runs.specs.Served.{ServedTurn, gives_it, served_behind, served_life}
 use Rattle.kept_rows.specs.Rows.{Stays, eras_rows, life_rows, passed_rows}
 use Rattle.kept_rows.proofs.Stay.{all_append, all_itself, all_same, eras_append, lives_stay, newest_heard}
 
@@ -85,3 +87,39 @@ module _ (lens : ℕ → Lens) (recover retry : ℕ) (gives : Bool) (made : ℕ)
 
   pub behind_stays : AllBoth Stays (passed_rows v.turn.lived.life) (passed_rows (served_behind lens recover retry gives made f v).lead.lived.life)
   behind_stays = lives_stay v.turn.lived.life (served_behind lens recover retry gives made f v).lead.lived.life (by_fate f.fate)
+
+-- WHERE NO MAIL IS IN HAND THAT IS PASSED ON none is behind a frame; and a lost frame ends none of an open slave
+pub record Goes (p : Option Passing) : Type 0 where
+  pub passing : Passing
+  pub is : p ≡ Some passing
+
+told_goes : (emission more : Body → Bool) (x : Passing) (m : Body) → Goes (passing_after emission more x (News.Told m))
+told_goes emission more Passing.Waiting m = record { passing = Passing.Sent; is = refl }
+told_goes emission more Passing.Sent m = record { passing = Passing.Sent; is = refl }
+told_goes emission more Passing.Boxed m = record { passing = Passing.Boxed; is = refl }
+told_goes emission more Passing.Served m = record { passing = Passing.Served; is = refl }
+told_goes emission more Passing.Answered m = record { passing = Passing.Answered; is = refl }
+
+all_goes : (x : Speech Body Asked Reply) (p : Option Passing) (ms : List Body) → Goes p → Goes (passes x acknowledged is_followed is_passed p (map (λ m. News.Told m) ms ++ []))
+all_goes x p [] g = subst (λ o. Goes (passes x acknowledged is_followed is_passed o [])) (sym g.is) (record { passing = g.passing; is = refl })
+all_goes x p (m ∷ ms) g = subst (λ o. Goes (passes x acknowledged is_followed is_passed o (News.Told m ∷ (map (λ k. News.Told k) ms ++ [])))) (sym g.is) (all_goes x (passing_after x.emission is_followed g.passing (News.Told m)) ms (told_goes x.emission is_followed g.passing m))
+
+module _ (lens : ℕ → Lens) (recover retry : ℕ) (gives : Bool) (made : ℕ) (f : Exchanged) (v : ServedTurn) where
+  unpassed_by : (fate : Fate) → v.turn.lived.life.era.passing ≡ None → (served_life lens recover retry gives made f fate v).life.era.passing ≡ None
+  unpassed_by Pass e = unpassed_back (speech_at lens v.turn.lived.spot) acknowledged is_followed is_passed made (seen lens f.back) v.turn.lived v.turn.share (news_back v.turn.lived.spot.station v.kept v.counts (seen lens f.back)) e
+  unpassed_by (Lost after) e = unpassed_lost (speech_at lens v.turn.lived.spot) acknowledged is_followed is_passed gives recover made (seen lens f.sent) v.turn.lived v.turn.share (news_lost v.turn.lived.spot.station v.kept (seen lens f.sent)) e
+
+  pub unpassed_behind : v.turn.lived.life.era.passing ≡ None → (served_behind lens recover retry gives made f v).lead.lived.life.era.passing ≡ None
+  unpassed_behind e = unpassed_by f.fate e
+
+  pub lost_goes : (after : ℕ) → gives_it lens recover retry gives (Lost after) v ≡ false → v.turn.lived.life.stand ≡ Stand.Open → Goes v.turn.lived.life.era.passing → Goes (served_life lens recover retry gives made f (Lost after) v).life.era.passing
+  lost_goes after g opened o =
+      subst (λ z. Goes (given_where z recover v.turn.lived.spot made (life_lost x acknowledged is_followed is_passed v.turn.lived.spot ns (seen lens f.sent) v.turn.lived.life v.turn.lived.life.stand)).era.passing) (sym g)
+      (subst (λ s. Goes (life_lost x acknowledged is_followed is_passed v.turn.lived.spot ns (seen lens f.sent) v.turn.lived.life s).era.passing) (sym opened)
+      (all_goes x v.turn.lived.life.era.passing (all_told v.turn.lived.spot.station v.kept.told (grams (seen lens f.sent))) o))
+    where
+      x : Speech Body Asked Reply
+      x = speech_at lens v.turn.lived.spot
+
+      ns : List (News Body)
+      ns = news_lost v.turn.lived.spot.station v.kept (seen lens f.sent)

@@ -1,12 +1,15 @@
 -- THE ROWS OF THE MAILS THAT ARE PASSED ON to a slave, in the order in which they came into its hand, all along its life.
-use Rattle.std.specs.Prelude.{◌≡◌, ℕ, Bool, Option, Some, None, List, [], ◌∷◌, ◌++◌, filter, if◌then◌else◌}
+use Rattle.std.specs.Prelude.{◌≡◌, ◌⊎◌, ℕ, Bool, true, Option, Some, None, List, [], ◌∷◌, ◌++◌, filter, if◌then◌else◌}
 use Rattle.life_frames.specs.of_exchange_model.Rows.{Row, begun}
-use Rattle.life_frames.specs.of_life_model.Lives.{Era, Life}
+use Rattle.life_frames.specs.of_life_model.Lives.{Era, Life, Stand}
 use Rattle.life_frames.specs.of_segment_model.Seats.{rows_of}
 use Rattle.life_frames.specs.of_state_exchange.Stated.{Service}
 use Rattle.life_runs.specs.of_link_mails.Body.{Body}
 use Rattle.life_runs.specs.of_master_duty.Reply.{Reply}
-use Rattle.life_runs.specs.of_master_hand.Spoken.{Asked, is_passed}
+use Rattle.life_runs.specs.of_master_hand.Spoken.{Asked, is_followed, is_passed}
+use Rattle.serving_model.specs.Passing.{ends_told}
+use Rattle.served_runs.specs.Served.{Serves}
+use Rattle.served_runs.specs.Told.{Passed}
 
 -- the rows of its services by mails, over these epochs
 abbrev pub eras_rows : List (Era Body Asked Reply) → List (Row Body Asked Reply)
@@ -37,3 +40,11 @@ abbrev pub row_begun : ℕ → Option (Service Asked) → List (Row Body Asked R
 row_begun made None = []
 row_begun made (Some (Service.Mails q)) = if is_passed q then begun q made ∷ [] else []
 row_begun made (Some (Service.State target)) = []
+
+-- a slave of which a mail was passed on last, and no other service came into hand since, is open
+abbrev pub IsHeld : Serves → Type 0
+IsHeld w = (p : Passed) → w.hand ≡ Some p → w.lead.lived.life.stand ≡ Stand.Open
+
+-- THESE ARE ALL REPLIES to a mail that was passed on: the last of them tells that no other follows; or its server took the mail, and there is none
+abbrev pub AreAll : List Body → Type 0
+AreAll told = (told ≡ []) ⊎ (ends_told is_followed told ≡ true)
