@@ -1,5 +1,5 @@
 -- What a serving still owes its peers.
-use Rattle.std.specs.Prelude.{◌≡◌, ◌<◌, ℕ, true, false, if◌then◌else◌, List, [], ◌∷◌, ◌++◌, length, map, slice_get, Option, Some, None, Ok, All}
+use Rattle.std.specs.Prelude.{◌≡◌, ◌≢◌, ◌<◌, ℕ, true, false, if◌then◌else◌, List, [], ◌∷◌, ◌++◌, length, map, slice_get, Option, Some, None, Ok, All}
 use Rattle.slab.specs.Slab.{Slab, get}
 use Rattle.ec_outside.specs.Port.{HeardGram}
 use Rattle.mailbox_mail.specs.Mail.{error_of}
@@ -29,10 +29,14 @@ pub record IsOpen (requests : Slab Asker) (heard : List HeardGram) (r : Request)
   pub station : asker.station ≡ mail.address
   pub counter : asker.counter ≡ mail.counter
 
--- no two requests have one key
+-- no two requests have one number
+abbrev pub AreUnlike : (Request → ℕ) → List Request → Type 0
+AreUnlike number [] = Unit {0}
+AreUnlike number (r ∷ rs) = All (λ (q : Request). number q ≢ number r) rs × AreUnlike number rs
+
+-- no two have one key
 abbrev pub AreApart : List Request → Type 0
-AreApart [] = Unit {0}
-AreApart (r ∷ rs) = IsFree r.key rs × AreApart rs
+AreApart rs = AreUnlike (λ (r : Request). r.key) rs
 
 -- each request and each datagram that is to be sent answers one of those heard
 pub record IsSound (heard : List HeardGram) (d : Desk) : Type 0 where
