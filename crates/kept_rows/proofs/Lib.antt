@@ -4,3 +4,5 @@ pub mod Next
 pub mod Behind
 pub mod Each
 pub mod Held
+pub mod News
+pub mod All
