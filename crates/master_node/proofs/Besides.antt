@@ -123,8 +123,8 @@ so_then f g place m n o e x y =
     (does_then place (does_at f m place) on m n o x (does_as place (does_at g n place) (on v) n o (ap (λ z. by_stop (stays v) (λ s. g s v) z.stops.items place) e) y))
 
 -- what is told of a slave is as before, where that and its post stay
-pub back_same : (m n : MasterNode) (k : ℕ) → n.tour ≡ m.tour → work_at n.posts.items k ≡ work_at m.posts.items k → back_told n k ≡ back_told m k
-back_same m n k t w = λ i. (by_stop (stays (w i)) (λ s. back_does k s (w i)) (t i).stops.items k).told
+pub back_same : (m n : MasterNode) (k : ℕ) → n.tour ≡ m.tour → work_at n.posts.items k ≡ work_at m.posts.items k → does_at (λ s w. back_does k s w) n k ≡ does_at (λ s w. back_does k s w) m k
+back_same m n k t w = λ i. by_stop (stays (w i)) (λ s. back_does k s (w i)) (t i).stops.items k
 
 -- A REPLY, as it is told
 pub bare_is : (m b : Mail) → b.address ≡ 0 → b.counter ≡ 0 → b.kind ≡ m.kind → b.body.items ≡ m.body.items → b ≡ record m { address = 0; counter = 0 }

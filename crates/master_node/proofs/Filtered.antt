@@ -13,10 +13,11 @@ use Rattle.master_side.specs.Free.{is_free_side}
 use Rattle.master_side.specs.declared.hand.Hand.{Ghosts}
 use Rattle.master_side.specs.declared.hand.Heard.{Heard}
 use Rattle.master_side.specs.declared.passing.Passing.{Passing}
+use Rattle.master_tour.specs.declared.stop.Stand.{Stand}
 use Rattle.master_tour.specs.declared.stop.Stop.{Stop}
 use Rattle.master_tour.specs.declared.stop.Turned.{Turned}
 use Rattle.master_hand.specs.Hears.{answer_kept}
-use Rattle.master_node.specs.Besides.{Does, answered_does, back_does, by_stop, emergency_told, handed_where, heard_does, mail_does, met_where, over_does, passed_where, reply_told, stays, turned_where}
+use Rattle.master_node.specs.Besides.{Does, answered_does, back_does, by_stop, emergency_told, handed_where, heard_does, mail_does, met_at, met_where, over_does, passed_where, reply_told, stays, turned_where}
 use Rattle.master_node.specs.Gateways.{is_gateway}
 use Rattle.master_node.specs.Handed.{work_at}
 use Rattle.master_node.specs.Listing.{told_in}
@@ -105,10 +106,15 @@ met_calm place (Some (Met.On duty)) w = refl
 met_calm place (Some Met.Reached) w = refl
 met_calm place (Some (Met.Refused code)) w = refl
 
+stood_calm : (place : ℕ) (stand : Stand) (o : Option Met) (w : Work) → filter is_gateway (met_at place stand o w).told ≡ []
+stood_calm place (Stand.Opening up) o w = refl
+stood_calm place Stand.Open o w = met_calm place o w
+stood_calm place Stand.Gone o w = refl
+
 over_calm : {G : Ghosts InHand} (place : ℕ) (s : Stop InHand G) (w : Work) → is_mail w ≡ false → filter is_gateway (over_does place s w).told ≡ []
 over_calm place s Work.Nothing e = refl
 over_calm place s Work.Mails e = refl
-over_calm place s Work.State e = met_calm place s.side.duty Work.State
+over_calm place s Work.State e = stood_calm place s.stand s.side.duty Work.State
 over_calm place s Work.Packet e = handed_calm place (is_free_side s.side) Work.Packet
 over_calm place s (Work.Passed key) e = absurd (let bad : true ≡ false = e in cc)
 

@@ -31,7 +31,7 @@ left_none : {M : Type 0} (ms : List M) (b : Bool) → (is_none_left ms && b) ≡
 left_none [] b e = refl
 left_none (m ∷ ms) b e = absurd (cc)
 
-none_next : {Q : Type 0} (x : Speech Body Q Reply) (d : Seats.Side Body Q Reply) (now : Option (Row Body Q Reply)) (holding : Option (LinkMail Body)) (hold : Bool) → is_free x d now ≡ true → next_mail x now holding hold ≡ []
+pub none_next : {Q : Type 0} (x : Speech Body Q Reply) (d : Seats.Side Body Q Reply) (now : Option (Row Body Q Reply)) (holding : Option (LinkMail Body)) (hold : Bool) → is_free x d now ≡ true → next_mail x now holding hold ≡ []
 none_next x d now holding false e = refl
 none_next x d None holding true e = refl
 none_next x d (Some r) (Some m) true e = refl

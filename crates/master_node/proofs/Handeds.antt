@@ -28,6 +28,7 @@ use Rattle.served_runs.specs.Told.{Passed, told_on}
 use Rattle.master_node.specs.Handed.{HasBegun, IsDuty, IsHanded, StaysNamed, hand_behind, is_left, newest}
 use Rattle.master_node.specs.Passes.{BeginsFree}
 use Rattle.master_node.specs.declared.post.Work.{Work}
+use Rattle.master_node.proofs.Changes.{none_back}
 use Rattle.master_node.proofs.Mailed.{next_passing}
 
 -- no script passes a mail on
@@ -70,8 +71,7 @@ told_named p ms (Some r) q e = (let same : r ≡ q = cc in (_, refl, ap (λ z. z
 
 -- the account with no change of state in hand gets none by a frame
 stays_free : (station frame : ℕ) (a : Account Asked Reply) (ds : List (Datagram Body)) → a.hand ≡ None → (account_back station frame a ds).hand ≡ None
-stays_free station frame a [] e = e
-stays_free station frame a (d ∷ ds) e = ap (λ (z : Option Accounts.Duty). (account_back station frame (Accounts.account_met station frame a z d) ds).hand) e ∙ stays_free station frame a ds e
+stays_free station frame a ds e = ap (λ z. z.hand) (none_back station frame a ds e) ∙ e
 
 module _ (x : Speech Body Asked Reply) (frame : ℕ) (spot : Spot) (ns : List (News Body)) (back : List (Datagram Body)) where
   abbrev behind_so : Option (Bool × Option Found) → Life Body Asked Reply → Lives.Stand → Life Body Asked Reply
@@ -126,14 +126,14 @@ module _ (x : Speech Body Asked Reply) (frame : ℕ) (spot : Spot) (ns : List (N
   passes_some None t = t
   passes_some (Some p) t = refl
 
-  last_left : (o : Lives.Opening) → (o.step == Lives.last_step o) ≡ true → is_left (Lives.Stand.Opens o) ≡ false
+  pub last_left : (o : Lives.Opening) → (o.step == Lives.last_step o) ≡ true → is_left (Lives.Stand.Opens o) ≡ false
   last_left o e = go o.again e
     where
       go : (again : Bool) → (o.step == (if again then 9 else 5)) ≡ true → (again && nat_lt o.step 3) ≡ false
       go false f = refl
       go true f = grind (arith, nat_tests, f)
 
-  steps_left : (o : Lives.Opening) → Lives.shows_clear o ≡ false → is_left (Lives.Stand.Opens (record o { step = suc o.step })) ≡ false → is_left (Lives.Stand.Opens o) ≡ false
+  pub steps_left : (o : Lives.Opening) → Lives.shows_clear o ≡ false → is_left (Lives.Stand.Opens (record o { step = suc o.step })) ≡ false → is_left (Lives.Stand.Opens o) ≡ false
   steps_left o e n = go o.again e n
     where
       go : (again : Bool) → (again && o.step == 2) ≡ false → (again && nat_lt (suc o.step) 3) ≡ false → (again && nat_lt o.step 3) ≡ false
@@ -192,12 +192,12 @@ module _ (x : Speech Body Asked Reply) where
     lost_so l stand = life_lost x acknowledged is_followed is_passed spot (news_lost spot.station kept sent) sent l stand
 
     -- nothing of the slave changes but how far its mail has come
-    record LostOn (l m : Life Body Asked Reply) : Type 0 where
-      stand : m.stand ≡ l.stand
-      duty : m.era.account.hand ≡ l.era.account.hand
-      passing : is_some m.era.passing ≡ is_some l.era.passing
+    pub record LostOn (l m : Life Body Asked Reply) : Type 0 where
+      pub stand : m.stand ≡ l.stand
+      pub duty : m.era.account.hand ≡ l.era.account.hand
+      pub passing : is_some m.era.passing ≡ is_some l.era.passing
 
-    lost_on : (l : Life Body Asked Reply) (stand : Lives.Stand) → LostOn l (lost_so l stand)
+    pub lost_on : (l : Life Body Asked Reply) (stand : Lives.Stand) → LostOn l (lost_so l stand)
     lost_on l (Lives.Stand.Opens o) = record { stand = refl; duty = refl; passing = refl }
     lost_on l Lives.Stand.Open = record { stand = refl; duty = refl; passing = all_sent l.era.passing _ }
     lost_on l Lives.Stand.Gone = record { stand = refl; duty = refl; passing = refl }

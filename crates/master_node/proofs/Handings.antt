@@ -1,12 +1,13 @@
 -- WHAT A POST HAS IN HAND of a mail that is passed on, as the life of its slave does.
-use Rattle.std.proofs.Common.{◌≡◌, ◌⊎◌, inl, inr, ℕ, Bool, true, false, Option, None, Some, List, [], ◌∷◌, refl, sym, ap, ◌∙◌, subst}
-use Rattle.std.specs.Prelude.{is_some, map, slice_get, All, if◌then◌else◌}
+use Rattle.std.proofs.Common.{◌≡◌, ◌⊎◌, inl, inr, ℕ, ◌+◌, length, Bool, true, false, Option, None, Some, List, [], ◌∷◌, refl, sym, ap, ◌∙◌, subst}
+use Rattle.std.specs.Prelude.{is_some, map, nat_lt, slice_get, All, if◌then◌else◌, ⊤}
 use Rattle.std.proofs.lemmas.List.Elements.{All-head}
 use Rattle.master_duty.specs.Reply.{Reply}
 use Rattle.master_duty.specs.of_segment_model.Ends as Ends
 use Rattle.master_duty.specs.of_state_exchange.Stated.{Service}
 use Rattle.master_hand.specs.Laying.{Waiting, asked_next, ready_by, ready_of}
 use Rattle.master_hand.specs.Spoken.{Asked, is_passed, net, passed}
+use Rattle.master_hand.specs.Talk.{asked_of}
 use Rattle.master_hand.specs.declared.laying.Laid.{Laid}
 use Rattle.master_hand.specs.of_eoe_model.Client as EoeClient
 use Rattle.master_side.specs.Free.{begins_by}
@@ -21,8 +22,10 @@ use Rattle.master_tour.specs.of_life_model.Lives.{Life}
 use Rattle.segment_plan.specs.declared.service.Service as Plan
 use Rattle.served_runs.specs.Served.{Keyed, Serves}
 use Rattle.served_runs.specs.Told.{Passed}
+use Rattle.master_node.specs.Begins.{is_other}
 use Rattle.master_node.specs.Coming.{IsLaid, wish_of}
 use Rattle.master_node.specs.Handed.{HasBegun, IsOldestWork, LaysWork, hand_behind, work_from}
+use Rattle.master_node.specs.Inhand.{MailsWork, WorkOf}
 use Rattle.master_node.specs.Listing.{where_began}
 use Rattle.master_node.specs.Named.{IsHanded}
 use Rattle.master_node.specs.Passes.{BeginsFree, IsReady, LaysMail, MailWaits}
@@ -95,6 +98,37 @@ pub own_packet : (lay : Waiting) (q : Asked) → (lay.laid ≡ Laid.Packet) ⊎ 
 own_packet lay q (inl l) e = (let same : Some (net (EoeClient.packet lay.packet lay.frame)) ≡ Some q = sym (ap (λ z. ready_by z lay) l) ∙ e in let is : net (EoeClient.packet lay.packet lay.frame) ≡ q = cc in ap is_passed (sym is))
 own_packet lay q (inr l) e = absurd (let bad : None ≡ Some q = sym (ap (λ z. ready_by z lay) l) ∙ e in cc)
 
+-- as a post has it
+abbrev WorksAs : Work → Option Asked → Type 0
+WorksAs work None = ⊤
+WorksAs work (Some q) = MailsWork (is_passed q) (is_other q) work
+
+set_works : (b : Bool) (block : List ℕ) → WorksAs Work.Mails (if b then None else Some (net (EoeClient.set_ip block)))
+set_works true block = tt
+set_works false block = refl
+
+own_works : (room : ℕ) (s : Plan.Service) → WorksAs Work.Mails (asked_of room s)
+own_works room (Plan.Service.Sdo service) = refl
+own_works room (Plan.Service.ReadFile name pass) = refl
+own_works room (Plan.Service.WriteFile name pass bytes) = refl
+own_works room (Plan.Service.ReadIdn drive idn elements) = refl
+own_works room (Plan.Service.WriteIdn drive idn elements bytes) = refl
+own_works room (Plan.Service.SetIp block) = set_works (nat_lt room (length block + 10)) block
+own_works room Plan.Service.GetIp = refl
+own_works room (Plan.Service.State target) = tt
+own_works room (Plan.Service.Forward packet) = tt
+
+next_works : (room : ℕ) (o : Option Plan.Service) → WorksAs Work.Mails (asked_next room o)
+next_works room None = tt
+next_works room (Some s) = own_works room s
+
+pub script_work : (lay : Waiting) (q : Asked) → lay.laid ≡ Laid.Script → ready_of lay ≡ Some q → MailsWork (is_passed q) (is_other q) Work.Mails
+script_work lay q l e = subst (λ z. WorksAs Work.Mails z) (sym (ap (λ z. ready_by z lay) l) ∙ e) (next_works lay.areas.out (slice_get lay.script lay.number))
+
+pub packet_work : (lay : Waiting) (q : Asked) → (lay.laid ≡ Laid.Packet) ⊎ (lay.laid ≡ Laid.Nothing) → ready_of lay ≡ Some q → MailsWork (is_passed q) (is_other q) Work.Packet
+packet_work lay q (inl l) e = subst (λ z. WorksAs Work.Packet z) (sym (ap (λ z. ready_by z lay) l) ∙ e) refl
+packet_work lay q (inr l) e = absurd (let bad : None ≡ Some q = sym (ap (λ z. ready_by z lay) l) ∙ e in cc)
+
 -- what came by a wish was ready
 pub begins_some : (stand : Stand) (free : Bool) (ready : Option Asked) → true ≡ stand_begins stand (begins_by free (Some Wish.Mails) ready) → is_some ready ≡ true
 begins_some (Stand.Opening up) free ready e = absurd (let bad : true ≡ false = e in cc)
@@ -106,28 +140,30 @@ begins_some Stand.Open false ready e = absurd (let bad : true ≡ false = e in c
 module _ (w : Serves) (p mid q : Post) (lay : Waiting) (room : ℕ) (ks : List Keyed) (stand : Stand) (free : Bool) (b : Option (Service Asked)) (same : ks ≡ w.waits) (there : waits_of p ≡ ks) (begins : BeginsFree w.lead.lived.life b)
     (before : (l : Life Body Asked Reply) → HasBegun w.lead.lived.life None l → IsHanded p.work w.hand l) where
   abbrev Now : Option (Service Asked) → Type 0
-  Now c = (l : Life Body Asked Reply) → HasBegun w.lead.lived.life c l → IsHanded q.work (hand_behind w.waits w.hand c) l
+  Now c = ((l : Life Body Asked Reply) → HasBegun w.lead.lived.life c l → IsHanded q.work (hand_behind w.waits w.hand c) l) × WorkOf c p.work q.work
 
   -- nothing did
   stays_on : b ≡ None → q.work ≡ p.work → Now b
-  stays_on e o = subst (λ z. Now z) (sym e) (λ l h. subst (λ z. IsHanded z w.hand l) (sym o) (before l h))
+  stays_on e o = subst (λ z. Now z) (sym e) (λ l h. subst (λ z. IsHanded z w.hand l) (sym o) (before l h), o)
 
   -- another service did
-  other_on : (s : Service Asked) → b ≡ Some s → ((key : ℕ) → q.work ≡ Work.Passed key → ⊥) → ((r : Asked) → s ≡ Service.Mails r → is_passed r ≡ false) → Now b
-  other_on s e o own = λ l h. takes_other w.lead.lived.life l q.work _ b o (begins s e).1 (λ r f. own r (let z : Some s ≡ Some (Service.Mails r) = sym e ∙ f in cc)) h
+  other_on : (s : Service Asked) → b ≡ Some s → ((key : ℕ) → q.work ≡ Work.Passed key → ⊥) → ((r : Asked) → s ≡ Service.Mails r → is_passed r ≡ false) → WorkOf (Some s) p.work q.work → Now b
+  other_on s e o own k = (λ l h. takes_other w.lead.lived.life l q.work _ b o (begins s e).1 (λ r f. own r (let z : Some s ≡ Some (Service.Mails r) = sym e ∙ f in cc)) h, subst (λ z. WorkOf z p.work q.work) (sym e) k)
 
-  mails_on : (ready : Option Asked) → is_some ready ≡ true → b ≡ wished Wish.Mails ready → ((key : ℕ) → q.work ≡ Work.Passed key → ⊥) → ((r : Asked) → ready ≡ Some r → is_passed r ≡ false) → Now b
-  mails_on None t e o own = absurd (let bad : false ≡ true = t in cc)
-  mails_on (Some r) t e o own = other_on (Service.Mails r) e o (λ r' f. own r' (let z : r ≡ r' = cc in ap (λ y. Some y) z))
+  mails_on : (ready : Option Asked) → is_some ready ≡ true → b ≡ wished Wish.Mails ready → ((key : ℕ) → q.work ≡ Work.Passed key → ⊥) → ((r : Asked) → ready ≡ Some r → is_passed r ≡ false) → ((r : Asked) → ready ≡ Some r → MailsWork (is_passed r) (is_other r) q.work) → Now b
+  mails_on None t e o own k = absurd (let bad : false ≡ true = t in cc)
+  mails_on (Some r) t e o own k = other_on (Service.Mails r) e o (λ r' f. own r' (let z : r ≡ r' = cc in ap (λ y. Some y) z)) (k r refl)
 
   mail_on : (ls : List Keyed) → ls ≡ ks → (ls ≡ [] → ⊥) → All (λ k. MayPass room k) ls → IsReady room ls lay → b ≡ wished Wish.Mails (ready_of lay) → IsOldestWork ls mid.next → q.work ≡ mid.next → Now b
   mail_on [] is some fits ready e next o = absurd (some refl)
   mail_on (k ∷ rest) is some fits ready e next o =
       let r = (ready (All-head (λ k. MayPass room k) k rest fits)).1 in
       let came : b ≡ Some (Service.Mails (passed k.mail)) = e ∙ ap (λ z. wished Wish.Mails z) r in
-      subst (λ z. Now z) (sym came)
-      (λ l h. subst (λ z. IsHanded z (hand_behind w.waits w.hand (Some (Service.Mails (passed k.mail)))) l) (sym (o ∙ next))
-      (subst (λ z. IsHanded (Work.Passed k.key) (hand_behind z w.hand (Some (Service.Mails (passed k.mail)))) l) (is ∙ same) (takes_mail w.lead.lived.life l k rest w.hand (begins _ came).0 h)))
+      subst (λ z. Now z) (sym came) (
+        λ l h. subst (λ z. IsHanded z (hand_behind w.waits w.hand (Some (Service.Mails (passed k.mail)))) l) (sym (o ∙ next))
+            (subst (λ z. IsHanded (Work.Passed k.key) (hand_behind z w.hand (Some (Service.Mails (passed k.mail)))) l) (is ∙ same) (takes_mail w.lead.lived.life l k rest w.hand (begins _ came).0 h)),
+        (k.key, o ∙ next),
+      )
 
   pub handing_on : (coming : Option Coming) (result : Bool) → b ≡ wish_begun result (wish_of coming) (ready_of lay) → result ≡ stand_begins stand (begins_by free (wish_of coming) (ready_of lay)) → IsLaid coming lay.laid → LaysMail coming room ks lay → MailWaits ks coming →
       All (λ k. MayPass room k) ks → LaysWork coming p mid → q.work ≡ work_from (where_began result coming) mid → Now b
@@ -139,9 +175,11 @@ module _ (w : Serves) (p mid q : Post) (lay : Waiting) (room : ℕ) (ks : List K
   handing_on (Some (Coming.State target)) false e did laid mail waits fits lays o = stays_on e (o ∙ lays.work)
   handing_on (Some Coming.Packet) true e did laid mail waits fits lays o =
       mails_on (ready_of lay) (begins_some stand free (ready_of lay) did) e (λ key f. (let is : q.work ≡ Work.Packet = o ∙ lays.next in let bad : Work.Packet ≡ Work.Passed key = sym is ∙ f in cc)) (λ r f. own_packet lay r laid f)
+      (λ r f. subst (λ z. MailsWork (is_passed r) (is_other r) z) (sym (o ∙ lays.next)) (packet_work lay r laid f))
   handing_on (Some Coming.Script) true e did laid mail waits fits lays o =
       mails_on (ready_of lay) (begins_some stand free (ready_of lay) did) e (λ key f. (let is : q.work ≡ Work.Mails = o ∙ lays.next in let bad : Work.Mails ≡ Work.Passed key = sym is ∙ f in cc)) (λ r f. own_script lay r laid f)
+      (λ r f. subst (λ z. MailsWork (is_passed r) (is_other r) z) (sym (o ∙ lays.next)) (script_work lay r laid f))
   handing_on (Some (Coming.State target)) true e did laid mail waits fits lays o =
-      other_on (Service.State target.state) e (λ key f. (let is : q.work ≡ Work.State = o ∙ lays.next in let bad : Work.State ≡ Work.Passed key = sym is ∙ f in cc)) (λ r f. absurd (let bad : Service.State target.state ≡ Service.Mails r = f in cc))
+      other_on (Service.State target.state) e (λ key f. (let is : q.work ≡ Work.State = o ∙ lays.next in let bad : Work.State ≡ Work.Passed key = sym is ∙ f in cc)) (λ r f. absurd (let bad : Service.State target.state ≡ Service.Mails r = f in cc)) (o ∙ lays.next)
   handing_on (Some Coming.Mail) true e did laid mail waits fits lays o =
       mail_on ks refl waits fits mail e (subst (λ z. IsOldestWork z mid.next) there lays.next) o

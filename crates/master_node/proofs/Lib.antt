@@ -49,6 +49,7 @@ mod Turneds
 pub mod Mailed
 pub mod FreeKept
 pub mod ServedVisits
+pub mod Threes
 pub mod ServedTells
 pub mod Roundings
 pub mod ServedSents
@@ -61,3 +62,13 @@ pub mod Queued
 pub mod Recalled
 pub mod Newest
 pub mod Unvisited
+pub mod PacketRows
+pub mod Inhand
+pub mod FreePackets
+pub mod Rowtells
+pub mod Changes
+pub mod Backopen
+pub mod Reopeneds
+pub mod Backinhand
+pub mod Backtolds
+pub mod Unread

@@ -14,7 +14,7 @@ none_first : {M : Type 0} (ms : List M) → first_left ms ≡ [] → ms ≡ []
 none_first [] e = refl
 none_first (m ∷ ms) e = absurd (cc)
 
-no_more : {T : Type 0} (xs : List T) (x : T) → xs ≡ xs ++ x ∷ [] → ⊥
+pub no_more : {T : Type 0} (xs : List T) (x : T) → xs ≡ xs ++ x ∷ [] → ⊥
 no_more xs x e = let n : length xs ≡ length (xs ++ x ∷ []) = ap length e in let m = length-append xs (x ∷ []) in omega (arith, n, m)
 
 and_fst : (a b : Bool) → (a && b) ≡ true → a ≡ true

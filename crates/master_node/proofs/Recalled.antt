@@ -44,7 +44,7 @@ use Rattle.master_node.proofs.Eagers.{recall_kept}
 use Rattle.master_node.proofs.Restings.{no_hand}
 
 -- a slave's datagrams by their address are those of its mailboxes
-own_mine : (station : ℕ) (ds : Grams) → SameAim station ds → own station ds ≡ mine station ds
+pub own_mine : (station : ℕ) (ds : Grams) → SameAim station ds → own station ds ≡ mine station ds
 own_mine station [] a = refl
 own_mine station (d ∷ ds) a = ap (λ (z : Bool). cond z (d ∷ own station ds) (own station ds)) a.0 ∙ go (d.gram.station == station) (own_mine station ds a.1)
   where

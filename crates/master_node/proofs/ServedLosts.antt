@@ -16,7 +16,7 @@ use Rattle.master_duty.specs.of_segment_model.Record.{Kept, News}
 use Rattle.master_duty.specs.of_segment_model.Slaves.{Datagram}
 use Rattle.master_duty.specs.of_task_model.Accounts.{duty_access}
 use Rattle.master_hand.specs.Laying.{scripted}
-use Rattle.master_hand.specs.Shown.{awaits_reply}
+use Rattle.master_hand.specs.Shown.{awaits_reply, knows}
 use Rattle.master_hand.specs.Spoken.{Asked, acknowledged, is_followed, is_passed}
 use Rattle.master_hand.specs.declared.hand.InHand.{InHand}
 use Rattle.master_side.specs.Passing.{news_lost}
@@ -34,12 +34,14 @@ use Rattle.master_tour.specs.of_life_model.Lives.{Life, Spot, life_lost}
 use Rattle.master_tour.proofs.Backs.{seen_aims}
 use Rattle.served_runs.specs.Served.{Keyed, ServedTurn, served_behind}
 use Rattle.master_node.specs.Handed.{work_at}
+use Rattle.master_node.specs.Inhand.{HasInHand}
 use Rattle.master_node.specs.Passes.{waits_in}
 use Rattle.master_node.specs.Serving.{IsServed, IsServedUnder, MayPass, run_lead, run_turn, waits_of}
 use Rattle.master_node.specs.Shows.{ComeAgain, GoesOn, GoesUnder, HoldsFirst, IsLived, is_led, is_live_lead, is_opening_lead, side_shows}
 use Rattle.master_node.specs.declared.post.Post.{Post}
 use Rattle.master_node.specs.declared.post.Work.{Work}
 use Rattle.master_node.proofs.Handeds.{lost_handed}
+use Rattle.master_node.proofs.Inhand.{lost_inhand}
 use Rattle.master_node.proofs.Goings.{ahead_again, ahead_behind, comes_again}
 use Rattle.master_node.proofs.Serveds.{open_stand}
 use Rattle.master_node.proofs.Droppeds.{and_false}
@@ -94,9 +96,9 @@ module _ (lens : ℕ → Lens) (recover retry : ℕ) where
         ((ns : List (News Body)) → IsLived lens recover (lived_lost (speech_at lens v.turn.lived.spot) acknowledged is_followed is_passed given recover made (seen lens octets) v.turn.lived (record { under = s.under; at = s.at }) ns) t) →
         StandPassing t.stand (awaits_reply t.side.hand.course t.side.hand.which t.side.hand.clients) t.side.passing
         (given_where (given && s.under) recover v.turn.lived.spot made (life_lost (speech_at lens v.turn.lived.spot) acknowledged is_followed is_passed v.turn.lived.spot (news_lost s.side.station v.kept (seen lens octets)) (seen lens octets) v.turn.lived.life v.turn.lived.life.stand)) →
-        CountsLost made s t v.turn.lived.life → t.side.pace ≡ s.side.pace → scripted t.side.hand.laying ≡ scripted s.side.hand.laying → waits_of q ≡ (if given && s.under then [] else waits_of p) → q.work ≡ (if given && s.under then Work.Nothing else p.work) →
+        CountsLost made s t v.turn.lived.life → t.side.pace ≡ s.side.pace → scripted t.side.hand.laying ≡ scripted s.side.hand.laying → waits_of q ≡ (if given && s.under then [] else waits_of p) → q.work ≡ (if given && s.under then Work.Nothing else p.work) → ((given && s.under) ≡ false → knows t.side.hand.course ≡ knows s.side.hand.course) →
         IsServed lens recover (suc made) (served_behind lens recover retry gives made (lost_so_far f octets after) v) q t
-    lost_served given f octets after v p q s t g i lives passes counts pace script waits works =
+    lost_served given f octets after v p q s t g i lives passes counts pace script waits works known =
         let l = v.turn.lived.life in
         let spot = v.turn.lived.spot in
         let x = speech_at lens spot in
@@ -123,6 +125,11 @@ module _ (lens : ℕ → Lens) (recover retry : ℕ) where
           waits = waits ∙ (λ j. if (g j && sym i.under j) then [] else h.waits j);
           fits = left_fits (λ k. MayPass (lens spot.station).out k) (gives && v.turn.share.under) v.waits h.fits;
           handed = lost_handed x spot v.kept sent (gives && v.turn.share.under) recover made l p.work q.work v.hand h.handed (λ e. work_is ∙ ap (λ (z : Bool). if z then Work.Nothing else p.work) e) (λ e. work_is ∙ ap (λ (z : Bool). if z then Work.Nothing else p.work) e);
+          inhand =
+              let gone = gives && v.turn.share.under in
+              let m = given_where gone recover spot made (life_lost x acknowledged is_followed is_passed spot news sent l l.stand) in
+              subst (λ z. HasInHand x (knows t.side.hand.course) m m.stand z) (sym work_is)
+              (lost_inhand (record { out = (lens spot.station).out; back = (lens spot.station).back }) spot v.kept sent recover made l (knows s.side.hand.course) (knows t.side.hand.course) gone p.work h.inhand (λ e. known ((λ j. g j && sym i.under j) ∙ e)));
         }
 
     module _ (f : Exchanged) (octets : List ℕ) (after : ℕ) (is : f.fate ≡ Lost after) (b : f.sent ≡ octets) where
@@ -130,9 +137,10 @@ module _ (lens : ℕ → Lens) (recover retry : ℕ) where
           ((ns : List (News Body)) → IsLived lens recover (lived_lost (speech_at lens v.turn.lived.spot) acknowledged is_followed is_passed given recover made (seen lens octets) v.turn.lived (record { under = s.under; at = s.at }) ns) t) →
           StandPassing t.stand (awaits_reply t.side.hand.course t.side.hand.which t.side.hand.clients) t.side.passing
           (given_where (given && s.under) recover v.turn.lived.spot made (life_lost (speech_at lens v.turn.lived.spot) acknowledged is_followed is_passed v.turn.lived.spot (news_lost s.side.station v.kept (seen lens octets)) (seen lens octets) v.turn.lived.life v.turn.lived.life.stand)) →
-          CountsLost made s t v.turn.lived.life → t.side.pace ≡ s.side.pace → scripted t.side.hand.laying ≡ scripted s.side.hand.laying → waits_of q ≡ (if given && s.under then [] else waits_of p) → q.work ≡ (if given && s.under then Work.Nothing else p.work) → IsServed lens recover (suc made) (served_behind lens recover retry gives made f v) q t
-      served_lost given v p q s t g i lives passes counts pace script waits works =
-          subst (λ (z : Exchanged). IsServed lens recover (suc made) (served_behind lens recover retry gives made z v) q t) (sym (so_is f octets after is b)) (lost_served given f octets after v p q s t g i lives passes counts pace script waits works)
+          CountsLost made s t v.turn.lived.life → t.side.pace ≡ s.side.pace → scripted t.side.hand.laying ≡ scripted s.side.hand.laying → waits_of q ≡ (if given && s.under then [] else waits_of p) → q.work ≡ (if given && s.under then Work.Nothing else p.work) →
+          ((given && s.under) ≡ false → knows t.side.hand.course ≡ knows s.side.hand.course) → IsServed lens recover (suc made) (served_behind lens recover retry gives made f v) q t
+      served_lost given v p q s t g i lives passes counts pace script waits works known =
+          subst (λ (z : Exchanged). IsServed lens recover (suc made) (served_behind lens recover retry gives made z v) q t) (sym (so_is f octets after is b)) (lost_served given f octets after v p q s t g i lives passes counts pace script waits works known)
 
       -- all of them
       pub all_lost : {G : Ghosts InHand} (given : Bool) (T : Lived Asked Reply → Stop InHand G → Stop InHand G → Type 0) (E : Stop InHand G → Stop InHand G → Type 0) (vs : List ServedTurn) (ps qs : List Post) (ss ts : List (Stop InHand G)) →

@@ -7,11 +7,12 @@ use Rattle.counters_kept.specs.Lives.{LifeKept}
 use Rattle.counters_kept.proofs.Lives.{next_life}
 use Rattle.life_runs.specs.of_frame_view.View.{Lens}
 use Rattle.life_runs.specs.of_frame_view.Seen.{seen, datagrams_seen}
-use Rattle.life_runs.specs.of_life_frames.Shares.{Lived, AllBoth, AllThree}
-use Rattle.life_runs.specs.Led.{speech_at}
+use Rattle.life_runs.specs.of_life_frames.Shares.{Lived, AllBoth, AllThree, AreDistinct}
+use Rattle.life_runs.specs.Led.{Turn, speech_at}
 use Rattle.mailbox_master.specs.Any.{in_area_len}
 use Rattle.master_duty.specs.Reply.{Reply}
 use Rattle.master_duty.specs.of_state_exchange.Stated.{Service}
+use Rattle.master_hand.specs.Shown.{knows}
 use Rattle.master_hand.specs.Spoken.{Asked, acknowledged, is_followed, is_passed}
 use Rattle.master_hand.specs.declared.hand.InHand.{InHand}
 use Rattle.master_side.specs.Passing.{passing_seen}
@@ -20,7 +21,7 @@ use Rattle.master_side.specs.declared.passing.Passing.{Passing}
 use Rattle.master_side.specs.of_link_mails.Body.{Body}
 use Rattle.master_tour.specs.Made.{FrameMade, StopLives, StopSent}
 use Rattle.master_tour.specs.Passing.{StandPassing}
-use Rattle.master_tour.specs.Stands.{StandUnder}
+use Rattle.master_tour.specs.Stands.{Counts, StandUnder}
 use Rattle.master_tour.specs.Walks.{EachPair}
 use Rattle.master_tour.specs.declared.stop.Stand.{Stand}
 use Rattle.master_tour.specs.declared.stop.Stop.{Stop}
@@ -28,19 +29,22 @@ use Rattle.master_tour.specs.of_life_model.Lives.{Life, Spot}
 use Rattle.segment_plan.specs.declared.service.Service as Plan
 use Rattle.served_runs.specs.Served.{AllServedTurn, IsServedTurn, Keyed, Serves, ServedComes, ServedTurn}
 use Rattle.served_runs.specs.Told.{Passed}
+use Rattle.master_node.specs.Begins.{begun_of}
 use Rattle.master_node.specs.Events.{served_tells}
 use Rattle.master_node.specs.Filling.{StopFills}
 use Rattle.master_node.specs.Handed.{IsHanding}
 use Rattle.master_node.specs.Named.{IsHanded, is_left}
 use Rattle.master_node.specs.Numbered.{IsNumbered}
-use Rattle.master_node.specs.Passes.{IsPassing, IsServing, ThreeFrom}
+use Rattle.master_node.specs.Inhand.{HasInHand, WorkOf}
+use Rattle.master_node.specs.Passes.{BeginsFree, IsPassing, IsServing, ThreeFrom}
 use Rattle.master_node.specs.Serving.{IsServed, IsServedUnder, MayPass, ServedShows, mails_in, run_lead, run_turn, waits_of}
 use Rattle.master_node.specs.Rooms.{FitAgain}
-use Rattle.master_node.specs.Shows.{GoesOn, lived_of, side_shows}
+use Rattle.master_node.specs.Shows.{GoesOn, GoesUnder, lived_of, side_shows, turned_of}
 use Rattle.master_node.specs.declared.node.MasterNode.{MasterNode}
 use Rattle.master_node.specs.declared.post.Post.{Post}
 use Rattle.master_node.specs.declared.post.Work.{Work}
 use Rattle.master_node.proofs.Handeds.{begun_is, hand_is}
+use Rattle.master_node.proofs.Inhand.{next_inhand}
 use Rattle.master_node.proofs.Listing.{listed_on}
 use Rattle.master_node.proofs.Roundings.{SameTour}
 use Rattle.master_node.proofs.Mailed as Mailed
@@ -51,6 +55,17 @@ use Rattle.master_node.proofs.ServedVisits.{Alike, serving_alike}
 pub map_map : {A B C : Type 0} (g : B → C) (f : A → B) (xs : List A) → map g (map f xs) ≡ map (λ x. g (f x)) xs
 map_map g f [] = refl
 map_map g f (x ∷ xs) = ap (λ z. g (f x) ∷ z) (map_map g f xs)
+
+-- the turns of a serving are those of its run
+module _ (us : List Turn) (vs : List ServedTurn) (are : map run_turn vs ≡ us) where
+  pub sent_distinct : AreDistinct (map turned_of us) → AreDistinct (map (λ v. v.turn.lived) vs)
+  sent_distinct d = subst (λ z. AreDistinct z) (ap (map turned_of) (sym are) ∙ map_map turned_of run_turn vs) d
+
+  pub sent_goes : (visit : List ℕ) (opened : ℕ) → GoesUnder visit opened us → GoesUnder visit opened (map run_turn vs)
+  sent_goes visit opened g = subst (λ z. GoesUnder visit opened z) (sym are) g
+
+  pub sent_begun : (begun : ℕ → Option (Service Asked)) → ((k : ℕ) → begun_of us k ≡ begun k) → (k : ℕ) → begun_of (map run_turn vs) k ≡ begun k
+  sent_begun begun h k = ap (λ z. begun_of z k) are ∙ h k
 
 pub three_long : {A B S : Type 0} (P : ℕ → A → B → S → Type 0) (i : ℕ) (as' : List A) (bs : List B) (ss : List S) → ThreeFrom P i as' bs ss → length ss ≡ length as'
 three_long P i [] [] [] p = refl
@@ -78,7 +93,8 @@ passing_same lens recover made forwards ws left m n octets k f = record {
       (subst (λ z. FrameMade (λ ds i a s. StopFills lens recover made f.begun (z % 256) left ds i a s) octets m.tour.count (map (λ w. lived_of (run_lead w)) ws) m.tour.stops.items) (sym k.made) f.frame));
   each = subst (λ z. ThreeFrom (λ i w ks s. IsServing lens f.begun made left i w ks s) 0 ws (mails_in n) z.items) (sym k.stops)
       (subst (λ z. ThreeFrom (λ i w ks s. IsServing lens f.begun made left i w ks s) 0 ws (map waits_of z.items) m.tour.stops.items) (sym k.posts) f.each);
-  handed = subst (λ z. AllBoth (λ w p. IsHanding f.begun w p.work) ws z.items) (sym k.posts) f.handed;
+  handed = subst (λ z. ThreeFrom (λ i w p s. IsHanding lens f.begun w p.work (knows s.side.hand.course)) 0 ws n.posts.items z.items) (sym k.stops)
+      (subst (λ z. ThreeFrom (λ i w p s. IsHanding lens f.begun w p.work (knows s.side.hand.course)) 0 ws z.items m.tour.stops.items) (sym k.posts) f.handed);
   numbered = subst (λ z. AllBoth (λ w p. IsNumbered (length w.asked) p) ws z.items) (sym k.posts) f.numbered;
   listing = listed_on (served_tells ws) forwards left f.begun (map run_lead ws) m n k.list k.posts f.listing;
 }
@@ -146,23 +162,32 @@ module _ {G : Ghosts InHand} (lens : ℕ → Lens) (recover made : ℕ) where
       (serving_alike lens (λ n. None) made left i w (waits_of p) s t (first_serving left i w p s h.0) k.0, firsts_serving left (suc i) ws ps ss ts h.1 k.1)
 
 -- what a post has in hand, where nothing came
-first_handing : (w : Serves) (work : Work) → IsHanded work w.hand w.lead.lived.life → IsHanding (λ k. None) w work
-first_handing w work h = λ l b. record {
-  named = λ key e. (let n = h.named key e in
-      record { opened = b.stand ∙ n.opened; passing = ap (λ (z : Option _). is_some z) b.passing ∙ n.passing; alone = b.duty ∙ n.alone; passed = n.passed; is = n.is; key_is = n.key_is });
-  only = λ n t. h.only (ap is_left (sym b.stand) ∙ n) (ap (λ (z : Option _). is_some z) (sym b.passing) ∙ t);
+first_handing : (lens : ℕ → Lens) (w : Serves) (work : Work) (known : Bool) → IsHanded work w.hand w.lead.lived.life → HasInHand (speech_at lens w.lead.lived.spot) known w.lead.lived.life w.lead.lived.life.stand work → IsHanding lens (λ k. None) w work known
+first_handing lens w work known h i = record {
+  handed = λ l b. record {
+    named = λ key e. (let n = h.named key e in
+        record { opened = b.stand ∙ n.opened; passing = ap (λ (z : Option _). is_some z) b.passing ∙ n.passing; alone = b.duty ∙ n.alone; passed = n.passed; is = n.is; key_is = n.key_is });
+    only = λ n t. h.only (ap is_left (sym b.stand) ∙ n) (ap (λ (z : Option _). is_some z) (sym b.passing) ∙ t);
+  };
+  old = work;
+  was = i;
+  came = refl;
 }
 
 module _ {G : Ghosts InHand} (lens : ℕ → Lens) (recover made : ℕ) where
-  pub firsts_handing : (ws : List Serves) (ps : List Post) (ss : List (Stop InHand G)) → AllThree (λ w p s. IsServed lens recover made w p s) ws ps ss → AllBoth (λ w p. IsHanding (λ k. None) w p.work) ws ps
-  firsts_handing [] [] [] h = tt
-  firsts_handing [] [] (s ∷ ss) h = absurd h
-  firsts_handing [] (p ∷ ps) [] h = absurd h
-  firsts_handing [] (p ∷ ps) (s ∷ ss) h = absurd h
-  firsts_handing (w ∷ ws) [] [] h = absurd h
-  firsts_handing (w ∷ ws) [] (s ∷ ss) h = absurd h
-  firsts_handing (w ∷ ws) (p ∷ ps) [] h = absurd h
-  firsts_handing (w ∷ ws) (p ∷ ps) (s ∷ ss) h = (first_handing w p.work h.0.handed, firsts_handing ws ps ss h.1)
+  pub firsts_handing : (i : ℕ) (ws : List Serves) (ps : List Post) (ss ts : List (Stop InHand G)) → AllThree (λ w p s. IsServed lens recover made w p s) ws ps ss → EachPair (λ s t. Alike s t) ss ts →
+      ThreeFrom (λ i w p s. IsHanding lens (λ k. None) w p.work (knows s.side.hand.course)) i ws ps ts
+  firsts_handing i [] [] [] [] h k = tt
+  firsts_handing i [] [] [] (t ∷ ts) h k = absurd k
+  firsts_handing i [] [] (s ∷ ss) ts h k = absurd h
+  firsts_handing i [] (p ∷ ps) [] ts h k = absurd h
+  firsts_handing i [] (p ∷ ps) (s ∷ ss) ts h k = absurd h
+  firsts_handing i (w ∷ ws) [] [] ts h k = absurd h
+  firsts_handing i (w ∷ ws) [] (s ∷ ss) ts h k = absurd h
+  firsts_handing i (w ∷ ws) (p ∷ ps) [] ts h k = absurd h
+  firsts_handing i (w ∷ ws) (p ∷ ps) (s ∷ ss) [] h k = absurd k
+  firsts_handing i (w ∷ ws) (p ∷ ps) (s ∷ ss) (t ∷ ts) h k =
+      (subst (λ z. IsHanding lens (λ k. None) w p.work z) (sym k.0.known) (first_handing lens w p.work (knows s.side.hand.course) h.0.handed h.0.inhand), firsts_handing (suc i) ws ps ss ts h.1 k.1)
 
 -- the mails that still wait fit as they did
 came_fits : (R : Keyed → Type 0) (room : ℕ) (script : List Plan.Service) (waits left : List Keyed) (hand behind : Option Passed) (n m : ℕ) (b : Option (Service Asked)) → ServedComes room script waits hand n b m left behind → All R waits → All R left
@@ -200,9 +225,10 @@ module _ {G : Ghosts InHand} (lens : ℕ → Lens) (recover made : ℕ) (begun :
     counts = refl;
   }
 
-  under_is : (left : List ℕ) (i : ℕ) (w : Serves) (b : Lived Asked Reply) (p : Post) (s : Stop InHand G) (h : IsServing lens begun made left i w (waits_of p) s) → IsHanding begun w p.work → Sends w.lead.lived b s → IsServedUnder lens recover octets made (turn_so w h.hand b p s) p s
+  under_is : (left : List ℕ) (i : ℕ) (w : Serves) (b : Lived Asked Reply) (p : Post) (s : Stop InHand G) (h : IsServing lens begun made left i w (waits_of p) s) → IsHanding lens begun w p.work (knows s.side.hand.course) → Sends w.lead.lived b s → IsServedUnder lens recover octets made (turn_so w h.hand b p s) p s
   under_is left i w b p s h o t =
       let a = w.lead.lived in
+      let known = knows s.side.hand.course in
       record {
         served = record {
           lives = subst (λ z. Lived_as z) (sym t.next.spot) t.lives;
@@ -218,7 +244,11 @@ module _ {G : Ghosts InHand} (lens : ℕ → Lens) (recover made : ℕ) (begun :
               (came_fits (λ k. MayPass (lens a.spot.station).out k) (lens a.spot.station).out w.lead.script w.waits (waits_of p) w.hand h.hand w.lead.number s.side.hand.laying.number (begun a.spot.place) h.comes h.fits);
           handed = subst (λ z. IsHanded p.work z b.life)
               (sym (hand_is (lens a.spot.station).out w.lead.script w.waits (waits_of p) w.hand h.hand w.lead.number s.side.hand.laying.number (begun a.spot.place) h.comes))
-              (o b.life (begun_is (speech_at lens a.spot) made a.life b.life (begun a.spot.place) t.next.pick t.next.life t.wish t.took h.free));
+              (o.handed b.life (begun_is (speech_at lens a.spot) made a.life b.life (begun a.spot.place) t.next.pick t.next.life t.wish t.took h.free));
+          inhand = subst (λ (z : Spot). HasInHand (speech_at lens z) known b.life b.life.stand p.work) (sym t.next.spot)
+              (subst (λ (z : Life Body Asked Reply). HasInHand (speech_at lens a.spot) known z z.stand p.work) (sym t.next.life)
+              (next_inhand (record { out = (lens a.spot.station).out; back = (lens a.spot.station).back }) made a.life known known o.old p.work t.next.pick o.was (λ none. refl) (subst (λ z. WorkOf z o.old p.work) (sym t.wish) o.came)
+              (subst (λ z. BeginsFree a.life z) (sym t.wish) h.free) (subst (λ z. Counts made t.next.pick.begin a.life z) t.next.life t.took)));
         };
         under = refl;
         at = refl;
@@ -236,7 +266,7 @@ module _ {G : Ghosts InHand} (lens : ℕ → Lens) (recover made : ℕ) (begun :
     pub under : AllThree (λ v p s. IsServedUnder lens recover octets made v p s) sent ps ss
     pub numbered : AllBoth (λ v p. IsNumbered (length v.asked) p) sent ps
 
-  pub served_all : (left : List ℕ) (i : ℕ) (ws : List Serves) (bs : List (Lived Asked Reply)) (ps : List Post) (ss : List (Stop InHand G)) → ThreeFrom (λ j w ks s. IsServing lens begun made left j w ks s) i ws (map waits_of ps) ss → AllBoth (λ w p. IsHanding begun w p.work) ws ps →
+  pub served_all : (left : List ℕ) (i : ℕ) (ws : List Serves) (bs : List (Lived Asked Reply)) (ps : List Post) (ss : List (Stop InHand G)) → ThreeFrom (λ j w ks s. IsServing lens begun made left j w ks s) i ws (map waits_of ps) ss → ThreeFrom (λ j w p s. IsHanding lens begun w p.work (knows s.side.hand.course)) i ws ps ss →
       AllBoth (λ w p. IsNumbered (length w.asked) p) ws ps →
       AllThree (λ a b s. Sends a b s) (map (λ w. lived_of (run_lead w)) ws) bs ss → Served ws bs ps ss
   served_all left i [] [] [] [] h o k t = record { sent = []; turns_are = refl; each = tt; under = tt; numbered = tt }

@@ -4,7 +4,7 @@ use Rattle.std.specs.Prelude.{◌&&◌, is_some, is_none, map, All, IfSome, slic
 use Rattle.std.proofs.lemmas.Bool.{eq-eqb, eqb-true}
 use Rattle.datagrams.specs.Datagram as Raw
 use Rattle.life_runs.specs.of_frame_view.View.{Lens}
-use Rattle.life_runs.specs.of_life_frames.Shares.{Lived, AllBoth, AllFrom, AreDistinct, IsElsewhere}
+use Rattle.life_runs.specs.of_life_frames.Shares.{Lived, AllFrom, AreDistinct, IsElsewhere}
 use Rattle.life_runs.specs.Led.{speech_at}
 use Rattle.mailbox_master.specs.Any.{in_area_len}
 use Rattle.master_duty.specs.Reply.{Reply}
@@ -13,7 +13,7 @@ use Rattle.master_duty.specs.of_segment_model.Seats
 use Rattle.master_duty.specs.of_state_exchange.Stated.{Service}
 use Rattle.master_duty.specs.of_task_model.Accounts.{Account, Pick}
 use Rattle.master_hand.specs.Laying.{Scripted, ready_of, scripted, scripted_behind}
-use Rattle.master_hand.specs.Shown.{awaits_reply}
+use Rattle.master_hand.specs.Shown.{awaits_reply, knows}
 use Rattle.master_hand.specs.Spoken.{Asked, acknowledged, is_followed, is_passed}
 use Rattle.master_hand.specs.declared.hand.InHand.{InHand}
 use Rattle.master_side.specs.Free.{begins_by, is_free_side}
@@ -40,6 +40,7 @@ use Rattle.master_node.specs.Filling.{StopFills}
 use Rattle.master_node.specs.Kept.{StopKept, StopStays}
 use Rattle.master_node.specs.Passes.{BeginsFree, IsNextState, IsServing, LaysMail, MailWaits, ThreeFrom, waits_behind, waits_in}
 use Rattle.master_node.specs.Handed.{HasBegun, IsHanding, LaysWork, hand_behind, work_from}
+use Rattle.master_node.specs.Inhand.{HasInHand, WorkOf}
 use Rattle.master_node.specs.Listing.{where_began}
 use Rattle.master_node.specs.Named.{IsHanded}
 use Rattle.master_node.specs.Serving.{MayPass, run_lead, waits_of}
@@ -53,6 +54,7 @@ use Rattle.master_node.proofs.Handings.{handing_on}
 use Rattle.master_node.proofs.Kepts.{lives_kept, stop_same}
 use Rattle.master_node.proofs.Lists.{no_end, no_step, steps_each, steps_got, steps_map, steps_mid, steps_trans}
 use Rattle.master_node.proofs.Mailed.{next_passing, none_begun, none_came, served_came, stand_awaits, stand_same}
+use Rattle.master_node.proofs.Threes.{three_with}
 use Rattle.master_node.proofs.Visits.{Began, SomeKept}
 
 -- A SLAVE THAT STAYS but for what is held, and for its place in the frame
@@ -64,9 +66,10 @@ pub record Alike {G : Ghosts InHand} (s t : Stop InHand G) : Type 0 where
   pub awaits : awaits_reply s.side.hand.course s.side.hand.which s.side.hand.clients ≡ true → awaits_reply t.side.hand.course t.side.hand.which t.side.hand.clients ≡ true
   pub read : ReadStays s t
   pub out : t.side.out.len ≡ s.side.out.len
+  pub known : knows t.side.hand.course ≡ knows s.side.hand.course
 
 pub alike_same : {G : Ghosts InHand} (s : Stop InHand G) → Alike s s
-alike_same s = record { script = refl; place = refl; stand = refl; passing = refl; awaits = λ e. e; read = (refl, refl); out = refl }
+alike_same s = record { script = refl; place = refl; stand = refl; passing = refl; awaits = λ e. e; read = (refl, refl); out = refl; known = refl }
 
 pub serving_alike : {G : Ghosts InHand} (lens : ℕ → Lens) (begun : ℕ → Option (Service Asked)) (made : ℕ) (left : List ℕ) (i : ℕ) (w : Serves) (ks : List Keyed) (s t : Stop InHand G) → IsServing lens begun made left i w ks s → Alike s t → IsServing lens begun made left i w ks t
 serving_alike lens begun made left i w ks s t h k = record {
@@ -85,29 +88,6 @@ serving_alike lens begun made left i w ks s t h k = record {
   pace = k.read.1 ∙ h.pace;
   fits = h.fits;
 }
-
-pub three_each : {A B S : Type 0} (P T : ℕ → A → B → S → Type 0) (K : S → S → Type 0) → ((i : ℕ) (a : A) (b : B) (s t : S) → P i a b s → K s t → T i a b t) → (i : ℕ) (as' : List A) (bs : List B) (ss ts : List S) → ThreeFrom P i as' bs ss → EachPair K ss ts → ThreeFrom T i as' bs ts
-three_each P T K h i [] [] [] [] p k = tt
-three_each P T K h i [] [] [] (t ∷ ts) p k = absurd k
-three_each P T K h i [] [] (s ∷ ss) ts p k = absurd p
-three_each P T K h i [] (b ∷ bs) [] ts p k = absurd p
-three_each P T K h i [] (b ∷ bs) (s ∷ ss) ts p k = absurd p
-three_each P T K h i (a ∷ as') [] [] ts p k = absurd p
-three_each P T K h i (a ∷ as') [] (s ∷ ss) ts p k = absurd p
-three_each P T K h i (a ∷ as') (b ∷ bs) [] ts p k = absurd p
-three_each P T K h i (a ∷ as') (b ∷ bs) (s ∷ ss) [] p k = absurd k
-three_each P T K h i (a ∷ as') (b ∷ bs) (s ∷ ss) (t ∷ ts) p k = (h i a b s t p.0 k.0, three_each P T K h (suc i) as' bs ss ts p.1 k.1)
-
--- with what two of the lists say
-pub three_with : {A B C S : Type 0} (f : A → C) (Q : ℕ → C → S → Type 0) (P : ℕ → A → B → S → Type 0) (i : ℕ) (as' : List A) (bs : List B) (ss : List S) → AllFrom Q i (map f as') ss → ThreeFrom P i as' bs ss → ThreeFrom (λ j a b s. Q j (f a) s × P j a b s) i as' bs ss
-three_with f Q P i [] [] [] q p = tt
-three_with f Q P i [] [] (s ∷ ss) q p = absurd p
-three_with f Q P i [] (b ∷ bs) [] q p = absurd p
-three_with f Q P i [] (b ∷ bs) (s ∷ ss) q p = absurd p
-three_with f Q P i (a ∷ as') [] [] q p = absurd p
-three_with f Q P i (a ∷ as') [] (s ∷ ss) q p = absurd p
-three_with f Q P i (a ∷ as') (b ∷ bs) [] q p = absurd p
-three_with f Q P i (a ∷ as') (b ∷ bs) (s ∷ ss) q p = ((q.0, p.0), three_with f Q P (suc i) as' bs ss q.1 p.1)
 
 -- what is ahead of a slave
 pub record Ahead {G : Ghosts InHand} (coming : Option Coming) (s : Stop InHand G) : Type 0 where
@@ -132,6 +112,7 @@ pub record Visited {G : Ghosts InHand} (lens : ℕ → Lens) (recover made : ℕ
   pub did : result ≡ stand_begins s.stand (begins_by (is_free_side s.side) wish (ready_of s.side.hand.laying))
   pub stand : t.stand ≡ s.stand
   pub read : ReadStays s t
+  pub known : knows t.side.hand.course ≡ knows s.side.hand.course
   pub passes : PassesOn lens recover made (wish_begun result wish (ready_of s.side.hand.laying)) s t
 
 pub record Ready {G : Ghosts InHand} (coming : Option Coming) (got : List Keyed) (s t : Stop InHand G) : Type 0 where
@@ -434,7 +415,7 @@ module _ {G : Ghosts InHand} (lens : ℕ → Lens) (recover made : ℕ) (coming 
       pub works : q.work ≡ work_from (where_began result coming) mid
 
     hands_here : (i : ℕ) (w : Serves) (p q : Post) (ls : List Keyed) (s v : Stop InHand G) → is_in i left ≡ true → w.lead.lived.spot.place ≡ here → Before i w (waits_of p) s → waits_of p ≡ got → Goes lens recover made coming result got (slice_get s2 place) s v → After i w ls v → Moved p q →
-        IsHanding begun w p.work → IsHanding (now begun) w q.work
+        IsHanding lens begun w p.work (knows s.side.hand.course) → IsHanding lens (now begun) w q.work (knows v.side.hand.course)
     hands_here i w p q ls s v at e before all_got g after moved handing =
         let h = before.1 in
         let a = w.lead.lived in
@@ -446,26 +427,42 @@ module _ {G : Ghosts InHand} (lens : ℕ → Lens) (recover made : ℕ) (coming 
         let now_is : now begun a.spot.place ≡ came_of (Some t) = begun_here begun here what a.spot.place e ∙ ap came_of g.seen.is in
         let long : t.side.out.len ≡ room = ap (λ z. z.len) stays.side.side.out_is ∙ sym h.room in
         let mail = subst (λ z. LaysMail coming room z t.side.hand.laying) (sym all_got) (subst (λ z. LaysMail coming z got t.side.hand.laying) long g.ready.readied.mail) in
-        handing_on w p moved.mid q t.side.hand.laying room (waits_of p) t.stand (is_free_side t.side) (now begun a.spot.place) same.waits_are refl after.free
-        (λ l b. subst (λ z. IsHanded p.work (hand_behind w.waits w.hand z) l) none (handing l (subst (λ z. HasBegun a.life z l) (sym none) b)))
-        coming result now_is g.seen.visited.did g.ready.readied.laid mail (subst (λ z. MailWaits z coming) (sym all_got) waits) (subst (λ z. All (λ k. MayPass room k) z) (sym same.waits_are) h.fits) moved.lays moved.works
+        let both = handing_on w p moved.mid q t.side.hand.laying room (waits_of p) t.stand (is_free_side t.side) (now begun a.spot.place) same.waits_are refl after.free
+        (λ l b. subst (λ z. IsHanded p.work (hand_behind w.waits w.hand z) l) none (handing.handed l (subst (λ z. HasBegun a.life z l) (sym none) b)))
+        coming result now_is g.seen.visited.did g.ready.readied.laid mail (subst (λ z. MailWaits z coming) (sym all_got) waits) (subst (λ z. All (λ k. MayPass room k) z) (sym same.waits_are) h.fits) moved.lays moved.works in
+        let known = ap knows g.kept.kept.side.hand.course_is ∙ g.seen.visited.known ∙ ap knows stays.side.hand.course_is in
+        record {
+          handed = both.0;
+          old = handing.old;
+          was = subst (λ z. HasInHand (speech_at lens a.spot) z a.life a.life.stand handing.old) (sym known) handing.was;
+          came = subst (λ z. WorkOf (now begun a.spot.place) z q.work) (subst (λ z. WorkOf z handing.old p.work) none handing.came) both.1;
+        }
 
-    hands_there : (i : ℕ) (w : Serves) (work : Work) → (w.lead.lived.spot.place == here) ≡ false → IsHanding begun w work → IsHanding (now begun) w work
-    hands_there i w work d handing = λ l b.
+    hands_there : (w : Serves) (work : Work) (known : Bool) → (w.lead.lived.spot.place == here) ≡ false → IsHanding lens begun w work known → IsHanding lens (now begun) w work known
+    hands_there w work known d handing =
         let e = (begun_comes begun here what).elsewhere w.lead.lived.spot.place d in
-        subst (λ z. IsHanded work (hand_behind w.waits w.hand z) l) (sym e) (handing l (subst (λ z. HasBegun w.lead.lived.life z l) e b))
+        record {
+          handed = λ l b. subst (λ z. IsHanded work (hand_behind w.waits w.hand z) l) (sym e) (handing.handed l (subst (λ z. HasBegun w.lead.lived.life z l) e b));
+          old = handing.old;
+          was = handing.was;
+          came = subst (λ z. WorkOf z handing.old work) (sym e) handing.came;
+        }
+
+    abbrev pub Hands : (ℕ → Option (Service Asked)) → ℕ → List Serves → List Post → List (Stop InHand G) → Type 0
+    Hands so i ws ps ss = ThreeFrom (λ i w p s. IsHanding lens so w p.work (knows s.side.hand.course)) i ws ps ss
 
     -- none of the slaves behind stands there
-    hands_others : (spot : Spot) → spot.place ≡ here → (ws : List Serves) (ps : List Post) → IsElsewhere spot (map (λ w. lived_of (run_lead w)) ws) → AllBoth (λ w p. IsHanding begun w p.work) ws ps → AllBoth (λ w p. IsHanding (now begun) w p.work) ws ps
-    hands_others spot e [] [] d a = tt
-    hands_others spot e [] (p ∷ ps) d a = absurd a
-    hands_others spot e (w ∷ ws) [] d a = absurd a
-    hands_others spot e (w ∷ ws) (p ∷ ps) d a =
-        (hands_there 0 w p.work (apart here w.lead.lived.spot.place (subst (λ z. (z == w.lead.lived.spot.place) ≡ false) e d.0.place)) a.0, hands_others spot e ws ps d.1 a.1)
+    hands_others : (spot : Spot) → spot.place ≡ here → (i : ℕ) (ws : List Serves) (ps : List Post) (ss : List (Stop InHand G)) → IsElsewhere spot (map (λ w. lived_of (run_lead w)) ws) → Hands begun i ws ps ss → Hands (now begun) i ws ps ss
+    hands_others spot e i [] [] [] d a = tt
+    hands_others spot e i [] [] (s ∷ ss) d a = absurd a
+    hands_others spot e i [] (p ∷ ps) ss d a = absurd a
+    hands_others spot e i (w ∷ ws) [] ss d a = absurd a
+    hands_others spot e i (w ∷ ws) (p ∷ ps) [] d a = absurd a
+    hands_others spot e i (w ∷ ws) (p ∷ ps) (s ∷ ss) d a =
+        (hands_there w p.work (knows s.side.hand.course) (apart here w.lead.lived.spot.place (subst (λ z. (z == w.lead.lived.spot.place) ≡ false) e d.0.place)) a.0, hands_others spot e (suc i) ws ps ss d.1 a.1)
 
     hands : (i n m : ℕ) (ws : List Serves) (ps qs : List Post) (lss : List (List Keyed)) (ss ts : List (Stop InHand G)) → m ≡ i + n → is_in m left ≡ true → AreDistinct (map (λ w. lived_of (run_lead w)) ws) → ThreeFrom Before i ws (map waits_of ps) ss → waits_in (map waits_of ps) n ≡ got →
-        StepsAt (λ s v. Goes lens recover made coming result got (slice_get s2 place) s v) n ss ts → StepsAt (λ s t. s.place ≡ here) n ss ts → ThreeFrom After i ws lss ts → StepsAt (λ p q. Moved p q) n ps qs → AllBoth (λ w p. IsHanding begun w p.work) ws ps →
-        AllBoth (λ w p. IsHanding (now begun) w p.work) ws qs
+        StepsAt (λ s v. Goes lens recover made coming result got (slice_get s2 place) s v) n ss ts → StepsAt (λ s t. s.place ≡ here) n ss ts → ThreeFrom After i ws lss ts → StepsAt (λ p q. Moved p q) n ps qs → Hands begun i ws ps ss → Hands (now begun) i ws qs ts
     hands i n m ws [] qs lss ss ts e at d b g r o a k h = absurd (no_step _ n qs k)
     hands i n m ws (p ∷ ps) [] lss ss ts e at d b g r o a k h = absurd (no_end _ n p ps k)
     hands i n m [] (p ∷ ps) (q ∷ qs) lss ss ts e at d b g r o a k h = absurd h
@@ -476,15 +473,15 @@ module _ {G : Ghosts InHand} (lens : ℕ → Lens) (recover made : ℕ) (coming 
         let f : m ≡ i = omega (arith, e) in
         let spot : w.lead.lived.spot.place ≡ here = sym b.0.1.place ∙ o.0 in (
           hands_here i w p q ls s t (subst (λ z. is_in z left ≡ true) f at) spot b.0 g r.0 a.0 k.0 h.0,
-          subst (λ z. AllBoth (λ w p. IsHanding (now begun) w p.work) ws z) (sym k.1) (hands_others w.lead.lived.spot spot ws ps d.0 h.1),
+          subst (λ z. Hands (now begun) (suc i) ws qs z) (sym r.1) (subst (λ z. Hands (now begun) (suc i) ws z ss) (sym k.1) (hands_others w.lead.lived.spot spot (suc i) ws ps ss d.0 h.1)),
         )
     hands i (suc n) m (w ∷ ws) (p ∷ ps) (q ∷ qs) (ls ∷ lss) (s ∷ ss) (t ∷ ts) e at d b g r o a k h = (
-      subst (λ z. IsHanding (now begun) w z.work) (sym k.0) (hands_there i w p.work (stands_at (suc i) n ws (map waits_of ps) ss ts w.lead.lived.spot d.0 b.1 o.1) h.0),
+      subst (λ z. IsHanding lens (now begun) w q.work (knows z.side.hand.course)) (sym r.0)
+          (subst (λ z. IsHanding lens (now begun) w z.work (knows s.side.hand.course)) (sym k.0) (hands_there w p.work (knows s.side.hand.course) (stands_at (suc i) n ws (map waits_of ps) ss ts w.lead.lived.spot d.0 b.1 o.1) h.0)),
       hands (suc i) n m ws ps qs lss ss ts (omega (arith, e)) at d.1 b.1 g r.1 o.1 a.1 k.1 h.1,
     )
 
     pub handing : (ws : List Serves) (ps qs : List Post) (lss : List (List Keyed)) → is_in place left ≡ true → AreDistinct (map (λ w. lived_of (run_lead w)) ws) → AllFrom (λ i a s. StopFills lens recover made begun index left ds i a s) 0 (map (λ w. lived_of (run_lead w)) ws) s1 →
-        ThreeFrom (λ i w ks s. IsServing lens begun made left i w ks s) 0 ws (map waits_of ps) s1 → waits_in (map waits_of ps) place ≡ got → ThreeFrom After 0 ws lss s4 → StepsAt (λ p q. Moved p q) place ps qs → AllBoth (λ w p. IsHanding begun w p.work) ws ps →
-        AllBoth (λ w p. IsHanding (now begun) w p.work) ws qs
+        ThreeFrom (λ i w ks s. IsServing lens begun made left i w ks s) 0 ws (map waits_of ps) s1 → waits_in (map waits_of ps) place ≡ got → ThreeFrom After 0 ws lss s4 → StepsAt (λ p q. Moved p q) place ps qs → Hands begun 0 ws ps s1 → Hands (now begun) 0 ws qs s4
     handing ws ps qs lss at d f p g a k h =
         hands 0 place place ws ps qs lss s1 s4 (omega arith) at d (three_with (λ w. lived_of (run_lead w)) (λ i a s. StopFills lens recover made begun index left ds i a s) (λ i w ks s. IsServing lens begun made left i w ks s) 0 ws (map waits_of ps) s1 f p) g all_go all_here a k h

@@ -21,7 +21,7 @@ use Rattle.master_duty.specs.of_segment_model.Slaves.{Access, Datagram, Found}
 use Rattle.master_duty.specs.of_task_model.Accounts as Accounts
 use Rattle.master_duty.specs.of_task_model.Accounts.{Account, duty_access}
 use Rattle.master_hand.specs.Laying.{scripted}
-use Rattle.master_hand.specs.Shown.{awaits_reply}
+use Rattle.master_hand.specs.Shown.{awaits_reply, knows}
 use Rattle.master_hand.specs.Spoken.{Asked, acknowledged, is_followed, is_passed}
 use Rattle.master_hand.specs.declared.hand.InHand.{InHand}
 use Rattle.master_side.specs.Passing.{PassingShows, counts_at, news_back}
@@ -45,7 +45,9 @@ use Rattle.master_tour.proofs.Passings.{nothing_told}
 use Rattle.master_tour.proofs.Unders.{SameAim, under_back}
 use Rattle.counters_kept.specs.of_news_kept.Counts.{counts_on}
 use Rattle.served_runs.specs.Served.{Serves, ServedTurn, served_behind}
+use Rattle.master_node.specs.Besides.{back_does, by_stop, stays}
 use Rattle.master_node.specs.Handed.{work_at}
+use Rattle.master_node.specs.Inhand.{HasInHand}
 use Rattle.master_node.specs.Named.{StaysNamed}
 use Rattle.master_node.specs.Serving.{IsServed, IsServedUnder, run_lead, run_turn, waits_of}
 use Rattle.master_node.specs.Shows.{GoesOn, GoesUnder, IsLived, is_opening_lead, lived_of, side_shows}
@@ -80,10 +82,9 @@ none_told : (x : Speech Body Asked Reply) (station : ℕ) (kept : Kept) (counts 
     passes_on x p (news_back station kept counts back) ≡ p
 none_told x station kept counts back awaits passing p a e s = (nothing_told x acknowledged is_followed is_passed station kept counts back awaits passing p a e s).is ∙ sym s.is
 
-still_told : {T : Type 0} (f : Option T → Option T) (station at : ℕ) (under : Bool) (carried : Carried) (h : Halves Body) (due : Option Access) (back : List (Datagram Body)) (p : Option T) → under ≡ false → Under station at under carried h due back →
-    (mine station back ≡ [] → f p ≡ p) → f p ≡ p
-still_told f station at under carried h due back p n (Under.none k e) g = g e
-still_told f station at under carried h due back p n (Under.has b k i e m) g = absurd (let bad = sym n ∙ k in cc)
+unread_none : (station at : ℕ) (under : Bool) (carried : Carried) (h : Halves Body) (due : Option Access) (back : List (Datagram Body)) → Under station at under carried h due back → under ≡ false → mine station back ≡ []
+unread_none station at under carried h due back (Under.none k e) n = e
+unread_none station at under carried h due back (Under.has b k i e m) n = absurd (let bad : true ≡ false = sym k ∙ n in cc)
 
 goes_by : (b p l : Bool) → (b ≡ true → l ≡ true) → l ≡ p → (b || p) ≡ l
 goes_by true p l on alike = sym (on refl)
@@ -136,6 +137,48 @@ stand_same lens spot made ns ms back (Some got) l Lives.Stand.Gone = refl
 abbrev CountsBehind : {G : Ghosts InHand} → ℕ → List (Datagram Body) → Stop InHand G → Stop InHand G → Life Body Asked Reply → Type 0
 CountsBehind made back s t l = (counts : Bool) → StopCounts s made counts → StopCounts t (suc made) (counts_on l.stand s.side.station s.side.pace made back counts)
 
+module _ (lens : ℕ → Lens) where
+  -- the life of a slave behind a frame of which this came back
+  abbrev pub life_behind : {G : Ghosts InHand} → ℕ → List (Datagram Body) → ServedTurn → Stop InHand G → Life Body Asked Reply
+  life_behind made back v s =
+      let a = v.turn.lived in
+      life_back (speech_at lens a.spot) acknowledged is_followed is_passed made a.spot (news_back a.spot.station v.kept v.counts back) back (came_at s.under s.at back) a.life a.life.stand
+
+  -- what its post has in hand then
+  abbrev pub InHandBehind : {G : Ghosts InHand} → ℕ → List (Datagram Body) → ServedTurn → Post → Stop InHand G → Stop InHand G → Type 0
+  InHandBehind made back v q s t = HasInHand (speech_at lens v.turn.lived.spot) (knows t.side.hand.course) (life_behind made back v s) (life_behind made back v s).stand q.work
+
+module _ (lens : ℕ → Lens) (recover made : ℕ) where
+  -- how far its mail has come, by whether an empty read counts
+  pub passes_behind : {G : Ghosts InHand} (octets : List ℕ) (back : List (Datagram Body)) (v : ServedTurn) (p : Post) (s t : Stop InHand G) → IsServedUnder lens recover octets made v p s →
+      StandPassing t.stand (awaits_reply t.side.hand.course t.side.hand.which t.side.hand.clients) t.side.passing
+      (life_back (speech_at lens v.turn.lived.spot) acknowledged is_followed is_passed made v.turn.lived.spot (news_back s.side.station v.kept (counts_at s.side.read_at s.side.pace made) back) back (came_at s.under s.at back) v.turn.lived.life v.turn.lived.life.stand) →
+      StandPassing t.stand (awaits_reply t.side.hand.course t.side.hand.which t.side.hand.clients) t.side.passing (life_behind lens made back v s)
+  passes_behind octets back v p s t i passes =
+      let l = v.turn.lived.life in
+      let spot = v.turn.lived.spot in
+      let h = i.served in
+      let same : l.stand ≡ Lives.Stand.Open → news_back s.side.station v.kept (counts_at s.side.read_at s.side.pace made) back ≡ news_back spot.station v.kept v.counts back = λ o.
+      (λ j. news_back (h.lives.planned.stands.station_is j) v.kept ((counts_is s.stand s.side.read_at s.side.pace made v.counts (open_stand (λ d b. side_shows lens recover s spot d b) spot s.stand l h.lives.shown.stood o) h.counts) j) back) in
+      subst (λ z. StandPassing t.stand (awaits_reply t.side.hand.course t.side.hand.which t.side.hand.clients) t.side.passing z) (news_same lens spot made _ (news_back spot.station v.kept v.counts back) back (came_at s.under s.at back) l same) passes
+
+  -- and where the frame had nothing of it
+  pub unread_behind : {G : Ghosts InHand} (octets back : List ℕ) (v : ServedTurn) (p : Post) (s : Stop InHand G) → IsServedUnder lens recover octets made v p s → Returns (seen lens octets) (seen lens back) → s.under ≡ false → v.turn.lived.life.stand ≡ Lives.Stand.Open →
+      (mine v.turn.lived.spot.station (seen lens back) ≡ []) × (passes_on (speech_at lens v.turn.lived.spot) v.turn.lived.life.era.passing (news_back v.turn.lived.spot.station v.kept v.counts (seen lens back)) ≡ v.turn.lived.life.era.passing)
+  unread_behind octets back v p s i r still o =
+      let l = v.turn.lived.life in
+      let spot = v.turn.lived.spot in
+      let h = i.served in
+      let station = h.lives.planned.stands.station_is in
+      let open_s = open_stand (λ d b. side_shows lens recover s spot d b) spot s.stand l h.lives.shown.stood o in
+      let none = unread_none _ s.at s.under s.side.carried _ _ _ (under_back s.side.station s.at s.under s.side.carried l.era.side.halves (duty_access l.era.account.hand) (seen lens octets) (seen lens back) r
+      (subst (λ z. StandUnder lens s.side.station s.at s.under s.side.carried z l (seen lens octets)) open_s i.way)) still in
+      let here = ap (λ z. mine z (seen lens back)) (sym station) ∙ none in (
+        here,
+        none_told (speech_at lens spot) spot.station v.kept v.counts (seen lens back) _ s.side.passing l.era.passing (seen_aims lens back spot.station (subst (λ z. nat_le 1 z ≡ true) station s.named)) here
+            (subst (λ z. StandPassing z (awaits_reply s.side.hand.course s.side.hand.which s.side.hand.clients) s.side.passing l) open_s h.passing),
+      )
+
 module _ (lens : ℕ → Lens) (recover retry : ℕ) where
   -- a frame that came back with these octets
   abbrev passed_so : Exchanged → List ℕ → Exchanged
@@ -151,9 +194,9 @@ module _ (lens : ℕ → Lens) (recover retry : ℕ) where
         StandPassing t.stand (awaits_reply t.side.hand.course t.side.hand.which t.side.hand.clients) t.side.passing
         (life_back (speech_at lens v.turn.lived.spot) acknowledged is_followed is_passed made v.turn.lived.spot (news_back s.side.station v.kept (counts_at s.side.read_at s.side.pace made) (seen lens back)) (seen lens back)
         (came_at s.under s.at (seen lens back)) v.turn.lived.life v.turn.lived.life.stand) →
-        CountsBehind made (seen lens back) s t v.turn.lived.life → t.side.pace ≡ s.side.pace → scripted t.side.hand.laying ≡ scripted s.side.hand.laying → waits_of q ≡ waits_of p → (b : Bool) → (b ≡ true → s.under ≡ false) → StaysNamed p.work q.work (b || is_some t.side.passing) →
+        CountsBehind made (seen lens back) s t v.turn.lived.life → t.side.pace ≡ s.side.pace → scripted t.side.hand.laying ≡ scripted s.side.hand.laying → waits_of q ≡ waits_of p → (b : Bool) → (b ≡ true → s.under ≡ false) → StaysNamed p.work q.work (b || is_some t.side.passing) → InHandBehind lens made (seen lens back) v q s t →
         IsServed lens recover (suc made) (served_behind lens recover retry gives made (passed_so f back) v) q t
-    served_so f octets back v p q s t i r lives passes counts pace script waits b still works =
+    served_so f octets back v p q s t i r lives passes counts pace script waits b still works inhand =
         let l = v.turn.lived.life in
         let spot = v.turn.lived.spot in
         let x = speech_at lens spot in
@@ -162,8 +205,6 @@ module _ (lens : ℕ → Lens) (recover retry : ℕ) where
         let share : record { under = s.under; at = s.at } ≡ v.turn.share = λ j. record { under = (sym i.under) j; at = (sym i.at) j } in
         let station = h.lives.planned.stands.station_is in
         let stands = open_stand (λ d b. side_shows lens recover s spot d b) spot s.stand l h.lives.shown.stood in
-        let same : l.stand ≡ Lives.Stand.Open → news_back s.side.station v.kept (counts_at s.side.read_at s.side.pace made) (seen lens back) ≡ news = λ o.
-        (λ j. news_back (station j) v.kept ((counts_is s.stand s.side.read_at s.side.pace made v.counts (stands o) h.counts) j) (seen lens back)) in
         let under : l.stand ≡ Lives.Stand.Open → Under spot.station s.at s.under s.side.carried l.era.side.halves (duty_access l.era.account.hand) (seen lens back) = λ o.
         subst (λ z. Under z s.at s.under s.side.carried l.era.side.halves (duty_access l.era.account.hand) (seen lens back)) station
         (under_back s.side.station s.at s.under s.side.carried l.era.side.halves (duty_access l.era.account.hand) (seen lens octets) (seen lens back) r
@@ -172,16 +213,14 @@ module _ (lens : ℕ → Lens) (recover retry : ℕ) where
         let lived = subst (λ z. IsLived lens recover (lived_back x acknowledged is_followed is_passed made (seen lens back) v.turn.lived z news) t) share (lives news) in
         let passing = subst (λ (z : Share). StandPassing t.stand (awaits_reply t.side.hand.course t.side.hand.which t.side.hand.clients) t.side.passing
         (life_back x acknowledged is_followed is_passed made spot news (seen lens back) (came_at z.under z.at (seen lens back)) l l.stand)) share
-        (subst (λ z. StandPassing t.stand (awaits_reply t.side.hand.course t.side.hand.which t.side.hand.clients) t.side.passing z) (news_same lens spot made _ news (seen lens back) (came_at s.under s.at (seen lens back)) l same) passes) in
+        (passes_behind lens recover made octets (seen lens back) v p s t i passes) in
         let goes : (key : ℕ) → p.work ≡ Work.Passed key → (b || is_some t.side.passing) ≡ is_some (life_back x acknowledged is_followed is_passed made spot news (seen lens back) came l l.stand).era.passing = λ key e.
         (let n = h.handed.named key e in
         let opens = stays_open x made spot news (seen lens back) came l l.stand n.opened n.opened n.alone in
         let alike = waits_alike t.stand _ t.side.passing _ passing (open_stand _ spot t.stand _ lived.shown.stood opens.0) in
         let on : b ≡ true → is_some (life_back x acknowledged is_followed is_passed made spot news (seen lens back) came l l.stand).era.passing ≡ true = λ y.
         ap (λ (z : Option _). is_some z) (back_passing x made spot news (seen lens back) came l l.stand n.opened
-        ∙ still_told (λ z. passes_on x z news) spot.station s.at s.under s.side.carried l.era.side.halves (duty_access l.era.account.hand) (seen lens back) l.era.passing (still y) (under n.opened)
-        (λ none. none_told x spot.station v.kept v.counts (seen lens back) _ s.side.passing l.era.passing (seen_aims lens back spot.station (subst (λ z. nat_le 1 z ≡ true) station s.named)) none
-        (subst (λ z. StandPassing z (awaits_reply s.side.hand.course s.side.hand.which s.side.hand.clients) s.side.passing l) (stands n.opened) h.passing))) ∙ n.passing in
+        ∙ (unread_behind lens recover made octets back v p s i r (still y) n.opened).1) ∙ n.passing in
         goes_by b _ _ on alike) in
         record {
           lives = lived;
@@ -196,6 +235,7 @@ module _ (lens : ℕ → Lens) (recover retry : ℕ) where
           waits = waits ∙ h.waits;
           fits = h.fits;
           handed = back_handed x made spot news (seen lens back) came l p.work q.work v.hand (accepted_in spot l (seen lens back)) h.handed (stays_where p.work q.work (b || is_some t.side.passing) _ goes works);
+          inhand = subst (λ (z : Share). (let m = life_back x acknowledged is_followed is_passed made spot news (seen lens back) (came_at z.under z.at (seen lens back)) l l.stand in HasInHand x (knows t.side.hand.course) m m.stand q.work)) share inhand;
         }
 
     -- a slave with a mail in hand stays open
@@ -212,31 +252,35 @@ module _ (lens : ℕ → Lens) (recover retry : ℕ) where
         StandPassing t.stand (awaits_reply t.side.hand.course t.side.hand.which t.side.hand.clients) t.side.passing
         (life_back (speech_at lens v.turn.lived.spot) acknowledged is_followed is_passed made v.turn.lived.spot (news_back s.side.station v.kept (counts_at s.side.read_at s.side.pace made) (seen lens back)) (seen lens back)
         (came_at s.under s.at (seen lens back)) v.turn.lived.life v.turn.lived.life.stand) →
-        CountsBehind made (seen lens back) s t v.turn.lived.life → t.side.pace ≡ s.side.pace → scripted t.side.hand.laying ≡ scripted s.side.hand.laying → waits_of q ≡ waits_of p → (still : Bool) → (still ≡ true → s.under ≡ false) → StaysNamed p.work q.work (still || is_some t.side.passing) →
+        CountsBehind made (seen lens back) s t v.turn.lived.life → t.side.pace ≡ s.side.pace → scripted t.side.hand.laying ≡ scripted s.side.hand.laying → waits_of q ≡ waits_of p → (still : Bool) → (still ≡ true → s.under ≡ false) → StaysNamed p.work q.work (still || is_some t.side.passing) → InHandBehind lens made (seen lens back) v q s t →
         IsServed lens recover (suc made) (served_behind lens recover retry gives made f v) q t
-    served_back f octets back v p q s t is b i r lives passes counts pace script waits still unread works =
-        subst (λ (z : Exchanged). IsServed lens recover (suc made) (served_behind lens recover retry gives made z v) q t) (sym (so_is f back is b)) (served_so f octets back v p q s t i r lives passes counts pace script waits still unread works)
+    served_back f octets back v p q s t is b i r lives passes counts pace script waits still unread works inhand =
+        subst (λ (z : Exchanged). IsServed lens recover (suc made) (served_behind lens recover retry gives made z v) q t) (sym (so_is f back is b)) (served_so f octets back v p q s t i r lives passes counts pace script waits still unread works inhand)
+
+    -- what the posts have in hand behind a frame that visited but these
+    abbrev pub behind_at : {G : Ghosts InHand} → (ℕ → ℕ) → (ℕ → Bool) → List Post → List (Stop InHand G) → ℕ → Work
+    behind_at at still ps ts k = if still k then work_at ps k else (by_stop (stays (work_at ps k)) (λ t. back_does (at k) t (work_at ps k)) ts k).work
 
     module _ (f : Exchanged) where
       -- all of them
-      pub all_served : {G : Ghosts InHand} (octets : List ℕ) (T : Lived Asked Reply → Stop InHand G → Stop InHand G → Type 0) (E : Stop InHand G → Stop InHand G → Type 0) (still : ℕ → Bool) (vs : List ServedTurn) (ps qs : List Post) (ss ts : List (Stop InHand G)) →
-          ((k : ℕ) → still k ≡ true → holds_at (λ s. s.under) ss k ≡ false) → ((k : ℕ) → StaysNamed (work_at ps k) (work_at qs k) (still k || holds_at (λ t. is_some t.side.passing) ts k)) →
+      pub all_served : {G : Ghosts InHand} (octets : List ℕ) (T : Lived Asked Reply → Stop InHand G → Stop InHand G → Type 0) (E : Stop InHand G → Stop InHand G → Type 0) (at : ℕ → ℕ) (still : ℕ → Bool) (vs : List ServedTurn) (ps qs : List Post) (ss ts : List (Stop InHand G)) →
+          ((k : ℕ) → still k ≡ true → holds_at (λ s. s.under) ss k ≡ false) → ((k : ℕ) → StaysNamed (work_at ps k) (work_at qs k) (still k || holds_at (λ t. is_some t.side.passing) ts k)) → ((k : ℕ) → work_at qs k ≡ behind_at at still ps ts k) →
           AllThree (λ v p s. IsServedUnder lens recover octets made v p s) vs ps ss → map waits_of qs ≡ map waits_of ps → AllThree T (map (λ v. v.turn.lived) vs) ss ts → EachPair E ss ts →
-          ((v : ServedTurn) (p q : Post) (s t : Stop InHand G) → IsServedUnder lens recover octets made v p s → waits_of q ≡ waits_of p → (b : Bool) → (b ≡ true → s.under ≡ false) → StaysNamed p.work q.work (b || is_some t.side.passing) → T v.turn.lived s t → E s t → IsServed lens recover (suc made) (served_behind lens recover retry gives made f v) q t) →
+          ((v : ServedTurn) (p q : Post) (s t : Stop InHand G) → IsServedUnder lens recover octets made v p s → waits_of q ≡ waits_of p → (b : Bool) → (b ≡ true → s.under ≡ false) → StaysNamed p.work q.work (b || is_some t.side.passing) → (k : ℕ) → q.work ≡ (if b then p.work else (back_does k t p.work).work) → T v.turn.lived s t → E s t → IsServed lens recover (suc made) (served_behind lens recover retry gives made f v) q t) →
           AllThree (λ w q t. IsServed lens recover (suc made) w q t) (map (served_behind lens recover retry gives made f) vs) qs ts
-      all_served octets T E still [] [] [] [] [] u g i w t e h = tt
-      all_served octets T E still [] [] [] [] (y ∷ ts) u g i w t e h = absurd e
-      all_served octets T E still [] [] (q ∷ qs) [] ts u g i w t e h = absurd (cc)
-      all_served octets T E still [] [] qs (s ∷ ss) ts u g i w t e h = absurd i
-      all_served octets T E still [] (p ∷ ps) qs [] ts u g i w t e h = absurd i
-      all_served octets T E still [] (p ∷ ps) qs (s ∷ ss) ts u g i w t e h = absurd i
-      all_served octets T E still (v ∷ vs) [] qs [] ts u g i w t e h = absurd i
-      all_served octets T E still (v ∷ vs) [] qs (s ∷ ss) ts u g i w t e h = absurd i
-      all_served octets T E still (v ∷ vs) (p ∷ ps) qs [] ts u g i w t e h = absurd i
-      all_served octets T E still (v ∷ vs) (p ∷ ps) [] (s ∷ ss) ts u g i w t e h = absurd (cc)
-      all_served octets T E still (v ∷ vs) (p ∷ ps) (q ∷ qs) (s ∷ ss) [] u g i w t e h = absurd e
-      all_served octets T E still (v ∷ vs) (p ∷ ps) (q ∷ qs) (s ∷ ss) (y ∷ ts) u g i w t e h =
-          (h v p q s y i.0 (ap (first (waits_of p)) w) (still zero) (u zero) (g zero) t.0 e.0, all_served octets T E (λ k. still (suc k)) vs ps qs ss ts (λ k. u (suc k)) (λ k. g (suc k)) i.1 (ap rest w) t.1 e.1 h)
+      all_served octets T E at still [] [] [] [] [] u g a i w t e h = tt
+      all_served octets T E at still [] [] [] [] (y ∷ ts) u g a i w t e h = absurd e
+      all_served octets T E at still [] [] (q ∷ qs) [] ts u g a i w t e h = absurd (cc)
+      all_served octets T E at still [] [] qs (s ∷ ss) ts u g a i w t e h = absurd i
+      all_served octets T E at still [] (p ∷ ps) qs [] ts u g a i w t e h = absurd i
+      all_served octets T E at still [] (p ∷ ps) qs (s ∷ ss) ts u g a i w t e h = absurd i
+      all_served octets T E at still (v ∷ vs) [] qs [] ts u g a i w t e h = absurd i
+      all_served octets T E at still (v ∷ vs) [] qs (s ∷ ss) ts u g a i w t e h = absurd i
+      all_served octets T E at still (v ∷ vs) (p ∷ ps) qs [] ts u g a i w t e h = absurd i
+      all_served octets T E at still (v ∷ vs) (p ∷ ps) [] (s ∷ ss) ts u g a i w t e h = absurd (cc)
+      all_served octets T E at still (v ∷ vs) (p ∷ ps) (q ∷ qs) (s ∷ ss) [] u g a i w t e h = absurd e
+      all_served octets T E at still (v ∷ vs) (p ∷ ps) (q ∷ qs) (s ∷ ss) (y ∷ ts) u g a i w t e h =
+          (h v p q s y i.0 (ap (first (waits_of p)) w) (still zero) (u zero) (g zero) (at zero) (a zero) t.0 e.0, all_served octets T E (λ k. at (suc k)) (λ k. still (suc k)) vs ps qs ss ts (λ k. u (suc k)) (λ k. g (suc k)) (λ k. a (suc k)) i.1 (ap rest w) t.1 e.1 h)
         where
           first : {A : Type 0} → A → List A → A
           first a [] = a

@@ -13,14 +13,15 @@ use Rattle.master_duty.specs.of_segment_model.Record.{nothing_kept}
 use Rattle.master_tour.specs.Counting.{StandCounts}
 use Rattle.master_tour.specs.Passing.{StandPassing}
 use Rattle.master_tour.specs.declared.stop.Stand.{Stand}
-use Rattle.master_tour.specs.of_life_model.Lives.{Life}
+use Rattle.master_tour.specs.of_life_model.Lives.{Life, new_life}
 use Rattle.counters_kept.specs.of_news_kept.Counts.{CountsAt}
 use Rattle.counters_kept.proofs.of_news_kept.Kepts.{new_kept}
 use Rattle.segment_plan.specs.declared.service.Service as Plan
 use Rattle.segment_plan.specs.declared.slave.SlaveSpec.{SlaveSpec}
 use Rattle.life_runs.specs.of_frame_view.View.{Lens}
 use Rattle.life_runs.specs.of_life_frames.Shares.{AllBoth, AllThree}
-use Rattle.life_runs.specs.Led.{Leads}
+use Rattle.life_runs.specs.Led.{Leads, speech_at}
+use Rattle.master_hand.specs.Shown.{knows}
 use Rattle.master_hand.specs.declared.hand.InHand.{InHand}
 use Rattle.master_side.specs.declared.hand.Hand.{Ghosts}
 use Rattle.master_side.specs.of_mailbox_mail.declared.mail.Mail.{Mail}
@@ -28,6 +29,7 @@ use Rattle.master_tour.specs.Walks.{StepsAt}
 use Rattle.master_tour.specs.declared.stop.Stop.{Stop}
 use Rattle.served_runs.specs.Served.{Keyed, Serves, MayAsk, asked_at, all_serve, new_serves}
 use Rattle.master_node.specs.Appends.{AppendsMail}
+use Rattle.master_node.specs.Inhand.{HasInHand}
 use Rattle.master_node.specs.Lives.{waiting_at}
 use Rattle.master_node.specs.Named.{IsHanded}
 use Rattle.master_node.specs.Serving.{FitsAt, IsAsked, IsPaced, IsServed, MayPass, TellsOnly, run_lead, waits_of}
@@ -36,6 +38,7 @@ use Rattle.master_node.specs.declared.node.MasterNode.{MasterNode}
 use Rattle.master_node.specs.declared.post.Asked.{Asked}
 use Rattle.master_node.specs.declared.post.Post.{Post}
 use Rattle.master_node.specs.declared.post.Work.{Work}
+use Rattle.master_node.proofs.Inhand.{new_inhand}
 
 abbrev EachOf : {T : Type 0} → (T → Type 0) → List T → Type 0
 EachOf P [] = ⊤
@@ -81,6 +84,7 @@ module _ {G : Ghosts InHand} (lens : ℕ → Lens) (recover made key : ℕ) (mai
     waits = ap (map keyed) a.waits ∙ keyed_more p.mails.items (a.asked ∷ []) ∙ ap (λ z. z ++ keyed a.asked ∷ []) h.waits;
     fits = All-push (λ k. MayPass (lens w.lead.lived.spot.station).out k) w.waits (keyed a.asked) h.fits (a.bare.0, a.bare.1, subst (λ z. 6 + length z ≤ (lens w.lead.lived.spot.station).out) (sym a.body) f);
     handed = subst (λ z. IsHanded z w.hand w.lead.lived.life) (sym o) h.handed;
+    inhand = subst (λ z. HasInHand (speech_at lens w.lead.lived.spot) (knows s.side.hand.course) w.lead.lived.life w.lead.lived.life.stand z) (sym o) h.inhand;
   }
 
   pub asked_so : (place : ℕ) (ws : List Serves) (ps qs : List Post) (ss : List (Stop InHand G)) → waiting_at ps place < 64 → FitsAt lens place (length mail.body.items) ws → AllThree (λ w p s. IsServed lens recover made w p s) ws ps ss →
@@ -143,9 +147,13 @@ lives_all (pace ∷ paces) [] = refl
 lives_all [] (a ∷ as') = ap (λ z. a.lived ∷ z) (lives_all [] as')
 lives_all (pace ∷ paces) (a ∷ as') = ap (λ z. a.lived ∷ z) (lives_all paces as')
 
-pub leads_kept : (rows : List (ℕ × Plan.Service)) (place : ℕ) (specs : List SlaveSpec) → EachOf (λ a. LifeKept nothing_kept a.lived.life) (leads_from rows place specs)
+-- a life before the first frame
+abbrev pub IsNewLife : Life Body Talk.Asked Reply → Type 0
+IsNewLife l = (state : ℕ) × (l ≡ new_life state)
+
+pub leads_kept : (rows : List (ℕ × Plan.Service)) (place : ℕ) (specs : List SlaveSpec) → EachOf (λ a. LifeKept nothing_kept a.lived.life × IsNewLife a.lived.life) (leads_from rows place specs)
 leads_kept rows place [] = tt
-leads_kept rows place (s ∷ ss) = (λ e. new_kept, leads_kept rows (suc place) ss)
+leads_kept rows place (s ∷ ss) = ((λ e. new_kept, (_, refl)), leads_kept rows (suc place) ss)
 
 pub none_some : {T : Type 0} (o : Option T) → o ≡ None → is_some o ≡ true → ⊥
 none_some None e t = absurd (cc)
@@ -170,8 +178,8 @@ none_counts Stand.Open at pace e = subst (λ z. CountsAt z pace 0 true) (sym e) 
 none_counts Stand.Gone at pace e = tt
 
 module _ {G : Ghosts InHand} (lens : ℕ → Lens) (recover : ℕ) where
-  first_served : (pace : ℕ) (a : Leads) (p : Post) (s : Stop InHand G) → IsLead lens recover a s → IsPaced pace s → WaitsNone p → p.work ≡ Work.Nothing → LifeKept nothing_kept a.lived.life → IsServed lens recover 0 (new_serves pace a) p s
-  first_served pace a p s l n w o k = record {
+  first_served : (pace : ℕ) (a : Leads) (p : Post) (s : Stop InHand G) → IsLead lens recover a s → IsPaced pace s → WaitsNone p → p.work ≡ Work.Nothing → LifeKept nothing_kept a.lived.life → IsNewLife a.lived.life → IsServed lens recover 0 (new_serves pace a) p s
+  first_served pace a p s l n w o k new = record {
     lives = l.lives;
     script = l.script;
     number = l.number;
@@ -183,10 +191,12 @@ module _ {G : Ghosts InHand} (lens : ℕ → Lens) (recover : ℕ) where
     waits = ap (map keyed) w;
     fits = All-nil (λ k. MayPass (lens a.lived.spot.station).out k);
     handed = record { named = λ key e. absurd (let bad = sym o ∙ e in cc); only = λ i t. absurd (none_some a.lived.life.era.passing l.own t) };
+    inhand = subst (λ z. HasInHand (speech_at lens a.lived.spot) (knows s.side.hand.course) a.lived.life a.lived.life.stand z) (sym o)
+        (subst (λ (z : Life Body Talk.Asked Reply). HasInHand (speech_at lens a.lived.spot) (knows s.side.hand.course) z z.stand Work.Nothing) (sym new.1) (new_inhand (speech_at lens a.lived.spot) (knows s.side.hand.course) new.0));
   }
 
   pub firsts_served : (paces : List ℕ) (as' : List Leads) (ps : List Post) (ss : List (Stop InHand G)) → AllBoth (λ a s. IsLead lens recover a s) as' ss → AllBoth (λ pace s. IsPaced pace s) paces ss → All WaitsNone ps → All (λ p. p.work ≡ Work.Nothing) ps → length ps ≡ length ss →
-      EachOf (λ a. LifeKept nothing_kept a.lived.life) as' → AllThree (λ w p s. IsServed lens recover 0 w p s) (all_serve paces as') ps ss
+      EachOf (λ a. LifeKept nothing_kept a.lived.life × IsNewLife a.lived.life) as' → AllThree (λ w p s. IsServed lens recover 0 w p s) (all_serve paces as') ps ss
   firsts_served [] [] [] [] l n w o e k = tt
   firsts_served (pace ∷ paces) [] [] [] l n w o e k = absurd n
   firsts_served paces [] (p ∷ ps) [] l n w o e k = absurd (omega (arith, e))
@@ -194,4 +204,4 @@ module _ {G : Ghosts InHand} (lens : ℕ → Lens) (recover : ℕ) where
   firsts_served paces (a ∷ as') ps [] l n w o e k = absurd l
   firsts_served paces (a ∷ as') [] (s ∷ ss) l n w o e k = absurd (omega (arith, e))
   firsts_served [] (a ∷ as') (p ∷ ps) (s ∷ ss) l n w o e k = absurd n
-  firsts_served (pace ∷ paces) (a ∷ as') (p ∷ ps) (s ∷ ss) l n w o e k = (first_served pace a p s l.0 n.0 (All-head WaitsNone p ps w) (All-head (λ p. p.work ≡ Work.Nothing) p ps o) k.0, firsts_served paces as' ps ss l.1 n.1 (All-tail WaitsNone p ps w) (All-tail (λ p. p.work ≡ Work.Nothing) p ps o) (omega (arith, e)) k.1)
+  firsts_served (pace ∷ paces) (a ∷ as') (p ∷ ps) (s ∷ ss) l n w o e k = (first_served pace a p s l.0 n.0 (All-head WaitsNone p ps w) (All-head (λ p. p.work ≡ Work.Nothing) p ps o) k.0.0 k.0.1, firsts_served paces as' ps ss l.1 n.1 (All-tail WaitsNone p ps w) (All-tail (λ p. p.work ≡ Work.Nothing) p ps o) (omega (arith, e)) k.1)

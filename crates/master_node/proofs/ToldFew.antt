@@ -1,5 +1,5 @@
 -- HOW MUCH A FRAME TELLS at most.
-use Rattle.std.proofs.Common.{◌≤◌, ◌+◌, ◌*◌, ℕ, zero, suc, Bool, true, false, Option, Some, None, List, [], ◌∷◌, ◌++◌, arith, length}
+use Rattle.std.proofs.Common.{◌≡◌, ap, ◌∙◌, ◌≤◌, ◌+◌, ◌*◌, ℕ, zero, suc, Bool, true, false, Option, Some, None, List, [], ◌∷◌, ◌++◌, arith, length}
 use Rattle.std.proofs.lemmas.List.{length-append}
 use Rattle.mailbox_mail.specs.declared.mail.Mail.{Mail}
 use Rattle.mailbox_mail.specs.declared.outcome.ReplyKind.{ReplyKind}
@@ -11,13 +11,15 @@ use Rattle.master_side.specs.Free.{is_free_side}
 use Rattle.master_side.specs.declared.hand.Hand.{Ghosts}
 use Rattle.master_side.specs.declared.hand.Heard.{Heard}
 use Rattle.master_side.specs.declared.passing.Passing.{Passing}
+use Rattle.master_tour.specs.declared.stop.Stand.{Stand}
 use Rattle.master_tour.specs.declared.stop.Stop.{Stop}
 use Rattle.master_tour.specs.declared.stop.Turned.{Turned}
 use Rattle.master_hand.specs.Hears.{answer_kept}
-use Rattle.master_node.specs.Besides.{Does, answered_does, back_does, by_stop, emergency_told, given_at, given_told, handed_where, heard_does, mail_does, met_where, over_does, passed_where, reply_told, stays, turned_where}
+use Rattle.master_node.specs.Besides.{Does, TellsAll, answered_does, back_does, by_stop, emergency_told, given_at, given_told, handed_where, heard_does, mail_does, met_at, met_where, over_does, passed_where, reply_told, stays, turned_where}
 use Rattle.master_node.specs.Handed.{work_at}
-use Rattle.master_node.specs.Listing.{told_in}
+use Rattle.master_node.specs.Listing.{events_in, told_in}
 use Rattle.master_node.specs.declared.event.Event.{Event}
+use Rattle.master_node.specs.declared.node.MasterNode.{MasterNode}
 use Rattle.master_node.specs.declared.post.Post.{Post}
 use Rattle.master_node.specs.declared.post.Work.{Work}
 
@@ -29,6 +31,10 @@ told_five tells h (p ∷ ps) = omega (arith, length-append (tells p) (told_in te
 pub told_one : (tells : ℕ → List Event) → ((k : ℕ) → length (tells k) ≤ 1) → (ps : List ℕ) → length (told_in tells ps) ≤ length ps
 told_one tells h [] = omega arith
 told_one tells h (p ∷ ps) = omega (arith, length-append (tells p) (told_in tells ps), h p, told_one tells h ps)
+
+-- just these are listed, where what was listed before the step leaves room for them
+pub just_told : {m n : MasterNode} (es : List Event) (before : ℕ) → TellsAll es m n → before ≤ 16 → m.list.count ≡ before → events_in m ≡ [] → length es ≤ 80 → events_in n ≡ es
+just_told es before t few is last most = t.told (omega (arith, is, few, most)) ∙ ap (λ z. z ++ es) last
 
 -- of whichever slave stands there
 stop_all : {A : Type 0} {G : Ghosts InHand} (P : A → Type 0) (none : A) (does : Stop InHand G → A) → P none → ((s : Stop InHand G) → P (does s)) → (ss : List (Stop InHand G)) (k : ℕ) → P (by_stop none does ss k)
@@ -93,6 +99,11 @@ met_three place news (Some (Met.On duty)) w = one_more place news (met_where pla
 met_three place news (Some Met.Reached) w = one_more place news (met_where place (Some Met.Reached) w) (omega arith)
 met_three place news (Some (Met.Refused code)) w = one_more place news (met_where place (Some (Met.Refused code)) w) (omega arith)
 
+stood_three : (place : ℕ) (news : Option Turned) (stand : Stand) (o : Option Met) (w : Work) → ThreeBy place news (met_at place stand o w)
+stood_three place news (Stand.Opening up) o w = one_more place news (stays w) (omega arith)
+stood_three place news Stand.Open o w = met_three place news o w
+stood_three place news Stand.Gone o w = one_more place news (stays w) (omega arith)
+
 passed_three : (place key : ℕ) (news : Option Turned) (p : Option Passing) (w : Work) → ThreeBy place news (passed_where place key p w)
 passed_three place key news None w = omega (arith, turned_one place news)
 passed_three place key news (Some p) w = one_more place news (passed_where place key (Some p) w) (omega arith)
@@ -102,7 +113,7 @@ over_three place s Work.Nothing = one_more place s.news (over_does place s Work.
 over_three place s Work.Mails = one_more place s.news (over_does place s Work.Mails) (omega arith)
 over_three place s Work.Packet = handed_three place s.news (is_free_side s.side) Work.Packet
 over_three place s (Work.Passed key) = passed_three place key s.news s.side.passing (Work.Passed key)
-over_three place s Work.State = met_three place s.news s.side.duty Work.State
+over_three place s Work.State = stood_three place s.news s.stand s.side.duty Work.State
 
 -- FIVE EVENTS A SLAVE
 back_five : {G : Ghosts InHand} (place : ℕ) (s : Stop InHand G) (w : Work) → length (back_does place s w).told ≤ 5

@@ -1,5 +1,5 @@
 -- WHAT A STEP TELLS, by what the posts have in hand and by the sides of their slaves.
-use Rattle.std.specs.Prelude.{◌≡◌, ◌≤◌, ◌+◌, ◌==◌, ℕ, zero, suc, Bool, true, false, Option, Some, None, List, [], ◌∷◌, ◌++◌, length}
+use Rattle.std.specs.Prelude.{not, if◌then◌else◌, ◌≡◌, ◌≤◌, ◌+◌, ◌==◌, ℕ, zero, suc, Bool, true, false, Option, Some, None, List, [], ◌∷◌, ◌++◌, length}
 use Rattle.mailbox_mail.specs.declared.mail.Mail.{Mail}
 use Rattle.mailbox_mail.specs.declared.outcome.ReplyKind.{ReplyKind}
 use Rattle.master_duty.specs.declared.stage.Met.{Met}
@@ -11,6 +11,8 @@ use Rattle.master_side.specs.Free.{is_free_side}
 use Rattle.master_side.specs.declared.hand.Hand.{Ghosts}
 use Rattle.master_side.specs.declared.hand.Heard.{Heard}
 use Rattle.master_side.specs.declared.passing.Passing.{Passing}
+use Rattle.master_tour.specs.Made.{is_in}
+use Rattle.master_tour.specs.declared.stop.Stand.{Stand}
 use Rattle.master_tour.specs.declared.stop.Stop.{Stop}
 use Rattle.master_tour.specs.declared.stop.Turned.{Turned}
 use Rattle.master_hand.specs.Hears.{answer_kept}
@@ -133,8 +135,14 @@ met_where place (Some (Met.On duty)) work = stays work
 met_where place (Some Met.Reached) work = answers place ReplyKind.Done
 met_where place (Some (Met.Refused code)) work = answers place (ReplyKind.StateRefused code)
 
+-- of an open slave; one that is opened answers it once it is open
+abbrev pub met_at : ℕ → Stand → Option Met → Work → Does
+met_at place (Stand.Opening up) duty work = stays work
+met_at place Stand.Open duty work = met_where place duty work
+met_at place Stand.Gone duty work = stays work
+
 abbrev pub met_does : {G : Ghosts InHand} → ℕ → Stop InHand G → Work → Does
-met_does place s work = met_where place s.side.duty work
+met_does place s work = met_at place s.stand s.side.duty work
 
 -- WHAT IS IN HAND MAY BE OVER, where it has no reply by mails of its own
 abbrev pub over_does : {G : Ghosts InHand} → ℕ → Stop InHand G → Work → Does
@@ -174,6 +182,10 @@ back_does place s work = then_does (then_does (heard_does place s.side.heard s w
 -- what is told of the slave at a place
 abbrev pub back_told : MasterNode → ℕ → List Event
 back_told m k = (does_at (λ s w. back_does k s w) m k).told
+
+-- BEHIND IT the posts of the slaves that it carried have in hand what that leaves, and all others what they had
+abbrev pub HasBack : MasterNode → MasterNode → Type 0
+HasBack m n = (k : ℕ) → work_at n.posts.items k ≡ (if not (is_in k m.tour.visit.items) then work_at m.posts.items k else (does_at (λ s w. back_does k s w) m k).work)
 
 -- A SLAVE WAS GIVEN UP, or wasn't
 abbrev pub given_told : ℕ → Option Turned → List Event

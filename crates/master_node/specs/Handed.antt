@@ -1,5 +1,7 @@
 -- WHAT A POST HAS IN HAND of a mail that is passed on: as it is laid ready, as it comes into hand, and behind a frame.
 use Rattle.std.specs.Prelude.{◌≡◌, ◌⊎◌, ◌&&◌, ◌||◌, not, ℕ, zero, suc, Bool, if◌then◌else◌, is_some, Option, Some, None, List, [], ◌∷◌, ⊤}
+use Rattle.life_runs.specs.Led.{speech_at}
+use Rattle.life_runs.specs.of_frame_view.View.{Lens}
 use Rattle.master_duty.specs.Reply.{Reply}
 use Rattle.master_duty.specs.of_state_exchange.Stated.{Service}
 use Rattle.master_duty.specs.of_task_model.Accounts.{Duty}
@@ -15,6 +17,7 @@ use Rattle.master_tour.specs.of_life_model.Lives.{Life}
 use Rattle.served_runs.specs.Served.{Keyed, Serves}
 use Rattle.served_runs.specs.Told.{Passed}
 pub use Rattle.master_node.specs.Named.{IsHanded, IsNamed, StaysNamed, is_left}
+use Rattle.master_node.specs.Inhand.{HasInHand, WorkOf}
 use Rattle.master_node.specs.Serving.{waits_of}
 use Rattle.master_node.specs.declared.coming.Coming.{Coming}
 use Rattle.master_node.specs.declared.post.Post.{Post}
@@ -66,10 +69,12 @@ pub record HasBegun (old : Life Body Asked Reply) (begun : Option (Service Asked
   pub passing : new.era.passing ≡ passing_behind is_passed old.era.passing begun
   pub duty : IsDuty old.era.account.hand begun new.era.account.hand
 
--- A POST WHILE A FRAME IS MADE: what came into hand of its slave so far it has in hand too
-abbrev pub IsHanding : (ℕ → Option (Service Asked)) → Serves → Work → Type 0
-IsHanding begun w work =
-    (l : Life Body Asked Reply) → HasBegun w.lead.lived.life (begun w.lead.lived.spot.place) l → IsHanded work (hand_behind w.waits w.hand (begun w.lead.lived.spot.place)) l
+-- A POST WHILE A FRAME IS MADE: what came into hand of its slave so far it has in hand too, or what it had before; `known` is whether the hand knows its mails
+pub record IsHanding (lens : ℕ → Lens) (begun : ℕ → Option (Service Asked)) (w : Serves) (work : Work) (known : Bool) : Type 0 where
+  pub handed : (l : Life Body Asked Reply) → HasBegun w.lead.lived.life (begun w.lead.lived.spot.place) l → IsHanded work (hand_behind w.waits w.hand (begun w.lead.lived.spot.place)) l
+  pub old : Work
+  pub was : HasInHand (speech_at lens w.lead.lived.spot) known w.lead.lived.life w.lead.lived.life.stand old
+  pub came : WorkOf (begun w.lead.lived.spot.place) old work
 
 -- what the post of the slave at a place has in hand; nothing where none stands
 abbrev pub work_at : List Post → ℕ → Work

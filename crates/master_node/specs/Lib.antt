@@ -47,6 +47,7 @@ pub mod Arrivals
 pub mod Eager
 pub mod Resting
 pub mod Named
+pub mod Inhand
 pub mod Serving
 pub mod Events
 pub mod Passes
@@ -55,3 +56,4 @@ pub mod Dropped
 pub mod Entering
 pub mod Starts
 pub mod Recalled
+pub mod Backtold

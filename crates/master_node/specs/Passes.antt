@@ -8,7 +8,7 @@ use Rattle.life_runs.specs.of_life_frames.Shares.{AllBoth}
 use Rattle.master_duty.specs.Reply.{Reply}
 use Rattle.master_duty.specs.of_state_exchange.Stated as Stated
 use Rattle.master_hand.specs.Laying.{Waiting, ready_of}
-use Rattle.master_hand.specs.Shown.{awaits_reply}
+use Rattle.master_hand.specs.Shown.{awaits_reply, knows}
 use Rattle.master_hand.specs.Spoken.{Asked, is_passed, passed}
 use Rattle.master_hand.specs.declared.hand.InHand.{InHand}
 use Rattle.master_hand.specs.declared.laying.Laid.{Laid}
@@ -113,7 +113,7 @@ module _ (lens : ℕ → Lens) where
       pub begun : ℕ → Option (Stated.Service Asked)
       pub frame : FrameMade (λ ds i a s. StopFills lens recover made begun (m.made % 256) left ds i a s) octets m.tour.count (map (λ w. lived_of (run_lead w)) ws) m.tour.stops.items
       pub each : ThreeFrom (λ i w ks s. IsServing begun made left i w ks s) 0 ws (mails_in m) m.tour.stops.items
-      pub handed : AllBoth (λ w p. IsHanding begun w p.work) ws m.posts.items
+      pub handed : ThreeFrom (λ i w p s. IsHanding lens begun w p.work (knows s.side.hand.course)) 0 ws m.posts.items m.tour.stops.items
       pub numbered : AllBoth (λ w p. IsNumbered (length w.asked) p) ws m.posts.items
       pub listing : HasListed (served_tells ws) forwards left begun (map run_lead ws) m
 

@@ -1,11 +1,11 @@
 -- A MASTER LEADS THE LIVES OF ITS SLAVES ALSO WHILE MAILS ARE PASSED ON: what it has of each then, before a frame and while one is under way.
 use Rattle.std.specs.Prelude.{◌≡◌, ◌≤◌, ◌<◌, ◌+◌, ◌^◌, ℕ, zero, suc, true, None, List, [], ◌∷◌, map, length, All}
 use Rattle.counters_kept.specs.Lives.{LifeKept}
-use Rattle.life_runs.specs.Led.{Leads, Turn}
+use Rattle.life_runs.specs.Led.{Leads, Turn, speech_at}
 use Rattle.life_runs.specs.of_frame_view.View.{Lens}
 use Rattle.life_runs.specs.of_frame_view.Seen.{seen}
 use Rattle.life_runs.specs.of_life_frames.Shares.{AllBoth, AllThree, AreDistinct}
-use Rattle.master_hand.specs.Shown.{awaits_reply}
+use Rattle.master_hand.specs.Shown.{awaits_reply, knows}
 use Rattle.master_hand.specs.declared.hand.InHand.{InHand}
 use Rattle.master_side.specs.declared.hand.Hand.{Ghosts}
 use Rattle.master_side.specs.of_mailbox_mail.declared.mail.Mail.{Mail}
@@ -16,6 +16,7 @@ use Rattle.master_tour.specs.Passing.{StandPassing}
 use Rattle.master_tour.specs.Stands.{StandUnder}
 use Rattle.master_tour.specs.declared.stop.Stop.{Stop}
 use Rattle.served_runs.specs.Served.{Keyed, Serves, ServedTurn}
+use Rattle.master_node.specs.Inhand.{HasInHand}
 use Rattle.master_node.specs.Named.{IsHanded}
 use Rattle.master_node.specs.Numbered.{IsNumbered}
 use Rattle.master_node.specs.Rooms.{FitAgain, FitUnder}
@@ -59,7 +60,7 @@ module _ (lens : ℕ → Lens) where
   module _ (recover : ℕ) where
     -- THE SLAVE BEFORE THE FRAME OF THIS NUMBER: its life and its script, as in a run; a mail that is passed on has come as far as the life has it; the
     -- record's counters are those of the life, and whether an empty read counts is what its side knows; the mails that wait, each as it may be passed on; and the
-    -- mail in hand, under the key of its asker
+    -- mail in hand, under the key of its asker; and its post has in hand what its life has
     pub record IsServed {G : Ghosts InHand} (made : ℕ) (w : Serves) (p : Post) (s : Stop InHand G) : Type 0 where
       pub lives : IsLived lens recover w.lead.lived s
       pub script : s.side.hand.laying.script ≡ w.lead.script
@@ -72,6 +73,7 @@ module _ (lens : ℕ → Lens) where
       pub waits : waits_of p ≡ w.waits
       pub fits : All (λ k. MayPass (lens w.lead.lived.spot.station).out k) w.waits
       pub handed : IsHanded p.work w.hand w.lead.lived.life
+      pub inhand : HasInHand (speech_at lens w.lead.lived.spot) (knows s.side.hand.course) w.lead.lived.life w.lead.lived.life.stand p.work
 
     -- THE SLAVE WHILE THAT FRAME IS UNDER WAY: besides, its share of the frame, and what the frame has of it
     pub record IsServedUnder {G : Ghosts InHand} (octets : List ℕ) (made : ℕ) (v : ServedTurn) (p : Post) (s : Stop InHand G) : Type 0 where

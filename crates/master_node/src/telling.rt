@@ -11,7 +11,7 @@ use ec_fields::buffer_of;
 use mailbox_mail::ReplyKind;
 use master_duty::Met;
 use master_side::Heard;
-use master_tour::Turned;
+use master_tour::{Stand, Turned};
 
 // Whether a frame turned a slave into one that is given up.
 fn is_given_up(news: Option<Turned>) -> bool
@@ -40,11 +40,12 @@ impl MasterNode {
     ghost use Rattle.master_node.specs.Shows.{MasterShows, MasterUnder};
     ghost use Rattle.master_node.specs.Serving.{TellsOnly, ServedShows, ServedUnder, mails_in};
     ghost use Rattle.master_node.specs.Dropped.{Drops, gave_at};
-    ghost use Rattle.master_node.specs.Besides.{DoesAt, DoesSo, TellsAll, accepted_does, answers, back_does, back_told, complete_does, emitted_does, given_at, handed_does, heard_does, is_state, met_does, over_does, passed_does, replied_does, turned_does};
+    ghost use Rattle.master_node.specs.Besides.{DoesAt, DoesSo, HasBack, TellsAll, accepted_does, answers, back_does, back_told, complete_does, emitted_does, given_at, handed_does, heard_does, is_state, met_does, over_does, passed_does, replied_does, turned_does};
     ghost use Rattle.master_node.specs.Listed.{listed};
     ghost use Rattle.master_node.specs.Listing.{events_before, events_in, told_in};
     ghost use Rattle.master_node.specs.Gateways.{TellsGateway, lives_told};
     ghost use Rattle.master_node.specs.Lifetold.{TellsJust, lost_at};
+    ghost use Rattle.master_node.specs.Backtold.{returned_at};
     ghost use Rattle.master_tour.specs.Orders.{AreOnce};
     ghost use Rattle.master_node.specs.Handed.{DropsWork, EndsWork, NonePassed, passing_at, work_at};
     ghost use Rattle.master_node.specs.declared.post.Work.{Work};
@@ -194,7 +195,7 @@ impl MasterNode {
         }
     }
 
-    // A state service is over once it has met its target or a refusal.
+    // A state service of an open slave is over once it has met its target or a refusal. One that is opened answers it once it is open.
     fn met(&mut self, place: usize)
         requires { place < vec_len self.old.posts }
         ensures posts { vec_len self.new.posts ≡ vec_len self.old.posts }
@@ -204,7 +205,11 @@ impl MasterNode {
         ensures works { NonePassed self.old.posts.items place → EndsWork (λ k. passing_at self.old.tour.stops.items k) [] self.old.posts.items self.new.posts.items }
         ensures told { DoesSo (λ s w. met_does place s w) place self.old self.new }
     {
-        match self.tour.stops[place].side.duty {
+        let stop = &self.tour.stops[place];
+        if !matches!(stop.stand, Stand::Open) {
+            return;
+        }
+        match stop.side.duty {
             Some(Met::Reached) => self.answered(place, ReplyKind::Done),
             Some(Met::Refused(code)) => self.answered(place, ReplyKind::StateRefused(code)),
             Some(Met::On(_)) => {}
@@ -321,6 +326,7 @@ impl MasterNode {
         ensures works { EndsWork (λ k. passing_at self.old.tour.stops.items k) self.old.tour.visit.items self.old.posts.items self.new.posts.items }
         ensures head { events_before self.new ≡ events_before self.old }
         ensures told { AreOnce self.old.tour.visit.items → TellsAll (told_in (back_told self.old) self.old.tour.visit.items) self.old self.new }
+        ensures has { AreOnce self.old.tour.visit.items → HasBack self.old self.new }
     {
         for k in 0..self.tour.visit.len() {
             let place = self.tour.visit.as_slice()[k];
@@ -328,7 +334,7 @@ impl MasterNode {
         }
     }
 
-    /// The frame that `next` made came back. Of a mail that is passed on just its replies are told, under the key of its asker, and that no more follows.
+    /// The frame that `next` made came back. Just what the lives of the slaves that it carried tell is told; of a mail that is passed on its replies, under the key of its asker, and that no more follows.
     pub fn returned(&mut self, frame: &FrameBuf)
         ensures posts { vec_len self.new.posts ≡ vec_len self.old.posts }
         ensures leads { (lens : ℕ → Lens) (recover retry missed number : ℕ) (octets : List ℕ) (us : List Turn) (f : Exchanged) → f.fate ≡ Fate.Pass → f.back ≡ frame.now.items → MasterUnder lens recover retry self.old octets missed us → Returns (seen lens octets) (seen lens frame.now.items) →
@@ -348,6 +354,8 @@ impl MasterNode {
             AllVisit (seen lens octets) (recalls self.old) us → AllRecall lens (seen lens frame.now.items) us (recalls self.old) (recalls self.new) }
         ensures gateway { (lens : ℕ → Lens) (recover retry missed made : ℕ) (octets : List ℕ) (vs : List ServedTurn) (f : Exchanged) → f.fate ≡ Fate.Pass → f.back ≡ frame.now.items → ServedUnder lens recover retry self.old octets missed made vs → Returns (seen lens octets) (seen lens frame.now.items) →
             TellsGateway (λ k. lives_told (seen lens frame.now.items) vs (map (served_behind lens recover retry (gives_up_at lens recover retry missed) made f) vs) k) self.old self.new }
+        ensures told { (lens : ℕ → Lens) (recover retry missed made : ℕ) (octets : List ℕ) (vs : List ServedTurn) (f : Exchanged) → f.fate ≡ Fate.Pass → f.back ≡ frame.now.items → ServedUnder lens recover retry self.old octets missed made vs → Returns (seen lens octets) (seen lens frame.now.items) →
+            TellsJust (λ k. returned_at lens (seen lens frame.now.items) (recalls self.new) vs (map (served_behind lens recover retry (gives_up_at lens recover retry missed) made f) vs) k) self.old self.new }
         ensures whole { listed self.new.list.rows.items self.new.list.count ≡ take self.old.list.before self.old.list.rows.items ++ events_in self.new }
     {
         self.list.ends();

@@ -12,17 +12,32 @@ use Rattle.std.proofs.Common.{subst, take, ◌∷◌, []}
 use Rattle.std.proofs.lemmas.List.{take_more}
 use Rattle.master_node.specs.Handed.{EndsWork, passing_at}
 use Rattle.master_node.proofs.Endings.{ends_from, ends_same, ends_then}
-use Rattle.std.proofs.Common.{◌++◌, ◌+◌, ◌==◌}
+use Rattle.std.proofs.Common.{◌++◌, ◌+◌, ◌==◌, ℕ, Bool, true, false}
+use Rattle.std.specs.Prelude.{◌||◌, not, if◌then◌else◌}
+use Rattle.std.proofs.lemmas.Bool.{eqb-true}
 use Rattle.master_tour.specs.Made.{is_in}
-use Rattle.master_node.specs.Besides.{back_told}
+use Rattle.master_node.specs.Besides.{back_does, back_told, does_at}
+use Rattle.master_node.specs.Handed.{work_at}
 use Rattle.master_node.specs.Listing.{told_in}
 use Rattle.master_node.proofs.Besides.{back_same, besides_as, besides_none, besides_then, not_in_one, once_fresh, or_left, or_right}
 use Rattle.master_node.proofs.Endings.{in_more}
 use Rattle.master_node.proofs.Listing.{told_push}
 use Rattle.master_node.proofs.node.MasterNode.all_back.Goals as goal
 
+-- a place behind one more step is that of the step, or one before
+by_place : (P : ℕ → Type 0) (p q : ℕ) (before : Bool) → (before || is_in p (q ∷ [])) ≡ true → P q → ((p == q) ≡ false → before ≡ true → P p) → P p
+by_place P p q before e here there = go (p == q) refl e
+  where
+    go : (b : Bool) → (p == q) ≡ b → (before || (if b then true else false)) ≡ true → P p
+    go true f g = subst P (sym (eqb-true p q f)) here
+    go false f g = there f (or_true before g)
+      where
+        or_true : (a : Bool) → (a || false) ≡ true → a ≡ true
+        or_true true h = refl
+        or_true false h = h
+
 pub loop-k-init : goal.loop-k-init
-loop-k-init c = record { posts = refl; kept = node_refl c.args.self.now; tells = tells_refl c.args.self.now; works = ends_same _ c.args.self.now.posts.items; head = refl; told = λ once. besides_none c.args.self.now c.args.self.now refl; others = λ p e. refl; lan = happens_none 0 _ _ refl; listed = lists_none _ _ _ refl refl }
+loop-k-init c = record { posts = refl; kept = node_refl c.args.self.now; tells = tells_refl c.args.self.now; works = ends_same _ c.args.self.now.posts.items; head = refl; told = λ once. besides_none c.args.self.now c.args.self.now refl; has = λ once p e. absurd (let bad : false ≡ true = e in cc); others = λ p e. refl; lan = happens_none 0 _ _ refl; listed = lists_none _ _ _ refl refl }
 
 pub loop-k-preserved : goal.loop-k-preserved
 loop-k-preserved c =
@@ -48,10 +63,19 @@ loop-k-preserved c =
           let apart = sym (in_more p (take k v) (q ∷ [])) ∙ ap (is_in p) (sym (take_more v k 0 inside)) ∙ e in
           (step.told.others p (ap (λ z. p == get_or z k 0) (sym same) ∙ not_in_one p q (or_right (is_in p (take k v)) (is_in p (q ∷ [])) apart)) ∙ inv.others p (or_left (is_in p (take k v)) (is_in p (q ∷ [])) apart));
       head = step.told.tells.head ∙ inv.head;
+      has = λ once p e.
+          let v = m.tour.visit.items in
+          let q = get_or v k 0 in
+          let there = sym (in_more p (take k v) (q ∷ [])) ∙ ap (is_in p) (sym (take_more v k 0 inside)) ∙ e in
+          let here : work_at c.back_at.new.self.posts.items q ≡ (does_at (λ s w. back_does q s w) m q).work =
+          subst (λ z. work_at c.back_at.new.self.posts.items (get_or z k 0) ≡ (does_at (λ s w. back_does (get_or z k 0) s w) c.loop-k.self (get_or z k 0)).work) (sym same) step.told.here
+          ∙ ap (λ z. z.work) (back_same m c.loop-k.self q inv.tells.tour (inv.others q (once_fresh v k 0 inside once))) in
+          by_place (λ z. work_at c.back_at.new.self.posts.items z ≡ (does_at (λ s w. back_does z s w) m z).work) p q (is_in p (take k v)) there here
+          (λ n a. step.told.others p (ap (λ z. p == get_or z k 0) (sym same) ∙ n) ∙ inv.has once p a);
       told = λ once.
           let v = m.tour.visit.items in
           let p = get_or v k 0 in
-          let so : back_told c.loop-k.self place ≡ back_told m p = ap (λ z. back_told c.loop-k.self (get_or z k 0)) (sym same) ∙ back_same m c.loop-k.self p inv.tells.tour (inv.others p (once_fresh v k 0 inside once)) in
+          let so : back_told c.loop-k.self place ≡ back_told m p = ap (λ z. back_told c.loop-k.self (get_or z k 0)) (sym same) ∙ ap (λ z. z.told) (back_same m c.loop-k.self p inv.tells.tour (inv.others p (once_fresh v k 0 inside once))) in
           besides_as (told_in (back_told m) (take k v) ++ back_told c.loop-k.self place) (told_in (back_told m) (take (k + 1) v)) m c.back_at.new.self
           (ap (λ z. told_in (back_told m) (take k v) ++ z) so ∙ sym (told_push (back_told m) (take k v) p) ∙ sym (ap (told_in (back_told m)) (take_more v k 0 inside)))
           (besides_then (told_in (back_told m) (take k v)) (back_told c.loop-k.self place) m c.loop-k.self c.back_at.new.self (inv.told once) step.told.tells);
@@ -84,3 +108,14 @@ returns-clause-told c = λ once.
     let m = c.args.self.now in
     let k = c.loop-k.k in
     besides_as (told_in (back_told m) (take k m.tour.visit.items)) (told_in (back_told m) m.tour.visit.items) m c.loop-k.self (ap (told_in (back_told m)) (take_all k m.tour.visit.items (omega (arith, c.loop-k-test.false, c.len-k-end.ensures.value)))) (c.loop-k.invariant.told once)
+
+pub returns-clause-has : goal.returns-clause-has
+returns-clause-has c = λ once k.
+    let m = c.args.self.now in
+    let v = m.tour.visit.items in
+    let all = take_all c.loop-k.k v (omega (arith, c.loop-k-test.false, c.len-k-end.ensures.value)) in
+    both (is_in k v) (λ e. c.loop-k.invariant.has once k (ap (is_in k) all ∙ e)) (λ e. c.loop-k.invariant.others k (ap (is_in k) all ∙ e))
+  where
+    both : {A : Type 0} {x y z : A} (b : Bool) → (b ≡ true → x ≡ y) → (b ≡ false → x ≡ z) → x ≡ (if not b then z else y)
+    both true f g = f refl
+    both false f g = g refl

@@ -1,7 +1,7 @@
-use Rattle.std.proofs.Common.{◌≡◌, ℕ, false, vec_len, take}
+use Rattle.std.proofs.Common.{◌≡◌, ℕ, true, false, vec_len, take}
 use Rattle.master_tour.specs.Made.{is_in}
 use Rattle.master_tour.specs.Orders.{AreOnce}
-use Rattle.master_node.specs.Besides.{TellsAll, back_told}
+use Rattle.master_node.specs.Besides.{TellsAll, back_does, back_told, does_at}
 use Rattle.master_node.specs.Listing.{events_before, told_in}
 use Rattle.master_node.specs.Arrivals.{arrivals_in, heard_at}
 use Rattle.master_node.specs.Downs.{Lists}
@@ -19,6 +19,7 @@ invariant-loop-k l = record {
   works : EndsWork (λ k. passing_at l.initial.self.tour.stops.items k) (take l.k l.initial.self.tour.visit.items) l.initial.self.posts.items l.self.posts.items;
   head : events_before l.self ≡ events_before l.initial.self;
   told : AreOnce l.initial.self.tour.visit.items → TellsAll (told_in (back_told l.initial.self) (take l.k l.initial.self.tour.visit.items)) l.initial.self l.self;
+  has : AreOnce l.initial.self.tour.visit.items → (p : ℕ) → is_in p (take l.k l.initial.self.tour.visit.items) ≡ true → work_at l.self.posts.items p ≡ (does_at (λ s w. back_does p s w) l.initial.self p).work;
   others : (p : ℕ) → is_in p (take l.k l.initial.self.tour.visit.items) ≡ false → work_at l.self.posts.items p ≡ work_at l.initial.self.posts.items p;
   lan : Happens l.k l.initial.self.lan l.self.lan;
   listed : Lists (arrivals_in l.initial.self.lan.ports.items (λ p. heard_at l.initial.self.tour.stops.items p) (take l.k l.initial.self.tour.visit.items)) l.initial.self.lan l.self.lan;

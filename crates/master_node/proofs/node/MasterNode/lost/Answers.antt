@@ -53,7 +53,7 @@ use Rattle.master_node.specs.Lifetold.{lost_at}
 use Rattle.master_node.proofs.Listing.{listed_whole, told_same}
 use Rattle.master_node.proofs.Turneds.{lost_turned, turned_all}
 use Rattle.master_node.specs.Listing.{events_in, told_in}
-use Rattle.master_node.proofs.ToldFew.{given_few, told_one}
+use Rattle.master_node.proofs.ToldFew.{just_told, given_few, told_one}
 use Rattle.master_node.proofs.node.MasterNode.lost.Goals as goal
 
 pub returns-clause-leads : goal.returns-clause-leads
@@ -157,7 +157,7 @@ returns-clause-served c = λ lens recover retry missed made after octets vs f p 
     let given = not (nat_lt m.tour.missed m.tour.retry) in
     let comes : nat_lt m.tour.missed m.tour.retry ≡ nat_lt missed retry = λ i. nat_lt (u.missed_is i) (u.retry_is i) in
     let three = e.shown lens octets (λ spot. speech_at lens spot) is_followed is_passed made recover (map (λ v. v.turn.lived) vs) (three_both _ _ (λ v. v.turn.lived) (λ v x s i. (i.served.lives, i.way)) vs m.posts.items ss u.each) in
-    let toured = pair_both _ _ ss ts e.stays (pair_both _ _ ss ts (e.passing lens octets) (pair_both _ _ ss ts e.counts e.pace)) in
+    let toured = pair_both _ _ ss ts e.stays (pair_both _ _ ss ts (e.passing lens octets) (pair_both _ _ ss ts e.counts (pair_both _ _ ss ts e.pace e.recalled))) in
     let gave = Losts.gave_all (λ v q s. IsServedUnder lens recover octets made v q s) _ (λ t. is_given_up t.news) (λ s. s.under) given
     (λ v q s t i y.
     let l = v.turn.lived.life in
@@ -175,7 +175,7 @@ returns-clause-served c = λ lens recover retry missed made after octets vs f p 
     let shown = i.served.lives.shown in
     Losts.served_lost lens recover retry gives made f octets after p b given v q r s t (ap not comes) i a
     (z.1.0 x made recover spot v.kept l i.served.lives.planned.stands i.way shown (stands_kept s.stand v.kept l (λ o. (subst (λ y. StandShows (λ d g. side_shows lens recover s spot d g) spot y l) o shown.stood).0) i.served.kept) i.served.passing)
-    (z.1.1.0 x made recover spot l shown) z.1.1.1 z.0.0 w o) in
+    (z.1.1.0 x made recover spot l shown) z.1.1.1.0 z.0.0 w o (λ h. (z.1.1.1.1.0 h).3)) in
     let there = subst (λ z. AllThree (λ w q t. IsServed lens recover (suc made) w q t) (map (served_behind lens recover retry gives made f) vs) n.posts.items z.stops.items) (sym k.tour) each in
     record {
       each = there;
@@ -213,8 +213,7 @@ returns-clause-told c = λ lens recover retry missed made after octets vs f p b 
     let follows = y.0 (speech_at lens spot) is_followed is_passed made recover spot news l i.served.lives.planned.stands i.way i.served.lives.shown in
     lost_turned lens recover retry gives given made f octets after p b comes v q s t.news i follows.told)
     vs m.posts.items ss ts u.each (c.lost.ensures.lives lens octets) k in
-    c.all_given_up.ensures.told.told (omega (arith, before, few, told_one (λ k. given_at ts k) (λ k. given_few ts k) visit, most))
-    ∙ (λ i. c.ends.ensures.last i ++ told_in (λ k. given_at ts k) visit)
+    just_told (told_in (λ k. given_at ts k) visit) m.list.before c.all_given_up.ensures.told few before c.ends.ensures.last (omega (arith, told_one (λ k. given_at ts k) (λ k. given_few ts k) visit, most))
     ∙ told_same (λ k. given_at ts k) (λ k. lost_at vs (map on vs) k) visit (λ k w. same k)
     ∙ ap (λ z. told_in (λ k. lost_at vs (map on vs) k) z.items) c.lost.ensures.tour.0
 

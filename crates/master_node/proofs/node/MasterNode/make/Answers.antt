@@ -33,14 +33,12 @@ use Rattle.master_node.specs.Starts.{HasStarted}
 use Rattle.master_node.proofs.Starts.{all_start}
 use Rattle.life_runs.specs.of_life_frames.Shares.{AreDistinct}
 use Rattle.master_hand.specs.Shown.{awaits_reply}
-use Rattle.master_node.specs.Serving.{IsServed, run_lead, run_turn}
-use Rattle.master_node.specs.Shows.{GoesUnder, turned_of}
+use Rattle.master_node.specs.Serving.{IsServed, run_lead}
 use Rattle.life_runs.specs.of_life_frames.Shares.{AllFrom, AllThree}
 use Rattle.master_hand.specs.Laying.{scripted}
 use Rattle.master_node.specs.Shows.{IsLived}
 use Rattle.master_node.proofs.Serveds.{long_served, three_both}
 use Rattle.master_node.proofs.ServedSents as Served
-use Rattle.master_node.specs.Begins.{begun_of}
 use Rattle.master_node.specs.Events.{served_tells}
 use Rattle.master_node.proofs.ServedTells.{served_begin}
 use Rattle.master_node.proofs.ServedVisits.{Alike}
@@ -184,13 +182,14 @@ returns-clause-serves c = λ lens recover retry missed made forwards ws some sma
       awaits = λ w. ap (λ z. awaits_reply z.hand.course z.hand.which z.hand.clients) p.0 ∙ w;
       read = (ap (λ z. z.read_at) p.0, ap (λ z. z.pace) p.0);
       out = ap (λ z. z.out.len) p.0;
+      known = ap (λ z. knows z.hand.course) p.0;
     }) e.each in
     let f = c.fill.ensures.serves lens recover made forwards ws x.distinct
     (λ left. record {
       begun = nothing;
       frame = subst (λ n. FrameMade (λ ds i a s. StopFills lens recover made nothing index left ds i a s) c.begin.new.frame.items n lives ts) (sym e.count) (e.made (speech_at lens) is_followed is_passed made recover index lens left lives nothing (λ k. refl) before);
       each = Served.firsts_serving lens recover made left 0 ws m.posts.items ss ts x.each alike;
-      handed = Served.firsts_handing lens recover made ws m.posts.items ss x.each;
+      handed = Served.firsts_handing lens recover made 0 ws m.posts.items ss ts x.each alike;
       numbered = x.numbered;
       listing = listed_nothing (served_tells ws) forwards left as' _ (record { few = unlisted.few; none = unlisted.none; counts = unlisted.counts });
     })
@@ -231,14 +230,13 @@ returns-clause-serves c = λ lens recover retry missed made forwards ws some sma
     let us = turns lens recover made begun octets z.datagrams is as' z.lives t2.stops.items in
     let sends = subst (λ y. AllThree (λ a b s. Served.Sends lens recover made begun octets z.datagrams is a b s) y z.lives t2.stops.items) (sym flat) z.each in
     let bare = Steps.from_map _ (λ n a s. is_in n left ≡ true → s.under ≡ false) (λ i a s w. w.bare) 0 as' t2.stops.items
-    (from_map lived_of (λ i a s. StopFills lens recover made begun (c.fill.new.self.made % 256) left filling.frame.datagrams i a s) 0 as' t2.stops.items (subst (λ y. AllFrom (λ i a s. StopFills lens recover made begun (c.fill.new.self.made % 256) left filling.frame.datagrams i a s) 0 y t2.stops.items) (sym flat) filling.frame.each)) in
-    let turned : map turned_of us ≡ map (λ q. q.turn.lived) sent.sent = ap (map turned_of) (sym sent.turns_are) ∙ Served.map_map turned_of run_turn sent.sent in (
+    (from_map lived_of (λ i a s. StopFills lens recover made begun (c.fill.new.self.made % 256) left filling.frame.datagrams i a s) 0 as' t2.stops.items (subst (λ y. AllFrom (λ i a s. StopFills lens recover made begun (c.fill.new.self.made % 256) left filling.frame.datagrams i a s) 0 y t2.stops.items) (sym flat) filling.frame.each)) in (
       sent.sent,
       record { datagrams = z.datagrams; frame = z.frame; each = sent.each },
       record {
         each = sent.under;
-        distinct = subst (λ y. AreDistinct y) turned (distinct_same as' us (same_all lens recover made begun octets z.datagrams is as' z.lives t2.stops.items sends) (subst (λ y. AreDistinct y) (sym flat) x.distinct));
-        goes = subst (λ y. GoesUnder t2.visit.items t2.opened y) (sym sent.turns_are)
+        distinct = Served.sent_distinct us sent.sent sent.turns_are (distinct_same as' us (same_all lens recover made begun octets z.datagrams is as' z.lives t2.stops.items sends) (subst (λ y. AreDistinct y) (sym flat) x.distinct));
+        goes = Served.sent_goes us sent.sent sent.turns_are t2.visit.items t2.opened
             (goes_under lens recover made begun octets z.datagrams is t1.again t2.visit.items t1.visit.items t2.opened left as' z.lives t2.stops.items sends bare ends.apart ends.comes
             (subst (λ w. GoesOn t1.again t1.visit.items w as') (sym on.opened) goes));
         missed_is = on.missed ∙ e.tour.3 ∙ x.missed_is;
@@ -251,7 +249,7 @@ returns-clause-serves c = λ lens recover retry missed made forwards ws some sma
         numbered = sent.numbered;
       },
       on.made ∙ x.made_is,
-      served_begin forwards left begun ws sent.sent c.fill.new.self _ (λ k. ap (λ y. begun_of y k) sent.turns_are ∙ begun_turns lens recover made begun octets z.datagrams is as' z.lives t2.stops.items sends k) refl refl filling.listing,
+      served_begin forwards left begun ws sent.sent c.fill.new.self _ (Served.sent_begun us sent.sent sent.turns_are (λ k. begun_for begun as' k) (λ k. begun_turns lens recover made begun octets z.datagrams is as' z.lives t2.stops.items sends k)) refl refl filling.listing,
     )
 
 pub returns-clause-head : goal.returns-clause-head

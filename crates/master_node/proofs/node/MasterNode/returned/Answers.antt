@@ -41,7 +41,8 @@ use Rattle.master_tour.specs.of_life_model.Lives.{life_back}
 use Rattle.served_runs.specs.Served.{served_behind}
 use Rattle.master_node.specs.Serving.{IsServed, run_lead}
 use Rattle.master_node.specs.Shows.{GoesOn, side_shows}
-use Rattle.master_node.proofs.Serveds.{back_made, served_back, all_served, distinct_served, back_spot, goes_served, opens_served, long_served, three_both}
+use Rattle.master_node.proofs.Serveds.{back_made, served_back, all_served, distinct_served, back_spot, goes_served, opens_served, long_served, passes_behind, three_both}
+use Rattle.master_node.proofs.Unread.{behind_inhand}
 use Rattle.std.specs.Prelude.{not}
 use Rattle.master_tour.specs.Goes.{holds_at}
 use Rattle.master_tour.specs.Made.{is_in}
@@ -54,9 +55,12 @@ use Rattle.master_node.specs.Besides.{back_does, by_stop, stays}
 use Rattle.master_node.specs.Gateways.{is_gateway, lives_told}
 use Rattle.master_node.specs.Handed.{work_at}
 use Rattle.master_node.specs.Listing.{events_in, told_in}
-use Rattle.master_node.proofs.ToldFew.{back_few, told_five}
+use Rattle.master_node.proofs.ToldFew.{back_few, just_told, told_five}
 use Rattle.master_node.proofs.Filtered.{filter_told, gateway_by, place_asked}
 use Rattle.master_node.proofs.Gateways.{all_told}
+use Rattle.master_node.proofs.Backtolds.{back_all}
+use Rattle.master_node.specs.Backtold.{returned_at}
+use Rattle.master_node.specs.Eager.{recall_of}
 use Rattle.master_node.proofs.Listing.{listed_whole, told_same}
 use Rattle.master_node.proofs.node.MasterNode.returned.Goals as goal
 
@@ -170,19 +174,29 @@ returns-clause-served c = λ lens recover retry missed made octets vs f p b u r.
     let number : (m.made + (2 ^ 32 - 1)) % 2 ^ 32 ≡ made = back_made m.made made u.made_is u.early in
     let three = e.shown lens (seen lens octets) r u.sent (λ spot. speech_at lens spot) is_followed is_passed made recover (map (λ v. v.turn.lived) vs)
     (three_both _ _ (λ v. v.turn.lived) (λ v k s i. (i.served.lives, i.way)) vs m.posts.items ss u.each) in
-    let toured = pair_both _ _ ss ts e.stays (pair_both _ _ ss ts (e.passing lens (seen lens octets) r u.sent) (pair_both _ _ ss ts (e.counts lens (seen lens octets) r u.sent) e.pace)) in
+    let says = pair_both _ _ ss ts (e.lives lens (seen lens octets) r u.sent) (pair_both _ _ ss ts (e.brought lens (seen lens octets) r u.sent) (pair_both _ _ ss ts e.replied (e.recalls lens (seen lens octets) r u.sent))) in
+    let toured = pair_both _ _ ss ts e.stays (pair_both _ _ ss ts (e.passing lens (seen lens octets) r u.sent) (pair_both _ _ ss ts (e.counts lens (seen lens octets) r u.sent) (pair_both _ _ ss ts e.pace says))) in
+    let once = subst (λ z. AreOnce z.items) (sym e.tour.0) u.goes.comes.once in
     let still = λ (j : ℕ). not (is_in j c.returned.new.self.visit.items) in
     let unread = λ (j : ℕ) (y : still j ≡ true). unvisited (holds_at (λ s. s.under) ss j) (is_in j c.returned.new.self.visit.items) (λ x. ap (λ z. is_in j z.items) e.tour.0 ∙ u.carried j x) y in
-    let each = all_served lens recover retry gives made f octets _ _ still vs m.posts.items n.posts.items ss ts unread c.all_back.ensures.works.each u.each tells.mails three toured
-    (λ v k q s t i w d n o a z.
+    let each = all_served lens recover retry gives made f octets _ _ (λ j. j) still vs m.posts.items n.posts.items ss ts unread c.all_back.ensures.works.each (c.all_back.ensures.has once) u.each tells.mails three toured
+    (λ v k q s t i w d n o j y a z.
     let l = v.turn.lived.life in
     let spot = v.turn.lived.spot in
     let x = speech_at lens spot in
     let shown = i.served.lives.shown in
-    served_back lens recover retry gives made f octets c.args.frame.now.items v k q s t p b i r a
-    (subst (λ j. StandPassing t.stand (awaits_reply t.side.hand.course t.side.hand.which t.side.hand.clients) t.side.passing (life_back x acknowledged is_followed is_passed made spot (news_back s.side.station v.kept (counts_at s.side.read_at s.side.pace j) back) back (came_at s.under s.at back) l l.stand)) number
-    (z.1.0 x made recover spot v.kept l i.served.lives.planned.stands i.way shown (stands_kept s.stand v.kept l (λ o. (subst (λ y. StandShows (λ d g. side_shows lens recover s spot d g) spot y l) o shown.stood).0) i.served.kept) i.served.passing))
-    (subst (λ j. CountsOn j back s t l) number (z.1.1.0 x recover spot l i.way shown)) z.1.1.1 z.0.0 w d n o) in
+    let at = i.served.lives.planned.stands in
+    let passes =
+    subst (λ j. StandPassing t.stand (awaits_reply t.side.hand.course t.side.hand.which t.side.hand.clients) t.side.passing (life_back x acknowledged is_followed is_passed made spot (news_back s.side.station v.kept (counts_at s.side.read_at s.side.pace j) back) back (came_at s.under s.at back) l l.stand)) number
+    (z.1.0 x made recover spot v.kept l i.served.lives.planned.stands i.way shown (stands_kept s.stand v.kept l (λ o. (subst (λ y. StandShows (λ d g. side_shows lens recover s spot d g) spot y l) o shown.stood).0) i.served.kept) i.served.passing) in
+    served_back lens recover retry gives made f octets c.args.frame.now.items v k q s t p b i r a passes
+    (subst (λ j. CountsOn j back s t l) number (z.1.1.0 x recover spot l i.way shown)) z.1.1.1.0 z.0.0 w d n o
+    (behind_inhand lens recover made octets c.args.frame.now.items j v k q s t d i r n y (a (news_back spot.station v.kept v.counts back)).shown.stood (passes_behind lens recover made octets back v k s t i passes) (record {
+      told = (z.1.1.1.1.0.0 x is_followed is_passed made recover spot (news_back spot.station v.kept v.counts back) l at i.way shown).told;
+      brings = z.1.1.1.1.1.0 x recover spot l at i.way shown;
+      replied = z.1.1.1.1.1.1.0 lens (seen lens octets) r u.sent x recover spot l at i.way shown;
+      recalls = z.1.1.1.1.1.1.1 x recover spot l at i.way shown;
+    }))) in
     let there = subst (λ z. AllThree (λ w q t. IsServed lens recover (suc made) w q t) (map (served_behind lens recover retry gives made f) vs) n.posts.items z.stops.items) (sym tells.tour) each in
     record {
       each = there;
@@ -217,14 +231,49 @@ returns-clause-gateway c = λ lens recover retry missed made octets vs f p b u r
     let visit = c.returned.new.self.visit.items in
     let tells = λ (k : ℕ). (by_stop (stays (work_at m.posts.items k)) (λ t. back_does k t (work_at m.posts.items k)) ts k).told in
     let asked = λ (k : ℕ). by_stop [] (λ t. gateway_by (work_at m.posts.items k) t) ts k in
-    let all = c.all_back.ensures.told once in
     let most : length visit ≤ 16 = (let v = ap (λ z. length z.items) e.tour.0 in omega (arith, v, u.fits.few)) in
-    ap (filter is_gateway) (all.told (omega (arith, before, few, told_five tells (λ k. back_few m.posts.items ts k) visit, most)))
-    ∙ (λ i. filter is_gateway (c.ends.ensures.last i ++ told_in tells visit))
+    ap (filter is_gateway) (just_told (told_in tells visit) m.list.before (c.all_back.ensures.told once) few before c.ends.ensures.last (omega (arith, told_five tells (λ k. back_few m.posts.items ts k) visit, most)))
     ∙ filter_told tells visit
     ∙ told_same (λ k. filter is_gateway (tells k)) asked visit (λ k w. place_asked m.posts.items ts k)
     ∙ told_same asked (λ k. lives_told back vs ws k) visit (λ k w. same k)
     ∙ ap (λ z. told_in (λ k. lives_told back vs ws k) z.items) e.tour.0
+
+pub returns-clause-told : goal.returns-clause-told
+returns-clause-told c = λ lens recover retry missed made octets vs f p b u r few.
+    let m = c.args.self.now in
+    let n = c.all_back.new.self in
+    let e = c.returned.ensures in
+    let tour = c.all_back.ensures.tells.tour in
+    let ss = m.tour.stops.items in
+    let ts = c.returned.new.self.stops.items in
+    let back = seen lens c.args.frame.now.items in
+    let gives = gives_up_at lens recover retry missed in
+    let ws = map (served_behind lens recover retry gives made f) vs in
+    let served = returns-clause-served c lens recover retry missed made octets vs f p b u r in
+    let there = subst (λ z. AllThree (λ w q t. IsServed lens recover (suc made) w q t) ws n.posts.items z.stops.items) tour served.each in
+    let each = pair_both _ _ ss ts (e.lives lens (seen lens octets) r u.sent) (pair_both _ _ ss ts (e.brought lens (seen lens octets) r u.sent) (pair_both _ _ ss ts e.replied (e.recalls lens (seen lens octets) r u.sent))) in
+    let same = λ (k : ℕ). back_all lens recover retry gives made f octets c.args.frame.now.items p b k _
+    (λ v q s t i z.
+    let l = v.turn.lived.life in
+    let spot = v.turn.lived.spot in
+    let x = speech_at lens spot in
+    let at = i.served.lives.planned.stands in
+    let shown = i.served.lives.shown in
+    record {
+      told = (z.0.0 x is_followed is_passed made recover spot (news_back spot.station v.kept v.counts back) l at i.way shown).told;
+      brings = z.1.0 x recover spot l at i.way shown;
+      replied = z.1.1.0 lens (seen lens octets) r u.sent x recover spot l at i.way shown;
+      recalls = z.1.1.1 x recover spot l at i.way shown;
+    })
+    vs m.posts.items n.posts.items ss ts u.each there each k in
+    let once = subst (λ z. AreOnce z.items) (sym e.tour.0) u.goes.comes.once in
+    let before = c.ends.ensures.few in
+    let visit = c.returned.new.self.visit.items in
+    let tells = λ (k : ℕ). (by_stop (stays (work_at m.posts.items k)) (λ t. back_does k t (work_at m.posts.items k)) ts k).told in
+    let most : length visit ≤ 16 = (let v = ap (λ z. length z.items) e.tour.0 in omega (arith, v, u.fits.few)) in
+    just_told (told_in tells visit) m.list.before (c.all_back.ensures.told once) few before c.ends.ensures.last (omega (arith, told_five tells (λ k. back_few m.posts.items ts k) visit, most))
+    ∙ told_same tells (λ k. returned_at lens back (map (λ t. recall_of t) ts) vs ws k) visit (λ k w. same k)
+    ∙ (λ i. told_in (λ k. returned_at lens back (map (λ t. recall_of t) (sym tour i).stops.items) vs ws k) (e.tour.0 i).items)
 
 pub returns-clause-whole : goal.returns-clause-whole
 returns-clause-whole c = listed_whole c.all_back.new.self ∙ ap (λ z. z ++ events_in c.all_back.new.self) (c.all_back.ensures.head ∙ c.ends.ensures.head)

@@ -58,11 +58,13 @@ use Rattle.master_node.proofs.Unvisited.{Lacking, Roomed, Roomy, Went, roomy, so
 use Rattle.master_hand.specs.Shown.{awaits_reply}
 use Rattle.master_side.specs.Free.{is_free_side}
 use Rattle.master_node.specs.Coming.{wish_of}
+use Rattle.master_node.specs.Handed.{IsHanding}
 use Rattle.master_node.specs.Kept.{StopKept}
 use Rattle.master_node.specs.Passes.{IsNextState, IsServing, waits_in}
 use Rattle.master_node.specs.Serving.{mails_in, run_lead}
 use Rattle.master_node.specs.Passes.{ThreeFrom}
 use Rattle.master_node.proofs.ServedVisits as Served
+use Rattle.master_node.proofs.Threes.{three_each}
 use Rattle.master_node.proofs.FreeKept as Frees
 use Rattle.std.proofs.Common.{length}
 use Rattle.life_runs.specs.of_life_frames.Shares.{AreDistinct}
@@ -356,14 +358,15 @@ returns-then-not-fits-clause-serves c = λ lens recover made forwards left next 
     let s0 = m.tour.stops.items in
     let s1 = c.fits.new.self.stops.items in
     let alike = steps_each _ (λ s t. Served.Alike s t) c.args.place s0 s1 (λ s. Served.alike_same s)
-    (λ s t p. record { script = p.1.0.3; place = p.0.1; stand = p.1.0.1; passing = p.1.0.2; awaits = p.1.1.1; read = p.1.1.0; out = p.1.0.0.out_is }) (steps_both _ _ c.args.place s0 s1 e.lives (steps_both _ _ c.args.place s0 s1 e.step e.read)) in
+    (λ s t p. record { script = p.1.0.3; place = p.0.1; stand = p.1.0.1; passing = p.1.0.2; awaits = p.1.1.0.1; read = p.1.1.0.0; out = p.1.0.0.out_is; known = ap (λ z. z.knows) p.1.1.1 }) (steps_both _ _ c.args.place s0 s1 e.lives (steps_both _ _ c.args.place s0 s1 e.step (steps_both _ _ c.args.place s0 s1 e.read e.recalled))) in
     record {
       begun = f.begun;
       frame = subst (λ n. FrameMade (λ ds i a s. StopFills lens recover made f.begun (m.made % 256) left ds i a s) c.args.into.now.items n (map (λ w. lived_of (run_lead w)) ws) s1) (sym e.count)
           (e.made (speech_at lens) is_followed is_passed made recover (m.made % 256) m.tour.count lens left (map (λ w. lived_of (run_lead w)) ws) c.args.into.now.items f.begun d at f.frame);
-      each = Served.three_each (λ i w ks s. IsServing lens f.begun made left i w ks s) (λ i w ks s. IsServing lens f.begun made left i w ks s) (λ s t. Served.Alike s t) (λ i w ks s t h k. Served.serving_alike lens f.begun made left i w ks s t h k)
+      each = three_each (λ i w ks s. IsServing lens f.begun made left i w ks s) (λ i w ks s. IsServing lens f.begun made left i w ks s) (λ s t. Served.Alike s t) (λ i w ks s t h k. Served.serving_alike lens f.begun made left i w ks s t h k)
           0 ws (mails_in m) s0 s1 f.each alike;
-      handed = f.handed;
+      handed = three_each (λ i w p s. IsHanding lens f.begun w p.work (knows s.side.hand.course)) (λ i w p s. IsHanding lens f.begun w p.work (knows s.side.hand.course)) (λ s t. Served.Alike s t)
+          (λ i w p s t h k. subst (λ z. IsHanding lens f.begun w p.work z) (sym k.known) h) 0 ws m.posts.items s0 s1 f.handed alike;
       numbered = f.numbered;
       listing = listed_on (served_tells ws) forwards left f.begun (map run_lead ws) m _ refl refl f.listing;
     }
@@ -387,7 +390,7 @@ returns-clause-serves c = λ lens recover made forwards left next ws few d at ov
     let rooms : (s : Stop InHand Impl.ghosts) → s.side.out.len ≡ s.side.hand.laying.areas.out = λ s. s.side.room ∙ ap (λ z. z.out) (sym s.side.hand.one_slave) in
     let frees : (n : ℕ) (s t : Stop InHand Impl.ghosts) → StopKept n s t → is_free_side t.side ≡ is_free_side s.side = λ n s t k. Frees.free_kept n s t k in
     let alike = steps_each _ (λ s t. Served.Alike s t) place s0 s1 (λ s. Served.alike_same s)
-    (λ s t p. record { script = p.1.0.3; place = p.0.1; stand = p.1.0.1; passing = p.1.0.2; awaits = p.1.1.1; read = p.1.1.0; out = p.1.0.0.out_is }) (steps_both _ _ place s0 s1 e.lives (steps_both _ _ place s0 s1 e.step e.read)) in
+    (λ s t p. record { script = p.1.0.3; place = p.0.1; stand = p.1.0.1; passing = p.1.0.2; awaits = p.1.1.0.1; read = p.1.1.0.0; out = p.1.0.0.out_is; known = ap (λ z. z.knows) p.1.1.1 }) (steps_both _ _ place s0 s1 e.lives (steps_both _ _ place s0 s1 e.step (steps_both _ _ place s0 s1 e.read e.recalled))) in
     let ahead = steps_map _ (λ s t. Served.Ahead coming t) place s0 s1
     (λ s t p. record {
       next = subst (λ z. IsNextState (slice_get z.script z.number) coming) (sym p.1.0.3) p.0.0;
@@ -402,12 +405,13 @@ returns-clause-serves c = λ lens recover made forwards left next ws few d at ov
       did = p.1.1.1.0;
       stand = p.1.0.1;
       read = p.1.1.1.1.0;
+      known = ap (λ z. z.knows) p.1.1.1.1.1.1;
       passes = λ spot l n planned waits shown stood begins y.
           let h = p.0.0 (speech_at lens spot) is_followed is_passed made recover spot lens l planned.out_is planned.back_is planned.stands waits shown in
           Served.passes_on (speech_at lens spot) made l n (wish_begun r c.wish_of-wish.result (ready_of s.side.hand.laying)) h.hold (awaits_reply t.side.hand.course t.side.hand.which t.side.hand.clients) t.stand t.side.passing h.took begins
-          (p.1.1.1.1.1 (speech_at lens spot) made recover spot h.hold l shown stood h.took) y;
+          (p.1.1.1.1.1.0 (speech_at lens spot) made recover spot h.hold l shown stood h.took) y;
     })
-    (steps_both _ _ place s2 s3 v.lives (steps_both _ _ place s2 s3 v.step (steps_both _ _ place s2 s3 v.began (steps_both _ _ place s2 s3 v.did (steps_both _ _ place s2 s3 v.read v.passing)))))) in
+    (steps_both _ _ place s2 s3 v.lives (steps_both _ _ place s2 s3 v.step (steps_both _ _ place s2 s3 v.began (steps_both _ _ place s2 s3 v.did (steps_both _ _ place s2 s3 v.read (steps_both _ _ place s2 s3 v.passing v.recalled))))))) in
     let came = c.came.ensures.came in
     let begun = Served.now lens recover made coming r place got s0 s1 s2 s3 s4 rooms frees ahead readied visited came f.begun in
     let same = ap (λ n. n % 256) (c.came.ensures.kept.0.made ∙ c.lay.ensures.kept.0.made) in
@@ -415,8 +419,10 @@ returns-clause-serves c = λ lens recover made forwards left next ws few d at ov
     let made_frame = Served.frame lens recover made coming r place got s0 s1 s2 s3 s4 rooms frees ahead readied visited came index f.begun left next lives c.args.into.now.items c.visit-began.new.frame.items m.tour.count c.lay.new.self.tour.count c.visit-began.new.self.count
     (c.lay.ensures.kept.0.count ∙ e.count) before
     (λ g. v.made (speech_at lens) is_followed is_passed made recover lens left next lives f.begun begun d at over fewer (subst (λ z. IfSome (slice_get s2 place) (λ s. ComesAt f.begun begun s.place (wish_begun r z (ready_of s.side.hand.laying)))) (sym c.wish_of-wish.ensures) (Served.comes lens recover made coming r place got s0 s1 s2 s3 s4 rooms frees ahead readied visited came f.begun)) g) in
-    let all = Served.three_each (λ i w ks s. IsServing lens f.begun made left i w ks s) (λ i w ks s. IsServing lens f.begun made left i w ks s) (λ s t. Served.Alike s t) (λ i w ks s t h k. Served.serving_alike lens f.begun made left i w ks s t h k) 0 ws (mails_in m) s0 s1 f.each alike in
+    let all = three_each (λ i w ks s. IsServing lens f.begun made left i w ks s) (λ i w ks s. IsServing lens f.begun made left i w ks s) (λ s t. Served.Alike s t) (λ i w ks s t h k. Served.serving_alike lens f.begun made left i w ks s t h k) 0 ws (mails_in m) s0 s1 f.each alike in
     let served = Served.serving lens recover made coming r place got s0 s1 s2 s3 s4 rooms frees ahead readied visited came f.begun index left next before.datagrams fewer c.coming-coming.ensures.oldest ws (mails_in m) (mails_in c.lay.new.self) at over d before.each all c.lay.ensures.mails refl in
+    let handed = three_each (λ i w p s. IsHanding lens f.begun w p.work (knows s.side.hand.course)) (λ i w p s. IsHanding lens f.begun w p.work (knows s.side.hand.course)) (λ s t. Served.Alike s t)
+    (λ i w p s t h k. subst (λ z. IsHanding lens f.begun w p.work z) (sym k.known) h) 0 ws m.posts.items s0 s1 f.handed alike in
     let moved = steps_trans _ _ (λ p q. Served.Moved lens recover made coming r place got s0 s1 s2 s3 s4 rooms frees ahead readied visited came f.begun index left next before.datagrams fewer c.coming-coming.ensures.oldest p q) place m.posts.items c.lay.new.self.posts.items c.came.new.self.posts.items
     (λ p x q a b. record { mid = x; lays = a; works = b }) c.lay.ensures.works c.came.ensures.works in
     let goes = Served.all_go lens recover made coming r place got s0 s1 s2 s3 s4 rooms frees ahead readied visited came in
@@ -432,7 +438,7 @@ returns-clause-serves c = λ lens recover made forwards left next ws few d at ov
       each = subst (λ z. ThreeFrom (λ i w ks s. IsServing lens begun made next i w ks s) 0 ws z s4) (sym c.came.ensures.mails)
           served;
       handed = Served.handing lens recover made coming r place got s0 s1 s2 s3 s4 rooms frees ahead readied visited came f.begun index left next before.datagrams fewer c.coming-coming.ensures.oldest ws m.posts.items c.came.new.self.posts.items (mails_in c.lay.new.self)
-          at d before.each all refl served moved f.handed;
+          at d before.each all refl served moved handed;
       numbered = both_each _ _ (λ w p. IsNumbered (length w.asked) p) (λ w p q h k. k (length w.asked) h) ws m.posts.items c.came.new.self.posts.items f.numbered
           (each_trans (λ p q. StaysNumbered p q) m.posts.items c.lay.new.self.posts.items c.came.new.self.posts.items (λ p q u y z n h. z n (y n h)) (steps_each _ (λ p q. StaysNumbered p q) place m.posts.items c.lay.new.self.posts.items (λ p n h. h) (λ p q h. h.numbered) told.2)
           (steps_each _ (λ p q. StaysNumbered p q) place c.lay.new.self.posts.items c.came.new.self.posts.items (λ p n h. h) (λ p q h. h.numbered) c.came.ensures.lists));
