@@ -175,7 +175,7 @@ few_sent lens spot stand share ds (FrameFor.one u d h g) =
     go false e = omega (arith, e)
 
 -- and so has its answer
-same_many : (station : ℕ) (sent back : List (Datagram Body)) → Returns sent back → length (own station back) ≡ length (own station sent)
+pub same_many : (station : ℕ) (sent back : List (Datagram Body)) → Returns sent back → length (own station back) ≡ length (own station sent)
 same_many station [] [] r = refl
 same_many station [] (b ∷ back) r = absurd r
 same_many station (s ∷ sent) [] r = absurd r

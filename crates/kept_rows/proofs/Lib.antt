@@ -6,3 +6,4 @@ pub mod Each
 pub mod Held
 pub mod News
 pub mod All
+pub mod Unread

@@ -119,7 +119,7 @@ gram_brings h Ask.Other g ns s = still_brings ns s
 
 -- FRAMES
 module _ (station : ℕ) where
-  none_news : (last : ℕ) (ds : Grams) → SameAim station ds → own station ds ≡ [] → back_news station last ds ≡ []
+  pub none_news : (last : ℕ) (ds : Grams) → SameAim station ds → own station ds ≡ [] → back_news station last ds ≡ []
   none_news last [] a e = refl
   none_news last (d ∷ ds) a e = go (is_for station d.address) refl e
     where
