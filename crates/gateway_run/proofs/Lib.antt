@@ -10,12 +10,9 @@ pub mod Frames
 pub mod Given
 pub mod Hands
 pub mod Judged
-<<<<<<< HEAD
+pub mod Leds
 pub mod Losts
 pub mod Places
-=======
-pub mod Leds
->>>>>>> h1-led2
 pub mod Room
 pub mod Rooms
 pub mod Rounds
