@@ -18,5 +18,6 @@ pub mod Rooms
 pub mod Rounds
 pub mod Telling
 pub mod Told
+pub mod Tolds
 pub mod Turns
 pub mod Views
