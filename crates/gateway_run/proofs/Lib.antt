@@ -19,5 +19,6 @@ pub mod Rounds
 pub mod Telling
 pub mod Told
 pub mod Tolds
+pub mod Turnings
 pub mod Turns
 pub mod Views

@@ -106,7 +106,7 @@ module _ (lens : ℕ → Lens) (recover retry : ℕ) (gives : Bool) (made : ℕ)
       pub shows_is : told_where shows i second ≡ tells_by fate
       pub opened : (p : Passed) → v.hand ≡ Some p → v.turn.lived.life.stand ≡ Stand.Open
       pub own : TellsSo (slave_by fate)
-      pub all : (p : Passed) → v.hand ≡ Some p → (x : Passing) → v.turn.lived.life.era.passing ≡ Some x → (slave_by Pass).lead.lived.life.era.passing ≡ None → AreAll (p.told ++ replies_in v.turn.lived.life.era.passing (accepted lens recover retry gives made sent back v gs i os more came rs1 (λ n. is_in n dones) (λ n. is_in n (dones ++ ended))))
+      pub all : fate ≡ Pass → (p : Passed) → v.hand ≡ Some p → (x : Passing) → v.turn.lived.life.era.passing ≡ Some x → (slave_by Pass).lead.lived.life.era.passing ≡ None → AreAll (p.told ++ replies_in v.turn.lived.life.era.passing (accepted lens recover retry gives made sent back v gs i os more came rs1 (λ n. is_in n dones) (λ n. is_in n (dones ++ ended))))
       pub gone_next : WasGivenUp w → WasGivenUp (serves_of v)
       pub gone : WasGivenUp (serves_of v) → WasGivenUp (slave_by fate)
       pub given_up : (after : ℕ) → fate ≡ Lost after → gives_it lens recover retry gives (Lost after) v ≡ true → WasGivenUp (slave_by fate)
@@ -117,6 +117,20 @@ module _ (lens : ℕ → Lens) (recover retry : ℕ) (gives : Bool) (made : ℕ)
       pub desk : IsDesk gs (os ++ more) i (slave_by fate) comes (waiting_of i rs2) (begun_of i rs2)
       pub fares : (number : ℕ) (asked : Mail) (o : IsOurs gs i number) → request_in o.gram.bytes ≡ Ok asked →
           Fares w came (waiting_of i rs) (begun_of i rs) (is_in number dones) number asked (owed_for number os) → Fares (slave_by fate) comes (waiting_of i rs2) (begun_of i rs2) (is_in number (dones ++ ended)) number asked (owed_for number (os ++ more))
+
+    -- what is said of the slave's own requests is said of all
+    to_all : (P : List Request → List Request → Type 0) (qs all : List Request) → requests_of i all ≡ qs → P (waiting_of i qs) (begun_of i qs) → P (waiting_of i all) (begun_of i all)
+    to_all P qs all e p = subst (λ bs. P (waiting_of i all) bs) (begun_here i all) (subst (λ ws. P ws (begun_of i (requests_of i all))) (waits_here i all) (subst (λ z. P (waiting_of i z) (begun_of i z)) (sym e) p))
+
+    to_own : (P : List Request → List Request → Type 0) (all : List Request) → P (waiting_of i all) (begun_of i all) → P (waiting_of i (requests_of i all)) (begun_of i (requests_of i all))
+    to_own P all p = subst (λ bs. P (waiting_of i (requests_of i all)) bs) (sym (begun_here i all)) (subst (λ ws. P ws (begun_of i all)) (sym (waits_here i all)) p)
+
+    -- ITS DESK BEFORE THE FRAME, and what each of its datagrams got
+    module _ (once : AreOnce first) (own : (k : ℕ) → AreOf k rs (begins k)) (datagrams : List Raw.Datagram) (turn : IsServedTurn lens made datagrams w v) (number forwards oldest : ℕ) (is : told_where begins i first ≡ begun_told i number forwards oldest v.turn.begun) (gone : WasGivenUp w → WasGivenUp (serves_of v)) where
+      pub slave_first : IsDesk gs os i w came (waiting_of i rs) (begun_of i rs) → HasBegun lens made datagrams w v turn gs i os came (requests_of i rs) (requests_of i rs1)
+      slave_first d = subst (HasBegun lens made datagrams w v turn gs i os came (requests_of i rs))
+          (sym (places_leave i 0 begins first rs once own ∙ ap (λ es. left_by_all es (requests_of i rs)) is))
+          (slave_begins lens made datagrams w v turn gs i os came (requests_of i rs) gone (to_own (IsDesk gs os i w came) rs d) number forwards oldest)
 
     module _ (a : AllKnown) where
       heard1 : All (IsHeard gs) rs1
@@ -158,18 +172,9 @@ module _ (lens : ℕ → Lens) (recover retry : ℕ) (gives : Bool) (made : ℕ)
             ∙ sym (only_in n (done_by_all (told_where shows i second) (requests_of i rs1))));
       }
 
-      -- what is said of the slave's own requests is said of all
-      to_all : (P : List Request → List Request → Type 0) (qs all : List Request) → requests_of i all ≡ qs → P (waiting_of i qs) (begun_of i qs) → P (waiting_of i all) (begun_of i all)
-      to_all P qs all e p = subst (λ bs. P (waiting_of i all) bs) (begun_here i all) (subst (λ ws. P ws (begun_of i (requests_of i all))) (waits_here i all) (subst (λ z. P (waiting_of i z) (begun_of i z)) (sym e) p))
-
-      to_own : (P : List Request → List Request → Type 0) (all : List Request) → P (waiting_of i all) (begun_of i all) → P (waiting_of i (requests_of i all)) (begun_of i (requests_of i all))
-      to_own P all p = subst (λ bs. P (waiting_of i (requests_of i all)) bs) (sym (begun_here i all)) (subst (λ ws. P ws (begun_of i all)) (sym (waits_here i all)) p)
-
       module _ (fate : Fate) (s : SlaveSteps fate) (d : IsDesk gs os i w came (waiting_of i rs) (begun_of i rs)) where
         begun1 : HasBegun lens made s.datagrams w v s.turn gs i os came (requests_of i rs) (requests_of i rs1)
-        begun1 = subst (HasBegun lens made s.datagrams w v s.turn gs i os came (requests_of i rs))
-            (sym (places_leave i 0 begins first rs a.once1 a.own1 ∙ ap (λ es. left_by_all es (requests_of i rs)) s.begins_is))
-            (slave_begins lens made s.datagrams w v s.turn gs i os came (requests_of i rs) s.gone_next (to_own (IsDesk gs os i w came) rs d) s.number s.forwards s.oldest)
+        begun1 = slave_first a.once1 a.own1 s.datagrams s.turn s.number s.forwards s.oldest s.begins_is s.gone_next d
 
         -- behind the frame
         stepped : HasTold gs i (serves_of v) (slave_by fate) os more begun1.comes (requests_of i rs1) (λ n. is_in n dones) (λ n. is_in n (dones ++ ended)) (left_by_all (tells_by fate) (requests_of i rs1)) → HasStepped fate
@@ -190,7 +195,7 @@ module _ (lens : ℕ → Lens) (recover retry : ℕ) (gives : Bool) (made : ℕ)
           (record {
             opened = s.opened;
             own = s.own;
-            all = s.all;
+            all = s.all refl;
             gone = s.gone;
             apart = apart1;
             besides = subst (λ es. OwesBesides gs i os more (requests_of i rs1) es (λ n. is_in n dones) (λ n. is_in n (dones ++ ended))) s.shows_is besides;
