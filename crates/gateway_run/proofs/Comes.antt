@@ -47,7 +47,7 @@ for_begun gs r k f = record {
   same = f.same;
 }
 
-known_at : (gs : List GramIn) (n : ℕ) (g : GramIn) → slice_get gs n ≡ Some g → n < length gs
+pub known_at : (gs : List GramIn) (n : ℕ) (g : GramIn) → slice_get gs n ≡ Some g → n < length gs
 known_at [] n g e = absurd (cc)
 known_at (h ∷ gs) zero g e = omega arith
 known_at (h ∷ gs) (suc n) g e = (let l = known_at gs n g e in omega (arith, l))

@@ -16,6 +16,7 @@ pub mod Places
 pub mod Room
 pub mod Rooms
 pub mod Rounds
+pub mod Stepping
 pub mod Telling
 pub mod Told
 pub mod Tolds

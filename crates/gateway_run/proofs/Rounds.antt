@@ -46,7 +46,7 @@ only_in n (m ∷ ns) = go (n == m) refl (only_in n ns)
 only_append : (n : ℕ) (ns ms : List ℕ) → only n (ns ++ ms) ≡ only n ns ++ only n ms
 only_append n ns ms = filter-append (λ k. n == k) ns ms
 
-in_both : (n : ℕ) (ns ms : List ℕ) → is_in n (ns ++ ms) ≡ (if is_in n ms then true else is_in n ns)
+pub in_both : (n : ℕ) (ns ms : List ℕ) → is_in n (ns ++ ms) ≡ (if is_in n ms then true else is_in n ns)
 in_both n [] ms = go (is_in n ms)
   where
     go : (b : Bool) → b ≡ (if b then true else false)

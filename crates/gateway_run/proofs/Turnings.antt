@@ -16,7 +16,7 @@ use Rattle.master_node.specs.Serving.{run_lead, run_turn, serves_of}
 use Rattle.master_node.specs.Shows.{is_carried}
 use Rattle.master_node.specs.declared.event.Event.{Event}
 use Rattle.master_node.specs.declared.event.Event.TheVariants as events
-use Rattle.master_node.specs.of_counters_kept.Lives.{LifeKept}
+use Rattle.kept_rows.specs.of_counters_kept.Lives.{LifeKept}
 use Rattle.master_node.specs.of_datagrams.Datagram as Raw
 use Rattle.master_node.specs.of_datagrams.Frame.{IsFrame, chained}
 use Rattle.master_node.specs.of_frame_view.Seen.{seen}

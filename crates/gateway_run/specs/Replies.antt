@@ -5,24 +5,24 @@ use Rattle.master_node.specs.of_life_frames.of_exchange_model.Exchange.{plain}
 use Rattle.master_node.specs.of_life_frames.of_exchange_model.Rows.{Row}
 use Rattle.gateway_core.specs.Framing.{request_in}
 use Rattle.gateway_core.specs.declared.framing.GatewayFault.{GatewayFault}
-use Rattle.kept_rows.specs.Rows.{AreAll, passed_rows}
+use Rattle.kept_rows.specs.Rows.{AreAll, ToldAll, passed_rows}
 use Rattle.kept_rows.specs.of_served_runs.Served.{Keyed, Serves}
 use Rattle.kept_rows.specs.of_served_runs.Told.{Passed}
 use Rattle.mailbox_mail.specs.Mail.{error_of}
 use Rattle.mailbox_mail.specs.declared.mail.Mail.{Mail}
 use Rattle.master_node.specs.of_life_frames.Shares.{AllBoth}
+use Rattle.master_node.specs.of_life_runs.Led.{Exchanged}
 use Rattle.master_node.specs.of_life_runs.of_link_mails.Body.{Body}
 use Rattle.master_node.specs.of_master_duty.Reply.{Reply}
 use Rattle.master_node.specs.of_master_hand.Spoken.{Asked, emission, passed}
 use Rattle.master_node.specs.of_master_tour.Made.{is_in}
 use Rattle.master_node.specs.of_segment_model.Ends.{Passing}
 use Rattle.run_book.specs.declared.book.GramIn.{GramIn}
-use Rattle.run_book.specs.declared.book.SentFrame.{SentFrame}
-use Rattle.run_record.specs.Led.{exchanged}
 use Rattle.run_record.specs.Served.{Serving}
 use Rattle.run_record.specs.Session.{SessionState}
 use Rattle.segment_plan.specs.declared.plan.Scenario.{Scenario}
 use Rattle.gateway_run.specs.Account.{Owing}
+use Rattle.gateway_run.specs.Desk.{AreApart}
 use Rattle.gateway_run.specs.Rooms.{AreFiled, AreRising, begun_of, grams_of, owed_for, waiting_of}
 use Rattle.gateway_run.specs.declared.desk.Request.{Request}
 
@@ -141,12 +141,15 @@ AllDesk gs rs os slave _ _ = ⊥
 abbrev pub IsUndone : List ℕ → Request → Type 0
 IsUndone dones r = is_in r.gram dones ≡ false
 
--- THE COURSE OF A SERVING by the lives of its slaves: its session is led, each desk is what the lives have, and each datagram got what is its own
-pub record Answers (plan : Scenario) (s : SessionState) (fs : List SentFrame) (gs : List GramIn) (rs : List Request) (os : List Owing) (dones : List ℕ) : Type 0 where
-  pub serving : Serving plan s (map exchanged fs)
+-- THE COURSE OF A SERVING by the lives of its slaves: its session is led by these frames, each desk is what the lives have, and each datagram got what is its own
+pub record Answers (plan : Scenario) (s : SessionState) (fs : List Exchanged) (gs : List GramIn) (rs : List Request) (os : List Owing) (dones : List ℕ) : Type 0 where
+  pub serving : Serving plan s fs
   pub came : List (List ℕ)
   pub desk : AllDesk gs rs os 0 serving.leading.serves came
-  -- the requests that aren't finished: each is of a datagram of its own, that was heard and isn't done
+  -- what was told of the mail passed on last to each slave are all its replies, where it is over
+  pub told : All ToldAll serving.leading.serves
+  -- the requests that aren't finished: each is of a datagram of its own, that was heard and isn't done, and under a key of its own
+  pub apart : AreApart rs
   pub filed : AreFiled rs
   pub heard : All (IsHeard gs) rs
   pub undone : All (IsUndone dones) rs
