@@ -147,6 +147,21 @@ module _ (P : ℕ → Type 0) where
   events_owe [] rs a = All-nil (λ (o : Owing). P o.gram)
   events_owe (e ∷ es) rs a = All-append (λ (o : Owing). P o.gram) (owed_by e rs) (owed_by_all es (left_by e rs)) (event_owes e rs a) (events_owe es (left_by e rs) (event_keeps (λ (r : Request). P r.gram) (λ r p. p) e rs a))
 
+  -- and so with the rows that are done
+  event_ends : (e : Event) (rs : List Request) → All (λ (r : Request). P r.gram) rs → All P (done_by e rs)
+  event_ends (events.Began slave origin) rs a = All-nil P
+  event_ends (events.GivenUp slave) rs a = All-nil P
+  event_ends (events.GatewayReply key mail) rs a = All-nil P
+  event_ends (events.GatewayDone key) rs a = All-map P (λ (r : Request). r.gram) (filter (has_key key) rs) (All-filter (has_key key) (λ (r : Request). P r.gram) rs a)
+  event_ends (events.Answered slave kind) rs a = All-nil P
+  event_ends (events.Emergency slave octets) rs a = All-nil P
+  event_ends (events.Cleared slave own) rs a = All-nil P
+  event_ends (events.Opened slave) rs a = All-nil P
+
+  pub events_end : (es : List Event) (rs : List Request) → All (λ (r : Request). P r.gram) rs → All P (done_by_all es rs)
+  events_end [] rs a = All-nil P
+  events_end (e ∷ es) rs a = All-append P (done_by e rs) (done_by_all es (left_by e rs)) (event_ends e rs a) (events_end es (left_by e rs) (event_keeps (λ (r : Request). P r.gram) (λ r p. p) e rs a))
+
 -- A DATAGRAM THAT WAS NOT PASSED ON has no request
 pub no_request : (gs : List GramIn) (n : ℕ) (g : GramIn) (rs : List Request) → slice_get gs n ≡ Some g → g.queued ≡ None → All (IsHeard gs) rs → All (λ (r : Request). r.gram ≢ n) rs
 no_request gs n g rs there nowhere heard = All-weaker (IsHeard gs) (λ (r : Request). r.gram ≢ n) (λ r h s. (
@@ -235,6 +250,9 @@ module _ (plan : Scenario) (s s' : SessionState) (fs : List Exchanged) (f : Exch
   filed1 : AreFiled rs1
   filed1 = events_unlike (λ (r : Request). r.gram) (λ r. refl) (told_in begins first) rs old.filed
 
+  known1 : All (λ (r : Request). r.gram < length gs) rs1
+  known1 = All-weaker (IsHeard gs) (λ (r : Request). r.gram < length gs) (λ r h. known_at gs r.gram h.gram h.there) rs1 heard1
+
   got_on : (n : ℕ) (g : GramIn) → slice_get gs n ≡ Some g → Got ws old.came rs dones n g (owed_for n os) → Got (map goes on.turns) turned.comes rs2 (dones ++ ended) n g (owed_for n (os ++ more))
   got_on n g there (ignored fault e q none) = ignored fault e q (no_more n os (told_in shows second) rs1 (no_request gs n g rs1 there q heard1) ∙ none)
   got_on n g there (refused asked detail e q one) = refused asked detail e q (no_more n os (told_in shows second) rs1 (no_request gs n g rs1 there q heard1) ∙ one)
@@ -261,8 +279,8 @@ module _ (plan : Scenario) (s s' : SessionState) (fs : List Exchanged) (f : Exch
     undone = both_off dones ended rs2
         (events_keep (IsUndone dones) (λ r u. u) (told_in shows second) rs1 (events_keep (IsUndone dones) (λ r u. u) (told_in begins first) rs old.undone))
         (events_off (told_in shows second) rs1 filed1);
-    owed = All-append (λ (o : Owing). o.gram < length gs) os more old.owed
-        (events_owe (λ n. n < length gs) (told_in shows second) rs1 (All-weaker (IsHeard gs) (λ (r : Request). r.gram < length gs) (λ r h. known_at gs r.gram h.gram h.there) rs1 heard1));
+    ended = All-append (λ (n : ℕ). n < length gs) dones ended old.ended (events_end (λ n. n < length gs) (told_in shows second) rs1 known1);
+    owed = All-append (λ (o : Owing). o.gram < length gs) os more old.owed (events_owe (λ n. n < length gs) (told_in shows second) rs1 known1);
     got = subst (λ z. AllGot z turned.comes rs2 (dones ++ ended) (os ++ more) 0 gs) (sym on.serves)
         (got_all 0 gs (λ j m e. ap (slice_get gs) (let same : m ≡ j = omega (arith, e) in same)) old.got);
   }

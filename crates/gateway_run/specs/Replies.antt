@@ -153,6 +153,7 @@ pub record Answers (plan : Scenario) (s : SessionState) (fs : List Exchanged) (g
   pub filed : AreFiled rs
   pub heard : All (IsHeard gs) rs
   pub undone : All (IsUndone dones) rs
-  -- nothing is owed by a datagram that wasn't heard
+  -- nothing is owed by a datagram that wasn't heard, and no row of one is done
+  pub ended : All (λ (n : ℕ). n < length gs) dones
   pub owed : All (λ (o : Owing). o.gram < length gs) os
   pub got : AllGot serving.leading.serves came rs dones os 0 gs

@@ -1,4 +1,5 @@
 pub use Rattle.exchange_model.proofs as of_exchange_model
+pub use Rattle.served_runs.proofs as of_served_runs
 pub mod Stay
 pub mod Next
 pub mod Behind
