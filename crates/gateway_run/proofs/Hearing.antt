@@ -1,40 +1,32 @@
 -- A DATAGRAM MORE OF A SERVING: its desks and its datagrams behind that.
 use Rattle.std.proofs.Common.{◌≡◌, ◌<◌, ◌≤◌, ℕ, zero, suc, ◌+◌, Bool, true, false, inl, inr, Option, Some, None, List, [], ◌∷◌, ◌++◌, length, map, refl, sym, ap, ◌∙◌, subst, append-nil, append_assoc, length-append, eq-eqb, eqb-true, arith}
-use Rattle.std.specs.Prelude.{◌≢◌, ◌==◌, ◌&&◌, cond, filter, if◌then◌else◌, not, slice_get, All, Ok, Err}
+use Rattle.std.specs.Prelude.{◌≢◌, ◌==◌, ◌&&◌, cond, filter, if◌then◌else◌, not, slice_get, slice_index_or, All}
 use Rattle.std.proofs.lemmas.List.{map-append}
 use Rattle.std.proofs.lemmas.List.Elements.{All-nil, All-append, All-cons, All-head, All-map, All-push, All-tail, All-weaker, filter-append}
 use Rattle.kept_rows.specs.Rows.{ToldAll, passed_rows}
-use Rattle.kept_rows.specs.of_served_runs.Served.{Keyed, MayAsk, Serves, asked_at}
+use Rattle.kept_rows.specs.of_served_runs.Served.{Keyed, Serves, asked_at}
 use Rattle.kept_rows.specs.of_served_runs.Told.{Passed}
-use Rattle.mailbox_mail.specs.Mail.{error_of}
 use Rattle.mailbox_mail.specs.declared.mail.Mail.{Mail}
-use Rattle.master_node.specs.of_frame_view.View.{Lens}
 use Rattle.master_node.specs.of_life_frames.Shares.{AllBoth}
-use Rattle.master_node.specs.of_life_runs.First.{lens_of}
-use Rattle.master_node.specs.of_life_runs.Led.{Exchanged}
 use Rattle.master_node.specs.of_life_runs.of_link_mails.Body.{Body}
 use Rattle.master_node.specs.of_master_tour.Made.{is_in}
 use Rattle.run_book.specs.declared.book.GramIn.{GramIn}
-use Rattle.run_record.specs.Session.{SessionState}
-use Rattle.run_record.specs.of_run_notes.Slaves.{home_of}
-use Rattle.segment_plan.specs.Sound.{IsPlan}
-use Rattle.segment_plan.specs.declared.plan.Scenario.{Scenario}
-use Rattle.gateway_run.specs.Account.{IsFree, IsIgnored, IsQueued, IsRefused, IsTooMany, Judges, Judges.ignored as is_ignored, Judges.refused as is_refused, Judges.too_many, Judges.queues, Owing, waits_at}
+use Rattle.gateway_run.specs.Account.{Owing, waits_at}
 use Rattle.gateway_run.specs.Rooms.{AreRising, begun_of, grams_of, has_begun, owed_for, waiting_of}
-use Rattle.gateway_run.specs.Replies.{AllDesk, AllGot, Answers, Fares, Fares.dropped, Fares.replies, Fares.waits, Got, Got.ignored, Got.queued, Got.refused, HasRow, IsDesk, IsFor, IsHeard, IsNew, IsNewest, IsUndone, StandsSo}
+use Rattle.gateway_run.specs.Replies.{AllDesk, Fares, Fares.dropped, Fares.replies, Fares.waits, HasRow, IsDesk, IsFor, IsHeard, IsNew, IsNewest, StandsSo}
 use Rattle.gateway_run.specs.declared.desk.Request.{Request}
-use Rattle.gateway_run.proofs.Accounts.{apart_push, get_on, unlike_push}
+use Rattle.gateway_run.proofs.Accounts.{get_on}
 use Rattle.gateway_run.proofs.Comes.{known_at}
-use Rattle.gateway_run.proofs.Hands.{among_at, at_last, in_head, rises_on}
-use Rattle.gateway_run.proofs.Rooms.{not_same, owed_append, owed_one}
+use Rattle.gateway_run.proofs.Hands.{in_head, rises_on}
+use Rattle.gateway_run.proofs.Rooms.{not_same}
 
 -- NUMBERS BELOW
-below_out : (n : ℕ) (ns : List ℕ) → All (λ (m : ℕ). m < n) ns → is_in n ns ≡ false
+pub below_out : (n : ℕ) (ns : List ℕ) → All (λ (m : ℕ). m < n) ns → is_in n ns ≡ false
 below_out n [] a = refl
 below_out n (m ∷ ns) a =
     in_head n m false (not_same n m (λ s. (let less : m < n = All-head (λ (k : ℕ). k < n) m ns a in omega (arith, less, s)))) ns ∙ below_out n ns (All-tail (λ (k : ℕ). k < n) m ns a)
 
-none_owed : (n : ℕ) (os : List Owing) → All (λ (o : Owing). o.gram < n) os → owed_for n os ≡ []
+pub none_owed : (n : ℕ) (os : List Owing) → All (λ (o : Owing). o.gram < n) os → owed_for n os ≡ []
 none_owed n [] a = refl
 none_owed n (o ∷ os) a =
     ap (λ (z : Bool). map (λ (p : Owing). p.mail) (cond z (o ∷ filter (λ (p : Owing). p.gram == n) os) (filter (λ (p : Owing). p.gram == n) os)))
@@ -45,7 +37,7 @@ in_last : (n m : ℕ) (ns : List ℕ) → n ≢ m → is_in n (ns ++ m ∷ []) �
 in_last n m [] off = in_head n m false (not_same n m off) []
 in_last n m (k ∷ ns) off = ap (λ z. if n == k then true else z) (in_last n m ns off)
 
-grams_push : (rs : List Request) (r : Request) → grams_of (rs ++ r ∷ []) ≡ grams_of rs ++ r.gram ∷ []
+pub grams_push : (rs : List Request) (r : Request) → grams_of (rs ++ r ∷ []) ≡ grams_of rs ++ r.gram ∷ []
 grams_push rs r = map-append (λ (q : Request). q.gram) rs (r ∷ [])
 
 both_weaker : {S T : Type 0} (P Q : S → T → Type 0) → ((x : S) (y : T) → P x y → Q x y) → (xs : List S) (ys : List T) → AllBoth P xs ys → AllBoth Q xs ys
@@ -66,7 +58,7 @@ both_first P Q h (x ∷ xs) [] a = absurd a
 both_first P Q h (x ∷ xs) (y ∷ ys) a = All-cons Q x xs (h x y a.0) (both_first P Q h xs ys a.1)
 
 -- A MAIL THAT IS ASKED waits at its slave alone
-waits_push : (j : ℕ) (rs : List Request) (r : Request) → r.begun ≡ false → r.slave ≡ j → waiting_of j (rs ++ r ∷ []) ≡ waiting_of j rs ++ r ∷ []
+pub waits_push : (j : ℕ) (rs : List Request) (r : Request) → r.begun ≡ false → r.slave ≡ j → waiting_of j (rs ++ r ∷ []) ≡ waiting_of j rs ++ r ∷ []
 waits_push j rs r b s =
     filter-append (waits_at j) rs (r ∷ [])
     ∙ ap (λ (z : Bool). waiting_of j rs ++ cond z (r ∷ []) []) (λ i. eq-eqb r.slave j s i && not (b i))
@@ -84,28 +76,29 @@ begun_same j rs r b =
     never false = refl
 
 -- the slaves, one of which a mail is asked of
-asked_lookup : (place : ℕ) (k : Keyed) (ws : List Serves) (j : ℕ) (w : Serves) → slice_get ws j ≡ Some w → (u : Serves) × (slice_get (asked_at place k ws) j ≡ Some u) × (u.lead ≡ w.lead)
+pub asked_lookup : (place : ℕ) (k : Keyed) (ws : List Serves) (j : ℕ) (w : Serves) → slice_get ws j ≡ Some w → (u : Serves) × (slice_get (asked_at place k ws) j ≡ Some u) × (u.lead ≡ w.lead)
 asked_lookup place k [] j w e = absurd (cc)
 asked_lookup zero k (x ∷ ws) zero w e = (record x { asked = x.asked ++ k ∷ []; waits = x.waits ++ k ∷ [] }, refl, ap (λ (z : Serves). z.lead) (let same : x ≡ w = cc in same))
 asked_lookup zero k (x ∷ ws) (suc j) w e = (w, e, refl)
 asked_lookup (suc place) k (x ∷ ws) zero w e = (w, e, refl)
 asked_lookup (suc place) k (x ∷ ws) (suc j) w e = asked_lookup place k ws j w e
 
-asked_told : (place : ℕ) (k : Keyed) (ws : List Serves) → All ToldAll ws → All ToldAll (asked_at place k ws)
+pub asked_told : (place : ℕ) (k : Keyed) (ws : List Serves) → All ToldAll ws → All ToldAll (asked_at place k ws)
 asked_told place k [] a = All-nil ToldAll
 asked_told zero k (w ∷ ws) a = All-cons ToldAll (record w { asked = w.asked ++ k ∷ []; waits = w.waits ++ k ∷ [] }) ws (All-head ToldAll w ws a) (All-tail ToldAll w ws a)
 asked_told (suc place) k (w ∷ ws) a = All-cons ToldAll w (asked_at place k ws) (All-head ToldAll w ws a) (asked_told place k ws (All-tail ToldAll w ws a))
 
 module _ (gs : List GramIn) (g : GramIn) (os more : List Owing) (quiet : (n : ℕ) → n < length gs → owed_for n (os ++ more) ≡ owed_for n os) where
-  abbrev all : List GramIn
-  abbrev now : List Owing
+  abbrev pub all : List GramIn
   all = gs ++ g ∷ []
+
+  abbrev pub now : List Owing
   now = os ++ more
 
-  longer : (n : ℕ) → n < length gs → n < length all
+  pub longer : (n : ℕ) → n < length gs → n < length all
   longer n less = let long = length-append gs (g ∷ []) in omega (arith, long, less)
 
-  heard_more : (r : Request) → IsHeard gs r → IsHeard all r
+  pub heard_more : (r : Request) → IsHeard gs r → IsHeard all r
   heard_more r h = record { gram = h.gram; there = get_on gs (g ∷ []) r.gram h.gram h.there; queued = h.queued }
 
   for_more : (r : Request) (k : Keyed) → IsFor gs r k → IsFor all r k
@@ -135,7 +128,7 @@ module _ (gs : List GramIn) (g : GramIn) (os more : List Owing) (quiet : (n : �
     in_hand = both_weaker (IsFor gs) (IsFor all) for_more begun _ d.in_hand;
     its = d.its;
     newest = λ p e. newest_more slave came p (d.newest p e);
-    new = λ k r less. quiet (Rattle.std.specs.Prelude.slice_index_or waiting k r).gram (known_waiting waiting w.waits d.waits k r less) ∙ d.new k r less;
+    new = λ k r less. quiet (slice_index_or waiting k r).gram (known_waiting waiting w.waits d.waits k r less) ∙ d.new k r less;
     many = d.many;
     known = All-weaker (λ (n : ℕ). n < length gs) (λ (n : ℕ). n < length all) longer came d.known;
     rising = d.rising;
@@ -160,7 +153,7 @@ module _ (gs : List GramIn) (g : GramIn) (os more : List Owing) (quiet : (n : �
       }
 
   -- of all from a place on, where none of theirs is asked
-  desks_more : (rs rs' : List Request) (i : ℕ) (ws : List Serves) (nss : List (List ℕ)) → ((j : ℕ) → i ≤ j → (waiting_of j rs' ≡ waiting_of j rs) × (begun_of j rs' ≡ begun_of j rs)) → AllDesk gs rs os i ws nss → AllDesk all rs' now i ws nss
+  pub desks_more : (rs rs' : List Request) (i : ℕ) (ws : List Serves) (nss : List (List ℕ)) → ((j : ℕ) → i ≤ j → (waiting_of j rs' ≡ waiting_of j rs) × (begun_of j rs' ≡ begun_of j rs)) → AllDesk gs rs os i ws nss → AllDesk all rs' now i ws nss
   desks_more rs rs' i [] [] same d = tt
   desks_more rs rs' i [] (ns ∷ nss) same d = absurd d
   desks_more rs rs' i (w ∷ ws) [] same d = absurd d
@@ -175,7 +168,7 @@ module _ (gs : List GramIn) (g : GramIn) (os more : List Owing) (quiet : (n : �
     else_same : (j : ℕ) → r.slave ≢ j → (waiting_of j (rs ++ r ∷ []) ≡ waiting_of j rs) × (begun_of j (rs ++ r ∷ []) ≡ begun_of j rs)
     else_same j off = (waits_else j rs r off, begun_same j rs r new)
 
-    desks_asked : (i place : ℕ) (ws : List Serves) (nss : List (List ℕ)) → r.slave ≡ i + place → AllDesk gs rs os i ws nss → AllDesk all (rs ++ r ∷ []) now i (asked_at place k ws) nss
+    pub desks_asked : (i place : ℕ) (ws : List Serves) (nss : List (List ℕ)) → r.slave ≡ i + place → AllDesk gs rs os i ws nss → AllDesk all (rs ++ r ∷ []) now i (asked_at place k ws) nss
     desks_asked i place [] [] s d = tt
     desks_asked i place [] (ns ∷ nss) s d = absurd d
     desks_asked i place (w ∷ ws) [] s d = absurd_at place d
@@ -197,7 +190,7 @@ module _ (gs : List GramIn) (g : GramIn) (os more : List Owing) (quiet : (n : �
         )
 
     -- WHAT AN EARLIER DATAGRAM GOT
-    fares_asked : (j n : ℕ) (w u : Serves) (came : List ℕ) (done : Bool) (asked : Mail) (mails : List Mail) → u.lead ≡ w.lead → n < length gs → Fares w came (waiting_of j rs) (begun_of j rs) done n asked mails →
+    pub fares_asked : (j n : ℕ) (w u : Serves) (came : List ℕ) (done : Bool) (asked : Mail) (mails : List Mail) → u.lead ≡ w.lead → n < length gs → Fares w came (waiting_of j rs) (begun_of j rs) done n asked mails →
         Fares u came (waiting_of j (rs ++ r ∷ [])) (begun_of j (rs ++ r ∷ [])) done n asked mails
     fares_asked j n w u came done asked mails lead less fares = by fares
       where

@@ -9,7 +9,9 @@ pub mod Ended
 pub mod Frames
 pub mod Given
 pub mod Hands
+pub mod Hearing
 pub mod Judged
+pub mod Judging
 pub mod Leds
 pub mod Losts
 pub mod Places
