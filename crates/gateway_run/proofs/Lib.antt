@@ -1,4 +1,5 @@
 pub mod Accounts
+pub mod Answering
 pub mod Begins
 pub mod Behind
 pub mod Comes

@@ -5,5 +5,5 @@ pub mod Account
 pub mod Desk
 pub mod Rooms
 pub mod Serving
-pub mod Served
 pub mod Replies
+pub mod Served

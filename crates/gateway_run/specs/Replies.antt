@@ -18,12 +18,14 @@ use Rattle.master_node.specs.of_master_hand.Spoken.{Asked, emission, passed}
 use Rattle.master_node.specs.of_master_tour.Made.{is_in}
 use Rattle.master_node.specs.of_segment_model.Ends.{Passing}
 use Rattle.run_book.specs.declared.book.GramIn.{GramIn}
+use Rattle.run_book.specs.declared.book.SentFrame.{SentFrame}
 use Rattle.run_record.specs.Served.{Serving}
 use Rattle.run_record.specs.Session.{SessionState}
 use Rattle.segment_plan.specs.declared.plan.Scenario.{Scenario}
-use Rattle.gateway_run.specs.Account.{Owing}
+use Rattle.gateway_run.specs.Account.{Course, Course.begins, Course.hears, Course.steps, Owing}
 use Rattle.gateway_run.specs.Desk.{AreApart}
-use Rattle.gateway_run.specs.Rooms.{AreFiled, AreRising, begun_of, grams_of, owed_for, waiting_of}
+use Rattle.gateway_run.specs.Events.{events_of}
+use Rattle.gateway_run.specs.Rooms.{AreFiled, AreRising, begun_of, done_by_all, grams_of, owed_for, waiting_of}
 use Rattle.gateway_run.specs.declared.desk.Request.{Request}
 
 -- mails of a slave as they are told, without address and counter
@@ -157,3 +159,9 @@ pub record Answers (plan : Scenario) (s : SessionState) (fs : List Exchanged) (g
   pub ended : All (λ (n : ℕ). n < length gs) dones
   pub owed : All (λ (o : Owing). o.gram < length gs) os
   pub got : AllGot serving.leading.serves came rs dones os 0 gs
+
+-- THE DATAGRAMS WHOSE ROWS WERE DONE in a course, as its session told
+abbrev pub dones_of : (plan : Scenario) (count : ℕ) (s : SessionState) (fs : List SentFrame) (gs : List GramIn) (rs : List Request) (os : List Owing) → Course plan count s fs gs rs os → List ℕ
+dones_of plan count _ _ _ _ _ (begins s first serves) = []
+dones_of plan count _ _ _ _ _ (hears s s' fs gs g rs rs' os more c at judges) = dones_of plan count s fs gs rs os c
+dones_of plan count _ _ _ _ _ (steps s s' fs f gs rs os c m) = dones_of plan count s fs gs rs os c ++ done_by_all (events_of s'.master) rs
