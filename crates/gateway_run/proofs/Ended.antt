@@ -14,8 +14,6 @@ use Rattle.run_book.specs.declared.book.Ending.TheVariants as endings
 use Rattle.run_book.specs.declared.book.GramIn.{GramIn}
 use Rattle.run_book.specs.declared.book.GramOut.{GramOut}
 use Rattle.run_book.specs.declared.book.SentFrame.{SentFrame}
-use Rattle.run_record.specs.Led.{exchanged}
-use Rattle.run_record.specs.Served as Led
 use Rattle.run_record.specs.Served.{ServingBegins}
 use Rattle.run_record.specs.Session.{first_session, session_rows}
 use Rattle.run_record.specs.of_run_notes.Slaves.{home_of}
