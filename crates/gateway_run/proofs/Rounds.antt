@@ -106,7 +106,7 @@ module _ (lens : ℕ → Lens) (recover retry : ℕ) (gives : Bool) (made : ℕ)
       pub shows_is : told_where shows i second ≡ tells_by fate
       pub opened : (p : Passed) → v.hand ≡ Some p → v.turn.lived.life.stand ≡ Stand.Open
       pub own : TellsSo (slave_by fate)
-      pub all : (p : Passed) → v.hand ≡ Some p → (x : Passing) → v.turn.lived.life.era.passing ≡ Some x → (slave_by Pass).lead.lived.life.era.passing ≡ None → AreAll (p.told ++ replies_in v.turn.lived.life.era.passing (accepted lens recover retry gives made sent back v gs i os more came rs1 (λ n. is_in n dones) (λ n. is_in n (dones ++ ended))))
+      pub all : fate ≡ Pass → (p : Passed) → v.hand ≡ Some p → (x : Passing) → v.turn.lived.life.era.passing ≡ Some x → (slave_by Pass).lead.lived.life.era.passing ≡ None → AreAll (p.told ++ replies_in v.turn.lived.life.era.passing (accepted lens recover retry gives made sent back v gs i os more came rs1 (λ n. is_in n dones) (λ n. is_in n (dones ++ ended))))
       pub gone_next : WasGivenUp w → WasGivenUp (serves_of v)
       pub gone : WasGivenUp (serves_of v) → WasGivenUp (slave_by fate)
       pub given_up : (after : ℕ) → fate ≡ Lost after → gives_it lens recover retry gives (Lost after) v ≡ true → WasGivenUp (slave_by fate)
@@ -190,7 +190,7 @@ module _ (lens : ℕ → Lens) (recover retry : ℕ) (gives : Bool) (made : ℕ)
           (record {
             opened = s.opened;
             own = s.own;
-            all = s.all;
+            all = s.all refl;
             gone = s.gone;
             apart = apart1;
             besides = subst (λ es. OwesBesides gs i os more (requests_of i rs1) es (λ n. is_in n dones) (λ n. is_in n (dones ++ ended))) s.shows_is besides;
