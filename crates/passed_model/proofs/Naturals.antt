@@ -136,7 +136,12 @@ module _ {N M : Type 0} (f : N → M) where
     answered_as frame None None = refl
     answered_as frame None (Some r) = refl
 
-    pub back_side : (frame station : ℕ) (back : List (Datagram N)) (d : Side N P S) → OfRow (λ r. EndOne f g h y x r.service (r.heard ++ all_accepted station d.halves (grams back))) d.now →
+    -- an answer stays; so the clients need to end a row alike only as long as it has none
+    answered_so : (frame : ℕ) (a : Option (S × ℕ)) (found : Option S) (other : Option R) → (a ≡ None → option_map h found ≡ other) → answer_of (answer_after frame a found) ≡ answer_after frame (answer_of a) other
+    answered_so frame (Some a) found other same = refl
+    answered_so frame None found other same = answered_as frame None found ∙ ap (λ o. answer_after frame (let none : Option (R × ℕ) = None in none) o) (same refl)
+
+    pub back_side : (frame station : ℕ) (back : List (Datagram N)) (d : Side N P S) → OfRow (λ r. r.answer ≡ None → EndOne f g h y x r.service (r.heard ++ all_accepted station d.halves (grams back))) d.now →
         side_of (side_back y frame station back d) ≡ side_back x frame station (all_as f back) (side_of d)
     back_side frame station back d same =
         let ms : map f (all_accepted station d.halves (grams back)) ≡ all_accepted station (halves_as f d.halves) (grams (all_as f back)) =
@@ -146,14 +151,14 @@ module _ {N M : Type 0} (f : N → M) where
         let now = row d.now same ∙ ap (λ l. option_map (λ r. row_heard x frame l r) (option_map row_of d.now)) ms in
         λ i. record { halves = halves i; fresh = d.fresh && not (wrote i); past = map row_of d.past; now = now i }
       where
-        row : (now : Option (Row N P S)) → OfRow (λ r. EndOne f g h y x r.service (r.heard ++ all_accepted station d.halves (grams back))) now →
+        row : (now : Option (Row N P S)) → OfRow (λ r. r.answer ≡ None → EndOne f g h y x r.service (r.heard ++ all_accepted station d.halves (grams back))) now →
             option_map row_of (option_map (λ r. row_heard y frame (all_accepted station d.halves (grams back)) r) now) ≡ option_map (λ r. row_heard x frame (map f (all_accepted station d.halves (grams back))) r) (option_map row_of now)
         row None same = refl
         row (Some r) same =
             let hs = all_accepted station d.halves (grams back) in
             let heard : map f (r.heard ++ hs) ≡ map f r.heard ++ map f hs = map_append r.heard hs in
-            let ended : option_map h (y.ends r.service (plain y.emission (r.heard ++ hs))) ≡ x.ends (g r.service) (plain x.emission (map f r.heard ++ map f hs)) = same ∙ ap (λ l. x.ends (g r.service) (plain x.emission l)) heard in
-            let answer = answered_as frame r.answer (y.ends r.service (plain y.emission (r.heard ++ hs))) ∙ ap (answer_after frame (answer_of r.answer)) ended in
+            let answer = answered_so frame r.answer (y.ends r.service (plain y.emission (r.heard ++ hs))) (x.ends (g r.service) (plain x.emission (map f r.heard ++ map f hs)))
+            (λ none. same none ∙ ap (λ l. x.ends (g r.service) (plain x.emission l)) heard) in
             λ i. Some (record { service = g r.service; frame = r.frame; told = map f r.told; heard = heard i; answer = answer i })
 
     -- A SIDE before a frame, where both clients plan alike

@@ -30,11 +30,11 @@ pub fn clear_law<V, M, Q, R, C>()
 {}
 
 /// A master's side of a slave is the same where mails are seen otherwise, as with what is meant by them or without, and services and replies have other
-/// names, where its two clients plan and end the row in hand alike: by its choices, by frames that came back, and by lost ones. What frames tell of a slave is the same too.
+/// names, where its two clients plan the row in hand alike, and end it alike as long as it has no answer: by its choices, by frames that came back, and by lost ones. What frames tell of a slave is the same too.
 pub fn erased_law<N, M, P, Q, S, R>()
     ensures next { (f : N → M) (g : P → Q) (h : S → R) (y : Speech N P S) (x : Speech M Q R) → AreOne f g h y x → ((q : P) → PlanOne f g h y x q []) → (frame : ℕ) (d : Side N P S) (c : Choice P) → OfRow (λ r. PlanOne f g h y x r.service r.heard) d.now →
         side_seen f g h (side_next y frame d c) ≡ side_next x frame (side_seen f g h d) (record { begin = option_map g c.begin; hold = c.hold }) }
-    ensures back { (f : N → M) (g : P → Q) (h : S → R) (y : Speech N P S) (x : Speech M Q R) (frame station : ℕ) (back : List (Datagram N)) (d : Side N P S) → OfRow (λ r. EndOne f g h y x r.service (r.heard ++ all_accepted station d.halves (grams back))) d.now →
+    ensures back { (f : N → M) (g : P → Q) (h : S → R) (y : Speech N P S) (x : Speech M Q R) (frame station : ℕ) (back : List (Datagram N)) (d : Side N P S) → OfRow (λ r. r.answer ≡ None → EndOne f g h y x r.service (r.heard ++ all_accepted station d.halves (grams back))) d.now →
         side_seen f g h (side_back y frame station back d) ≡ side_back x frame station (all_as f back) (side_seen f g h d) }
     ensures lost { (f : N → M) (g : P → Q) (h : S → R) (station : ℕ) (sent : List (Datagram N)) (d : Side N P S) → side_seen f g h (side_lost station sent d) ≡ side_lost station (all_as f sent) (side_seen f g h d) }
     ensures news { (f : N → M) (station : ℕ) (kept : Kept) (k : Frame N) → all_news_as f (frame_news station kept k) ≡ frame_news station kept (frame_as f k) }

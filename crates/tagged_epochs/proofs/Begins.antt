@@ -1,0 +1,202 @@
+-- WHAT COMES INTO HAND by a master's choice comes into hand where it is seen what is meant by mails: its side of the slave and its account stay the same.
+use Rattle.std.proofs.Common.{◌≡◌, ◌⊎◌, inl, inr, ℕ, suc, ◌&&◌, Bool, true, false, not, is_none, Option, None, Some, option_map, List, [], ◌∷◌, ◌++◌, map, length, refl, ap, ap₂, sym, ◌∙◌, subst, append-nil, arith, if◌then◌else◌}
+use Rattle.std.specs.Prelude.{⊤, nat_lt}
+use Rattle.std.proofs.lemmas.Bool.Decides.{nat_tests}
+use Rattle.std.proofs.lemmas.List.{map-append, length-map}
+use Rattle.exchange_model.specs.Exchange.{Exchange, Speech}
+use Rattle.exchange_model.specs.Rows.{Row, begun}
+use Rattle.life_model.specs.Lives.{Era, era_next, granted, passing_begins}
+use Rattle.passed_counts.specs.Calm.{calm_tagged}
+use Rattle.passed_model.specs.Client.{ByContents}
+use Rattle.passed_model.specs.Erased.{row_seen, side_seen, OfRow, PlanOne}
+use Rattle.passed_model.proofs.Naturals.{takes_up}
+use Rattle.segment_model.specs.Ends.{Passing}
+use Rattle.segment_model.specs.Seats.{Side, newest, is_over, side_begins, side_next, side_holds, next_mail}
+use Rattle.serving_model.specs.Tagged.{Tagged, Asked}
+use Rattle.serving_model.specs.TaggedStates.{asked_acknowledged}
+use Rattle.passed_whole.specs.Silent.{is_passed}
+use Rattle.state_exchange.specs.Stated.{Stated, Service}
+use Rattle.task_model.specs.Accounts.{Account, Duty, Pick, Started, is_free, is_acknowledged, account_begins, state_begins, starts, mails_begin, mails_choice}
+use Rattle.tagged_lives.specs.Seen.{service_seen, account_seen, era_seen, started_seen, change_seen}
+use Rattle.tagged_epochs.specs.Spoken.{Naming, IsScript, IsPassed, IsNamed, Speaks}
+use Rattle.tagged_epochs.proofs.Clients.{Meant, MeantRow, IsKnown, HasEnded, plans, overs}
+
+not_less : (k : ℕ) → nat_lt k k ≡ false
+not_less k = grind (arith, nat_tests)
+
+both_of : (a b : Bool) → (a && b) ≡ true → (a ≡ true) × (b ≡ true)
+both_of true b e = (refl, e)
+both_of false b e = absurd (let no : false ≡ true = e in cc)
+
+-- a service that may comes into hand
+pub may_begin : {M Q R : Type 0} (x : Speech M Q R) (frame : ℕ) (d : Side M Q R) (now : Option (Row M Q R)) (q : Q) → x.valid q ≡ true → OfRow (λ r. is_over x d.halves.out.holding d.fresh r ≡ true) now →
+    side_begins x frame d now (Some q) ≡ record d { past = d.past ++ newest now; now = Some (begun q frame) }
+may_begin x frame d None q valid over = ap (λ b. if b then record d { now = Some (begun q frame) } else d) valid ∙ (λ i. record d { past = sym (append-nil d.past) i; now = Some (begun q frame) })
+may_begin x frame d (Some r) q valid over = ap₂ (λ (a b : Bool). if a && b then record d { past = d.past ++ r ∷ []; now = Some (begun q frame) } else d) valid over
+
+-- one that may not doesn't
+pub may_not : {M Q R : Type 0} (x : Speech M Q R) (frame : ℕ) (d : Side M Q R) (now : Option (Row M Q R)) (q : Q) → (x.valid q && is_free x d now) ≡ false → side_begins x frame d now (Some q) ≡ d
+may_not x frame d None q no_ = ap (λ b. if b then record d { now = Some (begun q frame) } else d) (first (x.valid q) no_)
+  where
+    first : (b : Bool) → (b && true) ≡ false → b ≡ false
+    first true e = e
+    first false e = refl
+may_not x frame d (Some r) q no_ = ap (λ b. if b then record d { past = d.past ++ r ∷ []; now = Some (begun q frame) } else d) no_
+
+nothing_begins : {M Q R : Type 0} (x : Speech M Q R) (frame : ℕ) (d : Side M Q R) (now : Option (Row M Q R)) → side_begins x frame d now None ≡ d
+nothing_begins x frame d None = refl
+nothing_begins x frame d (Some r) = refl
+
+free_over : {M Q R : Type 0} (x : Speech M Q R) (d : Side M Q R) (now : Option (Row M Q R)) → is_free x d now ≡ true → OfRow (λ r. is_over x d.halves.out.holding d.fresh r ≡ true) now
+free_over x d None e = tt
+free_over x d (Some r) e = e
+
+module _ {V M Q R T : Type 0} (x : Exchange V V M Q R) (calm : V → Bool) (fair : M → Bool) (s : Stated V V Q) (n : Naming M Q T R) (speaks : Speaks n x.speech s.acknowledged) where
+  abbrev y : Speech (Tagged M Q) (Asked M Q) (Option R)
+  y = (calm_tagged x calm fair).speech
+
+  abbrev mail : Tagged M Q → M
+  mail t = t.mail
+
+  abbrev same : Option R → Option R
+  same r = r
+
+  abbrev pub SideHere : Type 0
+  SideHere = Side (Tagged M Q) (Asked M Q) (Option R)
+
+  abbrev pub AccountHere : Type 0
+  AccountHere = Account (Asked M Q) (Option R)
+
+  abbrev sees : SideHere → Side M T (Option R)
+  sees d = side_seen mail n.name same d
+
+  abbrev counts : AccountHere → Account T (Option R)
+  counts a = account_seen mail n.name same a
+
+  abbrev Known : Asked M Q → Type 0
+  Known q = IsKnown x calm fair s.acknowledged n speaks.emission q
+
+  -- what is known of the row in hand
+  pub record RowKnown (d : SideHere) (r : Row (Tagged M Q) (Asked M Q) (Option R)) : Type 0 where
+    pub known : Known r.service
+    pub by : ByContents x.speech.emission r.heard
+    pub ended : HasEnded x calm fair s.acknowledged n speaks.emission r.service d.halves.out.holding d.fresh r
+
+  abbrev pub NowKnown : SideHere → Option (Row (Tagged M Q) (Asked M Q) (Option R)) → Type 0
+  NowKnown d now = OfRow (λ r. RowKnown d r) now
+
+  -- the side is free for one where it is for the other
+  free_seen : (d : SideHere) (now : Option (Row (Tagged M Q) (Asked M Q) (Option R))) → NowKnown d now → is_free n.speech (sees d) (option_map (λ r. row_seen mail n.name same r) now) ≡ true → is_free y d now ≡ true
+  free_seen d None k e = refl
+  free_seen d (Some r) k e = overs x calm fair s.acknowledged n speaks.emission r r.service refl k.known k.by d.halves.out.holding d.fresh k.ended e
+
+  -- and its last mail's write is done for both
+  last_named : (q : Asked M Q) → Known q → n.acknowledged (n.name q) ≡ asked_acknowledged s.acknowledged q
+  last_named (Asked.Script q) k = k.last
+  last_named (Asked.Passed m answers) k = k.last
+
+  none_box : (box : _) → is_none (Rattle.serving_model.specs.Erasing.box_as mail box) ≡ is_none box
+  none_box None = refl
+  none_box (Some m) = refl
+
+  last_seen : (d : SideHere) (now : Option (Row (Tagged M Q) (Asked M Q) (Option R))) → NowKnown d now → is_acknowledged n.acknowledged (sees d) (option_map (λ r. row_seen mail n.name same r) now) ≡ is_acknowledged (asked_acknowledged s.acknowledged) d now
+  last_seen d None k = refl
+  last_seen d (Some r) k = ap₂ (λ (a b : Bool). if a then b else true) (last_named r.service k.known) (none_box d.halves.out.holding)
+
+  abbrev PlansOf : Option (Row (Tagged M Q) (Asked M Q) (Option R)) → Type 0
+  PlansOf now = OfRow (λ r. PlanOne mail n.name same y n.speech r.service r.heard) now
+
+  plans_of : (d : SideHere) (now : Option (Row (Tagged M Q) (Asked M Q) (Option R))) → NowKnown d now → PlansOf now
+  plans_of d None k = tt
+  plans_of d (Some r) k = plans x calm fair s.acknowledged n speaks.emission r.service k.known r.heard k.by
+
+  module _ (frame : ℕ) (d : SideHere) (a : AccountHere) (known : NowKnown d d.now) where
+    abbrev side_begun : Option Duty → Option (Service (Asked M Q)) → SideHere
+    side_begun hand w = side_begins y frame d d.now (mails_begin hand w)
+
+    abbrev account_begun : Option Duty → Option (Service (Asked M Q)) → AccountHere
+    account_begun hand w = account_begins y (asked_acknowledged s.acknowledged) frame d a hand w
+
+    abbrev side_other : Option Duty → Option (Service T) → Side M T (Option R)
+    side_other hand w = side_begins n.speech frame (sees d) (sees d).now (mails_begin hand w)
+
+    abbrev account_other : Option Duty → Option (Service T) → Account T (Option R)
+    account_other hand w = account_begins n.speech n.acknowledged frame (sees d) (counts a) hand w
+
+    abbrev passing_mine : Option Duty → Option (Service (Asked M Q)) → Option Passing
+    passing_mine hand w = passing_begins y (asked_acknowledged s.acknowledged) (λ t. n.more t.mail) is_passed None a (account_begun hand w) w
+
+    abbrev passing_other : Option Duty → Option (Service T) → Option Passing
+    passing_other hand w = passing_begins n.speech n.acknowledged n.more n.passed None (counts a) (account_other hand w) w
+
+    -- THE SAME COMES INTO HAND of both
+    pub record Begun (hand : Option Duty) (mine : Option (Service (Asked M Q))) (other : Option (Service T)) : Type 0 where
+      pub side : sees (side_begun hand mine) ≡ side_other hand other
+      pub plans : PlansOf (side_begun hand mine).now
+      pub account : counts (account_begun hand mine) ≡ account_other hand other
+      pub passing : passing_mine hand mine ≡ passing_other hand other
+
+    -- nothing does
+    none_side : (hand : Option Duty) → side_begun hand None ≡ d
+    none_side None = nothing_begins y frame d d.now
+    none_side (Some duty) = nothing_begins y frame d d.now
+
+    none_account : (hand : Option Duty) → account_begun hand None ≡ a
+    none_account None = refl
+    none_account (Some duty) = refl
+
+    nothing : (hand : Option Duty) (other : Option (Service T)) → side_other hand other ≡ sees d → account_other hand other ≡ counts a → passing_other hand other ≡ None → Begun hand None other
+    nothing hand other side account passing = record {
+      side = ap sees (none_side hand) ∙ sym side;
+      plans = subst (λ (e : SideHere). PlansOf e.now) (sym (none_side hand)) (plans_of d d.now known);
+      account = ap counts (none_account hand) ∙ sym account;
+      passing = sym passing;
+    }
+
+    -- a service does, or a mail that is passed on
+    newest_seen : (now : Option (Row (Tagged M Q) (Asked M Q) (Option R))) → map (λ r. row_seen mail n.name same r) (newest now) ≡ newest (option_map (λ r. row_seen mail n.name same r) now)
+    newest_seen None = refl
+    newest_seen (Some r) = refl
+
+    started_more : (w : Service (Asked M Q)) → map (λ k. started_seen mail n.name same k) (starts a w frame) ≡ starts (counts a) (service_seen n.name w) frame
+    started_more w = map-append (λ k. started_seen mail n.name same k) a.started (record { service = w; frame = frame } ∷ [])
+
+    passed_named : (q : Asked M Q) → Known q → n.passed (n.name q) ≡ is_passed q
+    passed_named (Asked.Script q) k = k.unpassed
+    passed_named (Asked.Passed m answers) k = k.passes
+
+    mails_begun : (q : Asked M Q) (t : T) → n.name q ≡ t → Known q → y.valid q ≡ true → (n.speech.valid t && is_free n.speech (sees d) (sees d).now) ≡ true → Begun None (Some (Service.Mails q)) (Some (Service.Mails t))
+    mails_begun q t e k valid may =
+        let parts = both_of (n.speech.valid t) (is_free n.speech (sees d) (sees d).now) may in
+        let free = free_seen d d.now known parts.1 in
+        let mine = may_begin y frame d d.now q valid (free_over y d d.now free) in
+        let other = may_begin n.speech frame (sees d) (sees d).now t parts.0 (free_over n.speech (sees d) (sees d).now parts.1) in
+        let began : account_begun None (Some (Service.Mails q)) ≡ record a { started = starts a (Service.Mails q) frame } =
+        ap₂ (λ (b c : Bool). if b && c then record a { started = starts a (Service.Mails q) frame } else a) valid free in
+        let began_other : account_other None (Some (Service.Mails t)) ≡ record (counts a) { started = starts (counts a) (Service.Mails t) frame } =
+        ap (λ (b : Bool). if b then record (counts a) { started = starts (counts a) (Service.Mails t) frame } else counts a) may in
+        let account : counts (account_begun None (Some (Service.Mails q))) ≡ account_other None (Some (Service.Mails t)) =
+        ap counts began ∙ ap (λ (l : List (Started T)). record (counts a) { started = l }) (started_more (Service.Mails q) ∙ ap (λ z. starts (counts a) (Service.Mails z) frame) e) ∙ sym began_other in
+        record {
+          side = ap sees mine
+              ∙ ap₂ (λ (l : List (Row M T (Option R))) (z : T). record (sees d) { past = l; now = Some (begun z frame) })
+              (map-append (λ r. row_seen mail n.name same r) d.past (newest d.now) ∙ ap (λ l. map (λ r. row_seen mail n.name same r) d.past ++ l) (newest_seen d.now)) e ∙ sym other;
+          plans = subst (λ (z : SideHere). PlansOf z.now) (sym mine) (plans x calm fair s.acknowledged n speaks.emission q k [] tt);
+          account = account;
+          passing = ap₂ (λ (b : Bool) (l : ℕ × ℕ). if b && nat_lt l.0 l.1 then Some Passing.Waiting else None) (sym (passed_named q k) ∙ ap n.passed e)
+              (ap₂ (λ (i j : ℕ). (i, j)) (sym (length-map a.started (λ z. started_seen mail n.name same z))) (sym (length-map (account_begun None (Some (Service.Mails q))).started (λ z. started_seen mail n.name same z)) ∙ ap (λ (z : Account T (Option R)). length z.started) account));
+        }
+
+    -- a state service does
+    state_begun : (target : ℕ) → (is_free n.speech (sees d) (sees d).now && is_acknowledged n.acknowledged (sees d) (sees d).now) ≡ true → Begun None (Some (Service.State target)) (Some (Service.State target))
+    state_begun target may =
+        let parts = both_of (is_free n.speech (sees d) (sees d).now) (is_acknowledged n.acknowledged (sees d) (sees d).now) may in
+        let began : account_begun None (Some (Service.State target)) ≡ state_begins a target frame =
+        ap₂ (λ (b c : Bool). if b && c then state_begins a target frame else a) (free_seen d d.now known parts.0) (sym (last_seen d d.now known) ∙ parts.1) in
+        let began_other : account_other None (Some (Service.State target)) ≡ state_begins (counts a) target frame = ap (λ (b : Bool). if b then state_begins (counts a) target frame else counts a) may in
+        record {
+          side = ap sees (nothing_begins y frame d d.now) ∙ sym (nothing_begins n.speech frame (sees d) (sees d).now);
+          plans = subst (λ (z : SideHere). PlansOf z.now) (sym (nothing_begins y frame d d.now)) (plans_of d d.now known);
+          account = ap counts began ∙ ap (λ (l : List (Started T)). record (state_begins (counts a) target frame) { started = l }) (started_more (Service.State target)) ∙ sym began_other;
+          passing = refl;
+        }
