@@ -12,12 +12,16 @@ use Rattle.passed_model.specs.Erased.{row_seen, side_seen, OfRow, PlanOne}
 use Rattle.passed_model.proofs.Naturals.{takes_up}
 use Rattle.segment_model.specs.Ends.{Passing}
 use Rattle.segment_model.specs.Seats.{Side, newest, is_over, side_begins, side_next, side_holds, next_mail}
-use Rattle.serving_model.specs.Tagged.{Tagged, Asked}
+use Rattle.serving_model.specs.Tagged.{Tagged, Asked, asked_exec, no_reply}
 use Rattle.serving_model.specs.TaggedStates.{asked_acknowledged}
 use Rattle.passed_whole.specs.Silent.{is_passed}
 use Rattle.state_exchange.specs.Stated.{Stated, Service}
+use Rattle.state_model.specs.Promises.{state_behind}
+use Rattle.state_model.specs.States.{Table}
+use Rattle.task_model.specs.Promise.{services_in}
 use Rattle.task_model.specs.Accounts.{Account, Duty, Pick, Started, is_free, is_acknowledged, account_begins, state_begins, starts, mails_begin, mails_choice}
 use Rattle.tagged_lives.specs.Seen.{service_seen, account_seen, era_seen, started_seen, change_seen}
+use Rattle.tagged_epochs.specs.Foreseen.{AllRight, server_behind}
 use Rattle.tagged_epochs.specs.Spoken.{Naming, IsScript, IsPassed, IsNamed, Speaks}
 use Rattle.tagged_epochs.proofs.Clients.{Meant, MeantRow, IsKnown, HasEnded, plans, overs}
 
@@ -76,19 +80,22 @@ module _ {V M Q R T : Type 0} (x : Exchange V V M Q R) (calm : V → Bool) (fair
   abbrev Known : Asked M Q → Type 0
   Known q = IsKnown x calm fair s.acknowledged n speaks.emission q
 
-  -- what is known of the row in hand
-  pub record RowKnown (d : SideHere) (r : Row (Tagged M Q) (Asked M Q) (Option R)) : Type 0 where
+  -- what is known of the row in hand: its name, and that contents tell what was heard for it
+  pub record RowKnown (r : Row (Tagged M Q) (Asked M Q) (Option R)) : Type 0 where
     pub known : Known r.service
     pub by : ByContents x.speech.emission r.heard
-    pub ended : HasEnded x calm fair s.acknowledged n speaks.emission r.service d.halves.out.holding d.fresh r
 
-  abbrev pub NowKnown : SideHere → Option (Row (Tagged M Q) (Asked M Q) (Option R)) → Type 0
-  NowKnown d now = OfRow (λ r. RowKnown d r) now
+  abbrev pub NowKnown : Option (Row (Tagged M Q) (Asked M Q) (Option R)) → Type 0
+  NowKnown now = OfRow (λ r. RowKnown r) now
+
+  -- and that its mail is over, where it passes one on
+  abbrev pub NowEnded : SideHere → Option (Row (Tagged M Q) (Asked M Q) (Option R)) → Type 0
+  NowEnded d now = OfRow (λ r. HasEnded x calm fair s.acknowledged n speaks.emission r.service d.halves.out.holding d.fresh r) now
 
   -- the side is free for one where it is for the other
-  free_seen : (d : SideHere) (now : Option (Row (Tagged M Q) (Asked M Q) (Option R))) → NowKnown d now → is_free n.speech (sees d) (option_map (λ r. row_seen mail n.name same r) now) ≡ true → is_free y d now ≡ true
-  free_seen d None k e = refl
-  free_seen d (Some r) k e = overs x calm fair s.acknowledged n speaks.emission r r.service refl k.known k.by d.halves.out.holding d.fresh k.ended e
+  free_seen : (d : SideHere) (now : Option (Row (Tagged M Q) (Asked M Q) (Option R))) → NowKnown now → NowEnded d now → is_free n.speech (sees d) (option_map (λ r. row_seen mail n.name same r) now) ≡ true → is_free y d now ≡ true
+  free_seen d None k ended e = refl
+  free_seen d (Some r) k ended e = overs x calm fair s.acknowledged n speaks.emission r r.service refl k.known k.by d.halves.out.holding d.fresh ended e
 
   -- and its last mail's write is done for both
   last_named : (q : Asked M Q) → Known q → n.acknowledged (n.name q) ≡ asked_acknowledged s.acknowledged q
@@ -99,18 +106,18 @@ module _ {V M Q R T : Type 0} (x : Exchange V V M Q R) (calm : V → Bool) (fair
   none_box None = refl
   none_box (Some m) = refl
 
-  last_seen : (d : SideHere) (now : Option (Row (Tagged M Q) (Asked M Q) (Option R))) → NowKnown d now → is_acknowledged n.acknowledged (sees d) (option_map (λ r. row_seen mail n.name same r) now) ≡ is_acknowledged (asked_acknowledged s.acknowledged) d now
+  last_seen : (d : SideHere) (now : Option (Row (Tagged M Q) (Asked M Q) (Option R))) → NowKnown now → is_acknowledged n.acknowledged (sees d) (option_map (λ r. row_seen mail n.name same r) now) ≡ is_acknowledged (asked_acknowledged s.acknowledged) d now
   last_seen d None k = refl
   last_seen d (Some r) k = ap₂ (λ (a b : Bool). if a then b else true) (last_named r.service k.known) (none_box d.halves.out.holding)
 
   abbrev PlansOf : Option (Row (Tagged M Q) (Asked M Q) (Option R)) → Type 0
   PlansOf now = OfRow (λ r. PlanOne mail n.name same y n.speech r.service r.heard) now
 
-  plans_of : (d : SideHere) (now : Option (Row (Tagged M Q) (Asked M Q) (Option R))) → NowKnown d now → PlansOf now
+  plans_of : (d : SideHere) (now : Option (Row (Tagged M Q) (Asked M Q) (Option R))) → NowKnown now → PlansOf now
   plans_of d None k = tt
   plans_of d (Some r) k = plans x calm fair s.acknowledged n speaks.emission r.service k.known r.heard k.by
 
-  module _ (frame : ℕ) (d : SideHere) (a : AccountHere) (known : NowKnown d d.now) where
+  module _ (frame : ℕ) (d : SideHere) (a : AccountHere) (known : NowKnown d.now) where
     abbrev side_begun : Option Duty → Option (Service (Asked M Q)) → SideHere
     side_begun hand w = side_begins y frame d d.now (mails_begin hand w)
 
@@ -165,38 +172,169 @@ module _ {V M Q R T : Type 0} (x : Exchange V V M Q R) (calm : V → Bool) (fair
     passed_named (Asked.Script q) k = k.unpassed
     passed_named (Asked.Passed m answers) k = k.passes
 
-    mails_begun : (q : Asked M Q) (t : T) → n.name q ≡ t → Known q → y.valid q ≡ true → (n.speech.valid t && is_free n.speech (sees d) (sees d).now) ≡ true → Begun None (Some (Service.Mails q)) (Some (Service.Mails t))
-    mails_begun q t e k valid may =
-        let parts = both_of (n.speech.valid t) (is_free n.speech (sees d) (sees d).now) may in
-        let free = free_seen d d.now known parts.1 in
-        let mine = may_begin y frame d d.now q valid (free_over y d d.now free) in
-        let other = may_begin n.speech frame (sees d) (sees d).now t parts.0 (free_over n.speech (sees d) (sees d).now parts.1) in
-        let began : account_begun None (Some (Service.Mails q)) ≡ record a { started = starts a (Service.Mails q) frame } =
-        ap₂ (λ (b c : Bool). if b && c then record a { started = starts a (Service.Mails q) frame } else a) valid free in
-        let began_other : account_other None (Some (Service.Mails t)) ≡ record (counts a) { started = starts (counts a) (Service.Mails t) frame } =
-        ap (λ (b : Bool). if b then record (counts a) { started = starts (counts a) (Service.Mails t) frame } else counts a) may in
-        let account : counts (account_begun None (Some (Service.Mails q))) ≡ account_other None (Some (Service.Mails t)) =
-        ap counts began ∙ ap (λ (l : List (Started T)). record (counts a) { started = l }) (started_more (Service.Mails q) ∙ ap (λ z. starts (counts a) (Service.Mails z) frame) e) ∙ sym began_other in
-        record {
-          side = ap sees mine
-              ∙ ap₂ (λ (l : List (Row M T (Option R))) (z : T). record (sees d) { past = l; now = Some (begun z frame) })
-              (map-append (λ r. row_seen mail n.name same r) d.past (newest d.now) ∙ ap (λ l. map (λ r. row_seen mail n.name same r) d.past ++ l) (newest_seen d.now)) e ∙ sym other;
-          plans = subst (λ (z : SideHere). PlansOf z.now) (sym mine) (plans x calm fair s.acknowledged n speaks.emission q k [] tt);
-          account = account;
-          passing = ap₂ (λ (b : Bool) (l : ℕ × ℕ). if b && nat_lt l.0 l.1 then Some Passing.Waiting else None) (sym (passed_named q k) ∙ ap n.passed e)
-              (ap₂ (λ (i j : ℕ). (i, j)) (sym (length-map a.started (λ z. started_seen mail n.name same z))) (sym (length-map (account_begun None (Some (Service.Mails q))).started (λ z. started_seen mail n.name same z)) ∙ ap (λ (z : Account T (Option R)). length z.started) account));
+    module _ (ended : NowEnded d d.now) where
+      mails_began : (q : Asked M Q) (t : T) → y.valid q ≡ true → (n.speech.valid t && is_free n.speech (sees d) (sees d).now) ≡ true → account_begun None (Some (Service.Mails q)) ≡ record a { started = starts a (Service.Mails q) frame }
+      mails_began q t valid may = ap₂ (λ (b c : Bool). if b && c then record a { started = starts a (Service.Mails q) frame } else a) valid
+          (free_seen d d.now known ended (both_of (n.speech.valid t) (is_free n.speech (sees d) (sees d).now) may).1)
+
+      mails_begun : (q : Asked M Q) (t : T) → n.name q ≡ t → Known q → y.valid q ≡ true → (n.speech.valid t && is_free n.speech (sees d) (sees d).now) ≡ true → Begun None (Some (Service.Mails q)) (Some (Service.Mails t))
+      mails_begun q t e k valid may =
+          let parts = both_of (n.speech.valid t) (is_free n.speech (sees d) (sees d).now) may in
+          let free = free_seen d d.now known ended parts.1 in
+          let mine = may_begin y frame d d.now q valid (free_over y d d.now free) in
+          let other = may_begin n.speech frame (sees d) (sees d).now t parts.0 (free_over n.speech (sees d) (sees d).now parts.1) in
+          let began = mails_began q t valid may in
+          let began_other : account_other None (Some (Service.Mails t)) ≡ record (counts a) { started = starts (counts a) (Service.Mails t) frame } =
+          ap (λ (b : Bool). if b then record (counts a) { started = starts (counts a) (Service.Mails t) frame } else counts a) may in
+          let account : counts (account_begun None (Some (Service.Mails q))) ≡ account_other None (Some (Service.Mails t)) =
+          ap counts began ∙ ap (λ (l : List (Started T)). record (counts a) { started = l }) (started_more (Service.Mails q) ∙ ap (λ z. starts (counts a) (Service.Mails z) frame) e) ∙ sym began_other in
+          record {
+            side = ap sees mine
+                ∙ ap₂ (λ (l : List (Row M T (Option R))) (z : T). record (sees d) { past = l; now = Some (begun z frame) })
+                (map-append (λ r. row_seen mail n.name same r) d.past (newest d.now) ∙ ap (λ l. map (λ r. row_seen mail n.name same r) d.past ++ l) (newest_seen d.now)) e ∙ sym other;
+            plans = subst (λ (z : SideHere). PlansOf z.now) (sym mine) (plans x calm fair s.acknowledged n speaks.emission q k [] tt);
+            account = account;
+            passing = ap₂ (λ (b : Bool) (l : ℕ × ℕ). if b && nat_lt l.0 l.1 then Some Passing.Waiting else None) (sym (passed_named q k) ∙ ap n.passed e)
+                (ap₂ (λ (i j : ℕ). (i, j)) (sym (length-map a.started (λ z. started_seen mail n.name same z))) (sym (length-map (account_begun None (Some (Service.Mails q))).started (λ z. started_seen mail n.name same z)) ∙ ap (λ (z : Account T (Option R)). length z.started) account));
+          }
+
+      -- a state service does
+      state_began : (target : ℕ) → (is_free n.speech (sees d) (sees d).now && is_acknowledged n.acknowledged (sees d) (sees d).now) ≡ true → account_begun None (Some (Service.State target)) ≡ state_begins a target frame
+      state_began target may =
+          let parts = both_of (is_free n.speech (sees d) (sees d).now) (is_acknowledged n.acknowledged (sees d) (sees d).now) may in
+          ap₂ (λ (b c : Bool). if b && c then state_begins a target frame else a) (free_seen d d.now known ended parts.0) (sym (last_seen d d.now known) ∙ parts.1)
+
+      state_begun : (target : ℕ) → (is_free n.speech (sees d) (sees d).now && is_acknowledged n.acknowledged (sees d) (sees d).now) ≡ true → Begun None (Some (Service.State target)) (Some (Service.State target))
+      state_begun target may =
+          let began = state_began target may in
+          let began_other : account_other None (Some (Service.State target)) ≡ state_begins (counts a) target frame = ap (λ (b : Bool). if b then state_begins (counts a) target frame else counts a) may in
+          record {
+            side = ap sees (nothing_begins y frame d d.now) ∙ sym (nothing_begins n.speech frame (sees d) (sees d).now);
+            plans = subst (λ (z : SideHere). PlansOf z.now) (sym (nothing_begins y frame d d.now)) (plans_of d d.now known);
+            account = ap counts began ∙ ap (λ (l : List (Started T)). record (state_begins (counts a) target frame) { started = l }) (started_more (Service.State target)) ∙ sym began_other;
+            passing = refl;
+          }
+
+      -- THE MASTER'S CHOICE: a mail that is passed on is foreseen as answered just where the server behind all services before it replies to it
+      pub record Chosen (table : Table) (v : V) (hand : Option Duty) (other : Option (Service T)) : Type 0 where
+        pub mine : Option (Service (Asked M Q))
+        pub begun : Begun hand mine other
+        pub right : AllRight x s table v (services_in a.started) → AllRight x s table v (services_in (account_begun hand mine).started)
+
+      module _ (table : Table) (v : V) where
+        -- one service more
+        more_right : (v : V) (qs : List (Service (Asked M Q))) (q : Service (Asked M Q)) → AllRight x s table v qs → AllRight x s table (server_behind x s table v qs) (q ∷ []) → AllRight x s table v (qs ++ q ∷ [])
+        more_right v [] q all one = one
+        more_right v (Service.Mails p ∷ qs) q all one = (all.0, more_right (asked_exec x v p) qs q all.1 one)
+        more_right v (Service.State target ∷ qs) q all one = more_right (s.tell (state_behind table (s.state v) target) v) qs q all one
+
+        starts_right : (b : AccountHere) (q : Service (Asked M Q)) → b.started ≡ starts a q frame → AllRight x s table (server_behind x s table v (services_in a.started)) (q ∷ []) →
+            AllRight x s table v (services_in a.started) → AllRight x s table v (services_in b.started)
+        starts_right b q e one all =
+            subst (AllRight x s table v) (sym (ap services_in e ∙ map-append (λ (z : Started (Asked M Q)). z.service) a.started (record { service = q; frame = frame } ∷ []))) (more_right v (services_in a.started) q all one)
+
+        none_chosen : (hand : Option Duty) (other : Option (Service T)) → Begun hand None other → Chosen table v hand other
+        none_chosen hand other b = record { mine = None; begun = b; right = subst (λ (z : AccountHere). AllRight x s table v (services_in a.started) → AllRight x s table v (services_in z.started)) (sym (none_account hand)) (λ all. all) }
+
+        abbrev MayMails : T → Bool
+        MayMails t = n.speech.valid t && is_free n.speech (sees d) (sees d).now
+
+        abbrev foreseen : M → Bool
+        foreseen m = not (no_reply x.speech.emission (x.serve (server_behind x s table v (services_in a.started)) m).1)
+
+        mails_chosen : (q : Asked M Q) (t : T) → n.name q ≡ t → Known q → y.valid q ≡ true → MayMails t ≡ true → AllRight x s table (server_behind x s table v (services_in a.started)) (Service.Mails q ∷ []) → Chosen table v None (Some (Service.Mails t))
+        mails_chosen q t e k valid may one = record {
+          mine = Some (Service.Mails q);
+          begun = mails_begun q t e k valid may;
+          right = starts_right (account_begun None (Some (Service.Mails q))) (Service.Mails q) (ap (λ (z : AccountHere). z.started) (mails_began q t valid may)) one;
         }
 
-    -- a state service does
-    state_begun : (target : ℕ) → (is_free n.speech (sees d) (sees d).now && is_acknowledged n.acknowledged (sees d) (sees d).now) ≡ true → Begun None (Some (Service.State target)) (Some (Service.State target))
-    state_begun target may =
-        let parts = both_of (is_free n.speech (sees d) (sees d).now) (is_acknowledged n.acknowledged (sees d) (sees d).now) may in
-        let began : account_begun None (Some (Service.State target)) ≡ state_begins a target frame =
-        ap₂ (λ (b c : Bool). if b && c then state_begins a target frame else a) (free_seen d d.now known parts.0) (sym (last_seen d d.now known) ∙ parts.1) in
-        let began_other : account_other None (Some (Service.State target)) ≡ state_begins (counts a) target frame = ap (λ (b : Bool). if b then state_begins (counts a) target frame else counts a) may in
-        record {
-          side = ap sees (nothing_begins y frame d d.now) ∙ sym (nothing_begins n.speech frame (sees d) (sees d).now);
-          plans = subst (λ (z : SideHere). PlansOf z.now) (sym (nothing_begins y frame d d.now)) (plans_of d d.now known);
-          account = ap counts began ∙ ap (λ (l : List (Started T)). record (state_begins (counts a) target frame) { started = l }) (started_more (Service.State target)) ∙ sym began_other;
-          passing = refl;
-        }
+        by_name : (t : T) → MayMails t ≡ true → ((m : M) → IsPassed n m t → fair m ≡ true) → IsNamed n x.speech s.acknowledged t → Chosen table v None (Some (Service.Mails t))
+        by_name t may fairly (inl k) =
+            mails_chosen (Asked.Script k.0) t k.1.named (subst (IsScript n x.speech s.acknowledged k.0) (sym k.1.named) k.1) (sym k.1.valid ∙ (both_of (n.speech.valid t) (is_free n.speech (sees d) (sees d).now) may).0) may (tt, tt)
+        by_name t may fairly (inr k) =
+            let answers = foreseen k.0 in
+            mails_chosen (Asked.Passed k.0 answers) t (k.1.named answers) (subst (IsPassed n k.0) (sym (k.1.named answers)) k.1) (fairly k.0 k.1) may (refl, tt)
+
+        lengths_none : (b : Bool) (k : ℕ) → (if b && nat_lt k k then Some Passing.Waiting else None) ≡ None
+        lengths_none true k = ap (λ (b : Bool). if b then Some Passing.Waiting else None) (not_less k)
+        lengths_none false k = refl
+
+        pub choose : (hand : Option Duty) (other : Option (Service T)) → ((t : T) (m : M) → other ≡ Some (Service.Mails t) → hand ≡ None → MayMails t ≡ true → IsPassed n m t → fair m ≡ true) → Chosen table v hand other
+        choose None None fairly = none_chosen None None (nothing None None (nothing_begins n.speech frame (sees d) (sees d).now) refl refl)
+        choose (Some duty) None fairly = none_chosen (Some duty) None (nothing (Some duty) None (nothing_begins n.speech frame (sees d) (sees d).now) refl refl)
+        choose (Some duty) (Some (Service.State target)) fairly = none_chosen (Some duty) (Some (Service.State target)) (nothing (Some duty) (Some (Service.State target)) (nothing_begins n.speech frame (sees d) (sees d).now) refl refl)
+        choose (Some duty) (Some (Service.Mails t)) fairly =
+            none_chosen (Some duty) (Some (Service.Mails t)) (nothing (Some duty) (Some (Service.Mails t)) (nothing_begins n.speech frame (sees d) (sees d).now) refl (lengths_none (n.passed t) (length (counts a).started)))
+        choose None (Some (Service.Mails t)) fairly = go (MayMails t) refl
+          where
+            go : (b : Bool) → MayMails t ≡ b → Chosen table v None (Some (Service.Mails t))
+            go true may = by_name t may (λ m k. fairly t m refl refl may k) (speaks.names t)
+            go false may =
+                let still : account_other None (Some (Service.Mails t)) ≡ counts a = ap (λ (b : Bool). if b then record (counts a) { started = starts (counts a) (Service.Mails t) frame } else counts a) may in
+                none_chosen None (Some (Service.Mails t)) (nothing None (Some (Service.Mails t)) (may_not n.speech frame (sees d) (sees d).now t may) still
+                (ap (λ (z : Account T (Option R)). if n.passed t && nat_lt (length (counts a).started) (length z.started) then Some Passing.Waiting else None) still ∙ lengths_none (n.passed t) (length (counts a).started)))
+        choose None (Some (Service.State target)) fairly = go (is_free n.speech (sees d) (sees d).now && is_acknowledged n.acknowledged (sees d) (sees d).now) refl
+          where
+            go : (b : Bool) → (is_free n.speech (sees d) (sees d).now && is_acknowledged n.acknowledged (sees d) (sees d).now) ≡ b → Chosen table v None (Some (Service.State target))
+            go true may = record {
+              mine = Some (Service.State target);
+              begun = state_begun target may;
+              right = starts_right (account_begun None (Some (Service.State target))) (Service.State target) (ap (λ (z : AccountHere). z.started) (state_began target may)) tt;
+            }
+            go false may = none_chosen None (Some (Service.State target)) (nothing None (Some (Service.State target)) (nothing_begins n.speech frame (sees d) (sees d).now)
+                (ap (λ (b : Bool). if b then state_begins (counts a) target frame else counts a) may) refl)
+
+  -- THE EPOCH BEFORE A FRAME
+  abbrev EraHere : Type 0
+  EraHere = Era (Tagged M Q) (Asked M Q) (Option R)
+
+  abbrev named : EraHere → Era M T (Option R)
+  named e = era_seen mail n.name same e
+
+  abbrev next_here : ℕ → EraHere → Pick (Asked M Q) → EraHere
+  next_here frame e pick = era_next y (asked_acknowledged s.acknowledged) (λ t. n.more t.mail) is_passed frame e pick
+
+  abbrev next_other : ℕ → EraHere → Pick T → Era M T (Option R)
+  next_other frame e pick = era_next n.speech n.acknowledged n.more n.passed frame (named e) pick
+
+  pub record Next (table : Table) (v : V) (frame : ℕ) (e : EraHere) (pick : Pick T) : Type 0 where
+    pub mine : Pick (Asked M Q)
+    pub is : named (next_here frame e mine) ≡ next_other frame e pick
+    pub right : AllRight x s table v (services_in e.account.started) → AllRight x s table v (services_in (next_here frame e mine).account.started)
+
+  side_next_is : (frame : ℕ) (d : SideHere) (a : AccountHere) (k : NowKnown d.now) (hand : Option Duty) (mine : Option (Service (Asked M Q))) (other : Option (Service T)) (hold : Bool) → Begun frame d a k hand mine other →
+      sees (side_next y frame d (record { begin = mails_begin hand mine; hold = hold })) ≡ side_next n.speech frame (sees d) (record { begin = mails_begin hand other; hold = hold })
+  side_next_is frame d a k hand mine other hold b =
+      takes_up mail n.name same y n.speech (side_begins y frame d d.now (mails_begin hand mine)) hold b.plans
+      ∙ ap (λ (z : Side M T (Option R)). side_holds z (next_mail n.speech z.now z.halves.out.holding hold)) b.side
+
+  next_by : (table : Table) (v : V) (frame : ℕ) (cleared opened : Option ℕ) (d : SideHere) (a : AccountHere) (k : NowKnown d.now) (passing : Option Passing) → (passing ≡ None → NowEnded d d.now) → (pick : Pick T) →
+      ((t : T) (m : M) → pick.begin ≡ Some (Service.Mails t) → passing ≡ None → a.hand ≡ None → (n.speech.valid t && is_free n.speech (sees d) (sees d).now) ≡ true → IsPassed n m t → fair m ≡ true) →
+      Next table v frame (record { cleared = cleared; opened = opened; side = d; account = a; passing = passing }) pick
+  next_by table v frame cleared opened d a k None ended pick fairly =
+      let c = choose frame d a k (ended refl) table v a.hand pick.begin (λ t m e hand may is. fairly t m e refl hand may is) in
+      record {
+        mine = record { begin = c.mine; hold = pick.hold };
+        is = λ i. record { cleared = cleared; opened = opened; side = side_next_is frame d a k a.hand c.mine pick.begin pick.hold c.begun i; account = c.begun.account i; passing = c.begun.passing i };
+        right = c.right;
+      }
+  next_by table v frame cleared opened d a k (Some passing) ended pick fairly =
+      let c = nothing frame d a k a.hand None (nothing_hand a.hand) (nothing_account a.hand) refl in
+      record {
+        mine = record { begin = None; hold = pick.hold };
+        is = λ i. record { cleared = cleared; opened = opened; side = side_next_is frame d a k a.hand None None pick.hold c i; account = c.account i; passing = Some passing };
+        right = subst (λ (z : AccountHere). AllRight x s table v (services_in a.started) → AllRight x s table v (services_in z.started)) (sym (none_account frame d a k a.hand)) (λ all. all);
+      }
+    where
+      nothing_hand : (hand : Option Duty) → side_begins n.speech frame (sees d) (sees d).now (mails_begin hand (let w : Option (Service T) = None in w)) ≡ sees d
+      nothing_hand None = nothing_begins n.speech frame (sees d) (sees d).now
+      nothing_hand (Some duty) = nothing_begins n.speech frame (sees d) (sees d).now
+
+      nothing_account : (hand : Option Duty) → account_begins n.speech n.acknowledged frame (sees d) (counts a) hand None ≡ counts a
+      nothing_account None = refl
+      nothing_account (Some duty) = refl
+
+  pub next_named : (table : Table) (v : V) (frame : ℕ) (e : EraHere) (pick : Pick T) → NowKnown e.side.now → (e.passing ≡ None → NowEnded e.side e.side.now) →
+      ((t : T) (m : M) → pick.begin ≡ Some (Service.Mails t) → e.passing ≡ None → e.account.hand ≡ None → (n.speech.valid t && is_free n.speech (sees e.side) (sees e.side).now) ≡ true → IsPassed n m t → fair m ≡ true) → Next table v frame e pick
+  next_named table v frame e pick k ended fairly = next_by table v frame e.cleared e.opened e.side e.account k e.passing ended pick fairly

@@ -5,3 +5,5 @@ pub mod Frames
 pub mod News
 pub mod Clients
 pub mod Begins
+pub mod Backs
+pub mod Marks

@@ -35,7 +35,7 @@ owns_tell Q e (m ∷ ms) none = go (e m) refl none (λ rest. owns_tell Q e ms re
     go true is none rest = (sym is, rest none)
     go false is none rest = absurd (let no : false ≡ true = none in cc)
 
-lasts_tell : {M : Type 0} (Q : Type 0) (e : M → Bool) (ms : List M) → ByContents e (last_gifts {Q = Q} e ms)
+pub lasts_tell : {M : Type 0} (Q : Type 0) (e : M → Bool) (ms : List M) → ByContents e (last_gifts {Q = Q} e ms)
 lasts_tell Q e [] = tt
 lasts_tell Q e (m ∷ ms) = (go (e m), lasts_tell Q e ms)
   where
@@ -47,7 +47,7 @@ gifts_tell : {M : Type 0} (Q : Type 0) (e : M → Bool) (ms : List M) → ByCont
 gifts_tell Q e [] = tt
 gifts_tell Q e (m ∷ ms) = (own-gift Q e m, gifts_tell Q e ms)
 
-untag-last : {M : Type 0} (Q : Type 0) (e : M → Bool) (ms : List M) → untag (last_gifts {Q = Q} e ms) ≡ ms
+pub untag-last : {M : Type 0} (Q : Type 0) (e : M → Bool) (ms : List M) → untag (last_gifts {Q = Q} e ms) ≡ ms
 untag-last Q e [] = refl
 untag-last Q e (m ∷ ms) = ap (λ l. m ∷ l) (untag-last Q e ms)
 

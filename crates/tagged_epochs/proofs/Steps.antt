@@ -35,7 +35,7 @@ use Rattle.tagged_epochs.specs.Foreseen.{AllRight}
 use Rattle.tagged_epochs.proofs.Rights.{Between, IsRight, alike, both, sees, rows_between, next_right, accepted_tells}
 
 -- the services of rows are those that came into hand
-started_services : {M Q R : Type 0} (gs : List (Ghosts.GhostRow M Q R)) → services_in (starts_of gs) ≡ services gs
+pub started_services : {M Q R : Type 0} (gs : List (Ghosts.GhostRow M Q R)) → services_in (starts_of gs) ≡ services gs
 started_services [] = refl
 started_services (g ∷ gs) = ap (λ l. g.service ∷ l) (started_services gs)
 
