@@ -1,12 +1,16 @@
 -- OF AN EPOCH that is a session which sees what is meant by its mails: a step of its slave, and what was heard in it.
-use Rattle.std.proofs.Common.{◌≡◌, ℕ, Bool, true, false, Option, List, [], ◌∷◌, length, refl}
+use Rattle.std.proofs.Common.{◌≡◌, ℕ, Bool, true, false, is_none, Option, Some, None, List, [], ◌∷◌, length, refl}
 use Rattle.exchange_model.specs.Exchange.{Exchange, IsLawful}
 use Rattle.life_model.specs.Eras.{EraIs, OpenEra, era_frames}
 use Rattle.life_model.specs.Lives.{Spot, Era}
 use Rattle.life_model.proofs.Eras.{session_of, of_one}
 use Rattle.passed_counts.specs.Calm.{calm_tagged}
 use Rattle.passed_model.specs.Client.{ByContents}
-use Rattle.segment_model.specs.Record.{Frame, heard}
+use Rattle.link_model.specs.Mails.{LinkMail}
+use Rattle.passed_model.specs.Erased.{OfRow}
+use Rattle.segment_model.specs.Record.{Frame, heard, kept_all, nothing_kept}
+use Rattle.segment_model.proofs.Posts.{IsFresh, KeptOut}
+use Rattle.serving_model.specs.Passing.{LastTells}
 use Rattle.segment_model.specs.Seats.{Side}
 use Rattle.segment_model.specs.Slaves.{Registers, Processor, Slave, slave_steps}
 use Rattle.serving_model.specs.Erasing.{slave_as}
@@ -18,6 +22,7 @@ use Rattle.task_model.specs.Accounts.{Account}
 use Rattle.task_model.specs.Promise.{services_in}
 use Rattle.task_model.proofs.Sessions.{of_slaves}
 use Rattle.tagged_epochs.specs.Foreseen.{AllRight}
+use Rattle.tagged_epochs.proofs.Marks.{IsPassedNow, passed_now}
 use Rattle.tagged_epochs.proofs.Rights.{Between}
 use Rattle.tagged_epochs.proofs.Steps.{stepped, heard_tells}
 
@@ -67,13 +72,30 @@ module _ {V M Q R C : Type 0} (x : Exchange V V M Q R) (core : V → C) (law : I
       (λ t begun it gs seat a h between all words. stepped x core law calm fair s owes t lawful stated u processor seer serve tells tells_seen carries words (λ m. false) begun it gs seat a h between all))
       same right worded
 
-  -- WHAT WAS HEARD in it is told by its contents
-  pub era_tells : ByContents x.speech.emission (heard spot.station (era_frames spot opened end fs))
-  era_tells =
+  -- WHAT IS KNOWN at this moment: what was heard in it is told by its contents, and of a mail that is passed on a first part of its replies was heard; a half
+  -- that holds no mail has nothing new to send; and the inward half knows the counter of the record
+  pub record Knows (more : M → Bool) (last : LastTells x more) (t : Table) (gs : List (Frame (Tagged M Q))) (station : ℕ) (d : SideHere) (a : AccountHere) : Type 0 where
+    pub tells : ByContents x.speech.emission (heard station gs)
+    pub passed : OfRow (IsPassedNow x calm fair s more last a.started) d.now
+    pub idle : is_none d.halves.out.holding ≡ true → d.fresh ≡ false
+    pub kept : d.halves.inn.last ≡ (kept_all station nothing_kept gs).heard
+
+  idle_fresh : (fresh : Bool) (holding : Option (LinkMail (Tagged M Q))) (count kept : ℕ) → KeptOut fresh holding count kept → is_none holding ≡ true → fresh ≡ false
+  idle_fresh false holding count kept k none = refl
+  idle_fresh true None count kept k none = let f : IsFresh {M = Tagged M Q} None count kept = k in absurd (let no : None ≡ Some f.mail = f.holds in cc)
+  idle_fresh true (Some m) count kept k none = absurd (let no : false ≡ true = none in cc)
+
+  pub era_knows : (more : M → Bool) (last : LastTells x more) → Knows more last (table spot.station) (era_frames spot opened end fs) spot.station e.side e.account
+  era_knows more last =
       let P : Table → List (Frame (Tagged M Q)) → ℕ → Rowed V M Q → SideHere → AccountHere → Slave (Rowed V M Q) (Tagged M Q) → Type 0 =
-      (λ t gs station v d a k. Between x v → AllRight x s t (ideal x v) (services_in a.started) → ByContents x.speech.emission (heard station gs)) in
+      (λ t gs station v d a k. Between x v → AllRight x s t (ideal x v) (services_in a.started) → Knows more last t gs station d a) in
       let z = session_of era in
       of_one era (λ station v d a k. P (table station) (era_frames spot opened end fs) station v d a k)
       (of_slaves z.exchange z.lawful z.states z.stated z.processor z.table (λ m. false) z.planned.tells z.plan z.planned z.sides z.accounts z.ring z.frames z.tasked P
-      (λ t begun it gs seat a h between all. heard_tells x core law calm fair s owes t lawful stated (λ m. false) begun it gs seat a h between all))
+      (λ t begun it gs seat a h between all. record {
+        tells = heard_tells x core law calm fair s owes t lawful stated (λ m. false) begun it gs seat a h between all;
+        passed = passed_now x calm fair s more last t lawful stated (λ m. false) begun it gs seat a h all;
+        idle = idle_fresh seat.side.fresh seat.side.halves.out.holding seat.side.halves.out.last (kept_all seat.station nothing_kept gs).told h.posts.out;
+        kept = h.records.listens.kept;
+      }))
       same right

@@ -7,3 +7,6 @@ pub mod Clients
 pub mod Begins
 pub mod Backs
 pub mod Marks
+pub mod Overs
+pub mod Ways
+pub mod Turns

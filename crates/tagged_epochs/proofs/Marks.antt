@@ -96,7 +96,7 @@ module _ {V M Q R : Type 0} (x : Exchange V V M Q R) (calm : V → Bool) (fair :
         all = plain x.speech.emission gs;
         tells = elim (last v m ready) [
           | inl none ↦ absurd (let no : true ≡ false = sym (none_plain x.speech.emission gs none) ∙ loud in cc)
-          | inr yes ↦ yes
+          | inr told ↦ told
         ];
         begin = (untag part.0, sym (untag_append (replies r) part.0) ∙ ap untag part.1 ∙ is);
       })

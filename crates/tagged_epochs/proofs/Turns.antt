@@ -1,0 +1,174 @@
+-- ONE TURN of an epoch, with what is meant by its mails.
+use Rattle.std.proofs.Common.{◌≡◌, ◌⊎◌, inl, inr, ℕ, zero, suc, ◌+◌, ◌-◌, ◌<◌, ◌≤◌, ◌==◌, ◌&&◌, Bool, true, false, not, is_none, is_some, Option, None, Some, option_map, List, [], ◌∷◌, ◌++◌, map, length, refl, ap, ap₂, sym, ◌∙◌, subst, arith, append-nil, length-append, if◌then◌else◌}
+use Rattle.std.specs.Prelude.{⊤}
+use Rattle.std.proofs.lemmas.List.{map-append}
+use Rattle.exchange_model.specs.Exchange.{Exchange, Speech, IsLawful, plain}
+use Rattle.exchange_model.specs.Rows.{Row, row_heard, answer_after}
+use Rattle.life_model.specs.Eras.{EraIs, era_frames}
+use Rattle.life_model.specs.Lives.{Spot, Era, AsksOpen, ReadsFull, era_next, era_after}
+use Rattle.life_model.specs.Own as Own
+use Rattle.life_model.specs.Own.{own_fate, own_frame}
+use Rattle.life_model.proofs.Eras as LifeEras
+use Rattle.life_model.proofs.Eras.{frames_push}
+use Rattle.link_model.specs.Frames as Link
+use Rattle.link_model.specs.Frames.{IsSent, IsFrameFor, all_accepted}
+use Rattle.link_model.specs.Segment.{RingFate}
+use Rattle.passed_counts.specs.Calm.{calm_tagged}
+use Rattle.passed_model.specs.Client.{ByContents}
+use Rattle.passed_model.specs.Erased.{frame_as, all_news_as, halves_as, OfRow}
+use Rattle.passed_model.proofs.Naturals.{frame_of}
+use Rattle.passed_whole.specs.Led.{IsLed, EraTurn, MayTurn, frame_in, news_in, turn_next, turn_after, counted_news, counts_behind, has_step, AreSingle}
+use Rattle.passed_whole.specs.Silent.{is_passed}
+use Rattle.segment_model.specs.Ends.{Passing}
+use Rattle.segment_model.specs.Record.{Frame, News, Kept, frame_news, kept_all, nothing_kept, mails_heard, did_read, heard, is_for}
+use Rattle.segment_model.specs.Seats.{Side, side_begins, side_next, side_holds, next_mail}
+use Rattle.segment_model.specs.Slaves.{Registers, Processor, Slave, Datagram, Ring, grams, ring_after, ring_back, ring_steps, slave_steps}
+use Rattle.segment_model.proofs.News.{heard_frame}
+use Rattle.segment_model.proofs.Sounds.{began_halves}
+use Rattle.serving_model.specs.Erasing.{slave_as, all_as, box_as}
+use Rattle.serving_model.specs.Passing.{LastTells}
+use Rattle.serving_model.specs.Tagged.{IsServed, Tagged, Asked, Rowed, real, ideal}
+use Rattle.serving_model.specs.TaggedStates.{IsStatedServed, tagged_states, asked_acknowledged}
+use Rattle.state_exchange.specs.Stated.{Stated, IsStated, Service}
+use Rattle.state_model.specs.States.{Table, carry}
+use Rattle.task_model.specs.Accounts as Accounts
+use Rattle.task_model.specs.Accounts.{Account, Duty, Pick, Progress, account_met, account_by, account_back, access_done, duty_access}
+use Rattle.task_model.specs.Promise.{services_in}
+use Rattle.tagged_lives.specs.Seen.{era_seen}
+use Rattle.tagged_epochs.specs.Epochs.{between}
+use Rattle.tagged_epochs.specs.Foreseen.{AllRight}
+use Rattle.tagged_epochs.specs.Spoken.{Naming, Speaks}
+use Rattle.tagged_epochs.proofs.Eras.{era_steps, era_knows}
+use Rattle.tagged_epochs.proofs.Frames.{ToIt, meaning, reads_as, served_as, single_as, own_to, to_own, to_as}
+use Rattle.tagged_epochs.proofs.News.{counted_as, did_read_as, kept_all_as}
+use Rattle.tagged_epochs.proofs.Overs.{asks as asks_of, sent_asks}
+use Rattle.tagged_epochs.proofs.Ways.{met, steps}
+
+-- a status that the slave's own datagrams read is read
+pub reads_own : {M : Type 0} (station : ℕ) (ds : List (Datagram M)) → ReadsFull station (Own.own station ds) → ReadsFull station ds
+reads_own station [] r = r
+reads_own {M} station (d ∷ ds) r = go (is_for station d.address) r (reads_own station ds)
+  where
+    go : (b : Bool) → ReadsFull station (let l : List (Datagram M) = if b then d ∷ Own.own station ds else Own.own station ds in l) → (ReadsFull station (Own.own station ds) → ReadsFull station ds) → ReadsFull station (d ∷ ds)
+    go true (inl e) more = inl e
+    go true (inr e) more = inr (more e)
+    go false e more = inr (more e)
+
+-- the inward half stays by a choice
+pub next_inn : {M Q R : Type 0} (x : Speech M Q R) (d : Side M Q R) (ms : List M) → (side_holds d ms).halves.inn ≡ d.halves.inn
+next_inn x d [] = refl
+next_inn x d (m ∷ ms) = refl
+
+module _ {V M Q R C A T : Type 0} (x : Exchange V V M Q R) (core : V → C) (law : IsServed x core) (calm : V → Bool) (fair : M → Bool) (s : Stated V V Q) (owes : IsStatedServed x s) (lawful : IsLawful (calm_tagged x calm fair)) (stated : IsStated (calm_tagged x calm fair) (tagged_states x s))
+    (u : Exchange V A M T (Option R)) (processor : Processor V) (seer : Processor (Rowed V M Q)) (serve : u.serve ≡ x.serve) (tells : (state : ℕ) (v : V) → processor.tell state v ≡ s.tell state v)
+    (tells_seen : (state : ℕ) (v : Rowed V M Q) → seer.tell state v ≡ (tagged_states x s).tell state v) (carries : (k : Registers) → seer.carry k ≡ processor.carry k) (tables : ℕ → Table) (spot : Spot) (worded : (k : Registers) → seer.carry k ≡ carry (tables spot.station) k)
+    (opened : ℕ) (v : V) (r : Registers) (more : M → Bool) where
+  abbrev y : Exchange (Rowed V M Q) V (Tagged M Q) (Asked M Q) (Option R)
+  y = calm_tagged x calm fair
+
+  abbrev mail : Tagged M Q → M
+  mail t = t.mail
+
+  abbrev EraHere : Type 0
+  EraHere = Era (Tagged M Q) (Asked M Q) (Option R)
+
+  abbrev SlaveHere : Type 0
+  SlaveHere = Slave (Rowed V M Q) (Tagged M Q)
+
+  abbrev IsEra : EraHere → List (Frame (Tagged M Q)) → SlaveHere → Type 0
+  IsEra d gs m = EraIs y (tagged_states x s) seer tables spot d opened (length gs) gs (between v) r m
+
+  abbrev sees_more : Tagged M Q → Bool
+  sees_more t = more t.mail
+
+  pushed : {K : Type 0} (gs : List K) (g : K) → length (gs ++ g ∷ []) ≡ suc (length gs)
+  pushed gs g = let e = length-append gs (g ∷ []) in omega (arith, e)
+
+  -- frames leave what came into hand
+  met_started : {N P : Type 0} (station frame : ℕ) (a : Account P (Option R)) (hand : Option Duty) (d : Datagram N) → (account_met station frame a hand d).started ≡ a.started
+  met_started station frame a None d = refl
+  met_started station frame a (Some duty) d = go (is_for station d.address && not (d.counter == 0))
+    where
+      by : (k : Progress (Option R)) → (account_by frame a duty k).started ≡ a.started
+      by (Progress.On stage) = refl
+      by (Progress.Over answer) = refl
+
+      go : (b : Bool) → (if b then account_by frame a duty (access_done duty.target duty.stage d.access d.found) else a).started ≡ a.started
+      go true = by (access_done duty.target duty.stage d.access d.found)
+      go false = refl
+
+  pub back_started : {N P : Type 0} (station frame : ℕ) (a : Account P (Option R)) (ds : List (Datagram N)) → (account_back station frame a ds).started ≡ a.started
+  back_started station frame a [] = refl
+  back_started station frame a (d ∷ ds) = back_started station frame (account_met station frame a a.hand d) ds ∙ met_started station frame a a.hand d
+
+  pub after_started : {N P : Type 0} (z : Speech N P (Option R)) (acknowledged : P → Bool) (mores : N → Bool) (passed : P → Bool) (frame : ℕ) (news : List (News N)) (sent : List (Datagram N)) (fate : RingFate) (back : List (Datagram N)) (e : Era N P (Option R)) →
+      (era_after z acknowledged mores passed spot.station frame news sent fate back e).account.started ≡ e.account.started
+  after_started z acknowledged mores passed frame news sent RingFate.Back back e = back_started spot.station frame e.account (Own.own spot.station back)
+  after_started z acknowledged mores passed frame news sent (RingFate.Lost after) back e = refl
+
+  -- A FRAME THAT THE MASTER SENT, by an epoch that is this one without what is meant
+  module _ (gs : List (Frame (Tagged M Q))) (d : EraHere) (m : SlaveHere) (later : opened < length gs) (is : IsEra d gs m) (mine : Pick (Asked M Q)) where
+    abbrev dn : EraHere
+    dn = era_next y.speech (asked_acknowledged s.acknowledged) sees_more is_passed (length gs) d mine
+
+    -- what it asks, as its halves mean it
+    pub record Sent (sent : List (Datagram M)) : Type 0 where
+      pub datagrams : List (Datagram (Tagged M Q))
+      pub is_sent : all_as mail datagrams ≡ Own.own spot.station sent
+      pub to : ToIt spot.station datagrams
+      pub asks : AsksOpen spot.station dn datagrams
+      pub single : AreSingle (Own.own spot.station datagrams)
+      pub few : asks_of spot.station (grams datagrams) ≤ 1
+
+    pub sent_so : {P : Type 0} (en : Era M P (Option R)) (sent : List (Datagram M)) → en.side.halves ≡ halves_as mail dn.side.halves → en.account.hand ≡ dn.account.hand → AsksOpen spot.station en sent → AreSingle (Own.own spot.station sent) → Sent sent
+    sent_so en sent halves hand asks single =
+        let own = Own.own spot.station sent in
+        let k = meaning Q spot.station own dn.side.halves.out.holding (Some dn.side.halves.inn) (subst (λ h. IsFrameFor spot.station h (grams own)) halves asks.halves) in
+        let to : ToIt spot.station k.datagrams = to_as mail spot.station k.datagrams (subst (ToIt spot.station) (sym k.is) (own_to spot.station sent)) in
+        let same : Own.own spot.station k.datagrams ≡ k.datagrams = to_own spot.station k.datagrams to in
+        record {
+          datagrams = k.datagrams;
+          is_sent = k.is;
+          to = to;
+          asks = record {
+            halves = subst (λ l. IsFrameFor spot.station dn.side.halves (grams l)) (sym same) k.sent;
+            served = subst (λ l. Accounts.IsServed spot.station (duty_access dn.account.hand) l) (sym same)
+                (served_as mail spot.station (duty_access dn.account.hand) k.datagrams (subst (λ l. Accounts.IsServed spot.station (duty_access dn.account.hand) l) (sym k.is) (subst (λ h. Accounts.IsServed spot.station (duty_access h) own) hand asks.served)));
+            status = λ reads. ap (λ h. h.inn.state) (sym halves) ∙ asks.status (reads_own spot.station sent (subst (ReadsFull spot.station) k.is (reads_as mail spot.station k.datagrams reads)));
+          };
+          single = subst AreSingle (sym same) (single_as mail spot.station k.datagrams (subst AreSingle (sym k.is) single));
+          few = sent_asks spot.station dn.side.halves.out.holding (Some dn.side.halves.inn) (grams k.datagrams) k.sent;
+        }
+
+    -- THE TURN
+    module _ (right : AllRight x s (tables spot.station) v (services_in dn.account.started)) (sent : List (Datagram M)) (k : Sent sent) (fate : RingFate) where
+      abbrev one : Ring (Rowed V M Q) (Tagged M Q)
+      one = (spot.station, m) ∷ []
+
+      abbrev mets : _
+      mets = met mail (real x) spot.station m k.datagrams (own_fate spot.place fate)
+
+      abbrev back : List (Datagram (Tagged M Q))
+      back = ring_back one k.datagrams (own_fate spot.place fate)
+
+      abbrev went : Frame (Tagged M Q)
+      went = record { sent = k.datagrams; fate = fate; back = back }
+
+      same_sent : Own.own spot.station k.datagrams ≡ k.datagrams
+      same_sent = to_own spot.station k.datagrams k.to
+
+      same_back : Own.own spot.station back ≡ back
+      same_back = to_own spot.station back (mets.to k.to)
+
+      abbrev behind : List (News (Tagged M Q)) → EraHere
+      behind news = era_after y.speech (asked_acknowledged s.acknowledged) sees_more is_passed spot.station (length gs) news k.datagrams fate back dn
+
+      -- the epoch behind the frame and these steps
+      era_behind : (news : List (News (Tagged M Q))) (ks : List ℕ) (slave : SlaveHere) → ring_steps y seer (ring_after one k.datagrams (own_fate spot.place fate)) ks ≡ (spot.station, slave) ∷ [] → IsEra (behind news) (gs ++ went ∷ []) slave
+      era_behind news ks slave rings =
+          subst (λ j. EraIs y (tagged_states x s) seer tables spot (behind news) opened j (gs ++ went ∷ []) (between v) r slave) (sym (pushed gs went))
+          (LifeEras.own_turns y (tagged_states x s) seer tables sees_more is_passed spot d opened gs (between v) r m later is mine news k.datagrams fate back ks slave k.asks
+          (ap (λ l. ring_back one l (own_fate spot.place fate)) same_sent ∙ sym same_back) (ap (λ l. ring_steps y seer (ring_after one l (own_fate spot.place fate)) ks) same_sent ∙ rings))
+
+      right_behind : (news : List (News (Tagged M Q))) → AllRight x s (tables spot.station) v (services_in (behind news).account.started)
+      right_behind news = subst (λ l. AllRight x s (tables spot.station) v (services_in l)) (sym (after_started y.speech (asked_acknowledged s.acknowledged) sees_more is_passed (length gs) news k.datagrams fate back dn)) right
