@@ -4,7 +4,7 @@ use Rattle.std.specs.Prelude.{⊤, nat_lt}
 use Rattle.std.proofs.lemmas.Bool.Decides.{nat_tests}
 use Rattle.std.proofs.lemmas.List.{map-append, length-map}
 use Rattle.exchange_model.specs.Exchange.{Exchange, Speech}
-use Rattle.exchange_model.specs.Rows.{Row, begun}
+use Rattle.exchange_model.specs.Rows.{Row, begun, row_told}
 use Rattle.life_model.specs.Lives.{Era, era_next, granted, passing_begins}
 use Rattle.passed_counts.specs.Calm.{calm_tagged}
 use Rattle.passed_model.specs.Client.{ByContents}
@@ -28,7 +28,7 @@ use Rattle.tagged_epochs.proofs.Clients.{Meant, MeantRow, IsKnown, HasEnded, pla
 not_less : (k : ℕ) → nat_lt k k ≡ false
 not_less k = grind (arith, nat_tests)
 
-both_of : (a b : Bool) → (a && b) ≡ true → (a ≡ true) × (b ≡ true)
+pub both_of : (a b : Bool) → (a && b) ≡ true → (a ≡ true) × (b ≡ true)
 both_of true b e = (refl, e)
 both_of false b e = absurd (let no : false ≡ true = e in cc)
 
@@ -47,11 +47,11 @@ may_not x frame d None q no_ = ap (λ b. if b then record d { now = Some (begun 
     first false e = refl
 may_not x frame d (Some r) q no_ = ap (λ b. if b then record d { past = d.past ++ r ∷ []; now = Some (begun q frame) } else d) no_
 
-nothing_begins : {M Q R : Type 0} (x : Speech M Q R) (frame : ℕ) (d : Side M Q R) (now : Option (Row M Q R)) → side_begins x frame d now None ≡ d
+pub nothing_begins : {M Q R : Type 0} (x : Speech M Q R) (frame : ℕ) (d : Side M Q R) (now : Option (Row M Q R)) → side_begins x frame d now None ≡ d
 nothing_begins x frame d None = refl
 nothing_begins x frame d (Some r) = refl
 
-free_over : {M Q R : Type 0} (x : Speech M Q R) (d : Side M Q R) (now : Option (Row M Q R)) → is_free x d now ≡ true → OfRow (λ r. is_over x d.halves.out.holding d.fresh r ≡ true) now
+pub free_over : {M Q R : Type 0} (x : Speech M Q R) (d : Side M Q R) (now : Option (Row M Q R)) → is_free x d now ≡ true → OfRow (λ r. is_over x d.halves.out.holding d.fresh r ≡ true) now
 free_over x d None e = tt
 free_over x d (Some r) e = e
 
@@ -139,7 +139,7 @@ module _ {V M Q R T : Type 0} (x : Exchange V V M Q R) (calm : V → Bool) (fair
     -- THE SAME COMES INTO HAND of both
     pub record Begun (hand : Option Duty) (mine : Option (Service (Asked M Q))) (other : Option (Service T)) : Type 0 where
       pub side : sees (side_begun hand mine) ≡ side_other hand other
-      pub plans : PlansOf (side_begun hand mine).now
+      pub known : NowKnown (side_begun hand mine).now
       pub account : counts (account_begun hand mine) ≡ account_other hand other
       pub passing : passing_mine hand mine ≡ passing_other hand other
 
@@ -155,7 +155,7 @@ module _ {V M Q R T : Type 0} (x : Exchange V V M Q R) (calm : V → Bool) (fair
     nothing : (hand : Option Duty) (other : Option (Service T)) → side_other hand other ≡ sees d → account_other hand other ≡ counts a → passing_other hand other ≡ None → Begun hand None other
     nothing hand other side account passing = record {
       side = ap sees (none_side hand) ∙ sym side;
-      plans = subst (λ (e : SideHere). PlansOf e.now) (sym (none_side hand)) (plans_of d d.now known);
+      known = subst (λ (e : SideHere). NowKnown e.now) (sym (none_side hand)) known;
       account = ap counts (none_account hand) ∙ sym account;
       passing = sym passing;
     }
@@ -192,7 +192,7 @@ module _ {V M Q R T : Type 0} (x : Exchange V V M Q R) (calm : V → Bool) (fair
             side = ap sees mine
                 ∙ ap₂ (λ (l : List (Row M T (Option R))) (z : T). record (sees d) { past = l; now = Some (begun z frame) })
                 (map-append (λ r. row_seen mail n.name same r) d.past (newest d.now) ∙ ap (λ l. map (λ r. row_seen mail n.name same r) d.past ++ l) (newest_seen d.now)) e ∙ sym other;
-            plans = subst (λ (z : SideHere). PlansOf z.now) (sym mine) (plans x calm fair s.acknowledged n speaks.emission q k [] tt);
+            known = subst (λ (z : SideHere). NowKnown z.now) (sym mine) (record { known = k; by = tt });
             account = account;
             passing = ap₂ (λ (b : Bool) (l : ℕ × ℕ). if b && nat_lt l.0 l.1 then Some Passing.Waiting else None) (sym (passed_named q k) ∙ ap n.passed e)
                 (ap₂ (λ (i j : ℕ). (i, j)) (sym (length-map a.started (λ z. started_seen mail n.name same z))) (sym (length-map (account_begun None (Some (Service.Mails q))).started (λ z. started_seen mail n.name same z)) ∙ ap (λ (z : Account T (Option R)). length z.started) account));
@@ -210,7 +210,7 @@ module _ {V M Q R T : Type 0} (x : Exchange V V M Q R) (calm : V → Bool) (fair
           let began_other : account_other None (Some (Service.State target)) ≡ state_begins (counts a) target frame = ap (λ (b : Bool). if b then state_begins (counts a) target frame else counts a) may in
           record {
             side = ap sees (nothing_begins y frame d d.now) ∙ sym (nothing_begins n.speech frame (sees d) (sees d).now);
-            plans = subst (λ (z : SideHere). PlansOf z.now) (sym (nothing_begins y frame d d.now)) (plans_of d d.now known);
+            known = subst (λ (z : SideHere). NowKnown z.now) (sym (nothing_begins y frame d d.now)) known;
             account = ap counts began ∙ ap (λ (l : List (Started T)). record (state_begins (counts a) target frame) { started = l }) (started_more (Service.State target)) ∙ sym began_other;
             passing = refl;
           }
@@ -302,11 +302,27 @@ module _ {V M Q R T : Type 0} (x : Exchange V V M Q R) (calm : V → Bool) (fair
     pub mine : Pick (Asked M Q)
     pub is : named (next_here frame e mine) ≡ next_other frame e pick
     pub right : AllRight x s table v (services_in e.account.started) → AllRight x s table v (services_in (next_here frame e mine).account.started)
+    pub known : NowKnown (next_here frame e mine).side.now
+
+  -- a mail that is taken up leaves what is known
+  holds_known : (d : SideHere) (ms : List (Tagged M Q)) → NowKnown d.now → NowKnown (side_holds d ms).now
+  holds_known d [] k = k
+  holds_known d (m ∷ ms) k = go d.now k
+    where
+      go : (now : Option (Row (Tagged M Q) (Asked M Q) (Option R))) → NowKnown now → NowKnown (option_map (λ r. row_told m r) now)
+      go None k = tt
+      go (Some r) k = record { known = k.known; by = k.by }
+
+  known_next : (frame : ℕ) (d : SideHere) (a : AccountHere) (k : NowKnown d.now) (hand : Option Duty) (mine : Option (Service (Asked M Q))) (other : Option (Service T)) (hold : Bool) → Begun frame d a k hand mine other →
+      NowKnown (side_next y frame d (record { begin = mails_begin hand mine; hold = hold })).now
+  known_next frame d a k hand mine other hold b =
+      let e = side_begins y frame d d.now (mails_begin hand mine) in
+      holds_known e (next_mail y e.now e.halves.out.holding hold) b.known
 
   side_next_is : (frame : ℕ) (d : SideHere) (a : AccountHere) (k : NowKnown d.now) (hand : Option Duty) (mine : Option (Service (Asked M Q))) (other : Option (Service T)) (hold : Bool) → Begun frame d a k hand mine other →
       sees (side_next y frame d (record { begin = mails_begin hand mine; hold = hold })) ≡ side_next n.speech frame (sees d) (record { begin = mails_begin hand other; hold = hold })
   side_next_is frame d a k hand mine other hold b =
-      takes_up mail n.name same y n.speech (side_begins y frame d d.now (mails_begin hand mine)) hold b.plans
+      takes_up mail n.name same y n.speech (side_begins y frame d d.now (mails_begin hand mine)) hold (plans_of d (side_begins y frame d d.now (mails_begin hand mine)).now b.known)
       ∙ ap (λ (z : Side M T (Option R)). side_holds z (next_mail n.speech z.now z.halves.out.holding hold)) b.side
 
   next_by : (table : Table) (v : V) (frame : ℕ) (cleared opened : Option ℕ) (d : SideHere) (a : AccountHere) (k : NowKnown d.now) (passing : Option Passing) → (passing ≡ None → NowEnded d d.now) → (pick : Pick T) →
@@ -318,6 +334,7 @@ module _ {V M Q R T : Type 0} (x : Exchange V V M Q R) (calm : V → Bool) (fair
         mine = record { begin = c.mine; hold = pick.hold };
         is = λ i. record { cleared = cleared; opened = opened; side = side_next_is frame d a k a.hand c.mine pick.begin pick.hold c.begun i; account = c.begun.account i; passing = c.begun.passing i };
         right = c.right;
+        known = known_next frame d a k a.hand c.mine pick.begin pick.hold c.begun;
       }
   next_by table v frame cleared opened d a k (Some passing) ended pick fairly =
       let c = nothing frame d a k a.hand None (nothing_hand a.hand) (nothing_account a.hand) refl in
@@ -325,6 +342,7 @@ module _ {V M Q R T : Type 0} (x : Exchange V V M Q R) (calm : V → Bool) (fair
         mine = record { begin = None; hold = pick.hold };
         is = λ i. record { cleared = cleared; opened = opened; side = side_next_is frame d a k a.hand None None pick.hold c i; account = c.account i; passing = Some passing };
         right = subst (λ (z : AccountHere). AllRight x s table v (services_in a.started) → AllRight x s table v (services_in z.started)) (sym (none_account frame d a k a.hand)) (λ all. all);
+        known = known_next frame d a k a.hand None None pick.hold c;
       }
     where
       nothing_hand : (hand : Option Duty) → side_begins n.speech frame (sees d) (sees d).now (mails_begin hand (let w : Option (Service T) = None in w)) ≡ sees d

@@ -26,6 +26,15 @@ use Rattle.tagged_epochs.proofs.Marks.{IsPassedNow, passed_now}
 use Rattle.tagged_epochs.proofs.Rights.{Between}
 use Rattle.tagged_epochs.proofs.Steps.{stepped, heard_tells}
 
+-- WHAT IS KNOWN of an epoch at a moment: what was heard in it is told by its contents, and of a mail that is passed on a first part of its replies was heard;
+-- a half that holds no mail has nothing new to send; and the inward half knows the counter of the record
+pub record Knows {V M Q R : Type 0} (x : Exchange V V M Q R) (calm : V → Bool) (fair : M → Bool) (s : Stated V V Q) (more : M → Bool) (last : LastTells x more) (gs : List (Frame (Tagged M Q))) (station : ℕ) (d : Side (Tagged M Q) (Asked M Q) (Option R))
+    (a : Account (Asked M Q) (Option R)) : Type 0 where
+  pub tells : ByContents x.speech.emission (heard station gs)
+  pub passed : OfRow (IsPassedNow x calm fair s more last a.started) d.now
+  pub idle : is_none d.halves.out.holding ≡ true → d.fresh ≡ false
+  pub kept : d.halves.inn.last ≡ (kept_all station nothing_kept gs).heard
+
 module _ {V M Q R C : Type 0} (x : Exchange V V M Q R) (core : V → C) (law : IsServed x core) (calm : V → Bool) (fair : M → Bool) (s : Stated V V Q) (owes : IsStatedServed x s)
     (lawful : IsLawful (calm_tagged x calm fair)) (stated : IsStated (calm_tagged x calm fair) (tagged_states x s)) (seer : Processor (Rowed V M Q)) (table : ℕ → Table) (spot : Spot) (e : Era (Tagged M Q) (Asked M Q) (Option R)) (opened end : ℕ)
     (fs : List (Frame (Tagged M Q))) (start : Rowed V M Q) (r : Registers) (n : Slave (Rowed V M Q) (Tagged M Q)) (is : EraIs (calm_tagged x calm fair) (tagged_states x s) seer table spot e opened end fs start r n)
@@ -72,23 +81,15 @@ module _ {V M Q R C : Type 0} (x : Exchange V V M Q R) (core : V → C) (law : I
       (λ t begun it gs seat a h between all words. stepped x core law calm fair s owes t lawful stated u processor seer serve tells tells_seen carries words (λ m. false) begun it gs seat a h between all))
       same right worded
 
-  -- WHAT IS KNOWN at this moment: what was heard in it is told by its contents, and of a mail that is passed on a first part of its replies was heard; a half
-  -- that holds no mail has nothing new to send; and the inward half knows the counter of the record
-  pub record Knows (more : M → Bool) (last : LastTells x more) (t : Table) (gs : List (Frame (Tagged M Q))) (station : ℕ) (d : SideHere) (a : AccountHere) : Type 0 where
-    pub tells : ByContents x.speech.emission (heard station gs)
-    pub passed : OfRow (IsPassedNow x calm fair s more last a.started) d.now
-    pub idle : is_none d.halves.out.holding ≡ true → d.fresh ≡ false
-    pub kept : d.halves.inn.last ≡ (kept_all station nothing_kept gs).heard
-
   idle_fresh : (fresh : Bool) (holding : Option (LinkMail (Tagged M Q))) (count kept : ℕ) → KeptOut fresh holding count kept → is_none holding ≡ true → fresh ≡ false
   idle_fresh false holding count kept k none = refl
   idle_fresh true None count kept k none = let f : IsFresh {M = Tagged M Q} None count kept = k in absurd (let no : None ≡ Some f.mail = f.holds in cc)
   idle_fresh true (Some m) count kept k none = absurd (let no : false ≡ true = none in cc)
 
-  pub era_knows : (more : M → Bool) (last : LastTells x more) → Knows more last (table spot.station) (era_frames spot opened end fs) spot.station e.side e.account
+  pub era_knows : (more : M → Bool) (last : LastTells x more) → Knows x calm fair s more last (era_frames spot opened end fs) spot.station e.side e.account
   era_knows more last =
       let P : Table → List (Frame (Tagged M Q)) → ℕ → Rowed V M Q → SideHere → AccountHere → Slave (Rowed V M Q) (Tagged M Q) → Type 0 =
-      (λ t gs station v d a k. Between x v → AllRight x s t (ideal x v) (services_in a.started) → Knows more last t gs station d a) in
+      (λ t gs station v d a k. Between x v → AllRight x s t (ideal x v) (services_in a.started) → Knows x calm fair s more last gs station d a) in
       let z = session_of era in
       of_one era (λ station v d a k. P (table station) (era_frames spot opened end fs) station v d a k)
       (of_slaves z.exchange z.lawful z.states z.stated z.processor z.table (λ m. false) z.planned.tells z.plan z.planned z.sides z.accounts z.ring z.frames z.tasked P

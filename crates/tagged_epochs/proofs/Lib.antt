@@ -9,4 +9,6 @@ pub mod Backs
 pub mod Marks
 pub mod Overs
 pub mod Ways
+pub mod Answered
 pub mod Turns
+pub mod Led

@@ -73,20 +73,20 @@ module _ {V M Q R : Type 0} (x : Exchange V V M Q R) (calm : V → Bool) (fair :
 
   -- THE NEWEST ROW passes a mail on: what was heard for it is a first part of its replies; or a state service came into hand behind it, and it has its answer
   pub data PassedNow (started : List (Started (Asked M Q))) (m : M) (answers : Bool) (r : Row (Tagged M Q) (Asked M Q) (Option R)) : Type 0 where
-    heard : (answers && ends_marked (replies r)) ≡ ends_told more (untag (replies r)) → (answers ≡ true → HasReplies (replies r)) → PassedNow started m answers r
+    heard : (answers && ends_marked (replies r)) ≡ ends_told more (untag (replies r)) → (answers ≡ true → HasReplies (replies r)) → (answers ≡ true → (target : ℕ) → newest_of started ≡ Some (Service.State target) → ⊥) → PassedNow started m answers r
     rests : (target : ℕ) → newest_of started ≡ Some (Service.State target) → answers ≡ true → is_some r.answer ≡ true → PassedNow started m answers r
 
   abbrev pub IsPassedNow : List (Started (Asked M Q)) → Row (Tagged M Q) (Asked M Q) (Option R) → Type 0
   IsPassedNow started r = (m : M) (answers : Bool) → r.service ≡ Asked.Passed m answers → PassedNow started m answers r
 
   quiet : (started : List (Started (Asked M Q))) (m : M) (r : Row (Tagged M Q) (Asked M Q) (Option R)) → replies r ≡ [] → PassedNow started m false r
-  quiet started m r none = PassedNow.heard (sym (ap (λ l. ends_told more (untag l)) none)) (λ e. absurd (let no : false ≡ true = e in cc))
+  quiet started m r none = PassedNow.heard (sym (ap (λ l. ends_told more (untag l)) none)) (λ e. absurd (let no : false ≡ true = e in cc)) (λ e. absurd (let no : false ≡ true = e in cc))
 
   -- what was heard of a first part of its replies
-  of_part : (started : List (Started (Asked M Q))) (v : V) (m : M) (answers : Bool) (r : Row (Tagged M Q) (Asked M Q) (Option R)) → x.ready v ≡ true → IsForeseenRight x v m answers →
+  of_part : (started : List (Started (Asked M Q))) (v : V) (m : M) (answers : Bool) (r : Row (Tagged M Q) (Asked M Q) (Option R)) → ((target : ℕ) → newest_of started ≡ Some (Service.State target) → ⊥) → x.ready v ≡ true → IsForeseenRight x v m answers →
       IsPrefixOf (replies r) (plain (λ (t : Tagged M Q). is_own t.meant) (if answers then answer_gifts x.speech.emission m (x.serve v m).1 else map (λ g. own_gift g) (x.serve v m).1)) → PassedNow started m answers r
-  of_part started v m false r ready right part = quiet started m r (append_none (replies r) part.0 (part.1 ∙ plain_owns Q (x.serve v m).1)).0
-  of_part started v m true r ready right part =
+  of_part started v m false r mails ready right part = quiet started m r (append_none (replies r) part.0 (part.1 ∙ plain_owns Q (x.serve v m).1)).0
+  of_part started v m true r mails ready right part =
       let gs = (x.serve v m).1 in
       let loud : no_reply x.speech.emission gs ≡ false = opposite (no_reply x.speech.emission gs) right in
       let is : untag (plain (λ (t : Tagged M Q). is_own t.meant) (answer_gifts {Q = Q} x.speech.emission m gs)) ≡ plain x.speech.emission gs =
@@ -99,7 +99,7 @@ module _ {V M Q R : Type 0} (x : Exchange V V M Q R) (calm : V → Bool) (fair :
           | inr told ↦ told
         ];
         begin = (untag part.0, sym (untag_append (replies r) part.0) ∙ ap untag part.1 ∙ is);
-      })
+      }) (λ e. mails)
     where
       opposite : (b : Bool) → true ≡ not b → b ≡ false
       opposite false e = refl
@@ -133,6 +133,10 @@ module _ {V M Q R : Type 0} (x : Exchange V V M Q R) (calm : V → Bool) (fair :
     abbrev own : Tagged M Q → Bool
     own k = is_own k.meant
 
+    -- the newest service is that of the newest row
+    newest : {from : ℕ} {seat : SeatHere} {a : AccountHere} {taken : List (Act (Tagged M Q))} {rest : List (Tagged M Q)} (g : Ghosts.Rowed y lawful (tagged_states x s) t from seat a taken rest) → newest_of a.started ≡ Some g.now.service
+    newest g = ap newest_of (sym g.started ∙ starts_append (g.front ++ g.last) (g.now ∷ [])) ∙ newest_last (starts_of (g.front ++ g.last)) (start_of g.now)
+
     -- a service by mails is the newest
     by_mails : (from : ℕ) (seat : SeatHere) (a : AccountHere) (taken : List (Act (Tagged M Q))) (rest : List (Tagged M Q)) → y.ready seat.start ≡ true → AllRight x s t (ideal x seat.start) (services_in a.started) →
         (g : Ghosts.Rowed y lawful (tagged_states x s) t from seat a taken rest) (r : Row (Tagged M Q) (Asked M Q) (Option R)) → Shows g.now r → IsPassedNow a.started r
@@ -153,7 +157,8 @@ module _ {V M Q R : Type 0} (x : Exchange V V M Q R) (calm : V → Bool) (fair :
         (subst (λ l. IsPrefixOf (plain both.speech.emission g.now.heard) l)
         (ap (λ q. plain both.speech.emission (given both.serve w (both.full w q))) service ∙ ap (plain both.speech.emission) (given_acts y (tagged_states x s) t w (record { mail = m; meant = Meant.Alone answers } ∷ []))
         ∙ plain_acts y.speech.emission (given y.serve w.server (record { mail = m; meant = Meant.Alone answers } ∷ []))) begins) in
-        of_part a.started (ideal x w.server) m answers r (left_of (x.ready (ideal x w.server)) (calm (ideal x w.server)) (settled_ready both both_lawful c past ready fits.settled)) ours.0
+        of_part a.started (ideal x w.server) m answers r
+        (λ target n. (let no : Some (Service.Mails r.service) ≡ Some (Service.State target) = sym (newest g ∙ ap (λ q. Some q) shows.service) ∙ n in cc)) (left_of (x.ready (ideal x w.server)) (calm (ideal x w.server)) (settled_ready both both_lawful c past ready fits.settled)) ours.0
         (subst (λ l. IsPrefixOf (replies r) (plain own l)) (append-nil (y.serve w.server (record { mail = m; meant = Meant.Alone answers })).1) (begin_acts (replies r) (plain own ((y.serve w.server (record { mail = m; meant = Meant.Alone answers })).1 ++ [])) part))
 
     -- a state service is
@@ -174,7 +179,7 @@ module _ {V M Q R : Type 0} (x : Exchange V V M Q R) (calm : V → Bool) (fair :
       | inl u ↦ subst (OfRow (IsPassedNow a.started)) (sym u.now) tt
       | inr g ↦ elim g.place [
         | inl m ↦ subst (OfRow (IsPassedNow a.started)) (sym m.is) (by_mails (state_over t begun a.over) seat a h.carried.taken h.carried.rest h.ready right g m.row m.shows)
-        | inr k ↦ rested g k.target (ap newest_of (sym g.started ∙ starts_append (g.front ++ g.last) (g.now ∷ [])) ∙ newest_last (starts_of (g.front ++ g.last)) (start_of g.now) ∙ ap (λ q. Some q) k.service) seat.side.now k.rested
+        | inr k ↦ rested g k.target (newest g ∙ ap (λ q. Some q) k.service) seat.side.now k.rested
       ]
     ]
       where

@@ -95,7 +95,7 @@ module _ {M Q R : Type 0} (x : Speech M Q R) (acknowledged : Q → Bool) (more :
   status Passing.Answered state refused hs = record { next = Passing.Answered; is = refl; heard = λ h. h }
 
   -- so do all that read nothing
-  still : (ns : List (News M)) → reads ns ≡ 0 → (p : Passing) → by (Some p) ns ≡ None → ⊥
+  pub still : (ns : List (News M)) → reads ns ≡ 0 → (p : Passing) → by (Some p) ns ≡ None → ⊥
   still [] e p none = (let no : Some p ≡ None = none in cc)
   still (News.Told m ∷ ns) e p none = let k = told p m [] in still ns e k.next (sym (ap (λ o. by o ns) k.is) ∙ none)
   still (News.Written ∷ ns) e p none = let k = written p [] in still ns e k.next (sym (ap (λ o. by o ns) k.is) ∙ none)
@@ -326,13 +326,12 @@ sent_few {M} held _ _ (IsSent.inward h g gs ask counter rest) =
 pub sent_asks : {M : Type 0} (station : ℕ) (held : Option (LinkMail M)) (inn : Option InHalf) (gs : List (Gram M)) → IsSent held inn (Link.own station gs) → asks station gs ≤ 1
 sent_asks station held inn gs sent = let e = asks_own station gs in omega (arith, e, sent_few held inn (Link.own station gs) sent)
 
--- SO THE NEWS OF A FRAME have a read once at most
-pub news_few : {M : Type 0} (station : ℕ) (kept : Kept) (counts : Bool) (f : Frame M) → asks station (grams f.back) ≤ 1 → reads (counted_news counts (frame_news station kept f)) ≤ 1
-news_few station kept counts f few =
+-- SO MANY TIMES A FRAME'S NEWS read it at most
+pub news_few : {M : Type 0} (station : ℕ) (kept : Kept) (counts : Bool) (f : Frame M) → reads (counted_news counts (frame_news station kept f)) ≤ asks station (grams f.back)
+news_few station kept counts f =
     let told = all_told station kept.told (grams f.sent) in
     omega (
       arith,
-      few,
       counted_reads counts (frame_news station kept f),
       reads_append (map (λ m. News.Told m) told) (back_news station kept.heard f.back),
       told_reads told,

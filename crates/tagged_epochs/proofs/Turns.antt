@@ -5,7 +5,7 @@ use Rattle.std.proofs.lemmas.List.{map-append}
 use Rattle.exchange_model.specs.Exchange.{Exchange, Speech, IsLawful, plain}
 use Rattle.exchange_model.specs.Rows.{Row, row_heard, answer_after}
 use Rattle.life_model.specs.Eras.{EraIs, era_frames}
-use Rattle.life_model.specs.Lives.{Spot, Era, AsksOpen, ReadsFull, era_next, era_after}
+use Rattle.life_model.specs.Lives.{Spot, Era, AsksOpen, ReadsFull, granted, era_next, era_after}
 use Rattle.life_model.specs.Own as Own
 use Rattle.life_model.specs.Own.{own_fate, own_frame}
 use Rattle.life_model.proofs.Eras as LifeEras
@@ -20,10 +20,11 @@ use Rattle.passed_model.proofs.Naturals.{frame_of}
 use Rattle.passed_whole.specs.Led.{IsLed, EraTurn, MayTurn, frame_in, news_in, turn_next, turn_after, counted_news, counts_behind, has_step, AreSingle}
 use Rattle.passed_whole.specs.Silent.{is_passed}
 use Rattle.segment_model.specs.Ends.{Passing}
-use Rattle.segment_model.specs.Record.{Frame, News, Kept, frame_news, kept_all, nothing_kept, mails_heard, did_read, heard, is_for}
+use Rattle.segment_model.specs.Record.{Frame, News, Kept, frame_news, kept_all, nothing_kept, news_each, joined, mails_heard, did_read, heard, is_for}
 use Rattle.segment_model.specs.Seats.{Side, side_begins, side_next, side_holds, next_mail}
 use Rattle.segment_model.specs.Slaves.{Registers, Processor, Slave, Datagram, Ring, grams, ring_after, ring_back, ring_steps, slave_steps}
-use Rattle.segment_model.proofs.News.{heard_frame}
+use Rattle.segment_model.proofs.Answers.{news_each-push}
+use Rattle.segment_model.proofs.News.{heard_frame, mails_heard-append, joined-append}
 use Rattle.segment_model.proofs.Sounds.{began_halves}
 use Rattle.serving_model.specs.Erasing.{slave_as, all_as, box_as}
 use Rattle.serving_model.specs.Passing.{LastTells}
@@ -42,7 +43,22 @@ use Rattle.tagged_epochs.proofs.Eras.{era_steps, era_knows}
 use Rattle.tagged_epochs.proofs.Frames.{ToIt, meaning, reads_as, served_as, single_as, own_to, to_own, to_as}
 use Rattle.tagged_epochs.proofs.News.{counted_as, did_read_as, kept_all_as}
 use Rattle.tagged_epochs.proofs.Overs.{asks as asks_of, sent_asks}
-use Rattle.tagged_epochs.proofs.Ways.{met, steps}
+use Rattle.tagged_epochs.proofs.Ways.{Met, met, Comes, Stepped, steps}
+
+-- contents tell of a part what they tell of all
+pub by_behind : {M Q : Type 0} (e : M → Bool) (as' bs : List (Tagged M Q)) → ByContents e (as' ++ bs) → ByContents e bs
+by_behind e [] bs all = all
+by_behind e (a ∷ as') bs all = by_behind e as' bs all.1
+
+pub by_append : {M Q : Type 0} (e : M → Bool) (as' bs : List (Tagged M Q)) → ByContents e as' → ByContents e bs → ByContents e (as' ++ bs)
+by_append e [] bs all rest = rest
+by_append e (a ∷ as') bs all rest = (all.0, by_append e as' bs all.1 rest)
+
+-- the mails heard behind one more frame
+heard_push : {M : Type 0} (station : ℕ) (fs : List (Frame M)) (f : Frame M) → heard station (fs ++ f ∷ []) ≡ heard station fs ++ mails_heard (frame_news station (kept_all station nothing_kept fs) f)
+heard_push station fs f =
+    ap (λ l. mails_heard (joined l)) (news_each-push station nothing_kept fs f) ∙ ap mails_heard (joined-append (news_each station nothing_kept fs) (frame_news station (kept_all station nothing_kept fs) f))
+    ∙ mails_heard-append (joined (news_each station nothing_kept fs)) (frame_news station (kept_all station nothing_kept fs) f)
 
 -- a status that the slave's own datagrams read is read
 pub reads_own : {M : Type 0} (station : ℕ) (ds : List (Datagram M)) → ReadsFull station (Own.own station ds) → ReadsFull station ds
@@ -107,7 +123,7 @@ module _ {V M Q R C A T : Type 0} (x : Exchange V V M Q R) (core : V → C) (law
   after_started z acknowledged mores passed frame news sent (RingFate.Lost after) back e = refl
 
   -- A FRAME THAT THE MASTER SENT, by an epoch that is this one without what is meant
-  module _ (gs : List (Frame (Tagged M Q))) (d : EraHere) (m : SlaveHere) (later : opened < length gs) (is : IsEra d gs m) (mine : Pick (Asked M Q)) where
+  module _ (gs : List (Frame (Tagged M Q))) (d : EraHere) (m : SlaveHere) (later : opened < length gs) (is : IsEra d gs m) (before : AllRight x s (tables spot.station) v (services_in d.account.started)) (mine : Pick (Asked M Q)) where
     abbrev dn : EraHere
     dn = era_next y.speech (asked_acknowledged s.acknowledged) sees_more is_passed (length gs) d mine
 
@@ -145,7 +161,7 @@ module _ {V M Q R C A T : Type 0} (x : Exchange V V M Q R) (core : V → C) (law
       abbrev one : Ring (Rowed V M Q) (Tagged M Q)
       one = (spot.station, m) ∷ []
 
-      abbrev mets : _
+      abbrev mets : Met mail (real x) spot.station m k.datagrams (own_fate spot.place fate)
       mets = met mail (real x) spot.station m k.datagrams (own_fate spot.place fate)
 
       abbrev back : List (Datagram (Tagged M Q))
@@ -172,3 +188,52 @@ module _ {V M Q R C A T : Type 0} (x : Exchange V V M Q R) (core : V → C) (law
 
       right_behind : (news : List (News (Tagged M Q))) → AllRight x s (tables spot.station) v (services_in (behind news).account.started)
       right_behind news = subst (λ l. AllRight x s (tables spot.station) v (services_in l)) (sym (after_started y.speech (asked_acknowledged s.acknowledged) sees_more is_passed (length gs) news k.datagrams fate back dn)) right
+
+      -- ITS NEWS, and the epoch behind it
+      abbrev frames : List (Frame (Tagged M Q))
+      frames = era_frames spot opened (length gs) gs
+
+      abbrev kept : Kept
+      kept = kept_all spot.station nothing_kept frames
+
+      abbrev mine_went : Frame (Tagged M Q)
+      mine_went = own_frame spot.station spot.place went
+
+      abbrev news : Bool → List (News (Tagged M Q))
+      news counts = counted_news counts (frame_news spot.station kept mine_went)
+
+      abbrev after : Bool → EraHere
+      after counts = behind (news counts)
+
+      pub era_met : (counts : Bool) → IsEra (after counts) (gs ++ went ∷ []) mets.slave
+      era_met counts = era_behind (news counts) [] mets.slave mets.ring
+
+      -- THE SLAVE behind the steps
+      alike : (counts : Bool) (slave : SlaveHere) → Comes mail (real x) spot.station y seer u processor mets.slave slave → slave_as mail (real x) (slave_steps y seer slave) ≡ slave_steps u processor (slave_as mail (real x) slave)
+      alike counts slave c =
+          let e = era_behind (news counts) c.steps slave (ap (λ (l : Ring (Rowed V M Q) (Tagged M Q)). ring_steps y seer l c.steps) mets.ring ∙ c.ring) in
+          era_steps x core law calm fair s owes lawful stated seer tables spot (after counts) opened (length (gs ++ went ∷ [])) (gs ++ went ∷ []) (between v) r slave e refl (right_behind (news counts)) u processor serve tells tells_seen carries worded
+
+      pub stepped : (counts : Bool) (ks : List ℕ) → Stepped mail (real x) spot.station y seer u processor mets.slave mets.slave ks
+      stepped counts ks = steps mail (real x) spot.station y seer u processor mets.slave (λ slave c. alike counts slave c) ks mets.slave (record { steps = []; ring = refl })
+
+      -- the frames behind it
+      pub frames_behind : era_frames spot opened (length (gs ++ went ∷ [])) (gs ++ went ∷ []) ≡ frames ++ mine_went ∷ []
+      frames_behind = ap (λ j. era_frames spot opened j (gs ++ went ∷ [])) (pushed gs went) ∙ frames_push spot opened gs went later
+
+      module _ (more_tells : LastTells x more) where
+        -- WHAT WAS HEARD by it is told by its contents, and was accepted
+        pub news_tell : Bool → ByContents x.speech.emission (mails_heard (frame_news spot.station kept mine_went))
+        news_tell counts =
+            let known = era_knows x core law calm fair s owes lawful stated seer tables spot (after counts) opened (length (gs ++ went ∷ [])) (gs ++ went ∷ []) (between v) r mets.slave (era_met counts) refl (right_behind (news counts)) more more_tells in
+            by_behind x.speech.emission (heard spot.station frames) (mails_heard (frame_news spot.station kept mine_went))
+            (subst (ByContents x.speech.emission) (ap (heard spot.station) frames_behind ∙ heard_push spot.station frames mine_went) known.tells)
+
+        pub accepted_is : mails_heard (frame_news spot.station kept mine_went) ≡ all_accepted spot.station dn.side.halves (grams (Own.own spot.station back))
+        accepted_is =
+            let known = era_knows x core law calm fair s owes lawful stated seer tables spot d opened (length gs) gs (between v) r m is refl before more more_tells in
+            let choice = Accounts.mails_choice d.account (granted d.passing mine) in
+            let b = side_begins y.speech (length gs) d.side d.side.now choice.begin in
+            let inn : dn.side.halves.inn ≡ d.side.halves.inn =
+            next_inn y.speech b (next_mail y.speech b.now b.halves.out.holding choice.hold) ∙ ap (λ h. h.inn) (began_halves y (length gs) d.side d.side.now choice.begin) in
+            heard_frame spot.station kept dn.side.halves mine_went (ap (λ h. h.last) inn ∙ known.kept)

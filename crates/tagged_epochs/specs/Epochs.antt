@@ -14,7 +14,7 @@ use Rattle.serving_model.specs.Passing.{LastTells}
 use Rattle.serving_model.specs.Tagged.{IsServed, Tagged, Asked, Rowed, real}
 use Rattle.serving_model.specs.TaggedStates.{IsStatedServed, tagged_states}
 use Rattle.state_exchange.specs.Stated.{Stated, IsStated, Service}
-use Rattle.state_model.specs.States.{Table}
+use Rattle.state_model.specs.States.{Table, carry}
 use Rattle.tagged_lives.specs.Seen.{era_seen}
 use Rattle.task_model.specs.Accounts.{Started}
 use Rattle.task_model.specs.Promise.{services_in}
@@ -65,13 +65,15 @@ module _ {V M Q R C T : Type 0} (w : Speaker V M Q R C T) where
   AllFair [] = ⊤
   AllFair (t ∷ ts) = ((q : T) (m : M) → t.service ≡ Service.Mails q → IsPassed w.naming m q → w.fair m ≡ true) × AllFair ts
 
-  -- an exchange that the slave's processor runs, which takes mails as that one does and whose master speaks so; and the processor tells both the AL state
-  pub record IsRun {A : Type 0} (u : Exchange V A M T (Option R)) (processor : Processor V) (seer : Processor (Rowed V M Q)) : Type 0 where
+  -- an exchange that the slave's processor runs, which takes mails as that one does and whose master speaks so; and the processor tells both the AL state, by
+  -- the same table
+  pub record IsRun {A : Type 0} (u : Exchange V A M T (Option R)) (processor : Processor V) (seer : Processor (Rowed V M Q)) (table : Table) : Type 0 where
     pub serve : u.serve ≡ w.exchange.serve
     pub speech : u.speech ≡ w.naming.speech
     pub tells : (state : ℕ) (v : V) → processor.tell state v ≡ w.states.tell state v
     pub tells_seen : (state : ℕ) (v : Rowed V M Q) → seer.tell state v ≡ seeing_states.tell state v
     pub carries : (r : Registers) → seer.carry r ≡ processor.carry r
+    pub worded : (r : Registers) → seer.carry r ≡ carry table r
 
   -- THE SAME EPOCH SEEN WITH WHAT IS MEANT by its mails: it is a session of the exchange that sees it, led by its master, and without that it is the epoch
   -- as it was; each mail that was passed on is foreseen right

@@ -17,7 +17,7 @@ ghost use Rattle.tagged_epochs.specs.Epochs.{Speaker, IsSpeaker, IsRun, IsSeen, 
 /// AN EPOCH IS A SESSION OF SERVICES AND FAIR MAILS, where each mail that was passed on in it is fair: there is what is meant by each of its mails, so that the
 /// slave's server takes and gives them as a session does that sees it, and the master's side of the slave is that session's, without it.
 pub fn epoch_law<V, A, M, Q, R, C, T>()
-    ensures { (w : Speaker V M Q R C T) → IsSpeaker w → (u : Exchange V A M T (Option R)) (processor : Processor V) (seer : Processor (Rowed V M Q)) → IsRun w u processor seer → (table : ℕ → Table) (spot : Spot) (opened : ℕ) (v : V) (r : Registers) →
+    ensures { (w : Speaker V M Q R C T) → IsSpeaker w → (u : Exchange V A M T (Option R)) (processor : Processor V) (seer : Processor (Rowed V M Q)) → (table : ℕ → Table) (spot : Spot) → IsRun w u processor seer (table spot.station) → (opened : ℕ) (v : V) (r : Registers) →
         IsTaskPlan (seeing w) (seeing_states w) seer table (planned spot (between v) r ∷ []) → r.station ≡ spot.station → (fs : List (Frame M)) (counts : Bool) (e : Era M T (Option R)) (n : Slave V M) →
         IsLed u w.naming.acknowledged processor w.naming.more w.naming.passed spot opened v r fs counts e n → AllFair w e.account.started → IsSeen w seer table spot opened v r fs counts e n }
 {}
