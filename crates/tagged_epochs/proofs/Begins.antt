@@ -139,7 +139,7 @@ module _ {V M Q R T : Type 0} (x : Exchange V V M Q R) (calm : V → Bool) (fair
     -- THE SAME COMES INTO HAND of both
     pub record Begun (hand : Option Duty) (mine : Option (Service (Asked M Q))) (other : Option (Service T)) : Type 0 where
       pub side : sees (side_begun hand mine) ≡ side_other hand other
-      pub known : NowKnown (side_begun hand mine).now
+      pub row : NowKnown (side_begun hand mine).now
       pub account : counts (account_begun hand mine) ≡ account_other hand other
       pub passing : passing_mine hand mine ≡ passing_other hand other
 
@@ -155,7 +155,7 @@ module _ {V M Q R T : Type 0} (x : Exchange V V M Q R) (calm : V → Bool) (fair
     nothing : (hand : Option Duty) (other : Option (Service T)) → side_other hand other ≡ sees d → account_other hand other ≡ counts a → passing_other hand other ≡ None → Begun hand None other
     nothing hand other side account passing = record {
       side = ap sees (none_side hand) ∙ sym side;
-      known = subst (λ (e : SideHere). NowKnown e.now) (sym (none_side hand)) known;
+      row = subst (λ (e : SideHere). NowKnown e.now) (sym (none_side hand)) known;
       account = ap counts (none_account hand) ∙ sym account;
       passing = sym passing;
     }
@@ -192,7 +192,7 @@ module _ {V M Q R T : Type 0} (x : Exchange V V M Q R) (calm : V → Bool) (fair
             side = ap sees mine
                 ∙ ap₂ (λ (l : List (Row M T (Option R))) (z : T). record (sees d) { past = l; now = Some (begun z frame) })
                 (map-append (λ r. row_seen mail n.name same r) d.past (newest d.now) ∙ ap (λ l. map (λ r. row_seen mail n.name same r) d.past ++ l) (newest_seen d.now)) e ∙ sym other;
-            known = subst (λ (z : SideHere). NowKnown z.now) (sym mine) (record { known = k; by = tt });
+            row = subst (λ (z : SideHere). NowKnown z.now) (sym mine) (record { known = k; by = tt });
             account = account;
             passing = ap₂ (λ (b : Bool) (l : ℕ × ℕ). if b && nat_lt l.0 l.1 then Some Passing.Waiting else None) (sym (passed_named q k) ∙ ap n.passed e)
                 (ap₂ (λ (i j : ℕ). (i, j)) (sym (length-map a.started (λ z. started_seen mail n.name same z))) (sym (length-map (account_begun None (Some (Service.Mails q))).started (λ z. started_seen mail n.name same z)) ∙ ap (λ (z : Account T (Option R)). length z.started) account));
@@ -210,7 +210,7 @@ module _ {V M Q R T : Type 0} (x : Exchange V V M Q R) (calm : V → Bool) (fair
           let began_other : account_other None (Some (Service.State target)) ≡ state_begins (counts a) target frame = ap (λ (b : Bool). if b then state_begins (counts a) target frame else counts a) may in
           record {
             side = ap sees (nothing_begins y frame d d.now) ∙ sym (nothing_begins n.speech frame (sees d) (sees d).now);
-            known = subst (λ (z : SideHere). NowKnown z.now) (sym (nothing_begins y frame d d.now)) known;
+            row = subst (λ (z : SideHere). NowKnown z.now) (sym (nothing_begins y frame d d.now)) known;
             account = ap counts began ∙ ap (λ (l : List (Started T)). record (state_begins (counts a) target frame) { started = l }) (started_more (Service.State target)) ∙ sym began_other;
             passing = refl;
           }
@@ -317,12 +317,12 @@ module _ {V M Q R T : Type 0} (x : Exchange V V M Q R) (calm : V → Bool) (fair
       NowKnown (side_next y frame d (record { begin = mails_begin hand mine; hold = hold })).now
   known_next frame d a k hand mine other hold b =
       let e = side_begins y frame d d.now (mails_begin hand mine) in
-      holds_known e (next_mail y e.now e.halves.out.holding hold) b.known
+      holds_known e (next_mail y e.now e.halves.out.holding hold) b.row
 
   side_next_is : (frame : ℕ) (d : SideHere) (a : AccountHere) (k : NowKnown d.now) (hand : Option Duty) (mine : Option (Service (Asked M Q))) (other : Option (Service T)) (hold : Bool) → Begun frame d a k hand mine other →
       sees (side_next y frame d (record { begin = mails_begin hand mine; hold = hold })) ≡ side_next n.speech frame (sees d) (record { begin = mails_begin hand other; hold = hold })
   side_next_is frame d a k hand mine other hold b =
-      takes_up mail n.name same y n.speech (side_begins y frame d d.now (mails_begin hand mine)) hold (plans_of d (side_begins y frame d d.now (mails_begin hand mine)).now b.known)
+      takes_up mail n.name same y n.speech (side_begins y frame d d.now (mails_begin hand mine)) hold (plans_of d (side_begins y frame d d.now (mails_begin hand mine)).now b.row)
       ∙ ap (λ (z : Side M T (Option R)). side_holds z (next_mail n.speech z.now z.halves.out.holding hold)) b.side
 
   next_by : (table : Table) (v : V) (frame : ℕ) (cleared opened : Option ℕ) (d : SideHere) (a : AccountHere) (k : NowKnown d.now) (passing : Option Passing) → (passing ≡ None → NowEnded d d.now) → (pick : Pick T) →

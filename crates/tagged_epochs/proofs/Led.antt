@@ -5,7 +5,7 @@ use Rattle.std.proofs.lemmas.List.{map-append}
 use Rattle.exchange_model.specs.Exchange.{Exchange, IsLawful, Speech, plain}
 use Rattle.exchange_model.specs.Rows.{Row, row_heard, answer_after}
 use Rattle.life_model.specs.Eras.{EraIs, era_frames, planned, opened_slave}
-use Rattle.life_model.specs.Lives.{Spot, Era, Life, Stand, new_era, era_next, era_after, granted, reopens, passes}
+use Rattle.life_model.specs.Lives.{Spot, Era, Life, Stand, new_era, era_next, era_back, era_after, granted, returns_to_init, opens_state, reopening, reopens_at, reopens, passes}
 use Rattle.life_model.specs.Own as Own
 use Rattle.life_model.specs.Own.{own_fate, own_frame, blank}
 use Rattle.life_model.proofs.Eras as LifeEras
@@ -14,20 +14,21 @@ use Rattle.link_model.specs.Segment.{RingFate}
 use Rattle.passed_model.specs.Client.{ByContents}
 use Rattle.passed_model.specs.Erased.{frame_as, all_news_as, halves_as, OfRow, EndOne}
 use Rattle.passed_model.proofs.Naturals.{frame_of}
-use Rattle.passed_whole.specs.Led.{IsLed, EraTurn, MayTurn, NoneUnheard, HasHeard, IsAnswered, frame_in, news_in, turn_next, turn_after, counted_news, counts_behind, has_step}
+use Rattle.passed_whole.specs.Led.{IsLed, EraTurn, MayTurn, NoneUnheard, NowHeard, HasHeard, IsAnswered, frame_in, news_in, turn_next, turn_after, counted_news, counts_behind, has_step}
 use Rattle.passed_whole.specs.Silent.{is_passed}
+use Rattle.passing_rows.proofs.Rows as PassingRows
 use Rattle.passing_rows.specs.Heard.{EraPasses, RowPasses, IsPassedBy, HeardBy}
 use Rattle.segment_model.specs.Ends.{Passing}
 use Rattle.segment_model.specs.Record as Record
 use Rattle.segment_model.specs.Record.{Frame, News, Kept, frame_news, kept_all, nothing_kept, mails_heard, did_read}
-use Rattle.segment_model.specs.Seats.{Side}
+use Rattle.segment_model.specs.Seats.{Side, side_back, side_lost}
 use Rattle.segment_model.specs.Slaves.{Registers, Processor, Slave, Datagram, Ring, grams, ring_after, ring_back, ring_steps}
 use Rattle.serving_model.specs.Erasing.{slave_as, all_as}
 use Rattle.serving_model.specs.Passing.{ends_told}
 use Rattle.serving_model.specs.Tagged.{Tagged, Asked, Rowed, real, ideal, untag, is_own, no_reply, ends_marked}
 use Rattle.state_exchange.specs.Stated.{Stated, IsStated, Service}
 use Rattle.state_model.specs.States.{Table}
-use Rattle.task_model.specs.Accounts.{Account, Duty, Pick, Started, is_free, starts, account_begins}
+use Rattle.task_model.specs.Accounts.{Account, Duty, Stage, account_back, Pick, Started, is_free, starts, account_begins}
 use Rattle.task_model.specs.Promise.{services_in}
 use Rattle.task_model.specs.Tasks.{IsTaskPlan}
 use Rattle.tagged_epochs.specs.Epochs.{Speaker, IsSpeaker, IsRun, IsSeen, AllFair, between, seeing, seeing_states, era_named}
@@ -38,11 +39,11 @@ use Rattle.tagged_epochs.proofs.Backs.{EndsSame, after_named}
 use Rattle.tagged_epochs.proofs.Begins.{RowKnown, NowKnown, NowEnded, Next, next_named}
 use Rattle.tagged_epochs.proofs.Clients.{HasEnded, IsKnown, MarksSame, ends}
 use Rattle.tagged_epochs.proofs.Eras.{Knows, era_knows}
-use Rattle.tagged_epochs.proofs.Marks.{PassedNow, IsPassedNow, newest_of}
+use Rattle.tagged_epochs.proofs.Marks.{PassedNow, IsPassedNow, none_plain, newest_of}
 use Rattle.tagged_epochs.proofs.News.{counted_as, did_read_as, kept_all_as}
-use Rattle.tagged_epochs.proofs.Overs.{ends_last, all_told_of, over, reads, news_few}
+use Rattle.tagged_epochs.proofs.Overs.{asks, ends_last, all_told_of, still, over, reads, news_few}
 use Rattle.tagged_epochs.proofs.Turns as Turns
-use Rattle.tagged_epochs.proofs.Frames.{to_own}
+use Rattle.tagged_epochs.proofs.Frames.{own_to, to_own}
 use Rattle.tagged_epochs.proofs.Ways.{Met, Stepped, met}
 use Rattle.life_model.proofs.Eras.{frames_push}
 
@@ -68,6 +69,42 @@ one_slave {V} {M} a b s n e = let pair : ◌≡◌ {A = ℕ × Slave V M} (a, s)
 
 and_not : (a b : Bool) → a ≡ true → b ≡ false → (a && not b) ≡ true
 and_not a b e f = ap₂ (λ (p q : Bool). p && not q) e f
+
+-- frames leave an epoch by the slave's own datagrams alone
+after_own : {N P S : Type 0} (z : Speech N P S) (acknowledged : P → Bool) (more : N → Bool) (passed : P → Bool) (station frame : ℕ) (news : List (News N)) (sent other : List (Datagram N)) (fate : RingFate) (back again : List (Datagram N)) (e : Era N P S) →
+    Own.own station sent ≡ Own.own station other → Own.own station back ≡ Own.own station again → era_after z acknowledged more passed station frame news sent fate back e ≡ era_after z acknowledged more passed station frame news other fate again e
+after_own z acknowledged more passed station frame news sent other RingFate.Back back again e s b =
+    λ j. record { cleared = e.cleared; opened = e.opened; side = side_back z frame station (b j) e.side; account = account_back station frame e.account (b j); passing = passes z acknowledged more passed e.passing news }
+after_own z acknowledged more passed station frame news sent other (RingFate.Lost after) back again e s b =
+    λ j. record { cleared = e.cleared; opened = e.opened; side = side_lost station (s j) e.side; account = e.account; passing = passes z acknowledged more passed e.passing news }
+
+reopens_era : {N P S : Type 0} (l : Life N P S) (hand : Option Duty) → (reopens l hand).era ≡ l.era
+reopens_era l None = refl
+reopens_era l (Some duty) = at duty.stage
+  where
+    by : (b : Bool) → (if b then record l { stand = reopening (opens_state duty.target) true } else l).era ≡ l.era
+    by true = refl
+    by false = refl
+
+    at : (stage : Stage) → (reopens_at l duty.target stage).era ≡ l.era
+    at Stage.Drains = refl
+    at (Stage.Goes phase) = by (returns_to_init duty.target)
+
+still_some : {R : Type 0} (frame : ℕ) (a : Option (R × ℕ)) (found : Option R) → is_some a ≡ true → is_some (answer_after frame a found) ≡ true
+still_some frame (Some a) found e = refl
+still_some frame None found e = absurd (let no : false ≡ true = e in cc)
+
+some_after : {R : Type 0} (frame : ℕ) (a : Option (R × ℕ)) (r : R) → is_some (answer_after frame a (Some r)) ≡ true
+some_after frame None r = refl
+some_after frame (Some a) r = refl
+
+same_some : {X : Type 0} (a b : X) → Some a ≡ Some b → a ≡ b
+same_some a b e = cc
+
+last_untag : {M Q : Type 0} (more : M → Bool) (hs : List (Tagged M Q)) → ends_last (λ t. more t.mail) hs ≡ ends_last more (untag hs)
+last_untag more [] = refl
+last_untag more (h ∷ []) = refl
+last_untag more (h ∷ (g ∷ hs)) = last_untag more (g ∷ hs)
 
 module _ {V M Q R C T A : Type 0} (w : Speaker V M Q R C T) (k : IsSpeaker w) (lawful : IsLawful (seeing w)) (stated : IsStated (seeing w) (seeing_states w)) (u : Exchange V A M T (Option R)) (processor : Processor V) (seer : Processor (Rowed V M Q)) (tables : ℕ → Table) (spot : Spot)
     (run : IsRun w u processor seer (tables spot.station)) (opened : ℕ) (v : V) (r : Registers) where
@@ -312,3 +349,190 @@ module _ {V M Q R C T A : Type 0} (w : Speaker V M Q R C T) (k : IsSpeaker w) (l
 
     passed_behind : ThisPassed dn.account.started behind.side.now
     passed_behind = subst (λ l. ThisPassed l behind.side.now) started_is known_behind.passed
+
+    -- the row behind the frame
+    abbrev row_by : RingFate → RowHere → RowHere
+    row_by RingFate.Back row = row_heard y.speech (length i.frames) accepted row
+    row_by (RingFate.Lost after) row = row
+
+    service_by : (f : RingFate) (row : RowHere) → (row_by f row).service ≡ row.service
+    service_by RingFate.Back row = refl
+    service_by (RingFate.Lost after) row = refl
+
+    lost_none : (f : RingFate) (after : ℕ) → t.fate ≡ RingFate.Lost after → accepted ≡ []
+    lost_none f after is = ap (λ (z : RingFate). all_accepted spot.station dn.side.halves (grams (Own.own spot.station (ring_back ((spot.station, i.slave) ∷ []) went.datagrams (own_fate spot.place z))))) is
+
+    heard_by : (f : RingFate) → t.fate ≡ f → (row : RowHere) → (row_by f row).heard ≡ row.heard ++ accepted
+    heard_by RingFate.Back is row = refl
+    heard_by (RingFate.Lost after) is row = sym (ap (λ l. row.heard ++ l) (lost_none t.fate after is) ∙ append-nil row.heard)
+
+    now_by : (f : RingFate) → (era_after y.speech (seeing_states w).acknowledged sees_more is_passed spot.station (length i.frames) news went.datagrams f back dn).side.now ≡ option_map (λ row. row_by f row) dn.side.now
+    now_by RingFate.Back = refl
+    now_by (RingFate.Lost after) = go dn.side.now
+      where
+        go : (now : Option RowHere) → now ≡ option_map (λ (row : RowHere). row) now
+        go None = refl
+        go (Some row) = refl
+
+    now_is : behind.side.now ≡ option_map (λ row. row_by t.fate row) dn.side.now
+    now_is = now_by t.fate
+
+    passed_row : (row : RowHere) → dn.side.now ≡ Some row → IsPassedNow w.exchange w.calm w.fair w.states w.naming.more k.last dn.account.started (row_by t.fate row)
+    passed_row row is = subst (ThisPassed dn.account.started) (now_is ∙ ap (option_map (λ z. row_by t.fate z)) is) passed_behind
+
+    -- both clients end it alike, as long as it has no answer
+    marks : (row : RowHere) → dn.side.now ≡ Some row → row.answer ≡ None → (q : Asked M Q) → row.service ≡ q → MarksSame w.exchange w.calm w.fair w.states.acknowledged w.naming k.speaks.emission q (row.heard ++ accepted)
+    marks row is none (Asked.Script q) e = tt
+    marks row is none (Asked.Passed m answers) e = go (passed_row row is m answers (service_by t.fate row ∙ e))
+      where
+        go : PassedNow w.exchange w.calm w.fair w.states w.naming.more k.last dn.account.started m answers (row_by t.fate row) → MarksSame w.exchange w.calm w.fair w.states.acknowledged w.naming k.speaks.emission (Asked.Passed m answers) (row.heard ++ accepted)
+        go (PassedNow.heard same all state) = subst (λ l. MarksSame w.exchange w.calm w.fair w.states.acknowledged w.naming k.speaks.emission (Asked.Passed m answers) l) (heard_by t.fate refl row) same
+        go (PassedNow.rests target newest yes_ answered) =
+            absurd (let has : HasAnswer w.exchange w.calm w.fair (seeing_states w).acknowledged sees_more row = subst Answers is (rests_next (target, newest)) in
+            let some : is_some row.answer ≡ true = has m (e ∙ ap (λ b. Asked.Passed m b) yes_) in
+            let no : false ≡ true = sym (ap is_some none) ∙ some in cc)
+
+    ends_same : EndsSame w.exchange w.calm w.fair w.states w.naming k.speaks spot.station back dn
+    ends_same = go dn.side.now refl chosen.known
+      where
+        go : (now : Option RowHere) → dn.side.now ≡ now → Knowing now → OfRow (λ row. row.answer ≡ None → EndOne mail w.naming.name same y.speech w.naming.speech row.service (row.heard ++ accepted)) now
+        go None is kn = tt
+        go (Some row) is kn = λ none. ends w.exchange w.calm w.fair w.states.acknowledged w.naming k.speaks.emission row.service kn.known (row.heard ++ accepted)
+            (Turns.by_append w.exchange.speech.emission row.heard accepted kn.by accepted_tell) (marks row is none row.service refl)
+
+    -- WITHOUT WHAT IS MEANT the epoch behind it is as it was
+    own_sent : Own.own spot.station (all_as mail went.datagrams) ≡ Own.own spot.station t.sent
+    own_sent = ap (Own.own spot.station) went.is_sent ∙ to_own spot.station (Own.own spot.station t.sent) (own_to spot.station t.sent)
+
+    own_back : Own.own spot.station (all_as mail back) ≡ Own.own spot.station t.back
+    own_back = ap (Own.own spot.station) (ap (all_as mail) (sym same_back) ∙ back_is) ∙ to_own spot.station (Own.own spot.station t.back) (own_to spot.station t.back)
+
+    named_next : era_named w behind ≡ turn_after u w.naming.acknowledged processor w.naming.more w.naming.passed spot opened fs counts e t
+    named_next =
+        after_named w.exchange w.calm w.fair w.states w.naming k.speaks spot.station (length i.frames) news went.datagrams t.fate back dn news_tell ends_same
+        ∙ after_own w.naming.speech w.naming.acknowledged w.naming.more w.naming.passed spot.station (length i.frames) (all_news_as mail news) (all_as mail went.datagrams) t.sent t.fate (all_as mail back) t.back (era_named w dn) own_sent own_back
+        ∙ (λ j. era_after (sym run.speech j) w.naming.acknowledged w.naming.more w.naming.passed spot.station (i.long j) (news_is j) t.sent t.fate t.back (next_is j))
+
+    -- what is known of the row in hand
+    known_next : Knowing behind.side.now
+    known_next = subst Knowing (sym now_is) (go dn.side.now chosen.known)
+      where
+        go : (now : Option RowHere) → Knowing now → Knowing (option_map (λ row. row_by t.fate row) now)
+        go None kn = tt
+        go (Some row) kn = record {
+          known = subst (λ q. IsKnown w.exchange w.calm w.fair w.states.acknowledged w.naming k.speaks.emission q) (sym (service_by t.fate row)) kn.known;
+          by = subst (ByContents w.exchange.speech.emission) (sym (heard_by t.fate refl row)) (Turns.by_append w.exchange.speech.emission row.heard accepted kn.by accepted_tell);
+        }
+
+    abbrev life : Life (Tagged M Q) (Asked M Q) (Option R)
+    life = record { past = []; era = i.era; stand = Stand.Open; gave = [] }
+
+    abbrev life_next : Life (Tagged M Q) (Asked M Q) (Option R)
+    life_next = record { past = []; era = dn; stand = Stand.Open; gave = [] }
+
+    passes_next : EraPasses y.speech sees_more is_passed dn
+    passes_next = PassingRows.next y.speech sees_more is_passed (seeing_states w).acknowledged (length i.frames) life Stand.Open mine i.passes
+
+    passes_by : (f : RingFate) → t.fate ≡ f → EraPasses y.speech sees_more is_passed (era_after y.speech (seeing_states w).acknowledged sees_more is_passed spot.station (length i.frames) news went.datagrams f back dn)
+    passes_by RingFate.Back is =
+        let after = era_back y.speech (seeing_states w).acknowledged sees_more is_passed spot.station (length i.frames) news back dn in
+        subst (EraPasses y.speech sees_more is_passed) (reopens_era (record life_next { era = after }) after.account.hand)
+        (PassingRows.back y.speech sees_more is_passed (seeing_states w).acknowledged (length i.frames) spot news back None life_next Stand.Open passes_next accepted_is)
+    passes_by (RingFate.Lost after) is = PassingRows.lost y.speech sees_more is_passed (seeing_states w).acknowledged spot news went.datagrams life_next Stand.Open passes_next (accepted_is ∙ lost_none t.fate after is)
+
+    -- ---- its answer, where it is over
+    passing_by : (f : RingFate) → (era_after y.speech (seeing_states w).acknowledged sees_more is_passed spot.station (length i.frames) news went.datagrams f back dn).passing ≡ passes y.speech (seeing_states w).acknowledged sees_more is_passed dn.passing news
+    passing_by RingFate.Back = refl
+    passing_by (RingFate.Lost after) = refl
+
+    answer_by : t.fate ≡ RingFate.Back → (row : RowHere) → (row_by t.fate row).answer ≡ answer_after (length i.frames) row.answer (y.speech.ends row.service (plain y.speech.emission (row.heard ++ accepted)))
+    answer_by is row = ap (λ (f : RingFate). (row_by f row).answer) is
+
+    kept_answer : (f : RingFate) (row : RowHere) → is_some row.answer ≡ true → is_some (row_by f row).answer ≡ true
+    kept_answer RingFate.Back row has = still_some (length i.frames) row.answer (y.speech.ends row.service (plain y.speech.emission (row.heard ++ accepted))) has
+    kept_answer (RingFate.Lost after) row has = has
+
+    loud : NoneUnheard y is_passed behind → behind.passing ≡ None → (m : M) (row : RowHere) → behind.side.now ≡ Some row → row.service ≡ Asked.Passed m true → IsAnswered y is_passed (Asked.Passed m true) → no_reply y.speech.emission row.heard ≡ false
+    loud heard none m row is e a = at behind.passing behind.side.now none is heard.now
+      where
+        at : (o : Option Passing) (now : Option RowHere) → o ≡ None → now ≡ Some row → NowHeard y is_passed o now → no_reply y.speech.emission row.heard ≡ false
+        at (Some p) now none is k = absurd (let no : Some p ≡ None = none in cc)
+        at None None none is k = absurd (let no : None ≡ Some row = is in cc)
+        at None (Some other) none is k = let one : other ≡ row = cc in subst (HasHeard y is_passed) one k (subst (IsAnswered y is_passed) (sym e) a)
+
+    few : reads news ≤ 1
+    few =
+        let a = news_few spot.station kept counts mine_frame in
+        let b : asks spot.station (grams (Own.own spot.station back)) ≡ asks spot.station (grams back) = ap (λ l. asks spot.station (grams l)) same_back in
+        let c = (met mail (real w.exchange) spot.station i.slave went.datagrams (own_fate spot.place t.fate)).few in
+        let d = went.few in
+        omega (arith, a, b, c, d)
+
+    lost_reads : (after : ℕ) → t.fate ≡ RingFate.Lost after → reads news ≡ 0
+    lost_reads after is =
+        let a = news_few spot.station kept counts mine_frame in
+        let b : asks spot.station (grams (Own.own spot.station back)) ≡ 0 = ap (λ (z : RingFate). asks spot.station (grams (Own.own spot.station (ring_back ((spot.station, i.slave) ∷ []) went.datagrams (own_fate spot.place z))))) is in
+        omega (arith, a, b)
+
+    -- of all its replies it is the answer
+    answers_all : t.fate ≡ RingFate.Back → (m : M) (row : RowHere) → row.service ≡ Asked.Passed m true → ends_last sees_more (plain y.speech.emission (row.heard ++ accepted)) ≡ true →
+        PassedNow w.exchange w.calm w.fair w.states w.naming.more k.last dn.account.started m true (row_by t.fate row) → is_some (row_by t.fate row).answer ≡ true
+    answers_all is m row e last (PassedNow.rests target newest yes_ answered) = answered
+    answers_all is m row e last (PassedNow.heard same all state) =
+        let hs = plain y.speech.emission (row.heard ++ accepted) in
+        let reps = all refl in
+        let heard : (row_by t.fate row).heard ≡ row.heard ++ accepted = heard_by t.fate refl row in
+        let begins : untag hs ++ reps.begin.0 ≡ reps.all = ap (λ l. untag (plain y.speech.emission l) ++ reps.begin.0) (sym heard) ∙ reps.begin.1 in
+        let told : ends_told w.naming.more (untag hs) ≡ true =
+        all_told_of w.naming.more (untag hs) reps.begin.0 (ap (ends_told w.naming.more) begins ∙ reps.tells) (sym (last_untag w.naming.more hs) ∙ last) in
+        let marked : ends_marked hs ≡ true = subst (λ l. ends_marked (plain y.speech.emission l) ≡ ends_told w.naming.more (untag (plain y.speech.emission l))) heard same ∙ told in
+        let ended : y.speech.ends row.service hs ≡ Some None = ap (λ q. y.speech.ends q hs) e ∙ ap (λ b. if b then Some None else None) marked in
+        ap is_some (answer_by is row ∙ ap (answer_after (length i.frames) row.answer) ended) ∙ some_after (length i.frames) row.answer None
+
+    answered_next : NoneUnheard y is_passed behind → ((m : M) → IsAnswered y is_passed (Asked.Passed m true)) → behind.passing ≡ None → Answers behind.side.now
+    answered_next heard always none = subst Answers (sym now_is) (go dn.side.now refl)
+      where
+        in_hand : (row : RowHere) (m : M) → dn.side.now ≡ Some row → row.service ≡ Asked.Passed m true → (p : Passing) → dn.passing ≡ Some p → HeardBy y.speech.emission sees_more p row.heard → (f : RingFate) → t.fate ≡ f → is_some (row_by t.fate row).answer ≡ true
+        in_hand row m is e p eq hb (RingFate.Lost after) fate =
+            absurd (still y.speech (seeing_states w).acknowledged sees_more is_passed news (lost_reads after fate) p (ap (λ o. passes y.speech (seeing_states w).acknowledged sees_more is_passed o news) (sym eq) ∙ sym (passing_by t.fate) ∙ none))
+        in_hand row m is e p eq hb RingFate.Back fate =
+            let by : passes y.speech (seeing_states w).acknowledged sees_more is_passed (Some p) news ≡ None = ap (λ o. passes y.speech (seeing_states w).acknowledged sees_more is_passed o news) (sym eq) ∙ sym (passing_by t.fate) ∙ none in
+            let now : behind.side.now ≡ Some (row_by t.fate row) = now_is ∙ ap (option_map (λ z. row_by t.fate z)) is in
+            elim (over y.speech (seeing_states w).acknowledged sees_more is_passed news few p row.heard hb by) [
+              | inl nothing ↦ absurd (let quiet : no_reply y.speech.emission (row_by t.fate row).heard ≡ true =
+                  none_plain y.speech.emission (row_by t.fate row).heard (ap (plain y.speech.emission) (heard_by t.fate refl row ∙ ap (λ l. row.heard ++ l) (sym accepted_is)) ∙ nothing) in
+                  let said = loud heard none m (row_by t.fate row) now (service_by t.fate row ∙ e) (always m) in
+                  let no : true ≡ false = sym quiet ∙ said in cc)
+              | inr last ↦ answers_all fate m row e (ap (λ l. ends_last sees_more (plain y.speech.emission (row.heard ++ l))) (sym accepted_is) ∙ last) (passed_row row is m true (service_by t.fate row ∙ e))
+            ]
+
+        of : (row : RowHere) (m : M) → dn.side.now ≡ Some row → row.service ≡ Asked.Passed m true → (o : Option Passing) → dn.passing ≡ o → is_some (row_by t.fate row).answer ≡ true
+        of row m is e None eq = kept_answer t.fate row (let has : HasAnswer w.exchange w.calm w.fair (seeing_states w).acknowledged sees_more row = subst Answers is (over_next eq) in has m e)
+        of row m is e (Some p) eq =
+            let b = passes_next p eq in
+            let one : b.row ≡ row = same_some b.row row (sym b.is ∙ is) in
+            in_hand row m is e p eq (subst (λ (z : RowHere). HeardBy y.speech.emission sees_more p z.heard) one b.heard) t.fate refl
+
+        go : (now : Option RowHere) → dn.side.now ≡ now → Answers (option_map (λ row. row_by t.fate row) now)
+        go None is = tt
+        go (Some row) is = λ m e. of row m is (sym (service_by t.fate row) ∙ e) dn.passing refl
+
+    -- IT STAYS SO
+    pub tied_next : NoneUnheard y is_passed behind → ((m : M) → IsAnswered y is_passed (Asked.Passed m true)) →
+        Tied (fs ++ frame_in t ∷ []) (counts_behind spot.station t.steps (Own.own spot.station t.back) counts) (turn_after u w.naming.acknowledged processor w.naming.more w.naming.passed spot opened fs counts e t) t.slave
+    tied_next heard always = record {
+      frames = i.frames ++ frame ∷ [];
+      era = behind;
+      slave = stepped.slave;
+      led = subst (λ c. LedHere (i.frames ++ frame ∷ []) c behind stepped.slave) counts_is led_next;
+      is = Turns.era_behind w.exchange w.core k.served w.calm w.fair w.states k.stated lawful stated u processor seer run.serve run.tells run.tells_seen run.carries tables spot run.worded opened v r w.naming.more i.frames i.era i.slave i.later i.is i.right mine right_next t.sent went t.fate news t.steps stepped.slave (ap (λ (l : Ring (Rowed V M Q) (Tagged M Q)). ring_steps y seer l t.steps) (met mail (real w.exchange) spot.station i.slave went.datagrams (own_fate spot.place t.fate)).ring ∙ stepped.ring);
+      long = pushed i.frames frame ∙ ap suc i.long ∙ sym (pushed fs (frame_in t));
+      later = let grown = pushed i.frames frame in let was = i.later in omega (arith, grown, was);
+      alike = alike_next;
+      named = named_next;
+      stands = slave_is;
+      right = Turns.right_behind w.exchange w.core k.served w.calm w.fair w.states k.stated lawful stated u processor seer run.serve run.tells run.tells_seen run.carries tables spot run.worded opened v r w.naming.more i.frames i.era i.slave i.later i.is i.right mine right_next t.sent went t.fate news;
+      known = known_next;
+      passes = passes_by t.fate refl;
+      answered = answered_next heard always;
+    }

@@ -45,7 +45,7 @@ newest_last [] s = refl
 newest_last (k ∷ []) s = refl
 newest_last (k ∷ (t ∷ ss)) s = newest_last (t ∷ ss) s
 
-none_plain : {M : Type 0} (e : M → Bool) (ms : List M) → plain e ms ≡ [] → no_reply e ms ≡ true
+pub none_plain : {M : Type 0} (e : M → Bool) (ms : List M) → plain e ms ≡ [] → no_reply e ms ≡ true
 none_plain e [] is = refl
 none_plain {M} e (m ∷ ms) is = go (e m) is (λ rest. none_plain e ms rest)
   where

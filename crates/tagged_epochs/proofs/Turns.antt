@@ -124,7 +124,7 @@ module _ {V M Q R C A T : Type 0} (x : Exchange V V M Q R) (core : V → C) (law
 
   -- A FRAME THAT THE MASTER SENT, by an epoch that is this one without what is meant
   module _ (gs : List (Frame (Tagged M Q))) (d : EraHere) (m : SlaveHere) (later : opened < length gs) (is : IsEra d gs m) (before : AllRight x s (tables spot.station) v (services_in d.account.started)) (mine : Pick (Asked M Q)) where
-    abbrev dn : EraHere
+    abbrev pub dn : EraHere
     dn = era_next y.speech (asked_acknowledged s.acknowledged) sees_more is_passed (length gs) d mine
 
     -- what it asks, as its halves mean it
@@ -164,10 +164,10 @@ module _ {V M Q R C A T : Type 0} (x : Exchange V V M Q R) (core : V → C) (law
       abbrev mets : Met mail (real x) spot.station m k.datagrams (own_fate spot.place fate)
       mets = met mail (real x) spot.station m k.datagrams (own_fate spot.place fate)
 
-      abbrev back : List (Datagram (Tagged M Q))
+      abbrev pub back : List (Datagram (Tagged M Q))
       back = ring_back one k.datagrams (own_fate spot.place fate)
 
-      abbrev went : Frame (Tagged M Q)
+      abbrev pub went : Frame (Tagged M Q)
       went = record { sent = k.datagrams; fate = fate; back = back }
 
       same_sent : Own.own spot.station k.datagrams ≡ k.datagrams
@@ -180,13 +180,13 @@ module _ {V M Q R C A T : Type 0} (x : Exchange V V M Q R) (core : V → C) (law
       behind news = era_after y.speech (asked_acknowledged s.acknowledged) sees_more is_passed spot.station (length gs) news k.datagrams fate back dn
 
       -- the epoch behind the frame and these steps
-      era_behind : (news : List (News (Tagged M Q))) (ks : List ℕ) (slave : SlaveHere) → ring_steps y seer (ring_after one k.datagrams (own_fate spot.place fate)) ks ≡ (spot.station, slave) ∷ [] → IsEra (behind news) (gs ++ went ∷ []) slave
+      pub era_behind : (news : List (News (Tagged M Q))) (ks : List ℕ) (slave : SlaveHere) → ring_steps y seer (ring_after one k.datagrams (own_fate spot.place fate)) ks ≡ (spot.station, slave) ∷ [] → IsEra (behind news) (gs ++ went ∷ []) slave
       era_behind news ks slave rings =
           subst (λ j. EraIs y (tagged_states x s) seer tables spot (behind news) opened j (gs ++ went ∷ []) (between v) r slave) (sym (pushed gs went))
           (LifeEras.own_turns y (tagged_states x s) seer tables sees_more is_passed spot d opened gs (between v) r m later is mine news k.datagrams fate back ks slave k.asks
           (ap (λ l. ring_back one l (own_fate spot.place fate)) same_sent ∙ sym same_back) (ap (λ l. ring_steps y seer (ring_after one l (own_fate spot.place fate)) ks) same_sent ∙ rings))
 
-      right_behind : (news : List (News (Tagged M Q))) → AllRight x s (tables spot.station) v (services_in (behind news).account.started)
+      pub right_behind : (news : List (News (Tagged M Q))) → AllRight x s (tables spot.station) v (services_in (behind news).account.started)
       right_behind news = subst (λ l. AllRight x s (tables spot.station) v (services_in l)) (sym (after_started y.speech (asked_acknowledged s.acknowledged) sees_more is_passed (length gs) news k.datagrams fate back dn)) right
 
       -- ITS NEWS, and the epoch behind it
@@ -199,10 +199,10 @@ module _ {V M Q R C A T : Type 0} (x : Exchange V V M Q R) (core : V → C) (law
       abbrev mine_went : Frame (Tagged M Q)
       mine_went = own_frame spot.station spot.place went
 
-      abbrev news : Bool → List (News (Tagged M Q))
+      abbrev pub news : Bool → List (News (Tagged M Q))
       news counts = counted_news counts (frame_news spot.station kept mine_went)
 
-      abbrev after : Bool → EraHere
+      abbrev pub after : Bool → EraHere
       after counts = behind (news counts)
 
       pub era_met : (counts : Bool) → IsEra (after counts) (gs ++ went ∷ []) mets.slave
