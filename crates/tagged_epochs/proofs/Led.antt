@@ -46,65 +46,8 @@ use Rattle.tagged_epochs.proofs.Turns as Turns
 use Rattle.tagged_epochs.proofs.Frames.{own_to, to_own}
 use Rattle.tagged_epochs.proofs.Ways.{Met, Stepped, met}
 use Rattle.life_model.proofs.Eras.{frames_push}
-
--- the mails heard are the same without empty reads
-mails_without : {M : Type 0} (ns : List (News M)) → mails_heard (Record.without_empty ns) ≡ mails_heard ns
-mails_without [] = refl
-mails_without (News.Told m ∷ ns) = mails_without ns
-mails_without (News.Written ∷ ns) = mails_without ns
-mails_without (News.Heard m ∷ ns) = ap (λ l. m ∷ l) (mails_without ns)
-mails_without (News.NothingRead ∷ ns) = mails_without ns
-mails_without (News.BoxFull full ∷ ns) = mails_without ns
-mails_without (News.Status state refused ∷ ns) = mails_without ns
-
-mails_counted : {M : Type 0} (b : Bool) (ns : List (News M)) → mails_heard (counted_news b ns) ≡ mails_heard ns
-mails_counted true ns = refl
-mails_counted false ns = mails_without ns
-
-pushed : {K : Type 0} (gs : List K) (g : K) → length (gs ++ g ∷ []) ≡ suc (length gs)
-pushed gs g = let e = length-append gs (g ∷ []) in omega (arith, e)
-
-one_slave : {V M : Type 0} (a b : ℕ) (s n : Slave V M) → ◌≡◌ {A = Ring V M} ((a, s) ∷ []) ((b, n) ∷ []) → s ≡ n
-one_slave {V} {M} a b s n e = let pair : ◌≡◌ {A = ℕ × Slave V M} (a, s) (b, n) = cc in ap (λ p. p.1) pair
-
-and_not : (a b : Bool) → a ≡ true → b ≡ false → (a && not b) ≡ true
-and_not a b e f = ap₂ (λ (p q : Bool). p && not q) e f
-
--- frames leave an epoch by the slave's own datagrams alone
-after_own : {N P S : Type 0} (z : Speech N P S) (acknowledged : P → Bool) (more : N → Bool) (passed : P → Bool) (station frame : ℕ) (news : List (News N)) (sent other : List (Datagram N)) (fate : RingFate) (back again : List (Datagram N)) (e : Era N P S) →
-    Own.own station sent ≡ Own.own station other → Own.own station back ≡ Own.own station again → era_after z acknowledged more passed station frame news sent fate back e ≡ era_after z acknowledged more passed station frame news other fate again e
-after_own z acknowledged more passed station frame news sent other RingFate.Back back again e s b =
-    λ j. record { cleared = e.cleared; opened = e.opened; side = side_back z frame station (b j) e.side; account = account_back station frame e.account (b j); passing = passes z acknowledged more passed e.passing news }
-after_own z acknowledged more passed station frame news sent other (RingFate.Lost after) back again e s b =
-    λ j. record { cleared = e.cleared; opened = e.opened; side = side_lost station (s j) e.side; account = e.account; passing = passes z acknowledged more passed e.passing news }
-
-reopens_era : {N P S : Type 0} (l : Life N P S) (hand : Option Duty) → (reopens l hand).era ≡ l.era
-reopens_era l None = refl
-reopens_era l (Some duty) = at duty.stage
-  where
-    by : (b : Bool) → (if b then record l { stand = reopening (opens_state duty.target) true } else l).era ≡ l.era
-    by true = refl
-    by false = refl
-
-    at : (stage : Stage) → (reopens_at l duty.target stage).era ≡ l.era
-    at Stage.Drains = refl
-    at (Stage.Goes phase) = by (returns_to_init duty.target)
-
-still_some : {R : Type 0} (frame : ℕ) (a : Option (R × ℕ)) (found : Option R) → is_some a ≡ true → is_some (answer_after frame a found) ≡ true
-still_some frame (Some a) found e = refl
-still_some frame None found e = absurd (let no : false ≡ true = e in cc)
-
-some_after : {R : Type 0} (frame : ℕ) (a : Option (R × ℕ)) (r : R) → is_some (answer_after frame a (Some r)) ≡ true
-some_after frame None r = refl
-some_after frame (Some a) r = refl
-
-same_some : {X : Type 0} (a b : X) → Some a ≡ Some b → a ≡ b
-same_some a b e = cc
-
-last_untag : {M Q : Type 0} (more : M → Bool) (hs : List (Tagged M Q)) → ends_last (λ t. more t.mail) hs ≡ ends_last more (untag hs)
-last_untag more [] = refl
-last_untag more (h ∷ []) = refl
-last_untag more (h ∷ (g ∷ hs)) = last_untag more (g ∷ hs)
+use Rattle.tagged_epochs.proofs.Opened.{after_started}
+use Rattle.tagged_epochs.proofs.Leads.{mails_without, mails_counted, pushed, one_slave, and_not, after_own, reopens_era, still_some, some_after, same_some, last_untag}
 
 module _ {V M Q R C T A : Type 0} (w : Speaker V M Q R C T) (k : IsSpeaker w) (lawful : IsLawful (seeing w)) (stated : IsStated (seeing w) (seeing_states w)) (u : Exchange V A M T (Option R)) (processor : Processor V) (seer : Processor (Rowed V M Q)) (tables : ℕ → Table) (spot : Spot)
     (run : IsRun w u processor seer (tables spot.station)) (opened : ℕ) (v : V) (r : Registers) where
@@ -204,7 +147,7 @@ module _ {V M Q R C T A : Type 0} (w : Speaker V M Q R C T) (k : IsSpeaker w) (l
         ∙ ap (λ (b : Bool). (if b then record d.account { started = starts d.account (Service.Mails q) (length i.frames) } else d.account).started) begins in
         last_fair d.account.started (record { service = Service.Mails q; frame = length i.frames }) (subst (AllFair w) (ap (λ (z : Era M T (Option R)). z.account.started) (sym en_is) ∙ begun) fair) q m refl is
 
-    chosen : Next w.exchange w.calm w.fair w.states w.naming k.speaks (tables spot.station) v (length i.frames) i.era t.pick
+    pub chosen : Next w.exchange w.calm w.fair w.states w.naming k.speaks (tables spot.station) v (length i.frames) i.era t.pick
     chosen = next_named w.exchange w.calm w.fair w.states w.naming k.speaks (tables spot.station) v (length i.frames) i.era t.pick i.known ended fairly
 
     abbrev mine : Pick (Asked M Q)
@@ -216,11 +159,11 @@ module _ {V M Q R C T A : Type 0} (w : Speaker V M Q R C T) (k : IsSpeaker w) (l
     next_is : era_named w dn ≡ en
     next_is = chosen.is ∙ en_is
 
-    right_next : AllRight w.exchange w.states (tables spot.station) v (services_in dn.account.started)
+    pub right_next : AllRight w.exchange w.states (tables spot.station) v (services_in dn.account.started)
     right_next = chosen.right i.right
 
     -- THE FRAME
-    went : Turns.Sent w.exchange w.core k.served w.calm w.fair w.states k.stated lawful stated u processor seer run.serve run.tells run.tells_seen run.carries tables spot run.worded opened v r w.naming.more i.frames i.era i.slave i.later i.is i.right mine t.sent
+    pub went : Turns.Sent w.exchange w.core k.served w.calm w.fair w.states k.stated lawful stated u processor seer run.serve run.tells run.tells_seen run.carries tables spot run.worded opened v r w.naming.more i.frames i.era i.slave i.later i.is i.right mine t.sent
     went = Turns.sent_so w.exchange w.core k.served w.calm w.fair w.states k.stated lawful stated u processor seer run.serve run.tells run.tells_seen run.carries tables spot run.worded opened v r w.naming.more i.frames i.era i.slave i.later i.is i.right mine en t.sent (ap (λ (z : Era M T (Option R)). z.side.halves) (sym next_is)) (ap (λ (z : Era M T (Option R)). z.account.hand) (sym next_is)) may.asks may.single
 
     -- ---- THE TURN
@@ -345,7 +288,7 @@ module _ {V M Q R C T A : Type 0} (w : Speaker V M Q R C T) (k : IsSpeaker w) (l
         (met mail (real w.exchange) spot.station i.slave went.datagrams (own_fate spot.place t.fate)).slave (Turns.era_met w.exchange w.core k.served w.calm w.fair w.states k.stated lawful stated u processor seer run.serve run.tells run.tells_seen run.carries tables spot run.worded opened v r w.naming.more i.frames i.era i.slave i.later i.is i.right mine right_next t.sent went t.fate counts) refl (Turns.right_behind w.exchange w.core k.served w.calm w.fair w.states k.stated lawful stated u processor seer run.serve run.tells run.tells_seen run.carries tables spot run.worded opened v r w.naming.more i.frames i.era i.slave i.later i.is i.right mine right_next t.sent went t.fate news) w.naming.more k.last
 
     started_is : behind.account.started ≡ dn.account.started
-    started_is = Turns.after_started w.exchange w.core k.served w.calm w.fair w.states k.stated lawful stated u processor seer run.serve run.tells run.tells_seen run.carries tables spot run.worded opened v r w.naming.more y.speech (seeing_states w).acknowledged sees_more is_passed (length i.frames) news went.datagrams t.fate back dn
+    started_is = after_started y.speech (seeing_states w).acknowledged sees_more is_passed spot.station (length i.frames) news went.datagrams t.fate back dn
 
     passed_behind : ThisPassed dn.account.started behind.side.now
     passed_behind = subst (λ l. ThisPassed l behind.side.now) started_is known_behind.passed
@@ -518,7 +461,7 @@ module _ {V M Q R C T A : Type 0} (w : Speaker V M Q R C T) (k : IsSpeaker w) (l
         go (Some row) is = λ m e. of row m is (sym (service_by t.fate row) ∙ e) dn.passing refl
 
     -- IT STAYS SO
-    pub tied_next : NoneUnheard y is_passed behind → ((m : M) → IsAnswered y is_passed (Asked.Passed m true)) →
+    pub tied_next : ((gs : List (Frame (Tagged M Q))) (c : Bool) (d : EraHere) (m : SlaveHere) → LedHere gs c d m → NoneUnheard y is_passed d) → ((m : M) → IsAnswered y is_passed (Asked.Passed m true)) →
         Tied (fs ++ frame_in t ∷ []) (counts_behind spot.station t.steps (Own.own spot.station t.back) counts) (turn_after u w.naming.acknowledged processor w.naming.more w.naming.passed spot opened fs counts e t) t.slave
     tied_next heard always = record {
       frames = i.frames ++ frame ∷ [];
@@ -534,5 +477,5 @@ module _ {V M Q R C T A : Type 0} (w : Speaker V M Q R C T) (k : IsSpeaker w) (l
       right = Turns.right_behind w.exchange w.core k.served w.calm w.fair w.states k.stated lawful stated u processor seer run.serve run.tells run.tells_seen run.carries tables spot run.worded opened v r w.naming.more i.frames i.era i.slave i.later i.is i.right mine right_next t.sent went t.fate news;
       known = known_next;
       passes = passes_by t.fate refl;
-      answered = answered_next heard always;
+      answered = answered_next (heard (i.frames ++ frame ∷ []) (counts_behind spot.station t.steps (Own.own spot.station back) counts) behind stepped.slave led_next) always;
     }

@@ -10,5 +10,9 @@ pub mod Marks
 pub mod Overs
 pub mod Ways
 pub mod Answered
+pub mod Opened
 pub mod Turns
+pub mod Leads
 pub mod Led
+pub mod Sessions
+

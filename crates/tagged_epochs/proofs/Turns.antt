@@ -44,6 +44,7 @@ use Rattle.tagged_epochs.proofs.Frames.{ToIt, meaning, reads_as, served_as, sing
 use Rattle.tagged_epochs.proofs.News.{counted_as, did_read_as, kept_all_as}
 use Rattle.tagged_epochs.proofs.Overs.{asks as asks_of, sent_asks}
 use Rattle.tagged_epochs.proofs.Ways.{Met, met, Comes, Stepped, steps}
+use Rattle.tagged_epochs.proofs.Opened.{after_started}
 
 -- contents tell of a part what they tell of all
 pub by_behind : {M Q : Type 0} (e : M → Bool) (as' bs : List (Tagged M Q)) → ByContents e (as' ++ bs) → ByContents e bs
@@ -99,28 +100,6 @@ module _ {V M Q R C A T : Type 0} (x : Exchange V V M Q R) (core : V → C) (law
 
   pushed : {K : Type 0} (gs : List K) (g : K) → length (gs ++ g ∷ []) ≡ suc (length gs)
   pushed gs g = let e = length-append gs (g ∷ []) in omega (arith, e)
-
-  -- frames leave what came into hand
-  met_started : {N P : Type 0} (station frame : ℕ) (a : Account P (Option R)) (hand : Option Duty) (d : Datagram N) → (account_met station frame a hand d).started ≡ a.started
-  met_started station frame a None d = refl
-  met_started station frame a (Some duty) d = go (is_for station d.address && not (d.counter == 0))
-    where
-      by : (k : Progress (Option R)) → (account_by frame a duty k).started ≡ a.started
-      by (Progress.On stage) = refl
-      by (Progress.Over answer) = refl
-
-      go : (b : Bool) → (if b then account_by frame a duty (access_done duty.target duty.stage d.access d.found) else a).started ≡ a.started
-      go true = by (access_done duty.target duty.stage d.access d.found)
-      go false = refl
-
-  pub back_started : {N P : Type 0} (station frame : ℕ) (a : Account P (Option R)) (ds : List (Datagram N)) → (account_back station frame a ds).started ≡ a.started
-  back_started station frame a [] = refl
-  back_started station frame a (d ∷ ds) = back_started station frame (account_met station frame a a.hand d) ds ∙ met_started station frame a a.hand d
-
-  pub after_started : {N P : Type 0} (z : Speech N P (Option R)) (acknowledged : P → Bool) (mores : N → Bool) (passed : P → Bool) (frame : ℕ) (news : List (News N)) (sent : List (Datagram N)) (fate : RingFate) (back : List (Datagram N)) (e : Era N P (Option R)) →
-      (era_after z acknowledged mores passed spot.station frame news sent fate back e).account.started ≡ e.account.started
-  after_started z acknowledged mores passed frame news sent RingFate.Back back e = back_started spot.station frame e.account (Own.own spot.station back)
-  after_started z acknowledged mores passed frame news sent (RingFate.Lost after) back e = refl
 
   -- A FRAME THAT THE MASTER SENT, by an epoch that is this one without what is meant
   module _ (gs : List (Frame (Tagged M Q))) (d : EraHere) (m : SlaveHere) (later : opened < length gs) (is : IsEra d gs m) (before : AllRight x s (tables spot.station) v (services_in d.account.started)) (mine : Pick (Asked M Q)) where
@@ -187,7 +166,7 @@ module _ {V M Q R C A T : Type 0} (x : Exchange V V M Q R) (core : V → C) (law
           (ap (λ l. ring_back one l (own_fate spot.place fate)) same_sent ∙ sym same_back) (ap (λ l. ring_steps y seer (ring_after one l (own_fate spot.place fate)) ks) same_sent ∙ rings))
 
       pub right_behind : (news : List (News (Tagged M Q))) → AllRight x s (tables spot.station) v (services_in (behind news).account.started)
-      right_behind news = subst (λ l. AllRight x s (tables spot.station) v (services_in l)) (sym (after_started y.speech (asked_acknowledged s.acknowledged) sees_more is_passed (length gs) news k.datagrams fate back dn)) right
+      right_behind news = subst (λ l. AllRight x s (tables spot.station) v (services_in l)) (sym (after_started y.speech (asked_acknowledged s.acknowledged) sees_more is_passed spot.station (length gs) news k.datagrams fate back dn)) right
 
       -- ITS NEWS, and the epoch behind it
       abbrev frames : List (Frame (Tagged M Q))
