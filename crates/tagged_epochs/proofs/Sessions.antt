@@ -41,16 +41,16 @@ module _ {V M Q R C T A : Type 0} (w : Speaker V M Q R C T) (k : IsSpeaker w) (l
 
   -- those that came into hand before a turn are fair
   module _ (fs : List (Frame M)) (counts : Bool) (e : Era M T (Option R)) (t : EraTurn V M T) where
-    abbrev then : Era M T (Option R)
-    then = turn_next u w.naming.acknowledged processor w.naming.more w.naming.passed spot opened fs e t
+    abbrev then_there : Era M T (Option R)
+    then_there = turn_next u w.naming.acknowledged processor w.naming.more w.naming.passed spot opened fs e t
 
     abbrev behind_it : Era M T (Option R)
     behind_it = turn_after u w.naming.acknowledged processor w.naming.more w.naming.passed spot opened fs counts e t
 
-    fair_next : AllFair w behind_it.account.started → AllFair w then.account.started
-    fair_next = subst (AllFair w) (after_started u.speech w.naming.acknowledged w.naming.more w.naming.passed spot.station (length fs) (news_in spot opened fs counts t) t.sent t.fate t.back then)
+    fair_next : AllFair w behind_it.account.started → AllFair w then_there.account.started
+    fair_next = subst (AllFair w) (after_started u.speech w.naming.acknowledged w.naming.more w.naming.passed spot.station (length fs) (news_in spot opened fs counts t) t.sent t.fate t.back then_there)
 
-    fair_before : AllFair w then.account.started → AllFair w e.account.started
+    fair_before : AllFair w then_there.account.started → AllFair w e.account.started
     fair_before = go e.account.hand (granted e.passing t.pick).begin
       where
         by : (b : Bool) (s : Service T) (a : Account T (Option R)) → a.started ≡ starts e.account s (length fs) → AllFair w (if b then a else e.account).started → AllFair w e.account.started
