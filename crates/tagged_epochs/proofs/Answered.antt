@@ -1,15 +1,15 @@
 -- A MAIL THAT IS PASSED ON AND ANSWERED has its answer before a frame, where it is over, and where a state service is the newest.
-use Rattle.std.proofs.Common.{◌≡◌, ℕ, suc, ◌&&◌, Bool, true, false, not, is_none, is_some, Option, None, Some, option_map, List, [], ◌∷◌, ◌++◌, length, refl, ap, ap₂, sym, ◌∙◌, subst, arith, length-append, if◌then◌else◌}
+use Rattle.std.proofs.Common.{◌≡◌, ℕ, suc, ◌&&◌, Bool, true, false, not, is_none, is_some, Option, None, Some, option_map, List, [], ◌∷◌, length, refl, ap, ap₂, sym, ◌∙◌, subst, arith, length-append, if◌then◌else◌}
 use Rattle.std.specs.Prelude.{nat_lt}
 use Rattle.std.proofs.lemmas.Bool.Decides.{nat_tests}
 use Rattle.exchange_model.specs.Exchange.{Exchange, Speech}
-use Rattle.exchange_model.specs.Rows.{Row, begun, row_told, left}
+use Rattle.exchange_model.specs.Rows.{Row, row_told, left}
 use Rattle.life_model.specs.Lives.{Era, era_next, granted, passing_begins}
 use Rattle.passed_counts.specs.Calm.{calm_tagged}
 use Rattle.passed_model.specs.Erased.{OfRow}
 use Rattle.passed_whole.specs.Silent.{is_passed}
 use Rattle.segment_model.specs.Ends.{Passing}
-use Rattle.segment_model.specs.Seats.{Side, newest, is_none_left, is_over, side_begins, side_holds, next_mail}
+use Rattle.segment_model.specs.Seats.{Side, is_none_left, side_begins, side_holds, next_mail}
 use Rattle.serving_model.specs.Tagged.{Tagged, Asked}
 use Rattle.state_exchange.specs.Stated.{Service}
 use Rattle.task_model.specs.Accounts.{Account, Duty, Pick, Started, is_free, is_acknowledged, account_begins, state_begins, starts, mails_begin}

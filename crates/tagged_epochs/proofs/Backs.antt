@@ -1,9 +1,8 @@
 -- THE EPOCH BEHIND A FRAME stays the same where it is seen what is meant by mails.
-use Rattle.std.proofs.Common.{◌≡◌, ℕ, ◌==◌, ◌&&◌, Bool, true, false, not, Option, None, Some, option_map, List, [], ◌∷◌, ◌++◌, map, refl, ap, ap₂, sym, ◌∙◌, subst, if◌then◌else◌}
+use Rattle.std.proofs.Common.{◌≡◌, ℕ, ◌==◌, ◌&&◌, Bool, true, false, not, Option, None, Some, List, [], ◌∷◌, ◌++◌, map, refl, ap, ◌∙◌, if◌then◌else◌}
 use Rattle.std.proofs.lemmas.List.{map-append}
 use Rattle.exchange_model.specs.Exchange.{Exchange, Speech}
-use Rattle.exchange_model.specs.Rows.{Row}
-use Rattle.life_model.specs.Lives.{Era, era_back, era_lost, era_after, passes}
+use Rattle.life_model.specs.Lives.{Era, era_after, passes}
 use Rattle.life_model.specs.Own.{own}
 use Rattle.link_model.specs.Frames.{all_accepted}
 use Rattle.link_model.specs.Segment.{RingFate}
@@ -17,7 +16,7 @@ use Rattle.segment_model.specs.Record.{News, is_for, mails_heard}
 use Rattle.segment_model.specs.Seats.{side_back, side_lost}
 use Rattle.segment_model.specs.Slaves.{Datagram, grams}
 use Rattle.serving_model.specs.Erasing.{datagram_as, all_as}
-use Rattle.serving_model.specs.Tagged.{Tagged, Asked, is_own}
+use Rattle.serving_model.specs.Tagged.{Tagged, Asked}
 use Rattle.serving_model.specs.TaggedStates.{asked_acknowledged}
 use Rattle.state_exchange.specs.Stated.{Stated}
 use Rattle.task_model.specs.Accounts.{Account, Duty, Change, Progress, account_by, account_met, account_back, access_done}

@@ -1,11 +1,11 @@
 -- WHAT COMES INTO HAND by a master's choice comes into hand where it is seen what is meant by mails: its side of the slave and its account stay the same.
-use Rattle.std.proofs.Common.{◌≡◌, ◌⊎◌, inl, inr, ℕ, suc, ◌&&◌, Bool, true, false, not, is_none, Option, None, Some, option_map, List, [], ◌∷◌, ◌++◌, map, length, refl, ap, ap₂, sym, ◌∙◌, subst, append-nil, arith, if◌then◌else◌}
-use Rattle.std.specs.Prelude.{⊤, nat_lt}
+use Rattle.std.proofs.Common.{◌≡◌, inl, inr, ℕ, ◌&&◌, Bool, true, false, not, is_none, Option, None, Some, option_map, List, [], ◌∷◌, ◌++◌, map, length, refl, ap, ap₂, sym, ◌∙◌, subst, append-nil, arith, if◌then◌else◌}
+use Rattle.std.specs.Prelude.{nat_lt}
 use Rattle.std.proofs.lemmas.Bool.Decides.{nat_tests}
 use Rattle.std.proofs.lemmas.List.{map-append, length-map}
 use Rattle.exchange_model.specs.Exchange.{Exchange, Speech}
 use Rattle.exchange_model.specs.Rows.{Row, begun, row_told}
-use Rattle.life_model.specs.Lives.{Era, era_next, granted, passing_begins}
+use Rattle.life_model.specs.Lives.{Era, era_next, passing_begins}
 use Rattle.passed_counts.specs.Calm.{calm_tagged}
 use Rattle.passed_model.specs.Client.{ByContents}
 use Rattle.passed_model.specs.Erased.{row_seen, side_seen, OfRow, PlanOne}
@@ -19,11 +19,11 @@ use Rattle.state_exchange.specs.Stated.{Stated, Service}
 use Rattle.state_model.specs.Promises.{state_behind}
 use Rattle.state_model.specs.States.{Table}
 use Rattle.task_model.specs.Promise.{services_in}
-use Rattle.task_model.specs.Accounts.{Account, Duty, Pick, Started, is_free, is_acknowledged, account_begins, state_begins, starts, mails_begin, mails_choice}
-use Rattle.tagged_lives.specs.Seen.{service_seen, account_seen, era_seen, started_seen, change_seen}
+use Rattle.task_model.specs.Accounts.{Account, Duty, Pick, Started, is_free, is_acknowledged, account_begins, state_begins, starts, mails_begin}
+use Rattle.tagged_lives.specs.Seen.{service_seen, account_seen, era_seen, started_seen}
 use Rattle.tagged_epochs.specs.Foreseen.{AllRight, server_behind}
 use Rattle.tagged_epochs.specs.Spoken.{Naming, IsScript, IsPassed, IsNamed, Speaks}
-use Rattle.tagged_epochs.proofs.Clients.{Meant, MeantRow, IsKnown, HasEnded, plans, overs}
+use Rattle.tagged_epochs.proofs.Clients.{IsKnown, HasEnded, plans, overs}
 
 not_less : (k : ℕ) → nat_lt k k ≡ false
 not_less k = grind (arith, nat_tests)

@@ -1,5 +1,5 @@
 -- OF AN EPOCH that is a session which sees what is meant by its mails: a step of its slave, and what was heard in it.
-use Rattle.std.proofs.Common.{◌≡◌, ℕ, Bool, true, false, is_none, Option, Some, None, List, [], ◌∷◌, length, refl}
+use Rattle.std.proofs.Common.{◌≡◌, ℕ, Bool, true, false, is_none, Option, Some, None, List, refl}
 use Rattle.exchange_model.specs.Exchange.{Exchange, IsLawful}
 use Rattle.life_model.specs.Eras.{EraIs, OpenEra, era_frames}
 use Rattle.life_model.specs.Lives.{Spot, Era}

@@ -1,5 +1,5 @@
 -- A FRAME FOR ONE SLAVE, with what is meant by its mails: what was sent, as the half that holds a mail means it, and what comes back.
-use Rattle.std.proofs.Common.{◌≡◌, ◌⊎◌, inl, inr, ℕ, suc, ◌-◌, ◌==◌, Bool, true, false, Option, None, Some, List, [], ◌∷◌, refl, ap, ap₂, sym, ◌∙◌, subst, if◌then◌else◌}
+use Rattle.std.proofs.Common.{◌≡◌, inl, inr, ℕ, ◌==◌, Bool, true, false, Option, None, Some, List, [], ◌∷◌, refl, ap, ap₂, sym, ◌∙◌, subst, if◌then◌else◌}
 use Rattle.std.specs.Prelude.{⊤}
 use Rattle.life_model.specs.Lives.{ReadsFull}
 use Rattle.life_model.specs.Own as Own
@@ -10,7 +10,7 @@ use Rattle.link_model.specs.Master.{InHalf, InState}
 use Rattle.passed_whole.specs.Led.{IsSingle, AreSingle}
 use Rattle.segment_model.specs.Record.{is_for}
 use Rattle.segment_model.specs.Slaves.{Datagram, Address, Slave, grams, address_behind, slave_meets, frame_after}
-use Rattle.serving_model.specs.Erasing.{mail_as, box_as, ask_as, gram_as, datagram_as, all_as}
+use Rattle.serving_model.specs.Erasing.{box_as, ask_as, datagram_as, all_as}
 use Rattle.serving_model.specs.Tagged.{Meant, Tagged}
 use Rattle.task_model.specs.Accounts.{IsServed, IsServed.nothing, IsServed.other, IsServed.quiet, IsServed.own}
 use Rattle.segment_model.specs.Slaves.{Access}

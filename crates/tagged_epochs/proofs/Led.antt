@@ -1,45 +1,40 @@
 -- TURN BY TURN: an epoch that its master leads is the same seen with what is meant by its mails.
-use Rattle.std.proofs.Common.{◌≡◌, ◌⊎◌, inl, inr, ℕ, zero, suc, ◌-◌, ◌<◌, ◌≤◌, ◌&&◌, Bool, true, false, not, is_none, is_some, Option, None, Some, option_map, List, [], ◌∷◌, ◌++◌, map, length, refl, ap, ap₂, sym, ◌∙◌, subst, arith, append-nil, length-append, if◌then◌else◌}
-use Rattle.std.specs.Prelude.{⊤, replicate}
+use Rattle.std.proofs.Common.{◌≡◌, inl, inr, ℕ, suc, ◌<◌, ◌≤◌, ◌&&◌, Bool, true, false, not, is_some, Option, None, Some, option_map, List, [], ◌∷◌, ◌++◌, map, length, refl, ap, ap₂, sym, ◌∙◌, subst, arith, append-nil, if◌then◌else◌}
 use Rattle.std.proofs.lemmas.List.{map-append}
-use Rattle.exchange_model.specs.Exchange.{Exchange, IsLawful, Speech, plain}
+use Rattle.exchange_model.specs.Exchange.{Exchange, IsLawful, plain}
 use Rattle.exchange_model.specs.Rows.{Row, row_heard, answer_after}
-use Rattle.life_model.specs.Eras.{EraIs, era_frames, planned, opened_slave}
-use Rattle.life_model.specs.Lives.{Spot, Era, Life, Stand, new_era, era_next, era_back, era_after, granted, returns_to_init, opens_state, reopening, reopens_at, reopens, passes}
+use Rattle.life_model.specs.Eras.{EraIs, era_frames}
+use Rattle.life_model.specs.Lives.{Spot, Era, Life, Stand, era_next, era_back, era_after, granted, passes}
 use Rattle.life_model.specs.Own as Own
 use Rattle.life_model.specs.Own.{own_fate, own_frame, blank}
-use Rattle.life_model.proofs.Eras as LifeEras
 use Rattle.link_model.specs.Frames.{all_accepted}
 use Rattle.link_model.specs.Segment.{RingFate}
 use Rattle.passed_model.specs.Client.{ByContents}
-use Rattle.passed_model.specs.Erased.{frame_as, all_news_as, halves_as, OfRow, EndOne}
+use Rattle.passed_model.specs.Erased.{frame_as, all_news_as, OfRow, EndOne}
 use Rattle.passed_model.proofs.Naturals.{frame_of}
 use Rattle.passed_whole.specs.Led.{IsLed, EraTurn, MayTurn, NoneUnheard, NowHeard, HasHeard, IsAnswered, frame_in, news_in, turn_next, turn_after, counted_news, counts_behind, has_step}
 use Rattle.passed_whole.specs.Silent.{is_passed}
 use Rattle.passing_rows.proofs.Rows as PassingRows
-use Rattle.passing_rows.specs.Heard.{EraPasses, RowPasses, IsPassedBy, HeardBy}
+use Rattle.passing_rows.specs.Heard.{EraPasses, HeardBy}
 use Rattle.segment_model.specs.Ends.{Passing}
-use Rattle.segment_model.specs.Record as Record
 use Rattle.segment_model.specs.Record.{Frame, News, Kept, frame_news, kept_all, nothing_kept, mails_heard, did_read}
-use Rattle.segment_model.specs.Seats.{Side, side_back, side_lost}
 use Rattle.segment_model.specs.Slaves.{Registers, Processor, Slave, Datagram, Ring, grams, ring_after, ring_back, ring_steps}
 use Rattle.serving_model.specs.Erasing.{slave_as, all_as}
 use Rattle.serving_model.specs.Passing.{ends_told}
-use Rattle.serving_model.specs.Tagged.{Tagged, Asked, Rowed, real, ideal, untag, is_own, no_reply, ends_marked}
-use Rattle.state_exchange.specs.Stated.{Stated, IsStated, Service}
+use Rattle.serving_model.specs.Tagged.{Tagged, Asked, Rowed, real, untag, no_reply, ends_marked}
+use Rattle.state_exchange.specs.Stated.{IsStated, Service}
 use Rattle.state_model.specs.States.{Table}
-use Rattle.task_model.specs.Accounts.{Account, Duty, Stage, account_back, Pick, Started, is_free, starts, account_begins}
+use Rattle.task_model.specs.Accounts.{Duty, Pick, Started, is_free, starts, account_begins}
 use Rattle.task_model.specs.Promise.{services_in}
-use Rattle.task_model.specs.Tasks.{IsTaskPlan}
-use Rattle.tagged_epochs.specs.Epochs.{Speaker, IsSpeaker, IsRun, IsSeen, AllFair, between, seeing, seeing_states, era_named}
+use Rattle.tagged_epochs.specs.Epochs.{Speaker, IsSpeaker, IsRun, AllFair, between, seeing, seeing_states, era_named}
 use Rattle.tagged_epochs.specs.Foreseen.{AllRight}
 use Rattle.tagged_epochs.specs.Spoken.{IsPassed}
 use Rattle.tagged_epochs.proofs.Answered.{HasAnswer, AllAnswered, StateLast, next_rests, next_over}
 use Rattle.tagged_epochs.proofs.Backs.{EndsSame, after_named}
-use Rattle.tagged_epochs.proofs.Begins.{RowKnown, NowKnown, NowEnded, Next, next_named}
+use Rattle.tagged_epochs.proofs.Begins.{NowKnown, NowEnded, Next, next_named}
 use Rattle.tagged_epochs.proofs.Clients.{HasEnded, IsKnown, MarksSame, ends}
 use Rattle.tagged_epochs.proofs.Eras.{Knows, era_knows}
-use Rattle.tagged_epochs.proofs.Marks.{PassedNow, IsPassedNow, none_plain, newest_of}
+use Rattle.tagged_epochs.proofs.Marks.{PassedNow, IsPassedNow, none_plain}
 use Rattle.tagged_epochs.proofs.News.{counted_as, did_read_as, kept_all_as}
 use Rattle.tagged_epochs.proofs.Overs.{asks, ends_last, all_told_of, still, over, reads, news_few}
 use Rattle.tagged_epochs.proofs.Turns as Turns
@@ -47,7 +42,7 @@ use Rattle.tagged_epochs.proofs.Frames.{own_to, to_own}
 use Rattle.tagged_epochs.proofs.Ways.{Met, Stepped, met}
 use Rattle.life_model.proofs.Eras.{frames_push}
 use Rattle.tagged_epochs.proofs.Opened.{after_started}
-use Rattle.tagged_epochs.proofs.Leads.{mails_without, mails_counted, pushed, one_slave, and_not, after_own, reopens_era, still_some, some_after, same_some, last_untag}
+use Rattle.tagged_epochs.proofs.Leads.{mails_counted, pushed, one_slave, and_not, after_own, reopens_era, still_some, some_after, same_some, last_untag}
 
 module _ {V M Q R C T A : Type 0} (w : Speaker V M Q R C T) (k : IsSpeaker w) (lawful : IsLawful (seeing w)) (stated : IsStated (seeing w) (seeing_states w)) (u : Exchange V A M T (Option R)) (processor : Processor V) (seer : Processor (Rowed V M Q)) (tables : ℕ → Table) (spot : Spot)
     (run : IsRun w u processor seer (tables spot.station)) (opened : ℕ) (v : V) (r : Registers) where

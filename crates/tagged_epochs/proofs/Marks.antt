@@ -1,10 +1,9 @@
 -- WHAT WAS HEARD FOR A MAIL THAT IS PASSED ON at one moment of an epoch: a first part of its replies, as long as no service came into hand behind it.
-use Rattle.std.proofs.Common.{◌≡◌, ◌⊎◌, inl, inr, ℕ, suc, ◌&&◌, Bool, true, false, not, cond, is_some, Option, None, Some, List, [], ◌∷◌, ◌++◌, map, refl, ap, ap₂, sym, ◌∙◌, subst, append-nil, if◌then◌else◌}
-use Rattle.std.specs.Prelude.{⊤}
+use Rattle.std.proofs.Common.{◌≡◌, inl, inr, ℕ, suc, ◌&&◌, Bool, true, false, not, cond, is_some, Option, None, Some, List, [], ◌∷◌, ◌++◌, map, refl, ap, sym, ◌∙◌, subst, append-nil, if◌then◌else◌}
 use Rattle.std.proofs.lemmas.List.{map-append}
 use Rattle.exchange_model.specs.Prefix.{IsPrefixOf}
 use Rattle.exchange_model.specs.Exchange.{Exchange, IsLawful, after, given, plain}
-use Rattle.exchange_model.specs.Rows.{Row, Settled, told_all, services, exec_all}
+use Rattle.exchange_model.specs.Rows.{Row, told_all, services, exec_all}
 use Rattle.exchange_model.proofs.Lists.{append_none}
 use Rattle.exchange_model.proofs.Nows.{heard_begins}
 use Rattle.exchange_model.proofs.Settles.{settled_app, settled_ready}
@@ -20,7 +19,7 @@ use Rattle.serving_model.specs.Tagged.{Meant, Tagged, Asked, untag, own_gift, is
 use Rattle.serving_model.specs.TaggedStates.{tagged_states}
 use Rattle.serving_model.proofs.Passings.{by_contents}
 use Rattle.state_exchange.specs.Stated.{Stated, IsStated, Act, acts, Service, Counting, with_states}
-use Rattle.state_exchange.proofs.Acts.{plain_acts, begin_acts, after_acts, given_acts}
+use Rattle.state_exchange.proofs.Acts.{plain_acts, begin_acts, given_acts}
 use Rattle.state_exchange.proofs.StatedLaw.{stated_law}
 use Rattle.state_model.specs.Promises.{IsTable}
 use Rattle.state_model.specs.States.{Table}

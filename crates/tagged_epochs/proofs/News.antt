@@ -2,7 +2,7 @@
 use Rattle.std.proofs.Common.{◌≡◌, ℕ, ◌==◌, ◌&&◌, Bool, true, false, not, Option, None, Some, List, [], ◌∷◌, map, refl, ap, ap₂, sym, ◌∙◌, if◌then◌else◌}
 use Rattle.exchange_model.specs.Exchange.{Speech}
 use Rattle.life_model.specs.Lives.{passes}
-use Rattle.link_model.specs.Frames.{Ask, Gram}
+use Rattle.link_model.specs.Frames.{Ask}
 use Rattle.passed_model.specs.Client.{ByContents}
 use Rattle.passed_model.specs.Erased.{frame_as, news_as, all_news_as}
 use Rattle.passed_model.proofs.Naturals.{kept_of}
@@ -10,7 +10,7 @@ use Rattle.passed_whole.specs.Led.{counted_news}
 use Rattle.segment_model.specs.Ends.{Passing, passing_after}
 use Rattle.segment_model.specs.Record.{Frame, News, Kept, kept_after, kept_all, did_read, is_read, without_empty, mails_heard}
 use Rattle.segment_model.specs.Slaves.{Datagram, grams}
-use Rattle.serving_model.specs.Erasing.{ask_as, datagram_as, all_as}
+use Rattle.serving_model.specs.Erasing.{ask_as, all_as}
 use Rattle.serving_model.specs.Tagged.{Tagged, is_own}
 
 module _ {N M : Type 0} (f : N → M) where

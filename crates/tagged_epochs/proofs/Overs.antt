@@ -1,5 +1,5 @@
 -- WHEN A MAIL THAT IS PASSED ON IS OVER: no reply of it was heard, or the last that was heard is followed by no other; so with all that it has it is answered.
-use Rattle.std.proofs.Common.{◌≡◌, ◌⊎◌, inl, inr, ℕ, zero, suc, ◌+◌, ◌≤◌, ◌==◌, ◌&&◌, Bool, true, false, not, cond, Option, None, Some, List, [], ◌∷◌, ◌++◌, map, refl, ap, ap₂, sym, ◌∙◌, subst, arith, append-nil, if◌then◌else◌}
+use Rattle.std.proofs.Common.{◌≡◌, ◌⊎◌, inl, inr, ℕ, suc, ◌+◌, ◌≤◌, ◌==◌, Bool, true, false, not, cond, Option, None, Some, List, [], ◌∷◌, ◌++◌, map, refl, ap, ap₂, sym, ◌∙◌, subst, arith, append-nil, if◌then◌else◌}
 use Rattle.exchange_model.specs.Exchange.{Speech, plain}
 use Rattle.exchange_model.proofs.Words.{plain-append}
 use Rattle.life_model.specs.Lives.{passes}
@@ -12,7 +12,7 @@ use Rattle.passed_whole.specs.Led.{counted_news}
 use Rattle.passing_rows.specs.Heard.{HeardBy}
 use Rattle.segment_model.specs.Ends.{Passing, passing_after}
 use Rattle.segment_model.specs.Record.{Frame, News, Kept, is_for, is_read, mails_heard, without_empty, gram_news, found_news, datagram_news, back_news, last_heard, frame_news, all_told}
-use Rattle.segment_model.specs.Slaves.{Datagram, Found, Serving, Slave, grams, slave_meets, datagram_meets, frame_after}
+use Rattle.segment_model.specs.Slaves.{Datagram, Found, Slave, grams, slave_meets, frame_after}
 use Rattle.serving_model.specs.Passing.{ends_told}
 
 -- the last of these is followed by no other

@@ -1,5 +1,5 @@
 -- FRAME BY FRAME, from where it was opened: an epoch that its master leads is a session that sees what is meant by its mails.
-use Rattle.std.proofs.Common.{◌≡◌, ℕ, zero, suc, ◌<◌, ◌&&◌, Bool, true, false, Option, None, Some, List, [], ◌∷◌, ◌++◌, map, length, refl, ap, sym, ◌∙◌, subst, arith, if◌then◌else◌}
+use Rattle.std.proofs.Common.{◌≡◌, ℕ, suc, ◌&&◌, Bool, true, false, Option, None, Some, List, [], ◌∷◌, ◌++◌, map, length, refl, ap, sym, ◌∙◌, subst, arith, if◌then◌else◌}
 use Rattle.std.specs.Prelude.{replicate}
 use Rattle.exchange_model.specs.Exchange.{Exchange, IsLawful}
 use Rattle.life_model.specs.Eras.{planned, opened_slave}

@@ -1,7 +1,7 @@
 -- A step of the slave's processor is the same where it is seen what is meant by its mails.
-use Rattle.std.proofs.Common.{◌≡◌, ◌⊎◌, inl, inr, ℕ, ◌==◌, Bool, true, false, Option, None, Some, List, [], ◌∷◌, ◌++◌, map, refl, ap, ap₂, sym, ◌∙◌, subst, append_assoc, append-nil, eqb-true, if◌then◌else◌}
-use Rattle.exchange_model.specs.Exchange.{Exchange, IsLawful, after, given}
-use Rattle.exchange_model.specs.Rows.{Row, told_all, services}
+use Rattle.std.proofs.Common.{◌≡◌, ◌⊎◌, inl, inr, ℕ, ◌==◌, Bool, true, false, Option, None, Some, List, [], ◌∷◌, ◌++◌, map, refl, ap, sym, ◌∙◌, subst, append_assoc, append-nil, eqb-true, if◌then◌else◌}
+use Rattle.exchange_model.specs.Exchange.{Exchange, IsLawful, after}
+use Rattle.exchange_model.specs.Rows.{told_all, services}
 use Rattle.exchange_model.proofs.Lists.{append_cancel, append_none}
 use Rattle.link_model.specs.Slave.{node_look, node_takes, node_serve}
 use Rattle.link_model.proofs.Law.{taken_of_held, accepted_of_offered}
@@ -10,10 +10,10 @@ use Rattle.passed_model.specs.Client.{ByContents}
 use Rattle.segment_model.specs.Ends.{Outcome}
 use Rattle.segment_model.specs.Record.{Frame, heard}
 use Rattle.segment_model.specs.Seats.{Seat, link_of, seat_steps}
-use Rattle.segment_model.specs.Slaves.{Serving, serving, Registers, Processor, Slave, state_told, slave_steps}
+use Rattle.segment_model.specs.Slaves.{serving, Registers, Processor, Slave, state_told, slave_steps}
 use Rattle.segment_model.proofs.Sounds.{step_agrees}
-use Rattle.serving_model.specs.Erasing.{node_as, slave_as, out_as, in_as}
-use Rattle.serving_model.specs.Tagged.{IsServed, Tagged, Asked, untag, Rowed, real, ideal, ideal_in, rows_done}
+use Rattle.serving_model.specs.Erasing.{node_as, slave_as, out_as}
+use Rattle.serving_model.specs.Tagged.{IsServed, Tagged, Asked, Rowed, real, ideal, ideal_in, rows_done}
 use Rattle.serving_model.specs.TaggedStates.{IsStatedServed, told_state, tagged_states}
 use Rattle.serving_model.proofs.Erasing.{looked-as, serve-as}
 use Rattle.serving_model.proofs.TaggedLaw.{same-is}
@@ -21,7 +21,7 @@ use Rattle.state_exchange.specs.Stated.{Stated, IsStated, Act, acts, Service, Co
 use Rattle.state_exchange.proofs.Acts.{acts_append}
 use Rattle.state_model.specs.Promises.{IsTable, state_behind}
 use Rattle.state_model.specs.States.{Table, Phase, carry}
-use Rattle.task_model.specs.Accounts.{Account, Duty, Stage, Started}
+use Rattle.task_model.specs.Accounts.{Account, Duty, Stage}
 use Rattle.task_model.specs.Promise.{services_in}
 use Rattle.task_model.proofs.Carries.{StaysOr}
 use Rattle.task_model.proofs.Ghosts as Ghosts
@@ -32,7 +32,7 @@ use Rattle.task_model.proofs.Served.{duty_of}
 use Rattle.task_model.proofs.Stately.{StageStep, StateStep, state_over, step_state}
 use Rattle.task_model.proofs.Stepped.{Shifts, carried_tells}
 use Rattle.tagged_epochs.specs.Foreseen.{AllRight}
-use Rattle.tagged_epochs.proofs.Rights.{Between, IsRight, alike, both, sees, rows_between, next_right, accepted_tells}
+use Rattle.tagged_epochs.proofs.Rights.{Between, IsRight, alike, rows_between, next_right, accepted_tells}
 
 -- the services of rows are those that came into hand
 pub started_services : {M Q R : Type 0} (gs : List (Ghosts.GhostRow M Q R)) → services_in (starts_of gs) ≡ services gs

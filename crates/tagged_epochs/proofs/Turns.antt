@@ -1,47 +1,38 @@
 -- ONE TURN of an epoch, with what is meant by its mails.
-use Rattle.std.proofs.Common.{◌≡◌, ◌⊎◌, inl, inr, ℕ, zero, suc, ◌+◌, ◌-◌, ◌<◌, ◌≤◌, ◌==◌, ◌&&◌, Bool, true, false, not, is_none, is_some, Option, None, Some, option_map, List, [], ◌∷◌, ◌++◌, map, length, refl, ap, ap₂, sym, ◌∙◌, subst, arith, append-nil, length-append, if◌then◌else◌}
-use Rattle.std.specs.Prelude.{⊤}
-use Rattle.std.proofs.lemmas.List.{map-append}
-use Rattle.exchange_model.specs.Exchange.{Exchange, Speech, IsLawful, plain}
-use Rattle.exchange_model.specs.Rows.{Row, row_heard, answer_after}
+use Rattle.std.proofs.Common.{◌≡◌, inl, inr, ℕ, suc, ◌<◌, ◌≤◌, Bool, true, false, Option, Some, List, [], ◌∷◌, ◌++◌, length, refl, ap, sym, ◌∙◌, subst, arith, length-append, if◌then◌else◌}
+use Rattle.exchange_model.specs.Exchange.{Exchange, Speech, IsLawful}
 use Rattle.life_model.specs.Eras.{EraIs, era_frames}
 use Rattle.life_model.specs.Lives.{Spot, Era, AsksOpen, ReadsFull, granted, era_next, era_after}
 use Rattle.life_model.specs.Own as Own
 use Rattle.life_model.specs.Own.{own_fate, own_frame}
 use Rattle.life_model.proofs.Eras as LifeEras
 use Rattle.life_model.proofs.Eras.{frames_push}
-use Rattle.link_model.specs.Frames as Link
-use Rattle.link_model.specs.Frames.{IsSent, IsFrameFor, all_accepted}
+use Rattle.link_model.specs.Frames.{IsFrameFor, all_accepted}
 use Rattle.link_model.specs.Segment.{RingFate}
 use Rattle.passed_counts.specs.Calm.{calm_tagged}
 use Rattle.passed_model.specs.Client.{ByContents}
-use Rattle.passed_model.specs.Erased.{frame_as, all_news_as, halves_as, OfRow}
-use Rattle.passed_model.proofs.Naturals.{frame_of}
-use Rattle.passed_whole.specs.Led.{IsLed, EraTurn, MayTurn, frame_in, news_in, turn_next, turn_after, counted_news, counts_behind, has_step, AreSingle}
+use Rattle.passed_model.specs.Erased.{halves_as}
+use Rattle.passed_whole.specs.Led.{counted_news, AreSingle}
 use Rattle.passed_whole.specs.Silent.{is_passed}
-use Rattle.segment_model.specs.Ends.{Passing}
-use Rattle.segment_model.specs.Record.{Frame, News, Kept, frame_news, kept_all, nothing_kept, news_each, joined, mails_heard, did_read, heard, is_for}
-use Rattle.segment_model.specs.Seats.{Side, side_begins, side_next, side_holds, next_mail}
+use Rattle.segment_model.specs.Record.{Frame, News, Kept, frame_news, kept_all, nothing_kept, news_each, joined, mails_heard, heard, is_for}
+use Rattle.segment_model.specs.Seats.{Side, side_begins, side_holds, next_mail}
 use Rattle.segment_model.specs.Slaves.{Registers, Processor, Slave, Datagram, Ring, grams, ring_after, ring_back, ring_steps, slave_steps}
 use Rattle.segment_model.proofs.Answers.{news_each-push}
 use Rattle.segment_model.proofs.News.{heard_frame, mails_heard-append, joined-append}
 use Rattle.segment_model.proofs.Sounds.{began_halves}
-use Rattle.serving_model.specs.Erasing.{slave_as, all_as, box_as}
+use Rattle.serving_model.specs.Erasing.{slave_as, all_as}
 use Rattle.serving_model.specs.Passing.{LastTells}
-use Rattle.serving_model.specs.Tagged.{IsServed, Tagged, Asked, Rowed, real, ideal}
+use Rattle.serving_model.specs.Tagged.{IsServed, Tagged, Asked, Rowed, real}
 use Rattle.serving_model.specs.TaggedStates.{IsStatedServed, tagged_states, asked_acknowledged}
-use Rattle.state_exchange.specs.Stated.{Stated, IsStated, Service}
+use Rattle.state_exchange.specs.Stated.{Stated, IsStated}
 use Rattle.state_model.specs.States.{Table, carry}
 use Rattle.task_model.specs.Accounts as Accounts
 use Rattle.task_model.specs.Accounts.{Account, Duty, Pick, Progress, account_met, account_by, account_back, access_done, duty_access}
 use Rattle.task_model.specs.Promise.{services_in}
-use Rattle.tagged_lives.specs.Seen.{era_seen}
 use Rattle.tagged_epochs.specs.Epochs.{between}
 use Rattle.tagged_epochs.specs.Foreseen.{AllRight}
-use Rattle.tagged_epochs.specs.Spoken.{Naming, Speaks}
 use Rattle.tagged_epochs.proofs.Eras.{era_steps, era_knows}
 use Rattle.tagged_epochs.proofs.Frames.{ToIt, meaning, reads_as, served_as, single_as, own_to, to_own, to_as}
-use Rattle.tagged_epochs.proofs.News.{counted_as, did_read_as, kept_all_as}
 use Rattle.tagged_epochs.proofs.Overs.{asks as asks_of, sent_asks}
 use Rattle.tagged_epochs.proofs.Ways.{Met, met, Comes, Stepped, steps}
 use Rattle.tagged_epochs.proofs.Opened.{after_started}

@@ -1,5 +1,5 @@
 -- A FRAME AND THE STEPS BEHIND IT, for a slave alone in its ring, where it is seen what is meant by mails.
-use Rattle.std.proofs.Common.{◌≡◌, ℕ, zero, suc, ◌≤◌, List, [], ◌∷◌, ◌++◌, Option, refl, ap, ap₂, sym, ◌∙◌, subst, arith}
+use Rattle.std.proofs.Common.{◌≡◌, ℕ, zero, suc, ◌≤◌, List, [], ◌∷◌, ◌++◌, refl, ap, ap₂, sym, ◌∙◌, arith}
 use Rattle.exchange_model.specs.Exchange.{Exchange}
 use Rattle.link_model.specs.Segment.{RingFate}
 use Rattle.segment_model.specs.Slaves.{Processor, Datagram, Slave, Ring, grams, slave_after, frame_after, first_meet, ring_after, ring_back, slave_steps, step_at, ring_steps}

@@ -1,7 +1,7 @@
 -- AN EPOCH AS A MASTER LEADS IT, and the same with what is meant by its mails.
-use Rattle.std.specs.Prelude.{◌≡◌, ℕ, ◌==◌, Bool, true, Option, None, Some, List, [], ◌∷◌, map, length, ⊤}
-use Rattle.exchange_model.specs.Exchange.{Exchange, IsLawful}
-use Rattle.life_model.specs.Eras.{EraIs, era_frames, planned}
+use Rattle.std.specs.Prelude.{◌≡◌, ℕ, Bool, true, Option, None, List, [], ◌∷◌, map, length, ⊤}
+use Rattle.exchange_model.specs.Exchange.{Exchange}
+use Rattle.life_model.specs.Eras.{EraIs, era_frames}
 use Rattle.life_model.specs.Lives.{Spot, Era}
 use Rattle.passed_counts.specs.Calm.{IsCalm, calm_tagged}
 use Rattle.passed_model.specs.Erased.{frame_as}
@@ -13,12 +13,11 @@ use Rattle.serving_model.specs.Erasing.{slave_as}
 use Rattle.serving_model.specs.Passing.{LastTells}
 use Rattle.serving_model.specs.Tagged.{IsServed, Tagged, Asked, Rowed, real}
 use Rattle.serving_model.specs.TaggedStates.{IsStatedServed, tagged_states}
-use Rattle.state_exchange.specs.Stated.{Stated, IsStated, Service}
+use Rattle.state_exchange.specs.Stated.{Stated, Service}
 use Rattle.state_model.specs.States.{Table, carry}
 use Rattle.tagged_lives.specs.Seen.{era_seen}
 use Rattle.task_model.specs.Accounts.{Started}
 use Rattle.task_model.specs.Promise.{services_in}
-use Rattle.task_model.specs.Tasks.{IsTaskPlan}
 use Rattle.tagged_epochs.specs.Foreseen.{AllRight}
 use Rattle.tagged_epochs.specs.Spoken.{Naming, IsPassed, Speaks}
 

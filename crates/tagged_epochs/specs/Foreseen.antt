@@ -1,5 +1,5 @@
 -- WHICH MAILS THAT ARE PASSED ON ARE FORESEEN AS ANSWERED: just those that the server replies to that they come to.
-use Rattle.std.specs.Prelude.{ℕ, List, [], ◌∷◌, ⊤}
+use Rattle.std.specs.Prelude.{List, [], ◌∷◌, ⊤}
 use Rattle.exchange_model.specs.Exchange.{Exchange}
 use Rattle.passed_whole.specs.Silent.{IsForeseenRight}
 use Rattle.serving_model.specs.Tagged.{Asked, asked_exec}
