@@ -96,3 +96,4 @@ module _ {V A : Type 0} (ex : Exchange V A Body Asked Reply) (processor : Proces
         };
         steps = subst (λ z. Steps v w.node z on.stepped) (sym (step_node (sent_none out) (for_not_gone k.wanted c.life.era.account.hand c.life.era.passing k.shows.hand))) (steps_on (suc number % c.pace == 0));
         tries = ap (λ (b : Bool). if b && t.stepped then suc t.tries else t.tries) out ∙ k.tries;
+      }

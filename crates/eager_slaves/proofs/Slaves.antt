@@ -462,7 +462,6 @@ module _ {V A : Type 0} (ex : Exchange V A Body Asked Reply) (processor : Proces
           abbrev fresh_on : u.under ≡ false → Unvisited v behind s'.node on
           fresh_on out = fresh_behind ex processor table x acknowledged more passed number sent back c u t s s' f m.memory k out
 
-
           by_under : (b : Bool) → u.under ≡ b → Stands × WaitsYet
           by_under true e =
               let now = visited_now e in (

@@ -21,9 +21,9 @@ use Rattle.master_tour.proofs.Backs.{own_accepted, own_back, seen_aims}
 use Rattle.news_kept.specs.Counts.{kept_on}
 use Rattle.passed_whole.proofs.Passings.{counted_same}
 use Rattle.run_frames.proofs.Access.{begins_same, holds_same}
-use Rattle.segment_model.specs.Record.{Kept, News, frame_news, heard_behind, kept_after, mails_heard, nothing_kept}
+use Rattle.segment_model.specs.Record.{Frame, Kept, News, frame_news, heard_behind, kept_after, mails_heard, nothing_kept}
 use Rattle.segment_model.specs.Seats.{Side, next_mail, side_back, side_begins, side_lost, side_next}
-use Rattle.segment_model.specs.Slaves.{Datagram, Found, grams}
+use Rattle.segment_model.specs.Slaves.{Found, grams}
 use Rattle.segment_model.proofs.News.{heard_frame, kept_back}
 use Rattle.task_model.specs.Accounts.{Duty, Pick, Stage, mails_choice, new_account}
 
@@ -107,30 +107,27 @@ module _ (x : Speech Body Asked Reply) (acknowledged : Asked → Bool) (more : B
         go (Stage.Goes phase) = by (returns_to_init duty.target)
 
   module _ (lens : ℕ → Lens) (spot : Spot) (some : nat_le 1 spot.station ≡ true) (octets : List ℕ) (kept : Kept) (l : Life Body Asked Reply) where
-    abbrev ds : List (Datagram Body)
-    ds = seen lens octets
+    abbrev came_one : Frame Body
+    came_one = record { sent = seen lens octets; fate = RingFate.Back; back = seen lens octets }
 
-    abbrev kept_back_on : Kept
-    kept_back_on = kept_after spot.station kept (record { sent = ds; fate = RingFate.Back; back = ds })
+    abbrev lost_one : Frame Body
+    lost_one = record { sent = seen lens octets; fate = RingFate.Lost 0; back = [] }
 
-    side_heard : l.era.side.halves.inn.last ≡ kept.heard → (side_back x frame spot.station (own spot.station (seen lens octets)) l.era.side).halves.inn.last ≡ kept_back_on.heard
+    side_heard : l.era.side.halves.inn.last ≡ kept.heard → (side_back x frame spot.station (own spot.station (seen lens octets)) l.era.side).halves.inn.last ≡ (kept_after spot.station kept came_one).heard
     side_heard k =
-        own_back x (λ d a. d.halves.inn.last ≡ kept_back_on.heard) frame spot.station (seen lens octets) l.era.side new_account (seen_aims lens octets spot.station some)
+        own_back x (λ d a. d.halves.inn.last ≡ (kept_after spot.station kept came_one).heard) frame spot.station (seen lens octets) l.era.side new_account (seen_aims lens octets spot.station some)
         (sym (kept_back spot.station l.era.side.halves (seen lens octets)) ∙ ap (λ n. heard_behind spot.station n (seen lens octets)) k)
 
     pub back_heard : (ns : List (News Body)) (came : Option (Bool × Option Found)) → HeardAt l.stand kept l.era.side →
-        (let n = life_back x acknowledged more passed frame spot ns (seen lens octets) came l l.stand in HeardAt n.stand (kept_on l.stand spot.station kept (record { sent = seen lens octets; fate = RingFate.Back; back = seen lens octets })) n.era.side)
+        (let n = life_back x acknowledged more passed frame spot ns (seen lens octets) came l l.stand in HeardAt n.stand (kept_on l.stand spot.station kept came_one) n.era.side)
     back_heard ns came k = go l.stand refl came
       where
-        abbrev then_kept : Stand → Kept
-        then_kept s = kept_on s spot.station kept (record { sent = seen lens octets; fate = RingFate.Back; back = seen lens octets })
-
-        open_heard : l.stand ≡ Stand.Open → (let e = era_back x acknowledged more passed spot.station frame ns (seen lens octets) l.era in let n = reopens (record l { era = e }) e.account.hand in HeardAt n.stand (then_kept Stand.Open) n.era.side)
+        open_heard : l.stand ≡ Stand.Open → (let e = era_back x acknowledged more passed spot.station frame ns (seen lens octets) l.era in let n = reopens (record l { era = e }) e.account.hand in HeardAt n.stand (kept_on Stand.Open spot.station kept came_one) n.era.side)
         open_heard e =
             let era = era_back x acknowledged more passed spot.station frame ns (seen lens octets) l.era in
-            reopens_heard (then_kept Stand.Open) l (record l { era = era }) era.account.hand (subst (λ s. HeardAt s (then_kept Stand.Open) era.side) (sym e) (side_heard (subst (λ s. HeardAt s kept l.era.side) e k)))
+            reopens_heard (kept_on Stand.Open spot.station kept came_one) l (record l { era = era }) era.account.hand (subst (λ s. HeardAt s (kept_on Stand.Open spot.station kept came_one) era.side) (sym e) (side_heard (subst (λ s. HeardAt s kept l.era.side) e k)))
 
-        go : (s : Stand) → l.stand ≡ s → (got : Option (Bool × Option Found)) → (let n = life_back x acknowledged more passed frame spot ns (seen lens octets) got l s in HeardAt n.stand (then_kept s) n.era.side)
+        go : (s : Stand) → l.stand ≡ s → (got : Option (Bool × Option Found)) → (let n = life_back x acknowledged more passed frame spot ns (seen lens octets) got l s in HeardAt n.stand (kept_on s spot.station kept came_one) n.era.side)
         go (Stand.Opens o) e None = subst (λ s. HeardAt s nothing_kept l.era.side) (sym e) (subst (λ s. HeardAt s kept l.era.side) e k)
         go (Stand.Opens o) e (Some got) = opening_heard kept l o got.0 got.1 e (subst (λ s. HeardAt s kept l.era.side) e k)
         go Stand.Gone e None = subst (λ s. HeardAt s nothing_kept l.era.side) (sym e) tt
@@ -142,37 +139,31 @@ module _ (x : Speech Body Asked Reply) (acknowledged : Asked → Bool) (more : B
     pub news_heard : (counts : Bool) → l.era.side.halves.inn.last ≡ kept.heard → mails_heard (news_back spot.station kept counts (seen lens octets)) ≡ all_accepted spot.station l.era.side.halves (grams (own spot.station (seen lens octets)))
     news_heard counts k =
         own_accepted (λ ms. mails_heard (news_back spot.station kept counts (seen lens octets)) ≡ ms) spot.station (seen lens octets) l.era.side.halves (seen_aims lens octets spot.station some)
-        ((counted_same counts (frame_news spot.station kept (record { sent = ds; fate = RingFate.Back; back = ds }))).heard
-        ∙ heard_frame spot.station kept l.era.side.halves (record { sent = ds; fate = RingFate.Back; back = ds }) k)
+        ((counted_same counts (frame_news spot.station kept came_one)).heard
+        ∙ heard_frame spot.station kept l.era.side.halves came_one k)
 
     -- ---- behind a lost one no mail is heard
     pub lost_none : mails_heard (news_lost spot.station kept (seen lens octets)) ≡ []
     lost_none =
         let h = l.era.side.halves in
-        heard_frame spot.station kept (record h { inn = record h.inn { last = kept.heard } }) (record { sent = ds; fate = RingFate.Lost 0; back = [] }) refl
+        heard_frame spot.station kept (record h { inn = record h.inn { last = kept.heard } }) lost_one refl
 
     -- and the slave is given up or isn't
     pub lost_heard : (gives : Bool) (recover : ℕ) (ns : List (News Body)) → HeardAt l.stand kept l.era.side →
-        (let n = given_where gives recover spot frame (life_lost x acknowledged more passed spot ns (seen lens octets) l l.stand) in HeardAt n.stand (kept_on l.stand spot.station kept (record { sent = seen lens octets; fate = RingFate.Lost 0; back = [] })) n.era.side)
+        (let n = given_where gives recover spot frame (life_lost x acknowledged more passed spot ns (seen lens octets) l l.stand) in HeardAt n.stand (kept_on l.stand spot.station kept lost_one) n.era.side)
     lost_heard gives recover ns k = up gives
       where
-        abbrev lost : Life Body Asked Reply
-        lost = life_lost x acknowledged more passed spot ns (seen lens octets) l l.stand
-
-        abbrev then_kept : Stand → Kept
-        then_kept s = kept_on s spot.station kept (record { sent = seen lens octets; fate = RingFate.Lost 0; back = [] })
-
-        go : (s : Stand) → l.stand ≡ s → (let n = life_lost x acknowledged more passed spot ns (seen lens octets) l s in HeardAt n.stand (then_kept s) n.era.side)
+        go : (s : Stand) → l.stand ≡ s → (let n = life_lost x acknowledged more passed spot ns (seen lens octets) l s in HeardAt n.stand (kept_on s spot.station kept lost_one) n.era.side)
         go (Stand.Opens o) e = subst (λ s. HeardAt s nothing_kept l.era.side) (sym e) (subst (λ s. HeardAt s kept l.era.side) e k)
         go Stand.Gone e = subst (λ s. HeardAt s nothing_kept l.era.side) (sym e) tt
         go Stand.Open e =
-            subst (λ s. HeardAt s (then_kept Stand.Open) (side_lost spot.station (own spot.station (seen lens octets)) l.era.side)) (sym e)
+            subst (λ s. HeardAt s (kept_on Stand.Open spot.station kept lost_one) (side_lost spot.station (own spot.station (seen lens octets)) l.era.side)) (sym e)
             (without_last spot.station l.era.side.halves (grams (own spot.station (seen lens octets))) ∙ subst (λ s. HeardAt s kept l.era.side) e k)
 
-        given : (b : Bool) → HeardAt (if b then reopening spot.start false else Stand.Gone) (then_kept l.stand) lost.era.side
+        given : (b : Bool) → HeardAt (if b then reopening spot.start false else Stand.Gone) (kept_on l.stand spot.station kept lost_one) (life_lost x acknowledged more passed spot ns (seen lens octets) l l.stand).era.side
         given true = λ e. absurd (cc)
         given false = tt
 
-        up : (b : Bool) → (let n = given_where b recover spot frame lost in HeardAt n.stand (then_kept l.stand) n.era.side)
+        up : (b : Bool) → (let n = given_where b recover spot frame (life_lost x acknowledged more passed spot ns (seen lens octets) l l.stand) in HeardAt n.stand (kept_on l.stand spot.station kept lost_one) n.era.side)
         up false = go l.stand refl
-        up true = given (nat_lt (length lost.gave) recover)
+        up true = given (nat_lt (length (life_lost x acknowledged more passed spot ns (seen lens octets) l l.stand).gave) recover)
