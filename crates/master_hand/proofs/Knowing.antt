@@ -157,6 +157,13 @@ due_knows left took course which c new b now all a k n h d t =
     let w = goes_of course k a in
     ap (λ z. knows (course_behind z took)) (all w (due_left course which c b now w n h d)) ∙ due_took took course which c new b now w n h d t
 
+-- it knows them behind a reply only where it did before: none of its own was left then, so the service goes on
+pub sure_before : (left : Bool) (took : Took) (course : Course) → (left ≡ false → course ≡ Course.Goes) → knows (course_behind left took) ≡ true → knows course ≡ true
+sure_before false took course goes k = ap knows (goes refl)
+sure_before true Took.More course goes k = absurd (never k)
+sure_before true Took.Done course goes k = absurd (never k)
+sure_before true Took.Foreign course goes k = absurd (never k)
+
 -- none is where the reply is there
 pub due_answered : (course : Course) (which : Which) (c : Talking) (b : Body) (x : Speech Body Asked Reply) (now : Rows) → course ≡ Course.Answered → x.emission b ≡ false → Shows course which c x now → IsDue x now b → ⊥
 due_answered course which c b x now w n h d =

@@ -42,7 +42,7 @@ impl InHand {
     ghost use Rattle.master_hand.specs.Brings.{emergency_kept};
     ghost use Rattle.master_hand.specs.Joins.{packet_kept};
     ghost use Rattle.master_hand.specs.Replied.{KeepsReply};
-    ghost use Rattle.master_hand.specs.Shown.{Shows, is_awaiting};
+    ghost use Rattle.master_hand.specs.Shown.{Shows, is_awaiting, knows};
     ghost use Rattle.master_hand.specs.Hears.{awaits_in, HearsReply, KnowsReply};
     ghost use Rattle.master_hand.specs.declared.course.Course.{Course};
     ghost use Rattle.master_hand.specs.declared.laying.Laid.{Laid};
@@ -99,6 +99,7 @@ impl InHand {
         ensures awaits { awaits_in self.old ≡ true → goes_on result ≡ true → awaits_in self.new ≡ true }
         ensures found { emergency_kept self.old.found ≡ None → emergency_kept self.new.found ≡ None }
         ensures join { self.new.found.join ≡ self.old.found.join }
+        ensures sure { knows self.new.course ≡ true → knows self.old.course ≡ true }
         ensures knows { KnowsReply self.old self.new (body_of (mail_seen mail.now)) }
         ensures packet { packet_kept self.old.found ≡ None → packet_kept self.new.found ≡ None }
         ensures reply { KeepsReply self.old.found self.new.found (awaits_in self.old) (mail_seen mail.now) }

@@ -5,7 +5,7 @@ ghost use Rattle.master_hand.specs.Brings.{emergency_kept};
 ghost use Rattle.master_hand.specs.Joins.{packet_kept};
 ghost use Rattle.master_hand.specs.Replied.{reply_kept};
 ghost use Rattle.master_hand.specs.Shown.{SameHand, has_reply};
-ghost use Rattle.master_hand.specs.Hears.{AnswersSo};
+ghost use Rattle.master_hand.specs.Hears.{AnswersSo, answer_kept};
 ghost use Rattle.master_hand.specs.declared.laying.Laid.{Laid};
 
 use crate::clients::Which;
@@ -88,6 +88,7 @@ impl InHand {
         ensures reply { IfSome result (λ kind. client_awaits self.now.which self.now.clients [] ≡ Some (Some (kind, value_of self.now.which self.now.clients))) }
         ensures told { IfSome result (λ kind. AnswersSo self.now kind) }
         ensures none { result ≡ None → has_reply self.now.course ≡ true → is_mail self.now.which ≡ true }
+        ensures kept { result ≡ answer_kept self.now }
     {
         if !self.is_answered() {
             return None;

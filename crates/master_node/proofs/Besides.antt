@@ -1,148 +1,134 @@
 -- WHAT A STEP TELLS BESIDES, one event after the other.
-use Rattle.std.proofs.Common.{◌≡◌, ◌==◌, inl, inr, take, ℕ, zero, suc, ◌+◌, ◌<◌, ◌≤◌, Bool, true, false, Option, Some, None, List, [], ◌∷◌, ◌++◌, refl, sym, ap, ◌∙◌, arith, length, get_or, append_assoc, append-nil}
-use Rattle.std.specs.Prelude.{filter, is_some, if◌then◌else◌}
+use Rattle.std.proofs.Common.{◌≡◌, ◌==◌, take, ℕ, zero, suc, ◌+◌, ◌<◌, ◌≤◌, Bool, true, false, Option, Some, None, List, [], ◌∷◌, ◌++◌, refl, sym, ap, ◌∙◌, arith, length, get_or, append_assoc, append-nil, subst}
+use Rattle.std.specs.Prelude.{if◌then◌else◌, is_some, ◌||◌}
 use Rattle.std.proofs.lemmas.Bool.{eq-eqb, eqb-true}
-use Rattle.std.proofs.lemmas.List.Elements.{filter-append}
+use Rattle.std.proofs.lemmas.List.{length-append}
+use Rattle.mailbox_mail.specs.declared.mail.Mail.{Mail}
+use Rattle.mailbox_mail.specs.declared.outcome.ReplyKind.{ReplyKind}
+use Rattle.master_hand.specs.declared.hand.InHand.{InHand}
+use Rattle.master_hand.specs.contracts.hand.InHandHand.TheImpl as Impl
+use Rattle.master_side.specs.declared.hand.Hand.{Ghosts}
+use Rattle.master_side.specs.declared.passing.Passing.{Passing}
 use Rattle.master_tour.specs.Made.{is_in}
 use Rattle.master_tour.specs.Orders.{AreOnce}
-use Rattle.mailbox_mail.specs.declared.mail.Mail.{Mail}
-use Rattle.master_hand.specs.declared.hand.InHand.{InHand}
-use Rattle.master_side.specs.declared.hand.Hand.{Ghosts}
-use Rattle.master_side.specs.declared.hand.Heard.{Heard}
-use Rattle.master_side.specs.declared.passing.Passing.{Passing}
+use Rattle.master_tour.specs.Walks.{StepsAt}
 use Rattle.master_tour.specs.declared.stop.Stop.{Stop}
-use Rattle.master_node.specs.Besides.{TellsBesides, gateway_at, gateway_by, heard_by, heard_room, is_gateway, over_by, over_room, over_told, told_by, turned_room}
-use Rattle.master_node.specs.Handed.{IsLeft, work_at}
-use Rattle.master_node.specs.Listing.{events_in}
-use Rattle.master_node.specs.Named.{StaysNamed}
+use Rattle.master_tour.specs.declared.stop.Turned.{Turned}
+use Rattle.master_node.specs.Besides.{Does, DoesAt, DoesSo, TellsAll, answers, back_does, back_told, by_stop, does_at, given_told, is_state, passed_where, stays, then_does}
+use Rattle.master_node.specs.Downs.{is_given_up}
+use Rattle.master_node.specs.Handed.{work_at}
+use Rattle.master_node.specs.Listing.{events_before, events_in}
+use Rattle.master_node.specs.Listed.{listed_before, listed_last}
 use Rattle.master_node.specs.declared.event.Event.{Event}
+use Rattle.master_node.specs.declared.event.EventList.{EventList}
 use Rattle.master_node.specs.declared.node.MasterNode.{MasterNode}
 use Rattle.master_node.specs.declared.post.Work.{Work}
-use Rattle.master_node.proofs.Listing.{events_by}
+use Rattle.master_node.proofs.Endings.{apart_by, step_here, step_there}
+use Rattle.master_node.proofs.Listing.{before_of_list, events_by}
 
 -- NOTHING
-pub besides_none : (room : ℕ) (m n : MasterNode) → n.list ≡ m.list → TellsBesides room [] m n
-besides_none room m n e = record {
-  told = λ r. ap (filter is_gateway) (events_by m n e) ∙ sym (append-nil (filter is_gateway (events_in m)));
+pub besides_none : (m n : MasterNode) → n.list ≡ m.list → TellsAll [] m n
+besides_none m n e = record {
+  told = λ r. events_by m n e ∙ sym (append-nil (events_in m));
   few = (let f = ap (λ z. z.count) e in omega (arith, f));
+  head = before_of_list m.list n.list e;
 }
 
--- ONE EVENT that is told to who asked
-one : (e : Event) → is_gateway e ≡ true → filter is_gateway (e ∷ []) ≡ e ∷ []
-one e g = ap (λ (z : Bool). if z then e ∷ [] else []) g
-
-pub besides_one : (m n : MasterNode) (e : Event) → (m.list.count < 97 → events_in n ≡ events_in m ++ e ∷ []) → n.list.count ≤ m.list.count + 1 → is_gateway e ≡ true → TellsBesides 1 (e ∷ []) m n
-besides_one m n e t f g = record {
-  told = λ r. ap (filter is_gateway) (t (omega (arith, r))) ∙ filter-append is_gateway (events_in m) (e ∷ []) ∙ ap (λ z. filter is_gateway (events_in m) ++ z) (one e g);
-  few = f;
-}
-
--- and one that isn't
-other : (e : Event) → is_gateway e ≡ false → filter is_gateway (e ∷ []) ≡ []
-other e g = ap (λ (z : Bool). if z then e ∷ [] else []) g
-
-pub besides_put : (m n : MasterNode) (e : Event) → (m.list.count < 97 → events_in n ≡ events_in m ++ e ∷ []) → n.list.count ≤ m.list.count + 1 → is_gateway e ≡ false → TellsBesides 1 [] m n
-besides_put m n e t f g = record {
-  told = λ r. ap (filter is_gateway) (t (omega (arith, r))) ∙ filter-append is_gateway (events_in m) (e ∷ []) ∙ ap (λ z. filter is_gateway (events_in m) ++ z) (other e g);
-  few = f;
-}
+-- ONE EVENT
+pub besides_one : (m n : MasterNode) (e : Event) → (m.list.count < 97 → events_in n ≡ events_in m ++ e ∷ []) → n.list.count ≤ m.list.count + 1 → events_before n ≡ events_before m → TellsAll (e ∷ []) m n
+besides_one m n e t f h = record { told = λ r. t (omega (arith, r)); few = f; head = h }
 
 -- one step after the other
-pub besides_then : (a b : ℕ) (es fs : List Event) (m n o : MasterNode) → TellsBesides a es m n → TellsBesides b fs n o → TellsBesides (a + b) (es ++ fs) m o
-besides_then a b es fs m n o x y = record {
-  told = λ r. y.told (omega (arith, r, x.few)) ∙ ap (λ z. z ++ fs) (x.told (omega (arith, r))) ∙ append_assoc (filter is_gateway (events_in m)) es fs;
-  few = omega (arith, x.few, y.few);
+pub besides_then : (es fs : List Event) (m n o : MasterNode) → TellsAll es m n → TellsAll fs n o → TellsAll (es ++ fs) m o
+besides_then es fs m n o x y =
+    let many : length (es ++ fs) ≡ length es + length fs = length-append es fs in
+    record {
+      told = λ r. y.told (omega (arith, r, many, x.few)) ∙ ap (λ z. z ++ fs) (x.told (omega (arith, r, many))) ∙ append_assoc (events_in m) es fs;
+      few = omega (arith, many, x.few, y.few);
+      head = y.head ∙ x.head;
+    }
+
+pub besides_as : (es fs : List Event) (m n : MasterNode) → es ≡ fs → TellsAll es m n → TellsAll fs m n
+besides_as es fs m n e x = subst (λ z. TellsAll z m n) e x
+
+-- BY THE STOP AT A PLACE
+pub stop_here : {A : Type 0} {G : Ghosts InHand} (none : A) (does : Stop InHand G → A) (ss : List (Stop InHand G)) (k : ℕ) (s : Stop InHand G) → k < length ss → s ≡ get_or ss k s → by_stop none does ss k ≡ does s
+stop_here none does [] k s l e = absurd (omega (arith, l))
+stop_here none does (t ∷ ss) zero s l e = ap does (sym e)
+stop_here none does (t ∷ ss) (suc k) s l e = stop_here none does ss k s (omega (arith, l)) e
+
+pub stop_beyond : {A : Type 0} {G : Ghosts InHand} (none : A) (does : Stop InHand G → A) (ss : List (Stop InHand G)) (k : ℕ) → length ss ≤ k → by_stop none does ss k ≡ none
+stop_beyond none does [] k l = refl
+stop_beyond none does (t ∷ ss) zero l = absurd (omega (arith, l))
+stop_beyond none does (t ∷ ss) (suc k) l = stop_beyond none does ss k (omega (arith, l))
+
+pub stop_same : {A : Type 0} {G : Ghosts InHand} (none : A) (f g : Stop InHand G → A) (ss : List (Stop InHand G)) (k : ℕ) → ((s : Stop InHand G) → f s ≡ g s) → by_stop none f ss k ≡ by_stop none g ss k
+stop_same none f g [] k h = refl
+stop_same none f g (t ∷ ss) zero h = h t
+stop_same none f g (t ∷ ss) (suc k) h = stop_same none f g ss k h
+
+pub stop_on : {A B : Type 0} {G : Ghosts InHand} (on : A → B) (none : A) (f : Stop InHand G → A) (ss : List (Stop InHand G)) (k : ℕ) → on (by_stop none f ss k) ≡ by_stop (on none) (λ s. on (f s)) ss k
+stop_on on none f [] k = refl
+stop_on on none f (t ∷ ss) zero = refl
+stop_on on none f (t ∷ ss) (suc k) = stop_on on none f ss k
+
+stop_then : {G : Ghosts InHand} (w : Work) (f : Stop InHand G → Does) (g : Stop InHand G → Work → Does) (ss : List (Stop InHand G)) (k : ℕ) →
+    then_does (by_stop (stays w) f ss k) (λ v. by_stop (stays v) (λ s. g s v) ss k) ≡ by_stop (stays w) (λ s. then_does (f s) (λ v. g s v)) ss k
+stop_then w f g [] k = refl
+stop_then w f g (t ∷ ss) zero = refl
+stop_then w f g (t ∷ ss) (suc k) = stop_then w f g ss k
+
+-- A STEP AT A PLACE: what is told, and what its post has in hand then
+pub does_as : (place : ℕ) (d e : Does) (m n : MasterNode) → d ≡ e → DoesAt place d m n → DoesAt place e m n
+does_as place d e m n p x = subst (λ z. DoesAt place z m n) p x
+
+pub does_told : (place : ℕ) (es : List Event) (m n : MasterNode) → TellsAll es m n → n.posts ≡ m.posts → DoesAt place (record { told = es; work = work_at m.posts.items place }) m n
+does_told place es m n t p = record { tells = t; here = ap (λ z. work_at z.items place) p; others = λ k e. ap (λ z. work_at z.items k) p }
+
+pub does_none : (place : ℕ) (m n : MasterNode) → n.list ≡ m.list → n.posts ≡ m.posts → DoesAt place (stays (work_at m.posts.items place)) m n
+does_none place m n e p = does_told place [] m n (besides_none m n e) p
+
+pub does_answered : (place : ℕ) (kind : ReplyKind) (m n : MasterNode) → TellsAll (Event.Answered place kind ∷ []) m n → StepsAt (λ p q. q.work ≡ Work.Nothing) place m.posts.items n.posts.items → DoesAt place (answers place kind) m n
+does_answered place kind m n t s = record {
+  tells = t;
+  here = step_here place m.posts.items n.posts.items s;
+  others = λ k e. step_there place k m.posts.items n.posts.items (apart_by k place e) s;
 }
 
--- with room to spare, and told otherwise
-pub besides_as : (a b : ℕ) (es fs : List Event) (m n : MasterNode) → a ≤ b → es ≡ fs → TellsBesides a es m n → TellsBesides b fs m n
-besides_as a b es fs m n l e x = record { told = λ r. x.told (omega (arith, r, l)) ∙ ap (λ z. filter is_gateway (events_in m) ++ z) e; few = omega (arith, l, x.few) }
+pub does_then : (place : ℕ) (d : Does) (f : Work → Does) (m n o : MasterNode) → DoesAt place d m n → DoesAt place (f (work_at n.posts.items place)) n o → DoesAt place (then_does d f) m o
+does_then place d f m n o x y =
+    let z : DoesAt place (f d.work) n o = does_as place (f (work_at n.posts.items place)) (f d.work) n o (ap f x.here) y in
+    record { tells = besides_then d.told (f d.work).told m n o x.tells z.tells; here = z.here; others = λ k e. z.others k e ∙ x.others k e }
 
--- OF THE SLAVE AT A PLACE
-pub told_here : {G : Ghosts InHand} (tells : Stop InHand G → List Event) (ss : List (Stop InHand G)) (k : ℕ) (s : Stop InHand G) → k < length ss → s ≡ get_or ss k s → told_by tells ss k ≡ tells s
-told_here tells [] k s l e = absurd (omega (arith, l))
-told_here tells (t ∷ ss) zero s l e = ap tells (sym e)
-told_here tells (t ∷ ss) (suc k) s l e = told_here tells ss k s (omega (arith, l)) e
+-- by the stop of the slave
+pub so_here : (f : Stop InHand Impl.ghosts → Work → Does) (place : ℕ) (m n : MasterNode) (s : Stop InHand Impl.ghosts) → place < length m.tour.stops.items → s ≡ get_or m.tour.stops.items place s → DoesAt place (f s (work_at m.posts.items place)) m n → DoesSo f place m n
+so_here f place m n s l e x = does_as place (f s (work_at m.posts.items place)) (does_at f m place) m n (sym (stop_here (stays (work_at m.posts.items place)) (λ t. f t (work_at m.posts.items place)) m.tour.stops.items place s l e)) x
 
-pub told_beyond : {G : Ghosts InHand} (tells : Stop InHand G → List Event) (ss : List (Stop InHand G)) (k : ℕ) → length ss ≤ k → told_by tells ss k ≡ []
-told_beyond tells [] k l = refl
-told_beyond tells (t ∷ ss) zero l = absurd (omega (arith, l))
-told_beyond tells (t ∷ ss) (suc k) l = told_beyond tells ss k (omega (arith, l))
+pub so_as : (f g : Stop InHand Impl.ghosts → Work → Does) (place : ℕ) (m n : MasterNode) → ((s : Stop InHand Impl.ghosts) → f s (work_at m.posts.items place) ≡ g s (work_at m.posts.items place)) → DoesSo f place m n → DoesSo g place m n
+so_as f g place m n h x =
+    let w = work_at m.posts.items place in
+    does_as place (does_at f m place) (does_at g m place) m n (stop_same (stays w) (λ s. f s w) (λ s. g s w) m.tour.stops.items place h) x
 
-pub told_same : {G : Ghosts InHand} (f g : Stop InHand G → List Event) (ss : List (Stop InHand G)) (k : ℕ) → ((s : Stop InHand G) → f s ≡ g s) → told_by f ss k ≡ told_by g ss k
-told_same f g [] k h = refl
-told_same f g (t ∷ ss) zero h = h t
-told_same f g (t ∷ ss) (suc k) h = told_same f g ss k h
+-- the same of one that has this in hand
+pub so_where : (f g : Stop InHand Impl.ghosts → Work → Does) (place : ℕ) (w : Work) (m n : MasterNode) → work_at m.posts.items place ≡ w → ((s : Stop InHand Impl.ghosts) → f s w ≡ g s w) → DoesSo f place m n → DoesSo g place m n
+so_where f g place w m n e h x = so_as f g place m n (λ s. subst (λ z. f s z ≡ g s z) (sym e) (h s)) x
 
-pub told_none : {G : Ghosts InHand} (f : Stop InHand G → List Event) (ss : List (Stop InHand G)) (k : ℕ) → ((s : Stop InHand G) → f s ≡ []) → told_by f ss k ≡ []
-told_none f [] k h = refl
-told_none f (t ∷ ss) zero h = h t
-told_none f (t ∷ ss) (suc k) h = told_none f ss k h
+-- one step after the other, where the slaves stay
+pub so_then : (f g : Stop InHand Impl.ghosts → Work → Does) (place : ℕ) (m n o : MasterNode) → n.tour ≡ m.tour → DoesSo f place m n → DoesSo g place n o → DoesSo (λ s w. then_does (f s w) (λ v. g s v)) place m o
+so_then f g place m n o e x y =
+    let w = work_at m.posts.items place in
+    let v = work_at n.posts.items place in
+    let on = λ (z : Work). by_stop (stays z) (λ s. g s z) m.tour.stops.items place in
+    does_as place (then_does (does_at f m place) on) _ m o (stop_then w (λ s. f s w) g m.tour.stops.items place)
+    (does_then place (does_at f m place) on m n o x (does_as place (does_at g n place) (on v) n o (ap (λ z. by_stop (stays v) (λ s. g s v) z.stops.items place) e) y))
 
-pub told_both : {G : Ghosts InHand} (f g : Stop InHand G → List Event) (ss : List (Stop InHand G)) (k : ℕ) → told_by f ss k ++ told_by g ss k ≡ told_by (λ s. f s ++ g s) ss k
-told_both f g [] k = refl
-told_both f g (t ∷ ss) zero = refl
-told_both f g (t ∷ ss) (suc k) = told_both f g ss k
+-- what is told of a slave is as before, where that and its post stay
+pub back_same : (m n : MasterNode) (k : ℕ) → n.tour ≡ m.tour → work_at n.posts.items k ≡ work_at m.posts.items k → back_told n k ≡ back_told m k
+back_same m n k t w = λ i. (by_stop (stays (w i)) (λ s. back_does k s (w i)) (t i).stops.items k).told
 
 -- A REPLY, as it is told
 pub bare_is : (m b : Mail) → b.address ≡ 0 → b.counter ≡ 0 → b.kind ≡ m.kind → b.body.items ≡ m.body.items → b ≡ record m { address = 0; counter = 0 }
 bare_is m b a c k o = λ i. record { address = a i; kind = k i; counter = c i; body = record { items = o i } }
-
--- whether a mail is over
-pub over_none : (key : ℕ) (p : Option Passing) → is_some p ≡ false → over_told key p ≡ Event.GatewayDone key ∷ []
-over_none key None e = refl
-over_none key (Some p) e = absurd (let bad : true ≡ false = e in cc)
-
-pub over_some : (key : ℕ) (p : Option Passing) → is_some p ≡ true → over_told key p ≡ []
-over_some key None e = absurd (let bad : false ≡ true = e in cc)
-over_some key (Some p) e = refl
-
--- NO MAIL IS IN HAND that is passed on: nothing is told to who asked
-pub heard_other : {G : Ghosts InHand} (w : Work) (what : Option Heard) (s : Stop InHand G) → ((key : ℕ) → w ≡ Work.Passed key → ⊥) → heard_by w what s ≡ []
-heard_other Work.Nothing what s n = refl
-heard_other Work.Mails what s n = refl
-heard_other Work.State what s n = refl
-heard_other Work.Packet what s n = refl
-heard_other (Work.Passed key) what s n = absurd (n key refl)
-
-pub over_other : {G : Ghosts InHand} (w : Work) (s : Stop InHand G) → ((key : ℕ) → w ≡ Work.Passed key → ⊥) → over_by w s ≡ []
-over_other Work.Nothing s n = refl
-over_other Work.Mails s n = refl
-over_other Work.State s n = refl
-over_other Work.Packet s n = refl
-over_other (Work.Passed key) s n = absurd (n key refl)
-
--- where no mail was heard nothing is told
-pub heard_none : {G : Ghosts InHand} (w : Work) (s : Stop InHand G) → heard_by w None s ≡ []
-heard_none Work.Nothing s = refl
-heard_none Work.Mails s = refl
-heard_none Work.State s = refl
-heard_none Work.Packet s = refl
-heard_none (Work.Passed key) s = refl
-
--- a post that stays tells the same
-other_then : (old new : Work) → ((key : ℕ) → old ≡ Work.Passed key → ⊥) → StaysNamed old new true → (key : ℕ) → new ≡ Work.Passed key → ⊥
-other_then old new n h key e = n key (h.named key e).0
-
-pub heard_kept : {G : Ghosts InHand} (old new : Work) (what : Option Heard) (s : Stop InHand G) → StaysNamed old new true → heard_by new what s ≡ heard_by old what s
-heard_kept (Work.Passed key) new what s h = ap (λ z. heard_by z what s) (h.stays key refl refl)
-heard_kept Work.Nothing new what s h = heard_other new what s (other_then Work.Nothing new (λ key e. absurd (let bad : Work.Nothing ≡ Work.Passed key = e in cc)) h)
-heard_kept Work.Mails new what s h = heard_other new what s (other_then Work.Mails new (λ key e. absurd (let bad : Work.Mails ≡ Work.Passed key = e in cc)) h)
-heard_kept Work.State new what s h = heard_other new what s (other_then Work.State new (λ key e. absurd (let bad : Work.State ≡ Work.Passed key = e in cc)) h)
-heard_kept Work.Packet new what s h = heard_other new what s (other_then Work.Packet new (λ key e. absurd (let bad : Work.Packet ≡ Work.Passed key = e in cc)) h)
-
-pub over_kept : {G : Ghosts InHand} (old new : Work) (s : Stop InHand G) → StaysNamed old new true → over_by new s ≡ over_by old s
-over_kept (Work.Passed key) new s h = ap (λ z. over_by z s) (h.stays key refl refl)
-over_kept Work.Nothing new s h = over_other new s (other_then Work.Nothing new (λ key e. absurd (let bad : Work.Nothing ≡ Work.Passed key = e in cc)) h)
-over_kept Work.Mails new s h = over_other new s (other_then Work.Mails new (λ key e. absurd (let bad : Work.Mails ≡ Work.Passed key = e in cc)) h)
-over_kept Work.State new s h = over_other new s (other_then Work.State new (λ key e. absurd (let bad : Work.State ≡ Work.Passed key = e in cc)) h)
-over_kept Work.Packet new s h = over_other new s (other_then Work.Packet new (λ key e. absurd (let bad : Work.Packet ≡ Work.Passed key = e in cc)) h)
-
-pub gateway_kept : (m n : MasterNode) (k : ℕ) → n.tour ≡ m.tour → StaysNamed (work_at m.posts.items k) (work_at n.posts.items k) true → gateway_at n k ≡ gateway_at m k
-gateway_kept m n k t h =
-    let old = work_at m.posts.items k in
-    let new = work_at n.posts.items k in
-    told_same (λ s. gateway_by new s) (λ s. gateway_by old s) n.tour.stops.items k (λ s. (λ i. heard_kept old new s.side.heard s h i ++ over_kept old new s h i)) ∙ ap (λ z. told_by (λ s. gateway_by old s) z.stops.items k) t
 
 -- a place behind others was none of them
 got_in : (v : List ℕ) (k d : ℕ) → k < length v → is_in (get_or v k d) v ≡ true
@@ -163,32 +149,91 @@ once_fresh (x ∷ v) (suc k) d l o = go (get_or v k d == x) refl (got_in v k d (
     go true e there f = absurd (let bad : true ≡ false = sym there ∙ ap (λ z. is_in z v) (eqb-true (get_or v k d) x e) ∙ o.0 in cc)
     go false e there f = f
 
--- FIVE EVENTS A SLAVE at most
-pub heard_least : (w : Work) → 1 ≤ heard_room w
-heard_least Work.Nothing = omega arith
-heard_least Work.Mails = omega arith
-heard_least Work.State = omega arith
-heard_least Work.Packet = omega arith
-heard_least (Work.Passed key) = omega arith
+-- what neither lists nor changes a post does no more
+pub so_on : (f : Stop InHand Impl.ghosts → Work → Does) (place : ℕ) (m n o : MasterNode) → o.list ≡ n.list → o.posts ≡ n.posts → DoesSo f place m n → DoesSo f place m o
+so_on f place m n o e p x = record {
+  tells = record { told = λ r. events_by n o e ∙ x.tells.told r; few = (let c = ap (λ z. z.count) e in let few = x.tells.few in omega (arith, c, few)); head = before_of_list n.list o.list e ∙ x.tells.head };
+  here = ap (λ z. work_at z.items place) p ∙ x.here;
+  others = λ k q. ap (λ z. work_at z.items k) p ∙ x.others k q;
+}
 
-pub turned_least : (w : Work) → 1 ≤ turned_room w
-turned_least Work.Nothing = omega arith
-turned_least Work.Mails = omega arith
-turned_least Work.State = omega arith
-turned_least Work.Packet = omega arith
-turned_least (Work.Passed key) = omega arith
+-- whether a mail is over
+pub passed_none : (place key : ℕ) (p : Option Passing) (w : Work) → is_some p ≡ false → record { told = Event.Answered place ReplyKind.Handed ∷ Event.GatewayDone key ∷ []; work = Work.Nothing } ≡ passed_where place key p w
+passed_none place key None w e = refl
+passed_none place key (Some p) w e = absurd (let bad : true ≡ false = e in cc)
 
-pub over_fewer : (old new : Work) → IsLeft old new → over_room new ≤ over_room old
-over_fewer old new (inl e) = (let f = ap over_room e in omega (arith, f))
-over_fewer old new (inr e) = (let f = ap over_room e in omega (arith, f))
+pub passed_some : (place key : ℕ) (p : Option Passing) (w : Work) → is_some p ≡ true → stays w ≡ passed_where place key p w
+passed_some place key None w e = absurd (let bad : false ≡ true = e in cc)
+passed_some place key (Some p) w e = refl
 
-pub turned_fewer : (old new : Work) → IsLeft old new → turned_room new ≤ turned_room old
-turned_fewer old new (inl e) = (let f = ap turned_room e in omega (arith, f))
-turned_fewer old new (inr e) = (let f = ap turned_room e in omega (arith, f, turned_least old))
+-- nothing happens
+pub so_stays : (place : ℕ) (m : MasterNode) → DoesSo (λ s w. stays w) place m m
+so_stays place m = does_as place (stays w) (does_at (λ s v. stays v) m place) m m (go m.tour.stops.items place) (does_none place m m refl refl)
+  where
+    w : Work
+    w = work_at m.posts.items place
 
-pub most_five : (w : Work) → heard_room w + (over_room w + turned_room w) ≤ 5
-most_five Work.Nothing = omega arith
-most_five Work.Mails = omega arith
-most_five Work.State = omega arith
-most_five Work.Packet = omega arith
-most_five (Work.Passed key) = omega arith
+    go : (ss : List (Stop InHand Impl.ghosts)) (k : ℕ) → stays w ≡ by_stop (stays w) (λ s. stays w) ss k
+    go [] k = refl
+    go (s ∷ ss) zero = refl
+    go (s ∷ ss) (suc k) = go ss k
+
+-- where no slave stands nothing happens
+pub so_beyond : (f : Stop InHand Impl.ghosts → Work → Does) (place : ℕ) (m : MasterNode) → length m.tour.stops.items ≤ place → DoesSo f place m m
+so_beyond f place m l =
+    let w = work_at m.posts.items place in
+    does_as place (stays w) (does_at f m place) m m (sym (stop_beyond (stays w) (λ s. f s w) m.tour.stops.items place l)) (does_none place m m refl refl)
+
+-- the same of the slave that stands there
+pub so_apart : (f g : Stop InHand Impl.ghosts → Work → Does) (place : ℕ) (m n : MasterNode) (s : Stop InHand Impl.ghosts) → place < length m.tour.stops.items → s ≡ get_or m.tour.stops.items place s → f s (work_at m.posts.items place) ≡ g s (work_at m.posts.items place) → DoesSo f place m n → DoesSo g place m n
+so_apart f g place m n s l e h x =
+    let w = work_at m.posts.items place in
+    so_here g place m n s l e (does_as place (does_at f m place) (g s w) m n (stop_here (stays w) (λ t. f t w) m.tour.stops.items place s l e ∙ h) x)
+
+-- a change of state is in hand
+pub state_is : (w : Work) → is_state w ≡ true → w ≡ Work.State
+state_is Work.State e = refl
+state_is Work.Nothing e = absurd (let bad : false ≡ true = e in cc)
+state_is Work.Mails e = absurd (let bad : false ≡ true = e in cc)
+state_is Work.Packet e = absurd (let bad : false ≡ true = e in cc)
+state_is (Work.Passed key) e = absurd (let bad : false ≡ true = e in cc)
+
+-- a place is none of these
+pub or_left : (a b : Bool) → (a || b) ≡ false → a ≡ false
+or_left true b e = absurd (let bad : true ≡ false = e in cc)
+or_left false b e = refl
+
+pub or_right : (a b : Bool) → (a || b) ≡ false → b ≡ false
+or_right true b e = absurd (let bad : true ≡ false = e in cc)
+or_right false b e = e
+
+pub not_in_one : (k p : ℕ) → is_in k (p ∷ []) ≡ false → (k == p) ≡ false
+not_in_one k p e = go (k == p) e
+  where
+    go : (b : Bool) → (if b then true else false) ≡ false → b ≡ false
+    go true f = f
+    go false f = refl
+
+-- one event behind a step that lists none, and before another
+pub besides_put : (m n o : MasterNode) (l : EventList) (e : Event) → n.list ≡ m.list → o.list ≡ l → (n.list.count < 97 → listed_last l.rows.items l.first l.count ≡ events_in n ++ e ∷ []) → l.count ≤ n.list.count + 1 → listed_before l.rows.items l.first l.count ≡ events_before n → TellsAll (e ∷ []) m o
+besides_put m n o l e a b t f h =
+    let ca = ap (λ z. z.count) a in
+    let cb = ap (λ z. z.count) b in
+    record {
+      told = λ r. ap (λ z. listed_last z.rows.items z.first z.count) b ∙ t (omega (arith, ca, r)) ∙ ap (λ z. z ++ e ∷ []) (events_by m n a);
+      few = omega (arith, ca, cb, f);
+      head = ap (λ z. listed_before z.rows.items z.first z.count) b ∙ h ∙ before_of_list m.list n.list a;
+    }
+
+-- a slave was given up
+pub given_is : (place : ℕ) (news : Option Turned) → is_given_up news ≡ true → Event.GivenUp place ∷ [] ≡ given_told place news
+given_is place None e = absurd (let bad : false ≡ true = e in cc)
+given_is place (Some Turned.GivenUp) e = refl
+given_is place (Some Turned.Cleared) e = absurd (let bad : false ≡ true = e in cc)
+given_is place (Some Turned.Opened) e = absurd (let bad : false ≡ true = e in cc)
+
+pub given_not : (place : ℕ) (news : Option Turned) → is_given_up news ≡ false → [] ≡ given_told place news
+given_not place None e = refl
+given_not place (Some Turned.GivenUp) e = absurd (let bad : true ≡ false = e in cc)
+given_not place (Some Turned.Cleared) e = refl
+given_not place (Some Turned.Opened) e = refl

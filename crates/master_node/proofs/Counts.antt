@@ -142,7 +142,7 @@ module _ (lens : ℕ → Lens) (recover retry : ℕ) (gives : Bool) (made : ℕ)
   few_by Stand.Open n share spot ds has under h = h
   few_by Stand.Gone n share spot ds has under h = absurd (let bare = not_under spot Stand.Gone share ds refl has in cc)
 
-  given_by : (l : Lived Asked Reply) (share : Share) (ds : List Raw.Datagram) (m : Life Body Asked Reply) → FrameFor lens l.spot l.life.stand share ds → Counted recover l.life → m.stand ≡ l.life.stand → m.gave ≡ l.life.gave →
+  pub given_by : (l : Lived Asked Reply) (share : Share) (ds : List Raw.Datagram) (m : Life Body Asked Reply) → FrameFor lens l.spot l.life.stand share ds → Counted recover l.life → m.stand ≡ l.life.stand → m.gave ≡ l.life.gave →
       (b under : Bool) → under ≡ share.under → Counted recover (given_where (b && under) recover l.spot made m)
   given_by l share ds m has h s g true true u =
       let few : length m.gave ≤ recover = subst (λ (n : List ℕ). length n ≤ recover) (sym g) (few_by l.life.stand (length l.life.gave) share l.spot ds has (sym u) h) in

@@ -73,7 +73,7 @@ in_by : (b p q r : Bool) → r ≡ (p || q) → (if b then true else r) ≡ ((if
 in_by true p q r e = refl
 in_by false p q r e = e
 
-in_more : (k : ℕ) (xs ys : List ℕ) → is_in k (xs ++ ys) ≡ (is_in k xs || is_in k ys)
+pub in_more : (k : ℕ) (xs ys : List ℕ) → is_in k (xs ++ ys) ≡ (is_in k xs || is_in k ys)
 in_more k [] ys = refl
 in_more k (x ∷ xs) ys = in_by (k == x) (is_in k xs) (is_in k ys) (is_in k (xs ++ ys)) (in_more k xs ys)
 
@@ -106,7 +106,7 @@ work_got [] place p l e = absurd (omega (arith, l))
 work_got (q ∷ ps) zero p l e = ap (λ z. z.work) (sym e)
 work_got (q ∷ ps) (suc place) p l e = work_got ps place p (omega (arith, l)) e
 
-step_here : (place : ℕ) (ps qs : List Post) → StepsAt (λ p q. q.work ≡ Work.Nothing) place ps qs → work_at qs place ≡ Work.Nothing
+pub step_here : (place : ℕ) (ps qs : List Post) → StepsAt (λ p q. q.work ≡ Work.Nothing) place ps qs → work_at qs place ≡ Work.Nothing
 step_here zero [] qs e = absurd e
 step_here (suc place) [] qs e = absurd e
 step_here zero (p ∷ ps) [] e = absurd e
@@ -114,7 +114,7 @@ step_here (suc place) (p ∷ ps) [] e = absurd e
 step_here zero (p ∷ ps) (q ∷ qs) e = e.0
 step_here (suc place) (p ∷ ps) (q ∷ qs) e = step_here place ps qs e.1
 
-step_there : (place k : ℕ) (ps qs : List Post) → (k ≡ place → ⊥) → StepsAt (λ p q. q.work ≡ Work.Nothing) place ps qs → work_at qs k ≡ work_at ps k
+pub step_there : (place k : ℕ) (ps qs : List Post) → (k ≡ place → ⊥) → StepsAt (λ p q. q.work ≡ Work.Nothing) place ps qs → work_at qs k ≡ work_at ps k
 step_there zero k [] qs n e = absurd e
 step_there (suc place) k [] qs n e = absurd e
 step_there zero k (p ∷ ps) [] n e = absurd e
@@ -124,7 +124,7 @@ step_there zero (suc k) (p ∷ ps) (q ∷ qs) n e = ap (λ z. work_at z k) e.1
 step_there (suc place) zero (p ∷ ps) (q ∷ qs) n e = ap (λ z. z.work) e.0
 step_there (suc place) (suc k) (p ∷ ps) (q ∷ qs) n e = step_there place k ps qs (λ q'. n (ap suc q')) e.1
 
-apart_by : (k place : ℕ) → (k == place) ≡ false → k ≡ place → ⊥
+pub apart_by : (k place : ℕ) → (k == place) ≡ false → k ≡ place → ⊥
 apart_by k place f e = (let w = sym f ∙ eq-eqb k place e in absurd (cc))
 
 stays_with : (old new new' : Work) (g : Bool) → new' ≡ new → StaysNamed old new g → StaysNamed old new' g

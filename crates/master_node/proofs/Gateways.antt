@@ -30,7 +30,7 @@ use Rattle.master_tour.specs.of_life_model.Lives.{Life}
 use Rattle.master_tour.specs.declared.stop.Stop.{Stop}
 use Rattle.served_runs.specs.Served.{Serves, ServedTurn, served_behind}
 use Rattle.served_runs.specs.Told.{Passed, replies_in}
-use Rattle.master_node.specs.Besides.{gateway_by, heard_told, over_told, reply_told, told_by}
+use Rattle.master_node.specs.Besides.{by_stop, reply_told}
 use Rattle.master_node.specs.Gateways.{done_told, gateway_of, life_told, lives_told, replies_told}
 use Rattle.master_node.specs.Handed.{work_at}
 use Rattle.master_node.specs.Named.{IsHanded, IsNamed, is_left}
@@ -39,6 +39,7 @@ use Rattle.master_node.specs.Shows.{side_shows}
 use Rattle.master_node.specs.declared.event.Event.{Event}
 use Rattle.master_node.specs.declared.post.Post.{Post}
 use Rattle.master_node.specs.declared.post.Work.{Work}
+use Rattle.master_node.proofs.Filtered.{gateway_by, heard_told, over_told}
 use Rattle.master_node.proofs.ServedSents.{waits_alike}
 use Rattle.master_node.proofs.Serveds.{behind_open, open_stand}
 
@@ -132,7 +133,7 @@ module _ (lens : ℕ → Lens) (recover retry : ℕ) (gives : Bool) (made : ℕ)
 
   -- OF ALL SLAVES
   pub all_told : {G : Ghosts InHand} (K : Stop InHand G → Stop InHand G → Type 0) → ((v : ServedTurn) (p : Post) (s t : Stop InHand G) → IsServedUnder lens recover octets made v p s → K s t → KeptOf v s t) → (vs : List ServedTurn) (ps qs : List Post) (ss ts : List (Stop InHand G)) →
-      AllThree (λ v p s. IsServedUnder lens recover octets made v p s) vs ps ss → AllThree (λ w q t. IsServed lens recover (suc made) w q t) (map behind vs) qs ts → EachPair K ss ts → (k : ℕ) → told_by (λ t. gateway_by (work_at ps k) t) ts k ≡ lives_told (seen lens back) vs (map behind vs) k
+      AllThree (λ v p s. IsServedUnder lens recover octets made v p s) vs ps ss → AllThree (λ w q t. IsServed lens recover (suc made) w q t) (map behind vs) qs ts → EachPair K ss ts → (k : ℕ) → by_stop [] (λ t. gateway_by (work_at ps k) t) ts k ≡ lives_told (seen lens back) vs (map behind vs) k
   all_told K h [] ps qs ss [] i j e k = refl
   all_told K h [] ps [] ss (t ∷ ts) i j e k = absurd j
   all_told K h [] ps (q ∷ qs) ss (t ∷ ts) i j e k = absurd j

@@ -42,7 +42,10 @@ pub mod Handeds
 pub mod Handings
 pub mod Endings
 mod Besides
+mod ToldFew
+mod Filtered
 mod Gateways
+mod Turneds
 pub mod Mailed
 pub mod FreeKept
 pub mod ServedVisits

@@ -1,7 +1,8 @@
 -- The services that are listed as begun while a frame is made.
-use Rattle.std.proofs.Common.{◌≡◌, ◌⊎◌, inl, inr, ◌<◌, ◌==◌, ◌+◌, ℕ, zero, suc, Bool, true, false, Option, Some, None, List, [], ◌∷◌, ◌++◌, refl, sym, ap, subst, ◌∙◌, arith, length, append_assoc, append-nil, get_or, set}
+use Rattle.std.proofs.Common.{◌≡◌, ◌⊎◌, inl, inr, ◌<◌, ◌==◌, ◌+◌, ℕ, zero, suc, Bool, true, false, Option, Some, None, List, [], ◌∷◌, ◌++◌, refl, sym, ap, subst, ◌∙◌, arith, length, take, append_assoc, append-nil, get_or, set}
 use Rattle.std.specs.Prelude.{All, is_some, map, nat_lt, slice_get, if◌then◌else◌}
 use Rattle.std.proofs.lemmas.Bool.{eq-eqb, eqb-true}
+use Rattle.std.proofs.lemmas.List.{take-append-drop}
 use Rattle.std.proofs.lemmas.List.Elements.{All-head, All-tail}
 use Rattle.life_runs.specs.of_frame_view.View.{Lens}
 use Rattle.life_runs.specs.of_life_frames.Shares.{AllFrom, AreDistinct}
@@ -23,8 +24,8 @@ use Rattle.segment_plan.specs.declared.service.Service as Plan
 use Rattle.master_node.specs.Begins.{begun_for, begun_of}
 use Rattle.master_node.specs.Coming.{IsComing, IsLaid, next_of, wish_of}
 use Rattle.master_node.specs.Filling.{IsAmong}
-use Rattle.master_node.specs.Listed.{listed_last}
-use Rattle.master_node.specs.Listing.{ListsOne, HasListed, IsUnlisted, ServicesBegin, began_by, began_from, counted_from, events_in, forwards_behind, number_at, run_tells, told_in, where_began}
+use Rattle.master_node.specs.Listed.{listed, listed_before, listed_last}
+use Rattle.master_node.specs.Listing.{ListsOne, HasListed, IsUnlisted, ServicesBegin, began_by, began_from, counted_from, events_before, events_in, forwards_behind, number_at, run_tells, told_in, where_began}
 use Rattle.master_node.specs.Origins.{CountsNone, IsFrom, LaysFrom, forwards_at}
 use Rattle.master_node.specs.Shows.{lived_of}
 use Rattle.master_node.specs.declared.coming.Coming.{Coming}
@@ -104,8 +105,15 @@ listed_nothing tells forwards left as' m u = record {
 pub events_of_list : (a b : EventList) → b ≡ a → listed_last b.rows.items b.first b.count ≡ listed_last a.rows.items a.first a.count
 events_of_list a b e = λ i. listed_last (e i).rows.items (e i).first (e i).count
 
+pub before_of_list : (a b : EventList) → b ≡ a → listed_before b.rows.items b.first b.count ≡ listed_before a.rows.items a.first a.count
+before_of_list a b e = λ i. listed_before (e i).rows.items (e i).first (e i).count
+
 pub events_by : (m n : MasterNode) → n.list ≡ m.list → events_in n ≡ events_in m
 events_by m n e = λ i. listed_last (e i).rows.items (e i).first (e i).count
+
+-- the events of a frame are those before its last step, and those of it
+pub listed_whole : (m : MasterNode) → listed m.list.rows.items m.list.count ≡ events_before m ++ events_in m
+listed_whole m = sym (take-append-drop m.list.first (take m.list.count m.list.rows.items))
 
 pub listed_on : (tells : ℕ → ℕ → Option (Service Asked) → List Event) (forwards : ℕ → ℕ) (left : List ℕ) (begun : ℕ → Option (Service Asked)) (as' : List Leads) (m n : MasterNode) → n.list ≡ m.list → n.posts ≡ m.posts → HasListed tells forwards left begun as' m → HasListed tells forwards left begun as' n
 listed_on tells forwards left begun as' m n e f x = record {

@@ -1,5 +1,5 @@
 -- WHERE A MASTER WANTS NOTHING each slave that it leads was given up for good, or is idle; and how often each was given up.
-use Rattle.std.proofs.Common.{◌≡◌, ◌≤◌, ◌<◌, ◌-◌, inl, inr, ℕ, zero, suc, ◌+◌, Bool, true, false, Option, Some, None, List, [], ◌∷◌, length, get_or, refl, ap, sym, ◌∙◌, subst, arith}
+use Rattle.std.proofs.Common.{◌≡◌, ◌≤◌, ◌<◌, ◌-◌, inl, inr, ℕ, zero, suc, ◌+◌, Bool, true, false, Option, Some, None, List, [], ◌∷◌, length, get_or, map, refl, ap, sym, ◌∙◌, subst, arith}
 use Rattle.std.specs.Prelude.{nat_lt, nat_le, All, IfSome, slice_get, option_map, is_some, ◌||◌}
 use Rattle.std.specs.List.{list_any}
 use Rattle.std.proofs.lemmas.Bool.{ltb-true, ltb-false, le-leb, lt-leb}
@@ -25,8 +25,9 @@ use Rattle.master_duty.specs.of_segment_model.Seats
 use Rattle.master_duty.specs.of_task_model.Accounts
 use Rattle.master_duty.specs.of_task_model.Accounts.{is_free}
 use Rattle.master_tour.specs.Stands.{StandShows}
-use Rattle.master_node.specs.Shows.{IsLead, side_shows}
+use Rattle.master_node.specs.Shows.{IsLead, IsLived, lived_of, side_shows}
 use Rattle.master_node.specs.Wants.{gave_of, gave_more, IsCounted, AllPlaced, IsIdle, IsLeft, AllLeft, IsQuiet, IsQuietBy}
+use Rattle.master_node.proofs.Lists.{both_map}
 
 -- no state service is in hand
 no_duty : (duty : Option Duty) (hand : Option Accounts.Duty) → duty ≡ None → DutyShows duty hand → hand ≡ None
@@ -113,20 +114,24 @@ gave_gone times recover n e = by (nat_lt times n) refl
     by true lt = let below = ltb-true times n lt in le-leb times recover (omega (arith, below, e)) ∙ sym lt
     by false ge = let over = ltb-false times n ge in lt-leb times recover (omega (arith, over, e)) ∙ sym ge
 
+-- the slaves that a master leads have just their lives
+pub lead_lives : {G : Ghosts InHand} (lens : ℕ → Lens) (recover : ℕ) (as' : List Leads) (ss : List (Stop InHand G)) → AllBoth (λ a s. IsLead lens recover a s) as' ss → AllBoth (λ a s. IsLived lens recover a s) (map lived_of as') ss
+lead_lives lens recover as' ss x = both_map lived_of (λ a s. IsLead lens recover a s) (λ a s. IsLived lens recover a s) (λ a s h. h.lives) as' ss x
+
 module _ {G : Ghosts InHand} (lens : ℕ → Lens) (recover times : ℕ) where
-  one_gave : (a : Leads) (s : Stop InHand G) (stand : Stand) → s.stand ≡ stand → IsLead lens recover a s → IsCounted recover a.lived.life.stand (length (gave_of a)) → gave_more stand s.spare recover times ≡ nat_lt times (length (gave_of a))
+  one_gave : (a : Leads) (s : Stop InHand G) (stand : Stand) → s.stand ≡ stand → IsLived lens recover a.lived s → IsCounted recover a.lived.life.stand (length (gave_of a)) → gave_more stand s.spare recover times ≡ nat_lt times (length (gave_of a))
   one_gave a s (Stand.Opening up) e l c =
-      let stood = subst (λ (k : Stand). StandShows (λ d b. side_shows lens recover s a.lived.spot d b) a.lived.spot k a.lived.life) e l.lives.shown.stood in
-      gave_open recover times (length (gave_of a)) s.spare l.lives.shown.spared (let P : Lives.Stand → Type 0 = λ k. IsCounted recover k (length (gave_of a)) in subst P stood.stand c)
+      let stood = subst (λ (k : Stand). StandShows (λ d b. side_shows lens recover s a.lived.spot d b) a.lived.spot k a.lived.life) e l.shown.stood in
+      gave_open recover times (length (gave_of a)) s.spare l.shown.spared (let P : Lives.Stand → Type 0 = λ k. IsCounted recover k (length (gave_of a)) in subst P stood.stand c)
   one_gave a s Stand.Open e l c =
-      let stood = subst (λ (k : Stand). StandShows (λ d b. side_shows lens recover s a.lived.spot d b) a.lived.spot k a.lived.life) e l.lives.shown.stood in
-      gave_open recover times (length (gave_of a)) s.spare l.lives.shown.spared (let P : Lives.Stand → Type 0 = λ k. IsCounted recover k (length (gave_of a)) in subst P stood.0 c)
+      let stood = subst (λ (k : Stand). StandShows (λ d b. side_shows lens recover s a.lived.spot d b) a.lived.spot k a.lived.life) e l.shown.stood in
+      gave_open recover times (length (gave_of a)) s.spare l.shown.spared (let P : Lives.Stand → Type 0 = λ k. IsCounted recover k (length (gave_of a)) in subst P stood.0 c)
   one_gave a s Stand.Gone e l c =
-      let stood = subst (λ (k : Stand). StandShows (λ d b. side_shows lens recover s a.lived.spot d b) a.lived.spot k a.lived.life) e l.lives.shown.stood in
+      let stood = subst (λ (k : Stand). StandShows (λ d b. side_shows lens recover s a.lived.spot d b) a.lived.spot k a.lived.life) e l.shown.stood in
       gave_gone times recover (length (gave_of a)) (let P : Lives.Stand → Type 0 = λ k. IsCounted recover k (length (gave_of a)) in subst P stood c)
 
   -- HOW OFTEN THE SLAVE AT A PLACE was given up
-  pub gave_here : (as' : List Leads) (ss : List (Stop InHand G)) (k : ℕ) (s : Stop InHand G) (result : Bool) → AllBoth (λ a s. IsLead lens recover a s) as' ss → k < length ss → s ≡ get_or ss k s → result ≡ gave_more s.stand s.spare recover times →
+  pub gave_here : (as' : List Leads) (ss : List (Stop InHand G)) (k : ℕ) (s : Stop InHand G) (result : Bool) → AllBoth (λ a s. IsLived lens recover a s) (map lived_of as') ss → k < length ss → s ≡ get_or ss k s → result ≡ gave_more s.stand s.spare recover times →
       IfSome (slice_get as' k) (λ a. IsCounted recover a.lived.life.stand (length (gave_of a)) → result ≡ nat_lt times (length (gave_of a)))
   gave_here [] [] k s result x l e r = tt
   gave_here [] (t ∷ ts) k s result x l e r = absurd x

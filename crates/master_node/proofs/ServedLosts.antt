@@ -82,10 +82,10 @@ come_as as' bs visit opened n h c = record { once = c.once; first = first_as as'
 
 module _ (lens : ℕ → Lens) (recover retry : ℕ) where
   -- a frame with these octets that was lost
-  abbrev lost_so_far : Exchanged → List ℕ → ℕ → Exchanged
+  abbrev pub lost_so_far : Exchanged → List ℕ → ℕ → Exchanged
   lost_so_far f octets after = record { sent = octets; fate = Lost after; back = f.back }
 
-  so_is : (f : Exchanged) (octets : List ℕ) (after : ℕ) → f.fate ≡ Lost after → f.sent ≡ octets → f ≡ lost_so_far f octets after
+  pub so_is : (f : Exchanged) (octets : List ℕ) (after : ℕ) → f.fate ≡ Lost after → f.sent ≡ octets → f ≡ lost_so_far f octets after
   so_is f octets after is b = λ i. record { sent = b i; fate = is i; back = f.back }
 
   module _ (gives : Bool) (made : ℕ) where

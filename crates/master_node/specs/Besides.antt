@@ -1,108 +1,187 @@
--- WHAT IS TOLD TO WHO ASKED of the mails that are passed on, besides what happens to a slave.
-use Rattle.std.specs.Prelude.{◌≡◌, ◌≤◌, ◌+◌, ℕ, zero, suc, Bool, true, false, Option, Some, None, List, [], ◌∷◌, ◌++◌, filter}
+-- WHAT A STEP TELLS, by what the posts have in hand and by the sides of their slaves.
+use Rattle.std.specs.Prelude.{◌≡◌, ◌≤◌, ◌+◌, ◌==◌, ℕ, zero, suc, Bool, true, false, Option, Some, None, List, [], ◌∷◌, ◌++◌, length}
 use Rattle.mailbox_mail.specs.declared.mail.Mail.{Mail}
+use Rattle.mailbox_mail.specs.declared.outcome.ReplyKind.{ReplyKind}
+use Rattle.master_duty.specs.declared.stage.Met.{Met}
+use Rattle.master_hand.specs.Brings.{emergency_kept}
 use Rattle.master_hand.specs.Replied.{reply_kept}
-use Rattle.master_hand.specs.declared.found.Found.{Found}
+use Rattle.master_hand.specs.contracts.hand.InHandHand.TheImpl as Impl
 use Rattle.master_hand.specs.declared.hand.InHand.{InHand}
+use Rattle.master_side.specs.Free.{is_free_side}
 use Rattle.master_side.specs.declared.hand.Hand.{Ghosts}
 use Rattle.master_side.specs.declared.hand.Heard.{Heard}
 use Rattle.master_side.specs.declared.passing.Passing.{Passing}
 use Rattle.master_tour.specs.declared.stop.Stop.{Stop}
+use Rattle.master_tour.specs.declared.stop.Turned.{Turned}
+use Rattle.master_hand.specs.Hears.{answer_kept}
 use Rattle.master_node.specs.Handed.{work_at}
-use Rattle.master_node.specs.Listing.{events_in}
+use Rattle.master_node.specs.Listing.{events_before, events_in}
 use Rattle.master_node.specs.declared.event.Event.{Event}
 use Rattle.master_node.specs.declared.node.MasterNode.{MasterNode}
 use Rattle.master_node.specs.declared.post.Work.{Work}
 
--- those events that are told to who asked: a reply, and that no more follows
-abbrev pub is_gateway : Event → Bool
-is_gateway (Event.GatewayReply key mail) = true
-is_gateway (Event.GatewayDone key) = true
-is_gateway (Event.Began slave origin) = false
-is_gateway (Event.Answered slave kind) = false
-is_gateway (Event.Emergency slave octets) = false
-is_gateway (Event.GivenUp slave) = false
-is_gateway (Event.Cleared slave own) = false
-is_gateway (Event.Opened slave) = false
+-- JUST THESE EVENTS ARE LISTED BESIDES, in this order, where the list has room for them; what was listed before the step stays
+pub record TellsAll (es : List Event) (m n : MasterNode) : Type 0 where
+  pub told : m.list.count + length es ≤ 97 → events_in n ≡ events_in m ++ es
+  pub few : n.list.count ≤ m.list.count + length es
+  pub head : events_before n ≡ events_before m
 
--- A STEP TELLS JUST THIS to who asked, where the list has room for so many events more
-pub record TellsBesides (room : ℕ) (es : List Event) (m n : MasterNode) : Type 0 where
-  pub told : m.list.count + room ≤ 97 → filter is_gateway (events_in n) ≡ filter is_gateway (events_in m) ++ es
-  pub few : n.list.count ≤ m.list.count + room
+-- what is told of a slave, and what its post has in hand then
+pub record Does : Type 0 where
+  pub told : List Event
+  pub work : Work
+
+-- A STEP DOES THIS to the slave at a place, and nothing to any other
+pub record DoesAt (place : ℕ) (d : Does) (m n : MasterNode) : Type 0 where
+  pub tells : TellsAll d.told m n
+  pub here : work_at n.posts.items place ≡ d.work
+  pub others : (k : ℕ) → (k == place) ≡ false → work_at n.posts.items k ≡ work_at m.posts.items k
+
+-- nothing is told, and what is in hand stays
+abbrev pub stays : Work → Does
+stays work = record { told = []; work = work }
+
+-- what is in hand has its answer
+abbrev pub answers : ℕ → ReplyKind → Does
+answers place kind = record { told = Event.Answered place kind ∷ []; work = Work.Nothing }
+
+-- these are told before
+abbrev pub behind : List Event → Does → Does
+behind es d = record { told = es ++ d.told; work = d.work }
+
+-- one after the other
+abbrev pub then_does : Does → (Work → Does) → Does
+then_does d f = behind d.told (f d.work)
+
+-- by the stop of the slave at a place, or so where none stands
+abbrev pub by_stop : {A : Type 0} {G : Ghosts InHand} → A → (Stop InHand G → A) → List (Stop InHand G) → ℕ → A
+by_stop none does [] k = none
+by_stop none does (s ∷ ss) zero = does s
+by_stop none does (s ∷ ss) (suc k) = by_stop none does ss k
+
+-- what is done to the slave at a place, by its stop and what its post has in hand
+abbrev pub does_at : (Stop InHand Impl.ghosts → Work → Does) → MasterNode → ℕ → Does
+does_at does m k = by_stop (stays (work_at m.posts.items k)) (λ s. does s (work_at m.posts.items k)) m.tour.stops.items k
+
+-- A STEP DOES SO to the slave at a place
+abbrev pub DoesSo : (Stop InHand Impl.ghosts → Work → Does) → ℕ → MasterNode → MasterNode → Type 0
+DoesSo does place m n = DoesAt place (does_at does m place) m n
+
+-- an emergency, with its octets
+abbrev pub emergency_told : ℕ → Option (List ℕ) → List Event
+emergency_told place None = []
+emergency_told place (Some octets) = Event.Emergency place (record { items = octets }) ∷ []
 
 -- a reply is told under the key of the asker, without address and counter
 abbrev pub reply_told : ℕ → Option Mail → List Event
 reply_told key None = []
 reply_told key (Some m) = Event.GatewayReply key (record m { address = 0; counter = 0 }) ∷ []
 
--- where a mail was heard
-abbrev pub heard_told : ℕ → Option Heard → Found → List Event
-heard_told key None f = []
-heard_told key (Some what) f = reply_told key (reply_kept f)
+-- the mail heard last was an emergency, or wasn't
+abbrev pub emitted_does : {G : Ghosts InHand} → ℕ → Stop InHand G → Work → Does
+emitted_does place s work = record { told = emergency_told place (emergency_kept s.side.hand.found); work = work }
 
--- a mail that its side has forgotten gets no further reply
-abbrev pub over_told : ℕ → Option Passing → List Event
-over_told key None = Event.GatewayDone key ∷ []
-over_told key (Some passing) = []
+-- it was a reply of the mail that is passed on, or wasn't
+abbrev pub replied_does : {G : Ghosts InHand} → ℕ → Stop InHand G → Work → Does
+replied_does key s work = record { told = reply_told key (reply_kept s.side.hand.found); work = work }
 
--- by what is in hand of a slave: what a mail that was heard tells
-abbrev pub heard_by : {G : Ghosts InHand} → Work → Option Heard → Stop InHand G → List Event
-heard_by (Work.Passed key) what s = heard_told key what s.side.hand.found
-heard_by Work.Nothing what s = []
-heard_by Work.Mails what s = []
-heard_by Work.State what s = []
-heard_by Work.Packet what s = []
+-- what is in hand has this answer, or none
+abbrev pub answered_does : ℕ → Option ReplyKind → Work → Does
+answered_does place None work = stays work
+answered_does place (Some kind) work = answers place kind
 
--- and what it tells that a mail is over
-abbrev pub over_by : {G : Ghosts InHand} → Work → Stop InHand G → List Event
-over_by (Work.Passed key) s = over_told key s.side.passing
-over_by Work.Nothing s = []
-over_by Work.Mails s = []
-over_by Work.State s = []
-over_by Work.Packet s = []
+-- a scripted service by mails has its answer, once its last reply was accepted
+abbrev pub complete_does : {G : Ghosts InHand} → ℕ → Stop InHand G → Work → Does
+complete_does place s work = answered_does place (answer_kept s.side.hand) work
 
--- WHAT A FRAME TELLS TO WHO ASKED, by what a post has in hand and its slave's side
-abbrev pub gateway_by : {G : Ghosts InHand} → Work → Stop InHand G → List Event
-gateway_by work s = heard_by work s.side.heard s ++ over_by work s
+-- what a mail that was accepted is to the service in hand
+abbrev pub mail_does : {G : Ghosts InHand} → ℕ → Stop InHand G → Work → Does
+mail_does place s (Work.Passed key) = replied_does key s (Work.Passed key)
+mail_does place s Work.Mails = complete_does place s Work.Mails
+mail_does place s Work.Nothing = stays Work.Nothing
+mail_does place s Work.State = stays Work.State
+mail_does place s Work.Packet = stays Work.Packet
 
--- of the slave at a place; nothing where none stands
-abbrev pub told_by : {G : Ghosts InHand} → (Stop InHand G → List Event) → List (Stop InHand G) → ℕ → List Event
-told_by tells [] k = []
-told_by tells (s ∷ ss) zero = tells s
-told_by tells (s ∷ ss) (suc k) = told_by tells ss k
+abbrev pub accepted_does : {G : Ghosts InHand} → ℕ → Stop InHand G → Work → Does
+accepted_does place s work = then_does (emitted_does place s work) (λ w. mail_does place s w)
 
--- by its master
-abbrev pub gateway_at : MasterNode → ℕ → List Event
-gateway_at m k = told_by (λ s. gateway_by (work_at m.posts.items k) s) m.tour.stops.items k
+-- A MAIL WAS ACCEPTED, or none was
+abbrev pub heard_does : {G : Ghosts InHand} → ℕ → Option Heard → Stop InHand G → Work → Does
+heard_does place None s work = stays work
+heard_does place (Some what) s work = accepted_does place s work
 
--- how many events a mail that was heard brings at most: an emergency, and a reply or an answer
-abbrev pub heard_room : Work → ℕ
-heard_room Work.Nothing = 1
-heard_room Work.Mails = 2
-heard_room Work.State = 1
-heard_room Work.Packet = 1
-heard_room (Work.Passed key) = 2
+-- a packet is over once its slave is free
+abbrev pub handed_where : ℕ → Bool → Work → Does
+handed_where place true work = answers place ReplyKind.Handed
+handed_where place false work = stays work
 
--- how many it brings that what is in hand is over: an answer, and of a mail that is passed on its end too
-abbrev pub over_room : Work → ℕ
-over_room Work.Nothing = 0
-over_room Work.Mails = 0
-over_room Work.State = 1
-over_room Work.Packet = 1
-over_room (Work.Passed key) = 2
+abbrev pub handed_does : {G : Ghosts InHand} → ℕ → Stop InHand G → Work → Does
+handed_does place s work = handed_where place (is_free_side s.side) work
 
--- how many it brings that a slave is in Init or open: a change of state has its answer then
-abbrev pub turned_room : Work → ℕ
-turned_room Work.Nothing = 1
-turned_room Work.Mails = 1
-turned_room Work.State = 2
-turned_room Work.Packet = 1
-turned_room (Work.Passed key) = 1
+-- a mail that is passed on is over once its side forgets it, and then gets no further reply
+abbrev pub passed_where : ℕ → ℕ → Option Passing → Work → Does
+passed_where place key None work = record { told = Event.Answered place ReplyKind.Handed ∷ Event.GatewayDone key ∷ []; work = Work.Nothing }
+passed_where place key (Some passing) work = stays work
 
--- A MAIL WAS HEARD, or none was: what its slave's post has in hand tells this
-abbrev pub TellsHeard : ℕ → Option Heard → MasterNode → MasterNode → Type 0
-TellsHeard k what m n = TellsBesides (heard_room (work_at m.posts.items k)) (told_by (λ s. heard_by (work_at m.posts.items k) what s) m.tour.stops.items k) m n
+abbrev pub passed_does : {G : Ghosts InHand} → ℕ → ℕ → Stop InHand G → Work → Does
+passed_does place key s work = passed_where place key s.side.passing work
 
--- WHAT IS IN HAND MAY BE OVER: it tells this
-abbrev pub TellsOver : ℕ → MasterNode → MasterNode → Type 0
-TellsOver k m n = TellsBesides (over_room (work_at m.posts.items k)) (told_by (λ s. over_by (work_at m.posts.items k) s) m.tour.stops.items k) m n
+-- a change of state is over once it has met its target or a refusal
+abbrev pub met_where : ℕ → Option Met → Work → Does
+met_where place None work = stays work
+met_where place (Some (Met.On duty)) work = stays work
+met_where place (Some Met.Reached) work = answers place ReplyKind.Done
+met_where place (Some (Met.Refused code)) work = answers place (ReplyKind.StateRefused code)
+
+abbrev pub met_does : {G : Ghosts InHand} → ℕ → Stop InHand G → Work → Does
+met_does place s work = met_where place s.side.duty work
+
+-- WHAT IS IN HAND MAY BE OVER, where it has no reply by mails of its own
+abbrev pub over_does : {G : Ghosts InHand} → ℕ → Stop InHand G → Work → Does
+over_does place s Work.Nothing = stays Work.Nothing
+over_does place s Work.Mails = stays Work.Mails
+over_does place s Work.Packet = handed_does place s Work.Packet
+over_does place s (Work.Passed key) = passed_does place key s (Work.Passed key)
+over_does place s Work.State = met_does place s Work.State
+
+-- a change of state is in hand
+abbrev pub is_state : Work → Bool
+is_state Work.State = true
+is_state Work.Nothing = false
+is_state Work.Mails = false
+is_state Work.Packet = false
+is_state (Work.Passed key) = false
+
+-- a slave is open, which answers a change of state that is in hand
+abbrev pub opened_where : ℕ → Bool → Work → Does
+opened_where place true work = behind (Event.Opened place ∷ []) (answers place ReplyKind.Done)
+opened_where place false work = record { told = Event.Opened place ∷ []; work = work }
+
+-- THE SLAVE WAS SEEN IN INIT, or is open
+abbrev pub turned_where : ℕ → Option Turned → Work → Does
+turned_where place None work = stays work
+turned_where place (Some Turned.GivenUp) work = stays work
+turned_where place (Some Turned.Cleared) work = record { told = Event.Cleared place (is_state work) ∷ []; work = work }
+turned_where place (Some Turned.Opened) work = opened_where place (is_state work) work
+
+abbrev pub turned_does : {G : Ghosts InHand} → ℕ → Stop InHand G → Work → Does
+turned_does place s work = turned_where place s.news work
+
+-- WHAT A FRAME THAT CAME BACK DOES to a slave that it carried: by the mail that was accepted, if one was, by what is over, and by how the slave turned
+abbrev pub back_does : {G : Ghosts InHand} → ℕ → Stop InHand G → Work → Does
+back_does place s work = then_does (then_does (heard_does place s.side.heard s work) (λ w. over_does place s w)) (λ w. turned_does place s w)
+
+-- what is told of the slave at a place
+abbrev pub back_told : MasterNode → ℕ → List Event
+back_told m k = (does_at (λ s w. back_does k s w) m k).told
+
+-- A SLAVE WAS GIVEN UP, or wasn't
+abbrev pub given_told : ℕ → Option Turned → List Event
+given_told place None = []
+given_told place (Some Turned.GivenUp) = Event.GivenUp place ∷ []
+given_told place (Some Turned.Cleared) = []
+given_told place (Some Turned.Opened) = []
+
+-- of the slave at a place
+abbrev pub given_at : {G : Ghosts InHand} → List (Stop InHand G) → ℕ → List Event
+given_at ss k = by_stop [] (λ s. given_told k s.news) ss k

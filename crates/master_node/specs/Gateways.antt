@@ -8,11 +8,21 @@ use Rattle.master_tour.specs.Brings.{accepted_in}
 use Rattle.master_tour.specs.of_life_model.Lives.{Life}
 use Rattle.served_runs.specs.Served.{Serves, ServedTurn}
 use Rattle.served_runs.specs.Told.{Passed, replies_in}
-use Rattle.master_node.specs.Besides.{is_gateway}
 use Rattle.master_node.specs.Listing.{events_in, told_in}
 use Rattle.master_node.specs.Named.{is_left}
 use Rattle.master_node.specs.declared.event.Event.{Event}
 use Rattle.master_node.specs.declared.node.MasterNode.{MasterNode}
+
+-- those events of which who asked gets to know: a reply, that no more follows, what came into hand, and a give-up
+abbrev pub is_gateway : Event → Bool
+is_gateway (Event.GatewayReply key mail) = true
+is_gateway (Event.GatewayDone key) = true
+is_gateway (Event.Began slave origin) = true
+is_gateway (Event.Answered slave kind) = false
+is_gateway (Event.Emergency slave octets) = false
+is_gateway (Event.GivenUp slave) = true
+is_gateway (Event.Cleared slave own) = false
+is_gateway (Event.Opened slave) = false
 
 -- each reply is told under the key of the asker, without address and counter
 abbrev pub replies_told : ℕ → List Body → List Event
@@ -42,10 +52,6 @@ lives_told back (v ∷ vs) [] k = []
 lives_told back (v ∷ vs) (w ∷ ws) zero = gateway_of back v w
 lives_told back (v ∷ vs) (w ∷ ws) (suc k) = lives_told back vs ws k
 
--- JUST THESE ARE TOLD to who asked, of the slaves that the frame carried, in the order of its visits, where the list has room for all events
+-- JUST THESE ARE TOLD to who asked, of the slaves that the frame carried, in the order of its visits, where the list has room for all events: nothing came into hand, and no slave was given up
 abbrev pub TellsGateway : (ℕ → List Event) → MasterNode → MasterNode → Type 0
 TellsGateway tells m n = m.list.before ≤ 16 → filter is_gateway (events_in n) ≡ told_in tells m.tour.visit.items
-
--- and a lost frame tells nothing to who asked
-abbrev pub TellsNone : MasterNode → MasterNode → Type 0
-TellsNone m n = m.list.before ≤ 16 → filter is_gateway (events_in n) ≡ []

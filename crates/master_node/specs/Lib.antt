@@ -42,6 +42,7 @@ pub mod Origins
 pub mod Listing
 pub mod Besides
 pub mod Gateways
+pub mod Lifetold
 pub mod Arrivals
 pub mod Eager
 pub mod Resting

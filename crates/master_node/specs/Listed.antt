@@ -6,6 +6,10 @@ use Rattle.master_node.specs.declared.event.Event.{Event}
 abbrev pub listed : List Event → ℕ → List Event
 listed rows count = take count rows
 
+-- those before the last step
+abbrev pub listed_before : List Event → ℕ → ℕ → List Event
+listed_before rows first count = take first (take count rows)
+
 -- those of the last step
 abbrev pub listed_last : List Event → ℕ → ℕ → List Event
 listed_last rows first count = drop first (take count rows)

@@ -7,7 +7,7 @@ use Rattle.master_hand.specs.Spoken.{Asked}
 use Rattle.master_tour.specs.Made.{is_in}
 use Rattle.master_tour.specs.Orders.{AreOnce}
 use Rattle.master_node.specs.Begins.{begun_for, begun_of, is_other}
-use Rattle.master_node.specs.Listed.{listed_last}
+use Rattle.master_node.specs.Listed.{listed_before, listed_last}
 use Rattle.master_node.specs.Numbered.{StaysNumbered}
 use Rattle.master_node.specs.Origins.{counted_by, forwards_at, one_more}
 use Rattle.master_node.specs.declared.coming.Coming.{Coming}
@@ -24,6 +24,10 @@ pub record Before : Type 0 where
 -- the events of a step
 abbrev pub events_in : MasterNode → List Event
 events_in m = listed_last m.list.rows.items m.list.first m.list.count
+
+-- the events before the step: behind a frame those of the frame's making
+abbrev pub events_before : MasterNode → List Event
+events_before m = listed_before m.list.rows.items m.list.first m.list.count
 
 -- where something came into hand, that; else nothing
 abbrev pub where_began : Bool → Option Coming → Option Coming

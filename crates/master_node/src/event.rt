@@ -58,7 +58,7 @@ pub struct EventList {
 
 impl EventList {
     ghost use Rattle.std.specs.Prelude.{◌≡◌, ◌≤◌, ◌<◌, ◌+◌, ◌++◌, ◌∷◌, [], IfOk, take};
-    ghost use Rattle.master_node.specs.Listed.{listed, listed_last};
+    ghost use Rattle.master_node.specs.Listed.{listed, listed_before, listed_last};
 
     /// No event. The memory for the events of a frame is taken here.
     pub fn new(alloc: Global) -> Result<EventList, NoMemory>
@@ -81,6 +81,7 @@ impl EventList {
         ensures all { listed self.new.rows.items self.new.count ≡ [] }
         ensures last { listed_last self.new.rows.items self.new.first self.new.count ≡ [] }
         ensures none { self.new.count ≡ 0 }
+        ensures before { listed_before self.new.rows.items self.new.first self.new.count ≡ [] }
     {
         self.count = 0;
         self.before = 0;
@@ -92,6 +93,7 @@ impl EventList {
         ensures before { self.new.before ≡ self.old.count }
         ensures all { listed self.new.rows.items self.new.count ≡ listed self.old.rows.items self.old.count }
         ensures last { listed_last self.new.rows.items self.new.first self.new.count ≡ listed_last self.old.rows.items self.old.first self.old.count }
+        ensures rows { (self.new.rows ≡ self.old.rows) × (self.new.count ≡ self.old.count) × (self.new.first ≡ self.old.first) }
     {
         self.before = self.count;
     }
@@ -101,6 +103,7 @@ impl EventList {
         ensures all { listed self.new.rows.items self.new.count ≡ take self.old.before self.old.rows.items }
         ensures last { listed_last self.new.rows.items self.new.first self.new.count ≡ [] }
         ensures few { self.new.count ≡ self.old.before }
+        ensures head { listed_before self.new.rows.items self.new.first self.new.count ≡ take self.old.before self.old.rows.items }
     {
         self.count = self.before;
         self.first = self.before;
@@ -111,6 +114,7 @@ impl EventList {
         ensures all { self.old.count < 97 → listed self.new.rows.items self.new.count ≡ listed self.old.rows.items self.old.count ++ event ∷ [] }
         ensures last { self.old.count < 97 → listed_last self.new.rows.items self.new.first self.new.count ≡ listed_last self.old.rows.items self.old.first self.old.count ++ event ∷ [] }
         ensures before { self.new.before ≡ self.old.before }
+        ensures head { listed_before self.new.rows.items self.new.first self.new.count ≡ listed_before self.old.rows.items self.old.first self.old.count }
         ensures few { self.new.count ≤ self.old.count + 1 }
     {
         if self.count < self.rows.len() {

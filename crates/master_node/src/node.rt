@@ -62,7 +62,7 @@ impl MasterNode {
     ghost use Rattle.master_node.specs.Shows.{WaitsNone};
     ghost use Rattle.master_node.specs.Kept.{TourKept, TourOn};
     ghost use Rattle.master_node.specs.Coming.{PassesBy, CameBy};
-    ghost use Rattle.std.specs.Prelude.{◌⊎◌, ◌+◌, [], nat_lt, map, if◌then◌else◌};
+    ghost use Rattle.std.specs.Prelude.{◌⊎◌, ◌+◌, [], nat_lt, map, take, if◌then◌else◌};
     ghost use Rattle.life_runs.specs.of_frame_view.View.{Lens};
     ghost use Rattle.life_runs.specs.of_frame_view.Seen.{seen};
     ghost use Rattle.life_runs.specs.of_life_frames.Shares.{AreDistinct};
@@ -87,7 +87,7 @@ impl MasterNode {
     ghost use Rattle.master_node.specs.Entering.{AllStopsRest, EntersFirst, HostMayEnter};
     ghost use Rattle.master_node.specs.Made.{Makes, AreOfMaking};
     ghost use Rattle.master_node.specs.Resting.{AllRest, StopRests};
-    ghost use Rattle.master_node.specs.Listing.{Before, IsUnlisted, ListsOne, ServicesBegin, where_began};
+    ghost use Rattle.master_node.specs.Listing.{Before, IsUnlisted, ListsOne, ServicesBegin, events_before, events_in, where_began};
     ghost use Rattle.master_node.specs.Origins.{forwards_at};
     ghost use Rattle.master_node.specs.Begins.{HasTaken, NoneMore, PacketsBegin, TakesOn, taken_for, taken_where};
 
@@ -177,6 +177,7 @@ impl MasterNode {
         ensures takes { TakesOn (taken_for self.old.lan place coming) self.old.lan self.new.lan }
         ensures fewer { NoneMore self.old.lan self.new.lan }
         ensures events { self.new.list.count ≤ self.old.list.count + 1 }
+        ensures head { events_before self.new ≡ events_before self.old }
         ensures lists { StepsAt (λ p q. ListsOne place coming self.old self.new p q) place self.old.posts.items self.new.posts.items }
         ensures mails { mails_in self.new ≡ mails_in self.old }
         ensures works { StepsAt (λ p q. q.work ≡ work_from coming p) place self.old.posts.items self.new.posts.items }
@@ -208,6 +209,7 @@ impl MasterNode {
         ensures takes { TakesOn (taken_where began self.old.lan place coming) self.old.lan self.new.lan }
         ensures fewer { NoneMore self.old.lan self.new.lan }
         ensures events { self.new.list.count ≤ self.old.list.count + 1 }
+        ensures head { events_before self.new ≡ events_before self.old }
         ensures lists { StepsAt (λ p q. ListsOne place (where_began began coming) self.old self.new p q) place self.old.posts.items self.new.posts.items }
         ensures mails { mails_in self.new ≡ mails_in self.old }
         ensures works { StepsAt (λ p q. q.work ≡ work_from (where_began began coming) p) place self.old.posts.items self.new.posts.items }
@@ -240,6 +242,7 @@ impl MasterNode {
         ensures made { Makes self.old.lan self.new.lan }
         ensures eager { All WaitsNone self.old.posts.items → holds_at (λ s. s.under) self.old.tour.stops.items place ≡ false → EagerOn self.old self.new }
         ensures events { self.new.list.count ≤ self.old.list.count + 1 }
+        ensures head { events_before self.new ≡ events_before self.old }
         ensures serves { (lens : ℕ → Lens) (recover made : ℕ) (forwards : ℕ → ℕ) (left next : List ℕ) (ws : List Serves) → self.old.list.count < 97 → AreDistinct (map (λ w. lived_of (run_lead w)) ws) → is_in place left ≡ true → is_in place next ≡ false → ((k : ℕ) → is_in k next ≡ true → is_in k left ≡ true) →
             IsPassing lens recover made forwards left self.old into.old.items ws → IsPassing lens recover made forwards (if result then next else left) self.new into.new.items ws }
     {
@@ -270,6 +273,7 @@ impl MasterNode {
         ensures serves { (lens : ℕ → Lens) (recover made : ℕ) (forwards : ℕ → ℕ) (ws : List Serves) → AreDistinct (map (λ w. lived_of (run_lead w)) ws) → ((left : List ℕ) → IsPassing lens recover made forwards left self.old into.old.items ws) → BeginsFrame self.old into.old.items (map run_lead ws) →
             (left : List ℕ) × IsPassing lens recover made forwards left self.new into.new.items ws × EndsFrame left self.new (map run_lead ws) }
         ensures events { self.new.list.count ≤ self.old.list.count + 16 }
+        ensures head { events_before self.new ≡ events_before self.old }
     {
         for _ in 0..SLAVES {
             let Some(place) = self.tour.due() else {
@@ -299,6 +303,7 @@ impl MasterNode {
         ensures serves { (lens : ℕ → Lens) (recover retry missed made : ℕ) (forwards : ℕ → ℕ) (ws : List Serves) → list_any (λ s. is_live s.stand) self.old.tour.stops.items ≡ true → suc made < 2 ^ 32 → IsUnlisted forwards self.old → ServedShows lens recover retry self.old missed made ws →
             (vs : List ServedTurn) × IsServedFrame lens made into.new.items ws vs × ServedUnder lens recover retry (record self.new { made = suc made }) into.new.items missed made vs × (self.new.made ≡ made) × ServedBegin forwards ws vs self.new }
         ensures events { self.new.list.count ≤ self.old.list.count + 16 }
+        ensures head { events_before self.new ≡ events_before self.old }
     {
         self.tour.begin(into);
         self.fill(into);
@@ -312,6 +317,7 @@ impl MasterNode {
     /// what is remembered of its visits; and behind its visit no mail is left that could be held. Where each slave was given up for good or rests and no packet
     /// waits at any port, a packet of the host comes in, if one is left. The packets that came into hand are just those that leave their ports of the switch, each the oldest there.
     /// Just the services that came into hand are listed as begun, each with where it comes from and its number there.
+    /// The events of the frame are then those of its making, and just these stand before those of its return or loss.
     /// Of a slave that has no datagram in the frame nothing came into hand. While mails are passed on the frame is just so that of a serving, and a mail that
     /// came into hand is listed by its number among all that were asked of its slave.
     pub fn next(&mut self, into: &mut FrameBuf) -> Next
@@ -336,6 +342,7 @@ impl MasterNode {
         ensures services { result ≡ Next.Frame → (lens : ℕ → Lens) (recover retry missed made : ℕ) (ws : List Serves) → suc made < 2 ^ 32 → ServedShows lens recover retry self.old missed made ws →
             (vs : List ServedTurn) × IsServedFrame lens made into.new.items ws vs × ServedUnder lens recover retry self.new into.new.items missed made vs × ServedBegin (λ k. forwards_at self.old.posts.items k) ws vs self.new }
         ensures few { self.new.list.before ≤ 16 }
+        ensures whole { (listed self.new.list.rows.items self.new.list.count ≡ events_in self.new) × (take self.new.list.before self.new.list.rows.items ≡ events_in self.new) }
     {
         self.list.clear();
         self.lan.begins();

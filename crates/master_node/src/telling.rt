@@ -21,7 +21,7 @@ fn is_given_up(news: Option<Turned>) -> bool
 }
 
 impl MasterNode {
-    ghost use Rattle.std.specs.Prelude.{◌≡◌, ◌<◌, ◌&&◌, not, ℕ, Option, List, map, length, slice_get};
+    ghost use Rattle.std.specs.Prelude.{◌≡◌, ◌<◌, ◌≤◌, ◌&&◌, not, ℕ, Option, List, map, length, slice_get};
     ghost use Rattle.master_tour.specs.Goes.{is_live, holds_at};
     ghost use Rattle.master_node.specs.Arrivals.{arrive_by, arrivals_in, packets_of, kept_at, heard_at, completed_at, ComeIn};
     ghost use Rattle.master_node.specs.Downs.{Lists, down_by, downs_in, is_given_up, gives_at, GoDown};
@@ -40,12 +40,12 @@ impl MasterNode {
     ghost use Rattle.master_node.specs.Shows.{MasterShows, MasterUnder};
     ghost use Rattle.master_node.specs.Serving.{TellsOnly, ServedShows, ServedUnder, mails_in};
     ghost use Rattle.master_node.specs.Dropped.{Drops, gave_at};
-    ghost use Rattle.master_node.specs.Besides.{TellsBesides, TellsHeard, TellsOver, gateway_at, over_told, reply_told, told_by, turned_room};
-    ghost use Rattle.master_node.specs.Listing.{told_in};
-    ghost use Rattle.master_node.specs.Gateways.{TellsGateway, TellsNone, lives_told};
-    ghost use Rattle.master_hand.specs.Replied.{reply_kept};
+    ghost use Rattle.master_node.specs.Besides.{DoesAt, DoesSo, TellsAll, accepted_does, answers, back_does, back_told, complete_does, emitted_does, given_at, handed_does, heard_does, is_state, met_does, over_does, passed_does, replied_does, turned_does};
+    ghost use Rattle.master_node.specs.Listed.{listed};
+    ghost use Rattle.master_node.specs.Listing.{events_before, events_in, told_in};
+    ghost use Rattle.master_node.specs.Gateways.{TellsGateway, lives_told};
+    ghost use Rattle.master_node.specs.Lifetold.{TellsJust, lost_at};
     ghost use Rattle.master_tour.specs.Orders.{AreOnce};
-    ghost use Rattle.std.specs.Prelude.{Some};
     ghost use Rattle.master_node.specs.Handed.{DropsWork, EndsWork, NonePassed, passing_at, work_at};
     ghost use Rattle.master_node.specs.declared.post.Work.{Work};
     ghost use Rattle.master_tour.specs.Walks.{StepsAt};
@@ -55,7 +55,7 @@ impl MasterNode {
     ghost use Rattle.master_tour.specs.Toured.{goes_on, lost_on};
     ghost use Rattle.master_node.specs.Shows.{is_opening_lead};
     ghost use Rattle.master_node.specs.Toured.{tour_of};
-    ghost use Rattle.std.specs.Prelude.{[], true};
+    ghost use Rattle.std.specs.Prelude.{[], ◌++◌, take, true};
     ghost use Rattle.master_node.specs.Eager.{AllVisit, recalls};
     ghost use Rattle.master_node.specs.Recalled.{AllRecall};
 
@@ -67,7 +67,7 @@ impl MasterNode {
         ensures lan { self.new.lan ≡ self.old.lan }
         ensures tells { TellsOnly self.old self.new }
         ensures works { StepsAt (λ p q. q.work ≡ Work.Nothing) place self.old.posts.items self.new.posts.items }
-        ensures gateway { TellsBesides 1 [] self.old self.new }
+        ensures told { DoesAt place (answers place kind) self.old self.new }
     {
         let post = &mut self.posts[place];
         post.work = Work::Nothing;
@@ -78,7 +78,24 @@ impl MasterNode {
         });
     }
 
-    // The mail heard last was an emergency, or the last fragment of a packet, or neither.
+    // The mail heard last was an emergency, or wasn't.
+    fn alerted(&mut self, place: usize)
+        requires { place < vec_len self.old.posts }
+        ensures posts { self.new.posts ≡ self.old.posts }
+        ensures lan { self.new.lan ≡ self.old.lan }
+        ensures tour { (self.new.tour ≡ self.old.tour) × (self.new.made ≡ self.old.made) }
+        ensures told { DoesSo (λ s w. emitted_does place s w) place self.old self.new }
+    {
+        if let Some(octets) = self.tour.stops[place].side.hand.emergency() {
+            let octets = buffer_of(octets.as_slice());
+            self.list.put(Event::Emergency {
+                slave: place as u32,
+                octets,
+            });
+        }
+    }
+
+    // It was one, or the last fragment of a packet, or neither.
     fn emitted(&mut self, place: usize)
         requires { place < vec_len self.old.posts }
         ensures posts { vec_len self.new.posts ≡ vec_len self.old.posts }
@@ -87,17 +104,10 @@ impl MasterNode {
         ensures listed { Lists (arrive_by (port_by (slice_get self.old.lan.ports.items place)) (kept_at self.old.tour.stops.items place)) self.old.lan self.new.lan }
         ensures tells { TellsOnly self.old self.new }
         ensures works { EndsWork (λ k. passing_at self.old.tour.stops.items k) [] self.old.posts.items self.new.posts.items }
-        ensures gateway { TellsBesides 1 [] self.old self.new }
+        ensures told { DoesSo (λ s w. emitted_does place s w) place self.old self.new }
     {
-        let hand = &self.tour.stops[place].side.hand;
-        if let Some(octets) = hand.emergency() {
-            let octets = buffer_of(octets.as_slice());
-            self.list.put(Event::Emergency {
-                slave: place as u32,
-                octets,
-            });
-        }
-        if let Some(packet) = hand.packet() {
+        self.alerted(place);
+        if let Some(packet) = self.tour.stops[place].side.hand.packet() {
             let packet = buffer_of(packet.as_slice());
             self.lan.came(place, packet);
         }
@@ -111,7 +121,7 @@ impl MasterNode {
         ensures lan { self.new.lan ≡ self.old.lan }
         ensures tells { TellsOnly self.old self.new }
         ensures works { EndsWork (λ k. passing_at self.old.tour.stops.items k) [] self.old.posts.items self.new.posts.items }
-        ensures gateway { TellsBesides 1 (told_by (λ s. reply_told key (reply_kept s.side.hand.found)) self.old.tour.stops.items place) self.old self.new }
+        ensures told { DoesSo (λ s w. replied_does key s w) place self.old self.new }
     {
         if let Some(mail) = self.tour.stops[place].side.hand.replied() {
             let mail = bare(mail);
@@ -127,15 +137,15 @@ impl MasterNode {
         ensures lan { self.new.lan ≡ self.old.lan }
         ensures tells { TellsOnly self.old self.new }
         ensures works { NonePassed self.old.posts.items place → EndsWork (λ k. passing_at self.old.tour.stops.items k) [] self.old.posts.items self.new.posts.items }
-        ensures gateway { TellsBesides 1 [] self.old self.new }
+        ensures told { DoesSo (λ s w. complete_does place s w) place self.old self.new }
     {
         if let Some(kind) = self.tour.stops[place].side.hand.answer() {
             self.answered(place, kind);
         }
     }
 
-    // A mail was accepted.
-    fn heard(&mut self, place: usize, what: Heard)
+    // A mail was accepted. A service by mails has no answer before its last reply.
+    fn heard(&mut self, place: usize)
         requires { place < vec_len self.old.posts }
         ensures posts { vec_len self.new.posts ≡ vec_len self.old.posts }
         ensures kept { NodeKept self.old self.new }
@@ -143,16 +153,12 @@ impl MasterNode {
         ensures listed { Lists (arrive_by (port_by (slice_get self.old.lan.ports.items place)) (kept_at self.old.tour.stops.items place)) self.old.lan self.new.lan }
         ensures tells { TellsOnly self.old self.new }
         ensures works { EndsWork (λ k. passing_at self.old.tour.stops.items k) [] self.old.posts.items self.new.posts.items }
-        ensures gateway { TellsHeard place (Some what) self.old self.new }
+        ensures told { DoesSo (λ s w. accepted_does place s w) place self.old self.new }
     {
         self.emitted(place);
         match self.posts[place].work {
             Work::Passed { key } => self.replied(place, key),
-            Work::Mails => {
-                if matches!(what, Heard::Last) {
-                    self.complete(place);
-                }
-            }
+            Work::Mails => self.complete(place),
             Work::Nothing | Work::State | Work::Packet => {}
         }
     }
@@ -165,7 +171,7 @@ impl MasterNode {
         ensures lan { self.new.lan ≡ self.old.lan }
         ensures tells { TellsOnly self.old self.new }
         ensures works { NonePassed self.old.posts.items place → EndsWork (λ k. passing_at self.old.tour.stops.items k) [] self.old.posts.items self.new.posts.items }
-        ensures gateway { TellsBesides 1 [] self.old self.new }
+        ensures told { DoesSo (λ s w. handed_does place s w) place self.old self.new }
     {
         if self.tour.stops[place].side.is_free() {
             self.answered(place, ReplyKind::Handed);
@@ -180,7 +186,7 @@ impl MasterNode {
         ensures lan { self.new.lan ≡ self.old.lan }
         ensures tells { TellsOnly self.old self.new }
         ensures works { EndsWork (λ k. passing_at self.old.tour.stops.items k) (place ∷ []) self.old.posts.items self.new.posts.items }
-        ensures gateway { TellsBesides 2 (told_by (λ s. over_told key s.side.passing) self.old.tour.stops.items place) self.old self.new }
+        ensures told { DoesSo (λ s w. passed_does place key s w) place self.old self.new }
     {
         if self.tour.stops[place].side.passing.is_none() {
             self.answered(place, ReplyKind::Handed);
@@ -196,12 +202,13 @@ impl MasterNode {
         ensures lan { self.new.lan ≡ self.old.lan }
         ensures tells { TellsOnly self.old self.new }
         ensures works { NonePassed self.old.posts.items place → EndsWork (λ k. passing_at self.old.tour.stops.items k) [] self.old.posts.items self.new.posts.items }
-        ensures gateway { TellsBesides 1 [] self.old self.new }
+        ensures told { DoesSo (λ s w. met_does place s w) place self.old self.new }
     {
         match self.tour.stops[place].side.duty {
             Some(Met::Reached) => self.answered(place, ReplyKind::Done),
             Some(Met::Refused(code)) => self.answered(place, ReplyKind::StateRefused(code)),
-            Some(Met::On(_)) | None => {}
+            Some(Met::On(_)) => {}
+            None => {}
         }
     }
 
@@ -213,7 +220,7 @@ impl MasterNode {
         ensures lan { self.new.lan ≡ self.old.lan }
         ensures tells { TellsOnly self.old self.new }
         ensures works { EndsWork (λ k. passing_at self.old.tour.stops.items k) (place ∷ []) self.old.posts.items self.new.posts.items }
-        ensures gateway { TellsOver place self.old self.new }
+        ensures told { DoesSo (λ s w. over_does place s w) place self.old self.new }
     {
         match self.posts[place].work {
             Work::Nothing | Work::Mails => {}
@@ -226,7 +233,7 @@ impl MasterNode {
     // Whether a change of state is in hand.
     fn has_state(&self, place: usize) -> bool
         requires { place < vec_len self.now.posts }
-        ensures { result ≡ true → work_at self.now.posts.items place ≡ Work.State }
+        ensures { result ≡ is_state (work_at self.now.posts.items place) }
     {
         matches!(self.posts[place].work, Work::State)
     }
@@ -239,7 +246,7 @@ impl MasterNode {
         ensures lan { self.new.lan ≡ self.old.lan }
         ensures tells { TellsOnly self.old self.new }
         ensures works { EndsWork (λ k. passing_at self.old.tour.stops.items k) [] self.old.posts.items self.new.posts.items }
-        ensures gateway { TellsBesides (turned_room (work_at self.old.posts.items place)) [] self.old self.new }
+        ensures told { DoesSo (λ s w. turned_does place s w) place self.old self.new }
     {
         let slave = place as u32;
         let own = self.has_state(place);
@@ -251,7 +258,8 @@ impl MasterNode {
                     self.answered(place, ReplyKind::Done);
                 }
             }
-            Some(Turned::GivenUp) | None => {}
+            Some(Turned::GivenUp) => {}
+            None => {}
         }
     }
 
@@ -264,10 +272,10 @@ impl MasterNode {
         ensures listed { Lists (arrive_by (port_by (slice_get self.old.lan.ports.items place)) (packets_of what (kept_at self.old.tour.stops.items place))) self.old.lan self.new.lan }
         ensures tells { TellsOnly self.old self.new }
         ensures works { EndsWork (λ k. passing_at self.old.tour.stops.items k) [] self.old.posts.items self.new.posts.items }
-        ensures gateway { TellsHeard place what self.old self.new }
+        ensures told { DoesSo (λ s w. heard_does place what s w) place self.old self.new }
     {
-        if let Some(what) = what {
-            self.heard(place, what);
+        if what.is_some() {
+            self.heard(place);
         }
     }
 
@@ -280,7 +288,7 @@ impl MasterNode {
         ensures listed { Lists (arrive_by (port_by (slice_get self.old.lan.ports.items place)) (heard_at self.old.tour.stops.items place)) self.old.lan self.new.lan }
         ensures tells { TellsOnly self.old self.new }
         ensures works { EndsWork (λ k. passing_at self.old.tour.stops.items k) (place ∷ []) self.old.posts.items self.new.posts.items }
-        ensures gateway { TellsBesides 5 (gateway_at self.old place) self.old self.new }
+        ensures told { DoesSo (λ s w. back_does place s w) place self.old self.new }
     {
         let what = self.tour.stops[place].side.heard;
         self.heard_where(place, what);
@@ -296,7 +304,7 @@ impl MasterNode {
         ensures listed { Lists (arrive_by (port_by (slice_get self.old.lan.ports.items place)) (heard_at self.old.tour.stops.items place)) self.old.lan self.new.lan }
         ensures tells { TellsOnly self.old self.new }
         ensures works { EndsWork (λ k. passing_at self.old.tour.stops.items k) (place ∷ []) self.old.posts.items self.new.posts.items }
-        ensures gateway { TellsBesides 5 (gateway_at self.old place) self.old self.new }
+        ensures told { DoesSo (λ s w. back_does place s w) place self.old self.new }
     {
         if place < self.posts.len() {
             self.back(place);
@@ -311,7 +319,8 @@ impl MasterNode {
         ensures listed { Lists (arrivals_in self.old.lan.ports.items (λ p. heard_at self.old.tour.stops.items p) self.old.tour.visit.items) self.old.lan self.new.lan }
         ensures tells { TellsOnly self.old self.new }
         ensures works { EndsWork (λ k. passing_at self.old.tour.stops.items k) self.old.tour.visit.items self.old.posts.items self.new.posts.items }
-        ensures gateway { AreOnce self.old.tour.visit.items → TellsBesides 80 (told_in (gateway_at self.old) self.old.tour.visit.items) self.old self.new }
+        ensures head { events_before self.new ≡ events_before self.old }
+        ensures told { AreOnce self.old.tour.visit.items → TellsAll (told_in (back_told self.old) self.old.tour.visit.items) self.old self.new }
     {
         for k in 0..self.tour.visit.len() {
             let place = self.tour.visit.as_slice()[k];
@@ -339,6 +348,7 @@ impl MasterNode {
             AllVisit (seen lens octets) (recalls self.old) us → AllRecall lens (seen lens frame.now.items) us (recalls self.old) (recalls self.new) }
         ensures gateway { (lens : ℕ → Lens) (recover retry missed made : ℕ) (octets : List ℕ) (vs : List ServedTurn) (f : Exchanged) → f.fate ≡ Fate.Pass → f.back ≡ frame.now.items → ServedUnder lens recover retry self.old octets missed made vs → Returns (seen lens octets) (seen lens frame.now.items) →
             TellsGateway (λ k. lives_told (seen lens frame.now.items) vs (map (served_behind lens recover retry (gives_up_at lens recover retry missed) made f) vs) k) self.old self.new }
+        ensures whole { listed self.new.list.rows.items self.new.list.count ≡ take self.old.list.before self.old.list.rows.items ++ events_in self.new }
     {
         self.list.ends();
         self.lan.begins();
@@ -355,7 +365,7 @@ impl MasterNode {
         ensures tour { self.new.tour ≡ self.old.tour }
         ensures mails { StepsAt (λ ks ls. ls ≡ []) place (mails_in self.old) (mails_in self.new) }
         ensures works { StepsAt (λ p q. q.work ≡ Work.Nothing) place self.old.posts.items self.new.posts.items }
-        ensures gateway { TellsBesides 0 [] self.old self.new }
+        ensures list { self.new.list ≡ self.old.list }
     {
         self.posts[place].drop_all();
     }
@@ -370,7 +380,7 @@ impl MasterNode {
         ensures mails { mails_in self.new ≡ mails_in self.old }
         ensures listed { Lists (down_by (port_by (slice_get self.old.lan.ports.items place)) (holds_at (λ s. not (is_live s.stand)) self.old.tour.stops.items place)) self.old.lan self.new.lan }
         ensures works { self.new.posts ≡ self.old.posts }
-        ensures gateway { TellsBesides 0 [] self.old self.new }
+        ensures list { self.new.list ≡ self.old.list }
     {
         if !self.tour.stops[place].is_live() {
             self.lan.down(place);
@@ -387,7 +397,7 @@ impl MasterNode {
         ensures mails { Drops (λ p. gave_at self.old.tour.stops.items p) (place ∷ []) (mails_in self.old) (mails_in self.new) }
         ensures listed { Lists (down_by (port_by (slice_get self.old.lan.ports.items place)) (gives_at self.old.tour.stops.items place)) self.old.lan self.new.lan }
         ensures works { DropsWork (λ p. gave_at self.old.tour.stops.items p) (place ∷ []) self.old.posts.items self.new.posts.items }
-        ensures gateway { TellsBesides 1 [] self.old self.new }
+        ensures told { TellsAll (given_at self.old.tour.stops.items place) self.old self.new }
     {
         if !is_given_up(self.tour.stops[place].news) {
             return;
@@ -408,7 +418,7 @@ impl MasterNode {
         ensures mails { Drops (λ p. gave_at self.old.tour.stops.items p) (place ∷ []) (mails_in self.old) (mails_in self.new) }
         ensures listed { Lists (down_by (port_by (slice_get self.old.lan.ports.items place)) (gives_at self.old.tour.stops.items place)) self.old.lan self.new.lan }
         ensures works { DropsWork (λ p. gave_at self.old.tour.stops.items p) (place ∷ []) self.old.posts.items self.new.posts.items }
-        ensures gateway { TellsBesides 1 [] self.old self.new }
+        ensures told { TellsAll (given_at self.old.tour.stops.items place) self.old self.new }
     {
         if place < self.posts.len() {
             self.given_up(place);
@@ -424,7 +434,8 @@ impl MasterNode {
         ensures mails { Drops (λ p. gave_at self.old.tour.stops.items p) self.old.tour.visit.items (mails_in self.old) (mails_in self.new) }
         ensures listed { Lists (downs_in self.old.lan.ports.items (λ p. gives_at self.old.tour.stops.items p) self.old.tour.visit.items) self.old.lan self.new.lan }
         ensures works { DropsWork (λ p. gave_at self.old.tour.stops.items p) self.old.tour.visit.items self.old.posts.items self.new.posts.items }
-        ensures gateway { TellsBesides 16 [] self.old self.new }
+        ensures told { TellsAll (told_in (λ k. given_at self.old.tour.stops.items k) self.old.tour.visit.items) self.old self.new }
+        ensures few { length self.old.tour.visit.items ≤ 16 }
     {
         for k in 0..self.tour.visit.len() {
             let place = self.tour.visit.as_slice()[k];
@@ -432,7 +443,7 @@ impl MasterNode {
         }
     }
 
-    /// The frame that `next` made was lost. Nothing is told to who asked for a mail to be passed on.
+    /// The frame that `next` made was lost. Just that slaves were given up is told.
     pub fn lost(&mut self)
         ensures posts { vec_len self.new.posts ≡ vec_len self.old.posts }
         ensures leads { (lens : ℕ → Lens) (recover retry missed number after : ℕ) (octets : List ℕ) (us : List Turn) (f : Exchanged) → f.fate ≡ Fate.Lost after → f.sent ≡ octets → MasterUnder lens recover retry self.old octets missed us →
@@ -448,7 +459,9 @@ impl MasterNode {
             ServedShows lens recover retry self.new (missed_behind lens recover retry f.fate missed) (suc made) (map (served_behind lens recover retry (gives_up_at lens recover retry missed) made f) vs) }
         ensures counts { (k : ℕ) → forwards_at self.new.posts.items k ≡ forwards_at self.old.posts.items k }
         ensures recalls { (lens : ℕ → Lens) (recover retry missed : ℕ) (octets : List ℕ) (us : List Turn) → MasterUnder lens recover retry self.old octets missed us → AllRecall lens [] us (recalls self.old) (recalls self.new) }
-        ensures gateway { TellsNone self.old self.new }
+        ensures told { (lens : ℕ → Lens) (recover retry missed made after : ℕ) (octets : List ℕ) (vs : List ServedTurn) (f : Exchanged) → f.fate ≡ Fate.Lost after → f.sent ≡ octets → ServedUnder lens recover retry self.old octets missed made vs →
+            TellsJust (λ k. lost_at vs (map (served_behind lens recover retry (gives_up_at lens recover retry missed) made f) vs) k) self.old self.new }
+        ensures whole { listed self.new.list.rows.items self.new.list.count ≡ take self.old.list.before self.old.list.rows.items ++ events_in self.new }
     {
         self.list.ends();
         self.lan.begins();

@@ -48,13 +48,14 @@ fn gave_more(stand: Stand, spare: u32, recover: u32, times: usize) -> bool
 }
 
 impl MasterNode {
-    ghost use Rattle.std.specs.Prelude.{◌≡◌, ◌<◌, ℕ, List, All, IfSome, true, nat_lt, length, slice_get, vec_len};
+    ghost use Rattle.std.specs.Prelude.{◌≡◌, ◌<◌, ℕ, List, All, IfSome, true, nat_lt, length, map, slice_get, vec_len};
     ghost use Rattle.std.specs.Bool.{OnTrue, OnFalse};
     ghost use Rattle.std.specs.List.{list_any};
     ghost use Rattle.life_runs.specs.of_frame_view.View.{Lens};
     ghost use Rattle.life_runs.specs.Led.{Leads};
     ghost use Rattle.master_tour.specs.Goes.{is_live, holds_at};
-    ghost use Rattle.master_node.specs.Shows.{MasterShows};
+    ghost use Rattle.master_node.specs.Shows.{MasterShows, lived_of};
+    ghost use Rattle.master_node.specs.Told.{HasLives};
     ghost use Rattle.std.specs.Prelude.{[], false};
     ghost use Rattle.master_node.specs.Eager.{recalls};
     ghost use Rattle.master_node.specs.Forwards.{forwarded};
@@ -129,7 +130,7 @@ impl MasterNode {
     /// Whether a slave that is opened anew so often was given up more often than so.
     pub fn gave_up_more(&self, slave: u32, recover: u32, times: usize) -> bool
         requires { slave < vec_len self.now.posts }
-        ensures { (lens : ℕ → Lens) (retry missed : ℕ) (as' : List Leads) → MasterShows lens recover retry self.now missed as' →
+        ensures { (lens : ℕ → Lens) (as' : List Leads) → HasLives lens recover self.now (map lived_of as') →
             IfSome (slice_get as' slave) (λ a. IsCounted recover a.lived.life.stand (length (gave_of a)) → result ≡ nat_lt times (length (gave_of a))) }
     {
         let stop = &self.tour.stops[slave as usize];

@@ -83,6 +83,7 @@ module _ {H : Type 0} {G : Ghosts H} where
     pub replied : BackReplies s t counter octets
     pub joined : BackJoins s t counter octets
     pub knows : BackKnows s t counter octets
+    pub sure : G.knows t.hand ≡ true → G.knows s.hand ≡ true
 
   -- behind a read nothing changes but how far a mail has come that is passed on, and the frame of the last done one
   abbrev pub ReadsAlone : Side H G → Side H G → Type 0

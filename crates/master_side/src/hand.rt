@@ -128,6 +128,7 @@ pub trait Hand {
         ensures tells { (x : Speech Body Asked Reply) (now : Option (Row Body Asked Reply)) → shows self.old x now → awaits self.old ≡ true → (let b = Ok (uncounted (mail_seen mail.now)) in result ≡ told_as (x.emission b) (more b)) }
         ensures awaits { awaits self.old ≡ true → goes_on result ≡ true → awaits self.new ≡ true }
         ensures knows { (x : Speech Body Asked Reply) (now : Option (Row Body Asked Reply)) → shows self.old x now → knows self.old ≡ true → IsDue x now (Ok (uncounted (mail_seen mail.now))) → knows self.new ≡ true }
+        ensures sure { knows self.new ≡ true → knows self.old ≡ true }
         ensures brings { brings self.new (Ok (uncounted (mail_seen mail.now))) }
         ensures replied { replied self.new (awaits self.old) (Ok (uncounted (mail_seen mail.now))) }
         ensures join { join self.new ≡ joined (join self.old) (Ok (uncounted (mail_seen mail.now))) }

@@ -338,6 +338,7 @@ impl<H: Hand> Side<H> {
         ensures replied { HearsReplied self.old self.new mail.entry }
         ensures joined { HearsJoined self.old self.new mail.entry }
         ensures knows { HearsKnown self.old self.new mail.entry }
+        ensures sure { H.knows self.new.hand ≡ true → H.knows self.old.hand ≡ true }
     {
         if let Some(mail) = mail {
             let what = self.hand.hear(&mail);

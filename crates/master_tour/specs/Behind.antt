@@ -32,11 +32,13 @@ module _ {H : Type 0} {G : Ghosts H} where
     pub turn : t.turn ≡ turn_after s.carried (in_half_of s.inn).state counter s.turn
     pub duty : (frame : ℕ) → DutyShows (in_hand t.duty) (account_back s.station frame a (one b)).hand
 
-  -- A SLAVE BEHIND A FRAME THAT CAME BACK: an open one by its datagram, if the frame had one; and its hand knows its mails as long as each mail of it is due
+  -- A SLAVE BEHIND A FRAME THAT CAME BACK: an open one by its datagram, if the frame had one; and its hand knows its mails as long as each mail of it is
+  -- due. That of an open one knows them behind it only where it did before
   pub record StopBack {Q : Type 0} (x : Speech Body Q Reply) (spot : Spot) (l : Life Body Q Reply) (back : Grams) (knew knows : Bool) (s t : Stop H G) : Type 0 where
     pub visited : s.stand ≡ Stand.Open → s.under ≡ true → (b : Datagram Body) → mine s.side.station back ≡ one b → VisitBack l.era.account b s.side t.side
     pub unvisited : s.stand ≡ Stand.Open → s.under ≡ false → SameRecall knew knows s.side t.side
     pub known : knew ≡ true → (l.stand ≡ Lives.Stand.Open → EachDue x l.era.side.now (accepted_in spot l back)) → knows ≡ true
+    pub sure : s.stand ≡ Stand.Open → knows ≡ true → knew ≡ true
 
   -- BEHIND ONE THAT WAS LOST: nothing changes, unless the slave is given up
   abbrev pub StopLost : Bool → Bool → Bool → Stop H G → Stop H G → Type 0

@@ -154,6 +154,7 @@ impl<H: Hand> Stop<H> {
         ensures knows { (x : Speech Body H.Asked Reply) (lens : ℕ → Lens) (back : List (Datagram Body)) (d : Seats.Side Body H.Asked Reply) (a : Account H.Asked Reply) → back ≡ seen lens octets.now →
             ShowsOf self.old.side x d a → Under self.old.side.station self.old.at self.old.under self.old.side.carried d.halves (duty_access a.hand) back →
             H.knows self.old.side.hand ≡ true → EachDue x d.now (all_accepted self.old.side.station d.halves (grams back)) → H.knows self.new.side.hand ≡ true }
+        ensures sure { H.knows self.new.side.hand ≡ true → H.knows self.old.side.hand ≡ true }
         ensures counts { (x : Speech Body H.Asked Reply) (lens : ℕ → Lens) (counts : Bool) (back : List (Datagram Body)) (d : Seats.Side Body H.Asked Reply) (a : Account H.Asked Reply) → back ≡ seen lens octets.now →
             ShowsOf self.old.side x d a → Under self.old.side.station self.old.at self.old.under self.old.side.carried d.halves (duty_access a.hand) back → CountsAt self.old.side.read_at self.old.side.pace made counts →
             CountsAt self.new.side.read_at self.new.side.pace (suc made) (counts_behind self.old.side.station self.old.side.pace made back counts) }

@@ -5,7 +5,8 @@ use Rattle.master_node.specs.of_life_runs.Led.{Leads}
 use Rattle.master_node.specs.Wants.{gave_of, IsCounted, AllCounted}
 use Rattle.run_notes.specs.declared.notes.Notes.{Notes}
 use Rattle.run_notes.specs.Slaves.{gaves_noted}
-use Rattle.master_node.specs.Shows.{MasterShows}
+use Rattle.master_node.specs.Shows.{lived_of}
+use Rattle.master_node.specs.Told.{HasLives}
 use Rattle.master_node.specs.declared.node.MasterNode.{MasterNode}
 use Rattle.segment_ring.specs.declared.wire.Fate.{Fate}
 use Rattle.segment_ring.specs.declared.wire.Fate.TheVariants.{Pass, Lost}
@@ -90,8 +91,8 @@ gave_there (m ∷ notes) (suc place) d l = gave_there notes place d (omega (arit
 pub gave_after : (fate : Fate) (frame : ℕ) (m : MasterNode) (a b c : Log) → SameSlaves a b → gaves_noted b.notes ≡ gaves_noted a.notes → GaveBy fate frame m b c → GaveBy fate frame m a c
 gave_after Pass frame m a b c same e by = by ∙ e
 gave_after (Lost after) frame m a b c same e by =
-    λ lens retry missed leads shown all.
-    by lens retry missed leads (subst (λ (n : ℕ). MasterShows lens n retry m missed leads) (sym same.recover) shown) (subst (λ (n : ℕ). AllCounted n leads) (sym same.recover) all)
+    λ lens leads lives all.
+    by lens leads (subst (λ (n : ℕ). HasLives lens n m (map lived_of leads)) (sym same.recover) lives) (subst (λ (n : ℕ). AllCounted n leads) (sym same.recover) all)
     ∙ ap (gaves_behind frame (map gave_of leads)) e
 
 -- the give-ups of the notes at a place

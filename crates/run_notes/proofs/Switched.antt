@@ -10,7 +10,6 @@ use Rattle.master_node.proofs.Happenings.{events_push, handed_push}
 use Rattle.master_node.specs.Happened.{events_of, handed_by, handed_in, arrivals_at, NoneWaits, HasHappened, HappensSo}
 use Rattle.master_node.specs.declared.happened.Happening.{Happening}
 use Rattle.master_node.specs.declared.lan.Lan.{Lan}
-use Rattle.run_book.specs.Book.{IsNew}
 use Rattle.run_book.specs.Ports.{ports_of, IsAtPort}
 use Rattle.run_book.specs.declared.book.Book.{Book}
 use Rattle.segment_plan.specs.declared.plan.Scenario.{Scenario}

@@ -11,7 +11,8 @@ use Rattle.run_notes.specs.declared.notes.Notes.{Notes}
 use Rattle.run_notes.specs.declared.standing.Log.{Log}
 use Rattle.run_notes.specs.Notes.{new_notes, ended}
 use Rattle.master_node.specs.declared.node.MasterNode.{MasterNode}
-use Rattle.master_node.specs.Shows.{MasterShows}
+use Rattle.master_node.specs.Shows.{lived_of}
+use Rattle.master_node.specs.Told.{HasLives}
 use Rattle.master_node.specs.Wants.{gave_of, AllCounted}
 use Rattle.master_node.specs.of_life_runs.Led.{Leads}
 use Rattle.master_node.specs.of_frame_view.View.{Lens}
@@ -88,8 +89,11 @@ gave_at zero frame (now ∷ nows) (old ∷ olds) = (if nat_lt (length old) (leng
 gave_at (suc place) frame (now ∷ nows) (old ∷ olds) = old ∷ gave_at place frame nows olds
 gave_at place frame _ olds = olds
 
--- the give-ups that are noted behind a frame of this fate: those that the slaves have which this master leads
+-- what is so of the give-ups of all slaves, by their lives with this master, whatever is passed on to them
+abbrev pub GavesAll : ℕ → MasterNode → (List (List ℕ) → Type 0) → Type 0
+GavesAll recover m P = (lens : ℕ → Lens) (leads : List Leads) → HasLives lens recover m (map lived_of leads) → AllCounted recover leads → P (map gave_of leads)
+
+-- the give-ups that are noted behind a frame of this fate: those that the slaves have whose lives are with this master
 abbrev pub GaveBy : Fate → ℕ → MasterNode → Log → Log → Type 0
 GaveBy Pass frame m r r' = gaves_noted r'.notes ≡ gaves_noted r.notes
-GaveBy (Lost after) frame m r r' = (lens : ℕ → Lens) (retry missed : ℕ) (leads : List Leads) → MasterShows lens r.recover retry m missed leads → AllCounted r.recover leads →
-    gaves_noted r'.notes ≡ gaves_behind frame (map gave_of leads) (gaves_noted r.notes)
+GaveBy (Lost after) frame m r r' = GavesAll r.recover m (λ nows. gaves_noted r'.notes ≡ gaves_behind frame nows (gaves_noted r.notes))

@@ -1,13 +1,9 @@
-ghost use Rattle.std.specs.Prelude.{◌≡◌, ◌<◌, ◌≤◌, ◌+◌, ℕ, suc, List, length, map, vec_len, OnOk, Some, slice_get};
-ghost use Rattle.master_node.specs.of_frame_view.View.{Lens};
-ghost use Rattle.master_node.specs.of_life_runs.Led.{Leads};
-ghost use Rattle.master_node.specs.Shows.{MasterShows};
-ghost use Rattle.master_node.specs.Wants.{gave_of, AllCounted};
+ghost use Rattle.std.specs.Prelude.{◌≡◌, ◌<◌, ◌≤◌, ◌+◌, suc, length, vec_len, OnOk, Some, slice_get};
 ghost use Rattle.run_notes.specs.Heard.{emergencies_noted, HeardBy};
 ghost use Rattle.run_notes.specs.Slaves.{gaves_noted};
 ghost use Rattle.run_notes.specs.Packets.{begun_noted};
 ghost use Rattle.run_notes.specs.Reports.{ReportsTo, ReportsOn, ReportsBy, LosesAll};
-ghost use Rattle.run_notes.specs.Slaves.{SameFrames, SameSlaves, gave_at, gaves_behind, GaveBy};
+ghost use Rattle.run_notes.specs.Slaves.{SameFrames, SameSlaves, gave_at, gaves_behind, GaveBy, GavesAll};
 ghost use Rattle.run_notes.specs.Switched.{NotesSwitch};
 
 use crate::log::{Moment, station_of};
@@ -33,8 +29,7 @@ impl Log {
         requires homes { length self.old.homes ≡ length self.old.notes }
         requires posts { vec_len master.now.posts ≡ length self.old.notes }
         ensures slaves { SameSlaves self.old self.new }
-        ensures gave { OnOk result ((lens : ℕ → Lens) (retry missed : ℕ) (leads : List Leads) → MasterShows lens self.old.recover retry master.now missed leads → AllCounted self.old.recover leads →
-            gaves_noted self.new.notes ≡ gave_at at frame (map gave_of leads) (gaves_noted self.old.notes)) }
+        ensures gave { OnOk result (GavesAll self.old.recover master.now (λ nows. gaves_noted self.new.notes ≡ gave_at at frame nows (gaves_noted self.old.notes))) }
         ensures heard { OnOk result (emergencies_noted self.new.notes ≡ emergencies_noted self.old.notes) }
         ensures rows { OnOk result (begun_noted self.new.notes ≡ begun_noted self.old.notes) }
         ensures told { OnOk result (LosesAll frame self.old.recover master.now (λ as' bs. ReportsTo at as' bs self.old.notes → ReportsTo (suc at) as' bs self.new.notes)) }
@@ -59,8 +54,7 @@ impl Log {
         requires homes { length self.old.homes ≡ length self.old.notes }
         requires posts { vec_len master.now.posts ≡ length self.old.notes }
         ensures slaves { SameSlaves self.old self.new }
-        ensures gave { OnOk result ((lens : ℕ → Lens) (retry missed : ℕ) (leads : List Leads) → MasterShows lens self.old.recover retry master.now missed leads → AllCounted self.old.recover leads →
-            gaves_noted self.new.notes ≡ gaves_behind frame (map gave_of leads) (gaves_noted self.old.notes)) }
+        ensures gave { OnOk result (GavesAll self.old.recover master.now (λ nows. gaves_noted self.new.notes ≡ gaves_behind frame nows (gaves_noted self.old.notes))) }
         ensures heard { OnOk result (emergencies_noted self.new.notes ≡ emergencies_noted self.old.notes) }
         ensures rows { OnOk result (begun_noted self.new.notes ≡ begun_noted self.old.notes) }
         ensures told { OnOk result (LosesAll frame self.old.recover master.now (ReportsOn self.old.notes self.new.notes)) }

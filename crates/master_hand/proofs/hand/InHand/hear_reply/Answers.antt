@@ -13,7 +13,7 @@ use Rattle.std.proofs.Common.{ap, ◌∙◌}
 use Rattle.master_side.specs.declared.hand.Heard.{Heard}
 use Rattle.master_side.specs.Passing.{goes_on}
 use Rattle.master_hand.specs.Shown.{awaits_reply, knows}
-use Rattle.master_hand.proofs.Knowing.{due_knows}
+use Rattle.master_hand.proofs.Knowing.{due_knows, sure_before}
 use Rattle.master_hand.specs.Replied.{kept_where}
 use Rattle.master_hand.proofs.Replies.{took_tells, took_awaits, took_replies}
 use Rattle.master_hand.proofs.hand.InHand.hear_reply.Goals as goal
@@ -51,6 +51,9 @@ returns-clause-knows c = λ now e h k d.
     let b = body_of (mail_seen c.args.mail.now) in
     let took = subst (λ (m : Mail). ClientTook c.take-took.result old.which old.clients (body_of m) new) c.keep.ensures.mail c.take-took.ensures.took in
     ap (λ z. knows z) c.course_behind-self.ensures ∙ due_knows c.is_left-left.result c.take-took.result old.course old.which old.clients new b now c.is_left-left.ensures.all c.requires.awaits k e h d took
+
+pub returns-clause-sure : goal.returns-clause-sure
+returns-clause-sure c = λ k. sure_before c.is_left-left.result c.take-took.result c.args.self.now.course (λ e. (c.is_left-left.ensures.none e).0) (sym (ap (λ z. knows z) c.course_behind-self.ensures) ∙ k)
 
 pub returns-clause-reply : goal.returns-clause-reply
 returns-clause-reply c = λ n.

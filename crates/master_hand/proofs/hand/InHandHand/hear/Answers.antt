@@ -10,7 +10,7 @@ use Rattle.master_hand.specs.Passed.{body_of}
 use Rattle.master_hand.proofs.Hands.{emission_shown, heard_shown}
 use Rattle.master_hand.specs.Spoken.{is_followed}
 use Rattle.std.proofs.Common.{true, false}
-use Rattle.master_hand.specs.Shown.{awaits_reply, is_awaiting}
+use Rattle.master_hand.specs.Shown.{awaits_reply, is_awaiting, knows}
 use Rattle.master_hand.proofs.Replies.{emission_tells, emission_kept, unawaited_kept, reply_is_kept}
 use Rattle.master_hand.proofs.hand.InHandHand.hear.Goals as goal
 
@@ -42,6 +42,12 @@ pub returns-in-Answered-clause-knows : goal.returns-in-Answered-clause-knows
 returns-in-Answered-clause-knows c = λ x now h k d.
     let b = body_of (mail_seen c.args.mail.now) in
     absurd (due_answered c.args.self.now.course c.args.self.now.which c.args.self.now.clients b x now c.in-Answered.is (ap (λ (y : Speech Body Asked Reply). y.emission b) h.0 ∙ sym c.hear.ensures.emits ∙ c.if-hear.false) h d)
+
+pub returns-in-Goes-clause-sure : goal.returns-in-Goes-clause-sure
+returns-in-Goes-clause-sure c = λ k. c.hear_reply.ensures.sure k
+
+pub returns-in-Answered-clause-sure : goal.returns-in-Answered-clause-sure
+returns-in-Answered-clause-sure c = λ k. ap (λ z. knows z) c.in-Answered.is
 
 pub returns-then-hear-clause-replied : goal.returns-then-hear-clause-replied
 returns-then-hear-clause-replied c =

@@ -12,18 +12,17 @@ use Rattle.std.proofs.Common.{subst, take, ◌∷◌, []}
 use Rattle.std.proofs.lemmas.List.{take_more}
 use Rattle.master_node.specs.Handed.{EndsWork, passing_at}
 use Rattle.master_node.proofs.Endings.{ends_from, ends_same, ends_then}
-use Rattle.std.proofs.Common.{Bool, true, ◌++◌, ◌*◌, ◌+◌}
-use Rattle.std.specs.Prelude.{not, ◌||◌}
-use Rattle.master_node.specs.Besides.{gateway_at}
+use Rattle.std.proofs.Common.{◌++◌, ◌+◌, ◌==◌}
+use Rattle.master_tour.specs.Made.{is_in}
+use Rattle.master_node.specs.Besides.{back_told}
 use Rattle.master_node.specs.Listing.{told_in}
-use Rattle.master_node.specs.Handed.{work_at}
-use Rattle.master_node.proofs.Endings.{stays_as}
-use Rattle.master_node.proofs.Besides.{besides_as, besides_none, besides_then, gateway_kept, once_fresh}
+use Rattle.master_node.proofs.Besides.{back_same, besides_as, besides_none, besides_then, not_in_one, once_fresh, or_left, or_right}
+use Rattle.master_node.proofs.Endings.{in_more}
 use Rattle.master_node.proofs.Listing.{told_push}
 use Rattle.master_node.proofs.node.MasterNode.all_back.Goals as goal
 
 pub loop-k-init : goal.loop-k-init
-loop-k-init c = record { posts = refl; kept = node_refl c.args.self.now; tells = tells_refl c.args.self.now; works = ends_same _ c.args.self.now.posts.items; gateway = λ once. besides_none 0 _ _ refl; lan = happens_none 0 _ _ refl; listed = lists_none _ _ _ refl refl }
+loop-k-init c = record { posts = refl; kept = node_refl c.args.self.now; tells = tells_refl c.args.self.now; works = ends_same _ c.args.self.now.posts.items; head = refl; told = λ once. besides_none c.args.self.now c.args.self.now refl; others = λ p e. refl; lan = happens_none 0 _ _ refl; listed = lists_none _ _ _ refl refl }
 
 pub loop-k-preserved : goal.loop-k-preserved
 loop-k-preserved c =
@@ -43,14 +42,19 @@ loop-k-preserved c =
           (ends_then (λ j. passing_at m.tour.stops.items j) (take k m.tour.visit.items) (get_or m.tour.visit.items k 0 ∷ []) m.posts.items c.loop-k.self.posts.items c.back_at.new.self.posts.items inv.works
           (ends_from _ (λ j. passing_at c.loop-k.self.tour.stops.items j) (get_or m.tour.visit.items k 0 ∷ []) _ _ (λ j. ap (λ z. passing_at z.stops.items j) inv.tells.tour)
           (subst (λ z. EndsWork (λ j. passing_at c.loop-k.self.tour.stops.items j) (get_or z k 0 ∷ []) c.loop-k.self.posts.items c.back_at.new.self.posts.items) (sym same) step.works)));
-      gateway = λ once.
+      others = λ p e.
+          let v = m.tour.visit.items in
+          let q = get_or v k 0 in
+          let apart = sym (in_more p (take k v) (q ∷ [])) ∙ ap (is_in p) (sym (take_more v k 0 inside)) ∙ e in
+          (step.told.others p (ap (λ z. p == get_or z k 0) (sym same) ∙ not_in_one p q (or_right (is_in p (take k v)) (is_in p (q ∷ [])) apart)) ∙ inv.others p (or_left (is_in p (take k v)) (is_in p (q ∷ [])) apart));
+      head = step.told.tells.head ∙ inv.head;
+      told = λ once.
           let v = m.tour.visit.items in
           let p = get_or v k 0 in
-          let stays = stays_as (work_at m.posts.items p) (work_at c.loop-k.self.posts.items p) _ true (ap (λ (z : Bool). not z || passing_at m.tour.stops.items p) (once_fresh v k 0 inside once)) (inv.works.each p) in
-          let same_told : gateway_at c.loop-k.self place ≡ gateway_at m p = ap (λ z. gateway_at c.loop-k.self (get_or z k 0)) (sym same) ∙ gateway_kept m c.loop-k.self p inv.tells.tour stays in
-          besides_as (5 * k + 5) (5 * (k + 1)) _ _ m c.back_at.new.self (omega arith)
-          (ap (λ z. told_in (gateway_at m) (take k v) ++ z) same_told ∙ sym (told_push (gateway_at m) (take k v) p) ∙ sym (ap (λ z. told_in (gateway_at m) z) (take_more v k 0 inside)))
-          (besides_then (5 * k) 5 _ _ m c.loop-k.self c.back_at.new.self (inv.gateway once) step.gateway);
+          let so : back_told c.loop-k.self place ≡ back_told m p = ap (λ z. back_told c.loop-k.self (get_or z k 0)) (sym same) ∙ back_same m c.loop-k.self p inv.tells.tour (inv.others p (once_fresh v k 0 inside once)) in
+          besides_as (told_in (back_told m) (take k v) ++ back_told c.loop-k.self place) (told_in (back_told m) (take (k + 1) v)) m c.back_at.new.self
+          (ap (λ z. told_in (back_told m) (take k v) ++ z) so ∙ sym (told_push (back_told m) (take k v) p) ∙ sym (ap (told_in (back_told m)) (take_more v k 0 inside)))
+          (besides_then (told_in (back_told m) (take k v)) (back_told c.loop-k.self place) m c.loop-k.self c.back_at.new.self (inv.told once) step.told.tells);
       lan = happens_then k 1 _ _ _ inv.lan step.lan;
       listed = lists_as _ _ _ _ (arrivals_next m.lan.ports.items (λ p. heard_at m.tour.stops.items p) m.tour.visit.items k 0 inside)
           (lists_then _ _ _ _ _ inv.listed
@@ -75,9 +79,8 @@ returns-clause-works c =
     let m = c.args.self.now in
     subst (λ z. EndsWork (λ j. passing_at m.tour.stops.items j) z m.posts.items c.loop-k.self.posts.items) (take_all c.loop-k.k m.tour.visit.items (omega (arith, c.loop-k-test.false, c.len-k-end.ensures.value))) c.loop-k.invariant.works
 
-pub returns-clause-gateway : goal.returns-clause-gateway
-returns-clause-gateway c = λ once.
+pub returns-clause-told : goal.returns-clause-told
+returns-clause-told c = λ once.
     let m = c.args.self.now in
     let k = c.loop-k.k in
-    besides_as (5 * k) 80 _ _ m c.loop-k.self (omega arith)
-    (ap (λ z. told_in (gateway_at m) z) (take_all k m.tour.visit.items (omega (arith, c.loop-k-test.false, c.len-k-end.ensures.value)))) (c.loop-k.invariant.gateway once)
+    besides_as (told_in (back_told m) (take k m.tour.visit.items)) (told_in (back_told m) m.tour.visit.items) m c.loop-k.self (ap (told_in (back_told m)) (take_all k m.tour.visit.items (omega (arith, c.loop-k-test.false, c.len-k-end.ensures.value)))) (c.loop-k.invariant.told once)

@@ -1,10 +1,11 @@
-use Rattle.std.proofs.Common.{◌≡◌, ◌*◌, vec_len, take}
+use Rattle.std.proofs.Common.{◌≡◌, ℕ, false, vec_len, take}
+use Rattle.master_tour.specs.Made.{is_in}
 use Rattle.master_tour.specs.Orders.{AreOnce}
-use Rattle.master_node.specs.Besides.{TellsBesides, gateway_at}
-use Rattle.master_node.specs.Listing.{told_in}
+use Rattle.master_node.specs.Besides.{TellsAll, back_told}
+use Rattle.master_node.specs.Listing.{events_before, told_in}
 use Rattle.master_node.specs.Arrivals.{arrivals_in, heard_at}
 use Rattle.master_node.specs.Downs.{Lists}
-use Rattle.master_node.specs.Handed.{EndsWork, passing_at}
+use Rattle.master_node.specs.Handed.{EndsWork, passing_at, work_at}
 use Rattle.master_node.specs.Happened.{Happens}
 use Rattle.master_node.specs.Kept.{NodeKept}
 use Rattle.master_node.specs.Serving.{TellsOnly}
@@ -16,7 +17,9 @@ invariant-loop-k l = record {
   kept : NodeKept l.initial.self l.self;
   tells : TellsOnly l.initial.self l.self;
   works : EndsWork (λ k. passing_at l.initial.self.tour.stops.items k) (take l.k l.initial.self.tour.visit.items) l.initial.self.posts.items l.self.posts.items;
-  gateway : AreOnce l.initial.self.tour.visit.items → TellsBesides (5 * l.k) (told_in (gateway_at l.initial.self) (take l.k l.initial.self.tour.visit.items)) l.initial.self l.self;
+  head : events_before l.self ≡ events_before l.initial.self;
+  told : AreOnce l.initial.self.tour.visit.items → TellsAll (told_in (back_told l.initial.self) (take l.k l.initial.self.tour.visit.items)) l.initial.self l.self;
+  others : (p : ℕ) → is_in p (take l.k l.initial.self.tour.visit.items) ≡ false → work_at l.self.posts.items p ≡ work_at l.initial.self.posts.items p;
   lan : Happens l.k l.initial.self.lan l.self.lan;
   listed : Lists (arrivals_in l.initial.self.lan.ports.items (λ p. heard_at l.initial.self.tour.stops.items p) (take l.k l.initial.self.tour.visit.items)) l.initial.self.lan l.self.lan;
 }

@@ -8,10 +8,8 @@ use Rattle.master_node.proofs.Downs.{lists_none}
 use Rattle.master_node.proofs.Happenings.{happens_none}
 use Rattle.master_node.proofs.Servings.{tells_refl}
 use Rattle.master_node.proofs.Endings.{ends_free, ends_told, none_beyond}
-use Rattle.std.proofs.Common.{[], sym}
-use Rattle.master_node.specs.Besides.{gateway_by}
-use Rattle.master_node.specs.Handed.{work_at}
-use Rattle.master_node.proofs.Besides.{besides_as, besides_none, told_beyond}
+use Rattle.master_node.specs.Besides.{back_does}
+use Rattle.master_node.proofs.Besides.{so_beyond}
 use Rattle.master_node.proofs.node.MasterNode.back_at.Goals as goal
 
 pub returns-else-place-len-clause-kept : goal.returns-else-place-len-clause-kept
@@ -35,9 +33,8 @@ returns-else-place-len-clause-works c =
     let m = c.args.self.now in
     ends_free _ c.args.place m.posts.items m.posts.items (λ key e. absurd (none_beyond m.posts.items c.args.place (omega (arith, c.if-place-len.false, c.len.ensures, m.posts.ok.0)) key e)) (ends_told _ _ _ refl)
 
-pub returns-else-place-len-clause-gateway : goal.returns-else-place-len-clause-gateway
-returns-else-place-len-clause-gateway c =
+pub returns-else-place-len-clause-told : goal.returns-else-place-len-clause-told
+returns-else-place-len-clause-told c =
     let m = c.args.self.now in
-    let p = c.args.place in
-    let l : length m.tour.stops.items ≤ p = omega (arith, c.if-place-len.false, c.len.ensures, m.paired, m.tour.stops.ok.0) in
-    besides_as 5 5 [] _ m m (omega arith) (sym (told_beyond (λ s. gateway_by (work_at m.posts.items p) s) m.tour.stops.items p l)) (besides_none 5 m m refl)
+    let place = c.args.place in
+    so_beyond (λ s w. back_does place s w) place m (omega (arith, c.if-place-len.false, c.len.ensures, m.paired, m.tour.stops.ok.0))

@@ -14,7 +14,7 @@ use Rattle.std.proofs.Common.{◌++◌, ◌∷◌, [], Some, ◌∙◌, append-n
 use Rattle.master_node.specs.Listing.{ListsOne, events_in}
 use Rattle.master_node.specs.declared.event.Event.{Event}
 use Rattle.master_tour.proofs.Walks.{steps_set}
-use Rattle.master_node.proofs.Listing.{events_of_list}
+use Rattle.master_node.proofs.Listing.{before_of_list, events_of_list}
 use Rattle.std.specs.Prelude.{map}
 use Rattle.master_node.specs.Serving.{waits_of}
 use Rattle.master_node.proofs.Servings.{posts_set}
@@ -118,3 +118,9 @@ returns-in-Some-clause-works c =
     subst (λ z. StepsAt (λ p q. q.work ≡ work_from z p) c.args.place m.posts.items n.posts.items) (sym c.in-Some.is)
     (subst (λ z. StepsAt (λ p q. q.work ≡ work_from (Some c.in-Some.what) p) c.args.place m.posts.items z.items) (sym c.pass_by.ensures.posts)
     (steps_set (λ p q. q.work ≡ work_from (Some c.in-Some.what) p) c.args.place m.posts.items c.index_mut.result.now _ k c.index_mut.ensures.value c.begin-origin.ensures.work))
+
+pub returns-in-None-clause-head : goal.returns-in-None-clause-head
+returns-in-None-clause-head c = refl
+
+pub returns-in-Some-clause-head : goal.returns-in-Some-clause-head
+returns-in-Some-clause-head c = before_of_list _ _ c.pass_by.ensures.list ∙ c.put.ensures.head

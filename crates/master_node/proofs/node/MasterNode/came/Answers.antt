@@ -94,3 +94,9 @@ returns-else-began-clause-works c =
     let m = c.args.self.now in
     let k : c.args.place < length m.posts.items = omega (arith, c.requires, m.posts.ok.0) in
     subst (λ z. StepsAt (λ p q. q.work ≡ work_from (where_began z c.args.coming) p) c.args.place m.posts.items m.posts.items) (sym c.if-began.false) (steps_same (λ p q. q.work ≡ work_from None p) c.args.place m.posts.items k (λ p. refl))
+
+pub returns-then-began-clause-head : goal.returns-then-began-clause-head
+returns-then-began-clause-head c = c.begun.ensures.head
+
+pub returns-else-began-clause-head : goal.returns-else-began-clause-head
+returns-else-began-clause-head c = refl

@@ -6,7 +6,6 @@ use Rattle.master_node.specs.Downs.{down_by}
 use Rattle.master_node.proofs.Tells.{node_refl, node_told}
 use Rattle.master_node.proofs.Happenings.{happens_none}
 use Rattle.master_node.proofs.Downs.{lists_as, lists_none, down_not, here_is}
-use Rattle.master_node.proofs.Besides.{besides_none}
 use Rattle.master_node.proofs.node.MasterNode.down_where.Goals as goal
 
 pub returns-then-not-is_live-clause-kept : goal.returns-then-not-is_live-clause-kept
@@ -29,9 +28,3 @@ returns-else-not-is_live-clause-listed c =
     let m = c.args.self.now in
     let l : c.args.place < length m.tour.stops.items = omega (arith, c.requires, m.paired, m.tour.stops.ok.0) in
     lists_none _ _ _ (down_not _ _ (here_is (λ s. not (is_live s.stand)) m.tour.stops.items c.args.place c.index.result.now false l c.index.ensures (ap not (sym c.is_live.ensures ∙ c.if-not-is_live.false)))) refl
-
-pub returns-then-not-is_live-clause-gateway : goal.returns-then-not-is_live-clause-gateway
-returns-then-not-is_live-clause-gateway c = besides_none 0 _ _ refl
-
-pub returns-else-not-is_live-clause-gateway : goal.returns-else-not-is_live-clause-gateway
-returns-else-not-is_live-clause-gateway c = besides_none 0 _ _ refl

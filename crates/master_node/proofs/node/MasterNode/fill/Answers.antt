@@ -74,6 +74,7 @@ loop-init c = (
   (λ quiet b short. (quiet, each_same (λ s t. StopGoes s t) c.args.self.now.tour.stops.items (λ s. (refl, λ h. h)))),
   omega arith,
   (λ lens recover made forwards ws d f b. rounds_first (map run_lead ws) (λ left m octets. IsPassing lens recover made forwards left m octets ws) (λ left m octets g. many_serve lens recover made forwards ws left m octets g) (λ left m n octets k g. passing_same lens recover made forwards ws left m n octets k g) c.args.self.now c.args.into.now.items f b),
+  refl,
 )
 
 pub loop-preserved : goal.loop-preserved
@@ -136,6 +137,7 @@ loop-preserved c = (
       c.loop.counter c.loop.self _ c.visit.new.self c.loop.into.items c.visit.new.into.items p r (record { stops = e.stops; count = e.kept.0; again = e.kept.1; visit = e.kept.2; opened = e.kept.3; last = e.kept.4; made = refl; posts = refl; list = refl; lan = refl }) (λ a. e.left p is a) (λ a b g h. passes_at (λ s. is_live s.stand) c.loop.self.tour.stops.items c.due.result p is (e.first a b g h))
       (c.in-Some.ensures.few) v.on.0 v.on.1 v.visits v.counts (λ a b. (v.first a b).1)
       (λ left other a o s g. subst (λ (z : Bool). IsPassing lens recover made forwards (if z then other else left) c.visit.new.self c.visit.new.into.items ws) yes (v.serves lens recover made forwards left other ws (let u = c.loop.invariant.9 in let e = b.listed in let t = c.loop-test.true in omega (arith, u, e, t)) d a o s g))),
+  c.visit.ensures.head ∙ c.loop.invariant.11,
 )
 
 pub returns-in_default-clause-joins : goal.returns-in_default-clause-joins
@@ -309,3 +311,15 @@ returns-then-self-count-clause-serves c = λ lens recover made forwards ws d f b
     (c.in-Some.ensures.few) v.on.0 v.on.1 v.visits v.counts (λ a b. (v.first a b).1)
     (λ left other a o s g. subst (λ (z : Bool). IsPassing lens recover made forwards (if z then other else left) c.visit.new.self c.visit.new.into.items ws) yes (v.serves lens recover made forwards left other ws (let u = c.loop.invariant.9 in let e = b.listed in let t = c.loop-test.true in omega (arith, u, e, t)) d a o s g))) in
     (x.left, x.filling, x.ends)
+
+pub returns-in_default-clause-head : goal.returns-in_default-clause-head
+returns-in_default-clause-head c = c.loop.invariant.11
+
+pub returns-then-not-visit-clause-head : goal.returns-then-not-visit-clause-head
+returns-then-not-visit-clause-head c = c.visit.ensures.head ∙ c.loop.invariant.11
+
+pub returns-then-self-count-clause-head : goal.returns-then-self-count-clause-head
+returns-then-self-count-clause-head c = c.visit.ensures.head ∙ c.loop.invariant.11
+
+pub returns-clause-head : goal.returns-clause-head
+returns-clause-head c = c.loop.invariant.11

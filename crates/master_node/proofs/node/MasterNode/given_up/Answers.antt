@@ -6,13 +6,15 @@ use Rattle.master_node.specs.Forwards.{port_by}
 use Rattle.master_node.proofs.Downs.{lists_as, lists_from, lists_none, down_not, here_is}
 use Rattle.master_node.proofs.Tells.{node_then, node_told, node_refl}
 use Rattle.master_node.proofs.Happenings.{happens_none, happens_from}
-use Rattle.std.proofs.Common.{subst, []}
+use Rattle.std.proofs.Common.{subst, [], ◌∷◌}
 use Rattle.master_tour.specs.Walks.{StepsAt}
 use Rattle.master_node.specs.Serving.{mails_in}
 use Rattle.master_node.proofs.Droppeds.{drops_none, drops_one}
 use Rattle.master_node.specs.declared.post.Work.{Work}
 use Rattle.master_node.proofs.Endings.{drop_none, drop_one}
-use Rattle.master_node.proofs.Besides.{besides_none, besides_put, besides_then}
+use Rattle.master_node.specs.Besides.{given_at, given_told}
+use Rattle.master_node.specs.declared.event.Event.{Event}
+use Rattle.master_node.proofs.Besides.{besides_as, besides_none, besides_put, given_is, given_not, stop_here}
 use Rattle.master_node.proofs.node.MasterNode.given_up.Goals as goal
 
 pub returns-clause-kept : goal.returns-clause-kept
@@ -80,9 +82,21 @@ returns-then-not-is_given_up-clause-works c =
     let l : p < length m.tour.stops.items = omega (arith, c.requires, m.paired, m.tour.stops.ok.0) in
     drop_none _ p m.posts.items m.posts.items (here_is (λ s. is_given_up s.news) m.tour.stops.items p c.index.result.now false l c.index.ensures (sym c.is_given_up.ensures ∙ c.if-not-is_given_up.true)) refl
 
-pub returns-clause-gateway : goal.returns-clause-gateway
-returns-clause-gateway c =
-    besides_then 0 1 [] [] c.args.self.now c.dropped.new.self _ c.dropped.ensures.gateway (besides_then 1 0 [] [] c.dropped.new.self _ _ (besides_put c.dropped.new.self _ _ c.put.ensures.last c.put.ensures.few refl) c.down_where.ensures.gateway)
+pub returns-clause-told : goal.returns-clause-told
+returns-clause-told c =
+    let m = c.args.self.now in
+    let place = c.args.place in
+    let s = c.index.result.now in
+    let l : place < length m.tour.stops.items = omega (arith, c.requires, m.paired, m.tour.stops.ok.0) in
+    besides_as (Event.GivenUp place ∷ []) (given_at m.tour.stops.items place) m c.down_where.new.self
+    (given_is place s.news (sym c.is_given_up.ensures ∙ c.if-not-is_given_up.false) ∙ sym (stop_here [] (λ t. given_told place t.news) m.tour.stops.items place s l c.index.ensures))
+    (besides_put m c.dropped.new.self c.down_where.new.self c.put.new.self (Event.GivenUp place) c.dropped.ensures.list c.down_where.ensures.list c.put.ensures.last c.put.ensures.few c.put.ensures.head)
 
-pub returns-then-not-is_given_up-clause-gateway : goal.returns-then-not-is_given_up-clause-gateway
-returns-then-not-is_given_up-clause-gateway c = besides_none 1 _ _ refl
+pub returns-then-not-is_given_up-clause-told : goal.returns-then-not-is_given_up-clause-told
+returns-then-not-is_given_up-clause-told c =
+    let m = c.args.self.now in
+    let place = c.args.place in
+    let s = c.index.result.now in
+    let l : place < length m.tour.stops.items = omega (arith, c.requires, m.paired, m.tour.stops.ok.0) in
+    besides_as [] (given_at m.tour.stops.items place) m m
+    (given_not place s.news (sym c.is_given_up.ensures ∙ c.if-not-is_given_up.true) ∙ sym (stop_here [] (λ t. given_told place t.news) m.tour.stops.items place s l c.index.ensures)) (besides_none m m refl)

@@ -8,7 +8,9 @@ use Rattle.master_node.proofs.Happenings.{happens_none}
 use Rattle.master_node.specs.Serving.{mails_in}
 use Rattle.master_node.proofs.Droppeds.{drops_none}
 use Rattle.master_node.proofs.Endings.{drop_none}
-use Rattle.master_node.proofs.Besides.{besides_none}
+use Rattle.std.proofs.Common.{[], sym}
+use Rattle.master_node.specs.Besides.{given_at, given_told}
+use Rattle.master_node.proofs.Besides.{besides_as, besides_none, stop_beyond}
 use Rattle.master_node.proofs.node.MasterNode.given_up_at.Goals as goal
 
 pub returns-else-place-len-clause-kept : goal.returns-else-place-len-clause-kept
@@ -38,5 +40,9 @@ returns-else-place-len-clause-works c =
     let l : length m.tour.stops.items ≤ p = omega (arith, c.if-place-len.false, c.len.ensures, m.paired, m.tour.stops.ok.0) in
     drop_none _ p m.posts.items m.posts.items (holds_beyond (λ s. is_given_up s.news) m.tour.stops.items p l) refl
 
-pub returns-else-place-len-clause-gateway : goal.returns-else-place-len-clause-gateway
-returns-else-place-len-clause-gateway c = besides_none 1 _ _ refl
+pub returns-else-place-len-clause-told : goal.returns-else-place-len-clause-told
+returns-else-place-len-clause-told c =
+    let m = c.args.self.now in
+    let place = c.args.place in
+    let l : length m.tour.stops.items ≤ place = omega (arith, c.if-place-len.false, c.len.ensures, m.paired, m.tour.stops.ok.0) in
+    besides_as [] (given_at m.tour.stops.items place) m m (sym (stop_beyond [] (λ t. given_told place t.news) m.tour.stops.items place l)) (besides_none m m refl)

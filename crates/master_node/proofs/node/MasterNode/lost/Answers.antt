@@ -1,4 +1,4 @@
-use Rattle.std.proofs.Common.{◌≡◌, ◌+◌, Bool, [], refl, sym, ap, ◌∙◌, arith, length}
+use Rattle.std.proofs.Common.{◌≡◌, ◌≤◌, ◌+◌, Bool, [], refl, sym, ap, ◌∙◌, arith, length}
 use Rattle.std.specs.Prelude.{map, not, nat_lt, if◌then◌else◌}
 use Rattle.life_runs.specs.Led.{speech_at, gives_up_at, led_behind}
 use Rattle.master_tour.specs.Orders.{last_behind}
@@ -47,8 +47,13 @@ use Rattle.master_node.proofs.ServedLosts as Losts
 use Rattle.master_node.specs.Handed.{work_at}
 use Rattle.master_node.proofs.Numbereds.{numbers_behind}
 use Rattle.std.proofs.Common.{[], ◌++◌}
-use Rattle.std.specs.Prelude.{filter}
-use Rattle.master_node.specs.Besides.{is_gateway}
+use Rattle.master_side.specs.Passing.{news_lost}
+use Rattle.master_node.specs.Besides.{given_at, given_told}
+use Rattle.master_node.specs.Lifetold.{lost_at}
+use Rattle.master_node.proofs.Listing.{listed_whole, told_same}
+use Rattle.master_node.proofs.Turneds.{lost_turned, turned_all}
+use Rattle.master_node.specs.Listing.{events_in, told_in}
+use Rattle.master_node.proofs.ToldFew.{given_few, told_one}
 use Rattle.master_node.proofs.node.MasterNode.lost.Goals as goal
 
 pub returns-clause-leads : goal.returns-clause-leads
@@ -188,5 +193,30 @@ returns-clause-served c = λ lens recover retry missed made after octets vs f p 
       numbered = numbers_behind (served_behind lens recover retry gives made f) (λ v. length v.asked) (λ w. length w.asked) (λ v. refl) vs m.posts.items n.posts.items u.numbered k.kept.numbered;
     }
 
-pub returns-clause-gateway : goal.returns-clause-gateway
-returns-clause-gateway c = λ few. (let before = c.ends.ensures.few in c.all_given_up.ensures.gateway.told (omega (arith, before, few))) ∙ (λ i. filter is_gateway (c.ends.ensures.last i) ++ [])
+pub returns-clause-told : goal.returns-clause-told
+returns-clause-told c = λ lens recover retry missed made after octets vs f p b u few.
+    let m = c.args.self.now in
+    let ss = m.tour.stops.items in
+    let ts = c.lost.new.self.stops.items in
+    let visit = c.lost.new.self.visit.items in
+    let gives = not (nat_lt missed retry) in
+    let given = not (nat_lt m.tour.missed m.tour.retry) in
+    let comes : given ≡ gives = λ i. not (nat_lt (u.missed_is i) (u.retry_is i)) in
+    let on = served_behind lens recover retry gives made f in
+    let before = c.ends.ensures.few in
+    let most : length visit ≤ 16 = c.all_given_up.ensures.few in
+    let same = λ (k : ℕ). turned_all (λ v q s. IsServedUnder lens recover octets made v q s) _ on (λ news. given_told k news)
+    (λ v q s t i y.
+    let l = v.turn.lived.life in
+    let spot = v.turn.lived.spot in
+    let news = news_lost spot.station v.kept (seen lens octets) in
+    let follows = y.0 (speech_at lens spot) is_followed is_passed made recover spot news l i.served.lives.planned.stands i.way i.served.lives.shown in
+    lost_turned lens recover retry gives given made f octets after p b comes v q s t.news i follows.told)
+    vs m.posts.items ss ts u.each (c.lost.ensures.lives lens octets) k in
+    c.all_given_up.ensures.told.told (omega (arith, before, few, told_one (λ k. given_at ts k) (λ k. given_few ts k) visit, most))
+    ∙ (λ i. c.ends.ensures.last i ++ told_in (λ k. given_at ts k) visit)
+    ∙ told_same (λ k. given_at ts k) (λ k. lost_at vs (map on vs) k) visit (λ k w. same k)
+    ∙ ap (λ z. told_in (λ k. lost_at vs (map on vs) k) z.items) c.lost.ensures.tour.0
+
+pub returns-clause-whole : goal.returns-clause-whole
+returns-clause-whole c = listed_whole c.all_given_up.new.self ∙ ap (λ z. z ++ events_in c.all_given_up.new.self) (c.all_given_up.ensures.told.head ∙ c.ends.ensures.head)

@@ -253,3 +253,6 @@ returns-clause-serves c = λ lens recover retry missed made forwards ws some sma
       on.made ∙ x.made_is,
       served_begin forwards left begun ws sent.sent c.fill.new.self _ (λ k. ap (λ y. begun_of y k) sent.turns_are ∙ begun_turns lens recover made begun octets z.datagrams is as' z.lives t2.stops.items sends k) refl refl filling.listing,
     )
+
+pub returns-clause-head : goal.returns-clause-head
+returns-clause-head c = c.fill.ensures.head

@@ -1,7 +1,7 @@
 use Rattle.std.proofs.Common.{◌≡◌, ◌≤◌, ◌∙◌, true, [], refl, sym, ap, subst, length, arith}
 use Rattle.master_node.proofs.Begins.{has_none}
 use Rattle.master_node.specs.Origins.{forwards_at}
-use Rattle.master_node.proofs.Listing.{services_made, unlisted}
+use Rattle.master_node.proofs.Listing.{before_of_list, listed_whole, services_made, unlisted}
 use Rattle.life_runs.specs.of_frame_view.Seen.{seen}
 use Rattle.std.specs.List.{list_any}
 use Rattle.master_tour.specs.Goes.{is_live, holds_at}
@@ -30,6 +30,9 @@ use Rattle.std.proofs.Common.{◌+◌, ◌%◌, ◌^◌, suc}
 use Rattle.std.proofs.Math.Nat.{mod-eq_of_lt}
 use Rattle.master_node.proofs.ServedSents.{served_same}
 use Rattle.master_node.proofs.ServedTells.{served_made}
+use Rattle.std.proofs.Common.{ℕ, ◌++◌, take}
+use Rattle.master_node.specs.Listed.{listed, listed_last}
+use Rattle.master_node.specs.Listing.{events_before, events_in}
 use Rattle.master_node.proofs.node.MasterNode.next.Goals as goal
 
 pub returns-clause-led : goal.returns-clause-led
@@ -139,3 +142,19 @@ pub returns-clause-serves : goal.returns-clause-serves
 returns-clause-serves c = λ h lens recover retry missed made ws small x.
     let w = returns-clause-services c h lens recover retry missed made ws small x in
     (w.0, w.1, w.2)
+
+pub returns-then-not-has_live-clause-whole : goal.returns-then-not-has_live-clause-whole
+returns-then-not-has_live-clause-whole c =
+    let few = c.clear.new.self.made_before in
+    let none = c.clear.ensures.none in
+    let zero_before : c.clear.new.self.before ≡ 0 = omega (arith, few, none) in
+    (c.clear.ensures.all ∙ sym c.clear.ensures.last, ap (λ (n : ℕ). take n c.clear.new.self.rows.items) zero_before ∙ sym c.clear.ensures.last)
+
+pub returns-clause-whole : goal.returns-clause-whole
+returns-clause-whole c =
+    let n = c.make.new.self in
+    let l = c.made.new.self in
+    let none : events_before n ≡ [] = c.make.ensures.head ∙ before_of_list _ _ c.admit.ensures.list ∙ c.clear.ensures.before in
+    let all : listed n.list.rows.items n.list.count ≡ events_in n = listed_whole n ∙ ap (λ z. z ++ events_in n) none in
+    let same : listed l.rows.items l.count ≡ listed_last l.rows.items l.first l.count = c.made.ensures.all ∙ all ∙ sym c.made.ensures.last in
+    (same, ap (λ (k : ℕ). take k l.rows.items) (c.made.ensures.before ∙ sym c.made.ensures.rows.1) ∙ same)

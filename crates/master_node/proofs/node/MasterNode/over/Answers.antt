@@ -4,9 +4,12 @@ use Rattle.std.proofs.Common.{◌≡◌, ◌⊎◌, inl, inr, ◌<◌, ℕ, leng
 use Rattle.master_node.specs.declared.post.Work.{Work}
 use Rattle.master_node.specs.Handed.{work_at}
 use Rattle.master_node.proofs.Endings.{ends_free, ends_told, not_passed}
-use Rattle.std.proofs.Common.{[], ap}
-use Rattle.master_node.specs.Besides.{over_by, over_room, over_told}
-use Rattle.master_node.proofs.Besides.{besides_as, besides_none, over_other, told_none, told_same}
+use Rattle.std.proofs.Common.{ap}
+use Rattle.master_hand.specs.contracts.hand.InHandHand.TheImpl as Impl
+use Rattle.master_hand.specs.declared.hand.InHand.{InHand}
+use Rattle.master_tour.specs.declared.stop.Stop.{Stop}
+use Rattle.master_node.specs.Besides.{handed_does, met_does, over_does, passed_does, stays}
+use Rattle.master_node.proofs.Besides.{so_stays, so_where}
 use Rattle.master_node.proofs.Endings.{work_got}
 use Rattle.master_node.proofs.node.MasterNode.over.Goals as goal
 
@@ -14,6 +17,11 @@ use Rattle.master_node.proofs.node.MasterNode.over.Goals as goal
 no_mail : (w : Work) → (w ≡ Work.Nothing) ⊎ (w ≡ Work.Mails) → (key : ℕ) → w ≡ Work.Passed key → ⊥
 no_mail w (inl e) key f = absurd (let bad : Work.Nothing ≡ Work.Passed key = sym e ∙ f in cc)
 no_mail w (inr e) key f = absurd (let bad : Work.Mails ≡ Work.Passed key = sym e ∙ f in cc)
+
+-- a service that has a reply by mails of its own isn't over by this
+mails_stay : (place : ℕ) (s : Stop InHand Impl.ghosts) (w : Work) → (w ≡ Work.Nothing) ⊎ (w ≡ Work.Mails) → stays w ≡ over_does place s w
+mails_stay place s w (inl e) = ap stays e ∙ sym (ap (λ z. over_does place s z) e)
+mails_stay place s w (inr e) = ap stays e ∙ sym (ap (λ z. over_does place s z) e)
 
 pub returns-in-Nothing-clause-kept : goal.returns-in-Nothing-clause-kept
 returns-in-Nothing-clause-kept c = node_refl _
@@ -45,40 +53,34 @@ returns-in-State-clause-works c =
 pub returns-in-Passed-clause-works : goal.returns-in-Passed-clause-works
 returns-in-Passed-clause-works c = c.passed.ensures.works
 
-pub returns-in-Nothing-clause-gateway : goal.returns-in-Nothing-clause-gateway
-returns-in-Nothing-clause-gateway c =
+pub returns-in-Nothing-clause-told : goal.returns-in-Nothing-clause-told
+returns-in-Nothing-clause-told c =
     let m = c.args.self.now in
-    let w = work_at m.posts.items c.args.place in
-    let l : c.args.place < length m.posts.items = omega (arith, c.requires, m.posts.ok.0) in
-    let none = λ (key : ℕ) (e : w ≡ Work.Passed key). not_passed m.posts.items c.args.place c.index.result.now l c.index.ensures (no_mail c.index.result.now.work c.in-Nothing.is) key e in
-    besides_as (over_room w) (over_room w) [] _ m m (omega arith) (sym (told_none (λ s. over_by w s) m.tour.stops.items c.args.place (λ s. over_other w s none))) (besides_none (over_room w) m m refl)
+    let place = c.args.place in
+    let l : place < length m.posts.items = omega (arith, c.requires, m.posts.ok.0) in
+    let is : work_at m.posts.items place ≡ c.index.result.now.work = work_got m.posts.items place c.index.result.now l c.index.ensures in
+    so_where (λ s w. stays w) (λ s w. over_does place s w) place c.index.result.now.work m m is (λ s. mails_stay place s c.index.result.now.work c.in-Nothing.is) (so_stays place m)
 
-pub returns-in-Packet-clause-gateway : goal.returns-in-Packet-clause-gateway
-returns-in-Packet-clause-gateway c =
+pub returns-in-Packet-clause-told : goal.returns-in-Packet-clause-told
+returns-in-Packet-clause-told c =
     let m = c.args.self.now in
-    let w = work_at m.posts.items c.args.place in
-    let l : c.args.place < length m.posts.items = omega (arith, c.requires, m.posts.ok.0) in
-    let is : w ≡ Work.Packet = work_got m.posts.items c.args.place c.index.result.now l c.index.ensures ∙ c.in-Packet.is in
-    let room = ap over_room is in
-    besides_as 1 (over_room w) [] _ m c.handed.new.self (omega (arith, room))
-    (sym (told_none (λ s. over_by w s) m.tour.stops.items c.args.place (λ s. over_other w s (λ key f. absurd (let bad : Work.Packet ≡ Work.Passed key = sym is ∙ f in cc))))) c.handed.ensures.gateway
+    let place = c.args.place in
+    let l : place < length m.posts.items = omega (arith, c.requires, m.posts.ok.0) in
+    let is : work_at m.posts.items place ≡ Work.Packet = work_got m.posts.items place c.index.result.now l c.index.ensures ∙ c.in-Packet.is in
+    so_where (λ s w. handed_does place s w) (λ s w. over_does place s w) place Work.Packet m c.handed.new.self is (λ s. refl) c.handed.ensures.told
 
-pub returns-in-State-clause-gateway : goal.returns-in-State-clause-gateway
-returns-in-State-clause-gateway c =
+pub returns-in-Passed-clause-told : goal.returns-in-Passed-clause-told
+returns-in-Passed-clause-told c =
     let m = c.args.self.now in
-    let w = work_at m.posts.items c.args.place in
-    let l : c.args.place < length m.posts.items = omega (arith, c.requires, m.posts.ok.0) in
-    let is : w ≡ Work.State = work_got m.posts.items c.args.place c.index.result.now l c.index.ensures ∙ c.in-State.is in
-    let room = ap over_room is in
-    besides_as 1 (over_room w) [] _ m c.met.new.self (omega (arith, room))
-    (sym (told_none (λ s. over_by w s) m.tour.stops.items c.args.place (λ s. over_other w s (λ key f. absurd (let bad : Work.State ≡ Work.Passed key = sym is ∙ f in cc))))) c.met.ensures.gateway
+    let place = c.args.place in
+    let l : place < length m.posts.items = omega (arith, c.requires, m.posts.ok.0) in
+    let is : work_at m.posts.items place ≡ Work.Passed c.in-Passed.key = work_got m.posts.items place c.index.result.now l c.index.ensures ∙ c.in-Passed.is in
+    so_where (λ s w. passed_does place c.in-Passed.key s w) (λ s w. over_does place s w) place (Work.Passed c.in-Passed.key) m c.passed.new.self is (λ s. refl) c.passed.ensures.told
 
-pub returns-in-Passed-clause-gateway : goal.returns-in-Passed-clause-gateway
-returns-in-Passed-clause-gateway c =
+pub returns-in-State-clause-told : goal.returns-in-State-clause-told
+returns-in-State-clause-told c =
     let m = c.args.self.now in
-    let w = work_at m.posts.items c.args.place in
-    let key = c.in-Passed.key in
-    let l : c.args.place < length m.posts.items = omega (arith, c.requires, m.posts.ok.0) in
-    let is : w ≡ Work.Passed key = work_got m.posts.items c.args.place c.index.result.now l c.index.ensures ∙ c.in-Passed.is in
-    let room = ap over_room is in
-    besides_as 2 (over_room w) _ _ m c.passed.new.self (omega (arith, room)) (told_same (λ s. over_told key s.side.passing) (λ s. over_by w s) m.tour.stops.items c.args.place (λ s. ap (λ z. over_by z s) (sym is))) c.passed.ensures.gateway
+    let place = c.args.place in
+    let l : place < length m.posts.items = omega (arith, c.requires, m.posts.ok.0) in
+    let is : work_at m.posts.items place ≡ Work.State = work_got m.posts.items place c.index.result.now l c.index.ensures ∙ c.in-State.is in
+    so_where (λ s w. met_does place s w) (λ s w. over_does place s w) place Work.State m c.met.new.self is (λ s. refl) c.met.ensures.told

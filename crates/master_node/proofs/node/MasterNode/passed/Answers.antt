@@ -4,9 +4,12 @@ use Rattle.std.proofs.Common.{◌<◌, length, arith, refl, ap, ◌∙◌, true,
 use Rattle.std.specs.Prelude.{is_some, not}
 use Rattle.master_node.proofs.Endings.{ends_free, ends_here, ends_told}
 use Rattle.master_node.proofs.Downs.{here_is}
-use Rattle.std.proofs.Common.{[], sym}
-use Rattle.master_node.specs.Besides.{over_told}
-use Rattle.master_node.proofs.Besides.{besides_as, besides_none, besides_one, besides_then, over_none, over_some, told_here}
+use Rattle.std.proofs.Common.{◌∷◌, []}
+use Rattle.mailbox_mail.specs.declared.outcome.ReplyKind.{ReplyKind}
+use Rattle.master_node.specs.Besides.{answers, passed_does, stays}
+use Rattle.master_node.specs.Handed.{work_at}
+use Rattle.master_node.specs.declared.event.Event.{Event}
+use Rattle.master_node.proofs.Besides.{besides_one, does_as, does_none, does_then, does_told, passed_none, passed_some, so_here}
 use Rattle.master_node.proofs.node.MasterNode.passed.Goals as goal
 
 pub returns-else-is_none-clause-kept : goal.returns-else-is_none-clause-kept
@@ -27,20 +30,26 @@ returns-else-is_none-clause-works c =
     let l : c.args.place < length m.tour.stops.items = omega (arith, c.requires, m.paired, m.tour.stops.ok.0) in
     ends_free _ c.args.place m.posts.items m.posts.items (λ key e. here_is (λ s. is_some s.side.passing) m.tour.stops.items c.args.place c.index.result.now true l c.index.ensures (c.is_none.ensures ∙ ap not c.if-is_none.false)) (ends_told _ _ _ refl)
 
-pub returns-then-is_none-clause-gateway : goal.returns-then-is_none-clause-gateway
-returns-then-is_none-clause-gateway c =
+pub returns-then-is_none-clause-told : goal.returns-then-is_none-clause-told
+returns-then-is_none-clause-told c =
     let m = c.args.self.now in
-    let ss = m.tour.stops.items in
-    let l : c.args.place < length ss = omega (arith, c.requires, m.paired, m.tour.stops.ok.0) in
-    besides_as 2 2 _ _ m _ (omega arith)
-    (sym (told_here (λ s. over_told c.args.key s.side.passing) ss c.args.place c.index.result.now l c.index.ensures ∙ over_none c.args.key c.index.result.now.side.passing (c.is_none.ensures ∙ ap not c.if-is_none.true)))
-    (besides_then 1 1 [] _ m c.answered.new.self _ c.answered.ensures.gateway (besides_one c.answered.new.self _ _ c.put.ensures.last c.put.ensures.few refl))
+    let n = c.answered.new.self in
+    let place = c.args.place in
+    let key = c.args.key in
+    let s = c.index.result.now in
+    let w = work_at m.posts.items place in
+    let l : place < length m.tour.stops.items = omega (arith, c.requires, m.paired, m.tour.stops.ok.0) in
+    so_here (λ t v. passed_does place key t v) place m _ s l c.index.ensures
+    (does_as place _ (passed_does place key s w) m _ (passed_none place key s.side.passing w (c.is_none.ensures ∙ ap not c.if-is_none.true))
+    (does_then place (answers place ReplyKind.Handed) (λ v. record { told = Event.GatewayDone key ∷ []; work = v }) m n _ c.answered.ensures.told (does_told place (Event.GatewayDone key ∷ []) n _ (besides_one n _ _ c.put.ensures.last c.put.ensures.few c.put.ensures.head) refl)))
 
-pub returns-else-is_none-clause-gateway : goal.returns-else-is_none-clause-gateway
-returns-else-is_none-clause-gateway c =
+pub returns-else-is_none-clause-told : goal.returns-else-is_none-clause-told
+returns-else-is_none-clause-told c =
     let m = c.args.self.now in
-    let ss = m.tour.stops.items in
-    let l : c.args.place < length ss = omega (arith, c.requires, m.paired, m.tour.stops.ok.0) in
-    besides_as 2 2 [] _ m m (omega arith)
-    (sym (told_here (λ s. over_told c.args.key s.side.passing) ss c.args.place c.index.result.now l c.index.ensures ∙ over_some c.args.key c.index.result.now.side.passing (c.is_none.ensures ∙ ap not c.if-is_none.false)))
-    (besides_none 2 m m refl)
+    let place = c.args.place in
+    let key = c.args.key in
+    let s = c.index.result.now in
+    let w = work_at m.posts.items place in
+    let l : place < length m.tour.stops.items = omega (arith, c.requires, m.paired, m.tour.stops.ok.0) in
+    so_here (λ t v. passed_does place key t v) place m m s l c.index.ensures
+    (does_as place (stays w) (passed_does place key s w) m m (passed_some place key s.side.passing w (c.is_none.ensures ∙ ap not c.if-is_none.false)) (does_none place m m refl refl))

@@ -23,7 +23,7 @@ use Rattle.master_node.specs.Joined.{IsUnfinished, StopCompleted, stand_before, 
 use Rattle.master_node.proofs.Joineds.{back_unfinished, completed_at as completed_at_stop, three_on, three_kept, three_map, three_of, three_after, pair_both, completed_kept}
 use Rattle.master_node.proofs.Lefts.{true_false}
 use Rattle.master_node.proofs.Happenings.{happens_so}
-use Rattle.std.proofs.Common.{◌≡◌, ℕ, sym, true}
+use Rattle.std.proofs.Common.{◌≡◌, ◌≤◌, ℕ, sym, true}
 use Rattle.master_node.specs.Arrivals.{arrivals_in, heard_at, completed_at}
 use Rattle.master_node.proofs.Arrivals.{arrivals_few, arrivals_same, heard_few, heard_completed}
 use Rattle.master_node.proofs.Downs.{lists_all, lists_as}
@@ -50,12 +50,14 @@ use Rattle.master_node.proofs.Numbereds.{numbers_behind}
 use Rattle.std.proofs.Common.{◌++◌}
 use Rattle.std.specs.Prelude.{filter}
 use Rattle.master_tour.specs.Orders.{AreOnce}
-use Rattle.master_node.specs.Besides.{gateway_by, is_gateway, told_by}
-use Rattle.master_node.specs.Gateways.{lives_told}
+use Rattle.master_node.specs.Besides.{back_does, by_stop, stays}
+use Rattle.master_node.specs.Gateways.{is_gateway, lives_told}
 use Rattle.master_node.specs.Handed.{work_at}
-use Rattle.master_node.specs.Listing.{told_in}
+use Rattle.master_node.specs.Listing.{events_in, told_in}
+use Rattle.master_node.proofs.ToldFew.{back_few, told_five}
+use Rattle.master_node.proofs.Filtered.{filter_told, gateway_by, place_asked}
 use Rattle.master_node.proofs.Gateways.{all_told}
-use Rattle.master_node.proofs.Listing.{told_same}
+use Rattle.master_node.proofs.Listing.{listed_whole, told_same}
 use Rattle.master_node.proofs.node.MasterNode.returned.Goals as goal
 
 pub returns-clause-leads : goal.returns-clause-leads
@@ -213,8 +215,16 @@ returns-clause-gateway c = λ lens recover retry missed made octets vs f p b u r
     let once = subst (λ z. AreOnce z.items) (sym e.tour.0) u.goes.comes.once in
     let before = c.ends.ensures.few in
     let visit = c.returned.new.self.visit.items in
-    let tells = λ (k : ℕ). told_by (λ t. gateway_by (work_at m.posts.items k) t) ts k in
-    (c.all_back.ensures.gateway once).told (omega (arith, before, few))
-    ∙ (λ i. filter is_gateway (c.ends.ensures.last i) ++ told_in tells visit)
-    ∙ told_same tells (λ k. lives_told back vs ws k) visit (λ k w. same k)
+    let tells = λ (k : ℕ). (by_stop (stays (work_at m.posts.items k)) (λ t. back_does k t (work_at m.posts.items k)) ts k).told in
+    let asked = λ (k : ℕ). by_stop [] (λ t. gateway_by (work_at m.posts.items k) t) ts k in
+    let all = c.all_back.ensures.told once in
+    let most : length visit ≤ 16 = (let v = ap (λ z. length z.items) e.tour.0 in omega (arith, v, u.fits.few)) in
+    ap (filter is_gateway) (all.told (omega (arith, before, few, told_five tells (λ k. back_few m.posts.items ts k) visit, most)))
+    ∙ (λ i. filter is_gateway (c.ends.ensures.last i ++ told_in tells visit))
+    ∙ filter_told tells visit
+    ∙ told_same (λ k. filter is_gateway (tells k)) asked visit (λ k w. place_asked m.posts.items ts k)
+    ∙ told_same asked (λ k. lives_told back vs ws k) visit (λ k w. same k)
     ∙ ap (λ z. told_in (λ k. lives_told back vs ws k) z.items) e.tour.0
+
+pub returns-clause-whole : goal.returns-clause-whole
+returns-clause-whole c = listed_whole c.all_back.new.self ∙ ap (λ z. z ++ events_in c.all_back.new.self) (c.all_back.ensures.head ∙ c.ends.ensures.head)

@@ -3,10 +3,12 @@ use Rattle.master_node.proofs.Tells.{node_refl, node_told}
 use Rattle.master_node.proofs.Servings.{tells_refl, tells_told}
 use Rattle.master_node.proofs.Endings.{ends_other, ends_told}
 use Rattle.std.proofs.Common.{sym, ◌∙◌}
-use Rattle.std.proofs.Common.{[], ap, arith}
+use Rattle.std.proofs.Common.{◌<◌, Some, ◌∷◌, [], ap, arith, length}
+use Rattle.mailbox_mail.specs.declared.outcome.ReplyKind.{ReplyKind}
 use Rattle.master_node.specs.Handed.{work_at}
-use Rattle.master_node.specs.Besides.{turned_room}
-use Rattle.master_node.proofs.Besides.{besides_as, besides_none, besides_put, besides_then, turned_least}
+use Rattle.master_node.specs.Besides.{answers, opened_where, stays, turned_does, turned_where}
+use Rattle.master_node.specs.declared.event.Event.{Event}
+use Rattle.master_node.proofs.Besides.{besides_one, does_as, does_none, does_then, does_told, so_here, state_is}
 use Rattle.master_node.proofs.node.MasterNode.turned.Goals as goal
 
 pub returns-in-Some-Cleared-clause-kept : goal.returns-in-Some-Cleared-clause-kept
@@ -15,11 +17,11 @@ returns-in-Some-Cleared-clause-kept c = node_told _ _ refl refl refl
 pub returns-else-own-clause-kept : goal.returns-else-own-clause-kept
 returns-else-own-clause-kept c = node_told _ _ refl refl refl
 
-pub returns-clause-kept : goal.returns-clause-kept
-returns-clause-kept c = node_refl _
+pub returns-in-Some-GivenUp-clause-kept : goal.returns-in-Some-GivenUp-clause-kept
+returns-in-Some-GivenUp-clause-kept c = node_refl _
 
-pub returns-2-clause-kept : goal.returns-2-clause-kept
-returns-2-clause-kept c = node_refl _
+pub returns-in-None-clause-kept : goal.returns-in-None-clause-kept
+returns-in-None-clause-kept c = node_refl _
 
 pub returns-in-Some-Cleared-clause-tells : goal.returns-in-Some-Cleared-clause-tells
 returns-in-Some-Cleared-clause-tells c = tells_told _ _ refl refl refl
@@ -27,11 +29,11 @@ returns-in-Some-Cleared-clause-tells c = tells_told _ _ refl refl refl
 pub returns-else-own-clause-tells : goal.returns-else-own-clause-tells
 returns-else-own-clause-tells c = tells_told _ _ refl refl refl
 
-pub returns-clause-tells : goal.returns-clause-tells
-returns-clause-tells c = tells_refl _
+pub returns-in-Some-GivenUp-clause-tells : goal.returns-in-Some-GivenUp-clause-tells
+returns-in-Some-GivenUp-clause-tells c = tells_refl _
 
-pub returns-2-clause-tells : goal.returns-2-clause-tells
-returns-2-clause-tells c = tells_refl _
+pub returns-in-None-clause-tells : goal.returns-in-None-clause-tells
+returns-in-None-clause-tells c = tells_refl _
 
 pub returns-in-Some-Cleared-clause-works : goal.returns-in-Some-Cleared-clause-works
 returns-in-Some-Cleared-clause-works c = ends_told _ _ _ refl
@@ -39,34 +41,65 @@ returns-in-Some-Cleared-clause-works c = ends_told _ _ _ refl
 pub returns-else-own-clause-works : goal.returns-else-own-clause-works
 returns-else-own-clause-works c = ends_told _ _ _ refl
 
-pub returns-clause-works : goal.returns-clause-works
-returns-clause-works c = ends_told _ _ _ refl
+pub returns-in-Some-GivenUp-clause-works : goal.returns-in-Some-GivenUp-clause-works
+returns-in-Some-GivenUp-clause-works c = ends_told _ _ _ refl
 
-pub returns-2-clause-works : goal.returns-2-clause-works
-returns-2-clause-works c = ends_told _ _ _ refl
+pub returns-in-None-clause-works : goal.returns-in-None-clause-works
+returns-in-None-clause-works c = ends_told _ _ _ refl
 
 pub returns-then-own-clause-works : goal.returns-then-own-clause-works
 returns-then-own-clause-works c =
-    ends_other _ c.args.place c.args.self.now.posts.items c.answered.new.self.posts.items c.answered.ensures.works (λ key e. (let state = c.has_state-own.ensures c.if-own.true in let bad = sym state ∙ e in absurd (cc)))
+    ends_other _ c.args.place c.args.self.now.posts.items c.answered.new.self.posts.items c.answered.ensures.works (λ key e. (let state = state_is (work_at c.args.self.now.posts.items c.args.place) (sym c.has_state-own.ensures ∙ c.if-own.true) in let bad = sym state ∙ e in absurd (cc)))
 
-pub returns-in-Some-Cleared-clause-gateway : goal.returns-in-Some-Cleared-clause-gateway
-returns-in-Some-Cleared-clause-gateway c =
+pub returns-in-Some-Cleared-clause-told : goal.returns-in-Some-Cleared-clause-told
+returns-in-Some-Cleared-clause-told c =
     let m = c.args.self.now in
-    besides_as 1 _ [] [] m _ (turned_least (work_at m.posts.items c.args.place)) refl (besides_put m _ _ c.put.ensures.last c.put.ensures.few refl)
+    let place = c.args.place in
+    let s = c.index.result.now in
+    let w = work_at m.posts.items place in
+    let l : place < length m.tour.stops.items = omega (arith, c.requires, m.paired, m.tour.stops.ok.0) in
+    so_here (λ t v. turned_does place t v) place m _ s l c.index.ensures
+    (does_as place _ (turned_does place s w) m _ ((λ i. record { told = Event.Cleared place (c.has_state-own.ensures i) ∷ []; work = w }) ∙ ap (λ z. turned_where place z w) (sym (c.in-Some-Cleared.is ∙ ap Some (rw c.in-Some-Cleared.is at c.in-Some-Cleared.field-0-is))))
+    (does_told place (Event.Cleared place c.has_state-own.result ∷ []) m _ (besides_one m _ _ c.put.ensures.last c.put.ensures.few c.put.ensures.head) refl))
 
-pub returns-else-own-clause-gateway : goal.returns-else-own-clause-gateway
-returns-else-own-clause-gateway c =
+pub returns-else-own-clause-told : goal.returns-else-own-clause-told
+returns-else-own-clause-told c =
     let m = c.args.self.now in
-    besides_as 1 _ [] [] m _ (turned_least (work_at m.posts.items c.args.place)) refl (besides_put m _ _ c.put-in-Some-Opened.ensures.last c.put-in-Some-Opened.ensures.few refl)
+    let place = c.args.place in
+    let s = c.index.result.now in
+    let w = work_at m.posts.items place in
+    let l : place < length m.tour.stops.items = omega (arith, c.requires, m.paired, m.tour.stops.ok.0) in
+    so_here (λ t v. turned_does place t v) place m _ s l c.index.ensures
+    (does_as place _ (turned_does place s w) m _ (ap (λ z. opened_where place z w) (sym (sym c.has_state-own.ensures ∙ c.if-own.false)) ∙ ap (λ z. turned_where place z w) (sym (c.in-Some-Opened.is ∙ ap Some (rw c.in-Some-Opened.is at c.in-Some-Opened.field-0-is))))
+    (does_told place (Event.Opened place ∷ []) m _ (besides_one m _ _ c.put-in-Some-Opened.ensures.last c.put-in-Some-Opened.ensures.few c.put-in-Some-Opened.ensures.head) refl))
 
-pub returns-then-own-clause-gateway : goal.returns-then-own-clause-gateway
-returns-then-own-clause-gateway c =
+pub returns-then-own-clause-told : goal.returns-then-own-clause-told
+returns-then-own-clause-told c =
     let m = c.args.self.now in
-    let room = ap turned_room (c.has_state-own.ensures c.if-own.true) in
-    besides_as 2 _ [] [] m _ (omega (arith, room)) refl (besides_then 1 1 [] [] m _ _ (besides_put m _ _ c.put-in-Some-Opened.ensures.last c.put-in-Some-Opened.ensures.few refl) c.answered.ensures.gateway)
+    let place = c.args.place in
+    let s = c.index.result.now in
+    let w = work_at m.posts.items place in
+    let l : place < length m.tour.stops.items = omega (arith, c.requires, m.paired, m.tour.stops.ok.0) in
+    so_here (λ t v. turned_does place t v) place m _ s l c.index.ensures
+    (does_as place _ (turned_does place s w) m _ (ap (λ z. opened_where place z w) (sym (sym c.has_state-own.ensures ∙ c.if-own.true)) ∙ ap (λ z. turned_where place z w) (sym (c.in-Some-Opened.is ∙ ap Some (rw c.in-Some-Opened.is at c.in-Some-Opened.field-0-is))))
+    (does_then place (record { told = Event.Opened place ∷ []; work = w }) (λ v. answers place ReplyKind.Done) m _ _ (does_told place (Event.Opened place ∷ []) m _ (besides_one m _ _ c.put-in-Some-Opened.ensures.last c.put-in-Some-Opened.ensures.few c.put-in-Some-Opened.ensures.head) refl) c.answered.ensures.told))
 
-pub returns-clause-gateway : goal.returns-clause-gateway
-returns-clause-gateway c = besides_none _ _ _ refl
+pub returns-in-Some-GivenUp-clause-told : goal.returns-in-Some-GivenUp-clause-told
+returns-in-Some-GivenUp-clause-told c =
+    let m = c.args.self.now in
+    let place = c.args.place in
+    let s = c.index.result.now in
+    let w = work_at m.posts.items place in
+    let l : place < length m.tour.stops.items = omega (arith, c.requires, m.paired, m.tour.stops.ok.0) in
+    so_here (λ t v. turned_does place t v) place m m s l c.index.ensures
+    (does_as place (stays w) (turned_does place s w) m m (ap (λ z. turned_where place z w) (sym (c.in-Some-GivenUp.is ∙ ap Some (rw c.in-Some-GivenUp.is at c.in-Some-GivenUp.field-0-is)))) (does_none place m m refl refl))
 
-pub returns-2-clause-gateway : goal.returns-2-clause-gateway
-returns-2-clause-gateway c = besides_none _ _ _ refl
+pub returns-in-None-clause-told : goal.returns-in-None-clause-told
+returns-in-None-clause-told c =
+    let m = c.args.self.now in
+    let place = c.args.place in
+    let s = c.index.result.now in
+    let w = work_at m.posts.items place in
+    let l : place < length m.tour.stops.items = omega (arith, c.requires, m.paired, m.tour.stops.ok.0) in
+    so_here (λ t v. turned_does place t v) place m m s l c.index.ensures
+    (does_as place (stays w) (turned_does place s w) m m (ap (λ z. turned_where place z w) (sym c.in-None.is)) (does_none place m m refl refl))

@@ -22,7 +22,7 @@ use Rattle.master_node.proofs.Filleds.{count_behind}
 use Rattle.master_node.proofs.Visits.{Fitted, Began, SomeKept, here, what, what_is, none_here, now, now_here, comes, frame, frame_kept, spot, leaves, waits_none, told, among, among_fitted}
 use Rattle.master_node.proofs.Begins.{begun_step}
 use Rattle.master_node.specs.Listing.{number_at, run_tells, where_began}
-use Rattle.master_node.proofs.Listing.{ToldSo, laid_from, listed_on, listed_step, listed_visit, number_here}
+use Rattle.master_node.proofs.Listing.{ToldSo, before_of_list, laid_from, listed_on, listed_step, listed_visit, number_here}
 use Rattle.master_node.specs.Begins.{NoneMore, TakesOn, taken_where}
 use Rattle.std.proofs.Common.{◌∙◌}
 use Rattle.master_node.proofs.Lists.{steps_each, each_trans}
@@ -439,3 +439,9 @@ returns-clause-serves c = λ lens recover made forwards left next ws few d at ov
       listing = listed_step (served_tells ws) forwards left next f.begun (map run_lead ws) m c.came.new.self place here_is what_is (subst (λ z. AreDistinct z) (sym (map_map lived_of run_lead ws)) d) told.0 at over fewer
           (listed_visit (served_tells ws) place (where_began r coming) what_is m _ c.came.new.self c.lay.ensures.list few told.1 c.came.ensures.lists) f.listing;
     }
+
+pub returns-then-not-fits-clause-head : goal.returns-then-not-fits-clause-head
+returns-then-not-fits-clause-head c = refl
+
+pub returns-clause-head : goal.returns-clause-head
+returns-clause-head c = c.came.ensures.head ∙ before_of_list _ _ c.lay.ensures.list

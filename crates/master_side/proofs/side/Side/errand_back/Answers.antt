@@ -38,6 +38,7 @@ returns-then-counter-eq0 g c = λ made. record {
   replied = search rules;
   joined = search rules;
   knows = search rules;
+  sure = search rules;
 }
 
 pub returns-in_default : goal.returns-in_default
@@ -66,6 +67,7 @@ returns-in_default g c = λ made. record {
   replied = search rules;
   joined = search rules;
   knows = search rules;
+  sure = search rules;
 }
 
 pub returns-in-Some : goal.returns-in-Some
@@ -96,4 +98,5 @@ returns-in-Some g c = λ made. record {
   replied = search rules;
   joined = grind (arith, common_steps);
   knows = search rules;
+  sure = search rules;
 }

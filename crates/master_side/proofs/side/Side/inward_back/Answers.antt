@@ -83,6 +83,7 @@ returns g c = record {
       let same = sym c.read_done.ensures.kept.4 in
       c.hear.ensures.knows x d.now (subst (λ z. g.H.Hand.shows z x d.now) same s.row) (subst (λ z. g.H.Hand.knows z ≡ true) same k)
       (subst (λ (ms : List Body). EachDue x d.now ms) (accepts ∙ sym (ap heard_of c.view_in.ensures)) e);
+  sure = λ k. subst (λ z. g.H.Hand.knows z ≡ true) c.read_done.ensures.kept.4 (c.hear.ensures.sure k);
 }
 
 pub hear-requires : goal.hear-requires

@@ -37,4 +37,5 @@ returns g c = λ octets made. record {
   replied = search rules;
   joined = search rules;
   knows = search rules;
+  sure = search rules;
 }

@@ -100,6 +100,7 @@ returns-in-Gone-clause-recalls g c = λ x recover spot lens sent l sp r u sh. re
   visited = λ o. absurd (let t = sym c.in-Gone.is ∙ o in cc);
   unvisited = λ o. absurd (let t = sym c.in-Gone.is ∙ o in cc);
   known = λ k due. k;
+  sure = λ o k. k;
 }
 
 pub returns-in-Opening-clause-recalls : goal.returns-in-Opening-clause-recalls
@@ -107,6 +108,7 @@ returns-in-Opening-clause-recalls g c = λ x recover spot lens sent l sp r u sh.
   visited = λ o. absurd (let t = sym c.in-Opening.is ∙ o in cc);
   unvisited = λ o. absurd (let t = sym c.in-Opening.is ∙ o in cc);
   known = λ k due. c.opening_back.ensures.knows k;
+  sure = λ o. absurd (let t = sym c.in-Opening.is ∙ o in cc);
 }
 
 pub returns-in-Open-clause-recalls : goal.returns-in-Open-clause-recalls
@@ -116,6 +118,7 @@ returns-in-Open-clause-recalls g c = λ x recover spot lens sent l sp r u sh.
       visited = λ o v b n. let w = q.visited o v b n in record { counter = w.counter; octets = w.octets; back = w.back; paused = w.paused; turn = w.turn; duty = w.duty };
       unvisited = q.unvisited;
       known = q.known;
+      sure = q.sure;
     }
 
 pub returns-in-Gone-clause-counts : goal.returns-in-Gone-clause-counts

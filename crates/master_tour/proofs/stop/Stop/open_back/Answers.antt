@@ -210,6 +210,9 @@ returns-then-seek-clause-knows g c = λ x lens back d a e s u.
     has_accepted (λ ms. g.H.Hand.knows w.hand ≡ true → EachDue x d.now ms → g.H.Hand.knows y.hand ≡ true) w.station c.args.self.now.at c.args.self.now.under w.carried (duty_access a.hand) lens c.args.octets.now c.body_of-body.result.now (parts_of 16 ds) _ no_part back d.halves c.if-not-self.false here c.body_of-body.ensures is u
     (λ b m i. c.returned.ensures.knows x b d a s m i)
 
+pub returns-then-seek-clause-sure : goal.returns-then-seek-clause-sure
+returns-then-seek-clause-sure g c = λ k. c.returned.ensures.sure k
+
 pub returns-then-not-self-clause-counts : goal.returns-then-not-self-clause-counts
 returns-then-not-self-clause-counts g c = λ x lens counts back d a e s u k.
     let w = c.args.self.now.side in

@@ -149,6 +149,7 @@ returns-clause-recalls g c = λ o x recover spot lens sent l sp r u sh.
           let own = subst (λ (z : Lives.Stand). EachDue x now (accepted_at spot.station h back z)) stood.0 (due stood.0) in
           let here = subst (λ (z : ℕ). EachDue x now (all_accepted z h (grams (Own.own z back)))) (sym sp.station_is) own in
           subst (λ z. g.H.Hand.knows z.hand ≡ true) (sym c.reopen.ensures.side) (c.open_back.ensures.knows x lens back l.era.side l.era.account refl stood.1 under k (all here));
+      sure = λ q k. c.open_back.ensures.sure (subst (λ z. g.H.Hand.knows z.hand ≡ true) c.reopen.ensures.side k);
     }
 
 pub returns-clause-counts : goal.returns-clause-counts

@@ -1,8 +1,10 @@
-use Rattle.std.proofs.Common.{◌≡◌, ◌<◌, ◌++◌, ◌∷◌, [], ℕ, List, true, false, length, get_or, sym, ap, ◌∙◌, subst, rules, arith}
+use Rattle.std.proofs.Common.{◌≡◌, ◌<◌, ◌++◌, ◌∷◌, [], ℕ, List, true, false, length, map, get_or, sym, ap, ◌∙◌, subst, rules, arith}
 use Rattle.std.specs.Prelude.{Option, slice_get, slice_set}
+use Rattle.std.proofs.lemmas.List.{length-map}
 use Rattle.std.proofs.lemmas.Result.{on_ok_weaker}
 use Rattle.master_node.proofs.Lists.{both_length}
-use Rattle.master_node.specs.Shows.{IsLead}
+use Rattle.master_node.proofs.Quiets.{lead_lives}
+use Rattle.master_node.specs.Shows.{IsLived, lived_of}
 use Rattle.run_notes.specs.declared.notes.Notes.{Notes}
 use Rattle.run_notes.specs.Slaves.{gaves_noted}
 use Rattle.run_notes.specs.Notes.{stations_of}
@@ -18,12 +20,12 @@ use Rattle.run_notes.proofs.Packets.{same_begun}
 use Rattle.run_notes.proofs.standing.Log.note_loss.Goals as goal
 
 pub returns-then-not-gave_up_more-clause-gave : goal.returns-then-not-gave_up_more-clause-gave
-returns-then-not-gave_up_more-clause-gave c = λ lens retry missed leads shown all.
+returns-then-not-gave_up_more-clause-gave c = λ lens leads lives all.
     let log = c.args.self.now in
     let no : c.gave_up_more.result ≡ false = search rules in
     let here = subst (λ (ns : List Notes). c.index-rows-place.result ≡ get_or ns c.args.at c.index-rows-place.result) c.as_slice-rows.ensures c.index-rows-place.is in
     none_more log.recover c.args.frame c.gave_up_more.result c.args.at leads (gaves_noted log.notes) c.index-rows-place.result.gave no all
-    (tells_of log.recover c.gave_up_more.result c.len-times.result c.index-rows-place.result.gave leads c.args.at (c.len-times.ensures ∙ ap (λ (n : Notes). length n.gave) (sym c.index-rows-place.is)) (c.gave_up_more.ensures lens retry missed leads shown))
+    (tells_of log.recover c.gave_up_more.result c.len-times.result c.index-rows-place.result.gave leads c.args.at (c.len-times.ensures ∙ ap (λ (n : Notes). length n.gave) (sym c.index-rows-place.is)) (c.gave_up_more.ensures lens leads lives))
     (gave_got log.notes c.args.at c.index-rows-place.result c.requires.notes here)
 
 pub at_mut-requires : goal.at_mut-requires
@@ -50,14 +52,14 @@ returns-clause-gave c =
     let here = subst (λ (ns : List Notes). c.index-rows-place.result ≡ get_or ns c.args.at c.index-rows-place.result) c.as_slice-rows.ensures c.index-rows-place.is in
     let old = c.index-rows-place.result.gave in
     on_ok_weaker c.given_up-noted.result
-    (λ is. λ lens retry missed leads shown all.
+    (λ is. λ lens leads lives all.
     let m = c.args.master.now in
-    let inside : c.args.at < length leads = (let b = both_length (λ a s. IsLead lens log.recover a s) leads m.tour.stops.items shown.each in omega (arith, b, c.requires.notes, c.requires.posts, m.paired, m.tour.stops.ok.0)) in
+    let inside : c.args.at < length leads = (let b = both_length (λ a s. IsLived lens log.recover a s) (map lived_of leads) m.tour.stops.items lives in let k = length-map leads lived_of in omega (arith, b, k, c.requires.notes, c.requires.posts, m.paired, m.tour.stops.ok.0)) in
     noted_at log.notes c.args.at c.given_up-noted.new.self
     ∙ ap (slice_set (gaves_noted log.notes) c.args.at)
     (ap (λ (n : Notes). n.gave) is ∙ ap (λ (g : List ℕ). g ++ c.args.frame ∷ []) (same_there log.notes c.args.at c.index-rows-place.result c.at_mut-notes.result.now c.requires.notes here c.at_mut-notes.ensures.value))
     ∙ one_more log.recover c.args.frame c.gave_up_more.result c.args.at leads (gaves_noted log.notes) old yes inside all
-    (tells_of log.recover c.gave_up_more.result c.len-times.result old leads c.args.at (c.len-times.ensures ∙ ap (λ (n : Notes). length n.gave) (sym c.index-rows-place.is)) (c.gave_up_more.ensures lens retry missed leads shown))
+    (tells_of log.recover c.gave_up_more.result c.len-times.result old leads c.args.at (c.len-times.ensures ∙ ap (λ (n : Notes). length n.gave) (sym c.index-rows-place.is)) (c.gave_up_more.ensures lens leads lives))
     (gave_got log.notes c.args.at c.index-rows-place.result c.requires.notes here))
     c.given_up-noted.ensures.is
 
@@ -69,7 +71,7 @@ returns-then-not-gave_up_more-clause-told c = λ lens retry missed as' bs shown 
     let here = subst (λ (ns : List Notes). n ≡ get_or ns c.args.at n) c.as_slice-rows.ensures c.index-rows-place.is in
     let times : c.len-times.result ≡ length n.gave = c.len-times.ensures ∙ ap (λ (m : Notes). length m.gave) (sym c.index-rows-place.is) in
     to_same (λ a b. LosesSo c.args.frame a b) c.args.at as' bs log.notes n p (got_there log.notes c.args.at n c.requires.notes here)
-    (λ a b e q s. loss_same log.recover c.args.frame a b n q s bs all c.args.at e c.gave_up_more.result c.len-times.result times no (c.gave_up_more.ensures lens retry missed bs shown)) r
+    (λ a b e q s. loss_same log.recover c.args.frame a b n q s bs all c.args.at e c.gave_up_more.result c.len-times.result times no (c.gave_up_more.ensures lens bs (lead_lives lens log.recover bs c.args.master.now.tour.stops.items shown.each))) r
 
 pub returns-clause-told : goal.returns-clause-told
 returns-clause-told c =
@@ -86,7 +88,7 @@ returns-clause-told c =
     (λ is. λ lens retry missed as' bs shown all p r.
     to_next (λ a b. LosesSo c.args.frame a b) c.args.at as' bs log.notes n c.given_up-noted.new.self p got
     (λ a b e q s. subst (λ (z : Notes). Reports b z) (sym (is ∙ ap (λ (z : Notes). given_up z c.is_leaving-leaves.result c.args.frame) same))
-    (loss_more log.recover c.args.frame a b n q s bs all c.args.at e c.gave_up_more.result c.len-times.result times yes (c.gave_up_more.ensures lens retry missed bs shown) c.is_leaving-leaves.result (c.is_leaving-leaves.ensures lens log.recover bs shown.each))) r)
+    (loss_more log.recover c.args.frame a b n q s bs all c.args.at e c.gave_up_more.result c.len-times.result times yes (c.gave_up_more.ensures lens bs (lead_lives lens log.recover bs c.args.master.now.tour.stops.items shown.each)) c.is_leaving-leaves.result (c.is_leaving-leaves.ensures lens log.recover bs shown.each))) r)
     c.given_up-noted.ensures.is
 
 pub returns-clause-heard : goal.returns-clause-heard

@@ -1,7 +1,8 @@
 use Rattle.std.proofs.Common.{◌≡◌, ◌+◌, ℕ, suc, map, refl, sym, ap, ◌∙◌, subst, arith}
 use Rattle.std.proofs.lemmas.List.{length-map}
 use Rattle.run_notes.specs.declared.notes.Notes.{Notes}
-use Rattle.master_node.specs.Shows.{MasterShows}
+use Rattle.master_node.specs.Shows.{MasterShows, lived_of}
+use Rattle.master_node.specs.Told.{HasLives}
 use Rattle.master_node.specs.Wants.{gave_of, AllCounted}
 use Rattle.run_notes.specs.Slaves.{gaves_noted}
 use Rattle.run_notes.specs.Slaves.{gave_at}
@@ -26,23 +27,23 @@ loop-place-preserved c =
           let e : suc place ≡ place + 1 = omega arith in
           subst (λ (k : ℕ). ReportsTo k as' bs c.note_loss.new.self.notes) e
           (c.in_ok-note_loss.ensures.told lens retry missed as' bs (subst (λ (n : ℕ). MasterShows lens n retry c.args.master.now missed bs) (sym inv.slaves.recover) shown) (subst (λ (n : ℕ). AllCounted n bs) (sym inv.slaves.recover) all) p (inv.told lens retry missed as' bs shown all p r));
-      gave = λ lens retry missed leads shown all.
-          c.in_ok-note_loss.ensures.gave lens retry missed leads (subst (λ (n : ℕ). MasterShows lens n retry c.args.master.now missed leads) (sym inv.slaves.recover) shown) (subst (λ (n : ℕ). AllCounted n leads) (sym inv.slaves.recover) all)
-          ∙ ap (gave_at place c.args.frame (map gave_of leads)) (inv.gave lens retry missed leads shown all) ∙ walked_on place c.args.frame (map gave_of leads) (gaves_noted first.notes)
+      gave = λ lens leads lives all.
+          c.in_ok-note_loss.ensures.gave lens leads (subst (λ (n : ℕ). HasLives lens n c.args.master.now (map lived_of leads)) (sym inv.slaves.recover) lives) (subst (λ (n : ℕ). AllCounted n leads) (sym inv.slaves.recover) all)
+          ∙ ap (gave_at place c.args.frame (map gave_of leads)) (inv.gave lens leads lives all) ∙ walked_on place c.args.frame (map gave_of leads) (gaves_noted first.notes)
           ∙ (let e : suc place ≡ place + 1 = omega arith in ap (λ (k : ℕ). walked k c.args.frame (map gave_of leads) (gaves_noted first.notes)) e);
     }
 
 pub returns-clause-gave : goal.returns-clause-gave
-returns-clause-gave c = λ lens retry missed leads shown all.
+returns-clause-gave c = λ lens leads lives all.
     let first = c.args.self.now in
     let long = length-map first.notes (λ (n : Notes). n.gave) in
-    c.loop-place.invariant.gave lens retry missed leads shown all
+    c.loop-place.invariant.gave lens leads lives all
     ∙ walked_all c.loop-place.place c.args.frame (map gave_of leads) (gaves_noted first.notes) (omega (arith, long, c.loop-place-test.false, c.len-place-end.ensures))
 
 pub loop-place-init : goal.loop-place-init
 loop-place-init c = record {
   slaves = record { notes = refl; homes = refl; asked = refl; ports = refl; recover = refl };
-  gave = λ lens retry missed leads shown all. refl;
+  gave = λ lens leads lives all. refl;
   heard = refl;
   rows = refl;
   told = λ lens retry missed as' bs shown all p r. to_first as' bs c.args.self.now.notes (both_lengths (λ a b. LosesSo c.args.frame a b) as' bs p) r;

@@ -1,3 +1,0 @@
-pub mod Each
-mod Heard
-pub mod Rows
