@@ -1,5 +1,5 @@
 -- The newest row of a slave with no state service in hand.
-use Rattle.std.proofs.Common.{◌≡◌, inl, inr, ℕ, ◌+◌, ◌&&◌, Bool, true, false, not, is_none, is_some, Option, Some, None, option_map, List, [], ◌∷◌, ◌++◌, length, refl, sym, ap, ◌∙◌, subst, append-nil, append_assoc, arith, if◌then◌else◌}
+use Rattle.std.proofs.Common.{◌≡◌, inl, inr, ℕ, ◌+◌, ◌&&◌, Bool, true, false, not, is_none, is_some, Option, Some, None, option_map, List, [], ◌∷◌, ◌++◌, length, refl, sym, ap, ◌∙◌, subst, append-nil, arith, if◌then◌else◌}
 use Rattle.exchange_model.specs.Exchange.{Exchange, IsLawful, given, plain}
 use Rattle.exchange_model.specs.Rows.{Row, answer_after, left}
 use Rattle.exchange_model.proofs.Lists.{append_cancel, append_none}
@@ -163,7 +163,7 @@ module _ {V A M Q R : Type 0} (x : Exchange V A M Q R) (law : IsLawful x) (s : S
       | inr g ↦ elim g.place [
         | inl m ↦ mails_heard_whole g m r now none
         | inr n ↦ absurd (last_other mails.front mails.service mails.frame g.now.frame n.target (starts_of (g.front ++ g.last))
-            (sym mails.is ∙ sym g.started ∙ ap starts_of (sym (append_assoc g.front g.last (g.now ∷ []))) ∙ starts_append (g.front ++ g.last) (g.now ∷ []) ∙ ap (λ z. starts_of (g.front ++ g.last) ++ record { service = z; frame = g.now.frame } ∷ []) n.service))
+            (sym mails.is ∙ sym g.started ∙ starts_append (g.front ++ g.last) (g.now ∷ []) ∙ ap (λ z. starts_of (g.front ++ g.last) ++ record { service = z; frame = g.now.frame } ∷ []) n.service))
       ]
     ]
 
