@@ -1,5 +1,5 @@
 -- Where no slave of a master is live each that it leads was given up for good.
-use Rattle.std.proofs.Common.{◌≡◌, refl, ℕ, Bool, true, false, List, [], ◌∷◌}
+use Rattle.std.proofs.Common.{◌≡◌, refl, ℕ, Bool, true, false, List, [], ◌∷◌, map}
 use Rattle.std.specs.Prelude.{◌||◌, ⊤}
 use Rattle.std.specs.List.{list_any}
 use Rattle.master_node.specs.of_frame_view.View.{Lens}
@@ -11,7 +11,7 @@ use Rattle.slave_node.specs.of_link_mails.Body.{Body}
 use Rattle.master_node.specs.of_master_duty.Reply.{Reply}
 use Rattle.master_node.specs.of_master_hand.Spoken.{Asked}
 use Rattle.master_node.specs.of_master_hand.declared.hand.InHand.{InHand}
-use Rattle.master_node.specs.Shows.{IsLead, side_shows}
+use Rattle.master_node.specs.Shows.{IsLived, lived_of, side_shows}
 use Rattle.master_node.specs.of_master_side.declared.hand.Hand.{Ghosts}
 use Rattle.master_node.specs.of_master_tour.Goes.{is_live}
 use Rattle.master_node.specs.of_master_tour.Stands.{StandShows}
@@ -38,11 +38,11 @@ pub second_false : (a b : Bool) → (a || b) ≡ false → b ≡ false
 second_false true b e = absurd (let bad : true ≡ false = e in cc)
 second_false false b e = e
 
-pub all_gone : {G : Ghosts InHand} (lens : ℕ → Lens) (recover : ℕ) (as' : List Leads) (ss : List (Stop InHand G)) → AllBoth (λ a s. IsLead lens recover a s) as' ss → list_any (λ (s : Stop InHand G). is_live s.stand) ss ≡ false → AllGone as'
+pub all_gone : {G : Ghosts InHand} (lens : ℕ → Lens) (recover : ℕ) (as' : List Leads) (ss : List (Stop InHand G)) → AllBoth (λ a s. IsLived lens recover a s) (map lived_of as') ss → list_any (λ (s : Stop InHand G). is_live s.stand) ss ≡ false → AllGone as'
 all_gone lens recover [] [] x e = tt
 all_gone lens recover [] (s ∷ ss) x e = absurd x
 all_gone lens recover (a ∷ as') [] x e = absurd x
 all_gone {G} lens recover (a ∷ as') (s ∷ ss) x e = (
-  gone_stand (λ d b. side_shows lens recover s a.lived.spot d b) a.lived.spot s.stand a.lived.life (first_false (is_live s.stand) (list_any (λ (t : Stop InHand G). is_live t.stand) ss) e) x.0.lives.shown.stood,
+  gone_stand (λ d b. side_shows lens recover s a.lived.spot d b) a.lived.spot s.stand a.lived.life (first_false (is_live s.stand) (list_any (λ (t : Stop InHand G). is_live t.stand) ss) e) x.0.shown.stood,
   all_gone lens recover as' ss x.1 (second_false (is_live s.stand) (list_any (λ (t : Stop InHand G). is_live t.stand) ss) e),
 )

@@ -1,22 +1,17 @@
 -- A master goes on leading its slaves, frame by frame, and what is noted of their give-ups goes with it.
-use Rattle.std.proofs.Common.{◌≡◌, ℕ, suc, ◌+◌, ◌<◌, Bool, true, false, None, List, [], ◌∷◌, ◌++◌, map, length, length-append, refl, sym, ap, ◌∙◌, subst, arith}
-use Rattle.std.specs.Prelude.{◌↔◌, ◌&&◌, nat_lt, if◌then◌else◌}
-use Rattle.std.proofs.lemmas.Bool.{lt-ltb, le-ltb}
+use Rattle.std.proofs.Common.{◌≡◌, ℕ, suc, ◌+◌, ◌<◌, Bool, true, false, None, List, [], ◌∷◌, ◌++◌, map, length, refl, sym, ap, ◌∙◌, subst, arith}
+use Rattle.std.specs.Prelude.{◌↔◌}
 use Rattle.std.proofs.lemmas.List.{map-append}
 use Rattle.datagrams.specs.Datagram as Raw
 use Rattle.eoe_switch.specs.Switch.{switched}
 use Rattle.eoe_switch.specs.declared.switching.SwitchEvent.{SwitchEvent}
 use Rattle.master_node.specs.of_frame_view.View.{Lens}
 use Rattle.master_node.specs.of_frame_view.Seen.{seen}
-use Rattle.master_node.specs.of_life_frames.Shares.{AllBoth, Lived, came_at, given_where}
+use Rattle.master_node.specs.of_life_frames.Shares.{AllBoth}
 use Rattle.life_heard.proofs.Heards.{loses}
 use Rattle.life_heard.specs.Heard.{AllNoted, brought_by, heard_in, heard_on}
-use Rattle.master_node.specs.of_life_model.Lives.{Life, life_lost}
 use Rattle.master_node.specs.of_life_runs.First.{lens_of, script_for, first_leads, leads_from}
-use Rattle.master_node.specs.of_life_runs.Led.{Exchanged, Leads, Turn, AllTurn, IsLed, IsLedFrame, is_passed, speech_at, life_behind, led_behind, gives_up_at, missed_behind}
-use Rattle.slave_node.specs.of_link_mails.Body.{Body}
-use Rattle.master_node.specs.of_master_duty.Reply.{Reply}
-use Rattle.master_node.specs.of_master_hand.Spoken.{Asked, acknowledged, is_followed}
+use Rattle.master_node.specs.of_life_runs.Led.{Exchanged, Leads, Turn, AllTurn, IsLed, IsLedFrame, IsTurn, life_behind, led_behind, gives_up_at, missed_behind}
 use Rattle.master_node.specs.of_life_runs.Led.{new_leads}
 use Rattle.master_node.specs.of_life_model.Lives.{Spot}
 use Rattle.master_node.specs.Arrivals.{completed_at, ComeIn}
@@ -33,10 +28,10 @@ use Rattle.master_node.specs.Origins.{forwards_at}
 use Rattle.master_node.specs.Joined.{HasUnfinished, JoinsKept, stand_before, stand_under, unfinished_after}
 use Rattle.master_node.specs.Made.{AreOfMaking}
 use Rattle.master_node.specs.Ports.{ports_behind, ports_of}
-use Rattle.master_node.specs.Shows.{MasterShows, MasterUnder, IsLead, IsUnder, is_live_lead}
+use Rattle.master_node.specs.Shows.{MasterShows, MasterUnder, IsLead, IsUnder, is_live_lead, lived_of}
 use Rattle.master_node.specs.Asks.{AllAsk}
 use Rattle.master_node.specs.Toured.{tour_of, turn_share}
-use Rattle.master_node.specs.Told.{HasLeads}
+use Rattle.master_node.specs.Told.{HasLeads, HasLives}
 use Rattle.master_node.proofs.Lists.{both_map}
 use Rattle.master_node.specs.Wants.{gave_of, AllCounted}
 use Rattle.master_node.specs.declared.node.MasterNode.{MasterNode}
@@ -46,7 +41,8 @@ use Rattle.master_node.specs.Rooms.{area_at}
 use Rattle.master_node.specs.of_master_tour.Goes.{holds_at}
 use Rattle.master_node.specs.of_master_tour.Sizes.{frame_size}
 use Rattle.master_node.specs.of_master_tour.Toured.{Tour, IsOfTour, new_tour}
-use Rattle.master_node.proofs.Counts.{counted, turn_gave, back_gave, lost_gave}
+use Rattle.master_node.proofs.Counts.{counted}
+use Rattle.master_node.proofs.Quiets.{lead_lives}
 use Rattle.packets_begun.specs.Numbers.{each_with}
 use Rattle.port_events.specs.Listed.{unfinished_of}
 use Rattle.port_events.specs.of_packets_heard.Heard.{Joined, joined_in, joined_none, mails_by}
@@ -80,7 +76,7 @@ use Rattle.run_notes.specs.Reports.{Reports, AllReport, ReportsOn, ReportsBy, Tu
 use Rattle.run_notes.specs.Unsent.{IsNumbered}
 use Rattle.run_notes.proofs.Unsent.{none_begun, all_left}
 use Rattle.run_record.specs.Session.{has_live}
-use Rattle.run_notes.specs.Slaves.{first_notes, scripted, gaves_behind, GaveBy}
+use Rattle.run_notes.specs.Slaves.{first_notes, scripted, GaveBy}
 use Rattle.script_answers.specs.Answers.{turned as turned_lead}
 use Rattle.script_answers.specs.Steps.{TurnsSo, PassesSo, LosesSo}
 use Rattle.script_answers.proofs.Losses.{passes_so, loses_so}
@@ -89,12 +85,12 @@ use Rattle.run_record.proofs.Befores.{AllBefore, turns_before, all_before}
 use Rattle.run_record.proofs.Began.{packets_first, packets_on}
 use Rattle.run_record.proofs.Forwards.{forwarded_on}
 use Rattle.run_record.proofs.Nexts.{next_frame}
-use Rattle.run_notes.proofs.Gaves.{with_more}
+use Rattle.run_record.proofs.Noted.{GivesOne, lost_gives, next_gives, noted_by, noted_now, pass_gives}
 use Rattle.run_notes.proofs.Heard.{first_heard}
 use Rattle.visit_orders.specs.Toured.{IsToured, tour_behind, lives_behind}
 
 -- BEFORE THE FIRST FRAME
-first_gaves : (services : List (ℕ × Plan.Service)) (number place : ℕ) (ss : List SlaveSpec) → gaves_noted (first_notes services number ss) ≡ map gave_of (leads_from services place ss)
+pub first_gaves : (services : List (ℕ × Plan.Service)) (number place : ℕ) (ss : List SlaveSpec) → gaves_noted (first_notes services number ss) ≡ map gave_of (leads_from services place ss)
 first_gaves services number place [] = refl
 first_gaves services number place (s ∷ ss) = ap (λ (gs : List (List ℕ)). [] ∷ gs) (first_gaves services (number + 1) (suc place) ss)
 
@@ -152,49 +148,16 @@ first_stands plan m notes shown first tour ports none counts known = λ b empty 
     record { forwards = first_forwards plan m notes shown first tour ports none counts b empty bare; remembers = record { toured = both.0; recalled = both.1 } }
 
 -- GIVE-UPS over a frame
-abbrev turned_gave : Turn → List ℕ
-turned_gave u = u.lived.life.gave
-
 module _ (lens : ℕ → Lens) (recover retry : ℕ) (gives : Bool) (made : ℕ) (f : Exchanged) where
-  turns_gave : (ds : List Raw.Datagram) (as' : List Leads) (us : List Turn) → AllTurn lens made ds as' us → map turned_gave us ≡ map gave_of as'
-  turns_gave ds [] [] t = refl
-  turns_gave ds [] (u ∷ us) t = absurd t
-  turns_gave ds (a ∷ as') [] t = absurd t
-  turns_gave ds (a ∷ as') (u ∷ us) t =
-      ap (λ (g : List ℕ). g ∷ map turned_gave us) (turn_gave lens recover retry gives made f ds a u t.0) ∙ ap (λ gs. gave_of a ∷ gs) (turns_gave ds as' us t.1)
+  one_gives : (ds : List Raw.Datagram) (a : Leads) (u : Turn) → IsTurn lens made ds a u → (fate : Fate) → GivesOne fate made (gave_of a) (life_behind lens recover retry gives made f fate u.lived u.share).life.gave
+  one_gives ds a u t Fates.Pass = pass_gives lens recover gives made f u.lived u.share [] (gave_of a) (next_gives lens made a.lived u.lived t.next)
+  one_gives ds a u t (Fates.Lost after) = lost_gives lens recover gives made f u.lived u.share [] (gave_of a) (next_gives lens made a.lived u.lived t.next)
 
-  -- the give-ups of the lives behind it, by its fate
-  abbrev behind_gave : Fate → Turn → List ℕ
-  behind_gave fate u = (life_behind lens recover retry gives made f fate u.lived u.share).life.gave
-
-  behind_is : (us : List Turn) → map gave_of (map (led_behind lens recover retry gives made f) us) ≡ map (behind_gave f.fate) us
-  behind_is [] = refl
-  behind_is (u ∷ us) = ap (λ gs. behind_gave f.fate u ∷ gs) (behind_is us)
-
-  pass_gave : (us : List Turn) → map (behind_gave Fates.Pass) us ≡ map turned_gave us
-  pass_gave [] = refl
-  pass_gave (u ∷ us) =
-      ap (λ (g : List ℕ). g ∷ map (behind_gave Fates.Pass) us)
-      (back_gave (speech_at lens u.lived.spot) acknowledged is_followed is_passed recover u.lived.spot u.lived.life made [] (seen lens f.back) (came_at u.share.under u.share.at (seen lens f.back)) u.lived.life.stand)
-      ∙ ap (λ gs. turned_gave u ∷ gs) (pass_gave us)
-
-  -- one give-up more, or none
-  more_given : (b : Bool) (l : Lived Asked Reply) (m : Life Body Asked Reply) → m.gave ≡ l.life.gave → with_more made (given_where b recover l.spot made m).gave l.life.gave ≡ (given_where b recover l.spot made m).gave
-  more_given true l m e =
-      let longer : nat_lt (length l.life.gave) (length (m.gave ++ made ∷ [])) ≡ true =
-      (let n = length-append m.gave (made ∷ []) in let k = ap length e in lt-ltb (length l.life.gave) (length (m.gave ++ made ∷ [])) (omega (arith, n, k))) in
-      ap (λ (b : Bool). if b then l.life.gave ++ made ∷ [] else l.life.gave) longer ∙ ap (λ (g : List ℕ). g ++ made ∷ []) (sym e)
-  more_given false l m e =
-      let same : nat_lt (length l.life.gave) (length m.gave) ≡ false = (let k = ap length e in le-ltb (length l.life.gave) (length m.gave) (omega (arith, k))) in
-      ap (λ (b : Bool). if b then l.life.gave ++ made ∷ [] else l.life.gave) same ∙ sym e
-
-  lost_gaves : (after : ℕ) (us : List Turn) → gaves_behind made (map (behind_gave (Fates.Lost after)) us) (map turned_gave us) ≡ map (behind_gave (Fates.Lost after)) us
-  lost_gaves after [] = refl
-  lost_gaves after (u ∷ us) =
-      let m = life_lost (speech_at lens u.lived.spot) acknowledged is_followed is_passed u.lived.spot [] (seen lens f.sent) u.lived.life u.lived.life.stand in
-      ap (λ (g : List ℕ). g ∷ gaves_behind made (map (behind_gave (Fates.Lost after)) us) (map turned_gave us))
-      (more_given (gives && u.share.under) u.lived m (lost_gave (speech_at lens u.lived.spot) acknowledged is_followed is_passed recover u.lived.spot u.lived.life [] (seen lens f.sent) u.lived.life.stand))
-      ∙ ap (λ gs. behind_gave (Fates.Lost after) u ∷ gs) (lost_gaves after us)
+  all_give : (ds : List Raw.Datagram) (as' : List Leads) (us : List Turn) → AllTurn lens made ds as' us → AllBoth (λ o n. GivesOne f.fate made o n) (map gave_of as') (map gave_of (map (led_behind lens recover retry gives made f) us))
+  all_give ds [] [] t = tt
+  all_give ds [] (u ∷ us) t = absurd t
+  all_give ds (a ∷ as') [] t = absurd t
+  all_give ds (a ∷ as') (u ∷ us) t = (one_gives ds a u t.0 f.fate, all_give ds as' us t.1)
 
 -- WHAT IS NOTED over a frame
 module _ (lens : ℕ → Lens) (recover retry : ℕ) (gives : Bool) (made : ℕ) (f : Exchanged) where
@@ -265,28 +228,16 @@ module _ (m0 m1 m2 : MasterNode) (f : Exchanged) (result : Next)
       shown : MasterShows lens plan.recover plan.retry m2 (missed_behind lens plan.recover plan.retry f.fate l.missed) (leads made.0)
       shown = tell (length fs) made.0 made.1 made.2
 
-      turned : gaves_noted r.notes ≡ map turned_gave made.0
-      turned = before ∙ l.gave ∙ sym (turns_gave lens plan.recover plan.retry gives (length fs) f made.1.datagrams l.leads made.0 made.1.each)
+      all : AllCounted plan.recover (leads made.0)
+      all = counted lens plan plan.retry (fs ++ f ∷ []) _ (leads made.0) (IsLed.on fs l.missed l.leads f made.0 l.lives made.1)
 
-      gave_by : (fate : Fate) → f.fate ≡ fate → gaves_noted r'.notes ≡ map gave_of (leads made.0)
-      gave_by Fates.Pass e =
-          let same : gaves_noted r'.notes ≡ gaves_noted r.notes = subst (λ (k : Fate). GaveBy k frame m2 r r') e noted in
-          same ∙ turned ∙ sym (pass_gave lens plan.recover plan.retry gives (length fs) f made.0)
-          ∙ ap (λ (k : Fate). map (behind_gave lens plan.recover plan.retry gives (length fs) f k) made.0) (sym e)
-          ∙ sym (behind_is lens plan.recover plan.retry gives (length fs) f made.0)
-      gave_by (Fates.Lost after) e =
-          let by : GaveBy (Fates.Lost after) frame m2 r r' = subst (λ (k : Fate). GaveBy k frame m2 r r') e noted in
-          let all : AllCounted plan.recover (leads made.0) = counted lens plan plan.retry (fs ++ f ∷ []) _ (leads made.0) (IsLed.on fs l.missed l.leads f made.0 l.lives made.1) in
-          let mine : gaves_noted r'.notes ≡ gaves_behind frame (map gave_of (leads made.0)) (gaves_noted r.notes) =
-          by lens plan.retry (missed_behind lens plan.recover plan.retry f.fate l.missed) (leads made.0)
-          (subst (λ (n : ℕ). MasterShows lens n plan.retry m2 (missed_behind lens plan.recover plan.retry f.fate l.missed) (leads made.0)) (sym recover) shown)
-          (subst (λ (n : ℕ). AllCounted n (leads made.0)) (sym recover) all) in
-          let is : map gave_of (leads made.0) ≡ map (behind_gave lens plan.recover plan.retry gives (length fs) f (Fates.Lost after)) made.0 =
-          behind_is lens plan.recover plan.retry gives (length fs) f made.0 ∙ ap (λ (k : Fate). map (behind_gave lens plan.recover plan.retry gives (length fs) f k) made.0) e in
-          mine ∙ ap (λ (n : ℕ). gaves_behind n (map gave_of (leads made.0)) (gaves_noted r.notes)) (sym counts)
-          ∙ ap (λ (gs : List (List ℕ)). gaves_behind (length fs) gs (gaves_noted r.notes)) is
-          ∙ ap (λ (gs : List (List ℕ)). gaves_behind (length fs) (map (behind_gave lens plan.recover plan.retry gives (length fs) f (Fates.Lost after)) made.0) gs) turned
-          ∙ lost_gaves lens plan.recover plan.retry gives (length fs) f after made.0 ∙ sym is
+      given : gaves_noted r'.notes ≡ map gave_of (leads made.0)
+      given =
+          let lives = subst (λ (n : ℕ). HasLives lens n m2 (map lived_of (leads made.0))) (sym recover) (lead_lives lens plan.recover (leads made.0) m2.tour.stops.items shown.each) in
+          let by = noted_by f.fate frame m2 r r' lens (leads made.0) noted lives (subst (λ (n : ℕ). AllCounted n (leads made.0)) (sym recover) all) in
+          noted_now f.fate frame (map gave_of l.leads) (map gave_of (leads made.0))
+          (subst (λ (n : ℕ). AllBoth (λ o k. GivesOne f.fate n o k) (map gave_of l.leads) (map gave_of (leads made.0))) counts (all_give lens plan.recover plan.retry gives (length fs) f made.1.datagrams l.leads made.0 made.1.each))
+          (gaves_noted r.notes) (gaves_noted r'.notes) (before ∙ l.gave) by
 
       under : HasLeads lens plan.recover m1 (map turned_lead made.0)
       under = both_map turned_lead (λ u s. IsUnder lens plan.recover f.sent u s) (λ a s. IsLead lens plan.recover a s) (λ u s p. p.lead) made.0 m1.tour.stops.items made.2.each
@@ -308,7 +259,6 @@ module _ (m0 m1 m2 : MasterNode) (f : Exchanged) (result : Next)
           turned_reports
       told_by (Fates.Lost after) e =
           let by : ReportsBy (Fates.Lost after) (length fs) m2 r r' = subst (λ (n : ℕ). ReportsBy (Fates.Lost after) n m2 r r') (sym counts) (subst (λ (k : Fate). ReportsBy k frame m2 r r') e told_behind) in
-          let all : AllCounted plan.recover (leads made.0) = counted lens plan plan.retry (fs ++ f ∷ []) _ (leads made.0) (IsLed.on fs l.missed l.leads f made.0 l.lives made.1) in
           by lens plan.retry (missed_behind lens plan.recover plan.retry f.fate l.missed) (map turned_lead made.0) (leads made.0)
           (subst (λ (n : ℕ). MasterShows lens n plan.retry m2 (missed_behind lens plan.recover plan.retry f.fate l.missed) (leads made.0)) (sym recover) shown)
           (subst (λ (n : ℕ). AllCounted n (leads made.0)) (sym recover) all)
@@ -329,7 +279,7 @@ module _ (m0 m1 m2 : MasterNode) (f : Exchanged) (result : Next)
         leads = leads made.0;
         lives = IsLed.on fs l.missed l.leads f made.0 l.lives made.1;
         shows = shown;
-        gave = gave_by f.fate refl;
+        gave = given;
         told = told_by f.fate refl;
         heard = heard_by f.fate refl;
         toured = subst (λ (t : Tour). TouredTo plan (fs ++ f ∷ []) t (leads made.0)) (sym (goes (length fs) made.0 made.1 made.2 ∙ ap (tour l.missed) visited.0)) toured_on;

@@ -14,12 +14,15 @@ pub mod Gones
 pub mod Heads
 pub mod Leads
 pub mod Nexts
+pub mod Noted
 pub mod Numbered
 pub mod Overs
 pub mod Plans
 pub mod Recalling
 pub mod Replays
 pub mod Rows
+pub mod ServedGaves
+pub mod ServedTold
 pub mod Servings
 pub mod Steps
 pub mod SwitchFirst

@@ -3,13 +3,20 @@ use Rattle.std.proofs.Common.{◌≡◌, ◌≢◌, ◌<◌, ◌^◌, ℕ, zero,
 use Rattle.std.specs.Prelude.{◌↔◌, replicate}
 use Rattle.std.proofs.lemmas.List.{length-map}
 use Rattle.datagrams.specs.Datagram as Raw
+use Rattle.datagrams.specs.Frame.{chained}
 use Rattle.mailbox_mail.specs.declared.mail.Mail.{Mail}
-use Rattle.master_node.proofs.Servings.{keyed}
+use Rattle.master_node.proofs.Servings.{keyed, leads_same}
+use Rattle.master_node.specs.Events.{ServedBegin}
+use Rattle.master_node.specs.Listed.{listed}
+use Rattle.master_node.specs.Listing.{events_in}
 use Rattle.master_node.specs.Lives.{waiting_at, waiting_of}
 use Rattle.master_node.specs.Numbered.{IsNumbered}
+use Rattle.master_node.specs.Origins.{forwards_at}
 use Rattle.master_node.specs.Rooms.{FitAgain}
 use Rattle.master_node.specs.Serving.{FitsAt, IsAsked, IsServed, ServedShows, ServedUnder, run_lead}
-use Rattle.master_node.specs.Shows.{GoesOn}
+use Rattle.master_node.specs.Shows.{GoesOn, lived_of}
+use Rattle.master_node.specs.Told.{HasLives}
+use Rattle.master_node.specs.Wants.{AllCounted, gave_of}
 use Rattle.master_node.specs.declared.node.MasterNode.{MasterNode}
 use Rattle.master_node.specs.declared.node.Next.{Next}
 use Rattle.master_node.specs.declared.node.Next.TheVariants as nexts
@@ -26,13 +33,19 @@ use Rattle.master_node.specs.of_master_tour.declared.stop.Stop.{Stop}
 use Rattle.master_node.specs.of_segment_model.Returned.{Returns}
 use Rattle.ring_returns.proofs.Returned as Returned
 use Rattle.run_book.specs.declared.book.SentFrame.{SentFrame}
+use Rattle.run_notes.specs.Slaves.{GaveBy, first_notes, gaves_noted}
 use Rattle.run_notes.specs.declared.standing.AskedMail.{AskedMail}
+use Rattle.run_notes.specs.declared.standing.Log.{Log}
 use Rattle.run_record.specs.Led.{exchanged}
 use Rattle.run_record.specs.Replay.{IsRecorded}
-use Rattle.run_record.specs.Served.{Serving, ServesOn, ServingAsks, ServingGoesOn, as_asked}
+use Rattle.run_record.specs.Served.{ServedLeading, Serving, ServesOn, ServingAsks, ServingGoesOn, TellsBehind, as_asked}
 use Rattle.run_record.specs.Session.{SessionState, asked_mail, asked_more, has_live}
 use Rattle.run_record.proofs.Fits.{has_room, home_fits}
+use Rattle.run_record.proofs.Leads.{first_gaves}
 use Rattle.run_record.proofs.Nexts.{next_frame}
+use Rattle.run_record.proofs.Noted.{GivesOne, noted_by, noted_now}
+use Rattle.run_record.proofs.ServedGaves.{all_give, has_lives, serve_leads, served_counted}
+use Rattle.run_record.proofs.ServedTold.{tells_frame}
 use Rattle.segment_plan.specs.declared.plan.Scenario.{Scenario}
 use Rattle.segment_plan.specs.declared.service.Service as Plan
 use Rattle.segment_plan.specs.declared.slave.SlaveSpec.{SlaveSpec}
@@ -71,9 +84,10 @@ first_same g t h (p ∷ ps) rows place [] = refl
 first_same g t h [] rows place (s ∷ ss) = λ i. h 1 (new_leads (script_for place rows) (spot_of place s)) i ∷ first_same g t h [] rows (suc place) ss i
 first_same g t h (p ∷ ps) rows place (s ∷ ss) = λ i. h p (new_leads (script_for place rows) (spot_of place s)) i ∷ first_same g t h ps rows (suc place) ss i
 
-pub serving_begins : (plan : Scenario) (s : SessionState) → ServedShows (lens_of plan.slaves) plan.recover plan.retry s.master 0 0 (all_serve plan.paces (first_leads plan)) → s.asked ≡ replicate (length plan.slaves) [] → s.waiting ≡ replicate (length plan.slaves) 0 → Serving plan s []
-serving_begins plan s shown none still = record {
+pub serving_begins : (plan : Scenario) (s : SessionState) → s.notes ≡ first_notes plan.services 0 plan.slaves → ServedShows (lens_of plan.slaves) plan.recover plan.retry s.master 0 0 (all_serve plan.paces (first_leads plan)) → s.asked ≡ replicate (length plan.slaves) [] → s.waiting ≡ replicate (length plan.slaves) 0 → Serving plan s []
+serving_begins plan s notes shown none still = record {
   leading = record { missed = 0; serves = all_serve plan.paces (first_leads plan); lives = IsServedLed.start; shows = shown };
+  gave = ap gaves_noted notes ∙ first_gaves plan.services 0 0 plan.slaves ∙ ap (map gave_of) (sym (serve_leads plan.paces (first_leads plan)));
   asked = first_same mails_of [] (λ pace a. refl) plan.paces plan.services 0 plan.slaves ∙ sym none;
   waiting = first_same left_of 0 (λ pace a. refl) plan.paces plan.services 0 plan.slaves ∙ sym still;
 }
@@ -95,48 +109,6 @@ behind_mails lens recover retry gives made f (v ∷ vs) = ap (λ z. turn_mails v
 one_more : (fs : List Exchanged) (f : Exchanged) → suc (length fs) ≡ length (fs ++ f ∷ [])
 one_more fs f = let k = length-append fs (f ∷ []) in omega (arith, k)
 
--- ONE FRAME MORE: what the master says of it before, and of its return or loss
-on_frame : (s s' : SessionState) (m : MasterNode) (f : Exchanged) (result : Next) → (result ≡ nexts.Idle) ↔ (has_live s.master ≡ false) →
-    (result ≡ nexts.Frame → (lens : ℕ → Lens) (recover retry missed made : ℕ) (ws : List Serves) → suc made < 2 ^ 32 → ServedShows lens recover retry s.master missed made ws →
-    (vs : List ServedTurn) × IsServedFrame lens made f.sent ws vs × ServedUnder lens recover retry m f.sent missed made vs) →
-    ((lens : ℕ → Lens) (recover retry missed made : ℕ) (vs : List ServedTurn) → ServedUnder lens recover retry m f.sent missed made vs → (f.fate ≡ Fates.Pass → Returns (seen lens f.sent) (seen lens f.back)) →
-    ServedShows lens recover retry s'.master (missed_behind lens recover retry f.fate missed) (suc made) (map (served_behind lens recover retry (gives_up_at lens recover retry missed) made f) vs)) →
-    f.fate ≡ fate_at s.ring.lose s.ring.number → f.back ≡ ring_returned node_passed s.ring f.sent → suc s.ring.number < 2 ^ 32 → s'.asked ≡ s.asked → s'.waiting ≡ map waiting_of s'.master.posts.items →
-    (plan : Scenario) (fs : List Exchanged) → length fs ≡ s.ring.number → has_live s.master ≡ true → (old : Serving plan s fs) → ServesOn plan s s' fs f old
-on_frame s s' m f result idle serves told fate back few asked waiting plan fs number live old =
-    let lens = lens_of plan.slaves in
-    let l = old.leading in
-    let made = serves (next_frame s.master result idle live) lens plan.recover plan.retry l.missed (length fs) l.serves (subst (λ (n : ℕ). suc n < 2 ^ 32) (sym number) few) l.shows in
-    let returned : f.fate ≡ Fates.Pass → Returns (seen lens f.sent) (seen lens f.back) = λ pass. subst (λ (octets : List ℕ). Returns (seen lens f.sent) (seen lens octets)) (sym back) (Returned.ring_back lens s.ring f.sent _ made.1.frame (sym fate ∙ pass)) in
-    let missed = missed_behind lens plan.recover plan.retry f.fate l.missed in
-    let behind = map (served_behind lens plan.recover plan.retry (gives_up_at lens plan.recover plan.retry l.missed) (length fs) f) made.0 in
-    let shown = told lens plan.recover plan.retry l.missed (length fs) made.0 made.2 returned in
-    record {
-      turns = made.0;
-      frame = made.1;
-      new = record {
-        leading = record {
-          missed = missed;
-          serves = behind;
-          lives = IsServedLed.on fs l.missed l.serves f made.0 l.lives made.1;
-          shows = subst (λ (n : ℕ). ServedShows lens plan.recover plan.retry s'.master missed n behind) (one_more fs f) shown;
-        };
-        asked = behind_mails lens plan.recover plan.retry (gives_up_at lens plan.recover plan.retry l.missed) (length fs) f made.0 ∙ turned_mails lens (length fs) made.1.datagrams l.serves made.0 made.1.each ∙ old.asked ∙ sym asked;
-        waiting = shown_wait lens plan.recover plan.retry missed (suc (length fs)) s'.master behind shown ∙ sym waiting;
-      };
-      missed = refl;
-      serves = refl;
-    }
-
-pub serving_on : (t s s' : SessionState) (m : MasterNode) (f : SentFrame) (result : Next) → t ≡ s → (result ≡ nexts.Idle) ↔ (has_live t.master ≡ false) →
-    (result ≡ nexts.Frame → (lens : ℕ → Lens) (recover retry missed made : ℕ) (ws : List Serves) → suc made < 2 ^ 32 → ServedShows lens recover retry t.master missed made ws →
-    (vs : List ServedTurn) × IsServedFrame lens made f.sent ws vs × ServedUnder lens recover retry m f.sent missed made vs) →
-    ((lens : ℕ → Lens) (recover retry missed made : ℕ) (vs : List ServedTurn) → ServedUnder lens recover retry m f.sent missed made vs → (f.fate ≡ Fates.Pass → Returns (seen lens f.sent) (seen lens f.back)) →
-    ServedShows lens recover retry s'.master (missed_behind lens recover retry f.fate missed) (suc made) (map (served_behind lens recover retry (gives_up_at lens recover retry missed) made (exchanged f)) vs)) →
-    IsRecorded t.ring f → suc t.ring.number < 2 ^ 32 → s'.asked ≡ t.asked → s'.waiting ≡ map waiting_of s'.master.posts.items → ServingGoesOn s s' f
-serving_on t s s' m f result view idle serves told recorded few asked waiting =
-    subst (λ (z : SessionState). ServingGoesOn z s' f) view (λ plan fs number live old. on_frame t s' m (exchanged f) result idle serves told recorded.fate recorded.back few asked waiting plan fs number live old)
-
 -- ONE MAIL MORE
 more_asked : (ks : List Keyed) (k : Keyed) → map as_asked (ks ++ k ∷ []) ≡ map as_asked ks ++ as_asked k ∷ []
 more_asked [] k = refl
@@ -155,8 +127,8 @@ asked_rows key (suc place) mail k (w ∷ ws) i = ap (λ z. mails_of w ∷ z) (as
 one_asked : (s s' : SessionState) (slave key : ℕ) (mail : Mail) →
     ((lens : ℕ → Lens) (recover retry missed made : ℕ) (ws : List Serves) → waiting_at s.master.posts.items slave < 64 → FitsAt lens slave (length mail.body.items) ws → ServedShows lens recover retry s.master missed made ws →
     (k : Keyed) × IsAsked key mail k × MayAsk lens slave k ws × ServedShows lens recover retry s'.master missed made (asked_at slave k ws)) →
-    waiting_at s.master.posts.items slave ≢ 64 → s'.asked ≡ asked_more s.asked slave (asked_mail key mail) → s'.waiting ≡ map waiting_of s'.master.posts.items → ServingAsks slave key mail s s' true
-one_asked s s' slave key mail served apart asked waiting = λ plan fs home is there fits old.
+    waiting_at s.master.posts.items slave ≢ 64 → s'.asked ≡ asked_more s.asked slave (asked_mail key mail) → s'.waiting ≡ map waiting_of s'.master.posts.items → s'.notes ≡ s.notes → ServingAsks slave key mail s s' true
+one_asked s s' slave key mail served apart asked waiting notes = λ plan fs home is there fits old.
     let lens = lens_of plan.slaves in
     let l = old.leading in
     let room = has_room plan fs l.missed slave s.master.posts.items l.serves l.lives (shown_wait lens plan.recover plan.retry l.missed (length fs) s.master l.serves l.shows) apart in
@@ -168,6 +140,7 @@ one_asked s s' slave key mail served apart asked waiting = λ plan fs home is th
       may = more.2;
       new = record {
         leading = record { missed = l.missed; serves = asked_at slave more.0 l.serves; lives = IsServedLed.asks fs l.missed l.serves slave more.0 l.lives more.2; shows = more.3 };
+        gave = ap gaves_noted notes ∙ old.gave ∙ ap (map gave_of) (sym (leads_same (λ a. a) slave more.0 l.serves));
         asked = asked_rows key slave mail more.0 l.serves more.1 ∙ ap (λ z. asked_more z slave (asked_mail key mail)) old.asked ∙ sym asked;
         waiting = shown_wait lens plan.recover plan.retry l.missed (length fs) s'.master (asked_at slave more.0 l.serves) more.3 ∙ sym waiting;
       };
@@ -178,9 +151,9 @@ one_asked s s' slave key mail served apart asked waiting = λ plan fs home is th
 pub serving_asks : (t s s' : SessionState) (slave key : ℕ) (mail : Mail) → t ≡ s →
     ((lens : ℕ → Lens) (recover retry missed made : ℕ) (ws : List Serves) → waiting_at t.master.posts.items slave < 64 → FitsAt lens slave (length mail.body.items) ws → ServedShows lens recover retry t.master missed made ws →
     (k : Keyed) × IsAsked key mail k × MayAsk lens slave k ws × ServedShows lens recover retry s'.master missed made (asked_at slave k ws)) →
-    waiting_at t.master.posts.items slave ≢ 64 → s'.asked ≡ asked_more s.asked slave (asked_mail key mail) → s'.waiting ≡ map waiting_of s'.master.posts.items → ServingAsks slave key mail s s' true
-serving_asks t s s' slave key mail view served apart asked waiting =
-    subst (λ (z : SessionState). ServingAsks slave key mail z s' true) view (one_asked t s' slave key mail served apart (asked ∙ ap (λ (z : SessionState). asked_more z.asked slave (asked_mail key mail)) (sym view)) waiting)
+    waiting_at t.master.posts.items slave ≢ 64 → s'.asked ≡ asked_more s.asked slave (asked_mail key mail) → s'.waiting ≡ map waiting_of s'.master.posts.items → s'.notes ≡ t.notes → ServingAsks slave key mail s s' true
+serving_asks t s s' slave key mail view served apart asked waiting notes =
+    subst (λ (z : SessionState). ServingAsks slave key mail z s' true) view (one_asked t s' slave key mail served apart (asked ∙ ap (λ (z : SessionState). asked_more z.asked slave (asked_mail key mail)) (sym view)) waiting notes)
 
 -- NONE: its posts and its tour stay
 all_stay : {S : Type 0} (i : ℕ) (xs ys : List S) → StepsAt (λ x y. y ≡ x) i xs ys → ys ≡ xs
@@ -205,14 +178,15 @@ shows_same lens recover retry missed made m n ws tour posts number h = record {
 }
 
 none_asked : (s s' : SessionState) (slave key : ℕ) (mail : Mail) → s'.master.tour ≡ s.master.tour → s'.master.made ≡ s.master.made → StepsAt (λ p q. q ≡ p) slave s.master.posts.items s'.master.posts.items →
-    s'.asked ≡ s.asked → s'.waiting ≡ map waiting_of s'.master.posts.items → ServingAsks slave key mail s s' false
-none_asked s s' slave key mail tour number stays asked waiting = λ plan fs old.
+    s'.asked ≡ s.asked → s'.waiting ≡ map waiting_of s'.master.posts.items → s'.notes ≡ s.notes → ServingAsks slave key mail s s' false
+none_asked s s' slave key mail tour number stays asked waiting notes = λ plan fs old.
     let lens = lens_of plan.slaves in
     let l = old.leading in
     let shown = shows_same lens plan.recover plan.retry l.missed (length fs) s.master s'.master l.serves tour (all_stay slave s.master.posts.items s'.master.posts.items stays) number l.shows in
     record {
       new = record {
         leading = record { missed = l.missed; serves = l.serves; lives = l.lives; shows = shown };
+        gave = ap gaves_noted notes ∙ old.gave;
         asked = old.asked ∙ sym asked;
         waiting = shown_wait lens plan.recover plan.retry l.missed (length fs) s'.master l.serves shown ∙ sym waiting;
       };
@@ -221,6 +195,84 @@ none_asked s s' slave key mail tour number stays asked waiting = λ plan fs old.
     }
 
 pub serving_stays : (t s s' : SessionState) (slave key : ℕ) (mail : Mail) → t ≡ s → s'.master.tour ≡ t.master.tour → s'.master.made ≡ t.master.made → StepsAt (λ p q. q ≡ p) slave t.master.posts.items s'.master.posts.items →
-    s'.asked ≡ s.asked → s'.waiting ≡ map waiting_of s'.master.posts.items → ServingAsks slave key mail s s' false
-serving_stays t s s' slave key mail view tour number stays asked waiting =
-    subst (λ (z : SessionState). ServingAsks slave key mail z s' false) view (none_asked t s' slave key mail tour number stays (asked ∙ ap (λ (z : SessionState). z.asked) (sym view)) waiting)
+    s'.asked ≡ s.asked → s'.waiting ≡ map waiting_of s'.master.posts.items → s'.notes ≡ t.notes → ServingAsks slave key mail s s' false
+serving_stays t s s' slave key mail view tour number stays asked waiting notes =
+    subst (λ (z : SessionState). ServingAsks slave key mail z s' false) view (none_asked t s' slave key mail tour number stays (asked ∙ ap (λ (z : SessionState). z.asked) (sym view)) waiting notes)
+
+-- ONE FRAME MORE: what the master says of it before, and of its return or loss; and what is noted of it
+module _ (s s' : SessionState) (m : MasterNode) (f : Exchanged) (result : Next) (idle : (result ≡ nexts.Idle) ↔ (has_live s.master ≡ false))
+    (serves : result ≡ nexts.Frame → (lens : ℕ → Lens) (recover retry missed made : ℕ) (ws : List Serves) → suc made < 2 ^ 32 → ServedShows lens recover retry s.master missed made ws →
+    (vs : List ServedTurn) × IsServedFrame lens made f.sent ws vs × ServedUnder lens recover retry m f.sent missed made vs × ServedBegin (λ k. forwards_at s.master.posts.items k) ws vs m)
+    (served : (lens : ℕ → Lens) (recover retry missed made : ℕ) (vs : List ServedTurn) → ServedUnder lens recover retry m f.sent missed made vs → (f.fate ≡ Fates.Pass → Returns (seen lens f.sent) (seen lens f.back)) →
+    ServedShows lens recover retry s'.master (missed_behind lens recover retry f.fate missed) (suc made) (map (served_behind lens recover retry (gives_up_at lens recover retry missed) made f) vs))
+    (whole : listed s'.master.list.rows.items s'.master.list.count ≡ events_in m ++ events_in s'.master) (told : TellsBehind f.fate f.back m s'.master)
+    (fate : f.fate ≡ fate_at s.ring.lose s.ring.number) (back : f.back ≡ ring_returned node_passed s.ring f.sent) (few : suc s.ring.number < 2 ^ 32) (asked : s'.asked ≡ s.asked) (waiting : s'.waiting ≡ map waiting_of s'.master.posts.items)
+    (r r' : Log) (same : r.recover ≡ s.recover) (before : gaves_noted r.notes ≡ gaves_noted s.notes) (after : s'.notes ≡ r'.notes) (noted : GaveBy f.fate s.ring.number s'.master r r')
+    (plan : Scenario) (fs : List Exchanged) (recover : s.recover ≡ plan.recover) (number : length fs ≡ s.ring.number) (live : has_live s.master ≡ true) (old : Serving plan s fs) where
+  abbrev lens : ℕ → Lens
+  lens = lens_of plan.slaves
+
+  abbrev l : ServedLeading plan s.master fs
+  l = old.leading
+
+  abbrev gives : Bool
+  gives = gives_up_at lens plan.recover plan.retry l.missed
+
+  abbrev missed : ℕ
+  missed = missed_behind lens plan.recover plan.retry f.fate l.missed
+
+  made : (vs : List ServedTurn) × IsServedFrame lens (length fs) f.sent l.serves vs × ServedUnder lens plan.recover plan.retry m f.sent l.missed (length fs) vs × ServedBegin (λ k. forwards_at s.master.posts.items k) l.serves vs m
+  made = serves (next_frame s.master result idle live) lens plan.recover plan.retry l.missed (length fs) l.serves (subst (λ (n : ℕ). suc n < 2 ^ 32) (sym number) few) l.shows
+
+  abbrev behind : List Serves
+  behind = map (served_behind lens plan.recover plan.retry gives (length fs) f) made.0
+
+  returned : f.fate ≡ Fates.Pass → Returns (seen lens f.sent) (seen lens f.back)
+  returned = λ pass. subst (λ (octets : List ℕ). Returns (seen lens f.sent) (seen lens octets)) (sym back) (Returned.ring_back lens s.ring f.sent (chained made.1.datagrams) made.1.frame (sym fate ∙ pass))
+
+  shown : ServedShows lens plan.recover plan.retry s'.master missed (suc (length fs)) behind
+  shown = served lens plan.recover plan.retry l.missed (length fs) made.0 made.2 returned
+
+  lives : IsServedLed lens plan.recover plan.retry (all_serve plan.paces (first_leads plan)) (fs ++ f ∷ []) missed behind
+  lives = IsServedLed.on fs l.missed l.serves f made.0 l.lives made.1
+
+  -- what is noted of give-ups
+  gave : gaves_noted s'.notes ≡ map gave_of (map run_lead behind)
+  gave =
+      let here = subst (λ (n : ℕ). HasLives lens n s'.master (map lived_of (map run_lead behind))) (sym (same ∙ recover)) (has_lives lens plan.recover plan.retry missed (suc (length fs)) s'.master behind shown) in
+      let all = subst (λ (n : ℕ). AllCounted n (map run_lead behind)) (sym (same ∙ recover)) (served_counted plan (fs ++ f ∷ []) missed behind lives) in
+      let give = all_give lens plan.recover plan.retry gives (length fs) f made.1.datagrams l.serves made.0 made.1.each in
+      ap gaves_noted after
+      ∙ noted_now f.fate s.ring.number (map gave_of (map run_lead l.serves)) (map gave_of (map run_lead behind)) (subst (λ (n : ℕ). AllBoth (λ o k. GivesOne f.fate n o k) (map gave_of (map run_lead l.serves)) (map gave_of (map run_lead behind))) number give)
+      (gaves_noted r.notes) (gaves_noted r'.notes) (before ∙ old.gave) (noted_by f.fate s.ring.number s'.master r r' lens (map run_lead behind) noted here all)
+
+  goes : Serving plan s' (fs ++ f ∷ [])
+  goes = record {
+    leading = record { missed = missed; serves = behind; lives = lives; shows = subst (λ (n : ℕ). ServedShows lens plan.recover plan.retry s'.master missed n behind) (one_more fs f) shown };
+    gave = gave;
+    asked = behind_mails lens plan.recover plan.retry gives (length fs) f made.0 ∙ turned_mails lens (length fs) made.1.datagrams l.serves made.0 made.1.each ∙ old.asked ∙ sym asked;
+    waiting = shown_wait lens plan.recover plan.retry missed (suc (length fs)) s'.master behind shown ∙ sym waiting;
+  }
+
+  pub on_frame : ServesOn plan s s' fs f old
+  unfolding goes
+  on_frame = record {
+    turns = made.0;
+    frame = made.1;
+    new = goes;
+    missed = refl;
+    serves = refl;
+    tells = tells_frame lens plan.recover plan.retry l.missed (length fs) (λ k. forwards_at s.master.posts.items k) m s'.master f l.serves behind made.0 made.3 made.2 whole (told lens plan.recover plan.retry l.missed (length fs) made.0 f refl refl made.2 returned);
+  }
+
+pub serving_on : (t s s' : SessionState) (m : MasterNode) (f : SentFrame) (result : Next) → t ≡ s → (result ≡ nexts.Idle) ↔ (has_live t.master ≡ false) →
+    (result ≡ nexts.Frame → (lens : ℕ → Lens) (recover retry missed made : ℕ) (ws : List Serves) → suc made < 2 ^ 32 → ServedShows lens recover retry t.master missed made ws →
+    (vs : List ServedTurn) × IsServedFrame lens made f.sent ws vs × ServedUnder lens recover retry m f.sent missed made vs × ServedBegin (λ k. forwards_at t.master.posts.items k) ws vs m) →
+    ((lens : ℕ → Lens) (recover retry missed made : ℕ) (vs : List ServedTurn) → ServedUnder lens recover retry m f.sent missed made vs → (f.fate ≡ Fates.Pass → Returns (seen lens f.sent) (seen lens f.back)) →
+    ServedShows lens recover retry s'.master (missed_behind lens recover retry f.fate missed) (suc made) (map (served_behind lens recover retry (gives_up_at lens recover retry missed) made (exchanged f)) vs)) →
+    listed s'.master.list.rows.items s'.master.list.count ≡ events_in m ++ events_in s'.master → TellsBehind f.fate f.back m s'.master →
+    IsRecorded t.ring f → suc t.ring.number < 2 ^ 32 → s'.asked ≡ t.asked → s'.waiting ≡ map waiting_of s'.master.posts.items →
+    (r r' : Log) → r.recover ≡ t.recover → gaves_noted r.notes ≡ gaves_noted t.notes → s'.notes ≡ r'.notes → GaveBy f.fate t.ring.number s'.master r r' → ServingGoesOn s s' f
+serving_on t s s' m f result view idle serves served whole told recorded few asked waiting r r' same before after noted =
+    subst (λ (z : SessionState). ServingGoesOn z s' f) view
+    (λ plan fs recover number live old. on_frame t s' m (exchanged f) result idle serves served whole told recorded.fate recorded.back few asked waiting r r' same before after noted plan fs recover number live old)

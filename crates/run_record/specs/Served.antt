@@ -1,18 +1,36 @@
 -- THE FRAMES OF A SERVING ARE LED by its master: each is just what the lives of the slaves ask for, from the plan's new lives on, with the mails that are asked
 -- between the frames.
-use Rattle.std.specs.Prelude.{◌≡◌, ◌≤◌, ◌+◌, ℕ, Bool, true, false, Some, List, [], ◌∷◌, ◌++◌, length, map, slice_get}
+use Rattle.std.specs.Prelude.{◌≡◌, ◌≤◌, ◌+◌, ℕ, Bool, true, false, None, Some, List, [], ◌∷◌, ◌++◌, length, map, filter, slice_get}
 use Rattle.mailbox_mail.specs.declared.mail.Mail.{Mail}
+use Rattle.master_node.specs.Begins.{begun_of}
+use Rattle.master_node.specs.Events.{served_tells}
+use Rattle.master_node.specs.Gateways.{is_gateway, lives_told}
+use Rattle.master_node.specs.Lifetold.{lost_at}
+use Rattle.master_node.specs.Listed.{listed}
+use Rattle.master_node.specs.Listing.{events_in, told_in}
+use Rattle.master_node.specs.Origins.{forwards_at}
+use Rattle.master_node.specs.Serving.{IsAsked, ServedShows, ServedUnder, run_lead, run_turn}
+use Rattle.master_node.specs.Shows.{is_carried}
+use Rattle.master_node.specs.Wants.{gave_of}
+use Rattle.master_node.specs.declared.event.Event.{Event}
+use Rattle.master_node.specs.declared.node.MasterNode.{MasterNode}
+use Rattle.master_node.specs.of_frame_view.Seen.{seen}
+use Rattle.master_node.specs.of_frame_view.View.{Lens}
 use Rattle.master_node.specs.of_life_runs.First.{lens_of, first_leads}
 use Rattle.master_node.specs.of_life_runs.Led.{Exchanged, gives_up_at, missed_behind}
-use Rattle.master_node.specs.Serving.{IsAsked, ServedShows}
-use Rattle.master_node.specs.declared.node.MasterNode.{MasterNode}
+use Rattle.master_node.specs.of_master_tour.Goes.{holds_at}
+use Rattle.master_node.specs.of_master_tour.Made.{is_in}
+use Rattle.master_node.specs.of_master_tour.Orders.{AreOnce}
+use Rattle.master_node.specs.of_segment_model.Returned.{Returns}
 use Rattle.run_book.specs.declared.book.SentFrame.{SentFrame}
 use Rattle.run_notes.specs.declared.standing.AskedMail.{AskedMail}
-use Rattle.run_notes.specs.Slaves.{home_of}
+use Rattle.run_notes.specs.Slaves.{gaves_noted, home_of}
 use Rattle.run_record.specs.Led.{exchanged}
 use Rattle.run_record.specs.Session.{SessionState, has_live}
 use Rattle.segment_plan.specs.Sound.{IsPlan}
 use Rattle.segment_plan.specs.declared.plan.Scenario.{Scenario}
+use Rattle.segment_ring.specs.declared.wire.Fate.{Fate}
+use Rattle.segment_ring.specs.declared.wire.Fate.TheVariants as Fates
 use Rattle.served_runs.specs.Served.{Keyed, Serves, ServedTurn, IsServedFrame, IsServedLed, MayAsk, all_serve, asked_at, served_behind}
 
 -- THE FRAMES LEAD, with the mails that were asked, from a plan's new lives to these, with so many lost in a row last
@@ -30,10 +48,11 @@ pub record ServedLeading (plan : Scenario) (m : MasterNode) (fs : List Exchanged
 abbrev pub as_asked : Keyed → AskedMail
 as_asked k = record { key = k.key; kind = k.mail.kind; body = k.mail.body.items }
 
--- HOW A SERVING STANDS behind these frames: its master leads; the mails that were asked of each slave are just those that the session has, in order, and so
--- many of them still wait
+-- HOW A SERVING STANDS behind these frames: its master leads; so often each slave was given up as is noted; the mails that were asked of each are just those
+-- that the session has, in order, and so many of them still wait
 pub record Serving (plan : Scenario) (s : SessionState) (fs : List Exchanged) : Type 0 where
   pub leading : ServedLeading plan s.master fs
+  pub gave : gaves_noted s.notes ≡ map gave_of (map run_lead leading.serves)
   pub asked : map (λ w. map as_asked w.asked) leading.serves ≡ s.asked
   pub waiting : map (λ w. length w.waits) leading.serves ≡ s.waiting
 
@@ -41,17 +60,45 @@ pub record Serving (plan : Scenario) (s : SessionState) (fs : List Exchanged) : 
 abbrev pub ServingBegins : Scenario → SessionState → Type 0
 ServingBegins plan s = Serving plan s []
 
--- ONE FRAME MORE of a serving: it is just what the lives ask for, and those behind it are what it leads them to
+-- WHAT A FRAME OF THIS FATE TELLS to who asked, behind it, of the slave at a place, by the lives before it and behind it: one that came back the replies of the mail
+-- in hand, and that no more follow; a lost one that the slave was given up
+abbrev pub told_behind : (ℕ → Lens) → Exchanged → Fate → List ServedTurn → List Serves → ℕ → List Event
+told_behind lens f Fates.Pass vs ws k = lives_told (seen lens f.back) vs ws k
+told_behind lens f (Fates.Lost after) vs ws k = lost_at vs ws k
+
+-- WHAT WHO ASKED GETS TO KNOW OF A FRAME, in order: what came into hand of the slaves visited, each once; and what is told behind it of those, each once, whose
+-- visits it may have carried. Of a slave that the first leave out nothing came into hand; of one that the others leave out the frame has no datagram
+pub record TellsFrame (lens : ℕ → Lens) (forwards : ℕ → ℕ) (ws : List Serves) (f : Exchanged) (vs : List ServedTurn) (new : List Serves) (m : MasterNode) : Type 0 where
+  pub began : List ℕ
+  pub began_once : AreOnce began
+  pub others : (k : ℕ) → is_in k began ≡ false → begun_of (map run_turn vs) k ≡ None
+  pub visited : List ℕ
+  pub once : AreOnce visited
+  pub carried : (k : ℕ) → holds_at (λ v. is_carried v.turn) vs k ≡ true → is_in k visited ≡ true
+  pub told : filter is_gateway (listed m.list.rows.items m.list.count) ≡ told_in (λ k. served_tells ws k (forwards k) (begun_of (map run_turn vs) k)) began ++ told_in (λ k. told_behind lens f f.fate vs new k) visited
+
+-- JUST THIS IS TOLD to who asked behind a frame of this fate, by whatever lives are with the master while it is under way
+abbrev pub TellsBehind : Fate → List ℕ → MasterNode → MasterNode → Type 0
+TellsBehind fate back m n =
+    (lens : ℕ → Lens) (recover retry missed made : ℕ) (vs : List ServedTurn) (f : Exchanged) → f.fate ≡ fate → f.back ≡ back → ServedUnder lens recover retry m f.sent missed made vs → (fate ≡ Fates.Pass → Returns (seen lens f.sent) (seen lens back)) →
+    filter is_gateway (events_in n) ≡ told_in (λ k. told_behind lens f f.fate vs (map (served_behind lens recover retry (gives_up_at lens recover retry missed) made f) vs) k) m.tour.visit.items
+
+-- ONE FRAME MORE of a serving: it is just what the lives ask for, those behind it are what it leads them to, and by them who asked gets to know what the frame tells
 pub record ServesOn (plan : Scenario) (s s' : SessionState) (fs : List Exchanged) (f : Exchanged) (old : Serving plan s fs) : Type 0 where
   pub turns : List ServedTurn
   pub frame : IsServedFrame (lens_of plan.slaves) (length fs) f.sent old.leading.serves turns
   pub new : Serving plan s' (fs ++ f ∷ [])
   pub missed : new.leading.missed ≡ missed_behind (lens_of plan.slaves) plan.recover plan.retry f.fate old.leading.missed
   pub serves : new.leading.serves ≡ map (served_behind (lens_of plan.slaves) plan.recover plan.retry (gives_up_at (lens_of plan.slaves) plan.recover plan.retry old.leading.missed) (length fs) f) turns
+  pub tells : TellsFrame (lens_of plan.slaves) (λ k. forwards_at s.master.posts.items k) old.leading.serves f turns new.leading.serves s'.master
 
 -- so a step goes, where some slave is live: a serving that is led goes on
 abbrev pub ServingGoesOn : SessionState → SessionState → SentFrame → Type 0
-ServingGoesOn s s' f = (plan : Scenario) (fs : List Exchanged) → length fs ≡ s.ring.number → has_live s.master ≡ true → (old : Serving plan s fs) → ServesOn plan s s' fs (exchanged f) old
+ServingGoesOn s s' f = (plan : Scenario) (fs : List Exchanged) → s.recover ≡ plan.recover → length fs ≡ s.ring.number → has_live s.master ≡ true → (old : Serving plan s fs) → ServesOn plan s s' fs (exchanged f) old
+
+-- SOME SLAVE IS LIVE, where a serving is led
+abbrev pub ServingLives : SessionState → Type 0
+ServingLives s = (plan : Scenario) (fs : List Exchanged) → s.recover ≡ plan.recover → Serving plan s fs → has_live s.master ≡ true
 
 -- A MAIL IS ASKED, as it is, under the key of its asker: it waits behind those of its slave, and nothing else of the lives changes
 pub record AsksOn (plan : Scenario) (slave key : ℕ) (mail : Mail) (s s' : SessionState) (fs : List Exchanged) (old : Serving plan s fs) : Type 0 where

@@ -1,4 +1,4 @@
-ghost use Rattle.std.specs.Prelude.{◌≡◌, ◌≢◌, ◌<◌, ◌≤◌, ◌==◌, ◌++◌, ◌∷◌, ◌⊎◌, ◌↔◌, [], ℕ, suc, List, vec_len, length, map, Ok, Some, IfOk, OnOk, OnErr, All, true, false, slice_get};
+ghost use Rattle.std.specs.Prelude.{◌≡◌, ◌≢◌, ◌<◌, ◌≤◌, ◌==◌, ◌++◌, ◌∷◌, ◌⊎◌, ◌↔◌, [], ℕ, suc, List, vec_len, length, map, take, Ok, Some, IfOk, OnOk, OnErr, All, true, false, slice_get};
 ghost use Rattle.std.specs.Bool.{OnTrue, OnFalse};
 ghost use Rattle.std.specs.List.{list_any};
 ghost use Rattle.run_notes.specs.Notes.{has_given_up, stations_of};
@@ -18,6 +18,7 @@ ghost use Rattle.master_node.specs.Joined.{HasUnfinished, stand_before, stand_un
 ghost use Rattle.port_events.specs.Listed.{unfinished_of};
 ghost use Rattle.port_events.specs.of_packets_heard.Heard.{Joined, mails_by};
 ghost use Rattle.master_node.specs.Listed.{listed};
+ghost use Rattle.master_node.specs.Listing.{events_in};
 ghost use Rattle.master_node.specs.Origins.{forwards_at};
 ghost use Rattle.master_node.specs.Recalled.{AllRecall};
 ghost use Rattle.master_node.specs.Serving.{ServedShows, ServedUnder};
@@ -31,7 +32,7 @@ ghost use Rattle.run_book.specs.Ports.{ports_of};
 ghost use Rattle.run_record.specs.Recalling.{RunBegins};
 ghost use Rattle.run_notes.specs.Switched.{SameSwitch};
 ghost use Rattle.run_record.specs.Replay.{first_ring};
-ghost use Rattle.run_record.specs.Served.{ServingAsks, ServingBegins, ServingGoesOn};
+ghost use Rattle.run_record.specs.Served.{ServingAsks, ServingBegins, ServingGoesOn, ServingLives, TellsBehind};
 ghost use Rattle.run_record.specs.Session.{budget_of, smaller_bound, rests_at, session_rows, first_session, are_at_rest, some_given_up, has_live, IsLeftBy, StillWants, Steps, Stops, Asks};
 ghost use Rattle.run_notes.specs.Slaves.{slave_row, slave_rows, KeepsRest};
 
@@ -235,6 +236,8 @@ fn tell(master: &mut MasterNode, fate: Fate, back: &FrameBuf)
     ensures counts { (k : ℕ) → forwards_at master.new.posts.items k ≡ forwards_at master.old.posts.items k }
     ensures served { (lens : ℕ → Lens) (recover retry missed made : ℕ) (vs : List ServedTurn) (f : Exchanged) → f.fate ≡ fate → f.back ≡ back.now.items → ServedUnder lens recover retry master.old f.sent missed made vs → (fate ≡ Fates.Pass → Returns (seen lens f.sent) (seen lens back.now.items)) →
         ServedShows lens recover retry master.new (missed_behind lens recover retry f.fate missed) (suc made) (map (served_behind lens recover retry (gives_up_at lens recover retry missed) made f) vs) }
+    ensures told { master.old.list.before ≤ 16 → TellsBehind fate back.now.items master.old master.new }
+    ensures whole { listed master.new.list.rows.items master.new.list.count ≡ take master.old.list.before master.old.list.rows.items ++ events_in master.new }
 {
     match fate {
         Fate::Pass => master.returned(back),
@@ -263,11 +266,12 @@ impl Session {
         })
     }
 
-    /// Whether nothing is left to do, for the master and at each live slave.
+    /// Whether nothing is left to do, for the master and at each live slave. Where something is, and a serving is led, some slave is live.
     pub fn settled(&self) -> bool
         ensures rest { OnTrue result (are_at_rest (session_rows self.now) ≡ true) }
         ensures left { OnTrue result (IsLeftBy self.now.master) }
         ensures wants { OnFalse result (StillWants self.now) }
+        ensures lives { OnFalse result (ServingLives self.now) }
         ensures busy { OnFalse result ((are_at_rest (session_rows self.now) ≡ false) ⊎ (has_live self.now.master ≡ true)) }
     {
         if self.master.wants() {
@@ -339,6 +343,7 @@ impl Session {
         ensures asked { IfOk result (Asks slave key mail.now self.old self.new) }
         ensures full { OnOk result ((result ≡ Ok false) ↔ (slice_get self.old.waiting slave ≡ Some 64)) }
         ensures serves { IfOk result (ServingAsks slave key mail.now self.old self.new) }
+        ensures live { has_live self.new.master ≡ has_live self.old.master }
         ensures err { OnErr result (self.new ≡ self.old) }
     {
         let body = Octets::copy_of(alloc, mail.body.as_slice())?;
@@ -352,7 +357,8 @@ impl Session {
         Ok(false)
     }
 
-    /// Sends one frame, behind which the processors of the slaves make their steps. The frame and what happened stand in the book.
+    /// Sends one frame, behind which the processors of the slaves make their steps. The frame and what happened stand in the book. Who asked gets to know of it just
+    /// what the lives of a serving tell: which mails came into hand, their replies, that no more follow, and which slaves were given up.
     pub fn step(&mut self, alloc: Global, book: &mut Book) -> Result<(), NoMemory>
         requires { self.old.ring.number < self.old.budget }
         ensures ok { OnOk result ((f : Recorded) × Steps self.old book.old self.new book.new f × ServingGoesOn self.old self.new f) }

@@ -1,5 +1,6 @@
 use Rattle.std.proofs.Common.{◌≡◌, ℕ, suc, map, refl, ap, sym, ◌∙◌, subst}
 use Rattle.master_node.specs.of_life_runs.Led.{led_behind, gives_up_at, missed_behind}
+use Rattle.master_node.specs.Listing.{events_in}
 use Rattle.master_node.specs.Serving.{ServedShows}
 use Rattle.master_node.specs.Shows.{MasterShows}
 use Rattle.master_node.specs.Toured.{tour_of}
@@ -12,6 +13,7 @@ use Rattle.master_node.specs.of_frame_view.Seen.{seen}
 use Rattle.master_node.specs.Joined.{HasUnfinished, stand_before, unfinished_after, mails_back}
 use Rattle.port_events.specs.Listed.{unfinished_of}
 use Rattle.port_events.specs.of_packets_heard.Heard.{mails_by}
+use Rattle.run_record.proofs.ServedTold.{told_lost, told_pass}
 use Rattle.run_record.proofs.session.tell.Goals as goal
 
 pub returns-in-Pass-clause-leads : goal.returns-in-Pass-clause-leads
@@ -98,3 +100,21 @@ returns-in-Pass-clause-served c = λ lens recover retry missed made vs f fate ba
 pub returns-in-Lost-clause-served : goal.returns-in-Lost-clause-served
 returns-in-Lost-clause-served c = λ lens recover retry missed made vs f fate back under returns.
     c.lost.ensures.served lens recover retry missed made c.in-Lost.after f.sent vs f (fate ∙ c.in-Lost.is) refl under
+
+pub returns-in-Pass-clause-told : goal.returns-in-Pass-clause-told
+returns-in-Pass-clause-told c = λ few lens recover retry missed made vs f fate back under returns.
+    let pass : f.fate ≡ Fates.Pass = fate ∙ c.in-Pass.is in
+    told_pass lens f vs (map (served_behind lens recover retry (gives_up_at lens recover retry missed) made f) vs) c.args.master.now.tour.visit.items c.args.back.now.items (events_in c.returned.new.self) pass back
+    (c.returned.ensures.gateway lens recover retry missed made f.sent vs f pass back under (returns c.in-Pass.is) few)
+
+pub returns-in-Lost-clause-told : goal.returns-in-Lost-clause-told
+returns-in-Lost-clause-told c = λ few lens recover retry missed made vs f fate back under returns.
+    let lost : f.fate ≡ Fates.Lost c.in-Lost.after = fate ∙ c.in-Lost.is in
+    told_lost lens f vs (map (served_behind lens recover retry (gives_up_at lens recover retry missed) made f) vs) c.args.master.now.tour.visit.items c.in-Lost.after (events_in c.lost.new.self) lost
+    (c.lost.ensures.told lens recover retry missed made c.in-Lost.after f.sent vs f lost refl under few)
+
+pub returns-in-Pass-clause-whole : goal.returns-in-Pass-clause-whole
+returns-in-Pass-clause-whole c = c.returned.ensures.whole
+
+pub returns-in-Lost-clause-whole : goal.returns-in-Lost-clause-whole
+returns-in-Lost-clause-whole c = c.lost.ensures.whole

@@ -1,6 +1,7 @@
 use Rattle.std.proofs.Common.{◌≡◌, inl, inr, true, false, sym, ap, ◌∙◌, subst, rules}
 use Rattle.std.proofs.lemmas.Bool.{OnTrue_at, OnTrue_from, OnFalse_at, OnFalse_from}
 use Rattle.run_record.specs.Session.{SessionState, has_live, IsLeftBy, StillWants}
+use Rattle.run_record.proofs.ServedGaves.{serving_live}
 use Rattle.run_record.proofs.session.Session.settled.Goals as goal
 
 pub returns-then-wants-clause-busy : goal.returns-then-wants-clause-busy
@@ -26,3 +27,9 @@ returns-then-wants-clause-wants c =
 
 pub returns-clause-wants : goal.returns-clause-wants
 returns-clause-wants c = OnFalse_from c.are_at_rest.result _ (λ e. (λ lens recover retry missed leads shows rests none settled. (let no : true ≡ false = sym settled ∙ (sym c.are_at_rest.ensures ∙ e) in cc)))
+
+pub returns-then-wants-clause-lives : goal.returns-then-wants-clause-lives
+returns-then-wants-clause-lives c = λ plan fs recover s. serving_live plan c.args.self.now fs s.leading recover s.gave (returns-then-wants-clause-busy c)
+
+pub returns-clause-lives : goal.returns-clause-lives
+returns-clause-lives c = OnFalse_from c.are_at_rest.result _ (λ e. λ plan fs recover s. serving_live plan c.args.self.now fs s.leading recover s.gave (inl (sym c.are_at_rest.ensures ∙ e)))

@@ -6,6 +6,8 @@ use Rattle.slave_server.specs.declared.server.SlaveServer.{SlaveServer}
 use Rattle.run_book.specs.Ports.{ports_of}
 use Rattle.run_book.specs.declared.book.SentFrame.{SentFrame}
 use Rattle.master_node.specs.Happened.{events_of}
+use Rattle.master_node.specs.Listing.{events_in}
+use Rattle.master_node.specs.declared.event.Event.{Event}
 use Rattle.master_node.specs.of_life_runs.First.{lens_of}
 use Rattle.run_record.specs.Led.{exchanged, Leading}
 use Rattle.run_record.proofs.Leads.{led_on, returned, stands_on}
@@ -17,7 +19,7 @@ use Rattle.master_node.specs.Wants.{AllCounted}
 use Rattle.master_node.proofs.Counts.{counted}
 use Rattle.run_record.specs.Replay.{behind, IsRecorded}
 use Rattle.run_record.specs.Session.{SessionState, StillWants, has_live}
-use Rattle.run_notes.specs.Slaves.{SameFrames, KeepsRest}
+use Rattle.run_notes.specs.Slaves.{GaveBy, SameFrames, KeepsRest}
 use Rattle.run_notes.proofs.Kept.{rest_more}
 use Rattle.run_notes.specs.Switched.{IsSwitched, NotesSwitch}
 use Rattle.run_record.proofs.Numbered.{numbers_grown}
@@ -132,9 +134,12 @@ returns-clause-ok c =
             (subst (λ (n : ℕ). AllCounted n l.leads) (sym (ap (λ (s : SessionState). s.recover) c.self.view_is ∙ recover)) (counted (lens_of plan.slaves) plan plan.retry fs l.missed l.leads l.lives)) c.next.new.self.lan.happened
             (λ rests may. c.next.ensures.enters (next_frame c.self.inside.master c.next.result c.next.ensures.idle live) (lens_of plan.slaves) plan.recover plan.retry l.missed l.leads l.shows rests may));
       },
-      serving_on _ _ _ c.next.new.self f c.next.result c.self.view_is c.next.ensures.idle c.next.ensures.serves (λ lens recover retry missed made vs under back. c.tell.ensures.served lens recover retry missed made vs (exchanged f) refl refl under back)
+      serving_on _ _ _ c.next.new.self f c.next.result c.self.view_is c.next.ensures.idle c.next.ensures.services (λ lens recover retry missed made vs under back. c.tell.ensures.served lens recover retry missed made vs (exchanged f) refl refl under back)
+          (c.tell.ensures.whole ∙ ap (λ (es : List Event). es ++ events_in c.tell.new.master) c.next.ensures.whole.1) (c.tell.ensures.told c.next.ensures.few)
           (record { fate = c.exchange-fate.ensures.fate; back = c.exchange-fate.ensures.back }) (let n = c.self.invariant.0 in let b = c.self.invariant.1 in let most = c.self.invariant.2 in omega (arith, n, b, most))
-          (c.note_behind.ensures.slaves.asked ∙ c.note_before.ensures.slaves.asked) refl,
+          (c.note_behind.ensures.slaves.asked ∙ c.note_before.ensures.slaves.asked) refl
+          c.note_before.new.self c.note_behind.new.self c.note_before.ensures.slaves.recover c.in_ok-note_before.ensures.gave refl
+          (subst (λ (n : ℕ). GaveBy f.fate n c.tell.new.master c.note_before.new.self c.note_behind.new.self) c.self.invariant.0 both.0),
     ))
     (on_ok_both _ _ c.note_behind.result c.note_behind.ensures.gave (on_ok_both _ _ c.note_behind.result c.note_behind.ensures.told (on_ok_both _ _ c.note_behind.result c.note_behind.ensures.heard (on_ok_both _ _ c.note_behind.result c.note_behind.ensures.switch c.note_behind.ensures.rows))))
 

@@ -1,0 +1,50 @@
+-- THE ROWS OF THE MAILS THAT ARE PASSED ON to a slave, in the order in which they came into its hand, all along its life.
+use Rattle.std.specs.Prelude.{◌≡◌, ◌⊎◌, ℕ, Bool, true, Option, Some, None, List, [], ◌∷◌, ◌++◌, filter, if◌then◌else◌}
+use Rattle.life_frames.specs.of_exchange_model.Rows.{Row, begun}
+use Rattle.life_frames.specs.of_life_model.Lives.{Era, Life, Stand}
+use Rattle.life_frames.specs.of_segment_model.Seats.{rows_of}
+use Rattle.life_frames.specs.of_state_exchange.Stated.{Service}
+use Rattle.life_runs.specs.of_link_mails.Body.{Body}
+use Rattle.life_runs.specs.of_master_duty.Reply.{Reply}
+use Rattle.life_runs.specs.of_master_hand.Spoken.{Asked, is_followed, is_passed}
+use Rattle.serving_model.specs.Passing.{ends_told}
+use Rattle.served_runs.specs.Served.{Serves}
+use Rattle.served_runs.specs.Told.{Passed}
+
+-- the rows of its services by mails, over these epochs
+abbrev pub eras_rows : List (Era Body Asked Reply) → List (Row Body Asked Reply)
+eras_rows [] = []
+eras_rows (e ∷ es) = rows_of e.side ++ eras_rows es
+
+-- over its life
+abbrev pub life_rows : Life Body Asked Reply → List (Row Body Asked Reply)
+life_rows l = eras_rows l.past ++ rows_of l.era.side
+
+-- a row of a mail that is passed on
+abbrev pub is_passed_row : Row Body Asked Reply → Bool
+is_passed_row r = is_passed r.service
+
+-- THE ROWS OF THESE MAILS
+abbrev pub passed_rows : Life Body Asked Reply → List (Row Body Asked Reply)
+passed_rows l = filter is_passed_row (life_rows l)
+
+-- A ROW STAYS: its service and the frame before which that came into hand; more may be heard in it
+pub record Stays (r s : Row Body Asked Reply) : Type 0 where
+  pub service : s.service ≡ r.service
+  pub frame : s.frame ≡ r.frame
+  pub more : List Body
+  pub heard : s.heard ≡ r.heard ++ more
+
+-- the row of what comes into hand, where that is a mail that is passed on
+abbrev pub row_begun : ℕ → Option (Service Asked) → List (Row Body Asked Reply)
+row_begun made None = []
+row_begun made (Some (Service.Mails q)) = if is_passed q then begun q made ∷ [] else []
+row_begun made (Some (Service.State target)) = []
+
+-- a slave of which a mail was passed on last, and no other service came into hand since, is open
+abbrev pub IsHeld : Serves → Type 0
+IsHeld w = (p : Passed) → w.hand ≡ Some p → w.lead.lived.life.stand ≡ Stand.Open
+
+-- THESE ARE ALL REPLIES to a mail that was passed on: the last of them tells that no other follows; or its server took the mail, and there is none
+abbrev pub AreAll : List Body → Type 0
+AreAll told = (told ≡ []) ⊎ (ends_told is_followed told ≡ true)
