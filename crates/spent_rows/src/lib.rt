@@ -2,20 +2,12 @@
 //! contracts state the laws.
 #![tactic(auto)]
 
-ghost use Rattle.std.specs.Prelude.{◌≡◌, ℕ, true, Bool, Option, Some, List};
-ghost use Rattle.answered_rows.specs.Moments.{HasNothing};
-ghost use Rattle.answered_rows.specs.of_never_waits.Waits.{NeverWaits};
-ghost use Rattle.exchange_model.specs.Exchange.{Exchange, Speech, IsLawful};
-ghost use Rattle.exchange_model.specs.Rows.{Row};
-ghost use Rattle.life_model.specs.Eras.{EraIs};
-ghost use Rattle.life_model.specs.Lives.{Stand, Era, Life, Spot, new_life, life_next, life_back, life_lost, gives_up};
-ghost use Rattle.passing_rows.specs.Heard.{EraPasses, LastTold};
-ghost use Rattle.segment_model.specs.Ends.{Passing};
-ghost use Rattle.segment_model.specs.Record.{Frame, News};
-ghost use Rattle.segment_model.specs.Slaves.{Datagram, Found, Processor, Registers, Slave};
-ghost use Rattle.spent_rows.specs.Last.{LastPasses};
-ghost use Rattle.state_exchange.specs.Stated.{Stated, IsStated};
-ghost use Rattle.state_model.specs.States.{Table};
+ghost use Rattle.std.specs.Prelude.{◌≡◌, ℕ, Bool, Option, List};
+ghost use Rattle.exchange_model.specs.Exchange.{Speech};
+ghost use Rattle.life_model.specs.Lives.{Stand, Life, Spot, new_life, life_next, life_back, life_lost, gives_up};
+ghost use Rattle.segment_model.specs.Record.{News};
+ghost use Rattle.segment_model.specs.Slaves.{Datagram, Found};
+ghost use Rattle.spent_rows.specs.Last.{LastPasses, NothingAwaited};
 ghost use Rattle.task_model.specs.Accounts.{Pick};
 
 /// WHILE A MAIL THAT IS PASSED ON ISN'T OVER the newest service of its epoch is by mails: at every frame of a life.
@@ -30,7 +22,5 @@ pub fn last_rows<M, Q, R>()
 
 /// WHERE NOTHING IS LEFT of a slave, a mail that is passed on doesn't await replies behind the first, where its last reply tells that it is the last.
 pub fn spent_rows<V, A, M, Q, R>()
-    ensures { (x : Exchange V A M Q R) (s : Stated V A Q) (processor : Processor V) (table : ℕ → Table) (spot : Spot) (e : Era M Q R) (opened last : ℕ) (fs : List (Frame M)) (v : V) (r : Registers) (slave : Slave V M) (more : M → Bool) (passed : Q → Bool) →
-        IsLawful x → IsStated x s → NeverWaits x → EraIs x s processor table spot e opened last fs v r slave → HasNothing x.speech e slave → EraPasses x.speech more passed e → LastPasses e →
-        ((row : Row M Q R) → e.side.now ≡ Some row → passed row.service ≡ true → LastTold x more row.service) → e.passing ≡ Some Passing.Answered → ⊥ }
+    ensures { NothingAwaited V A M Q R }
 {}
