@@ -1,5 +1,5 @@
 -- The newest row of a slave with no state service in hand.
-use Rattle.std.proofs.Common.{◌≡◌, inl, inr, ℕ, ◌+◌, ◌&&◌, Bool, true, false, not, is_none, is_some, Option, Some, None, option_map, List, [], ◌∷◌, ◌++◌, length, refl, sym, ap, ◌∙◌, subst, append-nil, arith, if◌then◌else◌}
+use Rattle.std.proofs.Common.{◌≡◌, inl, inr, ℕ, ◌&&◌, Bool, true, false, not, is_none, is_some, Option, Some, None, option_map, List, [], ◌∷◌, ◌++◌, length, refl, sym, ap, ◌∙◌, subst, append-nil, arith, if◌then◌else◌}
 use Rattle.exchange_model.specs.Exchange.{Exchange, IsLawful, given, plain}
 use Rattle.exchange_model.specs.Rows.{Row, answer_after, left}
 use Rattle.exchange_model.proofs.Lists.{append_cancel, append_none}
