@@ -41,6 +41,7 @@ pub mod Mailings
 pub mod Handeds
 pub mod Handings
 pub mod Endings
+pub mod Answereds
 mod Besides
 mod ToldFew
 mod Filtered
@@ -72,3 +73,4 @@ pub mod Reopeneds
 pub mod Backinhand
 pub mod Backtolds
 pub mod Unread
+pub mod Mailless

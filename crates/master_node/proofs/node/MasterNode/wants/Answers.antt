@@ -1,6 +1,8 @@
-use Rattle.std.proofs.Common.{◌≡◌, ◌∙◌, sym, true, false, rules}
+use Rattle.std.proofs.Common.{◌≡◌, ◌∙◌, Bool, refl, sym, true, false, rules, arith}
+use Rattle.std.specs.Prelude.{◌&&◌}
 use Rattle.master_node.proofs.Restings.{never, all_rest}
 use Rattle.std.proofs.lemmas.Bool.{OnFalse_at, OnFalse_from}
+use Rattle.master_node.proofs.Mailless.{all_out}
 use Rattle.master_node.proofs.Quiets.{all_left}
 use Rattle.master_node.proofs.node.MasterNode.wants.Goals as goal
 
@@ -10,6 +12,14 @@ returns-clause-left c =
     OnFalse_from c.has_coming.result _
     (λ none lens recover retry missed as' shown placed. all_left lens recover as' c.args.self.now.tour.stops.items shown.each placed (OnFalse_at no c.has_wanting.ensures.quiet))
 
+pub returns-clause-served : goal.returns-clause-served
+returns-clause-served c =
+    let no : c.has_wanting.result ≡ false = search rules in
+    OnFalse_from c.has_coming.result _
+    (λ none lens recover retry missed made ws shown.
+    let m = c.args.self.now in
+    all_out lens recover made ws m.posts.items m.tour.stops.items shown.each (λ k l. OnFalse_at no c.has_wanting.ensures.mails k (omega (arith, l, m.posts.ok.0))))
+
 pub returns-then-has_wanting-clause-rests : goal.returns-then-has_wanting-clause-rests
 returns-then-has_wanting-clause-rests c = λ lens recover retry missed as' shown rests come.
     let yes : c.has_wanting.result ≡ true = search rules in
@@ -17,3 +27,13 @@ returns-then-has_wanting-clause-rests c = λ lens recover retry missed as' shown
 
 pub returns-clause-rests : goal.returns-clause-rests
 returns-clause-rests c = λ lens recover retry missed as' shown rests come. c.has_coming.ensures.none come
+
+-- while a slave is live no packet of the host is left
+no_left : (left live : Bool) → (left && live) ≡ false → live ≡ true → left ≡ false
+no_left false live e f = refl
+no_left true live e f = absurd (never (sym e ∙ f))
+
+pub returns-clause-come : goal.returns-clause-come
+returns-clause-come c =
+    let no : c.has_wanting.result ≡ false = search rules in
+    OnFalse_from c.has_coming.result _ (λ none. record { slaves = OnFalse_at no c.has_wanting.ensures.waits; host = λ live. no_left _ _ (sym c.has_coming.ensures.is ∙ none) live })

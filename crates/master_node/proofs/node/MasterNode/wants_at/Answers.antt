@@ -1,8 +1,10 @@
 use Rattle.std.proofs.Common.{◌≡◌, ◌<◌, ◌∙◌, true, false, sym, ap, subst, length, rules, arith}
+use Rattle.std.specs.Prelude.{slice_get}
 use Rattle.std.proofs.lemmas.Bool.{OnTrue_from, OnFalse_from, OnFalse_at}
 use Rattle.master_tour.specs.Goes.{is_live}
 use Rattle.master_tour.specs.declared.stop.Stand.{Stand}
-use Rattle.master_node.specs.Wants.{IsQuietBy}
+use Rattle.master_node.specs.Wants.{IsMaillessBy, IsQuietBy}
+use Rattle.master_node.proofs.Mailless.{gone_mailless, open_mailless, within}
 use Rattle.master_node.proofs.Places.{tested_here}
 use Rattle.master_node.proofs.Quiets.{quiet_here}
 use Rattle.master_node.proofs.Restings.{if_here, never}
@@ -39,6 +41,23 @@ returns-else-is_wanting-clause-quiet c =
     (λ e. quiet_here (λ s. IsQuietBy s.stand s.side) c.args.self.now.tour.stops.items c.args.place c.index-stop.result.now c.index-stop.ensures
     (subst (λ (k : Stand). IsQuietBy k c.index-stop.result.now.side) (sym c.in-Open.is) (OnFalse_at no c.is_wanting.ensures.quiet)))
 
+pub returns-in-Gone-clause-mails : goal.returns-in-Gone-clause-mails
+returns-in-Gone-clause-mails c =
+    let m = c.args.self.now in
+    let s = c.index-stop.result.now in
+    let post = slice_get m.posts.items c.args.place in
+    within (λ p z. IsMaillessBy z.stand z.side.passing p) post m.tour.stops.items c.args.place s c.index-stop.ensures (gone_mailless post s.stand s.side.passing c.in-Gone.is)
+
+pub returns-else-is_wanting-clause-mails : goal.returns-else-is_wanting-clause-mails
+returns-else-is_wanting-clause-mails c =
+    let m = c.args.self.now in
+    let s = c.index-stop.result.now in
+    let post = slice_get m.posts.items c.args.place in
+    let no : c.is_wanting.result ≡ false = search rules in
+    OnFalse_from c.has_waiting.result _
+    (λ e. within (λ p z. IsMaillessBy z.stand z.side.passing p) post m.tour.stops.items c.args.place s c.index-stop.ensures
+    (open_mailless post s.stand s.side.passing c.in-Open.is (OnFalse_at no c.is_wanting.ensures.unpassed) (OnFalse_at e c.has_waiting.ensures.mails)))
+
 pub returns-in-Opening-clause-rests : goal.returns-in-Opening-clause-rests
 returns-in-Opening-clause-rests c = λ w p.
     let m = c.args.self.now in
@@ -59,4 +78,13 @@ returns-else-is_wanting-clause-rests c = λ w p.
     let m = c.args.self.now in
     let l : c.args.place < length m.tour.stops.items = omega (arith, c.requires, m.paired, m.tour.stops.ok.0) in
     let r = if_here (λ s. StopRests m.lan c.args.place s) m.tour.stops.items c.args.place c.index-stop.result.now l c.index-stop.ensures p in
-    c.has_waiting.ensures w (subst (λ (k : Stand). StandRests m.lan c.args.place k c.index-stop.result.now.side) c.in-Open.is r).1
+    c.has_waiting.ensures.rests w (subst (λ (k : Stand). StandRests m.lan c.args.place k c.index-stop.result.now.side) c.in-Open.is r).1
+
+pub returns-in-Gone-clause-waits : goal.returns-in-Gone-clause-waits
+returns-in-Gone-clause-waits c = λ live.
+    let m = c.args.self.now in
+    let l : c.args.place < length m.tour.stops.items = omega (arith, c.requires, m.paired, m.tour.stops.ok.0) in
+    absurd (never (tested_here (λ s. is_live s.stand) m.tour.stops.items c.args.place c.index-stop.result.now false l c.index-stop.ensures (sym (ap is_live c.in-Gone.is)) ∙ live))
+
+pub returns-else-is_wanting-clause-waits : goal.returns-else-is_wanting-clause-waits
+returns-else-is_wanting-clause-waits c = OnFalse_from c.has_waiting.result _ (λ no live. OnFalse_at no c.has_waiting.ensures.none)
