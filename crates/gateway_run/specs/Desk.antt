@@ -1,13 +1,14 @@
 -- What a serving still owes its peers.
-use Rattle.std.specs.Prelude.{◌≡◌, ◌<◌, ℕ, true, false, if◌then◌else◌, List, [], ◌∷◌, ◌++◌, length, map, slice_get, Option, Some, None, Ok, All}
-use Rattle.slab.specs.Slab.{Slab, get}
+use Rattle.std.specs.Prelude.{◌≡◌, ◌≢◌, ◌<◌, ◌≤◌, ◌+◌, ℕ, true, false, if◌then◌else◌, List, [], ◌∷◌, ◌++◌, length, map, slice_get, Option, Some, None, Ok, All}
+use Rattle.slab.specs.Slab.{Slab, get, slab_len}
 use Rattle.ec_outside.specs.Port.{HeardGram}
 use Rattle.mailbox_mail.specs.Mail.{error_of}
 use Rattle.mailbox_mail.specs.declared.mail.Mail.{Mail}
 use Rattle.gateway_core.specs.Framing.{request_in}
 use Rattle.gateway_core.specs.declared.asker.Asker.{Asker}
 use Rattle.master_node.specs.declared.event.Event.{Event}
-use Rattle.run_record.specs.Session.{SessionState, Asks}
+use Rattle.run_record.specs.Served.{ServingAsks}
+use Rattle.run_record.specs.Session.{SessionState, Asks, has_live}
 use Rattle.ec_outside.specs.declared.port.Peer.{Peer}
 use Rattle.run_book.specs.declared.book.Book.{Book}
 use Rattle.run_book.specs.declared.book.GramIn.{GramIn}
@@ -29,20 +30,37 @@ pub record IsOpen (requests : Slab Asker) (heard : List HeardGram) (r : Request)
   pub station : asker.station ≡ mail.address
   pub counter : asker.counter ≡ mail.counter
 
--- no two requests have one key
-abbrev pub AreApart : List Request → Type 0
-AreApart [] = Unit {0}
-AreApart (r ∷ rs) = IsFree r.key rs × AreApart rs
+-- no two requests have one number
+abbrev pub AreUnlike : (Request → ℕ) → List Request → Type 0
+AreUnlike number [] = Unit {0}
+AreUnlike number (r ∷ rs) = All (λ (q : Request). number q ≢ number r) rs × AreUnlike number rs
 
--- each request and each datagram that is to be sent answers one of those heard
-pub record IsSound (heard : List HeardGram) (d : Desk) : Type 0 where
+-- no two have one key
+abbrev pub AreApart : List Request → Type 0
+AreApart rs = AreUnlike (λ (r : Request). r.key) rs
+
+-- no request is unfinished, at the desk or at its gateway
+abbrev pub HasNone : Desk → Type 0
+HasNone d = (d.requests.items ≡ []) × (d.gateway.slots ≡ [])
+
+-- each request and each datagram that is to be sent answers one of those heard, and the gateway has so many requests besides at most
+pub record IsSoundBut (more : ℕ) (heard : List HeardGram) (d : Desk) : Type 0 where
   pub requests : All (IsOpen d.gateway heard) d.requests.items
   pub apart : AreApart d.requests.items
+  pub few : slab_len d.gateway ≤ length d.requests.items + more
   pub owed : All (IsOwed heard) d.outbox.items
+
+-- it has none besides
+abbrev pub IsSound : List HeardGram → Desk → Type 0
+IsSound heard d = IsSoundBut 0 heard d
 
 -- a session in which mails were passed on: all else stays
 abbrev pub AsksMails : SessionState → SessionState → Type 0
 AsksMails s s' = s' ≡ record s { asked = s'.asked; waiting = s'.waiting; master = s'.master }
+
+-- some slave is live just where one was before
+abbrev pub SameLive : SessionState → SessionState → Type 0
+SameLive s s' = has_live s'.master ≡ has_live s.master
 
 -- behind the datagrams that are to be sent stand those for what is owed besides
 abbrev pub Owes : List HeardGram → List Owing → List GramOut → List GramOut → Type 0
@@ -54,9 +72,9 @@ pub record IsTold (heard : List HeardGram) (rs : List Request) (os : List Owing)
   pub requests : d'.requests.items ≡ rs
   pub owes : Owes heard os d.outbox.items d'.outbox.items
 
--- a desk stays sound where a request of it under a key of its own is passed on
+-- a desk is sound where a request that its gateway has under a key of its own is passed on
 abbrev pub PassesSoundly : Request → Desk → Desk → Type 0
-PassesSoundly r d d' = (heard : List HeardGram) → IsOpen d.gateway heard r → IsFree r.key d.requests.items → IsSound heard d → IsSound heard d'
+PassesSoundly r d d' = (heard : List HeardGram) → IsOpen d.gateway heard r → IsFree r.key d.requests.items → IsSoundBut 1 heard d → IsSound heard d'
 
 -- something is told to a desk that is sound
 abbrev pub Tells : List Request → List Owing → Desk → Desk → Type 0
@@ -76,9 +94,9 @@ Answers r mail d d' = (heard : List HeardGram) → IsOpen d.gateway heard r → 
 
 -- a mail was asked of the session, or an error is owed
 abbrev pub Passes : SessionState → SessionState → List HeardGram → Request → Mail → Desk → Desk → Option ℕ → Type 0
-Passes s s' heard r mail d d' (Some slave) = (slave ≡ r.slave) × Asks r.slave r.key mail s s' true × (d'.requests.items ≡ d.requests.items ++ r ∷ []) × (d'.outbox.items ≡ d.outbox.items)
+Passes s s' heard r mail d d' (Some slave) = (slave ≡ r.slave) × Asks r.slave r.key mail s s' true × (d'.requests.items ≡ d.requests.items ++ r ∷ []) × (d'.outbox.items ≡ d.outbox.items) × ServingAsks r.slave r.key mail s s' true
 Passes s s' heard r mail d d' None =
-    (slice_get s.waiting r.slave ≡ Some 64) × Asks r.slave r.key mail s s' false × (d'.requests.items ≡ d.requests.items) × Owes heard (owing (error_of 7) r ∷ []) d.outbox.items d'.outbox.items
+    (slice_get s.waiting r.slave ≡ Some 64) × Asks r.slave r.key mail s s' false × (d'.requests.items ≡ d.requests.items) × Owes heard (owing (error_of 7) r ∷ []) d.outbox.items d'.outbox.items × ServingAsks r.slave r.key mail s s' false
 
 -- the same of a request under a key of its own
 abbrev pub PassesSo : SessionState → SessionState → Request → Mail → Desk → Desk → Option ℕ → Type 0
