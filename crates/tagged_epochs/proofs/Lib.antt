@@ -15,4 +15,4 @@ pub mod Turns
 pub mod Leads
 pub mod Led
 pub mod Sessions
-
+pub mod Whole
