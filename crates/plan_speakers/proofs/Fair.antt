@@ -1,10 +1,10 @@
 -- ALL MAILS THAT CAME INTO HAND of a slave are fair, where those are that were asked of it.
-use Rattle.std.proofs.Common.{◌≡◌, ℕ, Bool, true, false, Option, Some, List, [], ◌∷◌, ◌++◌, All, Ok, refl, ap, sym, ◌∙◌, subst}
+use Rattle.std.proofs.Common.{◌≡◌, ℕ, true, false, Option, Some, List, [], ◌∷◌, ◌++◌, All, Ok, ap, sym, ◌∙◌, subst}
 use Rattle.std.proofs.lemmas.List.Elements.{All-head, All-tail}
 use Rattle.book_model.specs.Script.{eras_started, life_started}
 use Rattle.exchange_model.specs.Lifted.{EachOf}
 use Rattle.frame_view.specs.View.{Lens}
-use Rattle.life_model.specs.Lives.{Era, Life}
+use Rattle.life_model.specs.Lives.{Era}
 use Rattle.life_runs.specs.Led.{Comes}
 use Rattle.link_mails.specs.Body.{Body}
 use Rattle.master_duty.specs.Reply.{Reply}

@@ -1,5 +1,5 @@
 -- A PLAN'S SLAVE AS ITS MASTER SPEAKS WITH IT: by services of its protocols, and by mails that are passed on.
-use Rattle.std.specs.Prelude.{ℕ, Bool, true, false, Ok}
+use Rattle.std.specs.Prelude.{ℕ, Bool, true, Ok}
 use Rattle.exchange_model.specs.Exchange.{Exchange}
 use Rattle.link_mails.specs.Body.{Body}
 use Rattle.master_duty.specs.Reply as Master

@@ -4,7 +4,6 @@ use Rattle.std.proofs.lemmas.List.{map-append}
 use Rattle.exchange_model.specs.Exchange.{Exchange}
 use Rattle.life_model.specs.Eras.{WasOpen, planned}
 use Rattle.life_model.specs.Lives.{Spot, Era, Life, new_era}
-use Rattle.passed_model.specs.Clearing.{InRow}
 use Rattle.passed_whole.specs.Led.{IsLed}
 use Rattle.segment_model.specs.Record.{Frame}
 use Rattle.segment_model.specs.Slaves.{Registers, Processor, Slave}

@@ -102,19 +102,16 @@ module _ {V M Q R : Type 0} (x : Exchange V V M Q R) (calm : V → Bool) (fair :
   rows_in : (c : Counting (Rowed V M Q)) → InRow x c.server → both.ready c ≡ true → (past : List GhostRow) (now : GhostRow) → both.speech.valid now.service ≡ true → Settled both c past →
       IsPrefixOf now.told (both.full (after both.serve c (told_all past)) now.service) → (p r : List (Act (Tagged M Q))) → told_all past ++ now.told ≡ p ++ r → InRow x (after both.serve c p).server
   rows_in c i ready [] now valid settled mine p r e = part_in c i ready now.service valid p (r ++ mine.0) (sym mine.1 ∙ ap (λ l. l ++ mine.0) e ∙ append_assoc p r mine.0)
-  rows_in c i ready (g ∷ past) now valid settled mine p r e = elim (cut g.told (told_all past ++ now.told) p r (sym (append_assoc g.told (told_all past) now.told) ∙ e)) [
-    | inl k ↦ behind k.0 k.1 k.2
-    | inr k ↦ part_in c i ready g.service settled.0.valid p k.0 (sym settled.0.told ∙ k.1)
-  ]
-    where
-      next : Counting (Rowed V M Q)
-      next = after both.serve c g.told
-
-      behind : (b : List (Act (Tagged M Q))) → p ≡ g.told ++ b → told_all past ++ now.told ≡ b ++ r → InRow x (after both.serve c p).server
-      behind b split f =
-          subst (λ l. InRow x (after both.serve c l).server) (sym split) (subst (λ (z : Counting (Rowed V M Q)). InRow x z.server) (sym (after-append both.serve c g.told b))
-          (rows_in next (part_in c i ready g.service settled.0.valid g.told [] (sym settled.0.told ∙ sym (append-nil g.told))) (whole_ready both both_lawful c g ready settled.0) past now valid settled.1
-          (subst (λ z. IsPrefixOf now.told (both.full z now.service)) (after-append both.serve c g.told (told_all past)) mine) b r f))
+  rows_in c i ready (g ∷ past) now valid settled mine p r e =
+      let next = after both.serve c g.told in
+      let whole = part_in c i ready g.service settled.0.valid g.told [] (sym settled.0.told ∙ sym (append-nil g.told)) in
+      let again = whole_ready both both_lawful c g ready settled.0 in
+      let first = subst (λ z. IsPrefixOf now.told (both.full z now.service)) (after-append both.serve c g.told (told_all past)) mine in
+      elim (cut g.told (told_all past ++ now.told) p r (sym (append_assoc g.told (told_all past) now.told) ∙ e)) [
+        | inl k ↦ subst (λ l. InRow x (after both.serve c l).server) (sym k.1) (subst (λ (z : Counting (Rowed V M Q)). InRow x z.server) (sym (after-append both.serve c g.told k.0))
+            (rows_in next whole again past now valid settled.1 first k.0 r k.2))
+        | inr k ↦ part_in c i ready g.service settled.0.valid p k.0 (sym settled.0.told ∙ k.1)
+      ]
 
   -- the server of a seat
   carried_in : (from : ℕ) (seat : Seat (Rowed V M Q) (Tagged M Q) (Asked M Q) (Option R)) (a : Account (Asked M Q) (Option R)) → sees.ready seat.start ≡ true → InRow x seat.start → Carried sees lawful (tagged_states x s) table from seat a → InRow x seat.slave.node.server.server

@@ -1,5 +1,5 @@
 -- THE LAW OF SUCH LIVES, over what it stands on.
-use Rattle.std.proofs.Common.{◌≡◌, ℕ, Option, length, refl}
+use Rattle.std.proofs.Common.{ℕ, Option, length, refl}
 use Rattle.exchange_model.specs.Exchange.{Exchange}
 use Rattle.life_model.specs.Lives.{Spot, Life}
 use Rattle.passed_model.specs.Clearing.{Forgets}
