@@ -17,8 +17,9 @@ ghost use Rattle.served_runs.specs.Served.{Serves};
 ghost use Rattle.slave_model.specs.Profile.{Profile, IsProfile};
 ghost use Rattle.slave_parts.specs.Parts.{Server};
 ghost use Rattle.state_exchange.specs.Families.{InState};
+ghost use Rattle.state_exchange.specs.Stated.{IsStated};
 ghost use Rattle.tagged_epochs.specs.Epochs.{IsSpeaker, IsRun};
-ghost use Rattle.plan_speakers.specs.Speakers.{speaker, spoken, table_of, processor_of, seer_of, cleared_whole};
+ghost use Rattle.plan_speakers.specs.Speakers.{speaker, spoken, spoken_states, table_of, processor_of, seer_of, cleared_whole};
 
 /// A SLAVE OF A PLAN AND ITS MASTER keep the laws of both: the server owes those of its services and of its AL state in whatever state it is, is calm behind
 /// fair mails, gives replies first, of which the last tells that it is; and the master speaks as the clients of the slave's protocols do.
@@ -35,6 +36,13 @@ pub fn run_law()
     ensures runs { (p : Profile) (boot : Bool) (station : ℕ) → IsRun (speaker p) (spoken p) (processor_of boot) (seer_of p boot) (table_of boot station) }
     ensures forgets { (p : Profile) → Forgets (speaker p).exchange (speaker p).core cleared_whole }
 {}
+
+/// AND THE AL STATE is a part of what it runs.
+pub fn state_law()
+    ensures { (p : Profile) → IsProfile p → IsStated (spoken p) spoken_states }
+{
+    parts_served::parts_are_served();
+}
 
 /// ALL MAILS THAT CAME INTO HAND of a slave of a serving are fair, where all are that were asked of it.
 pub fn fair_law()
