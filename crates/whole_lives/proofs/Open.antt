@@ -18,12 +18,11 @@ use Rattle.slave_lives.specs.of_segment_ring.declared.wire.Fate.TheVariants.{Los
 use Rattle.slave_lives.specs.of_slave_steps.Node.{Node}
 use Rattle.slave_lives.specs.of_state_exchange.Stated.{Service}
 use Rattle.slave_lives.specs.of_task_model.Accounts.{Account, Pick, Duty, Stage, is_free, is_acknowledged, starts, state_begins, account_begins, duty_access}
-use Rattle.slave_lives.specs.of_task_model.Steady.{IsSteady, AsksNoInit, NoneToInit, HandToInit, StageToInit}
-use Rattle.slave_lives.proofs.of_task_model.Sessions.{tasks_steady}
+use Rattle.slave_lives.specs.of_task_model.Steady.{IsSteady, NoneToInit, HandToInit, StageToInit}
+use Rattle.steady_eras.proofs.Steadied.{era_steady}
 use Rattle.slave_lives.specs.of_life_model.Lives.{Spot, Era, Life, Stand, AsksOpen, granted, returns_to_init, opens_state, reopening, reopens, reopens_at}
-use Rattle.slave_lives.specs.of_life_model.Eras.{Clearing, OpenEra}
+use Rattle.slave_lives.specs.of_life_model.Eras.{Clearing}
 use Rattle.slave_lives.specs.of_life_model.Own.{own}
-use Rattle.slave_lives.proofs.of_life_model.Eras.{session_of, of_one}
 use Rattle.slave_lives.specs.Ends.{LeftEras, IsAnswered}
 use Rattle.slave_lives.specs.Lived.{Behind, table_of, node_seen, RingFrame, IsForOpen, LivesEra, OpenFrame, is_reached, node_met, node_behind, frame_of}
 use Rattle.slave_lives.specs.Opening.{Plan, IsPlan}
@@ -79,27 +78,7 @@ module _ {S V A Q R : Type 0} (w : Behind S V A Q R) (c : Clearing V A) (p : Pla
   -- STEADY
   pub steady_of : (from : A) (e : Era Body Q R) (fs : List (Frame Body)) (n : Node S) → LivesEra w spot from e fs n → NoneToInit e.account.over → HandToInit e.account.hand → IsSteady (node_seen w n)
   steady_of from e fs n l over hand =
-      let o : OpenEra V A Body Q R = record {
-        exchange = w.exchange;
-        states = w.states;
-        processor = w.processor;
-        table = table_of w;
-        spot = spot;
-        era = e;
-        opened = l.opened;
-        end = length fs;
-        frames = fs;
-        server = l.server;
-        registers = l.registers;
-        slave = node_seen w n;
-        lawful = whole.lawful;
-        stated = whole.stated;
-        is = l.is;
-      } in
-      let s = session_of o in
-      let steady : AsksNoInit w.states (w.exchange.app l.server) e.account → IsSteady (node_seen w n) = of_one o (λ station start d a k. AsksNoInit w.states (w.exchange.app start) a → IsSteady k)
-      (tasks_steady s.exchange s.lawful s.states s.stated s.processor s.table (λ m. false) s.planned.tells s.plan s.planned s.sides s.accounts s.ring s.frames s.tasked) in
-      steady (record { begun = l.up; over = over; hand = hand })
+      era_steady w.exchange w.states w.processor (table_of w) spot e l.opened (length fs) fs l.server l.registers (node_seen w n) l.is (record { begun = l.up; over = over; hand = hand })
 
   module _ (from : A) (e : Era Body Q R) (fs : List (Frame Body)) (t : RingFrame S) (more : Body → Bool) (passed : Q → Bool) (pick : Pick Q) (news : List (News Body)) where
     comes_open : FrameComes w p spot Stand.Open t → t.node.registers.station ≡ spot.station → is_reached t ≡ true → IsForOpen t.before t.node t.behind t.datagrams
@@ -183,8 +162,8 @@ module _ {S V A Q R : Type 0} (w : Behind S V A Q R) (c : Clearing V A) (p : Pla
       on = open_on from l.era fs t more passed pick news lives f a
 
       answered : (fate : RingFate) → IsAnswered w.exchange.speech (era_behind w more passed spot fs t pick news fate l.era).side.now
-      answered fate = after_answered w.exchange.speech whole.lawful.none w.states.acknowledged more passed spot.station (length fs) news (frame_of w.lens t).sent fate (frame_of w.lens t).back (era_before w more passed spot fs t pick news l.era)
-          (next_answered w.exchange.speech whole.lawful.none w.states.acknowledged more passed (length fs) l.era pick lives.lives.answered)
+      answered fate = after_answered w.exchange.speech whole.none w.states.acknowledged more passed spot.station (length fs) news (frame_of w.lens t).sent fate (frame_of w.lens t).back (era_before w more passed spot fs t pick news l.era)
+          (next_answered w.exchange.speech whole.none w.states.acknowledged more passed (length fs) l.era pick lives.lives.answered)
 
       -- still open
       still_open : (fate : RingFate) → LivesEra w spot from (era_behind w more passed spot fs t pick news fate l.era) (fs ++ frame_of w.lens t ∷ []) (node_behind w.running t) →

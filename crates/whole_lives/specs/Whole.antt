@@ -1,5 +1,5 @@
 -- THE WHOLE LIFE OF A SLAVE AS ITS NODE LIVES IT: what holds between all epochs of its life, its node and the frames so far.
-use Rattle.std.specs.Prelude.{◌≡◌, ◌⊎◌, ℕ, true, false, List, Option, None}
+use Rattle.std.specs.Prelude.{◌≡◌, ◌⊎◌, ℕ, true, false, List, [], Option, None}
 use Rattle.slave_lives.specs.of_exchange_model.Exchange.{IsLawful}
 use Rattle.slave_lives.specs.of_link_mails.Body.{Body}
 use Rattle.slave_lives.specs.of_segment_model.Record.{Frame}
@@ -14,16 +14,22 @@ use Rattle.slave_lives.specs.Nodes.{IsRunning}
 use Rattle.slave_lives.specs.Opening.{Plan, IsPlan}
 use Rattle.slave_lives.specs.Stands.{Closing, opening_again}
 
--- what stays through a run: the slave's services are those of a session that the laws speak of, a return to Init clears them, and its plan
+-- what stays through a run: the slave's services are those of a session with an AL state, without a mail there is no reply, a return to Init clears them, and
+-- its plan
 pub record IsWhole {S V A Q R : Type 0} (w : Behind S V A Q R) (c : Clearing V A) (p : Plan) (spot : Spot) : Type 0 where
   pub behind : IsBehind w
-  pub lawful : IsLawful w.exchange
+  pub none : (q : Q) → w.exchange.speech.ends q [] ≡ None
   pub stated : IsStated w.exchange w.states
   pub tells : (state : ℕ) (v : V) → w.processor.tell state v ≡ w.states.tell state v
   pub clears : ClearsAs w c
   pub plan : IsPlan w.boot w.lens p
   pub station : p.station ≡ spot.station
   pub start : p.start ≡ spot.start
+
+-- and its services owe the laws, which the promises of its epochs ask for
+pub record OwesLaws {S V A Q R : Type 0} (w : Behind S V A Q R) (c : Clearing V A) (p : Plan) (spot : Spot) : Type 0 where
+  pub whole : IsWhole w c p spot
+  pub lawful : IsLawful w.exchange
 
 -- the plan, with the state that an opening opens
 abbrev pub plan_to : Plan → ℕ → Plan
