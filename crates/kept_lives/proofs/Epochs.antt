@@ -17,7 +17,7 @@ use Rattle.slave_steps.specs.Node.{Node}
 use Rattle.state_exchange.specs.Stated.{mails, with_states}
 use Rattle.task_model.specs.Promise.{TasksPromised, TasksAnswered, TasksRestIf, services_in}
 use Rattle.task_model.proofs.Sessions.{of_slaves, tasks_promised, tasks_rest, tasks_answered}
-use Rattle.whole_lives.specs.Whole.{OwesLaws, OpensAs, StandsAs, IsLived}
+use Rattle.whole_lives.specs.Whole.{OwesLaws, OpensAs, OpensBy, StandsAs, IsLived}
 use Rattle.kept_lives.proofs.Owns.{owned}
 use Rattle.kept_lives.proofs.Settled.{settled_seen}
 use Rattle.kept_lives.specs.Epochs.{IsCarriedOut, IsAnswered, replies_all, IsKept, AreKept, RestsIf, IsNewest, IsKeptLife, app_of, app_behind, emitted_by}
@@ -120,9 +120,9 @@ module _ {S V A Q R : Type 0} (w : Behind S V A Q R) (c : Clearing V A) (p : Pla
 
   -- THE NEWEST, by how the master stands to the slave
   opens_newest : (from : A) (e : Era Body Q R) (o : Opening) (n : Node S) → OpensAs w p spot from e fs o n → IsNewest w more spot c.cleared fs e from n
-  opens_newest from e o n (OpensAs.yet again step plan still) = lived_newest from e n still.lives.epoch
-  opens_newest from e o n (OpensAs.anew closing waits start) = IsNewest.waits waits.al (ap (λ (d : Era Body Q R). d.account.started) waits.is_new) waits.begins
-  opens_newest from e o n (OpensAs.over closing again step over) =
+  opens_newest from e o n (OpensBy.yet again step plan still) = lived_newest from e n still.lives.epoch
+  opens_newest from e o n (OpensBy.anew closing waits start) = IsNewest.waits waits.al (ap (λ (d : Era Body Q R). d.account.started) waits.is_new) waits.begins
+  opens_newest from e o n (OpensBy.over closing again step over) =
       IsNewest.left over.left.state (w.exchange.app (w.sees over.left.state over.server).server) over.left.until (left_kept from e over.server over.left)
       (ap (λ (s : S). w.exchange.app (w.sees over.left.state s).server) over.cleared ∙ Ends.clears_to w c owes.whole.clears over.left.state over.server)
 

@@ -16,7 +16,7 @@ use Rattle.slave_lives.specs.Lived.{Behind, table_of, node_seen, LivesEra}
 use Rattle.slave_lives.specs.Opening.{Plan}
 use Rattle.slave_lives.specs.Stands.{opening_again}
 use Rattle.slave_steps.specs.Node.{Node}
-use Rattle.whole_lives.specs.Whole.{OwesLaws, OpensAs, StandsAs, IsLived}
+use Rattle.whole_lives.specs.Whole.{OwesLaws, OpensAs, OpensBy, StandsAs, IsLived}
 use Rattle.life_counts.proofs.Epoch.{epoch_within, epoch_app}
 use Rattle.life_counts.specs.Begun.{era_most, eras_most, life_most, IsUnopened, AllUnopened, AreUnopened, KeepsShape}
 
@@ -110,9 +110,9 @@ module _ {S V A Q R K : Type 0} (w : Behind S V A Q R) (c : Clearing V A) (p : P
 
     -- the newest
     opens : (from : A) (e : Era Body Q R) (o : Opening) (n : Node S) → OpensAs w p spot from e fs o n → era_gains e ≤ era_most (count (shape from)) e
-    opens from e o n (OpensAs.yet again step plan still) = lived from e n still.lives.epoch
-    opens from e o n (OpensAs.anew closing waits start) = omega (arith, ap era_gains waits.is_new)
-    opens from e o n (OpensAs.over closing again step over) = left from e over.server over.left
+    opens from e o n (OpensBy.yet again step plan still) = lived from e n still.lives.epoch
+    opens from e o n (OpensBy.anew closing waits start) = omega (arith, ap era_gains waits.is_new)
+    opens from e o n (OpensBy.over closing again step over) = left from e over.server over.left
 
     newest : (from : A) (e : Era Body Q R) (stand : Stand) (n : Node S) → StandsAs w p spot from e fs stand n → era_gains e ≤ era_most (count (shape from)) e
     newest from e (Stand.Opens o) n x = opens from e o n x

@@ -23,7 +23,7 @@ use Rattle.slave_lives.proofs.AllSeats as All
 use Rattle.slave_lives.proofs.Arrives as Arrived
 use Rattle.slave_lives.proofs.Words.{state_in}
 use Rattle.whole_lives.specs.Turns.{FrameComes, plan_at, seat_at}
-use Rattle.whole_lives.specs.Whole.{IsWhole, LivesStill, OpensAs, StandsAs, plan_to}
+use Rattle.whole_lives.specs.Whole.{IsWhole, LivesStill, OpensBy, StandsAs, plan_to}
 
 module _ {S V A Q R : Type 0} (w : Behind S V A Q R) (c : Clearing V A) (p : Plan) (spot : Spot) (whole : IsWhole w c p spot) where
   up_still : (state : ℕ) (from : A) (e : Era Body Q R) (fs : List (Frame Body)) (n : Node S) → LivesStill w spot from e fs n → OpenUp w.lens (plan_to p state) n.registers
@@ -37,13 +37,13 @@ module _ {S V A Q R : Type 0} (w : Behind S V A Q R) (c : Clearing V A) (p : Pla
       }
 
   pub known : (from : A) (e : Era Body Q R) (fs : List (Frame Body)) (stand : Stand) (n : Node S) → StandsAs w p spot from e fs stand n → KnownAs w.running w.boot w.lens (plan_at p stand) stand n
-  known from e fs (Stand.Opens o) n (OpensAs.yet again step plan l) = inr (record { again = again; step = step; up = up_still o.state from e fs n l })
-  known from e fs (Stand.Opens o) n (OpensAs.anew cl x first) = inl cl.closed
-  known from e fs (Stand.Opens o) n (OpensAs.over cl again early x) = inl cl.closed
+  known from e fs (Stand.Opens o) n (OpensBy.yet again step plan l) = inr (record { again = again; step = step; up = up_still o.state from e fs n l })
+  known from e fs (Stand.Opens o) n (OpensBy.anew cl x first) = inl cl.closed
+  known from e fs (Stand.Opens o) n (OpensBy.over cl again early x) = inl cl.closed
   known from e fs Stand.Open n now = (now.lives.epoch.opens, now.lives.epoch.station ∙ sym whole.station)
-  known from e fs Stand.Gone n (OpensAs.yet again step plan l) = inr (l.lives.epoch.station ∙ sym whole.station)
-  known from e fs Stand.Gone n (OpensAs.anew cl x first) = Arrived.called_is w.running w.boot w.lens (plan_to p spot.start) cl.plan _ n cl.closed
-  known from e fs Stand.Gone n (OpensAs.over cl again early x) = Arrived.called_is w.running w.boot w.lens (plan_to p spot.start) cl.plan _ n cl.closed
+  known from e fs Stand.Gone n (OpensBy.yet again step plan l) = inr (l.lives.epoch.station ∙ sym whole.station)
+  known from e fs Stand.Gone n (OpensBy.anew cl x first) = Arrived.called_is w.running w.boot w.lens (plan_to p spot.start) cl.plan _ n cl.closed
+  known from e fs Stand.Gone n (OpensBy.over cl again early x) = Arrived.called_is w.running w.boot w.lens (plan_to p spot.start) cl.plan _ n cl.closed
 
 pub plan_station : (p : Plan) (stand : Stand) → (plan_at p stand).station ≡ p.station
 plan_station p (Stand.Opens o) = refl
