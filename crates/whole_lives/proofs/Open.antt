@@ -113,7 +113,7 @@ module _ {S V A Q R : Type 0} (w : Behind S V A Q R) (c : Clearing V A) (p : Pla
       pub lives : LivesEra w spot from (era_behind w more passed spot fs t pick news (frame_of w.lens t).fate e) (fs ++ frame_of w.lens t ∷ []) (node_behind w.running t)
       pub up : IsUp (registers_seen (node_behind w.running t).registers)
 
-    pub open_on : (E F Y : Living S A Q R) (L : Leaving S A Q R) (P : Passing A Q R) → Keeps w c spot E F Y L P e fs t more passed pick news → LivesOpenBy w from e E fs t.node → FrameComes w p spot Stand.Open t → AsksFor w more passed spot fs t pick news e → OpenOn F
+    pub open_on : (E F Y : Living S A Q R) (L : Leaving S A Q R) (P : Passing A Q R) → Keeps w c spot E F Y L P Stand.Open e fs t more passed pick news → LivesOpenBy w from e E fs t.node → FrameComes w p spot Stand.Open t → AsksFor w more passed spot fs t pick news e → OpenOn F
     open_on E F Y L P k l f a =
         let era = k.session from l.lives.epoch in
         let up = up_met era l.over l.hand f a.asks (is_reached t) refl in
@@ -126,7 +126,7 @@ module _ {S V A Q R : Type 0} (w : Behind S V A Q R) (c : Clearing V A) (p : Pla
         } in
         let runs = met_runs w.running (is_reached t) t.node (come_to t.before t.datagrams) era.runs in
         record {
-          epoch = k.on from l.lives.epoch o;
+          epoch = k.on refl from l.lives.epoch o;
           lives = (lived_on w whole.behind more passed spot from e fs t pick news o).lives;
           up = turned_with w.running whole.behind.clears t.pace t.ring.number (node_met t) runs f.roomy (λ n. IsUp (registers_seen n.registers)) up
               (λ on. subst IsUp (sym on.steps.registers) (carried_up (node_met t).boot (node_met t).registers up));
@@ -152,9 +152,9 @@ module _ {S V A Q R : Type 0} (w : Behind S V A Q R) (c : Clearing V A) (p : Pla
 
   -- THE LIFE behind a frame of an open slave
   pub open_turns : (E F Y : Living S A Q R) (L : Leaving S A Q R) (P : Passing A Q R) (first from : A) (l : Life Body Q R) (fs : List (Frame Body)) (t : RingFrame S) (more : Body → Bool) (passed : Q → Bool) (pick : Pick Q) (news : List (News Body)) (came : Option (Bool × Option Found)) →
-      Keeps w c spot E F Y L P l.era fs t more passed pick news → l.stand ≡ Stand.Open → P (fs ++ frame_of w.lens t ∷ []) first l.past from → LivesOpenBy w from l.era E fs t.node → FrameComes w p spot Stand.Open t → AsksFor w more passed spot fs t pick news l.era →
+      Keeps w c spot E F Y L P Stand.Open l.era fs t more passed pick news → l.stand ≡ Stand.Open → P (fs ++ frame_of w.lens t ∷ []) first l.past from → LivesOpenBy w from l.era E fs t.node → FrameComes w p spot Stand.Open t → AsksFor w more passed spot fs t pick news l.era →
       IsLivedBy w F Y L P p spot first (life_by w more passed spot fs t pick news came (frame_of w.lens t).fate l Stand.Open) (fs ++ frame_of w.lens t ∷ []) (node_behind w.running t)
-  open_turns E F Y L P first from l fs t more passed pick news came k stand past lives f a = go (frame_of w.lens t).fate on.epoch (k.stops from) a.boots
+  open_turns E F Y L P first from l fs t more passed pick news came k stand past lives f a = go (frame_of w.lens t).fate on.epoch (k.stops refl from) a.boots
     where
       m : Node S
       m = node_behind w.running t

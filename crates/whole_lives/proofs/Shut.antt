@@ -97,7 +97,7 @@ module _ {S V A Q R : Type 0} (w : Behind S V A Q R) (c : Clearing V A) (p : Pla
         up = ne_eqb (registers_seen t.node.registers).state 1 steady.state;
       }
 
-  module _ (E F Y : Living S A Q R) (L : Leaving S A Q R) (P : Passing A Q R) (first from : A) (l : Life Body Q R) (more : Body → Bool) (passed : Q → Bool) (pick : Pick Q) (news : List (News Body)) (keeps : Keeps w c spot E F Y L P l.era fs t more passed pick news) where
+  module _ (E F Y : Living S A Q R) (L : Leaving S A Q R) (P : Passing A Q R) (first from : A) (l : Life Body Q R) (more : Body → Bool) (passed : Q → Bool) (pick : Pick Q) (news : List (News Body)) (keeps : Keeps w c spot E F Y L P l.stand l.era fs t more passed pick news) where
     abbrev e : Era Body Q R
     e = l.era
 
@@ -184,7 +184,7 @@ module _ {S V A Q R : Type 0} (w : Behind S V A Q R) (c : Clearing V A) (p : Pla
           let gs = fs ++ frame_of w.lens t ∷ [] in
           let both = Closed.up_opens w.running w.boot w.lens (plan_to p o.state) plan m up in
           let opening : OpensEra w (plan_to p o.state) spot m = record { plan = plan; station = whole.station; opened = both.0; waits = both.1; ready = ready; runs = runs_behind; boot = boot_behind } in
-          let begun = keeps.begins (plan_to p o.state) x.al x.cleared (λ none. start (ap (λ (d : Era Body Q R). d.cleared) x.is_new ∙ none)) opening in
+          let begun = keeps.begins o stand (plan_to p o.state) x.al x.cleared (λ none. start (ap (λ (d : Era Body Q R). d.cleared) x.is_new ∙ none)) opening in
           let app : w.exchange.app (w.sees x.al m.server).server ≡ from = ap (λ (s : S). w.exchange.app (w.sees x.al s).server) (sym up.returned.cleared ∙ same) ∙ sym x.begins in
           let lives : F from (record (new_era {M = Body} {Q = Q} {R = R} x.cleared) { opened = Some (length fs) }) gs m = subst (λ (a : A). F a (record (new_era {M = Body} {Q = Q} {R = R} x.cleared) { opened = Some (length fs) }) gs m) app begun in
           let open_ : LivesOpenBy w from (record (new_era {M = Body} {Q = Q} {R = R} x.cleared) { opened = Some (length fs) }) F gs m = record { lives = record { epoch = lives; answered = tt }; over = tt; hand = tt } in

@@ -31,18 +31,22 @@ use Rattle.whole_lives.proofs.Still.{Nothing, own_first, own_not}
 
 module _ {S V A Q R : Type 0} (w : Behind S V A Q R) (c : Clearing V A) (p : Plan) (spot : Spot) (whole : IsWhole w c p spot) where
   -- SWITCHED ON
-  pub begins : (al : ℕ) (s : S) → w.running.clear s ≡ s → w.running.next s ≡ None → IsLived w c p spot (w.exchange.app (w.sees al s).server) (new_life {M = Body} {Q = Q} {R = R} spot.start) [] (new_node p.out p.back w.boot s)
-  begins al s clear none =
+  pub begins_by : (E Y : Living S A Q R) (L : Leaving S A Q R) (P : Passing A Q R) → ((a : A) → P [] a [] a) → (al : ℕ) (s : S) → w.running.clear s ≡ s → w.running.next s ≡ None →
+      IsLivedBy w E Y L P p spot (w.exchange.app (w.sees al s).server) (new_life {M = Body} {Q = Q} {R = R} spot.start) [] (new_node p.out p.back w.boot s)
+  begins_by E Y L P nothing al s clear none =
       let n : Node S = new_node p.out p.back w.boot s in
       let first : Closing w.running w.boot w.lens (plan_to p p.start) (first_opening p.start) n = record { plan = whole.plan; state = refl; closed = Arrived.begins w.running w.boot w.lens p s clear none } in
       record {
         from = w.exchange.app (w.sees al s).server;
-        past = LeftEras.none (w.exchange.app (w.sees al s).server);
+        past = nothing (w.exchange.app (w.sees al s).server);
         now = OpensBy.anew (subst (λ (st : ℕ). Closing w.running w.boot w.lens (plan_to p st) (first_opening st) n) whole.start first)
             (record { cleared = None; is_new = refl; al = al; begins = ap (λ (k : S). w.exchange.app (w.sees al k).server) (sym clear) }) (λ none. refl);
         runs = NodeFrames.begins w.running p.out p.back w.boot s clear;
         boot = refl;
       }
+
+  pub begins : (al : ℕ) (s : S) → w.running.clear s ≡ s → w.running.next s ≡ None → IsLived w c p spot (w.exchange.app (w.sees al s).server) (new_life {M = Body} {Q = Q} {R = R} spot.start) [] (new_node p.out p.back w.boot s)
+  begins al s clear none = begins_by (LivesEra w spot) (LivesEra w spot) (LeftEra w spot) (LeftEras w c.cleared spot) (λ a. LeftEras.none a) al s clear none
 
   plan_start : IsPlan w.boot w.lens (plan_to p spot.start)
   plan_start = subst (λ (st : ℕ). IsPlan w.boot w.lens (plan_to p st)) whole.start whole.plan
@@ -74,7 +78,7 @@ module _ {S V A Q R : Type 0} (w : Behind S V A Q R) (c : Clearing V A) (p : Pla
   given_up first l fs n recover frame i = given_by (LivesEra w spot) (LivesEra w spot) (LivesEra w spot) (LeftEra w spot) (LeftEras w c.cleared spot) first l fs n recover frame (λ from era. era) (λ from era. era) i
 
   -- ONE FRAME
-  module _ (first : A) (l : Life Body Q R) (fs : List (Frame Body)) (t : RingFrame S) (more : Body → Bool) (passed : Q → Bool) (pick : Pick Q) (news : List (News Body)) (came : Option (Bool × Option Found)) (E F Y : Living S A Q R) (L : Leaving S A Q R) (P : Passing A Q R) (keeps : Keeps w c spot E F Y L P l.era fs t more passed pick news)
+  module _ (first : A) (l : Life Body Q R) (fs : List (Frame Body)) (t : RingFrame S) (more : Body → Bool) (passed : Q → Bool) (pick : Pick Q) (news : List (News Body)) (came : Option (Bool × Option Found)) (E F Y : Living S A Q R) (L : Leaving S A Q R) (P : Passing A Q R) (keeps : Keeps w c spot E F Y L P l.stand l.era fs t more passed pick news)
       (i : IsLivedBy w E Y L P p spot first l fs t.node) where
     -- a frame that has nothing for its station
     nothing_for : (stand : Stand) → FrameComes w p spot stand t → own_of p.station t.datagrams ≡ [] → (is_reached t ≡ true → NoneMeant t.node.registers (come_to t.before t.datagrams)) → Nothing w spot t
@@ -109,7 +113,7 @@ module _ {S V A Q R : Type 0} (w : Behind S V A Q R) (c : Clearing V A) (p : Pla
     by_stand : (stand : Stand) → l.stand ≡ stand → StandsBy w E Y L p spot i.from l.era fs stand t.node → FrameComes w p spot stand t → TurnsAs w more passed p spot fs t pick news came l.era stand →
         IsLivedBy w F Y L P p spot first (life_by w more passed spot fs t pick news came (frame_of w.lens t).fate l stand) (fs ++ frame_of w.lens t ∷ []) (node_behind w.running t)
     by_stand Stand.Open e now f a =
-        open_turns w c p spot whole E F Y L P first i.from l fs t more passed pick news came keeps e (keeps.past first l.past i.from i.past) now f a
+        open_turns w c p spot whole E F Y L P first i.from l fs t more passed pick news came (subst (λ (st : Stand). Keeps w c spot E F Y L P st l.era fs t more passed pick news) e keeps) e (keeps.past first l.past i.from i.past) now f a
     by_stand (Stand.Opens o) e now f a = go (frame_of w.lens t).fate came a
       where
         sf : ShutFrame w p spot o t
@@ -146,4 +150,4 @@ module _ {S V A Q R : Type 0} (w : Behind S V A Q R) (c : Clearing V A) (p : Pla
   pub turns : (first : A) (l : Life Body Q R) (fs : List (Frame Body)) (t : RingFrame S) (more : Body → Bool) (passed : Q → Bool) (pick : Pick Q) (news : List (News Body)) (came : Option (Bool × Option Found)) → IsLived w c p spot first l fs t.node →
       FrameComes w p spot l.stand t → TurnsAs w more passed p spot fs t pick news came l.era l.stand → IsLived w c p spot first (life_by w more passed spot fs t pick news came (frame_of w.lens t).fate l l.stand) (fs ++ frame_of w.lens t ∷ []) (node_behind w.running t)
   turns first l fs t more passed pick news came i f a =
-      turns_by first l fs t more passed pick news came (LivesEra w spot) (LivesEra w spot) (LivesEra w spot) (LeftEra w spot) (LeftEras w c.cleared spot) (sessions w c p spot whole l.era fs t more passed pick news) i f a
+      turns_by first l fs t more passed pick news came (LivesEra w spot) (LivesEra w spot) (LivesEra w spot) (LeftEra w spot) (LeftEras w c.cleared spot) (sessions w c p spot whole l.stand l.era fs t more passed pick news) i f a
