@@ -110,10 +110,10 @@ module _ {V M Q R T : Type 0} (x : Exchange V V M Q R) (calm : V → Bool) (fair
   last_seen d None k = refl
   last_seen d (Some r) k = ap₂ (λ (a b : Bool). if a then b else true) (last_named r.service k.known) (none_box d.halves.out.holding)
 
-  abbrev PlansOf : Option (Row (Tagged M Q) (Asked M Q) (Option R)) → Type 0
+  abbrev pub PlansOf : Option (Row (Tagged M Q) (Asked M Q) (Option R)) → Type 0
   PlansOf now = OfRow (λ r. PlanOne mail n.name same y n.speech r.service r.heard) now
 
-  plans_of : (d : SideHere) (now : Option (Row (Tagged M Q) (Asked M Q) (Option R))) → NowKnown now → PlansOf now
+  pub plans_of : (d : SideHere) (now : Option (Row (Tagged M Q) (Asked M Q) (Option R))) → NowKnown now → PlansOf now
   plans_of d None k = tt
   plans_of d (Some r) k = plans x calm fair s.acknowledged n speaks.emission r.service k.known r.heard k.by
 

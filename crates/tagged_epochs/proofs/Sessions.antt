@@ -18,6 +18,7 @@ use Rattle.state_model.specs.States.{Table}
 use Rattle.task_model.specs.Accounts.{Account, Duty, Started, is_free, is_acknowledged, starts, state_begins, account_begins}
 use Rattle.task_model.specs.Tasks.{IsTaskPlan}
 use Rattle.tagged_epochs.specs.Epochs.{Speaker, IsSpeaker, IsRun, IsSeen, AllFair, between, seeing, seeing_states}
+use Rattle.tagged_epochs.proofs.Begins.{plans_of}
 use Rattle.tagged_epochs.proofs.Led as Led
 use Rattle.tagged_epochs.proofs.Opened.{after_started, replicated, blank_frames, blanks_seen}
 
@@ -99,4 +100,17 @@ module _ {V M Q R C T A : Type 0} (w : Speaker V M Q R C T) (k : IsSpeaker w) (l
     pub seen_so : (fs : List (Frame M)) (counts : Bool) (e : Era M T (Option R)) (n : Slave V M) → LedThere fs counts e n → AllFair w e.account.started → IsSeen w seer tables spot opened v r fs counts e n
     seen_so fs counts e n l fair =
         let i = tied fs counts e n l fair in
-        record { frames = i.frames; era = i.era; slave = i.slave; led = i.led; is = i.is; long = i.long; same = i.alike; named = i.named; stands = i.stands; right = i.right }
+        record {
+          frames = i.frames;
+          era = i.era;
+          slave = i.slave;
+          led = i.led;
+          is = i.is;
+          long = i.long;
+          same = i.alike;
+          named = i.named;
+          stands = i.stands;
+          right = i.right;
+          passes = i.passes;
+          plans = plans_of w.exchange w.calm w.fair w.states w.naming k.speaks i.era.side i.era.side.now i.known;
+        }

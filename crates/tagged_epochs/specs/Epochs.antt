@@ -4,9 +4,10 @@ use Rattle.exchange_model.specs.Exchange.{Exchange}
 use Rattle.life_model.specs.Eras.{EraIs, era_frames}
 use Rattle.life_model.specs.Lives.{Spot, Era}
 use Rattle.passed_counts.specs.Calm.{IsCalm, calm_tagged}
-use Rattle.passed_model.specs.Erased.{frame_as}
+use Rattle.passed_model.specs.Erased.{frame_as, OfRow, PlanOne}
 use Rattle.passed_whole.specs.Led.{IsLed, RepliesFirst}
 use Rattle.passed_whole.specs.Silent.{is_passed}
+use Rattle.passing_rows.specs.Heard.{EraPasses}
 use Rattle.segment_model.specs.Record.{Frame}
 use Rattle.segment_model.specs.Slaves.{Registers, Processor, Slave}
 use Rattle.serving_model.specs.Erasing.{slave_as}
@@ -75,7 +76,7 @@ module _ {V M Q R C T : Type 0} (w : Speaker V M Q R C T) where
     pub worded : (r : Registers) → seer.carry r ≡ carry table r
 
   -- THE SAME EPOCH SEEN WITH WHAT IS MEANT by its mails: it is a session of the exchange that sees it, led by its master, and without that it is the epoch
-  -- as it was; each mail that was passed on is foreseen right
+  -- as it was; each mail that was passed on is foreseen right, a mail is passed on only by its own row, and both speak alike of the row in hand by what was heard
   pub record IsSeen (seer : Processor (Rowed V M Q)) (table : ℕ → Table) (spot : Spot) (opened : ℕ) (v : V) (r : Registers) (fs : List (Frame M)) (counts : Bool) (e : Era M T (Option R)) (n : Slave V M) : Type 0 where
     pub frames : List (Frame (Tagged M Q))
     pub era : Era (Tagged M Q) (Asked M Q) (Option R)
@@ -87,3 +88,5 @@ module _ {V M Q R C T : Type 0} (w : Speaker V M Q R C T) where
     pub named : era_named era ≡ e
     pub stands : slave_as (λ t. t.mail) (real w.exchange) slave ≡ n
     pub right : AllRight w.exchange w.states (table spot.station) v (services_in era.account.started)
+    pub passes : EraPasses seeing.speech (λ t. w.naming.more t.mail) is_passed era
+    pub plans : OfRow (λ h. PlanOne (λ t. t.mail) w.naming.name (λ a. a) seeing.speech w.naming.speech h.service h.heard) era.side.now
