@@ -8,6 +8,10 @@ use Rattle.passed_whole.specs.Led.{counted_news}
 use Rattle.segment_model.specs.Record.{News, is_for, is_read, mail_told, last_told, all_told, told_behind, did_read, without_empty}
 use Rattle.segment_model.specs.Slaves.{Slave, Datagram, Ring, grams, slave_meets, datagram_meets, frame_after, all_back}
 
+-- these frames tell a station the same mails, with the same counter of the last
+abbrev TellsSame : {M : Type 0} → ℕ → ℕ → List (Datagram M) → List (Datagram M) → Type 0
+TellsSame mine last ds es = (all_told mine last (grams ds) ≡ all_told mine last (grams es)) × (told_behind mine last (grams ds) ≡ told_behind mine last (grams es))
+
 module _ {V M : Type 0} (mine : ℕ) where
   met_station : (station : ℕ) (s : Slave V M) (d : Datagram M) → (datagram_meets station s d).gram.station ≡ d.gram.station
   met_station station s d = go (d.gram.station == station)
@@ -23,12 +27,8 @@ module _ {V M : Type 0} (mine : ℕ) where
       go true = ask-gram_meets s.node d.gram.ask d.gram
       go false = refl
 
-  -- the same mails, and the same counter of the last
-  abbrev TellsSame : ℕ → List (Datagram M) → List (Datagram M) → Type 0
-  TellsSame last ds es = (all_told mine last (grams ds) ≡ all_told mine last (grams es)) × (told_behind mine last (grams ds) ≡ told_behind mine last (grams es))
-
   -- behind one slave
-  told_after : (station last : ℕ) (s : Slave V M) (ds : List (Datagram M)) → TellsSame last (frame_after station s ds) ds
+  told_after : (station last : ℕ) (s : Slave V M) (ds : List (Datagram M)) → TellsSame mine last (frame_after station s ds) ds
   told_after station last s [] = (refl, refl)
   told_after station last s (d ∷ ds) =
       let behind = slave_meets station s d in
@@ -39,14 +39,14 @@ module _ {V M : Type 0} (mine : ℕ) where
       )
 
   -- and behind a ring
-  told_back : (last : ℕ) (ns : Ring V M) (ds : List (Datagram M)) → TellsSame last (all_back ns ds) ds
+  told_back : (last : ℕ) (ns : Ring V M) (ds : List (Datagram M)) → TellsSame mine last (all_back ns ds) ds
   told_back last [] ds = (refl, refl)
   told_back last (n ∷ ns) ds =
       let on = told_back last ns (frame_after n.0 n.1 ds) in
       let one = told_after n.0 last n.1 ds in (on.0 ∙ one.0, on.1 ∙ one.1)
 
   -- by a slave's own datagrams, which came back so
-  pub told_came : (last : ℕ) (ns : Ring V M) (sent back : List (Datagram M)) → AreSeen sent → AreSeen back → all_back ns (own mine sent) ≡ own mine back → TellsSame last back sent
+  pub told_came : (last : ℕ) (ns : Ring V M) (sent back : List (Datagram M)) → AreSeen sent → AreSeen back → all_back ns (own mine sent) ≡ own mine back → TellsSame mine last back sent
   told_came last ns sent back seen_sent seen_back same =
       let there = own-told mine last back seen_back in
       let here = own-told mine last sent seen_sent in
