@@ -23,7 +23,7 @@ use Rattle.task_model.specs.Accounts.{Account, Duty, Pick, Started, is_free, is_
 use Rattle.tagged_lives.specs.Seen.{service_seen, account_seen, era_seen, started_seen}
 use Rattle.tagged_epochs.specs.Foreseen.{AllRight, server_behind}
 use Rattle.tagged_epochs.specs.Spoken.{Naming, IsScript, IsPassed, IsNamed, Speaks}
-use Rattle.tagged_epochs.proofs.Clients.{IsKnown, HasEnded, plans, overs}
+use Rattle.tagged_epochs.proofs.Clients.{IsKnown, HasEnded, hands, plans, overs}
 
 not_less : (k : ℕ) → nat_lt k k ≡ false
 not_less k = grind (arith, nat_tests)
@@ -116,6 +116,13 @@ module _ {V M Q R T : Type 0} (x : Exchange V V M Q R) (calm : V → Bool) (fair
   pub plans_of : (d : SideHere) (now : Option (Row (Tagged M Q) (Asked M Q) (Option R))) → NowKnown now → PlansOf now
   plans_of d None k = tt
   plans_of d (Some r) k = plans x calm fair s.acknowledged n speaks.emission r.service k.known r.heard k.by
+
+  abbrev pub HandsOf : Option (Row (Tagged M Q) (Asked M Q) (Option R)) → Type 0
+  HandsOf now = OfRow (λ r. y.handed r.service ≡ true → n.speech.handed (n.name r.service) ≡ true) now
+
+  pub hands_of : (now : Option (Row (Tagged M Q) (Asked M Q) (Option R))) → NowKnown now → HandsOf now
+  hands_of None k = tt
+  hands_of (Some r) k = hands x calm fair s.acknowledged n speaks.emission r.service k.known
 
   module _ (frame : ℕ) (d : SideHere) (a : AccountHere) (known : NowKnown d.now) where
     abbrev side_begun : Option Duty → Option (Service (Asked M Q)) → SideHere

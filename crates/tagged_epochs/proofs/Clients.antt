@@ -49,6 +49,11 @@ module _ {V M Q R T : Type 0} (x : Exchange V V M Q R) (calm : V → Bool) (fair
       untag_told q (x.speech.planned q (untag (plain (λ (t : Meant). is_own t.meant) hs))) ∙ ap (x.speech.planned q) (heard_same hs by) ∙ sym (k.planned (plain n.speech.emission (map mail hs)))
   plans (Asked.Passed m answers) k hs by = sym (k.planned (plain n.speech.emission (map mail hs)))
 
+  -- a service that ends with its last write ends so by its name too
+  pub hands : (q : Asked M Q) → IsKnown q → y.handed q ≡ true → n.speech.handed (n.name q) ≡ true
+  hands (Asked.Script q) k handed = k.handed ∙ handed
+  hands (Asked.Passed m answers) k handed = k.handed
+
   same_is : (found : Option (Option R)) → option_map same found ≡ found
   same_is None = refl
   same_is (Some r) = refl

@@ -18,7 +18,7 @@ use Rattle.state_model.specs.States.{Table}
 use Rattle.task_model.specs.Accounts.{Account, Duty, Started, is_free, is_acknowledged, starts, state_begins, account_begins}
 use Rattle.task_model.specs.Tasks.{IsTaskPlan}
 use Rattle.tagged_epochs.specs.Epochs.{Speaker, IsSpeaker, IsRun, IsSeen, AllFair, between, seeing, seeing_states}
-use Rattle.tagged_epochs.proofs.Begins.{plans_of}
+use Rattle.tagged_epochs.proofs.Begins.{hands_of, plans_of}
 use Rattle.tagged_epochs.proofs.Led as Led
 use Rattle.tagged_epochs.proofs.Opened.{after_started, replicated, blank_frames, blanks_seen}
 
@@ -113,4 +113,5 @@ module _ {V M Q R C T A : Type 0} (w : Speaker V M Q R C T) (k : IsSpeaker w) (l
           right = i.right;
           passes = i.passes;
           plans = plans_of w.exchange w.calm w.fair w.states w.naming k.speaks i.era.side i.era.side.now i.known;
+          hands = hands_of w.exchange w.calm w.fair w.states w.naming k.speaks i.era.side.now i.known;
         }

@@ -90,3 +90,4 @@ module _ {V M Q R C T : Type 0} (w : Speaker V M Q R C T) where
     pub right : AllRight w.exchange w.states (table spot.station) v (services_in era.account.started)
     pub passes : EraPasses seeing.speech (λ t. w.naming.more t.mail) is_passed era
     pub plans : OfRow (λ h. PlanOne (λ t. t.mail) w.naming.name (λ a. a) seeing.speech w.naming.speech h.service h.heard) era.side.now
+    pub hands : OfRow (λ h. seeing.speech.handed h.service ≡ true → w.naming.speech.handed (w.naming.name h.service) ≡ true) era.side.now
