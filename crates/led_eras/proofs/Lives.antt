@@ -64,6 +64,11 @@ module _ {S V A Q R : Type 0} (w : Behind S V A Q R) (is : IsBehind w) (more : B
         boot = o.boot;
       }
 
+  pub begins_opened : (stated : IsStated w.exchange w.states) (tells : (state : ℕ) (v : V) → w.processor.tell state v ≡ w.states.tell state v) (p : Plan) (al : ℕ) (cleared : Option ℕ) (opened : ℕ) (fs : List (Frame Body)) (n : Node S) (frames : length fs ≡ suc opened)
+      (start : cleared ≡ None → p.start ≡ spot.start) (o : OpensEra w p spot n) → (begins stated tells p al cleared opened fs n frames start o).opened ≡ opened
+  unfolding begins
+  begins_opened stated tells p al cleared opened fs n frames start o = refl
+
   module _ (from : A) (counts : Bool) (e : Era Body Q R) (fs : List (Frame Body)) (n : Node S) (l : LedEra w more passed spot from counts e fs n) where
     -- IT IS A SESSION
     pub session : EraIs w.exchange w.states w.processor (table_of w) spot e l.opened (length fs) fs l.server l.registers (node_seen w n)
@@ -86,13 +91,13 @@ module _ {S V A Q R : Type 0} (w : Behind S V A Q R) (is : IsBehind w) (more : B
     sent : seen w.lens t.octets ≡ datagrams_seen w.lens t.datagrams
     sent = sent_is w.lens t
 
-    back : seen w.lens (octets_back t) ≡ datagrams_seen w.lens (returned (fate_of t) t.before t.node t.behind t.datagrams)
+    pub back : seen w.lens (octets_back t) ≡ datagrams_seen w.lens (returned (fate_of t) t.before t.node t.behind t.datagrams)
     back = back_is w.running w.lens t
 
     turned : Frames.TurnsOpen w is spot t.node (node_behind w.running t) t.before t.behind t.datagrams (fate_of t) (steps_at (is_in_pace t.pace t.ring.number))
     turned = Frames.turns_open w is spot t.node t.before t.behind t.datagrams o.at l.station (fate_of t) (is_reached t) (is_in_pace t.pace t.ring.number) refl l.boot l.opens l.stands l.runs o.alone o.steps
 
-    may : MayTurn w.exchange w.states.acknowledged w.processor more passed spot l.opened fs e (node_seen w t.node) turn
+    pub may : MayTurn w.exchange w.states.acknowledged w.processor more passed spot l.opened fs e (node_seen w t.node) turn
     may = record {
       asks = o.asks;
       single = seen_single w.lens t.octets spot.station;
@@ -125,6 +130,10 @@ module _ {S V A Q R : Type 0} (w : Behind S V A Q R) (is : IsBehind w) (more : B
           runs = turned.runs;
           boot = turned.boot;
         }
+
+    pub on_opened : on.opened ≡ l.opened
+    unfolding on
+    on_opened = refl
 
     -- by one without its own datagrams, before which nothing comes into hand, it stays as it is
     pub stays : pick ≡ no_pick → own spot.station turn.sent ≡ [] → own spot.station turn.back ≡ [] → IsAnswered w.exchange.speech e.side.now → era_on ≡ e

@@ -8,7 +8,7 @@ ghost use Rattle.frame_view.specs.Seen.{seen};
 ghost use Rattle.frame_view.specs.View.{Lens};
 ghost use Rattle.life_model.specs.Eras.{EraIs, planned};
 ghost use Rattle.life_model.specs.Lives.{Spot, Era};
-ghost use Rattle.life_model.specs.Own.{own};
+ghost use Rattle.life_model.specs.Own.{AreSeen, own};
 ghost use Rattle.link_mails.specs.Body.{Body};
 ghost use Rattle.passed_whole.specs.Led.{IsLed, AreSingle, counts_behind, turn_after};
 ghost use Rattle.segment_model.specs.Record.{Frame};
@@ -24,9 +24,11 @@ ghost use Rattle.task_model.specs.Steady.{IsSteady, NoneToInit, HandToInit};
 ghost use Rattle.task_model.specs.Tasks.{IsTaskPlan};
 ghost use Rattle.led_eras.specs.Led.{LedEra, LedFrame, turn_of};
 
-/// A DATAGRAM OF OCTETS accesses a mailbox or another register, not both; so each of a slave's own in any frame.
+/// A DATAGRAM OF OCTETS accesses a mailbox or another register, not both; so each of a slave's own in any frame. And a mailbox is accessed only by the station
+/// that the datagram is addressed to.
 pub fn single_law()
-    ensures { (lens : ℕ → Lens) (octets : List ℕ) (station : ℕ) → AreSingle (own station (seen lens octets)) }
+    ensures single { (lens : ℕ → Lens) (octets : List ℕ) (station : ℕ) → AreSingle (own station (seen lens octets)) }
+    ensures addressed { (lens : ℕ → Lens) (octets : List ℕ) → AreSeen (seen lens octets) }
 {}
 
 /// AN EPOCH THAT ITS MASTER LEADS IS A SESSION, of whatever exchange, from the server and the registers on with which it began.
