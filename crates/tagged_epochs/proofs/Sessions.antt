@@ -2,11 +2,12 @@
 use Rattle.std.proofs.Common.{◌≡◌, ℕ, suc, ◌&&◌, Bool, true, false, Option, None, Some, List, [], ◌∷◌, ◌++◌, map, length, refl, ap, sym, ◌∙◌, subst, arith, if◌then◌else◌}
 use Rattle.std.specs.Prelude.{replicate}
 use Rattle.exchange_model.specs.Exchange.{Exchange, IsLawful}
+use Rattle.exchange_model.specs.Rows.{Row}
 use Rattle.life_model.specs.Eras.{planned, opened_slave}
 use Rattle.life_model.specs.Lives.{Spot, Era, new_era, granted}
 use Rattle.life_model.specs.Own.{blank}
 use Rattle.life_model.proofs.Eras as LifeEras
-use Rattle.passed_model.specs.Erased.{frame_as}
+use Rattle.passed_model.specs.Erased.{frame_as, OfRow, EndOne}
 use Rattle.passed_whole.specs.Led.{IsLed, EraTurn, NoneUnheard, IsAnswered, news_in, turn_next, turn_after}
 use Rattle.passed_whole.specs.Silent.{is_passed}
 use Rattle.passing_rows.proofs.Rows as PassingRows
@@ -17,8 +18,11 @@ use Rattle.state_exchange.specs.Stated.{IsStated, Service}
 use Rattle.state_model.specs.States.{Table}
 use Rattle.task_model.specs.Accounts.{Account, Duty, Started, is_free, is_acknowledged, starts, state_begins, account_begins}
 use Rattle.task_model.specs.Tasks.{IsTaskPlan}
-use Rattle.tagged_epochs.specs.Epochs.{Speaker, IsSpeaker, IsRun, IsSeen, AllFair, between, seeing, seeing_states}
-use Rattle.tagged_epochs.proofs.Begins.{hands_of, plans_of}
+use Rattle.tagged_epochs.specs.Epochs.{Speaker, IsSpeaker, IsRun, IsSeen, AllFair, between, newest_of, seeing, seeing_states}
+use Rattle.tagged_epochs.proofs.Begins.{NowKnown, hands_of, plans_of}
+use Rattle.tagged_epochs.proofs.Clients.{MarksSame, ends}
+use Rattle.tagged_epochs.proofs.Eras.{era_knows}
+use Rattle.tagged_epochs.proofs.Marks.{IsPassedNow, PassedNow}
 use Rattle.tagged_epochs.proofs.Led as Led
 use Rattle.tagged_epochs.proofs.Opened.{after_started, replicated, blank_frames, blanks_seen}
 
@@ -97,6 +101,28 @@ module _ {V M Q R C T A : Type 0} (w : Speaker V M Q R C T) (k : IsSpeaker w) (l
         let next = fair_next gs c d t fair in
         Led.tied_next w k lawful stated u processor seer tables spot run opened v r gs c d m (tied gs c d m l (fair_before gs c d t next)) t may next heard always
 
+    -- the row in hand is ended alike
+    ends_seen : (fs : List (Frame M)) (counts : Bool) (e : Era M T (Option R)) (n : Slave V M) (i : Tied fs counts e n) → ((target : ℕ) → newest_of i.era.account.started ≡ Some (Service.State target) → ⊥) →
+        OfRow (λ h. EndOne (λ t. t.mail) w.naming.name (λ a. a) (seeing w).speech w.naming.speech h.service h.heard) i.era.side.now
+    ends_seen fs counts e n i mails =
+        let knows = era_knows w.exchange w.core k.served w.calm w.fair w.states k.stated lawful stated seer tables spot i.era opened (length i.frames) i.frames (between v) r i.slave i.is refl i.right w.naming.more k.last in
+        go i.era.side.now i.known knows.passed
+      where
+        marks_by : (m : M) (answers : Bool) (row : Row (Tagged M Q) (Asked M Q) (Option R)) → PassedNow w.exchange w.calm w.fair w.states w.naming.more k.last i.era.account.started m answers row →
+            MarksSame w.exchange w.calm w.fair w.states.acknowledged w.naming k.speaks.emission (Asked.Passed m answers) row.heard
+        marks_by m answers row (PassedNow.heard same all state) = same
+        marks_by m answers row (PassedNow.rests target newest yes_ answered) = absurd (mails target newest)
+
+        marks : (row : Row (Tagged M Q) (Asked M Q) (Option R)) (q : Asked M Q) → row.service ≡ q → IsPassedNow w.exchange w.calm w.fair w.states w.naming.more k.last i.era.account.started row →
+            MarksSame w.exchange w.calm w.fair w.states.acknowledged w.naming k.speaks.emission q row.heard
+        marks row (Asked.Script q) is passed = tt
+        marks row (Asked.Passed m answers) is passed = marks_by m answers row (passed m answers is)
+
+        go : (now : Option (Row (Tagged M Q) (Asked M Q) (Option R))) → NowKnown w.exchange w.calm w.fair w.states w.naming k.speaks now → OfRow (IsPassedNow w.exchange w.calm w.fair w.states w.naming.more k.last i.era.account.started) now →
+            OfRow (λ h. EndOne (λ t. t.mail) w.naming.name (λ a. a) (seeing w).speech w.naming.speech h.service h.heard) now
+        go None known passed = tt
+        go (Some row) known passed = ends w.exchange w.calm w.fair w.states.acknowledged w.naming k.speaks.emission row.service known.known row.heard known.by (marks row row.service refl passed)
+
     pub seen_so : (fs : List (Frame M)) (counts : Bool) (e : Era M T (Option R)) (n : Slave V M) → LedThere fs counts e n → AllFair w e.account.started → IsSeen w seer tables spot opened v r fs counts e n
     seen_so fs counts e n l fair =
         let i = tied fs counts e n l fair in
@@ -114,4 +140,5 @@ module _ {V M Q R C T A : Type 0} (w : Speaker V M Q R C T) (k : IsSpeaker w) (l
           passes = i.passes;
           plans = plans_of w.exchange w.calm w.fair w.states w.naming k.speaks i.era.side i.era.side.now i.known;
           hands = hands_of w.exchange w.calm w.fair w.states w.naming k.speaks i.era.side.now i.known;
+          ends = ends_seen fs counts e n i;
         }

@@ -1,10 +1,10 @@
 -- AN EPOCH AS A MASTER LEADS IT, and the same with what is meant by its mails.
-use Rattle.std.specs.Prelude.{◌≡◌, ℕ, Bool, true, Option, None, List, [], ◌∷◌, map, length, ⊤}
+use Rattle.std.specs.Prelude.{◌≡◌, ℕ, Bool, true, Option, Some, None, List, [], ◌∷◌, map, length, ⊤}
 use Rattle.exchange_model.specs.Exchange.{Exchange}
 use Rattle.life_model.specs.Eras.{EraIs, era_frames}
 use Rattle.life_model.specs.Lives.{Spot, Era}
 use Rattle.passed_counts.specs.Calm.{IsCalm, calm_tagged}
-use Rattle.passed_model.specs.Erased.{frame_as, OfRow, PlanOne}
+use Rattle.passed_model.specs.Erased.{frame_as, OfRow, PlanOne, EndOne}
 use Rattle.passed_whole.specs.Led.{IsLed, RepliesFirst}
 use Rattle.passed_whole.specs.Silent.{is_passed}
 use Rattle.passing_rows.specs.Heard.{EraPasses}
@@ -47,6 +47,12 @@ pub record IsSpeaker {V M Q R C T : Type 0} (w : Speaker V M Q R C T) : Type 0 w
 abbrev pub between : {V M Q : Type 0} → V → Rowed V M Q
 between v = record { base = v; hand = None; part = []; count = 0 }
 
+-- the newest service that came into hand
+abbrev pub newest_of : {Q : Type 0} → List (Started Q) → Option (Service Q)
+newest_of [] = None
+newest_of (s ∷ []) = Some s.service
+newest_of (s ∷ (t ∷ ss)) = newest_of (t ∷ ss)
+
 module _ {V M Q R C T : Type 0} (w : Speaker V M Q R C T) where
   -- the exchange that sees what is meant by its mails
   abbrev pub seeing : Exchange (Rowed V M Q) V (Tagged M Q) (Asked M Q) (Option R)
@@ -76,7 +82,8 @@ module _ {V M Q R C T : Type 0} (w : Speaker V M Q R C T) where
     pub worded : (r : Registers) → seer.carry r ≡ carry table r
 
   -- THE SAME EPOCH SEEN WITH WHAT IS MEANT by its mails: it is a session of the exchange that sees it, led by its master, and without that it is the epoch
-  -- as it was; each mail that was passed on is foreseen right, a mail is passed on only by its own row, and both speak alike of the row in hand by what was heard
+  -- as it was; each mail that was passed on is foreseen right, a mail is passed on only by its own row, and both speak alike of the row in hand by what was heard,
+  -- and end it alike where no state service came into hand behind it
   pub record IsSeen (seer : Processor (Rowed V M Q)) (table : ℕ → Table) (spot : Spot) (opened : ℕ) (v : V) (r : Registers) (fs : List (Frame M)) (counts : Bool) (e : Era M T (Option R)) (n : Slave V M) : Type 0 where
     pub frames : List (Frame (Tagged M Q))
     pub era : Era (Tagged M Q) (Asked M Q) (Option R)
@@ -91,3 +98,5 @@ module _ {V M Q R C T : Type 0} (w : Speaker V M Q R C T) where
     pub passes : EraPasses seeing.speech (λ t. w.naming.more t.mail) is_passed era
     pub plans : OfRow (λ h. PlanOne (λ t. t.mail) w.naming.name (λ a. a) seeing.speech w.naming.speech h.service h.heard) era.side.now
     pub hands : OfRow (λ h. seeing.speech.handed h.service ≡ true → w.naming.speech.handed (w.naming.name h.service) ≡ true) era.side.now
+    pub ends : ((target : ℕ) → newest_of era.account.started ≡ Some (Service.State target) → ⊥) →
+        OfRow (λ h. EndOne (λ t. t.mail) w.naming.name (λ a. a) seeing.speech w.naming.speech h.service h.heard) era.side.now
