@@ -10,6 +10,7 @@ use Rattle.link_mails.specs.Body.{Body}
 use Rattle.link_model.specs.Segment.{RingFate}
 use Rattle.master_side.specs.Passing.{news_back, news_lost}
 use Rattle.segment_model.specs.Record.{Frame, News, Kept}
+use Rattle.segment_model.specs.Slaves.{Datagram}
 use Rattle.slave_lives.specs.Lived.{Behind, RingFrame, octets_back}
 use Rattle.slave_lives.specs.Opening.{Plan}
 use Rattle.slave_steps.specs.Node.{Node}
@@ -47,12 +48,28 @@ module _ {S V A Q R : Type 0} (w : Behind S V A Q R) (more : Body → Bool) (pas
   abbrev pub IsLedLived : (A → A) → Plan → Kept → Bool → A → Life Body Q R → List (Frame Body) → Node S → Type 0
   IsLedLived cleared p kept counts first l fs n = IsLivedBy w (λ a e gs m. LedKept kept counts a e gs m) (λ a e gs m. LedYet a e gs m) (λ a e gs s. LedLeft a e s) (λ gs a es b. AllLeds cleared a es b) p spot first l fs n
 
--- a frame as the record of a slave has it: as it came back, or as it was sent where it was lost
-abbrev pub recorded_as : {S : Type 0} → (ℕ → Lens) → RingFrame S → RingFate → Frame Body
-recorded_as lens t RingFate.Back = record { sent = seen lens (octets_back t); fate = RingFate.Back; back = seen lens (octets_back t) }
-recorded_as lens t (RingFate.Lost after) = record { sent = seen lens t.octets; fate = RingFate.Lost 0; back = [] }
+-- a frame as the record of a slave has it, by how it was sent, its fate and what came back: as it came back, or as it was sent where it was lost
+abbrev pub recorded_by : List (Datagram Body) → RingFate → List (Datagram Body) → Frame Body
+recorded_by sent RingFate.Back back = record { sent = back; fate = RingFate.Back; back = back }
+recorded_by sent (RingFate.Lost after) back = record { sent = sent; fate = RingFate.Lost 0; back = [] }
 
 -- and the news that the record says of it
+abbrev pub news_by : ℕ → Kept → Bool → List (Datagram Body) → RingFate → List (Datagram Body) → List (News Body)
+news_by station kept counts sent RingFate.Back back = news_back station kept counts back
+news_by station kept counts sent (RingFate.Lost after) back = news_lost station kept sent
+
+-- of a frame
+abbrev pub recorded_of : Frame Body → Frame Body
+recorded_of f = recorded_by f.sent f.fate f.back
+
+-- its news
+abbrev pub news_of : ℕ → Kept → Bool → Frame Body → List (News Body)
+news_of station kept counts f = news_by station kept counts f.sent f.fate f.back
+
+-- of a frame of a ring, at a fate
+abbrev pub recorded_as : {S : Type 0} → (ℕ → Lens) → RingFrame S → RingFate → Frame Body
+recorded_as lens t fate = recorded_by (seen lens t.octets) fate (seen lens (octets_back t))
+
+-- its news
 abbrev pub news_as : {S : Type 0} → (ℕ → Lens) → ℕ → Kept → Bool → RingFrame S → RingFate → List (News Body)
-news_as lens station kept counts t RingFate.Back = news_back station kept counts (seen lens (octets_back t))
-news_as lens station kept counts t (RingFate.Lost after) = news_lost station kept (seen lens t.octets)
+news_as lens station kept counts t fate = news_by station kept counts (seen lens t.octets) fate (seen lens (octets_back t))
