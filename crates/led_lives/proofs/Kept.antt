@@ -129,6 +129,6 @@ module _ {S V A Q R : Type 0} (w : Behind S V A Q R) (c : Clearing V A) (p : Pla
       over = λ from s l. l;
       begins = begins;
       past = λ first es b all. all;
-      closed = λ first es b all never. AllLeds.closed first es b e all never;
+      closed = λ first es b all at is_new. AllLeds.closed first es b e at all is_new;
       left = λ first es b s all x. ((registers_seen x.node.registers).state, AllLeds.opened first es b e s all x);
     }

@@ -1,11 +1,11 @@
 -- THE LIFE OF A SLAVE BY EPOCHS THAT ITS MASTER LEADS, turn by turn, with the counters that its record keeps.
-use Rattle.std.specs.Prelude.{◌≡◌, ℕ, Bool, None, List, [], ◌∷◌, ◌++◌}
+use Rattle.std.specs.Prelude.{◌≡◌, ℕ, Bool, Option, List, [], ◌∷◌, ◌++◌}
 use Rattle.era_counters.specs.Counters.{IsCounted}
 use Rattle.frame_view.specs.Seen.{seen}
 use Rattle.frame_view.specs.View.{Lens}
 use Rattle.frames_seen.specs.Slaves.{registers_seen}
 use Rattle.led_eras.specs.Led.{LedEra}
-use Rattle.life_model.specs.Lives.{Spot, Era, Life}
+use Rattle.life_model.specs.Lives.{Spot, Era, Life, new_era}
 use Rattle.link_mails.specs.Body.{Body}
 use Rattle.link_model.specs.Segment.{RingFate}
 use Rattle.master_side.specs.Passing.{news_back, news_lost}
@@ -40,7 +40,7 @@ module _ {S V A Q R : Type 0} (w : Behind S V A Q R) (more : Body → Bool) (pas
   -- stood before it
   pub data AllLeds (cleared : A → A) : A → List (Era Body Q R) → A → Type 0 where
     none : (a : A) → AllLeds cleared a [] a
-    closed : (a : A) (es : List (Era Body Q R)) (b : A) (e : Era Body Q R) → AllLeds cleared a es b → e.opened ≡ None → AllLeds cleared a (es ++ e ∷ []) (cleared b)
+    closed : (a : A) (es : List (Era Body Q R)) (b : A) (e : Era Body Q R) (at : Option ℕ) → AllLeds cleared a es b → e ≡ new_era at → AllLeds cleared a (es ++ e ∷ []) (cleared b)
     opened : (a : A) (es : List (Era Body Q R)) (b : A) (e : Era Body Q R) (s : S) → AllLeds cleared a es b → (left : LedLeft b e s) →
         AllLeds cleared a (es ++ e ∷ []) (w.exchange.app (w.sees (registers_seen left.node.registers).state (w.running.clear s)).server)
 

@@ -1,8 +1,8 @@
 -- WHAT A FAMILY OF EPOCHS OWES by a frame, so that a life of them goes on; and sessions owe it.
-use Rattle.std.proofs.Common.{◌≡◌, ℕ, suc, ◌+◌, Bool, false, List, [], ◌∷◌, ◌++◌, length, sym, ◌∙◌, subst, arith, length-append}
+use Rattle.std.proofs.Common.{◌≡◌, ℕ, suc, ◌+◌, Bool, false, List, [], ◌∷◌, ◌++◌, length, ap, sym, ◌∙◌, subst, arith, length-append}
 use Rattle.std.specs.Prelude.{Option, None}
 use Rattle.slave_lives.specs.of_life_model.Eras.{Clearing}
-use Rattle.slave_lives.specs.of_life_model.Lives.{Spot, Era, Opening, Stand}
+use Rattle.slave_lives.specs.of_life_model.Lives.{Spot, Era, Opening, Stand, new_era}
 use Rattle.slave_lives.specs.of_link_mails.Body.{Body}
 use Rattle.slave_lives.specs.of_segment_model.Record.{Frame, News}
 use Rattle.slave_lives.specs.of_task_model.Accounts.{Pick}
@@ -30,14 +30,14 @@ pub record Keeps {S V A Q R : Type 0} (w : Behind S V A Q R) (c : Clearing V A) 
   pub begins : (o : Opening) → stand ≡ Stand.Opens o → (q : Plan) (al : ℕ) (cleared : Option ℕ) → (cleared ≡ None → q.start ≡ spot.start) → OpensEra w q spot (node_behind w.running t) →
       F (w.exchange.app (w.sees al (node_behind w.running t).server).server) (opened_era {Q = Q} {R = R} cleared (length fs)) (fs ++ frame_of w.lens t ∷ []) (node_behind w.running t)
   pub past : (first : A) (es : List (Era Body Q R)) (b : A) → P fs first es b → P (fs ++ frame_of w.lens t ∷ []) first es b
-  pub closed : (first : A) (es : List (Era Body Q R)) (b : A) → P (fs ++ frame_of w.lens t ∷ []) first es b → e.opened ≡ None → P (fs ++ frame_of w.lens t ∷ []) first (es ++ e ∷ []) (c.cleared b)
+  pub closed : (first : A) (es : List (Era Body Q R)) (b : A) → P (fs ++ frame_of w.lens t ∷ []) first es b → (cleared : Option ℕ) → e ≡ new_era cleared → P (fs ++ frame_of w.lens t ∷ []) first (es ++ e ∷ []) (c.cleared b)
   pub left : (first : A) (es : List (Era Body Q R)) (b : A) (s : S) → P (fs ++ frame_of w.lens t ∷ []) first es b → L b e (fs ++ frame_of w.lens t ∷ []) s →
       (al : ℕ) × P (fs ++ frame_of w.lens t ∷ []) first (es ++ e ∷ []) (w.exchange.app (w.sees al (w.running.clear s)).server)
 
 -- SESSIONS keep so
 pub sessions : {S V A Q R : Type 0} (w : Behind S V A Q R) (c : Clearing V A) (p : Plan) (spot : Spot) → IsWhole w c p spot → (stand : Stand) (e : Era Body Q R) (fs : List (Frame Body)) (t : RingFrame S) (more : Body → Bool) (passed : Q → Bool) (pick : Pick Q) (news : List (News Body)) →
     Keeps w c spot (LivesEra w spot) (LivesEra w spot) (LivesEra w spot) (LeftEra w spot) (LeftEras w c.cleared spot) stand e fs t more passed pick news
-sessions {A = A} w c p spot whole stand e fs t more passed pick news =
+sessions {A = A} {Q = Q} {R = R} w c p spot whole stand e fs t more passed pick news =
     let len : length (fs ++ frame_of w.lens t ∷ []) ≡ suc (length fs) = length-append fs (frame_of w.lens t ∷ []) ∙ (let plus : length fs + 1 ≡ suc (length fs) = omega arith in plus) in
     record {
       session = λ from l. l;
@@ -49,7 +49,7 @@ sessions {A = A} w c p spot whole stand e fs t more passed pick news =
       over = λ from s x. Ends.stays w spot from e fs (frame_of w.lens t ∷ []) s x;
       begins = λ opening opens q al cleared start o. (Begins.begun w whole.behind whole.stated whole.tells q spot al cleared (length fs) (fs ++ frame_of w.lens t ∷ []) (node_behind w.running t) len start o).lives;
       past = λ first es b all. Ends.all_stay w c.cleared spot fs (frame_of w.lens t ∷ []) all;
-      closed = λ first es b all never. LeftEras.closed first es b e all never;
+      closed = λ first es b all cleared is_new. LeftEras.closed first es b e all (ap (λ (d : Era Body Q R). d.opened) is_new);
       left = λ first es b s all x. (
         x.state,
         subst (λ (a : A). LeftEras w c.cleared spot (fs ++ frame_of w.lens t ∷ []) first (es ++ e ∷ []) a) (sym (Ends.clears_to w c whole.clears x.state s)) (LeftEras.opened first es b e s all x),

@@ -165,7 +165,7 @@ module _ {S V A Q R : Type 0} (w : Behind S V A Q R) (c : Clearing V A) (p : Pla
 
       waits_clear : IsPlan w.boot w.lens (plan_to p o.state) → w.running.clear (node_behind w.running t).server ≡ w.running.clear t.node.server → Waits w from l.era t.node.server →
           IsClosed w.running w.boot w.lens (plan_to p o.state) (record o { step = 3 }) (node_behind w.running t) → IsLivedBy w F Y L P p spot first (clears (length fs) l o) (fs ++ frame_of w.lens t ∷ []) (node_behind w.running t)
-      waits_clear plan same x closed = clears_so (c.cleared from) (keeps.closed first l.past from past_behind (ap (λ (d : Era Body Q R). d.opened) x.is_new)) x.al
+      waits_clear plan same x closed = clears_so (c.cleared from) (keeps.closed first l.past from past_behind x.cleared x.is_new) x.al
           (ap c.cleared x.begins ∙ sym (Ends.clears_to w c whole.clears x.al (w.running.clear t.node.server)) ∙ ap (λ (s : S). w.exchange.app (w.sees x.al s).server) (whole.behind.clears.again t.node.server ∙ sym same))
           plan closed
 
