@@ -1,0 +1,20 @@
+//! The lives of a serving: those that its master leads of a plan's slaves are lived by the nodes of their ring, epoch by epoch as they were led. Definitions and
+//! a law, no running code: the function here does nothing, and its contract states the law.
+#![tactic(auto)]
+
+ghost use Rattle.std.specs.Prelude.{ℕ, List, []};
+ghost use Rattle.life_runs.specs.First.{first_leads, lens_of};
+ghost use Rattle.life_runs.specs.Led.{Exchanged};
+ghost use Rattle.plan_ring.specs.Lives.{IsKnown};
+ghost use Rattle.plan_ring.specs.Round.{AllRound, ring_of};
+ghost use Rattle.segment_plan.specs.Sound.{IsPlan};
+ghost use Rattle.segment_plan.specs.declared.plan.Scenario.{Scenario};
+ghost use Rattle.served_rings.specs.Rings.{AreServedLived};
+ghost use Rattle.served_runs.specs.Served.{IsServedLed, Serves, all_serve};
+
+/// WHERE ITS SLAVES BEGIN SO, a serving whose frames went round their ring, with mails asked between them, goes on so: whatever frames are lost, and where slaves
+/// are given up, taken up again or returned to Init.
+pub fn served_ring_law()
+    ensures { (plan : Scenario) → IsPlan plan → IsKnown plan → AreServedLived plan [] (all_serve plan.paces (first_leads plan)) → (fs : List Exchanged) (missed : ℕ) (ws : List Serves) →
+        IsServedLed (lens_of plan.slaves) plan.recover plan.retry (all_serve plan.paces (first_leads plan)) fs missed ws → AllRound (ring_of plan) fs → AreServedLived plan fs ws }
+{}
