@@ -3,7 +3,7 @@ use Rattle.std.proofs.Common.{◌≡◌, ℕ, suc, Bool, List, [], ◌∷◌, �
 use Rattle.datagrams.specs.Datagram as Raw
 use Rattle.datagrams.specs.Frame.{IsFrame, chained}
 use Rattle.frame_view.specs.View.{Lens}
-use Rattle.life_model.specs.Lives.{Spot, Life}
+use Rattle.life_model.specs.Lives.{Spot, Life, new_life}
 use Rattle.link_mails.specs.Body.{Body}
 use Rattle.news_kept.specs.Counts.{counts_on, kept_on}
 use Rattle.segment_model.specs.Record.{Frame, News}
@@ -13,7 +13,7 @@ use Rattle.slave_lives.specs.Rings.{come_to, fate_seen, is_met_at, met, turned}
 use Rattle.slave_lives.specs.Seats.{AllMeet}
 use Rattle.slave_steps.specs.Node.{Node}
 use Rattle.whole_lives.specs.Turns as Whole
-use Rattle.whole_ring.specs.Members.{Member, MemberIs, AllLived, IsRing}
+use Rattle.whole_ring.specs.Members.{Member, MemberIs, AllLived, IsRing, IsNew, AllNew}
 use Rattle.whole_ring.specs.Turning.{Turn, TurnsFor, AllTurn, frame_at, life_by, behind_frame}
 use Rattle.whole_ring.proofs.Members as Members
 use Rattle.whole_ring.proofs.Members.{node_in, fate_in, seat_of, joined, one_more, comes_past, many, seats_distinct, seats_known, all_come}
@@ -85,3 +85,17 @@ module _ {S V A Q R : Type 0} (lens : ℕ → Lens) (step : Node S → Node S) (
       let meet = all_meet_first lens (map seat_of ms) (chained gs) (let e = many seat_of ms in let n = r.few in omega (arith, e, n)) (seats_distinct ms r.distinct)
       (seats_known lens step fits more passed fs ring octets gs is_frame 0 ms r.each) (all_come lens step fits more passed fs ring octets gs is_frame 0 ms turns (let n = r.few in omega (arith, n)) r.each asks) in
       each_on ms r meet [] ms ks turns refl r.each asks led told
+
+-- FROM THE MOMENT the slaves are switched on, whatever the counters are, since none is open
+pub led_begins : {S V A Q R : Type 0} (lens : ℕ → Lens) (step : Node S → Node S) (fits : Spot → S → Type 0) (more : Body → Bool) (passed : Q → Bool) (place : ℕ) (ms : List (Member S V A Q R)) (ks : List Counters) → length ks ≡ length ms → AllNew lens step fits place ms → AllLedMembers more passed [] ms ks
+led_begins lens step fits more passed place [] [] e new = tt
+led_begins lens step fits more passed place [] (k ∷ ks) e new = absurd (cc)
+led_begins lens step fits more passed place (m ∷ ms) [] e new = absurd (cc)
+led_begins {A = A} {Q = Q} {R = R} lens step fits more passed place (m ∷ ms) (k ∷ ks) e new = (one new.0, led_begins lens step fits more passed (suc place) ms ks (let f : length ks ≡ length ms = cc in f) new.1)
+  where
+    one : IsNew lens step fits place m → LedMember more passed [] m k
+    one x =
+        subst (λ (a : A). IsLedLived m.services more passed m.spot m.clearing.cleared m.plan k.kept k.counts a m.life [] m.node) (sym x.first)
+        (subst (λ (l : Life Body Q R). IsLedLived m.services more passed m.spot m.clearing.cleared m.plan k.kept k.counts (m.services.exchange.app (m.services.sees x.al x.server).server) l [] m.node) (sym x.life)
+        (subst (λ n. IsLedLived m.services more passed m.spot m.clearing.cleared m.plan k.kept k.counts (m.services.exchange.app (m.services.sees x.al x.server).server) (new_life {M = Body} {Q = Q} {R = R} m.spot.start) [] n) (sym x.node)
+        (Lived.begins m.services m.clearing m.plan m.spot x.whole more passed x.al x.server k.kept k.counts x.cleared x.quiet)))
