@@ -1,3 +1,4 @@
 pub mod One
 pub mod All
+pub mod Begins
 pub mod Lives

@@ -2,7 +2,7 @@
 //! a law, no running code: the function here does nothing, and its contract states the law.
 #![tactic(auto)]
 
-ghost use Rattle.std.specs.Prelude.{ℕ, List, []};
+ghost use Rattle.std.specs.Prelude.{ℕ, List};
 ghost use Rattle.life_runs.specs.First.{first_leads, lens_of};
 ghost use Rattle.life_runs.specs.Led.{Exchanged};
 ghost use Rattle.plan_ring.specs.Lives.{IsKnown};
@@ -12,9 +12,13 @@ ghost use Rattle.segment_plan.specs.declared.plan.Scenario.{Scenario};
 ghost use Rattle.served_rings.specs.Rings.{AreServedLived};
 ghost use Rattle.served_runs.specs.Served.{IsServedLed, Serves, all_serve};
 
-/// WHERE ITS SLAVES BEGIN SO, a serving whose frames went round their ring, with mails asked between them, goes on so: whatever frames are lost, and where slaves
-/// are given up, taken up again or returned to Init.
+/// A MASTER THAT LEADS A SERVING, by frames that went round the ring of its plan's slaves, with mails asked between them, leads lives that the nodes of the ring live
+/// as they are led: whatever frames are lost, and where slaves are given up, taken up again or returned to Init.
 pub fn served_ring_law()
-    ensures { (plan : Scenario) → IsPlan plan → IsKnown plan → AreServedLived plan [] (all_serve plan.paces (first_leads plan)) → (fs : List Exchanged) (missed : ℕ) (ws : List Serves) →
+    ensures { (plan : Scenario) → IsPlan plan → IsKnown plan → (fs : List Exchanged) (missed : ℕ) (ws : List Serves) →
         IsServedLed (lens_of plan.slaves) plan.recover plan.retry (all_serve plan.paces (first_leads plan)) fs missed ws → AllRound (ring_of plan) fs → AreServedLived plan fs ws }
-{}
+{
+    plan_ring::plan_ring_law();
+    served_eras::behind_law();
+    plan_speakers::state_law();
+}
