@@ -13,7 +13,7 @@ use Rattle.book_model.specs.Open.{Setting, Begun, IsOpenLife, IsIdle}
 use Rattle.slave_lives.specs.Ends.{LeftEras}
 use Rattle.slave_lives.specs.Lived.{Behind, LivesEra, node_seen}
 use Rattle.slave_lives.specs.Opening.{Plan}
-use Rattle.whole_lives.specs.Whole.{IsWhole, LivesOpen, StandsAs, IsLived}
+use Rattle.whole_lives.specs.Whole.{OwesLaws, LivesOpen, StandsAs, IsLived}
 use Rattle.segment_model.specs.Laws.{IsSettled, WantsNothing}
 use Rattle.book_model.proofs.Opens.{open_answers, open_epochs, open_state, open_rests, open_each}
 use Rattle.book_model.proofs.Scripts.{open_rows}
@@ -36,10 +36,10 @@ none_left w cleared spot fs a _ _ (LeftEras.opened _ es b x s l left) e = absurd
 pub nothing_left : {X : Type 0} (n : ℕ) (xs : List X) → between n n xs ≡ []
 nothing_left n xs = ap (λ (k : ℕ). take k (drop n xs)) (let e : n - n ≡ 0 = omega arith in e)
 
-module _ {S V A Q R : Type 0} (w : Behind S V A Q R) (c : Clearing V A) (p : Plan) (spot : Spot) (whole : IsWhole w c p spot) (f : Forgets w c) (more : Body → Bool) (first : A) (l : Life Body Q R) (fs : List (Frame Body)) (n : Node S)
+module _ {S V A Q R : Type 0} (w : Behind S V A Q R) (c : Clearing V A) (p : Plan) (spot : Spot) (owes : OwesLaws w c p spot) (f : Forgets w c) (more : Body → Bool) (first : A) (l : Life Body Q R) (fs : List (Frame Body)) (n : Node S)
     (i : IsLived w c p spot first l fs n) (is : IsFirst (length fs) l) (open_ : l.stand ≡ Stand.Open) where
   abbrev x : Setting V A Body Q R
-  x = setting_of w c p spot whole f more fs
+  x = setting_of w c p spot owes f more fs
 
   pub now : LivesOpen w spot i.from l.era fs n
   now = subst (λ (st : Stand). StandsAs w p spot i.from l.era fs st n) open_ i.now
@@ -113,7 +113,7 @@ module _ {S V A Q R : Type 0} (w : Behind S V A Q R) (c : Clearing V A) (p : Pla
   k_of = now.lives.epoch
 
   -- THE BOOK OF IT
-  pub first_book : FirstBook w c p spot whole f more first l fs n
+  pub first_book : FirstBook w c p spot owes f more first l fs n
   first_book =
       let k = k_of in
       let b = book k in

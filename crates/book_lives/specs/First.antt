@@ -13,7 +13,7 @@ use Rattle.book_model.specs.Open.{Setting, IsOpenLife, BookAnswers, BookFits, Bo
 use Rattle.book_model.specs.Script.{services_of}
 use Rattle.slave_lives.specs.Lived.{Behind, table_of, node_seen}
 use Rattle.slave_lives.specs.Opening.{Plan}
-use Rattle.whole_lives.specs.Whole.{IsWhole}
+use Rattle.whole_lives.specs.Whole.{OwesLaws}
 
 -- what telling an AL state and a return to Init do to an application
 pub record Forgets {S V A Q R : Type 0} (w : Behind S V A Q R) (c : Clearing V A) : Type 0 where
@@ -21,12 +21,12 @@ pub record Forgets {S V A Q R : Type 0} (w : Behind S V A Q R) (c : Clearing V A
   pub keeps : KeepsSame w.states c.cleared
 
 -- the run as this slave has it
-abbrev pub setting_of : {S V A Q R : Type 0} (w : Behind S V A Q R) (c : Clearing V A) (p : Plan) (spot : Spot) → IsWhole w c p spot → Forgets w c → (Body → Bool) → List (Frame Body) → Setting V A Body Q R
-setting_of w c p spot whole f more fs = record {
+abbrev pub setting_of : {S V A Q R : Type 0} (w : Behind S V A Q R) (c : Clearing V A) (p : Plan) (spot : Spot) → OwesLaws w c p spot → Forgets w c → (Body → Bool) → List (Frame Body) → Setting V A Body Q R
+setting_of w c p spot owes f more fs = record {
   exchange = w.exchange;
-  lawful = whole.lawful;
+  lawful = owes.lawful;
   states = w.states;
-  stated = whole.stated;
+  stated = owes.whole.stated;
   processor = w.processor;
   table = table_of w;
   cleared = c.cleared;
@@ -39,18 +39,18 @@ setting_of w c p spot whole f more fs = record {
 
 -- THE BOOK: one epoch, with the rows of the life; its answers are those that the frames give, and it fits; and where the slave is settled and the
 -- master wants nothing of it, nothing is left and all is done
-pub record FirstBook {S V A Q R : Type 0} (w : Behind S V A Q R) (c : Clearing V A) (p : Plan) (spot : Spot) (whole : IsWhole w c p spot) (f : Forgets w c) (more : Body → Bool) (first : A) (l : Life Body Q R) (fs : List (Frame Body)) (n : Node S) : Type 0 where
+pub record FirstBook {S V A Q R : Type 0} (w : Behind S V A Q R) (c : Clearing V A) (p : Plan) (spot : Spot) (owes : OwesLaws w c p spot) (f : Forgets w c) (more : Body → Bool) (first : A) (l : Life Body Q R) (fs : List (Frame Body)) (n : Node S) : Type 0 where
   pub book : SlaveBook A Body Q R
   pub from : book.first ≡ first
   pub app : book.app ≡ w.exchange.app (node_seen w n).node.server.server
   pub state : book.state ≡ (node_seen w n).registers.state
   pub live : book.given_up ≡ None
   pub never : book.gave ≡ []
-  pub life : IsOpenLife (setting_of w c p spot whole f more fs) book
+  pub life : IsOpenLife (setting_of w c p spot owes f more fs) book
   pub era : life.epoch.era ≡ l.era
   pub rows : life.epoch.rows ≡ l.era.account.started
   pub begun : services_of book.epochs ≡ services_in l.era.account.started
-  pub answers : (pace : ℕ) → BookAnswers (setting_of w c p spot whole f more fs) book pace (length fs)
-  pub fits : BookFits (setting_of w c p spot whole f more fs) book
-  pub rests : IsSettled (node_seen w n) → WantsNothing w.exchange.speech l.era.side → l.era.account.hand ≡ None → BookRests (setting_of w c p spot whole f more fs) book
-  pub done : IsSettled (node_seen w n) → WantsNothing w.exchange.speech l.era.side → l.era.account.hand ≡ None → BookDone (setting_of w c p spot whole f more fs) book
+  pub answers : (pace : ℕ) → BookAnswers (setting_of w c p spot owes f more fs) book pace (length fs)
+  pub fits : BookFits (setting_of w c p spot owes f more fs) book
+  pub rests : IsSettled (node_seen w n) → WantsNothing w.exchange.speech l.era.side → l.era.account.hand ≡ None → BookRests (setting_of w c p spot owes f more fs) book
+  pub done : IsSettled (node_seen w n) → WantsNothing w.exchange.speech l.era.side → l.era.account.hand ≡ None → BookDone (setting_of w c p spot owes f more fs) book

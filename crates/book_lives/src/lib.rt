@@ -12,7 +12,7 @@ ghost use Rattle.life_model.specs.Eras.{Clearing};
 ghost use Rattle.life_model.specs.Lives.{Spot, Life, Stand, new_life, life_next, life_back, life_lost};
 ghost use Rattle.slave_lives.specs.Lived.{Behind};
 ghost use Rattle.slave_lives.specs.Opening.{Plan};
-ghost use Rattle.whole_lives.specs.Whole.{IsWhole, IsLived};
+ghost use Rattle.whole_lives.specs.Whole.{OwesLaws, IsLived};
 ghost use Rattle.book_lives.specs.Rows.{WishStays, IsFirst};
 ghost use Rattle.book_lives.specs.First.{Forgets, FirstBook};
 
@@ -29,6 +29,6 @@ pub fn first_rows_law<M, Q, R>()
 /// THE BOOK OF A SLAVE IN ITS FIRST EPOCH, whose life is lived by its node: its answers are those that the frames give, at each pace; the application
 /// is what is done of its rows, each once and in order; and where it is settled and nothing is wanted of it, nothing is left and all is done.
 pub fn first_epoch_law<S, V, A, Q, R>()
-    ensures { (w : Behind S V A Q R) (c : Clearing V A) (p : Plan) (spot : Spot) (whole : IsWhole w c p spot) (f : Forgets w c) (more : Body → Bool) (first : A) (l : Life Body Q R) (fs : List (Frame Body)) (n : Node S) →
-        IsLived w c p spot first l fs n → IsFirst (length fs) l → l.stand ≡ Stand.Open → FirstBook w c p spot whole f more first l fs n }
+    ensures { (w : Behind S V A Q R) (c : Clearing V A) (p : Plan) (spot : Spot) (owes : OwesLaws w c p spot) (f : Forgets w c) (more : Body → Bool) (first : A) (l : Life Body Q R) (fs : List (Frame Body)) (n : Node S) →
+        IsLived w c p spot first l fs n → IsFirst (length fs) l → l.stand ≡ Stand.Open → FirstBook w c p spot owes f more first l fs n }
 {}

@@ -17,12 +17,12 @@ use Rattle.slave_steps.specs.Node.{Node}
 use Rattle.state_exchange.specs.Stated.{mails, with_states}
 use Rattle.task_model.specs.Promise.{TasksPromised, TasksAnswered, TasksRestIf, services_in}
 use Rattle.task_model.proofs.Sessions.{of_slaves, tasks_promised, tasks_rest, tasks_answered}
-use Rattle.whole_lives.specs.Whole.{IsWhole, OpensAs, StandsAs, IsLived}
+use Rattle.whole_lives.specs.Whole.{OwesLaws, OpensAs, OpensBy, StandsAs, IsLived}
 use Rattle.kept_lives.proofs.Owns.{owned}
 use Rattle.kept_lives.proofs.Settled.{settled_seen}
 use Rattle.kept_lives.specs.Epochs.{IsCarriedOut, IsAnswered, replies_all, IsKept, AreKept, RestsIf, IsNewest, IsKeptLife, app_of, app_behind, emitted_by}
 
-module _ {S V A Q R : Type 0} (w : Behind S V A Q R) (c : Clearing V A) (p : Plan) (spot : Spot) (whole : IsWhole w c p spot) (more : Body → Bool) (fs : List (Frame Body)) where
+module _ {S V A Q R : Type 0} (w : Behind S V A Q R) (c : Clearing V A) (p : Plan) (spot : Spot) (owes : OwesLaws w c p spot) (more : Body → Bool) (fs : List (Frame Body)) where
   -- an epoch as the model has it
   module _ (e : Era Body Q R) (from : A) (opened until : ℕ) (server : V) (registers : Registers) (slave : Slave V Body) (begins : w.exchange.app server ≡ w.states.told registers.state from)
       (is : EraIs w.exchange w.states w.processor (table_of w) spot e opened until fs server registers slave) where
@@ -40,8 +40,8 @@ module _ {S V A Q R : Type 0} (w : Behind S V A Q R) (c : Clearing V A) (p : Pla
       server = server;
       registers = registers;
       slave = slave;
-      lawful = whole.lawful;
-      stated = whole.stated;
+      lawful = owes.lawful;
+      stated = owes.whole.stated;
       is = is;
     }
 
@@ -99,7 +99,7 @@ module _ {S V A Q R : Type 0} (w : Behind S V A Q R) (c : Clearing V A) (p : Pla
 
     pub lived_rests : RestsIf w more spot fs e from n
     lived_rests settled wants hand =
-        let t = rests e from k.opened (length fs) k.server k.registers (node_seen w n) k.begins k.is (settled_seen w whole.behind n k.stands settled) wants hand in
+        let t = rests e from k.opened (length fs) k.server k.registers (node_seen w n) k.begins k.is (settled_seen w owes.whole.behind n k.stands settled) wants hand in
         let qs = services_in e.account.started in
         let heard_then = emitted w.exchange.speech.emission (heard spot.station (era_frames spot k.opened (length fs) fs)) in
         let both : (app_of w more spot n ≡ app_behind w more spot (w.states.told k.registers.state from) qs) × (heard_then ≡ emitted_by w more spot (w.states.told k.registers.state from) qs) =
@@ -120,11 +120,11 @@ module _ {S V A Q R : Type 0} (w : Behind S V A Q R) (c : Clearing V A) (p : Pla
 
   -- THE NEWEST, by how the master stands to the slave
   opens_newest : (from : A) (e : Era Body Q R) (o : Opening) (n : Node S) → OpensAs w p spot from e fs o n → IsNewest w more spot c.cleared fs e from n
-  opens_newest from e o n (OpensAs.yet again step plan still) = lived_newest from e n still.lives.epoch
-  opens_newest from e o n (OpensAs.anew closing waits start) = IsNewest.waits waits.al (ap (λ (d : Era Body Q R). d.account.started) waits.is_new) waits.begins
-  opens_newest from e o n (OpensAs.over closing again step over) =
+  opens_newest from e o n (OpensBy.yet again step plan still) = lived_newest from e n still.lives.epoch
+  opens_newest from e o n (OpensBy.anew closing waits start) = IsNewest.waits waits.al (ap (λ (d : Era Body Q R). d.account.started) waits.is_new) waits.begins
+  opens_newest from e o n (OpensBy.over closing again step over) =
       IsNewest.left over.left.state (w.exchange.app (w.sees over.left.state over.server).server) over.left.until (left_kept from e over.server over.left)
-      (ap (λ (s : S). w.exchange.app (w.sees over.left.state s).server) over.cleared ∙ Ends.clears_to w c whole.clears over.left.state over.server)
+      (ap (λ (s : S). w.exchange.app (w.sees over.left.state s).server) over.cleared ∙ Ends.clears_to w c owes.whole.clears over.left.state over.server)
 
   newest : (from : A) (e : Era Body Q R) (stand : Stand) (n : Node S) → StandsAs w p spot from e fs stand n → IsNewest w more spot c.cleared fs e from n
   newest from e (Stand.Opens o) n x = opens_newest from e o n x

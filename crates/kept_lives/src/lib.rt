@@ -9,12 +9,12 @@ ghost use Rattle.segment_model.specs.Record.{Frame};
 ghost use Rattle.slave_lives.specs.Lived.{Behind};
 ghost use Rattle.slave_lives.specs.Opening.{Plan};
 ghost use Rattle.slave_steps.specs.Node.{Node};
-ghost use Rattle.whole_lives.specs.Whole.{IsWhole, IsLived};
+ghost use Rattle.whole_lives.specs.Whole.{OwesLaws, IsLived};
 ghost use Rattle.kept_lives.specs.Epochs.{IsKeptLife};
 
 /// OF A LIFE THAT IS LIVED each epoch has carried out just the first of the services that came into hand in it, each once and in order, from what the
 /// epoch before left, cleared; each reply is that of its service; and of the newest, where nothing is left, all are carried out.
 pub fn kept_life_law<S, V, A, Q, R>()
-    ensures { (w : Behind S V A Q R) (c : Clearing V A) (p : Plan) (spot : Spot) (more : Body → Bool) (first : A) (l : Life Body Q R) (fs : List (Frame Body)) (n : Node S) → IsWhole w c p spot → IsLived w c p spot first l fs n →
+    ensures { (w : Behind S V A Q R) (c : Clearing V A) (p : Plan) (spot : Spot) (more : Body → Bool) (first : A) (l : Life Body Q R) (fs : List (Frame Body)) (n : Node S) → OwesLaws w c p spot → IsLived w c p spot first l fs n →
         IsKeptLife w more spot c.cleared fs first l n }
 {}

@@ -16,7 +16,7 @@ ghost use Rattle.slave_lives.specs.Opening.{Plan};
 ghost use Rattle.slave_steps.specs.Node.{Node};
 ghost use Rattle.task_model.specs.Accounts.{Pick};
 ghost use Rattle.task_model.specs.Promise.{services_in};
-ghost use Rattle.whole_lives.specs.Whole.{IsWhole, IsLived};
+ghost use Rattle.whole_lives.specs.Whole.{OwesLaws, IsLived};
 ghost use Rattle.life_counts.specs.Begun.{begun_most, life_most, KeepsShape, AreUnopened};
 
 /// WHAT AN EPOCH HAS GAINED, in mails and in steps of state services, is no more than what its services count: each by mails what it takes at most, a
@@ -40,5 +40,5 @@ pub fn unopened_law<M, Q, R>()
 /// lost, and whether the slave was given up, taken up again or returned to Init.
 pub fn life_counts<S, V, A, Q, R, K>()
     ensures { (w : Behind S V A Q R) (c : Clearing V A) (p : Plan) (spot : Spot) (first : A) (l : Life Body Q R) (fs : List (Frame Body)) (n : Node S) (shape : A → K) (count : K → Q → ℕ) →
-        IsWhole w c p spot → IsLived w c p spot first l fs n → AreUnopened l → KeepsShape w c shape count → gains l ≤ 1 + life_most (count (shape first)) l }
+        OwesLaws w c p spot → IsLived w c p spot first l fs n → AreUnopened l → KeepsShape w c shape count → gains l ≤ 1 + life_most (count (shape first)) l }
 {}

@@ -1,3 +1,3 @@
-mod Clears
-mod Naturals
-mod Clients
+pub mod Clears
+pub mod Naturals
+pub mod Clients

@@ -11,7 +11,7 @@ use Rattle.segment_model.specs.Slaves.{Datagram, Found, grams}
 use Rattle.segment_model.specs.Record.{Frame, News, Kept, is_for, mail_told, last_told, all_told, told_behind, gram_news, last_heard, found_news, datagram_news, back_news, heard_behind, frame_news, kept_after, news_each}
 use Rattle.segment_model.specs.Seats.{Side, Choice, is_none_left, is_over, side_begins, first_left, next_mail, side_holds, side_next, is_write, writes, side_back, side_lost}
 use Rattle.serving_model.specs.Erasing.{box_as, ask_as, gram_as, datagram_as, all_as}
-use Rattle.passed_model.specs.Erased.{halves_as, row_as, side_as, frame_as, news_as, all_news_as, AreOne, PlanOne, EndOne, OfRow}
+use Rattle.passed_model.specs.Erased.{halves_as, row_seen, side_seen, frame_as, news_as, all_news_as, AreOne, PlanOne, EndOne, OfRow}
 
 module _ {N M : Type 0} (f : N → M) where
   abbrev grams_as : List (Gram N) → List (Gram M)
@@ -115,122 +115,154 @@ module _ {N M : Type 0} (f : N → M) where
   writes_of station (g ∷ gs) = ap₂ (λ (a b : Bool). if g.station == station then a || b else b) (is_write_of g.ask) (writes_of station gs)
 
   -- A SIDE behind a lost frame
-  pub lost_side : {Q R : Type 0} (station : ℕ) (sent : List (Datagram N)) (d : Side N Q R) → side_as f (side_lost station sent d) ≡ side_lost station (all_as f sent) (side_as f d)
-  lost_side station sent d =
-      ap₂ (λ (h : Halves M) (b : Bool). record (side_as f d) { halves = h; fresh = d.fresh && not b }) (without_of station d.halves (grams sent) ∙ ap (halves_without station (halves_as f d.halves)) (sym (grams_of sent)))
+  pub lost_side : {P Q S R : Type 0} (g : P → Q) (h : S → R) (station : ℕ) (sent : List (Datagram N)) (d : Side N P S) → side_seen f g h (side_lost station sent d) ≡ side_lost station (all_as f sent) (side_seen f g h d)
+  lost_side g h station sent d =
+      ap₂ (λ (k : Halves M) (b : Bool). record (side_seen f g h d) { halves = k; fresh = d.fresh && not b }) (without_of station d.halves (grams sent) ∙ ap (halves_without station (halves_as f d.halves)) (sym (grams_of sent)))
       (writes_of station (grams sent) ∙ ap (writes station) (sym (grams_of sent)))
 
   -- and behind one that came back, where both clients end the row in hand alike
-  module _ {Q R : Type 0} (y : Speech N Q R) (x : Speech M Q R) where
-    pub back_side : (frame station : ℕ) (back : List (Datagram N)) (d : Side N Q R) → OfRow (λ r. EndOne f y x r.service (r.heard ++ all_accepted station d.halves (grams back))) d.now →
-        side_as f (side_back y frame station back d) ≡ side_back x frame station (all_as f back) (side_as f d)
+  module _ {P Q S R : Type 0} (g : P → Q) (h : S → R) (y : Speech N P S) (x : Speech M Q R) where
+    abbrev row_of : Row N P S → Row M Q R
+    row_of r = row_seen f g h r
+
+    abbrev side_of : Side N P S → Side M Q R
+    side_of d = side_seen f g h d
+
+    abbrev answer_of : Option (S × ℕ) → Option (R × ℕ)
+    answer_of a = option_map (λ k. (h k.0, k.1)) a
+
+    answered_as : (frame : ℕ) (a : Option (S × ℕ)) (found : Option S) → answer_of (answer_after frame a found) ≡ answer_after frame (answer_of a) (option_map h found)
+    answered_as frame (Some a) found = refl
+    answered_as frame None None = refl
+    answered_as frame None (Some r) = refl
+
+    -- an answer stays; so the clients need to end a row alike only as long as it has none
+    answered_so : (frame : ℕ) (a : Option (S × ℕ)) (found : Option S) (other : Option R) → (a ≡ None → option_map h found ≡ other) → answer_of (answer_after frame a found) ≡ answer_after frame (answer_of a) other
+    answered_so frame (Some a) found other same = refl
+    answered_so frame None found other same = answered_as frame None found ∙ ap (λ o. answer_after frame (let none : Option (R × ℕ) = None in none) o) (same refl)
+
+    pub back_side : (frame station : ℕ) (back : List (Datagram N)) (d : Side N P S) → OfRow (λ r. r.answer ≡ None → EndOne f g h y x r.service (r.heard ++ all_accepted station d.halves (grams back))) d.now →
+        side_of (side_back y frame station back d) ≡ side_back x frame station (all_as f back) (side_of d)
     back_side frame station back d same =
         let ms : map f (all_accepted station d.halves (grams back)) ≡ all_accepted station (halves_as f d.halves) (grams (all_as f back)) =
         accepted_of station d.halves (grams back) ∙ ap (all_accepted station (halves_as f d.halves)) (sym (grams_of back)) in
         let halves = after_of station d.halves (grams back) ∙ ap (halves_after station (halves_as f d.halves)) (sym (grams_of back)) in
         let wrote = writes_of station (grams back) ∙ ap (writes station) (sym (grams_of back)) in
-        let now = row d.now same ∙ ap (λ l. option_map (λ r. row_heard x frame l r) (option_map (λ r. row_as f r) d.now)) ms in
-        λ i. record { halves = halves i; fresh = d.fresh && not (wrote i); past = map (λ r. row_as f r) d.past; now = now i }
+        let now = row d.now same ∙ ap (λ l. option_map (λ r. row_heard x frame l r) (option_map row_of d.now)) ms in
+        λ i. record { halves = halves i; fresh = d.fresh && not (wrote i); past = map row_of d.past; now = now i }
       where
-        row : (now : Option (Row N Q R)) → OfRow (λ r. EndOne f y x r.service (r.heard ++ all_accepted station d.halves (grams back))) now →
-            option_map (λ r. row_as f r) (option_map (λ r. row_heard y frame (all_accepted station d.halves (grams back)) r) now) ≡ option_map (λ r. row_heard x frame (map f (all_accepted station d.halves (grams back))) r) (option_map (λ r. row_as f r) now)
+        row : (now : Option (Row N P S)) → OfRow (λ r. r.answer ≡ None → EndOne f g h y x r.service (r.heard ++ all_accepted station d.halves (grams back))) now →
+            option_map row_of (option_map (λ r. row_heard y frame (all_accepted station d.halves (grams back)) r) now) ≡ option_map (λ r. row_heard x frame (map f (all_accepted station d.halves (grams back))) r) (option_map row_of now)
         row None same = refl
         row (Some r) same =
             let hs = all_accepted station d.halves (grams back) in
             let heard : map f (r.heard ++ hs) ≡ map f r.heard ++ map f hs = map_append r.heard hs in
-            let ended : y.ends r.service (plain y.emission (r.heard ++ hs)) ≡ x.ends r.service (plain x.emission (map f r.heard ++ map f hs)) = same ∙ ap (λ l. x.ends r.service (plain x.emission l)) heard in
-            λ i. Some (record { service = r.service; frame = r.frame; told = map f r.told; heard = heard i; answer = answer_after frame r.answer (ended i) })
+            let answer = answered_so frame r.answer (y.ends r.service (plain y.emission (r.heard ++ hs))) (x.ends (g r.service) (plain x.emission (map f r.heard ++ map f hs)))
+            (λ none. same none ∙ ap (λ l. x.ends (g r.service) (plain x.emission l)) heard) in
+            λ i. Some (record { service = g r.service; frame = r.frame; told = map f r.told; heard = heard i; answer = answer i })
 
     -- A SIDE before a frame, where both clients plan alike
     none_left_of : (ms : List N) → is_none_left ms ≡ is_none_left (map f ms)
     none_left_of [] = refl
     none_left_of (m ∷ ms) = refl
 
-    left_of : (r : Row N Q R) → PlanOne f y x r.service r.heard → map f (left y r) ≡ left x (row_as f r)
+    pub left_of : (r : Row N P S) → PlanOne f g h y x r.service r.heard → map f (left y r) ≡ left x (row_of r)
     left_of r plan =
         sym (drop-map f (length r.told) (y.planned r.service (plain y.emission r.heard))) ∙ ap₂ (λ (n : ℕ) (l : List M). drop n l) (sym (length-map r.told f)) plan
 
-    holding_of : (box : Option (LinkMail N)) → is_none box ≡ is_none (box_as f box)
+    pub holding_of : (box : Option (LinkMail N)) → is_none box ≡ is_none (box_as f box)
     holding_of None = refl
     holding_of (Some m) = refl
 
-    over_of : AreOne f y x → (holding : Option (LinkMail N)) (fresh : Bool) (r : Row N Q R) → PlanOne f y x r.service r.heard → is_over y holding fresh r ≡ is_over x (box_as f holding) fresh (row_as f r)
+    answer_is : (a : Option (S × ℕ)) → is_some a ≡ is_some (answer_of a)
+    answer_is None = refl
+    answer_is (Some a) = refl
+
+    -- nothing is left of a row for one where nothing is for the other
+    pub none_of : (r : Row N P S) → PlanOne f g h y x r.service r.heard → is_none_left (left y r) ≡ is_none_left (left x (row_of r))
+    none_of r plan = none_left_of (left y r) ∙ ap is_none_left (left_of r plan)
+
+    over_of : AreOne f g h y x → (holding : Option (LinkMail N)) (fresh : Bool) (r : Row N P S) → PlanOne f g h y x r.service r.heard → is_over y holding fresh r ≡ is_over x (box_as f holding) fresh (row_of r)
     over_of one holding fresh r plan =
-        ap₂ (λ (a b : Bool). a && b) (none_left_of (left y r) ∙ ap is_none_left (left_of r plan))
-        (ap₂ (λ (h n : Bool). if h then n else is_some r.answer && not fresh) (one.handed r.service) (holding_of holding))
+        ap₂ (λ (a b : Bool). a && b) (none_of r plan)
+        (ap₂ (λ (k n : Bool). if k then n else is_some r.answer && not fresh) (one.handed r.service) (holding_of holding)
+        ∙ ap (λ b. if x.handed (g r.service) then is_none (box_as f holding) else b && not fresh) (answer_is r.answer))
 
-    past_of : (rs : List (Row N Q R)) (r : Row N Q R) → map (λ k. row_as f k) (rs ++ r ∷ []) ≡ map (λ k. row_as f k) rs ++ row_as f r ∷ []
+    past_of : (rs : List (Row N P S)) (r : Row N P S) → map row_of (rs ++ r ∷ []) ≡ map row_of rs ++ row_of r ∷ []
     past_of [] r = refl
-    past_of (k ∷ rs) r = ap (λ l. row_as f k ∷ l) (past_of rs r)
+    past_of (k ∷ rs) r = ap (λ l. row_of k ∷ l) (past_of rs r)
 
-    begins_of : AreOne f y x → (frame : ℕ) (d : Side N Q R) (now : Option (Row N Q R)) (wish : Option Q) → OfRow (λ r. PlanOne f y x r.service r.heard) now →
-        side_as f (side_begins y frame d now wish) ≡ side_begins x frame (side_as f d) (option_map (λ r. row_as f r) now) wish
+    -- clients that are one let the same come into hand
+    begins_of : AreOne f g h y x → (frame : ℕ) (d : Side N P S) (now : Option (Row N P S)) (wish : Option P) → OfRow (λ r. PlanOne f g h y x r.service r.heard) now →
+        side_of (side_begins y frame d now wish) ≡ side_begins x frame (side_of d) (option_map row_of now) (option_map g wish)
     begins_of one frame d None None plan = refl
     begins_of one frame d (Some r) None plan = refl
-    begins_of one frame d None (Some q) plan = go (y.valid q) ∙ ap (λ b. if b then record (side_as f d) { now = Some (begun q frame) } else side_as f d) (one.valid q)
+    begins_of one frame d None (Some q) plan = go (y.valid q) ∙ ap (λ b. if b then record (side_of d) { now = Some (begun (g q) frame) } else side_of d) (one.valid q)
       where
-        go : (b : Bool) → side_as f (if b then record d { now = Some (begun q frame) } else d) ≡ (if b then record (side_as f d) { now = Some (begun q frame) } else side_as f d)
+        go : (b : Bool) → side_of (if b then record d { now = Some (begun q frame) } else d) ≡ (if b then record (side_of d) { now = Some (begun (g q) frame) } else side_of d)
         go true = refl
         go false = refl
     begins_of one frame d (Some r) (Some q) plan =
         go (y.valid q && is_over y d.halves.out.holding d.fresh r)
-        ∙ ap₂ (λ (a b : Bool). if a && b then record (side_as f d) { past = map (λ k. row_as f k) d.past ++ row_as f r ∷ []; now = Some (begun q frame) } else side_as f d) (one.valid q) (over_of one d.halves.out.holding d.fresh r plan)
+        ∙ ap₂ (λ (a b : Bool). if a && b then record (side_of d) { past = map row_of d.past ++ row_of r ∷ []; now = Some (begun (g q) frame) } else side_of d) (one.valid q) (over_of one d.halves.out.holding d.fresh r plan)
       where
-        go : (b : Bool) → side_as f (if b then record d { past = d.past ++ r ∷ []; now = Some (begun q frame) } else d)
-            ≡ (if b then record (side_as f d) { past = map (λ k. row_as f k) d.past ++ row_as f r ∷ []; now = Some (begun q frame) } else side_as f d)
-        go true = ap (λ l. record (side_as f d) { past = l; now = Some (begun q frame) }) (past_of d.past r)
+        go : (b : Bool) → side_of (if b then record d { past = d.past ++ r ∷ []; now = Some (begun q frame) } else d)
+            ≡ (if b then record (side_of d) { past = map row_of d.past ++ row_of r ∷ []; now = Some (begun (g q) frame) } else side_of d)
+        go true = ap (λ l. record (side_of d) { past = l; now = Some (begun (g q) frame) }) (past_of d.past r)
         go false = refl
 
     first_of : (ms : List N) → map f (first_left ms) ≡ first_left (map f ms)
     first_of [] = refl
     first_of (m ∷ ms) = refl
 
-    next_of : (now : Option (Row N Q R)) (holding : Option (LinkMail N)) (hold : Bool) → OfRow (λ r. PlanOne f y x r.service r.heard) now →
-        map f (next_mail y now holding hold) ≡ next_mail x (option_map (λ r. row_as f r) now) (box_as f holding) hold
+    next_of : (now : Option (Row N P S)) (holding : Option (LinkMail N)) (hold : Bool) → OfRow (λ r. PlanOne f g h y x r.service r.heard) now →
+        map f (next_mail y now holding hold) ≡ next_mail x (option_map row_of now) (box_as f holding) hold
     next_of now holding false plan = refl
     next_of None holding true plan = refl
     next_of (Some r) (Some m) true plan = refl
     next_of (Some r) None true plan = first_of (left y r) ∙ ap first_left (left_of r plan)
 
-    holds_of : (d : Side N Q R) (ms : List N) → side_as f (side_holds d ms) ≡ side_holds (side_as f d) (map f ms)
+    holds_of : (d : Side N P S) (ms : List N) → side_of (side_holds d ms) ≡ side_holds (side_of d) (map f ms)
     holds_of d [] = refl
-    holds_of d (m ∷ ms) = ap (λ k. record { halves = halves_as f (record d.halves { out = out_hold d.halves.out m }); fresh = true; past = map (λ r. row_as f r) d.past; now = k }) (go d.now)
+    holds_of d (m ∷ ms) = ap (λ k. record { halves = halves_as f (record d.halves { out = out_hold d.halves.out m }); fresh = true; past = map row_of d.past; now = k }) (go d.now)
       where
-        go : (now : Option (Row N Q R)) → option_map (λ r. row_as f r) (option_map (λ r. row_told m r) now) ≡ option_map (λ r. row_told (f m) r) (option_map (λ r. row_as f r) now)
+        go : (now : Option (Row N P S)) → option_map row_of (option_map (λ r. row_told m r) now) ≡ option_map (λ r. row_told (f m) r) (option_map row_of now)
         go None = refl
-        go (Some r) = ap (λ l. Some (record { service = r.service; frame = r.frame; told = l; heard = map f r.heard; answer = r.answer })) (map_append r.told (m ∷ []))
+        go (Some r) = ap (λ l. Some (record { service = g r.service; frame = r.frame; told = l; heard = map f r.heard; answer = answer_of r.answer })) (map_append r.told (m ∷ []))
+
+    -- A MAIL IS TAKEN UP of the row in hand, which both clients plan alike
+    pub takes_up : (d : Side N P S) (hold : Bool) → OfRow (λ r. PlanOne f g h y x r.service r.heard) d.now →
+        side_of (side_holds d (next_mail y d.now d.halves.out.holding hold)) ≡ side_holds (side_of d) (next_mail x (side_of d).now (side_of d).halves.out.holding hold)
+    takes_up d hold plan = holds_of d (next_mail y d.now d.halves.out.holding hold) ∙ ap (side_holds (side_of d)) (next_of d.now d.halves.out.holding hold plan)
 
     -- the row that is in hand then
-    begun_plans : (frame : ℕ) (d : Side N Q R) (now : Option (Row N Q R)) (wish : Option Q) → d.now ≡ now → OfRow (λ r. PlanOne f y x r.service r.heard) now → ((q : Q) → PlanOne f y x q []) →
-        OfRow (λ r. PlanOne f y x r.service r.heard) (side_begins y frame d now wish).now
+    begun_plans : (frame : ℕ) (d : Side N P S) (now : Option (Row N P S)) (wish : Option P) → d.now ≡ now → OfRow (λ r. PlanOne f g h y x r.service r.heard) now → ((q : P) → PlanOne f g h y x q []) →
+        OfRow (λ r. PlanOne f g h y x r.service r.heard) (side_begins y frame d now wish).now
     begun_plans frame d None None is plan new = sub d.now is
       where
-        sub : (now : Option (Row N Q R)) → now ≡ None → OfRow (λ r. PlanOne f y x r.service r.heard) now
+        sub : (now : Option (Row N P S)) → now ≡ None → OfRow (λ r. PlanOne f g h y x r.service r.heard) now
         sub None e = tt
         sub (Some r) e = absurd (let clash : Some r ≡ None = e in cc)
-    begun_plans frame d (Some r) None is plan new = subst (OfRow (λ k. PlanOne f y x k.service k.heard)) (sym is) plan
+    begun_plans frame d (Some r) None is plan new = subst (OfRow (λ k. PlanOne f g h y x k.service k.heard)) (sym is) plan
     begun_plans frame d None (Some q) is plan new = go (y.valid q)
       where
-        none : OfRow (λ r. PlanOne f y x r.service r.heard) d.now
-        none = subst (OfRow (λ k. PlanOne f y x k.service k.heard)) (sym is) tt
+        none : OfRow (λ r. PlanOne f g h y x r.service r.heard) d.now
+        none = subst (OfRow (λ k. PlanOne f g h y x k.service k.heard)) (sym is) tt
 
-        go : (b : Bool) → OfRow (λ r. PlanOne f y x r.service r.heard) (if b then record d { now = Some (begun q frame) } else d).now
+        go : (b : Bool) → OfRow (λ r. PlanOne f g h y x r.service r.heard) (if b then record d { now = Some (begun q frame) } else d).now
         go true = new q
         go false = none
     begun_plans frame d (Some r) (Some q) is plan new = go (y.valid q && is_over y d.halves.out.holding d.fresh r)
       where
-        go : (b : Bool) → OfRow (λ k. PlanOne f y x k.service k.heard) (if b then record d { past = d.past ++ r ∷ []; now = Some (begun q frame) } else d).now
+        go : (b : Bool) → OfRow (λ k. PlanOne f g h y x k.service k.heard) (if b then record d { past = d.past ++ r ∷ []; now = Some (begun q frame) } else d).now
         go true = new q
-        go false = subst (OfRow (λ k. PlanOne f y x k.service k.heard)) (sym is) plan
+        go false = subst (OfRow (λ k. PlanOne f g h y x k.service k.heard)) (sym is) plan
 
-    pub next_side : AreOne f y x → ((q : Q) → PlanOne f y x q []) → (frame : ℕ) (d : Side N Q R) (c : Choice Q) → OfRow (λ r. PlanOne f y x r.service r.heard) d.now → side_as f (side_next y frame d c) ≡ side_next x frame (side_as f d) c
+    pub next_side : AreOne f g h y x → ((q : P) → PlanOne f g h y x q []) → (frame : ℕ) (d : Side N P S) (c : Choice P) → OfRow (λ r. PlanOne f g h y x r.service r.heard) d.now →
+        side_of (side_next y frame d c) ≡ side_next x frame (side_of d) (record { begin = option_map g c.begin; hold = c.hold })
     next_side one new frame d c plan =
-        let e = side_begins y frame d d.now c.begin in
-        let same = begins_of one frame d d.now c.begin plan in
-        let plans = begun_plans frame d d.now c.begin refl plan new in
-        holds_of e (next_mail y e.now e.halves.out.holding c.hold)
-        ∙ ap (side_holds (side_as f e)) (next_of e.now e.halves.out.holding c.hold plans)
-        ∙ ap (λ (k : Side M Q R). side_holds k (next_mail x k.now k.halves.out.holding c.hold)) same
+        takes_up (side_begins y frame d d.now c.begin) c.hold (begun_plans frame d d.now c.begin refl plan new)
+        ∙ ap (λ (k : Side M Q R). side_holds k (next_mail x k.now k.halves.out.holding c.hold)) (begins_of one frame d d.now c.begin plan)
 
   -- NEWS
   told_of : (station last : ℕ) (gs : List (Gram N)) → map f (all_told station last gs) ≡ all_told station last (grams_as gs)

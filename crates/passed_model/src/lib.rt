@@ -2,14 +2,14 @@
 //! running code.
 #![tactic(auto)]
 
-ghost use Rattle.std.specs.Prelude.{◌≡◌, ℕ, Bool, true, List, [], ◌∷◌, ◌++◌, map, Some, None};
+ghost use Rattle.std.specs.Prelude.{◌≡◌, ℕ, Bool, true, List, [], ◌∷◌, ◌++◌, map, option_map, Some, None};
 ghost use Rattle.exchange_model.specs.Exchange.{Speech};
 ghost use Rattle.link_model.specs.Frames.{all_accepted};
 ghost use Rattle.segment_model.specs.Slaves.{Datagram, grams};
 ghost use Rattle.segment_model.specs.Record.{Frame, Kept, frame_news, kept_after, news_each};
 ghost use Rattle.segment_model.specs.Seats.{Side, Choice, side_next, side_back, side_lost};
 ghost use Rattle.serving_model.specs.Erasing.{all_as};
-ghost use Rattle.passed_model.specs.Erased.{side_as, frame_as, all_news_as, AreOne, PlanOne, EndOne, OfRow};
+ghost use Rattle.passed_model.specs.Erased.{side_seen, frame_as, all_news_as, AreOne, PlanOne, EndOne, OfRow};
 ghost use Rattle.exchange_model.specs.Exchange.{Exchange};
 ghost use Rattle.serving_model.specs.Tagged.{IsServed, Tagged, Rowed, Meant, Asked, real, ideal, tagged, serve_tagged, tagged_speech};
 ghost use Rattle.passed_model.specs.Client.{asked_speech, ByContents, MarksTold};
@@ -29,14 +29,14 @@ pub fn clear_law<V, M, Q, R, C>()
     ensures alone { (x : Exchange V V M Q R) (w : Rowed V M Q) (m : M) (answers : Bool) → InRow x (serve_tagged x w m (Meant.Alone answers)).0 }
 {}
 
-/// A master's side of a slave is the same where mails are seen otherwise, as with what is meant by them or without, where its two clients plan and
-/// end the row in hand alike: by its choices, by frames that came back, and by lost ones. What frames tell of a slave is the same too.
-pub fn erased_law<N, M, Q, R>()
-    ensures next { (f : N → M) (y : Speech N Q R) (x : Speech M Q R) → AreOne f y x → ((q : Q) → PlanOne f y x q []) → (frame : ℕ) (d : Side N Q R) (c : Choice Q) → OfRow (λ r. PlanOne f y x r.service r.heard) d.now →
-        side_as f (side_next y frame d c) ≡ side_next x frame (side_as f d) c }
-    ensures back { (f : N → M) (y : Speech N Q R) (x : Speech M Q R) (frame station : ℕ) (back : List (Datagram N)) (d : Side N Q R) → OfRow (λ r. EndOne f y x r.service (r.heard ++ all_accepted station d.halves (grams back))) d.now →
-        side_as f (side_back y frame station back d) ≡ side_back x frame station (all_as f back) (side_as f d) }
-    ensures lost { (f : N → M) (station : ℕ) (sent : List (Datagram N)) (d : Side N Q R) → side_as f (side_lost station sent d) ≡ side_lost station (all_as f sent) (side_as f d) }
+/// A master's side of a slave is the same where mails are seen otherwise, as with what is meant by them or without, and services and replies have other
+/// names, where its two clients plan the row in hand alike, and end it alike as long as it has no answer: by its choices, by frames that came back, and by lost ones. What frames tell of a slave is the same too.
+pub fn erased_law<N, M, P, Q, S, R>()
+    ensures next { (f : N → M) (g : P → Q) (h : S → R) (y : Speech N P S) (x : Speech M Q R) → AreOne f g h y x → ((q : P) → PlanOne f g h y x q []) → (frame : ℕ) (d : Side N P S) (c : Choice P) → OfRow (λ r. PlanOne f g h y x r.service r.heard) d.now →
+        side_seen f g h (side_next y frame d c) ≡ side_next x frame (side_seen f g h d) (record { begin = option_map g c.begin; hold = c.hold }) }
+    ensures back { (f : N → M) (g : P → Q) (h : S → R) (y : Speech N P S) (x : Speech M Q R) (frame station : ℕ) (back : List (Datagram N)) (d : Side N P S) → OfRow (λ r. r.answer ≡ None → EndOne f g h y x r.service (r.heard ++ all_accepted station d.halves (grams back))) d.now →
+        side_seen f g h (side_back y frame station back d) ≡ side_back x frame station (all_as f back) (side_seen f g h d) }
+    ensures lost { (f : N → M) (g : P → Q) (h : S → R) (station : ℕ) (sent : List (Datagram N)) (d : Side N P S) → side_seen f g h (side_lost station sent d) ≡ side_lost station (all_as f sent) (side_seen f g h d) }
     ensures news { (f : N → M) (station : ℕ) (kept : Kept) (k : Frame N) → all_news_as f (frame_news station kept k) ≡ frame_news station kept (frame_as f k) }
     ensures counters { (f : N → M) (station : ℕ) (kept : Kept) (k : Frame N) → kept_after station kept k ≡ kept_after station kept (frame_as f k) }
     ensures record_ { (f : N → M) (station : ℕ) (kept : Kept) (ks : List (Frame N)) → map (λ ns. all_news_as f ns) (news_each station kept ks) ≡ news_each station kept (map (λ k. frame_as f k) ks) }
@@ -45,7 +45,7 @@ pub fn erased_law<N, M, Q, R>()
 /// Two such clients: one sees what is meant by its mails, the other the mails alone. They are one where the contents of the mails that a row heard tell
 /// which are replies, and, of the replies to a mail that was passed on, whether the last is there (`passed_law` of `serving_model`).
 pub fn asked_law<M, Q, R>()
-    ensures one { (x : Speech M Q R) (more : M → Bool) → AreOne (λ t. t.mail) (tagged_speech x) (asked_speech x more) }
-    ensures plans { (x : Speech M Q R) (more : M → Bool) (q : Asked M Q) (hs : List (Tagged M Q)) → ByContents x.emission hs → PlanOne (λ t. t.mail) (tagged_speech x) (asked_speech x more) q hs }
-    ensures ends { (x : Speech M Q R) (more : M → Bool) (q : Asked M Q) (hs : List (Tagged M Q)) → ByContents x.emission hs → MarksTold more q hs → EndOne (λ t. t.mail) (tagged_speech x) (asked_speech x more) q hs }
+    ensures one { (x : Speech M Q R) (more : M → Bool) → AreOne (λ t. t.mail) (λ p. p) (λ r. r) (tagged_speech x) (asked_speech x more) }
+    ensures plans { (x : Speech M Q R) (more : M → Bool) (q : Asked M Q) (hs : List (Tagged M Q)) → ByContents x.emission hs → PlanOne (λ t. t.mail) (λ p. p) (λ r. r) (tagged_speech x) (asked_speech x more) q hs }
+    ensures ends { (x : Speech M Q R) (more : M → Bool) (q : Asked M Q) (hs : List (Tagged M Q)) → ByContents x.emission hs → MarksTold more q hs → EndOne (λ t. t.mail) (λ p. p) (λ r. r) (tagged_speech x) (asked_speech x more) q hs }
 {}

@@ -65,7 +65,7 @@ module _ (plan : Scenario) (fs : List Exchanged) where
           let lives = by_stand m.life.stand (ap (λ (l : Life Body Asked Reply). l.stand) life_is ∙ e) i.lived.now in
           record {
             from = i.lived.from;
-            lawful = subst (λ (w : Behind Serving (InState Server) (InState (Station Core)) Asked Reply). IsLawful w.exchange) x.is.services i.whole.lawful;
+            lawful = subst (λ (w : Behind Serving (InState Server) (InState (Station Core)) Asked Reply). IsLawful w.exchange) x.is.services led.lawful;
             stated = subst (λ (w : Behind Serving (InState Server) (InState (Station Core)) Asked Reply). IsStated w.exchange w.states) x.is.services i.whole.stated;
             alike = subst (λ (w : Behind Serving (InState Server) (InState (Station Core)) Asked Reply). Alike is_service (speech_at (lens_of plan.slaves) a.lived.spot) w.exchange.speech) x.is.services
                 (subst (λ (y : Speech Body Asked Reply). Alike is_service y m.services.exchange.speech) speech_is led.alike);

@@ -66,7 +66,7 @@ wish_is room script n _ _ (Comes.mails s q at asked) = asked_is room s q asked
 wish_is room script n _ _ (Comes.state target at) = tt
 wish_is room script n _ _ (Comes.packet octets frame) = refl
 
-boots_is : (boot : Bool) (room : ℕ) (script : List Plan.Service) (n : ℕ) (b : Option (Service Asked)) (k : ℕ) → All (Boots boot) script → Comes room script n b k → BeginBoots boot b
+pub boots_is : (boot : Bool) (room : ℕ) (script : List Plan.Service) (n : ℕ) (b : Option (Service Asked)) (k : ℕ) → All (Boots boot) script → Comes room script n b k → BeginBoots boot b
 boots_is boot room script n _ _ all Comes.none = tt
 boots_is boot room script n _ _ all (Comes.mails s q at asked) = tt
 boots_is boot room script n _ _ all (Comes.state target at) = all_at (Boots boot) script n (Plan.Service.State target) all at

@@ -1,2 +1,2 @@
 mod Calms
-mod Gifts
+pub mod Gifts

@@ -18,7 +18,7 @@ use Rattle.script_runs.specs.of_master_hand.Spoken.{Asked, hand_speech, is_follo
 use Rattle.plan_ring.specs.of_named_lives.Alike.{RowIs}
 use Rattle.plan_ring.proofs.of_named_lives.Alike as Alike
 use Rattle.plan_ring.specs.Asked.{is_service}
-use Rattle.plan_ring.specs.Master.{speech_of, IsLed, AllLed}
+use Rattle.plan_ring.specs.Master.{speech_of, IsLed, AllLed, owed}
 use Rattle.plan_ring.specs.Plan.{PlanMember, FitsPlan, step, first_app}
 use Rattle.script_runs.specs.of_segment_model.Laws.{WantsNothing, NothingInHand}
 use Rattle.script_runs.specs.of_segment_model.Record.{Frame}
@@ -86,8 +86,8 @@ module _ (plan : Scenario) (fs : List Exchanged) where
         let next : is_settled m.services.running.next m.node ≡ true = ap (λ (w : Behind Serving (InState Server) (InState (Station Core)) Asked Reply). is_settled w.running.next m.node) x.is.services ∙ settled in
         record {
           from = i.lived.from;
-          past = past_kept m.services m.clearing m.plan m.spot i.whole is_followed gs m.first m.life.past i.lived.from i.lived.past;
-          newest = lived_rests m.services m.clearing m.plan m.spot i.whole is_followed gs i.lived.from m.life.era m.node now.lives.epoch next wants hand;
+          past = past_kept m.services m.clearing m.plan m.spot (owed m i.whole led) is_followed gs m.first m.life.past i.lived.from i.lived.past;
+          newest = lived_rests m.services m.clearing m.plan m.spot (owed m i.whole led) is_followed gs i.lived.from m.life.era m.node now.lives.epoch next wants hand;
         }
 
     one_done : IsDone plan fs place s a m.node
@@ -98,7 +98,7 @@ module _ (plan : Scenario) (fs : List Exchanged) where
         let by_first = subst (λ first. Left (services_of plan s) real_clearing (spot_of place s) first m.life gs m.node) x.is.first by_spot in
         let by_life = subst (λ (l : Life Body Asked Reply). Left (services_of plan s) real_clearing (spot_of place s) (first_app s) l gs m.node) (sym life_is) by_first in
         let script = script_for place plan.services in
-        let served = one_served plan fs place s m a i x come in
+        let served = one_served plan fs place s m a i led x come in
         let whole : take a.number script ≡ script = ap (λ (k : ℕ). take k script) (idle.script ∙ ap length x.script) ∙ take-length script in
         record {
           all = subst (λ ss. AreThose s.out_len ss (filter (λ q. not (is_packet q)) (life_started a.lived.life))) whole served.firsts.those;

@@ -20,6 +20,7 @@ use Rattle.master_hand.specs.Spoken.{Asked, sdo, file, drive, net, passed}
 use Rattle.packets_heard.specs.Heard.{Joined, Times, IsJoined, joined_in, mails_by, times_behind, times_on, times_none, times_in}
 use Rattle.plan_ring.specs.Asked.{asked, service_of}
 use Rattle.plan_ring.specs.Lives.{IsKnown, IsShown, AllShown, AreLived}
+use Rattle.plan_ring.specs.Master as Master
 use Rattle.plan_ring.specs.Plan.{PlanMember, FitsPlan, step}
 use Rattle.plan_ring.specs.Round.{AllRound, WentRound, behind, ring_of, ring_after, frame_seen, all_seen}
 use Rattle.segment_model.specs.Record.{Frame}
@@ -93,33 +94,33 @@ module _ (weigh : List ℕ → ℕ) (plan : Scenario) (laws : Laws weigh) (is : 
   abbrev LiveSo : List (Frame Body) → SlaveSpec → Leads → Type 0
   LiveSo gs s a = a.lived.life.stand ≡ Stand.Open → IsLive weigh (most_of s) a.lived.spot gs a.lived.life
 
-  one_live : (gs : List (Frame Body)) (place : ℕ) (s : SlaveSpec) (m : PlanMember) (a : Leads) → IsSlave s → length s.mac ≡ 6 → IsShown plan place s m a → MemberIs lens step (FitsPlan plan.slaves) gs place m → LiveSo gs s a
-  one_live gs place s m a slave mac shown i open_ =
+  one_live : (gs : List (Frame Body)) (place : ℕ) (s : SlaveSpec) (m : PlanMember) (a : Leads) → IsSlave s → length s.mac ≡ 6 → IsShown plan place s m a → MemberIs lens step (FitsPlan plan.slaves) gs place m → Master.IsLed m → LiveSo gs s a
+  one_live gs place s m a slave mac shown i led open_ =
       let profile : IsProfile (profile_of s) = record { out_least = slave.out_least; out_most = slave.out_most; back_least = slave.in_least; back_most = slave.in_most; mac = mac } in
       let so : SendSo weigh (profile_of s) m.services = subst (λ w. SendSo weigh (profile_of s) w) (sym shown.is.services) (sends_so weigh (profile_of s) s.boot lens (laws.emit (profile_of s) profile)) in
       let life : m.life ≡ a.lived.life = ap (λ x. x.life) shown.lived in
       let spot : m.spot ≡ a.lived.spot = ap (λ x. x.spot) shown.lived in
-      let here = live weigh (profile_of s) slave.in_least laws.joins m.services so m.clearing m.plan m.spot m.first m.life gs m.node i.whole i.lived (ap (λ (l : Life Body Asked Reply). l.stand) life ∙ open_) in
+      let here = live weigh (profile_of s) slave.in_least laws.joins m.services so m.clearing m.plan m.spot m.first m.life gs m.node (Master.owed m i.whole led) i.lived (ap (λ (l : Life Body Asked Reply). l.stand) life ∙ open_) in
       subst (λ (p : Spot). IsLive weigh (most_of s) p gs a.lived.life) spot (subst (λ (l : Life Body Asked Reply). IsLive weigh (most_of s) m.spot gs l) life here)
 
   abbrev AllLive : List (Frame Body) → List SlaveSpec → List Leads → Type 0
   AllLive gs ss as' = AllBoth (λ s a. LiveSo gs s a) ss as'
 
-  all_live : (gs : List (Frame Body)) (place : ℕ) (ss : List SlaveSpec) (ms : List PlanMember) (as' : List Leads) → All (λ (s : SlaveSpec). IsSlave s) ss → All (λ (s : SlaveSpec). length s.mac ≡ 6) ss → AllShown plan place ss ms as' → AllLived lens step (FitsPlan plan.slaves) gs place ms → AllLive gs ss as'
-  all_live gs place [] [] [] slaves macs shown i = tt
-  all_live gs place [] [] (a ∷ as') slaves macs shown i = absurd shown
-  all_live gs place [] (m ∷ ms) as' slaves macs shown i = absurd shown
-  all_live gs place (s ∷ ss) [] as' slaves macs shown i = absurd shown
-  all_live gs place (s ∷ ss) (m ∷ ms) [] slaves macs shown i = absurd shown
-  all_live gs place (s ∷ ss) (m ∷ ms) (a ∷ as') slaves macs shown i = (
-    one_live gs place s m a (All-head (λ (s : SlaveSpec). IsSlave s) s ss slaves) (All-head (λ (s : SlaveSpec). length s.mac ≡ 6) s ss macs) shown.0 i.0,
-    all_live gs (suc place) ss ms as' (All-tail (λ (s : SlaveSpec). IsSlave s) s ss slaves) (All-tail (λ (s : SlaveSpec). length s.mac ≡ 6) s ss macs) shown.1 i.1,
+  all_live : (gs : List (Frame Body)) (place : ℕ) (ss : List SlaveSpec) (ms : List PlanMember) (as' : List Leads) → All (λ (s : SlaveSpec). IsSlave s) ss → All (λ (s : SlaveSpec). length s.mac ≡ 6) ss → AllShown plan place ss ms as' → AllLived lens step (FitsPlan plan.slaves) gs place ms → Master.AllLed ms → AllLive gs ss as'
+  all_live gs place [] [] [] slaves macs shown i led = tt
+  all_live gs place [] [] (a ∷ as') slaves macs shown i led = absurd shown
+  all_live gs place [] (m ∷ ms) as' slaves macs shown i led = absurd shown
+  all_live gs place (s ∷ ss) [] as' slaves macs shown i led = absurd shown
+  all_live gs place (s ∷ ss) (m ∷ ms) [] slaves macs shown i led = absurd shown
+  all_live gs place (s ∷ ss) (m ∷ ms) (a ∷ as') slaves macs shown i led = (
+    one_live gs place s m a (All-head (λ (s : SlaveSpec). IsSlave s) s ss slaves) (All-head (λ (s : SlaveSpec). length s.mac ≡ 6) s ss macs) shown.0 i.0 led.0,
+    all_live gs (suc place) ss ms as' (All-tail (λ (s : SlaveSpec). IsSlave s) s ss slaves) (All-tail (λ (s : SlaveSpec). length s.mac ≡ 6) s ss macs) shown.1 i.1 led.1,
   )
 
   live_at : (fs : List Exchanged) (missed : ℕ) (as' : List Leads) → IsLed lens plan.recover plan.retry (first_leads plan) fs missed as' → AllRound (ring_of plan) fs → AllLive (all_seen lens fs) plan.slaves as'
   live_at fs missed as' led round =
       let x = lives fs missed as' led round in
-      all_live (all_seen lens fs) 0 plan.slaves x.members as' is.laid.slaves known.macs x.shown x.lives.each
+      all_live (all_seen lens fs) 0 plan.slaves x.members as' is.laid.slaves known.macs x.shown x.lives.each x.led
 
   -- ---- each slave's times
   abbrev AllTrack : List (Frame Body) → List SlaveSpec → List Leads → List Times → Type 0

@@ -31,7 +31,7 @@ use Rattle.state_exchange.specs.Stated.{Service, acts, mails, with_states}
 use Rattle.state_exchange.proofs.Acts.{mails_acts, mails_append}
 use Rattle.state_model.specs.States.{Table}
 use Rattle.task_model.specs.Promise.{services_in}
-use Rattle.whole_lives.specs.Whole.{IsWhole, IsLived}
+use Rattle.whole_lives.specs.Whole.{OwesLaws, IsLived}
 use Rattle.whole_lives.proofs.Promised.{promised}
 use Rattle.sent_packets.proofs.Live.{IsLive}
 
@@ -94,10 +94,10 @@ module _ (weigh : List ℕ → ℕ) (p : Profile) (wide : 64 ≤ p.back) (joins 
       omega (arith, joined, s.few)
 
   -- AN OPEN SLAVE
-  pub live : (c : Clearing (InState Server) (InState (Station Core))) (plan : Plan) (spot : Spot) (first : InState (Station Core)) (l : Life Body Asked Reply) (gs : List (Frame Body)) (n : Node Serving) → IsWhole w c plan spot → IsLived w c plan spot first l gs n → l.stand ≡ Stand.Open →
+  pub live : (c : Clearing (InState Server) (InState (Station Core))) (plan : Plan) (spot : Spot) (first : InState (Station Core)) (l : Life Body Asked Reply) (gs : List (Frame Body)) (n : Node Serving) → OwesLaws w c plan spot → IsLived w c plan spot first l gs n → l.stand ≡ Stand.Open →
       IsLive weigh most spot gs l
-  live c plan spot first l gs n whole lived stand =
-      let x = promised w c plan spot first l gs n whole lived stand in
+  live c plan spot first l gs n owes lived stand =
+      let x = promised w c plan spot first l gs n owes lived stand in
       let k = x.epoch in
       let t = x.promised (λ m. false) in
       let may = so.begins k.server k.is.plan.plan.ready.0 in

@@ -42,7 +42,7 @@ life_paid p owes first l is unopened =
     let stated = calm_stated (product_whole parts p) (states_of {V = Server} {A = Server} acknowledged) is_calm is_fair (λ state v. refl) owes.stated in
     let keeps = keeps_all p is.clearing is.clears owes.counted in
     let opened = unopened_seen (λ t. t.mail) named_wanted (λ r. r) is.life (subst AreUnopened (sym is.seen) unopened) in
-    let few = worked_gains (session p) owes.lawful (session_states p) stated is.processor is.table is.spot is.frames is.clearing shape_at (counts p) keeps first is.life is.worked opened in
+    let few = worked_gains (session p) owes.lawful (session_states p) stated is.processor is.table is.spot is.clearing shape_at (counts p) keeps first is.life is.worked opened in
     subst (λ k. gains k ≤ 1 + life_most (serving_most p (shape_at first)) k) is.seen
     (omega (
       arith,

@@ -5,7 +5,6 @@ use Rattle.life_model.specs.Lives.{Spot, Life}
 use Rattle.link_mails.specs.Body.{Body}
 use Rattle.master_duty.specs.Reply as Master
 use Rattle.master_hand.specs.Spoken as Spoken
-use Rattle.segment_model.specs.Record.{Frame}
 use Rattle.segment_model.specs.Slaves.{Processor}
 use Rattle.segment_plan.specs.declared.slave.SlaveSpec.{SlaveSpec}
 use Rattle.served_runs.specs.Served.{Serves}
@@ -28,9 +27,8 @@ pub record IsServedLife (p : Profile) (first : InState Server) (l : Life Body Sp
   pub processor : Processor InRow
   pub table : ℕ → Table
   pub spot : Spot
-  pub frames : List (Frame Meant)
   pub life : Life Meant Wanted (Option Reply)
-  pub worked : IsWorked (session p) (session_states p) processor table spot frames clearing first life
+  pub worked : IsWorked (session p) (session_states p) processor table spot clearing first life
   pub seen : life_seen (λ t. t.mail) named_wanted (λ r. r) life ≡ l
 
 -- the server of a plan's slave as it is switched on

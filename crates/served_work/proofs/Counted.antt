@@ -56,7 +56,7 @@ some_is : {X : Type 0} {x y : X} → Some x ≡ Some y → x ≡ y
 some_is e = cc
 
 -- no service of a script is a mail that is passed on
-abbrev passes : Option Asked → Bool
+abbrev pub passes : Option Asked → Bool
 passes None = false
 passes (Some q) = is_passed q
 
@@ -64,7 +64,7 @@ set_passes : (b : Bool) (block : List ℕ) → passes (if b then None else Some 
 set_passes true block = refl
 set_passes false block = refl
 
-none_passes : (room : ℕ) (t : Plan.Service) → passes (asked_of room t) ≡ false
+pub none_passes : (room : ℕ) (t : Plan.Service) → passes (asked_of room t) ≡ false
 none_passes room (Plan.Service.Sdo service) = refl
 none_passes room (Plan.Service.ReadFile name pass) = refl
 none_passes room (Plan.Service.WriteFile name pass bytes) = refl

@@ -13,7 +13,7 @@ ghost use Rattle.whole_lives.specs.of_slave_lives.Opening.{Plan, IsPlan};
 ghost use Rattle.slave_parts.specs.of_slave_model.Profile.{Profile, IsProfile};
 ghost use Rattle.slave_parts.specs.of_slave_model.Application.{station_valid};
 ghost use Rattle.slave_parts.specs.Parts.{Core, parts};
-ghost use Rattle.whole_lives.specs.Whole.{IsWhole};
+ghost use Rattle.whole_lives.specs.Whole.{OwesLaws};
 ghost use Rattle.slave_server.specs.Serving.{Serving, fresh};
 ghost use Rattle.whole_lives.specs.of_slave_steps.Node.{Node};
 ghost use Rattle.server_lives.specs.Real.{running_as, real, real_clearing, StepsAs};
@@ -29,7 +29,7 @@ pub fn real_server_law()
 
 /// So a life is lived by the node of a slave of a plan, whose profile is one that the laws of its protocols speak of.
 pub fn real_whole_law()
-    ensures { (p : Profile) → IsProfile p → (boot : Bool) (lens : ℕ → Lens) (plan : Plan) (spot : Spot) → IsPlan boot lens plan → plan.station ≡ spot.station → plan.start ≡ spot.start → IsWhole (real p boot lens) real_clearing plan spot }
+    ensures { (p : Profile) → IsProfile p → (boot : Bool) (lens : ℕ → Lens) (plan : Plan) (spot : Spot) → IsPlan boot lens plan → plan.station ≡ spot.station → plan.start ≡ spot.start → OwesLaws (real p boot lens) real_clearing plan spot }
 {
     slave_parts::slave_is_lawful();
     real_server_law();

@@ -26,7 +26,7 @@ use Rattle.steps_shown.specs.Shown.{StandsFor}
 use Rattle.steps_shown.proofs.Standing.{access_shows}
 use Rattle.task_model.specs.Accounts.{Pick}
 use Rattle.whole_lives.specs.Turns.{FrameComes, era_before}
-use Rattle.whole_lives.specs.Whole.{IsWhole, OpensAs, plan_to}
+use Rattle.whole_lives.specs.Whole.{IsWhole, OpensAs, OpensBy, plan_to}
 use Rattle.slave_clocks.specs.Stands.{Asked, CameFirst}
 use Rattle.slave_clocks.proofs.Halves.{half_same, sent_so, own_here, grams_same, mine_is, back_mine}
 
@@ -36,9 +36,9 @@ module _ {S V A Q R : Type 0} (w : Behind S V A Q R) (p : Plan) (spot : Spot) (f
   closed_shows stepped cl s done found k a now = access_shows w.running w.boot w.lens (plan_to p o.state) cl.plan o cl.state t.node k.access done found cl.closed a k.back.back k.first (s.shows a now)
 
   pub opening_answers : (stepped : Bool) → OpensAs w p spot from e fs o t.node → StandsFor stepped o t.node.registers → (came : Option (Bool × Option Found)) → ((done : Bool) (found : Option Found) → came ≡ Some (done, found) → CameFirst w p o t done found) → OpeningAnswers stepped o came
-  opening_answers stepped (OpensAs.yet again step plan l) s came first done found is a now = absurd (let no : true ≡ false = sym a ∙ ap₂ awaits_at again step in cc)
-  opening_answers stepped (OpensAs.anew cl x start) s came first done found is a now = closed_shows stepped cl s done found (first done found is) a now
-  opening_answers stepped (OpensAs.over cl again early x) s came first done found is a now = closed_shows stepped cl s done found (first done found is) a now
+  opening_answers stepped (OpensBy.yet again step plan l) s came first done found is a now = absurd (let no : true ≡ false = sym a ∙ ap₂ awaits_at again step in cc)
+  opening_answers stepped (OpensBy.anew cl x start) s came first done found is a now = closed_shows stepped cl s done found (first done found is) a now
+  opening_answers stepped (OpensBy.over cl again early x) s came first done found is a now = closed_shows stepped cl s done found (first done found is) a now
 
 -- ---- the inward half
 none_clear : (b bit : Bool) (ds : List (Datagram Body)) → EachAnswers b InState.Clear bit ds

@@ -28,7 +28,7 @@ use Rattle.steps_shown.specs.Shown.{StandsFor}
 use Rattle.steps_shown.proofs.Going.{stays_on, goes_on, step_on}
 use Rattle.steps_shown.proofs.Standing.{watch_stands}
 use Rattle.whole_lives.specs.Turns.{FrameComes, Came}
-use Rattle.whole_lives.specs.Whole.{IsWhole, LivesStill, OpensAs, plan_to}
+use Rattle.whole_lives.specs.Whole.{IsWhole, LivesStill, OpensAs, OpensBy, plan_to}
 use Rattle.whole_lives.proofs.Kept.{met_boot}
 use Rattle.slave_clocks.proofs.Ways.{clock_out}
 
@@ -70,9 +70,9 @@ module _ {S V A Q R : Type 0} (w : Behind S V A Q R) (c : Clearing V A) (p : Pla
         (stays_on w.running w.boot w.lens (plan_to p o.state) o t (closed_frame cl) before s)
 
     pub stays : (from : A) (e : Era Body Q R) → OpensAs w p spot from e fs o t.node → StandsFor before o t.node.registers → StandsFor (stepped_behind t.pace t.ring.number same before) o (node_behind w.running t).registers
-    stays from e (OpensAs.yet again step plan l) s = nothing_awaited o (stepped_behind t.pace t.ring.number same before) (node_behind w.running t).registers (ap₂ awaits_at again step)
-    stays from e (OpensAs.anew cl x start) s = closed_stays cl s
-    stays from e (OpensAs.over cl again early x) s = closed_stays cl s
+    stays from e (OpensBy.yet again step plan l) s = nothing_awaited o (stepped_behind t.pace t.ring.number same before) (node_behind w.running t).registers (ap₂ awaits_at again step)
+    stays from e (OpensBy.anew cl x start) s = closed_stays cl s
+    stays from e (OpensBy.over cl again early x) s = closed_stays cl s
 
   -- ---- THE NEXT ONE
   abbrev next : Opening
@@ -122,6 +122,6 @@ module _ {S V A Q R : Type 0} (w : Behind S V A Q R) (c : Clearing V A) (p : Pla
       closed_goes cl = goes_on w.running w.boot w.lens (plan_to p o.state) o t (closed_frame cl) k.access came.0 came.1 k.back clear ends
 
       pub goes : (from : A) (e : Era Body Q R) → OpensAs w p spot from e fs o t.node → StandsFor (stepped_behind t.pace t.ring.number same before) next (node_behind w.running t).registers
-      goes from e (OpensAs.yet again step plan l) = in_pace (yet_goes from e again step plan l)
-      goes from e (OpensAs.anew cl x start) = in_pace (closed_goes cl)
-      goes from e (OpensAs.over cl again early x) = in_pace (closed_goes cl)
+      goes from e (OpensBy.yet again step plan l) = in_pace (yet_goes from e again step plan l)
+      goes from e (OpensBy.anew cl x start) = in_pace (closed_goes cl)
+      goes from e (OpensBy.over cl again early x) = in_pace (closed_goes cl)

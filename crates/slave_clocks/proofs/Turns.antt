@@ -16,7 +16,7 @@ use Rattle.slave_lives.specs.Opening.{Plan}
 use Rattle.steps_shown.specs.Shown.{StandsFor}
 use Rattle.task_model.specs.Accounts.{Pick}
 use Rattle.whole_lives.specs.Turns.{FrameComes, TurnsAs, CameAs, Came, life_by}
-use Rattle.whole_lives.specs.Whole.{IsWhole, IsLived, OpensAs, StandsAs}
+use Rattle.whole_lives.specs.Whole.{IsWhole, IsLived, OpensAs, OpensBy, StandsAs}
 use Rattle.slave_clocks.specs.Stands.{StandsTo}
 use Rattle.slave_clocks.proofs.Opened.{nothing_awaited, stays, goes}
 use Rattle.slave_clocks.proofs.Opens.{open_turns}
@@ -58,9 +58,9 @@ module _ {S V A Q R : Type 0} (w : Behind S V A Q R) (c : Clearing V A) (p : Pla
     early again (inr two) = ap₂ (λ (b : Bool) (n : ℕ). n == (if b then 9 else 5)) again two
 
     new_half : (o.step == last_step o) ≡ true → OpensAs w p spot i.from l.era fs o t.node → l.era.side.halves.inn.state ≡ InState.Clear
-    new_half ends (OpensAs.yet again step plan x) = absurd (let no : true ≡ false = sym ends ∙ early again (inl step) in cc)
-    new_half ends (OpensAs.anew cl x start) = ap (λ (y : Era Body Q R). y.side.halves.inn.state) x.is_new
-    new_half ends (OpensAs.over cl again soon x) = absurd (let no : true ≡ false = sym ends ∙ early again soon in cc)
+    new_half ends (OpensBy.yet again step plan x) = absurd (let no : true ≡ false = sym ends ∙ early again (inl step) in cc)
+    new_half ends (OpensBy.anew cl x start) = ap (λ (y : Era Body Q R). y.side.halves.inn.state) x.is_new
+    new_half ends (OpensBy.over cl again soon x) = absurd (let no : true ≡ false = sym ends ∙ early again soon in cc)
 
     opened : (o.step == last_step o) ≡ true → Clocked (opens (length fs) l)
     opened ends = record {

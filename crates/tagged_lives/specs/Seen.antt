@@ -1,11 +1,9 @@
 -- A LIFE AS ANOTHER SEES IT, who has other forms of its mails, other names of its services and other forms of their replies: as a master sees one in
 -- which mails have tags.
-use Rattle.std.specs.Prelude.{option_map, map}
-use Rattle.exchange_model.specs.Rows.{Row}
+use Rattle.std.specs.Prelude.{map}
 use Rattle.life_model.specs.Lives.{Era, Life}
-use Rattle.passed_model.specs.Erased.{halves_as}
+use Rattle.passed_model.specs.Erased.{side_seen}
 use Rattle.segment_model.specs.Ends.{Outcome}
-use Rattle.segment_model.specs.Seats.{Side}
 use Rattle.state_exchange.specs.Stated.{Service}
 use Rattle.task_model.specs.Accounts.{Account, Change, Started}
 
@@ -22,14 +20,6 @@ outcome_seen h Outcome.Reached = Outcome.Reached
 outcome_seen h (Outcome.Refused code) = Outcome.Refused code
 
 module _ {N M P Q S R : Type 0} (f : N → M) (g : P → Q) (h : S → R) where
-  -- a row
-  abbrev pub row_seen : Row N P S → Row M Q R
-  row_seen r = record { service = g r.service; frame = r.frame; told = map f r.told; heard = map f r.heard; answer = option_map (λ a. (h a.0, a.1)) r.answer }
-
-  -- a side
-  abbrev pub side_seen : Side N P S → Side M Q R
-  side_seen d = record { halves = halves_as f d.halves; fresh = d.fresh; past = map row_seen d.past; now = option_map row_seen d.now }
-
   -- a service that came into hand
   abbrev pub started_seen : Started P → Started Q
   started_seen s = record { service = service_seen g s.service; frame = s.frame }
@@ -44,7 +34,7 @@ module _ {N M P Q S R : Type 0} (f : N → M) (g : P → Q) (h : S → R) where
 
   -- an epoch
   abbrev pub era_seen : Era N P S → Era M Q R
-  era_seen e = record { cleared = e.cleared; opened = e.opened; side = side_seen e.side; account = account_seen e.account; passing = e.passing }
+  era_seen e = record { cleared = e.cleared; opened = e.opened; side = side_seen f g h e.side; account = account_seen e.account; passing = e.passing }
 
   -- A LIFE
   abbrev pub life_seen : Life N P S → Life M Q R

@@ -2,14 +2,13 @@
 //! running code: the functions here do nothing, and their contracts state the laws.
 #![tactic(auto)]
 
-ghost use Rattle.std.specs.Prelude.{◌≡◌, ◌≤◌, ◌+◌, ℕ, Bool, List};
+ghost use Rattle.std.specs.Prelude.{◌≡◌, ◌≤◌, ◌+◌, ℕ, Bool};
 ghost use Rattle.exchange_model.specs.Exchange.{Exchange, IsLawful};
 ghost use Rattle.life_counts.specs.Begun.{life_most, AreUnopened};
 ghost use Rattle.life_measure.specs.Gains.{gains};
 ghost use Rattle.life_model.specs.Eras.{Clearing};
 ghost use Rattle.life_model.specs.Lives.{Spot, Life};
 ghost use Rattle.passed_counts.specs.Calm.{calm_tagged};
-ghost use Rattle.segment_model.specs.Record.{Frame};
 ghost use Rattle.segment_model.specs.Slaves.{Processor};
 ghost use Rattle.serving_model.specs.Tagged.{tagged};
 ghost use Rattle.serving_model.specs.TaggedStates.{tagged_states};
@@ -21,8 +20,8 @@ ghost use Rattle.tagged_lives.specs.Seen.{life_seen};
 /// WHAT A LIFE HAS GAINED whose epochs are sessions of an exchange is no more than what the services count that came into hand in all of them: whatever
 /// its mails are, so also where it is seen what is meant by each.
 pub fn worked_counts<V, A, M, Q, R, K>()
-    ensures { (x : Exchange V A M Q R) (s : Stated V A Q) (processor : Processor V) (table : ℕ → Table) (spot : Spot) (fs : List (Frame M)) (c : Clearing V A) (shape : A → K) (count : K → Q → ℕ) (first : A) (l : Life M Q R) →
-        IsLawful x → IsStated x s → KeepsAll x s c shape count → IsWorked x s processor table spot fs c first l → AreUnopened l → gains l ≤ 1 + life_most (count (shape first)) l }
+    ensures { (x : Exchange V A M Q R) (s : Stated V A Q) (processor : Processor V) (table : ℕ → Table) (spot : Spot) (c : Clearing V A) (shape : A → K) (count : K → Q → ℕ) (first : A) (l : Life M Q R) →
+        IsLawful x → IsStated x s → KeepsAll x s c shape count → IsWorked x s processor table spot c first l → AreUnopened l → gains l ≤ 1 + life_most (count (shape first)) l }
 {}
 
 /// AS ANOTHER SEES IT, with other forms of its mails and other names of its services, a life has gained just as much; and its services count as much where

@@ -13,12 +13,12 @@ use Rattle.slave_lives.proofs.of_life_model.Eras.{session_of, of_one}
 use Rattle.slave_lives.specs.Lived.{Behind, table_of, node_seen}
 use Rattle.slave_lives.specs.Opening.{Plan}
 use Rattle.whole_lives.specs.Promises.{IsPromised}
-use Rattle.whole_lives.specs.Whole.{IsWhole, LivesOpen, StandsAs, IsLived}
+use Rattle.whole_lives.specs.Whole.{OwesLaws, LivesOpen, StandsAs, IsLived}
 use Rattle.whole_lives.proofs.Open.{steady_of}
 
-pub promised : {S V A Q R : Type 0} (w : Behind S V A Q R) (c : Clearing V A) (p : Plan) (spot : Spot) (first : A) (l : Life Body Q R) (fs : List (Frame Body)) (n : Node S) → IsWhole w c p spot → (i : IsLived w c p spot first l fs n) → l.stand ≡ Stand.Open →
+pub promised : {S V A Q R : Type 0} (w : Behind S V A Q R) (c : Clearing V A) (p : Plan) (spot : Spot) (first : A) (l : Life Body Q R) (fs : List (Frame Body)) (n : Node S) → OwesLaws w c p spot → (i : IsLived w c p spot first l fs n) → l.stand ≡ Stand.Open →
     IsPromised w spot i.from l.era fs n
-promised {V = V} {A = A} {Q = Q} {R = R} w c p spot first l fs n whole i stand = of (subst (λ (st : Stand). StandsAs w p spot i.from l.era fs st n) stand i.now)
+promised {V = V} {A = A} {Q = Q} {R = R} w c p spot first l fs n owes i stand = of (subst (λ (st : Stand). StandsAs w p spot i.from l.era fs st n) stand i.now)
   where
     of : LivesOpen w spot i.from l.era fs n → IsPromised w spot i.from l.era fs n
     of now =
@@ -36,8 +36,8 @@ promised {V = V} {A = A} {Q = Q} {R = R} w c p spot first l fs n whole i stand =
           server = k.server;
           registers = k.registers;
           slave = node_seen w n;
-          lawful = whole.lawful;
-          stated = whole.stated;
+          lawful = owes.lawful;
+          stated = owes.whole.stated;
           is = k.is;
         } in
         let q = session_of o in
@@ -58,5 +58,5 @@ promised {V = V} {A = A} {Q = Q} {R = R} w c p spot first l fs n whole i stand =
               (tasks_ended q.exchange q.lawful q.states q.stated q.processor q.table more q.planned.tells q.plan q.planned q.sides q.accounts q.ring q.frames q.tasked);
           rests = λ more. of_one o (λ station start d a s. TasksRestIf w.exchange w.states (table_of w station) more gs station start d a s)
               (tasks_rest q.exchange q.lawful q.states q.stated q.processor q.table more q.planned.tells q.plan q.planned q.sides q.accounts q.ring q.frames q.tasked);
-          steady = steady_of w c p spot whole i.from l.era fs n k now.over now.hand;
+          steady = steady_of w c p spot owes.whole i.from l.era fs n k now.over now.hand;
         }

@@ -13,7 +13,9 @@ use Rattle.slave_lives.specs.of_segment_ring.Ring.{is_in_pace}
 use Rattle.slave_lives.specs.of_slave_steps.Node.{Node}
 use Rattle.slave_lives.specs.of_life_model.Eras.{Clearing}
 use Rattle.slave_lives.specs.of_life_model.Lives.{Spot, Era, Stand}
-use Rattle.slave_lives.specs.Lived.{Behind, RingFrame, node_met}
+use Rattle.slave_lives.specs.of_task_model.Steady.{IsSteady}
+use Rattle.slave_lives.specs.Ends.{LeftEra}
+use Rattle.slave_lives.specs.Lived.{Behind, LivesEra, RingFrame, node_met, node_seen}
 use Rattle.slave_lives.specs.Nodes.{IsRoomy}
 use Rattle.slave_lives.specs.Opening.{Plan}
 use Rattle.slave_lives.specs.Rings.{registers_of, come_to}
@@ -23,27 +25,32 @@ use Rattle.slave_lives.proofs.AllSeats as All
 use Rattle.slave_lives.proofs.Arrives as Arrived
 use Rattle.slave_lives.proofs.Words.{state_in}
 use Rattle.whole_lives.specs.Turns.{FrameComes, plan_at, seat_at}
-use Rattle.whole_lives.specs.Whole.{IsWhole, LivesStill, OpensAs, StandsAs, plan_to}
+use Rattle.whole_lives.specs.Whole.{IsWhole, Living, Leaving, OpensBy, StandsBy, StandsAs, plan_to}
 
 module _ {S V A Q R : Type 0} (w : Behind S V A Q R) (c : Clearing V A) (p : Plan) (spot : Spot) (whole : IsWhole w c p spot) where
-  up_still : (state : ℕ) (from : A) (e : Era Body Q R) (fs : List (Frame Body)) (n : Node S) → LivesStill w spot from e fs n → OpenUp w.lens (plan_to p state) n.registers
-  up_still state from e fs n l =
-      let shows = l.lives.epoch.runs.shows in
+  up_still : (state : ℕ) (from : A) (e : Era Body Q R) (fs : List (Frame Body)) (n : Node S) → LivesEra w spot from e fs n → IsSteady (node_seen w n) → OpenUp w.lens (plan_to p state) n.registers
+  up_still state from e fs n l steady =
+      let shows = l.runs.shows in
       record {
-        opens = l.lives.epoch.opens;
-        station = l.lives.epoch.station ∙ sym whole.station;
+        opens = l.opens;
+        station = l.station ∙ sym whole.station;
         state = ap is_state (ap (λ (x : ℕ). bits_of x 0 4) shows.status ∙ state_in n.al shows.state) ∙ shows.state;
-        up = ne_eqb (registers_seen n.registers).state 1 l.steady.state;
+        up = ne_eqb (registers_seen n.registers).state 1 steady.state;
       }
 
+  -- of any family of epochs
+  pub known_by : (E Y : Living S A Q R) (L : Leaving S A Q R) (from : A) (e : Era Body Q R) (fs : List (Frame Body)) (stand : Stand) (n : Node S) → (E from e fs n → LivesEra w spot from e fs n) → (Y from e fs n → LivesEra w spot from e fs n) →
+      StandsBy w E Y L p spot from e fs stand n → KnownAs w.running w.boot w.lens (plan_at p stand) stand n
+  known_by E Y L from e fs (Stand.Opens o) n session still (OpensBy.yet again step plan l) = inr (record { again = again; step = step; up = up_still o.state from e fs n (still l.lives.epoch) l.steady })
+  known_by E Y L from e fs (Stand.Opens o) n session still (OpensBy.anew cl x first) = inl cl.closed
+  known_by E Y L from e fs (Stand.Opens o) n session still (OpensBy.over cl again early x) = inl cl.closed
+  known_by E Y L from e fs Stand.Open n session still now = let l = session now.lives.epoch in (l.opens, l.station ∙ sym whole.station)
+  known_by E Y L from e fs Stand.Gone n session still (OpensBy.yet again step plan l) = inr ((still l.lives.epoch).station ∙ sym whole.station)
+  known_by E Y L from e fs Stand.Gone n session still (OpensBy.anew cl x first) = Arrived.called_is w.running w.boot w.lens (plan_to p spot.start) cl.plan _ n cl.closed
+  known_by E Y L from e fs Stand.Gone n session still (OpensBy.over cl again early x) = Arrived.called_is w.running w.boot w.lens (plan_to p spot.start) cl.plan _ n cl.closed
+
   pub known : (from : A) (e : Era Body Q R) (fs : List (Frame Body)) (stand : Stand) (n : Node S) → StandsAs w p spot from e fs stand n → KnownAs w.running w.boot w.lens (plan_at p stand) stand n
-  known from e fs (Stand.Opens o) n (OpensAs.yet again step plan l) = inr (record { again = again; step = step; up = up_still o.state from e fs n l })
-  known from e fs (Stand.Opens o) n (OpensAs.anew cl x first) = inl cl.closed
-  known from e fs (Stand.Opens o) n (OpensAs.over cl again early x) = inl cl.closed
-  known from e fs Stand.Open n now = (now.lives.epoch.opens, now.lives.epoch.station ∙ sym whole.station)
-  known from e fs Stand.Gone n (OpensAs.yet again step plan l) = inr (l.lives.epoch.station ∙ sym whole.station)
-  known from e fs Stand.Gone n (OpensAs.anew cl x first) = Arrived.called_is w.running w.boot w.lens (plan_to p spot.start) cl.plan _ n cl.closed
-  known from e fs Stand.Gone n (OpensAs.over cl again early x) = Arrived.called_is w.running w.boot w.lens (plan_to p spot.start) cl.plan _ n cl.closed
+  known from e fs stand n now = known_by (LivesEra w spot) (LivesEra w spot) (LeftEra w spot) from e fs stand n (λ l. l) (λ l. l) now
 
 pub plan_station : (p : Plan) (stand : Stand) → (plan_at p stand).station ≡ p.station
 plan_station p (Stand.Opens o) = refl

@@ -20,16 +20,15 @@ use Rattle.slave_lives.specs.of_segment_ring.Ring.{is_in_pace}
 use Rattle.slave_lives.specs.of_life_model.Lives.{Spot, Era}
 use Rattle.slave_lives.specs.of_life_model.Own.{own}
 use Rattle.slave_lives.specs.Ends.{YetFrame}
-use Rattle.slave_lives.specs.Lived.{Behind, IsBehind, RingFrame, IsForOpen, fate_of, is_reached, node_met, node_behind, frame_of, octets_back, returned}
+use Rattle.slave_lives.specs.Lived.{Behind, IsBehind, RingFrame, IsForOpen, LivesEra, fate_of, is_reached, node_met, node_behind, frame_of, octets_back, returned}
 use Rattle.slave_lives.specs.Nodes.{IsRoomy}
 use Rattle.slave_lives.specs.Opening.{Plan, aim}
 use Rattle.slave_lives.specs.Rings.{registers_of, come_to, come_back, is_met_at}
 use Rattle.slave_lives.specs.Ways.{OneOnWay, AllNotFor, IsOnWay}
 use Rattle.slave_lives.proofs.Owned.{own_is}
-use Rattle.slave_lives.proofs.Quiets.{lives_yet}
 use Rattle.slave_lives.proofs.RingFrames.{met_runs}
 use Rattle.slave_lives.proofs.RingLives.{sent_is, back_is}
-use Rattle.whole_lives.specs.Whole.{LivesStill}
+use Rattle.whole_lives.specs.Whole.{Living, LivesStillBy}
 use Rattle.whole_lives.proofs.Kept.{met_none, none_alone, turned_with}
 use Rattle.whole_lives.proofs.Steady.{IsUp, carried_up, stays_up}
 
@@ -88,21 +87,23 @@ module _ {S V A Q R : Type 0} (w : Behind S V A Q R) (is : IsBehind w) (spot : S
   up_met : Nothing w spot t → IsUp (registers_seen t.node.registers) → IsUp (registers_seen (node_met t).registers)
   up_met q up = subst (λ r. IsUp (registers_seen r)) (sym (met_none (is_reached t) t.node (come_to t.before t.datagrams) q.none)) up
 
-  pub still_on : Nothing w spot t → LivesStill w spot from e fs t.node → LivesStill w spot from e (fs ++ frame_of w.lens t ∷ []) (node_behind w.running t)
-  still_on q l =
+  pub still_on : (Y : Living S A Q R) → (Y from e fs t.node → LivesEra w spot from e fs t.node) → (Y from e fs t.node → YetFrame w spot from e fs t → Y from e (fs ++ frame_of w.lens t ∷ []) (node_behind w.running t)) →
+      Nothing w spot t → LivesStillBy w from e Y fs t.node → LivesStillBy w from e Y (fs ++ frame_of w.lens t ∷ []) (node_behind w.running t)
+  still_on Y session yet q l =
       let was : IsUp (registers_seen t.node.registers) = record { state = l.steady.state; word = l.steady.word } in
       let up = up_met q was in
+      let era = session l.lives.epoch in
       let y : YetFrame w spot from e fs t = record {
         at = q.at;
-        lives = l.lives.epoch;
-        alone = λ reached. for_none q l.lives.epoch.station reached;
+        lives = era;
+        alone = λ reached. for_none q era.station reached;
         quiet = record { sent = sent_none q; back = back_none q; answered = l.lives.answered };
         steps = λ now. record { up = stays_up (node_met t).boot (node_met t).registers up; roomy = q.roomy now };
       } in
-      let runs = met_runs w.running (is_reached t) t.node (come_to t.before t.datagrams) l.lives.epoch.runs in
+      let runs = met_runs w.running (is_reached t) t.node (come_to t.before t.datagrams) era.runs in
       let behind : IsUp (registers_seen (node_behind w.running t).registers) = turned_with w.running is.clears t.pace t.ring.number (node_met t) runs q.roomy (λ k. IsUp (registers_seen k.registers)) up
       (λ on. subst IsUp (sym on.steps.registers) (carried_up (node_met t).boot (node_met t).registers up)) in
       record {
-        lives = record { epoch = lives_yet w is (λ m. false) (λ q. false) spot from e fs t y; answered = l.lives.answered };
+        lives = record { epoch = yet l.lives.epoch y; answered = l.lives.answered };
         steady = record { state = behind.state; word = behind.word };
       }

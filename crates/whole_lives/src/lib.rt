@@ -15,7 +15,7 @@ ghost use Rattle.slave_lives.specs.Lived.{Behind, RingFrame, node_met, node_behi
 ghost use Rattle.slave_lives.specs.Nodes.{IsRoomy};
 ghost use Rattle.slave_lives.specs.Seats.{Seat, KnownAs, ComesAs, AreDistinct, AllMeet, nodes_of};
 ghost use Rattle.slave_lives.specs.Opening.{Plan};
-ghost use Rattle.whole_lives.specs.Whole.{IsWhole, IsLived};
+ghost use Rattle.whole_lives.specs.Whole.{IsWhole, OwesLaws, IsLived};
 ghost use Rattle.whole_lives.specs.Turns.{FrameComes, TurnsAs, life_by, plan_at, seat_at};
 ghost use Rattle.whole_lives.specs.Promises.{IsPromised};
 
@@ -32,11 +32,11 @@ pub fn life_law<S, V, A, Q, R>()
 {}
 
 /// Of a life that is lived the epochs that are over are epochs of the model, one behind the other, up to the application with which the newest
-/// begins; and while the slave is open its epoch promises what an open epoch of the model does, of the node as it is seen.
+/// begins; and while the slave is open its epoch promises what an open epoch of the model does, of the node as it is seen, where its services owe the laws.
 pub fn open_epoch_law<S, V, A, Q, R>()
     ensures chain { (w : Behind S V A Q R) (c : Clearing V A) (p : Plan) (spot : Spot) (first : A) (l : Life Body Q R) (fs : List (Frame Body)) (n : Node S) → (i : IsLived w c p spot first l fs n) →
         Eras w.exchange w.states w.processor (table_of w) c.cleared spot fs first l.past i.from }
-    ensures promises { (w : Behind S V A Q R) (c : Clearing V A) (p : Plan) (spot : Spot) (first : A) (l : Life Body Q R) (fs : List (Frame Body)) (n : Node S) → IsWhole w c p spot → (i : IsLived w c p spot first l fs n) → l.stand ≡ Stand.Open →
+    ensures promises { (w : Behind S V A Q R) (c : Clearing V A) (p : Plan) (spot : Spot) (first : A) (l : Life Body Q R) (fs : List (Frame Body)) (n : Node S) → OwesLaws w c p spot → (i : IsLived w c p spot first l fs n) → l.stand ≡ Stand.Open →
         IsPromised w spot i.from l.era fs n }
 {}
 

@@ -32,9 +32,9 @@ use Rattle.whole_lives.proofs.of_slave_lives.RingFrames.{after_keeps, met_runs}
 use Rattle.whole_lives.proofs.of_slave_lives.RingLives.{sent_is, back_is}
 use Rattle.whole_lives.proofs.of_slave_lives.Servers.{step_holds}
 use Rattle.whole_lives.proofs.of_slave_lives.Ways as Way
-use Rattle.whole_lives.specs.Turns.{FrameComes, AsksFor, Came, CameAs, TurnsAs, era_before, era_behind, plan_at}
+use Rattle.whole_lives.specs.Turns.{FrameComes, CameAs, TurnsAs, era_before, era_behind, plan_at}
 use Rattle.whole_lives.specs.Turns as Whole
-use Rattle.whole_lives.specs.Whole.{IsWhole, OpensAs, StandsAs, IsLived, plan_to}
+use Rattle.whole_lives.specs.Whole.{IsWhole, OpensBy, StandsAs, IsLived, plan_to}
 use Rattle.whole_lives.proofs.Kept.{met_server, turned_with}
 use Rattle.whole_lives.proofs.Seated.{known}
 use Rattle.whole_lives.proofs.Turning.{turns}
@@ -70,9 +70,9 @@ came_none false at = refl
 
 -- the plan of the opening in hand is one
 pub plan_known : {S V A Q R : Type 0} (w : Behind S V A Q R) (c : Clearing V A) (p : Plan) (spot : Spot) (whole : IsWhole w c p spot) (fs : List (Frame Body)) (n : Node S) (from : A) (e : Era Body Q R) (stand : Stand) → StandsAs w p spot from e fs stand n → IsPlan w.boot w.lens (plan_at p stand)
-plan_known w c p spot whole fs n from e (Stand.Opens o) (OpensAs.yet again step plan l) = plan
-plan_known w c p spot whole fs n from e (Stand.Opens o) (OpensAs.anew cl x first) = cl.plan
-plan_known w c p spot whole fs n from e (Stand.Opens o) (OpensAs.over cl again early x) = cl.plan
+plan_known w c p spot whole fs n from e (Stand.Opens o) (OpensBy.yet again step plan l) = plan
+plan_known w c p spot whole fs n from e (Stand.Opens o) (OpensBy.anew cl x first) = cl.plan
+plan_known w c p spot whole fs n from e (Stand.Opens o) (OpensBy.over cl again early x) = cl.plan
 plan_known w c p spot whole fs n from e Stand.Open now = whole.plan
 plan_known w c p spot whole fs n from e Stand.Gone now = whole.plan
 

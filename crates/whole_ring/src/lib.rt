@@ -4,6 +4,7 @@
 ghost use Rattle.std.specs.Prelude.{◌≡◌, ◌<◌, ◌∷◌, ◌++◌, ℕ, Bool, List, [], length};
 ghost use Rattle.life_frames.specs.of_datagrams.Datagram as Raw;
 ghost use Rattle.life_frames.specs.of_datagrams.Frame.{IsFrame, chained};
+ghost use Rattle.life_frames.specs.of_exchange_model.Exchange.{IsLawful};
 ghost use Rattle.life_frames.specs.of_frame_view.View.{Lens};
 ghost use Rattle.life_frames.specs.of_link_mails.Body.{Body};
 ghost use Rattle.life_frames.specs.of_segment_model.Record.{Frame};
@@ -36,6 +37,6 @@ pub fn ring_promises_law<S, V, A, Q, R>()
         IsRing lens step (Passes test) fs ring (before ++ m ∷ behind) → MemberIs lens step (Passes test) fs m.spot.place m }
     ensures chain { (lens : ℕ → Lens) (step : Node S → Node S) (test : Spot → S → Bool) (fs : List (Frame Body)) (place : ℕ) (m : Member S V A Q R) → (i : MemberIs lens step (Passes test) fs place m) →
         Eras m.services.exchange m.services.states m.services.processor (table_of m.services) m.clearing.cleared m.spot fs m.first m.life.past i.lived.from }
-    ensures promises { (lens : ℕ → Lens) (step : Node S → Node S) (test : Spot → S → Bool) (fs : List (Frame Body)) (place : ℕ) (m : Member S V A Q R) → (i : MemberIs lens step (Passes test) fs place m) → m.life.stand ≡ Stand.Open →
+    ensures promises { (lens : ℕ → Lens) (step : Node S → Node S) (test : Spot → S → Bool) (fs : List (Frame Body)) (place : ℕ) (m : Member S V A Q R) → (i : MemberIs lens step (Passes test) fs place m) → IsLawful m.services.exchange → m.life.stand ≡ Stand.Open →
         IsPromised m.services m.spot i.lived.from m.life.era fs m.node }
 {}

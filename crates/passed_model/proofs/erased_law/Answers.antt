@@ -3,13 +3,13 @@ use Rattle.passed_model.proofs.Naturals
 use Rattle.passed_model.proofs.erased_law.Goals as goal
 
 pub returns-clause-next : goal.returns-clause-next
-returns-clause-next g c = λ f y x one new frame d choice plan. Naturals.next_side f y x one new frame d choice plan
+returns-clause-next g c = λ f n h y x one new frame d choice plan. Naturals.next_side f n h y x one new frame d choice plan
 
 pub returns-clause-back : goal.returns-clause-back
-returns-clause-back g c = λ f y x frame station back d same. Naturals.back_side f y x frame station back d same
+returns-clause-back g c = λ f n h y x frame station back d same. Naturals.back_side f n h y x frame station back d same
 
 pub returns-clause-lost : goal.returns-clause-lost
-returns-clause-lost g c = λ f station sent d. Naturals.lost_side f station sent d
+returns-clause-lost g c = λ f n h station sent d. Naturals.lost_side f n h station sent d
 
 pub returns-clause-news : goal.returns-clause-news
 returns-clause-news g c = λ f station kept k. Naturals.frame_of f station kept k

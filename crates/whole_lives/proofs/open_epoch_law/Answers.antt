@@ -5,5 +5,5 @@ use Rattle.whole_lives.proofs.open_epoch_law.Goals as goal
 pub returns : goal.returns
 returns g k = record {
   chain = λ w c p spot first l fs n i. Ends.eras w c.cleared spot fs i.past;
-  promises = λ w c p spot first l fs n whole i stand. Promised.promised w c p spot first l fs n whole i stand;
+  promises = λ w c p spot first l fs n owes i stand. Promised.promised w c p spot first l fs n owes i stand;
 }

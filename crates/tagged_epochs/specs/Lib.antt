@@ -1,0 +1,3 @@
+pub mod Spoken
+pub mod Foreseen
+pub mod Epochs
