@@ -1,0 +1,2 @@
+mod Heard
+pub mod Rows

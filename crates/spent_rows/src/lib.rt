@@ -1,0 +1,26 @@
+//! A mail that is passed on, where nothing is left of its slave. Definitions and laws over lives, no running code: the functions here do nothing, and their
+//! contracts state the laws.
+#![tactic(auto)]
+
+ghost use Rattle.std.specs.Prelude.{◌≡◌, ℕ, Bool, Option, List};
+ghost use Rattle.exchange_model.specs.Exchange.{Speech};
+ghost use Rattle.life_model.specs.Lives.{Stand, Life, Spot, new_life, life_next, life_back, life_lost, gives_up};
+ghost use Rattle.segment_model.specs.Record.{News};
+ghost use Rattle.segment_model.specs.Slaves.{Datagram, Found};
+ghost use Rattle.spent_rows.specs.Last.{LastPasses, NothingAwaited};
+ghost use Rattle.task_model.specs.Accounts.{Pick};
+
+/// WHILE A MAIL THAT IS PASSED ON ISN'T OVER the newest service of its epoch is by mails: at every frame of a life.
+pub fn last_rows<M, Q, R>()
+    ensures new { (state : ℕ) → LastPasses (new_life {M = M} {Q = Q} {R = R} state).era }
+    ensures next { (x : Speech M Q R) (acknowledged : Q → Bool) (more : M → Bool) (passed : Q → Bool) (frame : ℕ) (l : Life M Q R) (pick : Pick Q) → LastPasses l.era → LastPasses (life_next x acknowledged more passed frame l l.stand pick).era }
+    ensures back { (x : Speech M Q R) (acknowledged : Q → Bool) (more : M → Bool) (passed : Q → Bool) (frame : ℕ) (spot : Spot) (news : List (News M)) (back : List (Datagram M)) (came : Option (Bool × Option Found)) (l : Life M Q R) → LastPasses l.era →
+        LastPasses (life_back x acknowledged more passed frame spot news back came l l.stand).era }
+    ensures lost { (x : Speech M Q R) (acknowledged : Q → Bool) (more : M → Bool) (passed : Q → Bool) (spot : Spot) (news : List (News M)) (sent : List (Datagram M)) (l : Life M Q R) → LastPasses l.era → LastPasses (life_lost x acknowledged more passed spot news sent l l.stand).era }
+    ensures given_up { (recover frame : ℕ) (spot : Spot) (l : Life M Q R) → LastPasses l.era → LastPasses (gives_up recover spot frame l).era }
+{}
+
+/// WHERE NOTHING IS LEFT of a slave, a mail that is passed on doesn't await replies behind the first, where its last reply tells that it is the last.
+pub fn spent_rows<V, A, M, Q, R>()
+    ensures { NothingAwaited V A M Q R }
+{}
