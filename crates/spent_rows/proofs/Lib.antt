@@ -1,2 +1,3 @@
-mod Last
+pub mod Last
 mod Spent
+mod Told

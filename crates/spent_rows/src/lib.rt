@@ -2,12 +2,16 @@
 //! contracts state the laws.
 #![tactic(auto)]
 
-ghost use Rattle.std.specs.Prelude.{◌≡◌, ℕ, Bool, Option, List};
+ghost use Rattle.std.specs.Prelude.{◌≡◌, ◌≢◌, ℕ, Bool, Option, Some, None, List};
+ghost use Rattle.answered_rows.specs.Moments.{NoneLeft};
 ghost use Rattle.exchange_model.specs.Exchange.{Speech};
-ghost use Rattle.life_model.specs.Lives.{Stand, Life, Spot, new_life, life_next, life_back, life_lost, gives_up};
+ghost use Rattle.life_model.specs.Lives.{Stand, Era, Life, Spot, new_life, life_next, life_back, life_lost, gives_up};
+ghost use Rattle.passing_rows.specs.Heard.{EraPasses};
+ghost use Rattle.segment_model.specs.Ends.{Passing};
 ghost use Rattle.segment_model.specs.Record.{News};
 ghost use Rattle.segment_model.specs.Slaves.{Datagram, Found};
 ghost use Rattle.spent_rows.specs.Last.{LastPasses, NothingAwaited};
+ghost use Rattle.spent_rows.specs.Told.{EraTold, PlansSome};
 ghost use Rattle.task_model.specs.Accounts.{Pick};
 
 /// WHILE A MAIL THAT IS PASSED ON ISN'T OVER the newest service of its epoch is by mails: at every frame of a life.
@@ -18,6 +22,12 @@ pub fn last_rows<M, Q, R>()
         LastPasses (life_back x acknowledged more passed frame spot news back came l l.stand).era }
     ensures lost { (x : Speech M Q R) (acknowledged : Q → Bool) (more : M → Bool) (passed : Q → Bool) (spot : Spot) (news : List (News M)) (sent : List (Datagram M)) (l : Life M Q R) → LastPasses l.era → LastPasses (life_lost x acknowledged more passed spot news sent l l.stand).era }
     ensures given_up { (recover frame : ℕ) (spot : Spot) (l : Life M Q R) → LastPasses l.era → LastPasses (gives_up recover spot frame l).era }
+{}
+
+/// WHERE NO MAIL IS HELD and nothing is left to tell, a mail that is passed on waits no more to be sent, and no write of it is under way.
+pub fn told_rows<M, Q, R>()
+    ensures { (x : Speech M Q R) (more : M → Bool) (passed : Q → Bool) (e : Era M Q R) → PlansSome x passed → EraPasses x more passed e → EraTold e → e.side.halves.out.holding ≡ None → NoneLeft x e.side →
+        (e.passing ≢ Some Passing.Waiting) × (e.passing ≢ Some Passing.Sent) }
 {}
 
 /// WHERE NOTHING IS LEFT of a slave, a mail that is passed on doesn't await replies behind the first, where its last reply tells that it is the last.
