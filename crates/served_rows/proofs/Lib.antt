@@ -1,2 +1,7 @@
+mod Stands
 mod Heard
-pub mod Rows
+mod Returned
+mod Sending
+mod Told
+mod Rows
+mod Turns

@@ -109,15 +109,12 @@ module _ (lens : ℕ → Lens) where
       last = Newest.back (speech_at lens spot) acknowledged is_followed is_passed made spot (news_back spot.station v.kept v.counts (seen lens f.back)) (seen lens f.back) (came_at v.turn.share.under v.turn.share.at (seen lens f.back)) l l.stand k.last;
     }
     behind (Lost after) = record {
-      station = given_station (gives && v.turn.share.under);
+      station = k.station;
       heard = lost_at Heard new_heard (speech_at lens spot) acknowledged is_followed is_passed made v.kept l spot (news_lost spot.station v.kept (seen lens f.sent)) (seen lens f.sent) (recorded lens recover retry f (Lost after)) (gives && v.turn.share.under) recover
           (λ e h. lost_heard (speech_at lens spot) acknowledged is_followed is_passed made v.kept l lens spot k.station f.sent (news_lost spot.station v.kept (seen lens f.sent)) h) k.heard;
       passes = up_passes (gives && v.turn.share.under);
       last = up_last (gives && v.turn.share.under);
     }
-      where
-        given_station : (b : Bool) → nat_le 1 v.turn.lived.spot.station ≡ true
-        given_station b = k.station
 
   first_known : (pace : ℕ) (a : Leads) → IsNew a → Knows (new_serves pace a)
   first_known pace a n = record {
