@@ -1,18 +1,19 @@
 -- The newest service while a mail that is passed on isn't over, at every frame of a life.
-use Rattle.std.proofs.Common.{◌≡◌, ℕ, ◌==◌, Bool, true, false, Option, Some, None, List, [], length, refl, sym, subst, arith, if◌then◌else◌}
+use Rattle.std.proofs.Common.{◌≡◌, ℕ, Bool, true, false, Option, Some, None, List, [], length, refl, sym, subst, arith, if◌then◌else◌}
 use Rattle.std.specs.Prelude.{◌&&◌, nat_lt}
 use Rattle.std.proofs.lemmas.Bool.Decides.{nat_tests}
 use Rattle.answered_rows.specs.Moments.{IsMailsLast}
 use Rattle.exchange_model.specs.Exchange.{Speech}
-use Rattle.life_model.specs.Lives.{Life, Opening, Spot, Stand, clears, era_back, granted, is_shown, last_step, life_back, life_lost, life_next, opening_back, opens, opens_state, passes, passing_begins, reopening, reopens, reopens_at, returns_to_init, shows_clear, steps_on}
+use Rattle.life_model.specs.Lives.{Era, Life, Spot, Stand, era_back, granted, life_back, life_lost, life_next, passes, passing_begins}
 use Rattle.life_model.specs.Own.{own}
 use Rattle.segment_model.specs.Ends.{Passing}
 use Rattle.segment_model.specs.Record.{News}
 use Rattle.segment_model.specs.Seats.{Side}
 use Rattle.segment_model.specs.Slaves.{Datagram, Found}
 use Rattle.spent_rows.specs.Last.{LastPasses}
+use Rattle.spent_rows.proofs.Lives.{back_keeps, lost_keeps, next_keeps}
 use Rattle.state_exchange.specs.Stated.{Service}
-use Rattle.task_model.specs.Accounts.{Account, Duty, Pick, Stage, Started, account_begins, is_free, starts}
+use Rattle.task_model.specs.Accounts.{Account, Duty, Pick, Started, account_begins, is_free, starts}
 use Rattle.task_model.proofs.Completed.{started_back}
 
 abbrev Lasts : {Q : Type 0} → Option Passing → List (Started Q) → Type 0
@@ -51,14 +52,9 @@ module _ {M Q R : Type 0} (x : Speech M Q R) (acknowledged : Q → Bool) (more :
     still_lasts None o k = k
     still_lasts (Some duty) o k = k
 
-    pub next_lasts : (o : Option Passing) (pick : Pick Q) → Lasts o a.started → (let b = (granted o pick).begin in let n = account_begins x acknowledged frame d a a.hand b in Lasts (passing_begins x acknowledged more passed o a n b) n.started)
+    next_lasts : (o : Option Passing) (pick : Pick Q) → Lasts o a.started → (let b = (granted o pick).begin in let n = account_begins x acknowledged frame d a a.hand b in Lasts (passing_begins x acknowledged more passed o a n b) n.started)
     next_lasts None pick k = begins_lasts a.hand pick.begin
     next_lasts (Some p) pick k = still_lasts a.hand (Some p) k
-
-  pub next : (frame : ℕ) (l : Life M Q R) (stand : Stand) (pick : Pick Q) → LastPasses l.era → LastPasses (life_next x acknowledged more passed frame l stand pick).era
-  next frame l (Stand.Opens o) pick k = k
-  next frame l Stand.Gone pick k = k
-  next frame l Stand.Open pick k = next_lasts frame l.era.side l.era.account l.era.passing pick k
 
   -- ---- by news it was in hand before
   was_some : (o : Option Passing) (ns : List (News M)) (p : Passing) → passes x acknowledged more passed o ns ≡ Some p → (q : Passing) × (o ≡ Some q)
@@ -68,38 +64,16 @@ module _ {M Q R : Type 0} (x : Speech M Q R) (acknowledged : Q → Bool) (more :
   news_lasts : (o : Option Passing) (ns : List (News M)) (old new : List (Started Q)) → new ≡ old → Lasts o old → Lasts (passes x acknowledged more passed o ns) new
   news_lasts o ns old new same k = λ p e. (let before = was_some o ns p e in subst (λ s. IsMailsLast s) (sym same) (k before.0 before.1))
 
-  -- an opening, and a reopening
-  opening_lasts : (frame : ℕ) (l : Life M Q R) (o : Opening) (done : Bool) (found : Option Found) → LastPasses l.era → LastPasses (opening_back frame l o done found).era
-  opening_lasts frame l o done found k = by (shows_clear o) (done && is_shown 1 found) (o.step == last_step o) (done && is_shown o.state found)
-    where
-      by : (a b c d : Bool) → LastPasses (if a then (if b then clears frame l o else l) else if c then (if d then opens frame l else l) else steps_on l o).era
-      by true true c d = none_lasts []
-      by true false c d = k
-      by false b true true = k
-      by false b true false = k
-      by false b false d = k
-
-  reopens_lasts : (l : Life M Q R) (hand : Option Duty) → LastPasses l.era → LastPasses (reopens l hand).era
-  reopens_lasts l None k = k
-  reopens_lasts l (Some duty) k = at_stage duty.stage
-    where
-      by : (b : Bool) → LastPasses (if b then record l { stand = reopening (opens_state duty.target) true } else l).era
-      by true = k
-      by false = k
-
-      at_stage : (stage : Stage) → LastPasses (reopens_at l duty.target stage).era
-      at_stage Stage.Drains = k
-      at_stage (Stage.Goes phase) = by (returns_to_init duty.target)
+  -- ---- all along a life
+  pub next : (frame : ℕ) (l : Life M Q R) (stand : Stand) (pick : Pick Q) → LastPasses l.era → LastPasses (life_next x acknowledged more passed frame l stand pick).era
+  next frame l stand pick k = next_keeps (λ (e : Era M Q R). LastPasses e) (λ cleared. none_lasts []) (λ e opened h. h) x acknowledged more passed frame l stand pick (λ h. next_lasts frame l.era.side l.era.account l.era.passing pick h) k
 
   pub back : (frame : ℕ) (spot : Spot) (ns : List (News M)) (ds : List (Datagram M)) (came : Option (Bool × Option Found)) (l : Life M Q R) (stand : Stand) → LastPasses l.era → LastPasses (life_back x acknowledged more passed frame spot ns ds came l stand).era
-  back frame spot ns ds None l (Stand.Opens o) k = k
-  back frame spot ns ds (Some came) l (Stand.Opens o) k = opening_lasts frame l o came.0 came.1 k
-  back frame spot ns ds came l Stand.Gone k = k
-  back frame spot ns ds came l Stand.Open k =
+  back frame spot ns ds came l stand k =
       let era = era_back x acknowledged more passed spot.station frame ns ds l.era in
-      reopens_lasts (record l { era = era }) era.account.hand (news_lasts l.era.passing ns l.era.account.started era.account.started (started_back spot.station frame l.era.account (own spot.station ds)) k)
+      back_keeps (λ (e : Era M Q R). LastPasses e) (λ cleared. none_lasts []) (λ e opened h. h) x acknowledged more passed frame spot ns ds came l stand
+      (λ h. news_lasts l.era.passing ns l.era.account.started era.account.started (started_back spot.station frame l.era.account (own spot.station ds)) h) k
 
   pub lost : (spot : Spot) (ns : List (News M)) (ds : List (Datagram M)) (l : Life M Q R) (stand : Stand) → LastPasses l.era → LastPasses (life_lost x acknowledged more passed spot ns ds l stand).era
-  lost spot ns ds l (Stand.Opens o) k = k
-  lost spot ns ds l Stand.Gone k = k
-  lost spot ns ds l Stand.Open k = news_lasts l.era.passing ns l.era.account.started l.era.account.started refl k
+  lost spot ns ds l stand k =
+      lost_keeps (λ (e : Era M Q R). LastPasses e) (λ cleared. none_lasts []) (λ e opened h. h) x acknowledged more passed spot ns ds l stand (λ h. news_lasts l.era.passing ns l.era.account.started l.era.account.started refl h) k
