@@ -4,4 +4,5 @@ mod Returned
 mod Sending
 mod Told
 mod Rows
+mod Said
 mod Turns

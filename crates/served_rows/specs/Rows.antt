@@ -7,6 +7,7 @@ use Rattle.master_hand.specs.Spoken.{is_followed}
 use Rattle.passing_rows.specs.Heard.{EraPasses}
 use Rattle.served_runs.specs.Served.{Serves}
 use Rattle.spent_rows.specs.Last.{LastPasses}
+use Rattle.spent_rows.specs.of_answered_rows.Moments.{NowAnswered}
 use Rattle.spent_rows.specs.Told.{EraTold}
 
 -- a slave before the first frame: it has a station, and nothing happened in its life
@@ -22,3 +23,7 @@ pub record PassesSo (lens : ℕ → Lens) (w : Serves) : Type 0 where
 -- of an open slave: while it waits it is held, or wasn't told; and once it was sent it is held until its write is done
 abbrev pub ToldSo : Serves → Type 0
 ToldSo w = w.lead.lived.life.stand ≡ Stand.Open → EraTold w.lead.lived.life.era
+
+-- what was heard of its newest service is its answer
+abbrev pub SaidSo : (ℕ → Lens) → Serves → Type 0
+SaidSo lens w = NowAnswered (speech_at lens w.lead.lived.spot) w.lead.lived.life.era.side
