@@ -19,7 +19,7 @@ use Rattle.passed_whole.proofs.Passings.{counted_same}
 use Rattle.run_frames.proofs.Access.{begins_same, holds_same}
 use Rattle.segment_model.specs.Ends.{Passing}
 use Rattle.segment_model.specs.Record.{Kept, News, frame_news, heard_behind, kept_after, mails_heard, nothing_kept}
-use Rattle.segment_model.specs.Seats.{Side, next_mail, side_back, side_begins}
+use Rattle.segment_model.specs.Seats.{Side, next_mail, side_begins}
 use Rattle.segment_model.specs.Slaves.{grams}
 use Rattle.segment_model.proofs.News.{heard_frame, kept_back}
 use Rattle.task_model.specs.Accounts.{Pick, mails_choice, new_account}

@@ -2,7 +2,6 @@
 use Rattle.std.proofs.Common.{◌≡◌, ℕ, ◌==◌, ◌||◌, Bool, true, false, List, [], ◌∷◌, ◌++◌, refl, sym, ap, ◌∙◌, if◌then◌else◌}
 use Rattle.life_model.specs.Own.{own}
 use Rattle.link_mails.specs.Body.{Body}
-use Rattle.link_model.specs.Frames.{Ask}
 use Rattle.master_tour.proofs.Unders.{SameAim}
 use Rattle.segment_model.specs.Record.{all_told, is_for, last_told, mail_told, told_behind}
 use Rattle.segment_model.specs.Returned.{Returns}

@@ -21,7 +21,7 @@ use Rattle.segment_model.specs.Record.{Kept}
 use Rattle.segment_model.specs.Slaves.{Found}
 use Rattle.segment_ring.specs.declared.wire.Fate.{Fate}
 use Rattle.segment_ring.specs.declared.wire.Fate.TheVariants.{Pass, Lost}
-use Rattle.served_runs.specs.Served.{Serves, ServedTurn, IsServedTurn, IsServedLed, all_serve, new_serves, recorded, served_behind, served_life}
+use Rattle.served_runs.specs.Served.{Serves, ServedTurn, IsServedTurn, IsServedLed, all_serve, new_serves, recorded, served_life}
 use Rattle.served_rows.specs.Rows.{IsNew, PassesSo}
 use Rattle.served_rows.proofs.Heard.{Heard, back_heard, lost_heard, lost_none, new_heard, news_heard, next_heard}
 use Rattle.served_rows.proofs.Stands.{At, back_at, lost_at, next_at}

@@ -14,7 +14,7 @@ use Rattle.master_hand.specs.Spoken.{Asked, acknowledged, is_followed}
 use Rattle.master_side.specs.Passing.{news_back, news_lost}
 use Rattle.segment_ring.specs.declared.wire.Fate.{Fate}
 use Rattle.segment_ring.specs.declared.wire.Fate.TheVariants.{Pass, Lost}
-use Rattle.served_runs.specs.Served.{Serves, ServedTurn, IsServedTurn, IsServedLed, all_serve, new_serves, served_behind, served_life}
+use Rattle.served_runs.specs.Served.{Serves, ServedTurn, IsServedTurn, IsServedLed, all_serve, new_serves, served_life}
 use Rattle.served_rows.specs.Rows.{IsNew, SaidSo}
 use Rattle.served_rows.proofs.Rows.{each_first}
 use Rattle.spent_rows.specs.of_answered_rows.Moments.{NowAnswered}

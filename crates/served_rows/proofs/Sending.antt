@@ -94,6 +94,12 @@ module _ {M Q R : Type 0} (x : Speech M Q R) (acknowledged : Q → Bool) (more :
 
   -- ---- one that isn't told yet, by news that tell nothing; and one that was sent
   module _ (P : Option Passing → Type 0) (over : (o : Option Passing) → Late o → P o) where
+    -- a mail that was heard
+    by_mail : (p : Passing) (ns : List (News M)) → P (by (Some p) ns) → (b c : Bool) → P (by (if b then Some p else if c then Some Passing.Answered else None) ns)
+    by_mail p ns k true c = k
+    by_mail p ns k false true = over (by (Some Passing.Answered) ns) (late (Some Passing.Answered) ns tt)
+    by_mail p ns k false false = over None tt
+
     waiting : P (Some Passing.Waiting) → (ns : List (News M)) → mails_told ns ≡ [] → P (by (Some Passing.Waiting) ns)
     waiting w [] t = w
     waiting w (News.Told m ∷ ns) t = absurd (let bad : m ∷ mails_told ns ≡ [] = t in cc)
@@ -101,12 +107,7 @@ module _ {M Q R : Type 0} (x : Speech M Q R) (acknowledged : Q → Bool) (more :
     waiting w (News.NothingRead ∷ ns) t = waiting w ns t
     waiting w (News.BoxFull full ∷ ns) t = waiting w ns t
     waiting w (News.Status state refused ∷ ns) t = waiting w ns t
-    waiting w (News.Heard m ∷ ns) t = go (x.emission m) (more m)
-      where
-        go : (b c : Bool) → P (by (if b then Some Passing.Waiting else if c then Some Passing.Answered else None) ns)
-        go true c = waiting w ns t
-        go false true = over (by (Some Passing.Answered) ns) (late (Some Passing.Answered) ns tt)
-        go false false = over None tt
+    waiting w (News.Heard m ∷ ns) t = by_mail Passing.Waiting ns (waiting w ns t) (x.emission m) (more m)
 
     sent : (ns : List (News M)) → (has_written ns ≡ false → P (Some Passing.Sent)) → P (by (Some Passing.Sent) ns)
     sent [] w = w refl
@@ -115,12 +116,7 @@ module _ {M Q R : Type 0} (x : Speech M Q R) (acknowledged : Q → Bool) (more :
     sent (News.NothingRead ∷ ns) w = sent ns w
     sent (News.BoxFull full ∷ ns) w = sent ns w
     sent (News.Status state refused ∷ ns) w = sent ns w
-    sent (News.Heard m ∷ ns) w = go (x.emission m) (more m)
-      where
-        go : (b c : Bool) → P (by (if b then Some Passing.Sent else if c then Some Passing.Answered else None) ns)
-        go true c = sent ns w
-        go false true = over (by (Some Passing.Answered) ns) (late (Some Passing.Answered) ns tt)
-        go false false = over None tt
+    sent (News.Heard m ∷ ns) w = by_mail Passing.Sent ns (sent ns w) (x.emission m) (more m)
 
   -- ---- A FRAME from the side `d` to `k`, by what it told of the mail held and by what it brought
   module _ (d k : Side M Q R) (ns : List (News M)) (nothing : mails_told ns ≡ []) (untold : NoneTold d.now → NoneTold k.now) (frees : k.halves.out.holding ≡ (if has_written ns then None else d.halves.out.holding)) where

@@ -1,5 +1,5 @@
 -- WHAT EACH EPOCH KEEPS, at every frame of a life: what holds of a new one, however it was opened, and goes on with its frames.
-use Rattle.std.proofs.Common.{◌≡◌, ℕ, ◌==◌, Bool, true, false, Option, Some, None, List, if◌then◌else◌}
+use Rattle.std.proofs.Common.{ℕ, ◌==◌, Bool, true, false, Option, Some, None, List, if◌then◌else◌}
 use Rattle.std.specs.Prelude.{◌&&◌}
 use Rattle.exchange_model.specs.Exchange.{Speech}
 use Rattle.life_model.specs.Lives.{Era, Life, Opening, Spot, Stand, clears, era_back, era_lost, era_next, is_shown, last_step, life_back, life_lost, life_next, new_era, opening_back, opens, opens_state, reopening, reopens, reopens_at, returns_to_init, shows_clear, steps_on}

@@ -1,5 +1,5 @@
 -- What was heard of the newest service is its answer, at every frame of a life.
-use Rattle.std.proofs.Common.{◌≡◌, ℕ, ◌&&◌, Bool, true, false, Option, Some, None, option_map, List, [], ◌∷◌, ◌++◌, refl, sym, ap, ◌∙◌, subst, if◌then◌else◌}
+use Rattle.std.proofs.Common.{◌≡◌, ℕ, ◌&&◌, Bool, true, false, Option, Some, None, option_map, List, [], ◌∷◌, ◌++◌, refl, ap, subst, if◌then◌else◌}
 use Rattle.answered_rows.specs.Moments.{NowAnswered}
 use Rattle.exchange_model.specs.Exchange.{Speech, plain}
 use Rattle.exchange_model.specs.Rows.{Row, answer_after, begun, row_heard, row_told}
@@ -7,7 +7,7 @@ use Rattle.life_model.specs.Lives.{Era, Life, Spot, Stand, granted, life_back, l
 use Rattle.life_model.specs.Own.{own}
 use Rattle.link_model.specs.Frames.{all_accepted}
 use Rattle.segment_model.specs.Record.{News}
-use Rattle.segment_model.specs.Seats.{Choice, Side, is_over, next_mail, side_back, side_begins, side_holds, side_next}
+use Rattle.segment_model.specs.Seats.{Choice, Side, is_over, next_mail, side_begins, side_holds, side_next}
 use Rattle.segment_model.specs.Slaves.{Datagram, Found, grams}
 use Rattle.spent_rows.proofs.Lives.{back_keeps, lost_keeps, next_keeps}
 use Rattle.task_model.specs.Accounts.{Pick, mails_choice}

@@ -1,5 +1,5 @@
 -- THE NEWEST SERVICE while a mail that is passed on isn't over.
-use Rattle.std.specs.Prelude.{◌≡◌, ℕ, true, Bool, Some, List, ⊥}
+use Rattle.std.specs.Prelude.{◌≡◌, ℕ, true, Bool, Some, List}
 use Rattle.answered_rows.specs.Moments.{HasNothing, IsMailsLast}
 use Rattle.exchange_model.specs.Exchange.{Exchange, IsLawful}
 use Rattle.exchange_model.specs.Rows.{Row}

@@ -22,10 +22,10 @@ use Rattle.master_hand.specs.Spoken.{Asked, acknowledged, is_followed}
 use Rattle.plan_met.specs.Met.{slave_at}
 use Rattle.quiet_rings.specs.Hands.{AllHand}
 use Rattle.run_frames.specs.Clocks.{gains_all, reopened_all, still_behind}
-use Rattle.run_frames.specs.Goes.{Under, IsUnder, AllUnder, HandAt, back_life, all_back}
+use Rattle.run_frames.specs.Goes.{Under, IsUnder, AllUnder, back_life, all_back}
 use Rattle.run_frames.specs.Led.{AreLed}
 use Rattle.run_frames.specs.Orders.{AllRepaired}
-use Rattle.run_frames.specs.Waits.{Waits, new_waits, all_anew, all_on, SomeWaits}
+use Rattle.run_frames.specs.Waits.{Waits, all_anew, all_on, SomeWaits}
 use Rattle.segment_model.specs.Slaves.{Datagram, grams, serving}
 use Rattle.segment_plan.specs.declared.service.Service as Plan
 use Rattle.segment_plan.specs.declared.slave.SlaveSpec.{SlaveSpec}

@@ -1,7 +1,7 @@
 -- One slave by a frame that came back and gained nothing.
-use Rattle.std.proofs.Common.{◌≡◌, ◌⊎◌, ◌≤◌, ℕ, suc, ◌%◌, ◌==◌, Bool, true, Option, Some, None, List, [], refl, sym, ap, ◌∙◌, subst, arith, if◌then◌else◌, inl, inr}
+use Rattle.std.proofs.Common.{◌≡◌, ◌⊎◌, ◌≤◌, ℕ, suc, ◌%◌, ◌==◌, true, Option, Some, None, List, [], refl, sym, ap, ◌∙◌, subst, arith, if◌then◌else◌, inl, inr}
 use Rattle.eager_slaves.specs.Eager.{Remembered, IsClear, NoneLeft, GetsNone}
-use Rattle.eager_slaves.specs.Standing.{Unvisited, Visited, Standing, IsDone}
+use Rattle.eager_slaves.specs.Standing.{Unvisited, Visited, Standing}
 use Rattle.eager_slaves.specs.Frames.{FrameAs}
 use Rattle.eager_slaves.proofs.Choices.{stand_next}
 use Rattle.eager_slaves.proofs.Facts.{unvisited_waits}
@@ -39,7 +39,7 @@ use Rattle.slave_steps.specs.Node.{Node}
 use Rattle.state_exchange.specs.Families.{InState}
 use Rattle.state_exchange.specs.Stated.{Service}
 use Rattle.state_model.specs.States.{Table}
-use Rattle.task_model.specs.Accounts.{Account, Pick, account_begins, starts, mails_choice}
+use Rattle.task_model.specs.Accounts.{Pick, account_begins, starts, mails_choice}
 use Rattle.wait_runs.proofs.Fits.{IsFit, IsReady, Rests, exchange_at, next_of, table_at}
 use Rattle.wait_runs.proofs.Fits as Fits
 use Rattle.wait_runs.proofs.Held.{ends_at}

@@ -1,5 +1,5 @@
 -- An open slave of a plan's run, as its session has it, where no mail is passed on.
-use Rattle.std.proofs.Common.{◌≡◌, ◌≢◌, ℕ, Bool, true, false, Option, Some, None, List, [], ◌∷◌, length, refl, sym, ap, ◌∙◌, subst}
+use Rattle.std.proofs.Common.{◌≡◌, ◌≢◌, ℕ, Bool, true, Option, Some, None, List, [], ◌∷◌, length, refl, sym, ap, ◌∙◌, subst}
 use Rattle.answered_rows.specs.Moments.{IsFree}
 use Rattle.eager_slaves.specs.Eager.{NoneLeft, MayBegin}
 use Rattle.exchange_model.specs.Exchange.{Speech}
@@ -9,7 +9,6 @@ use Rattle.frame_view.specs.View.{Lens}
 use Rattle.held_visits.specs.of_answered_rows.Moments.{NowAnswered}
 use Rattle.held_visits.proofs.Ends.{known}
 use Rattle.held_visits.proofs.Spent.{spent_free}
-use Rattle.idle_slaves.specs.Going.{IsCome}
 use Rattle.idle_slaves.specs.Links.{HasLink}
 use Rattle.idle_slaves.specs.Visited.{IsLeft, LifeSpent}
 use Rattle.idle_slaves.proofs.Links.{era_link}

@@ -1,5 +1,5 @@
 -- Where all is done of an open slave it rests.
-use Rattle.std.proofs.Common.{◌≡◌, ◌⊎◌, ℕ, Option, Some, None, sym, ap, ◌∙◌, inl, inr}
+use Rattle.std.proofs.Common.{◌≡◌, ◌⊎◌, ℕ, sym, ap, ◌∙◌, inl, inr}
 use Rattle.eager_slaves.specs.Eager.{Remembered}
 use Rattle.eager_slaves.specs.Standing.{IsDone}
 use Rattle.frame_view.specs.View.{Lens}
