@@ -1,1 +1,3 @@
 mod Tells
+mod Ready
+mod Unread

@@ -6,5 +6,5 @@ mod Held
 pub mod One
 pub mod Lists
 mod Opened
-mod Ready
+pub mod Ready
 mod Walk

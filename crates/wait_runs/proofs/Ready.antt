@@ -54,14 +54,14 @@ plain_service (Asked.net q) e = refl
 plain_service (Asked.passed m) e = absurd (cc)
 
 -- a script at its end stays there
-script_end : (room : ℕ) (script : List Plan.Service) (n n' : ℕ) (begun : Option (Service Asked)) → Comes room script n begun n' → slice_get script n ≡ None → slice_get script n' ≡ None
+pub script_end : (room : ℕ) (script : List Plan.Service) (n n' : ℕ) (begun : Option (Service Asked)) → Comes room script n begun n' → slice_get script n ≡ None → slice_get script n' ≡ None
 script_end room script n n' begun Comes.none none = none
 script_end room script n n' begun (Comes.mails s q at asks) none = absurd (let no : Some s ≡ None = sym at ∙ none in cc)
 script_end room script n n' begun (Comes.state target at) none = absurd (let no : Some (Plan.Service.State target) ≡ None = sym at ∙ none in cc)
 script_end room script n n' begun (Comes.packet octets frame) none = none
 
 -- a change of state that comes into hand was left of the script
-state_left : (room : ℕ) (script : List Plan.Service) (n n' : ℕ) (begun : Option (Service Asked)) (target : ℕ) → Comes room script n begun n' → begun ≡ Some (Service.State target) → slice_get script n ≡ None → ⊥
+pub state_left : (room : ℕ) (script : List Plan.Service) (n n' : ℕ) (begun : Option (Service Asked)) (target : ℕ) → Comes room script n begun n' → begun ≡ Some (Service.State target) → slice_get script n ≡ None → ⊥
 state_left room script n n' begun target Comes.none is none = (let no : None ≡ Some (Service.State target) = is in cc)
 state_left room script n n' begun target (Comes.mails s q at asks) is none = (let no : Some s ≡ None = sym at ∙ none in cc)
 state_left room script n n' begun target (Comes.state word at) is none = (let no : Some (Plan.Service.State word) ≡ None = sym at ∙ none in cc)
