@@ -1,3 +1,4 @@
 mod Tells
 mod Ready
 mod Unread
+mod Counted

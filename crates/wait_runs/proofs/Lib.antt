@@ -7,4 +7,4 @@ pub mod One
 pub mod Lists
 mod Opened
 pub mod Ready
-mod Walk
+pub mod Walk

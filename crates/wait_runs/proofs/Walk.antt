@@ -37,11 +37,11 @@ use Rattle.wait_runs.proofs.Fits.{AllReady, AllSeated, nexts_of}
 use Rattle.wait_runs.proofs.Lists.{Slave, still_same, all_same, AllStanding, all_begin, all_quiet, all_stand, repaired}
 use Rattle.wait_runs.proofs.Ready.{NeverAll, all_ready, all_seated, all_silent, nexts_behind, nexts_led}
 
-one_more : (fs : List Exchanged) (f : Exchanged) (n : ℕ) → n ≡ length fs → suc n ≡ length (fs ++ f ∷ [])
+pub one_more : (fs : List Exchanged) (f : Exchanged) (n : ℕ) → n ≡ length fs → suc n ≡ length (fs ++ f ∷ [])
 one_more fs f n e = ap suc e ∙ sym (length-append fs (f ∷ []) ∙ (let sum : length fs + 1 ≡ suc (length fs) = omega arith in sum))
 
 -- how many frames in a row gained nothing, behind one more: none; as many, where a repair went on; or one more
-still_is : (repair : ℕ) (before behind : List Slave) (still : ℕ) → (let many = still_behind repair before behind still in (many ≡ 0) ⊎ (((many ≡ still) × (1 ≤ repair)) ⊎ (many ≡ suc still)))
+pub still_is : (repair : ℕ) (before behind : List Slave) (still : ℕ) → (let many = still_behind repair before behind still in (many ≡ 0) ⊎ (((many ≡ still) × (1 ≤ repair)) ⊎ (many ≡ suc still)))
 still_is repair before behind still = first (nat_lt (reopened_all before) (reopened_all behind))
   where
     Cases : ℕ → Type 0
@@ -61,37 +61,37 @@ still_is repair before behind still = first (nat_lt (reopened_all before) (reope
 
 -- ---- what a frame leaves of the lists
 module _ (x : Spot → Speech Body Asked Reply) (number : ℕ) (sent : List (Datagram Body)) where
-  anew_back : (back : List (Datagram Body)) (cs : List Slave) (vs : List (Under Body Asked Reply)) → AllUnder x acknowledged is_followed is_passed number sent cs vs → all_anew cs ≡ all_anew (all_back x acknowledged is_followed is_passed number back cs vs)
+  pub anew_back : (back : List (Datagram Body)) (cs : List Slave) (vs : List (Under Body Asked Reply)) → AllUnder x acknowledged is_followed is_passed number sent cs vs → all_anew cs ≡ all_anew (all_back x acknowledged is_followed is_passed number back cs vs)
   anew_back back [] [] t = refl
   anew_back back [] (v ∷ vs) t = absurd t
   anew_back back (c ∷ cs) [] t = absurd t
   anew_back back (c ∷ cs) (v ∷ vs) t = ap (λ l. new_waits ∷ l) (anew_back back cs vs t.1)
 
-  paces_back : (back : List (Datagram Body)) (cs : List Slave) (vs : List (Under Body Asked Reply)) → AllUnder x acknowledged is_followed is_passed number sent cs vs → map (λ (c : Slave). c.pace) (all_back x acknowledged is_followed is_passed number back cs vs) ≡ map (λ (c : Slave). c.pace) cs
+  pub paces_back : (back : List (Datagram Body)) (cs : List Slave) (vs : List (Under Body Asked Reply)) → AllUnder x acknowledged is_followed is_passed number sent cs vs → map (λ (c : Slave). c.pace) (all_back x acknowledged is_followed is_passed number back cs vs) ≡ map (λ (c : Slave). c.pace) cs
   paces_back back [] [] t = refl
   paces_back back [] (v ∷ vs) t = absurd t
   paces_back back (c ∷ cs) [] t = absurd t
   paces_back back (c ∷ cs) (v ∷ vs) t = ap (λ l. c.pace ∷ l) (paces_back back cs vs t.1)
 
-  long_back : (back : List (Datagram Body)) (cs : List Slave) (vs : List (Under Body Asked Reply)) → AllUnder x acknowledged is_followed is_passed number sent cs vs → length (all_back x acknowledged is_followed is_passed number back cs vs) ≡ length cs
+  pub long_back : (back : List (Datagram Body)) (cs : List Slave) (vs : List (Under Body Asked Reply)) → AllUnder x acknowledged is_followed is_passed number sent cs vs → length (all_back x acknowledged is_followed is_passed number back cs vs) ≡ length cs
   long_back back [] [] t = refl
   long_back back [] (v ∷ vs) t = absurd t
   long_back back (c ∷ cs) [] t = absurd t
   long_back back (c ∷ cs) (v ∷ vs) t = ap suc (long_back back cs vs t.1)
 
-  anew_lost : (gives : Bool) (recover : ℕ) (cs : List Slave) (vs : List (Under Body Asked Reply)) → AllUnder x acknowledged is_followed is_passed number sent cs vs → all_anew cs ≡ all_anew (all_lost x acknowledged is_followed is_passed gives recover number sent cs vs)
+  pub anew_lost : (gives : Bool) (recover : ℕ) (cs : List Slave) (vs : List (Under Body Asked Reply)) → AllUnder x acknowledged is_followed is_passed number sent cs vs → all_anew cs ≡ all_anew (all_lost x acknowledged is_followed is_passed gives recover number sent cs vs)
   anew_lost gives recover [] [] t = refl
   anew_lost gives recover [] (v ∷ vs) t = absurd t
   anew_lost gives recover (c ∷ cs) [] t = absurd t
   anew_lost gives recover (c ∷ cs) (v ∷ vs) t = ap (λ l. new_waits ∷ l) (anew_lost gives recover cs vs t.1)
 
-  paces_lost : (gives : Bool) (recover : ℕ) (cs : List Slave) (vs : List (Under Body Asked Reply)) → AllUnder x acknowledged is_followed is_passed number sent cs vs → map (λ (c : Slave). c.pace) (all_lost x acknowledged is_followed is_passed gives recover number sent cs vs) ≡ map (λ (c : Slave). c.pace) cs
+  pub paces_lost : (gives : Bool) (recover : ℕ) (cs : List Slave) (vs : List (Under Body Asked Reply)) → AllUnder x acknowledged is_followed is_passed number sent cs vs → map (λ (c : Slave). c.pace) (all_lost x acknowledged is_followed is_passed gives recover number sent cs vs) ≡ map (λ (c : Slave). c.pace) cs
   paces_lost gives recover [] [] t = refl
   paces_lost gives recover [] (v ∷ vs) t = absurd t
   paces_lost gives recover (c ∷ cs) [] t = absurd t
   paces_lost gives recover (c ∷ cs) (v ∷ vs) t = ap (λ l. c.pace ∷ l) (paces_lost gives recover cs vs t.1)
 
-hands_of : (slowest : ℕ) (cs : List Slave) → AllClocked slowest cs → AllHand cs
+pub hands_of : (slowest : ℕ) (cs : List Slave) → AllClocked slowest cs → AllHand cs
 hands_of slowest [] k = tt
 hands_of slowest (c ∷ cs) k = (k.0.hand, hands_of slowest cs k.1)
 
