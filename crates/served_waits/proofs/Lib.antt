@@ -2,3 +2,5 @@ mod Tells
 mod Ready
 mod Unread
 mod Counted
+mod Stays
+mod Walk

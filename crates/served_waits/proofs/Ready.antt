@@ -67,6 +67,11 @@ AllCounted [] [] = ⊤
 AllCounted (t ∷ ts) (w ∷ ws) = (t.stepped ≡ true → w.counts ≡ true) × AllCounted ts ws
 AllCounted _ _ = ⊥
 
+-- each has a station
+abbrev pub AllStationed : List Serves → Type 0
+AllStationed [] = ⊤
+AllStationed (w ∷ ws) = (nat_le 1 w.lead.lived.spot.station ≡ true) × AllStationed ws
+
 module _ (lens : ℕ → Lens) (number : ℕ) (f : Exchanged) (ds : List Raw.Datagram) (view : seen lens f.sent ≡ datagrams_seen lens ds) (recover retry : ℕ) (gives : Bool) (made : ℕ) (fate : f.fate ≡ Pass) where
   abbrev sent : List (Datagram Body)
   sent = seen lens f.sent
@@ -174,11 +179,6 @@ module _ (lens : ℕ → Lens) (number : ℕ) (f : Exchanged) (ds : List Raw.Dat
       let as_led : c ≡ record { spot = w.lead.lived.spot; life = w.lead.lived.life; pace = c.pace; stepped = c.stepped } = (λ i. record { spot = spot i; life = life i; pace = c.pace; stepped = c.stepped }) in
       subst (λ (z : Slave). IsReady lens number sent back s w.lead z (back_under back v) (slice_get v.turn.script v.turn.number) n k m m' t) (sym as_led)
       (ready s w c.pace c.stepped v n k m m' t turn seat some met_so eager remembers still same_number counted (subst (λ (z : Slave). gains (back_life (speech_at lens) acknowledged is_followed is_passed number back z (back_under back v)) ≡ gains z.life) as_led same))
-
-  -- each has a station
-  abbrev pub AllStationed : List Serves → Type 0
-  AllStationed [] = ⊤
-  AllStationed (w ∷ ws) = (nat_le 1 w.lead.lived.spot.station ≡ true) × AllStationed ws
 
   pub all_ready : (ss : List SlaveSpec) (ws : List Serves) (cs : List Slave) (vs : List ServedTurn) (paces : List ℕ) (ns ks : List (Node Serving)) (ms ms' : List Remembered) (ts : List Waits) → AllSeated lens ss (leads_of ws) ns → AllStationed ws → AreLed (leads_of ws) cs → AllServedTurn lens number ds ws vs →
       AllMet lens (seen lens f.sent) (seen lens f.back) number ss (leads_of ws) paces ns ks → map (λ (c : Slave). c.pace) cs ≡ paces → AllEager lens (seen lens f.sent) ms (leads_of ws) (turns_of vs) → AllRemember (seen lens f.back) ms ms' (leads_of ws) (turns_of vs) →
