@@ -1,0 +1,34 @@
+//! An open slave with nothing left, as another sees its mails and services: its newest service is over for the other too, and no mail that is passed on awaits
+//! a reply. Definitions and laws, no running code: the functions here do nothing, and their contracts state the laws.
+#![tactic(auto)]
+
+ghost use Rattle.std.specs.Prelude.{◌≡◌, ℕ, Bool, Some, List};
+ghost use Rattle.answered_rows.specs.Moments.{IsFree};
+ghost use Rattle.exchange_model.specs.Exchange.{Exchange, Speech, IsLawful};
+ghost use Rattle.life_model.specs.Eras.{EraIs};
+ghost use Rattle.life_model.specs.Lives.{Era, Spot};
+ghost use Rattle.never_waits.specs.Waits.{NeverWaits};
+ghost use Rattle.passed_model.specs.Erased.{side_seen};
+ghost use Rattle.passing_rows.specs.Heard.{EraPasses};
+ghost use Rattle.seen_spent.specs.Spent.{NothingSeen, SpeakOne};
+ghost use Rattle.segment_model.specs.Ends.{Passing};
+ghost use Rattle.segment_model.specs.Record.{Frame};
+ghost use Rattle.segment_model.specs.Slaves.{Processor, Registers, Slave};
+ghost use Rattle.spent_rows.specs.Last.{LastPasses, TellsLast};
+ghost use Rattle.state_exchange.specs.Stated.{Stated, IsStated};
+ghost use Rattle.state_model.specs.States.{Table};
+ghost use Rattle.tagged_lives.specs.Seen.{era_seen};
+
+/// WHERE NOTHING IS LEFT of a slave as another sees it, its newest service is over for the other.
+pub fn free_seen<N, M, P, Q, S, R, V, A, W>()
+    ensures { (f : N → M) (g : P → Q) (h : S → R) (x : Exchange V A N P S) (s : Stated V A P) (y : Speech M Q R) (acknowledged : Q → Bool) (server : V → W) (processor : Processor V) (table : ℕ → Table) (spot : Spot) (e : Era N P S) (opened last : ℕ) (fs : List (Frame N)) (v : V) (r : Registers) (n : Slave V N) →
+        IsLawful x → IsStated x s → NeverWaits x → EraIs x s processor table spot e opened last fs v r n → SpeakOne f g h x.speech y e → NothingSeen f g h x.speech y server e n → IsFree y acknowledged (side_seen f g h e.side) }
+{}
+
+/// AND NO MAIL THAT IS PASSED ON awaits a reply behind the first, where its last reply tells that it is the last; its newest service is by mails, as the other
+/// has it.
+pub fn unawaited_seen<N, M, P, Q, S, R, V, A, W>()
+    ensures { (f : N → M) (g : P → Q) (h : S → R) (x : Exchange V A N P S) (s : Stated V A P) (y : Speech M Q R) (server : V → W) (processor : Processor V) (table : ℕ → Table) (spot : Spot) (e : Era N P S) (opened last : ℕ) (fs : List (Frame N)) (v : V) (r : Registers) (n : Slave V N) (more : N → Bool) (passed : P → Bool) →
+        IsLawful x → IsStated x s → NeverWaits x → EraIs x s processor table spot e opened last fs v r n → SpeakOne f g h x.speech y e → NothingSeen f g h x.speech y server e n → EraPasses x.speech more passed e → LastPasses (era_seen f g h e) →
+        TellsLast x more passed e → e.passing ≡ Some Passing.Answered → ⊥ }
+{}
