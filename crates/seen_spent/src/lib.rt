@@ -2,13 +2,14 @@
 //! a reply. Definitions and laws, no running code: the functions here do nothing, and their contracts state the laws.
 #![tactic(auto)]
 
-ghost use Rattle.std.specs.Prelude.{◌≡◌, ℕ, Bool, Some, List};
-ghost use Rattle.answered_rows.specs.Moments.{IsFree};
+ghost use Rattle.std.specs.Prelude.{◌≡◌, ℕ, Bool, Some, None, List, []};
+ghost use Rattle.answered_rows.specs.Moments.{IsFree, NowAnswered};
 ghost use Rattle.exchange_model.specs.Exchange.{Exchange, Speech, IsLawful};
 ghost use Rattle.life_model.specs.Eras.{EraIs};
 ghost use Rattle.life_model.specs.Lives.{Era, Spot};
 ghost use Rattle.never_waits.specs.Waits.{NeverWaits};
 ghost use Rattle.passed_model.specs.Erased.{side_seen};
+ghost use Rattle.passed_whole.specs.Led.{IsLed};
 ghost use Rattle.passing_rows.specs.Heard.{EraPasses};
 ghost use Rattle.seen_spent.specs.Spent.{NothingSeen, SpeakOne};
 ghost use Rattle.segment_model.specs.Ends.{Passing};
@@ -31,4 +32,10 @@ pub fn unawaited_seen<N, M, P, Q, S, R, V, A, W>()
     ensures { (f : N → M) (g : P → Q) (h : S → R) (x : Exchange V A N P S) (s : Stated V A P) (y : Speech M Q R) (server : V → W) (processor : Processor V) (table : ℕ → Table) (spot : Spot) (e : Era N P S) (opened last : ℕ) (fs : List (Frame N)) (v : V) (r : Registers) (n : Slave V N) (more : N → Bool) (passed : P → Bool) →
         IsLawful x → IsStated x s → NeverWaits x → EraIs x s processor table spot e opened last fs v r n → SpeakOne f g h x.speech y e → NothingSeen f g h x.speech y server e n → EraPasses x.speech more passed e → LastPasses (era_seen f g h e) →
         TellsLast x more passed e → e.passing ≡ Some Passing.Answered → ⊥ }
+{}
+
+/// ALONG AN EPOCH AS ITS MASTER LEADS IT what was heard of the newest service is its answer, where none has an answer before it has heard anything.
+pub fn led_said<V, A, M, Q, R>()
+    ensures { (x : Exchange V A M Q R) (acknowledged : Q → Bool) (processor : Processor V) (more : M → Bool) (passed : Q → Bool) (spot : Spot) (opened : ℕ) (v : V) (r : Registers) → ((q : Q) → x.speech.ends q [] ≡ None) →
+        (fs : List (Frame M)) (counts : Bool) (e : Era M Q R) (n : Slave V M) → IsLed x acknowledged processor more passed spot opened v r fs counts e n → NowAnswered x.speech e.side }
 {}
