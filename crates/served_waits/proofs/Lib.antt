@@ -4,3 +4,4 @@ mod Unread
 mod Counted
 mod Stays
 mod Walk
+mod Stations
