@@ -1,2 +1,3 @@
 mod Spent
 mod Led
+mod Told
