@@ -1,8 +1,8 @@
 -- Where nothing is left, as another sees it.
-use Rattle.std.proofs.Common.{◌≡◌, ℕ, ◌&&◌, Bool, true, false, not, Option, Some, None, option_map, List, [], ◌∷◌, ◌++◌, map, refl, sym, ap, ◌∙◌, subst, if◌then◌else◌}
+use Rattle.std.proofs.Common.{◌≡◌, ℕ, ◌&&◌, Bool, true, false, not, Option, Some, None, option_map, List, [], ◌∷◌, ◌++◌, map, refl, sym, ap, ◌∙◌, subst, inl, inr, if◌then◌else◌}
 use Rattle.std.specs.Prelude.{is_none, is_some}
-use Rattle.answered_rows.specs.Moments.{HasNothing, IsFree, IsMailsLast}
-use Rattle.answered_rows.proofs.Laws.{nothing}
+use Rattle.answered_rows.specs.Moments.{HasNothing, IsFree, IsMailsLast, WasHeard}
+use Rattle.answered_rows.proofs.Laws.{heard, nothing}
 use Rattle.exchange_model.specs.Exchange.{Exchange, Speech, IsLawful}
 use Rattle.exchange_model.specs.Rows.{Row, left}
 use Rattle.life_model.specs.Eras.{EraIs}
@@ -10,16 +10,15 @@ use Rattle.life_model.specs.Lives.{Era, Spot}
 use Rattle.link_model.specs.Mails.{LinkMail}
 use Rattle.never_waits.specs.Waits.{NeverWaits}
 use Rattle.passed_model.specs.Erased.{OfRow, PlanOne, row_seen, side_seen}
-use Rattle.passing_rows.specs.Heard.{EraPasses}
+use Rattle.passing_rows.specs.Heard.{EraPasses, HeardBy, IsPassedBy}
 use Rattle.seen_slaves.proofs.Left.{left_as, settled_back}
-use Rattle.seen_spent.specs.Spent.{NothingSeen, SpeakOne}
+use Rattle.seen_spent.specs.Spent.{IsEndTold, NothingSeen, SpeakOne}
 use Rattle.segment_model.specs.Ends.{Passing}
 use Rattle.segment_model.specs.Record.{Frame}
 use Rattle.segment_model.specs.Seats.{Side, is_none_left, is_over}
 use Rattle.segment_model.specs.Slaves.{Processor, Registers, Slave}
 use Rattle.serving_model.specs.Erasing.{box_as}
-use Rattle.spent_rows.specs.Last.{LastPasses, TellsLast}
-use Rattle.spent_rows.proofs.Spent.{none_awaited}
+use Rattle.spent_rows.specs.Last.{LastPasses}
 use Rattle.state_exchange.specs.Stated.{Service, Stated, IsStated}
 use Rattle.state_model.specs.States.{Table}
 use Rattle.tagged_lives.specs.Seen.{era_seen, service_seen, started_seen}
@@ -117,6 +116,17 @@ module _ {N M P Q S R : Type 0} (f : N → M) (g : P → Q) (h : S → R) where
     frees acknowledged =
         free_as x.speech y acknowledged server e n same k (nothing x s processor table spot e opened last fs v r n law stated is never (has_nothing x.speech y acknowledged server e n same k)).free
 
-    pub unawaited : (more : N → Bool) (passed : P → Bool) → EraPasses x.speech more passed e → LastPasses (era_seen f g h e) → TellsLast x more passed e → e.passing ≡ Some Passing.Answered → ⊥
-    unawaited more passed passes lasts tells answered =
-        none_awaited x s processor table spot e opened last fs v r n more passed law stated never is (has_nothing x.speech y (λ q. true) server e n same k) passes (lasts_seen e lasts) tells answered
+    -- by the row as the other has it, with all its replies heard
+    unawaited_by : (more : M → Bool) (passed : Q → Bool) → IsMailsLast e.account.started → ((t : Row N P S) → e.side.now ≡ Some t → passed (g t.service) ≡ true → WasHeard x t → IsEndTold f y more t) →
+        (now : Option (Row N P S)) → e.side.now ≡ now → IsPassedBy y more passed Passing.Answered (option_map (λ (t : Row N P S). row_seen f g h t) now) → ⊥
+    unawaited_by more passed lasts tells None now p = (let no : None ≡ Some p.row = p.is in cc)
+    unawaited_by more passed lasts tells (Some t) now p =
+        let row : row_seen f g h t ≡ p.row = (let both : Some (row_seen f g h t) ≡ Some p.row = p.is in cc) in
+        let said : HeardBy y.emission more Passing.Answered (map f t.heard) = subst (λ (k : Row M Q R). HeardBy y.emission more Passing.Answered k.heard) (sym row) p.heard in
+        elim (tells t now (ap (λ (k : Row M Q R). passed k.service) row ∙ p.passes) (heard x s processor table spot e opened last fs v r n law stated is never (has_nothing x.speech y (λ q. true) server e n same k) lasts t now)) [
+          | inl none ↦ said.0 none
+          | inr told ↦ (let no : true ≡ false = sym told ∙ said.1 in cc)
+        ]
+
+    pub unawaited : (more : M → Bool) (passed : Q → Bool) → EraPasses y more passed (era_seen f g h e) → LastPasses (era_seen f g h e) → ((t : Row N P S) → e.side.now ≡ Some t → passed (g t.service) ≡ true → WasHeard x t → IsEndTold f y more t) → e.passing ≡ Some Passing.Answered → ⊥
+    unawaited more passed passes lasts tells answered = unawaited_by more passed (lasts_seen e lasts Passing.Answered answered) tells e.side.now refl (passes Passing.Answered answered)

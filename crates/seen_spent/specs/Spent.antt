@@ -1,7 +1,7 @@
 -- AN OPEN SLAVE WITH NOTHING LEFT, as another sees its mails, its services and its replies.
-use Rattle.std.specs.Prelude.{◌≡◌, true, None}
+use Rattle.std.specs.Prelude.{◌≡◌, ◌⊎◌, Bool, true, None, [], map}
 use Rattle.answered_rows.specs.Moments.{NoneLeft, NowAnswered}
-use Rattle.exchange_model.specs.Exchange.{Speech}
+use Rattle.exchange_model.specs.Exchange.{Speech, plain}
 use Rattle.exchange_model.specs.Rows.{Row}
 use Rattle.life_model.specs.Lives.{Era}
 use Rattle.link_model.specs.Master.{InState}
@@ -9,6 +9,7 @@ use Rattle.passed_model.specs.Erased.{OfRow, PlanOne, side_seen}
 use Rattle.segment_model.specs.Laws.{IsSettled}
 use Rattle.segment_model.specs.Slaves.{Slave}
 use Rattle.serving_model.specs.Erasing.{slave_as}
+use Rattle.serving_model.specs.Passing.{ends_told}
 
 module _ {N M P Q S R : Type 0} (f : N → M) (g : P → Q) (h : S → R) (z : Speech N P S) (y : Speech M Q R) where
   -- BOTH SPEAK ALIKE OF THE ROW IN HAND: they plan the same of it, and where it ends with its last write it does so for the other too
@@ -24,3 +25,7 @@ module _ {N M P Q S R : Type 0} (f : N → M) (g : P → Q) (h : S → R) (z : S
     pub hand : e.account.hand ≡ None
     pub left : NoneLeft y (side_seen f g h e.side)
     pub answered : NowAnswered z e.side
+
+-- no reply was heard of a row, as the other sees it, or all replies go on but the last
+abbrev pub IsEndTold : {N M P Q S R : Type 0} → (N → M) → Speech M Q R → (M → Bool) → Row N P S → Type 0
+IsEndTold f y more r = (plain y.emission (map f r.heard) ≡ []) ⊎ (ends_told more (plain y.emission (map f r.heard)) ≡ true)
