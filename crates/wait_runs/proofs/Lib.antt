@@ -1,7 +1,10 @@
-mod Frees
-mod Begins
+pub mod Fits
+pub mod Rests
+pub mod Begins
 mod Took
-mod One
-pub mod Lists
-mod Walk
 mod Held
+pub mod One
+pub mod Lists
+mod Opened
+pub mod Ready
+pub mod Walk

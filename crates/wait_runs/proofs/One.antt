@@ -1,52 +1,36 @@
--- One slave of the run by a frame that came back and gained nothing.
-use Rattle.std.proofs.Common.{◌≡◌, ◌⊎◌, ◌≤◌, ℕ, suc, ◌%◌, ◌==◌, Bool, true, false, is_some, Option, Some, None, List, [], refl, sym, ap, ◌∙◌, subst, arith, if◌then◌else◌, inl, inr}
-use Rattle.std.specs.Prelude.{◌&&◌, length, nat_lt, slice_get}
-use Rattle.datagrams.specs.Datagram as Raw
-use Rattle.eager_slaves.specs.Eager.{Remembered, IsClear, NoneLeft, MayBegin, IsAtEnd, IsEager, RemembersOn, GetsNone}
-use Rattle.eager_slaves.specs.Standing.{Unvisited, Visited, Standing, IsDone}
+-- One slave by a frame that came back and gained nothing.
+use Rattle.std.proofs.Common.{◌≡◌, ◌⊎◌, ◌≤◌, ℕ, suc, ◌%◌, ◌==◌, true, Option, Some, None, List, [], refl, sym, ap, ◌∙◌, subst, arith, if◌then◌else◌, inl, inr}
+use Rattle.eager_slaves.specs.Eager.{Remembered, IsClear, NoneLeft, GetsNone}
+use Rattle.eager_slaves.specs.Standing.{Unvisited, Visited, Standing}
+use Rattle.eager_slaves.specs.Frames.{FrameAs}
 use Rattle.eager_slaves.proofs.Choices.{stand_next}
-use Rattle.eager_slaves.specs.Frames.{One, FrameAs}
-use Rattle.eager_slaves.proofs.Sent.{one_sent, none_sent}
 use Rattle.eager_slaves.proofs.Facts.{unvisited_waits}
-use Rattle.eager_slaves.proofs.Goings.{going_silent, going_stands}
-use Rattle.eager_slaves.proofs.Slaves as Slaves
+use Rattle.eager_slaves.proofs.Goings.{going_silent}
+use Rattle.eager_slaves.proofs.Slaves.{open_stands, waits_silent}
 use Rattle.exchange_model.specs.Exchange.{Exchange, Speech}
 use Rattle.exchange_model.specs.Rows.{begun}
-use Rattle.frame_view.specs.Seen.{datagrams_seen}
 use Rattle.frame_view.specs.View.{Lens}
 use Rattle.held_visits.specs.Held.{HeldUp, EndsHeld}
-use Rattle.held_visits.specs.of_answered_rows.Moments.{NowAnswered}
-use Rattle.held_visits.proofs.Held.{unpaused as held_unpaused}
+use Rattle.held_visits.proofs.Held.{took_unpassed, unpaused}
 use Rattle.idle_slaves.specs.Going.{Going}
-use Rattle.idle_slaves.specs.Links.{HasLink}
-use Rattle.idle_slaves.specs.Visited.{LifeSpent, Waiting, IsUnpaused}
-use Rattle.idle_slaves.proofs.Returning.{passing_is}
-use Rattle.life_measure.specs.Gains.{gains}
-use Rattle.life_model.specs.Lives.{Life, Spot, Stand, life_next, life_back, era_next, granted, passes, passing_begins}
+use Rattle.idle_slaves.specs.Visited.{Waiting, IsUnpaused}
+use Rattle.life_model.specs.Lives.{Life, Spot, Stand, life_next, life_back, era_next, granted}
 use Rattle.life_model.specs.Own.{own}
-use Rattle.life_runs.specs.First.{lens_of}
-use Rattle.life_runs.specs.Led.{Exchanged, Leads, Turn, IsTurn, Comes, Took, speech_at, is_passed}
+use Rattle.life_runs.specs.Led.{Leads, Took, speech_at, is_passed}
 use Rattle.link_mails.specs.Body.{Body}
 use Rattle.link_model.specs.Frames.{all_accepted}
 use Rattle.link_model.specs.Master.{InState as HalfState}
 use Rattle.master_duty.specs.Reply.{Reply}
 use Rattle.master_hand.specs.Spoken.{Asked, acknowledged, is_followed}
-use Rattle.named_lives.specs.Alike.{Alike}
-use Rattle.never_waits.specs.Waits.{NeverWaits}
-use Rattle.plan_met.specs.Met.{slave_at, IsOpenAt, IsAt, IsMet}
-use Rattle.plan_ring.specs.Asked.{asked, is_service}
-use Rattle.run_frames.specs.Clocks.{Clocked}
+use Rattle.plan_met.specs.Met.{slave_at, IsMet}
+use Rattle.plan_ring.specs.Asked.{asked}
 use Rattle.run_frames.specs.Goes.{Under, back_life}
-use Rattle.run_frames.specs.Led.{under_of}
 use Rattle.run_frames.specs.Orders.{is_live}
 use Rattle.run_frames.specs.Waits.{Waits, waits_on}
-use Rattle.segment_model.specs.Ends.{Passing}
 use Rattle.segment_model.specs.Seats.{Side, side_next}
-use Rattle.segment_model.specs.Slaves.{Datagram, Slave, grams, serving, slave_after, slave_steps, frame_after}
-use Rattle.segment_plan.specs.declared.plan.Scenario.{Scenario}
+use Rattle.segment_model.specs.Slaves.{Datagram, Slave, Processor, frame_after, grams, serving, slave_after, slave_steps}
 use Rattle.segment_plan.specs.declared.service.Service as Plan
 use Rattle.segment_plan.specs.declared.slave.SlaveSpec.{SlaveSpec}
-use Rattle.slave_lives.specs.Lived.{table_of}
 use Rattle.slave_parts.specs.Parts.{Core, Server}
 use Rattle.slave_parts.specs.of_eoe_model.Network.{Station}
 use Rattle.slave_server.specs.Serving.{Serving}
@@ -55,283 +39,169 @@ use Rattle.slave_steps.specs.Node.{Node}
 use Rattle.state_exchange.specs.Families.{InState}
 use Rattle.state_exchange.specs.Stated.{Service}
 use Rattle.state_model.specs.States.{Table}
-use Rattle.states_come.specs.Steps.{StepsAlone}
-use Rattle.task_model.specs.Accounts.{Account, Pick, account_begins, starts, mails_choice}
-use Rattle.wait_runs.specs.Eager.{IsResting}
-use Rattle.wait_runs.proofs.Begins.{link_at, alone_at}
-use Rattle.wait_runs.proofs.Frees.{frees, rests}
-use Rattle.wait_runs.proofs.Held.{answered_at, states_at, ends_at}
-use Rattle.wait_runs.proofs.Took.{first_mail, state_took, mails_took, begun_row, mails_is}
+use Rattle.task_model.specs.Accounts.{Pick, account_begins, starts, mails_choice}
+use Rattle.wait_runs.proofs.Fits.{IsFit, IsReady, Rests, exchange_at, next_of, table_at}
+use Rattle.wait_runs.proofs.Fits as Fits
+use Rattle.wait_runs.proofs.Held.{ends_at}
+use Rattle.wait_runs.proofs.Took.{state_took, mails_took, begun_row}
 
--- a service of the slave's passes no mail on
-plain_service : (q : Asked) → is_service q ≡ true → is_passed q ≡ false
-plain_service (Asked.sdo q) e = refl
-plain_service (Asked.file q) e = refl
-plain_service (Asked.drive q) e = refl
-plain_service (Asked.net q) e = refl
-plain_service (Asked.passed m) e = absurd (cc)
-
--- a script at its end stays there
-script_end : (room : ℕ) (script : List Plan.Service) (n n' : ℕ) (begun : Option (Service Asked)) → Comes room script n begun n' → slice_get script n ≡ None → slice_get script n' ≡ None
-script_end room script n n' begun Comes.none none = none
-script_end room script n n' begun (Comes.mails s q at asks) none = absurd (let no : Some s ≡ None = sym at ∙ none in cc)
-script_end room script n n' begun (Comes.state target at) none = absurd (let no : Some (Plan.Service.State target) ≡ None = sym at ∙ none in cc)
-script_end room script n n' begun (Comes.packet octets frame) none = none
-
-module _ (plan : Scenario) (fs : List Exchanged) (place number : ℕ) (sent back : List (Datagram Body)) (ds : List Raw.Datagram) (view : sent ≡ datagrams_seen (lens_of plan.slaves) ds)
-    (s : SlaveSpec) (a : Leads) (c : Clocked Body Asked Reply) (u : Turn) (n k : Node Serving) (m m' : Remembered) (t : Waits) (spot : c.spot ≡ a.lived.spot) (life : c.life ≡ a.lived.life) (turn : IsTurn (lens_of plan.slaves) number ds a u)
-    (at : IsAt plan fs place s a n) (met : a.lived.life.stand ≡ Stand.Open → IsMet (lens_of plan.slaves) sent back number c.pace s n k) (never : NeverWaits (asked (profile_of s) s.boot (lens_of plan.slaves)).exchange)
-    (eager : IsEager (speech_at (lens_of plan.slaves) a.lived.spot) a.lived.spot.station sent m u.share.under u.begun (slice_get a.script a.number) a.lived.life u.lived.life)
-    (remembers : RemembersOn a.lived.spot.station back m m' u.share.under a.lived.life u.lived.life) (unpassed : a.lived.life.era.passing ≡ None)
-    (same : gains (back_life (speech_at (lens_of plan.slaves)) acknowledged is_followed is_passed number back c (under_of back u)) ≡ gains c.life) where
-  abbrev lens : ℕ → Lens
-  lens = lens_of plan.slaves
-
+module _ (lens : ℕ → Lens) (number : ℕ) (sent back : List (Datagram Body)) (s : SlaveSpec) (a : Leads) (c : Fits.Slave) (v : Under Body Asked Reply) (next' : Option Plan.Service) (n k : Node Serving) (m m' : Remembered) (t : Waits)
+    (r : IsReady lens number sent back s a c v next' n k m m' t) where
   abbrev ex : Exchange (InState Server) (InState (Station Core)) Body Asked Reply
-  ex = (asked (profile_of s) s.boot (lens_of plan.slaves)).exchange
+  ex = exchange_at lens s
+
+  abbrev processor : Processor (InState Server)
+  processor = (asked (profile_of s) s.boot lens).processor
 
   abbrev table : Table
-  table = table_of (asked (profile_of s) s.boot (lens_of plan.slaves)) s.station
+  table = table_at lens s
 
   abbrev x : Spot → Speech Body Asked Reply
-  x = speech_at (lens_of plan.slaves)
+  x = speech_at lens
 
   abbrev slave : Slave (InState Server) Body
-  slave = slave_at (lens_of plan.slaves) s n
+  slave = slave_at lens s n
 
   abbrev slave' : Slave (InState Server) Body
-  slave' = slave_at (lens_of plan.slaves) s k
+  slave' = slave_at lens s k
 
-  abbrev v : Under Body Asked Reply
-  v = under_of back u
+  abbrev next : Option Plan.Service
+  next = next_of a
 
   abbrev on : Waits
-  on = waits_on number c (under_of back u) t
+  on = waits_on number c v t
 
   abbrev behind : Life Body Asked Reply
-  behind = back_life (speech_at (lens_of plan.slaves)) acknowledged is_followed is_passed number back c (under_of back u)
-
-  -- the script
-  script : slice_get a.script a.number ≡ None → slice_get u.script u.number ≡ None
-  script none = ap (λ z. slice_get z u.number) turn.script ∙ script_end (lens a.lived.spot.station).out a.script a.number u.number u.begun turn.comes none
-
-  -- its life is by the master's choice
-  life_is : u.lived.life ≡ life_next (x c.spot) acknowledged is_followed is_passed number c.life c.life.stand turn.next.pick
-  life_is = turn.next.life ∙ (λ i. life_next (x (sym spot i)) acknowledged is_followed is_passed number (sym life i) (sym life i).stand turn.next.pick)
-
-  station_is : c.spot.station ≡ s.station
-  station_is = ap (λ (z : Spot). z.station) (spot ∙ at.spot)
-
-  under_spot : u.lived.spot ≡ c.spot
-  under_spot = turn.next.spot ∙ sym spot
-
-  one : u.lived.life.stand ≡ Stand.Open → u.share.under ≡ true → One c.spot.station sent
-  one stands e = subst (λ (z : Spot). One z.station sent) under_spot (one_sent lens ds sent view u.lived.spot u.share u.lived.life.stand stands turn.asked.has e)
-
-  none : u.share.under ≡ false → own c.spot.station sent ≡ []
-  none e = subst (λ (z : Spot). own z.station sent ≡ []) under_spot (none_sent lens ds sent view u.lived.spot u.share u.lived.life.stand turn.asked.has e)
-
-  eager_c : IsEager (x c.spot) c.spot.station sent m u.share.under u.begun (slice_get a.script a.number) c.life u.lived.life
-  eager_c = subst (λ (l : Life Body Asked Reply). IsEager (x c.spot) c.spot.station sent m u.share.under u.begun (slice_get a.script a.number) l u.lived.life) (sym life)
-      (subst (λ (z : Spot). IsEager (x z) z.station sent m u.share.under u.begun (slice_get a.script a.number) a.lived.life u.lived.life) (sym spot) eager)
-
-  remembers_c : RemembersOn c.spot.station back m m' u.share.under c.life u.lived.life
-  remembers_c = subst (λ (l : Life Body Asked Reply). RemembersOn c.spot.station back m m' u.share.under l u.lived.life) (sym life)
-      (subst (λ (z : Spot). RemembersOn z.station back m m' u.share.under a.lived.life u.lived.life) (sym spot) remembers)
+  behind = back_life (speech_at lens) acknowledged is_followed is_passed number back c v
 
   abbrev Before : Type 0
-  Before = Standing (serving ex) table (x c.spot) acknowledged c.life slave m (slice_get a.script a.number) t
+  Before = Standing (serving ex) table (x c.spot) acknowledged c.life slave m next t
 
   abbrev Behind : Type 0
-  Behind = Standing (serving ex) table (x c.spot) acknowledged behind slave' m' (slice_get u.script u.number) on
+  Behind = Standing (serving ex) table (x c.spot) acknowledged behind slave' m' next' on
 
   abbrev WaitsYet : Type 0
   WaitsYet = (is_live behind.stand ≡ true) × (on.tries ≤ 1)
 
-  abbrev Rest : Type 0
-  Rest = (a.lived.life.stand ≡ Stand.Gone) ⊎ IsResting lens s m a n
-
   -- ---- an open slave
   module _ (stands : c.life.stand ≡ Stand.Open) where
-    stands_a : a.lived.life.stand ≡ Stand.Open
-    stands_a = ap (λ (l : Life Body Asked Reply). l.stand) (sym life) ∙ stands
-
-    o : IsOpenAt plan fs place s a n
-    o = at.stands stands_a
+    o : IsFit lens s c.spot c.life n
+    o = r.fits stands
 
     z : IsMet lens sent back number c.pace s n k
-    z = met stands_a
+    z = r.met stands
 
-    -- no mail is passed on
-    unpassed_c : c.life.era.passing ≡ None
-    unpassed_c = ap (λ (l : Life Body Asked Reply). l.era.passing) life ∙ unpassed
+    at_open : v.life ≡ life_next (x c.spot) acknowledged is_followed is_passed number c.life Stand.Open r.pick
+    at_open = r.life ∙ ap (λ y. life_next (x c.spot) acknowledged is_followed is_passed number c.life y r.pick) stands
 
-    wish : (granted c.life.era.passing turn.next.pick).begin ≡ u.begun
-    wish = ap (λ z. (granted z turn.next.pick).begin) unpassed_c ∙ turn.begun
+    open_now : v.life.stand ≡ Stand.Open
+    open_now = ap (λ (l : Life Body Asked Reply). l.stand) at_open ∙ stands
 
-    at_open : u.lived.life ≡ life_next (x c.spot) acknowledged is_followed is_passed number c.life Stand.Open turn.next.pick
-    at_open = life_is ∙ ap (λ y. life_next (x c.spot) acknowledged is_followed is_passed number c.life y turn.next.pick) stands
-
-    none_passes : (b : Option (Service Asked)) → u.begun ≡ b → passing_begins (x c.spot) acknowledged is_followed is_passed None c.life.era.account u.lived.life.era.account b ≡ None
-    none_passes None is = refl
-    none_passes (Some (Service.State target)) is = refl
-    none_passes (Some (Service.Mails q)) is =
-        ap (λ (z : Bool). if z && nat_lt (length c.life.era.account.started) (length u.lived.life.era.account.started) then Some Passing.Waiting else None)
-        (plain_service q (mails_is (lens a.lived.spot.station).out a.script a.number q u.begun u.number turn.comes is))
-
-    unpassed_u : u.lived.life.era.passing ≡ None
-    unpassed_u =
-        ap (λ (l : Life Body Asked Reply). l.era.passing) at_open
-        ∙ ap (λ (n : Account Asked Reply). passing_begins (x c.spot) acknowledged is_followed is_passed c.life.era.passing c.life.era.account n (granted c.life.era.passing turn.next.pick).begin) (sym (ap (λ (l : Life Body Asked Reply). l.era.account) at_open))
-        ∙ ap (λ b. passing_begins (x c.spot) acknowledged is_followed is_passed c.life.era.passing c.life.era.account u.lived.life.era.account b) wish
-        ∙ ap (λ p. passing_begins (x c.spot) acknowledged is_followed is_passed p c.life.era.account u.lived.life.era.account u.begun) unpassed_c ∙ none_passes u.begun refl
-
-    open_u : u.lived.life.stand ≡ Stand.Open
-    open_u = ap (λ (l : Life Body Asked Reply). l.stand) at_open ∙ stands
-
-    still : behind.era.passing ≡ u.lived.life.era.passing
-    still =
-        ap (λ y. (life_back (x c.spot) acknowledged is_followed is_passed number c.spot [] back v.came u.lived.life y).era.passing) open_u
-        ∙ passing_is (x c.spot) acknowledged is_followed is_passed number c.spot [] back v.came u.lived.life
-        ∙ ap (λ p. passes (x c.spot) acknowledged is_followed is_passed p []) unpassed_u ∙ sym unpassed_u
-
-    abbrev frame : FrameAs ex (asked (profile_of s) s.boot lens).processor table x acknowledged is_followed is_passed number sent back c v t slave slave'
+    abbrev frame : FrameAs ex processor table x acknowledged is_followed is_passed number sent back c v t slave slave'
     frame = record {
-      pick = turn.next.pick;
-      life = life_is;
-      same = same;
-      still = still;
-      tells = λ open_now some d one. absurd (let no : false ≡ true = sym (ap is_some unpassed_u) ∙ some in cc);
-      one = one;
-      none = none;
-      back_is = subst (λ (h : ℕ). own h back ≡ frame_after h slave (own h sent)) (sym station_is) z.back_is;
-      slave = subst (λ (h : ℕ). slave' ≡ (let y = slave_after h slave (own h sent) in if suc number % c.pace == 0 then slave_steps ex (asked (profile_of s) s.boot lens).processor y else y)) (sym station_is) z.slave;
-      here = o.lives.lives.epoch.station ∙ sym station_is;
-      alone = subst (λ (l : Life Body Asked Reply). StepsAlone ex (asked (profile_of s) s.boot lens).processor table l.era.account.hand slave) (sym life) (alone_at plan fs place s a n o);
+      pick = r.pick;
+      life = r.life;
+      same = r.same;
+      still = r.still stands;
+      tells = r.tells;
+      one = r.one;
+      none = r.none;
+      back_is = subst (λ (h : ℕ). own h back ≡ frame_after h slave (own h sent)) (sym r.station) z.back_is;
+      slave = subst (λ (h : ℕ). slave' ≡ (let y = slave_after h slave (own h sent) in if suc number % c.pace == 0 then slave_steps ex processor y else y)) (sym r.station) z.slave;
+      here = o.here ∙ sym r.station;
+      alone = o.alone;
     }
 
-    link : HasLink c.life.era.side slave
-    link = subst (λ (l : Life Body Asked Reply). HasLink l.era.side slave) (sym life) (link_at plan fs place s a n o)
-
-    frees_c : LifeSpent (serving ex) c.life slave.node → NoneLeft (x c.spot) c.life → MayBegin (x c.spot) c.life
-    frees_c = subst (λ (l : Life Body Asked Reply). LifeSpent (serving ex) l slave.node → NoneLeft (x c.spot) l → MayBegin (x c.spot) l) (sym life)
-        (subst (λ (y : Spot). LifeSpent (serving ex) a.lived.life slave.node → NoneLeft (x y) a.lived.life → MayBegin (x y) a.lived.life) (sym spot) (frees plan fs place s a n o never unpassed))
+    -- ---- what came into hand
+    took_era : (w : Service Asked) → r.begun ≡ Some w → (era_next (x c.spot) acknowledged is_followed is_passed number c.life.era r.pick).account.started ≡ starts c.life.era.account w number
+    took_era w e = ap (λ (l : Life Body Asked Reply). l.era.account.started) (sym at_open) ∙ subst (λ b. Took number c.life.era.account v.life.era.account b) e r.took
 
     abbrev pick : Pick Asked
-    pick = granted c.life.era.passing turn.next.pick
+    pick = granted c.life.era.passing r.pick
 
-    took : (w : Service Asked) → u.begun ≡ Some w → (account_begins (x c.spot) acknowledged number c.life.era.side c.life.era.account c.life.era.account.hand (Some w)).started ≡ starts c.life.era.account w number
-    took w e =
-        let grew : u.lived.life.era.account.started ≡ starts a.lived.life.era.account w number = subst (λ b. Took number a.lived.life.era.account u.lived.life.era.account b) e turn.took in
-        ap (λ b. (account_begins (x c.spot) acknowledged number c.life.era.side c.life.era.account c.life.era.account.hand b).started) (sym (wish ∙ e)) ∙ ap (λ (l : Life Body Asked Reply). l.era.account.started) (sym at_open) ∙ grew
-        ∙ ap (λ (l : Life Body Asked Reply). starts l.era.account w number) (sym life)
+    granted_is : (w : Service Asked) → r.begun ≡ Some w → (granted c.life.era.passing r.pick).begin ≡ Some w
+    granted_is w e = ap (λ p. (granted p r.pick).begin) (took_unpassed (x c.spot) acknowledged is_followed is_passed number c.life.era r.pick w (took_era w e)) ∙ r.wish ∙ e
 
-    hand_is : (w : Service Asked) → u.begun ≡ Some w → (account_begins (x c.spot) acknowledged number c.life.era.side c.life.era.account c.life.era.account.hand (Some w)).hand ≡ u.lived.life.era.account.hand
-    hand_is w e = ap (λ b. (account_begins (x c.spot) acknowledged number c.life.era.side c.life.era.account c.life.era.account.hand b).hand) (sym (wish ∙ e)) ∙ ap (λ (l : Life Body Asked Reply). l.era.account.hand) (sym at_open)
+    took : (w : Service Asked) → r.begun ≡ Some w → (account_begins (x c.spot) acknowledged number c.life.era.side c.life.era.account c.life.era.account.hand (Some w)).started ≡ starts c.life.era.account w number
+    took w e = ap (λ b. (account_begins (x c.spot) acknowledged number c.life.era.side c.life.era.account c.life.era.account.hand b).started) (sym (granted_is w e)) ∙ took_era w e
 
-    first_left : {X : Type 0} (q : Asked) → u.begun ≡ Some (Service.Mails q) → u.lived.life.era.side.halves.out.holding ≡ None → NoneLeft (x c.spot) u.lived.life → X
+    hand_is : (w : Service Asked) → r.begun ≡ Some w → (account_begins (x c.spot) acknowledged number c.life.era.side c.life.era.account c.life.era.account.hand (Some w)).hand ≡ v.life.era.account.hand
+    hand_is w e = ap (λ b. (account_begins (x c.spot) acknowledged number c.life.era.side c.life.era.account c.life.era.account.hand b).hand) (sym (granted_is w e)) ∙ ap (λ (l : Life Body Asked Reply). l.era.account.hand) (sym at_open)
+
+    first_left : {X : Type 0} (q : Asked) → r.begun ≡ Some (Service.Mails q) → v.life.era.side.halves.out.holding ≡ None → NoneLeft (x c.spot) v.life → X
     first_left q e free left_none =
-        let k = mails_took (x c.spot) acknowledged number c.life.era.side c.life.era.account c.life.era.account.hand q (took (Service.Mails q) e) in
-        let side : u.lived.life.era.side ≡ side_next (x c.spot) number c.life.era.side (mails_choice c.life.era.account pick) = ap (λ (l : Life Body Asked Reply). l.era.side) at_open in
-        let now : u.lived.life.era.side.now ≡ Some (begun q number) =
+        let b = mails_took (x c.spot) acknowledged number c.life.era.side c.life.era.account c.life.era.account.hand q (took (Service.Mails q) e) in
+        let side : v.life.era.side ≡ side_next (x c.spot) number c.life.era.side (mails_choice c.life.era.account pick) = ap (λ (l : Life Body Asked Reply). l.era.side) at_open in
+        let now : v.life.era.side.now ≡ Some (begun q number) =
         ap (λ (d : Side Body Asked Reply). d.now) side
-        ∙ begun_row (x c.spot) acknowledged number c.life.era.side c.life.era.account q pick (wish ∙ e) k (ap (λ (d : Side Body Asked Reply). d.halves.out.holding) (sym side) ∙ free) in
-        let alike : Alike is_service (x c.spot) ex.speech = subst (λ (y : Spot). Alike is_service (x y) ex.speech) (sym spot) o.alike in
-        let is : is_service q ≡ true = mails_is (lens a.lived.spot.station).out a.script a.number q u.begun u.number turn.comes e in
-        first_mail ex o.lawful never o.lives.lives.epoch.server q o.lives.lives.epoch.is.plan.plan.ready.0 (sym (alike.valid q is) ∙ k.valid) (sym (alike.planned q [] is) ∙ left_none (begun q number) now)
+        ∙ begun_row (x c.spot) acknowledged number c.life.era.side c.life.era.account q pick (granted_is (Service.Mails q) e) b (ap (λ (d : Side Body Asked Reply). d.halves.out.holding) (sym side) ∙ free) in
+        absurd (o.first q b.valid (left_none (begun q number) now))
 
-    settles : u.share.under ≡ true → IsClear u.lived.life → u.lived.life.era.side.halves.out.holding ≡ None → u.lived.life.era.account.hand ≡ None → u.begun ≡ None
-    settles e clear free none = by u.begun refl
+    settles : v.under ≡ true → IsClear v.life → v.life.era.side.halves.out.holding ≡ None → v.life.era.account.hand ≡ None → r.begun ≡ None
+    settles e clear free none = by r.begun refl
       where
-        by : (b : Option (Service Asked)) → u.begun ≡ b → b ≡ None
+        by : (b : Option (Service Asked)) → r.begun ≡ b → b ≡ None
         by None is = refl
         by (Some (Service.State target)) is =
             state_took (x c.spot) acknowledged number c.life.era.side c.life.era.account c.life.era.account.hand target (took (Service.State target) is) (hand_is (Service.State target) is ∙ none)
-        by (Some (Service.Mails q)) is = first_left q is free (eager_c.takes e clear free)
+        by (Some (Service.Mails q)) is = first_left q is free (r.eager.takes e clear free)
 
-    rests_c : IsDone (serving ex) (x c.spot) c.life slave m (slice_get a.script a.number) → Rest
-    rests_c d =
-        inr (rests plan fs place s a n o never unpassed m stands_a
-        (subst (λ (y : Spot). IsDone (serving ex) (x y) a.lived.life slave m (slice_get a.script a.number)) spot (subst (λ (l : Life Body Asked Reply). IsDone (serving ex) (x c.spot) l slave m (slice_get a.script a.number)) life d)))
-
-    -- what was heard is the answer; and a state service that began was left of the script
-    answered_c : NowAnswered (x c.spot) c.life.era.side
-    answered_c = subst (λ (l : Life Body Asked Reply). NowAnswered (x c.spot) l.era.side) (sym life) (subst (λ (y : Spot). NowAnswered (x y) a.lived.life.era.side) (sym spot) (answered_at plan fs place s a n o))
-
-    abbrev States : Spot → Life Body Asked Reply → Type 0
-    States y l = (target : ℕ) → u.begun ≡ Some (Service.State target) → ((era_next (x y) acknowledged is_followed is_passed number l.era turn.next.pick).account.started ≡ starts l.era.account (Service.State target) number) × (slice_get a.script a.number ≡ None → ⊥)
-
-    states_c : States c.spot c.life
-    states_c = subst (λ l. States c.spot l) (sym life) (subst (λ y. States y a.lived.life) (sym spot) (λ target is. states_at plan fs place s a n o number ds u turn stands_a target is))
+    states : (target : ℕ) → r.begun ≡ Some (Service.State target) → ((era_next (x c.spot) acknowledged is_followed is_passed number c.life.era r.pick).account.started ≡ starts c.life.era.account (Service.State target) number) × (next_of a ≡ None → ⊥)
+    states target is = (took_era (Service.State target) is, r.own_state target is)
 
     -- at a write in vain
-    ends_c : u.share.under ≡ true → IsClear c.life → EndsHeld (x c.spot) acknowledged (slice_get a.script a.number ≡ None) c.spot.station back u.lived.life behind
-    ends_c e clear =
-        let clear_a : IsClear a.lived.life = subst (λ l. IsClear l) life clear in
-        let open_now : u.lived.life.stand ≡ Stand.Open = ap (λ (l : Life Body Asked Reply). l.stand) life_is ∙ stand_next (x c.spot) acknowledged is_followed is_passed number c.life turn.next.pick ∙ stands in
-        subst (λ z. EndsHeld (x c.spot) acknowledged (slice_get a.script a.number ≡ None) c.spot.station back u.lived.life (life_back (x c.spot) acknowledged is_followed is_passed number c.spot [] back v.came u.lived.life z)) (sym open_now)
-        (subst (λ (y : Spot). EndsHeld (x y) acknowledged (slice_get a.script a.number ≡ None) y.station back u.lived.life (life_back (x y) acknowledged is_followed is_passed number y [] back v.came u.lived.life Stand.Open)) (sym spot)
-        (ends_at plan fs place s a n o number ds u turn stands_a back v.came (λ free hand passing none. (eager.ends e clear_a (record { free = free.free; done = free.done; hand = hand; passing = passing }) (sym turn.begun ∙ none)).script)))
+    ends : v.under ≡ true → IsClear c.life → EndsHeld (x c.spot) acknowledged (next_of a ≡ None) c.spot.station back v.life behind
+    ends e clear =
+        subst (λ y. EndsHeld (x c.spot) acknowledged (next_of a ≡ None) c.spot.station back v.life (life_back (x c.spot) acknowledged is_followed is_passed number c.spot v.news back v.came v.life y)) (sym open_now)
+        (ends_at (x c.spot) number c.spot c.life.era o.answered o.told o.silent r.pick (λ w wish. took_era w (sym r.wish ∙ wish)) v.life (ap (λ (l : Life Body Asked Reply). l.era) at_open) (next_of a ≡ None)
+        (λ free hand passing none. (r.eager.ends e clear (record { free = free.free; done = free.done; hand = hand; passing = passing }) (sym r.wish ∙ none)).script) v.news back v.came)
+
+    -- ---- behind the frame
+    opened : GetsNone m m' → Before → Behind × (WaitsYet ⊎ Rests lens s a n m)
+    opened gets before =
+        let both = open_stands ex processor table x acknowledged is_followed is_passed number sent back c v t slave slave' frame m m' next r.begun r.wish r.eager r.remembers next' gets r.script o.link o.answered states ends o.frees settles stands before in
+        (both.0, elim both.1 [ inl waits ↦ inl waits | inr done ↦ inr (r.rest (inr done)) ])
 
     -- no mail is heard of it
     abbrev Quiet : Type 0
-    Quiet = all_accepted c.spot.station u.lived.life.era.side.halves (grams (own c.spot.station back)) ≡ []
+    Quiet = all_accepted c.spot.station v.life.era.side.halves (grams (own c.spot.station back)) ≡ []
 
-    waits_quiet : Waiting (serving ex) c.life slave.node m.memory t → IsUnpaused turn.next.pick m.memory t → Quiet
-    waits_quiet k pause = Slaves.waits_silent ex (asked (profile_of s) s.boot lens).processor table x acknowledged is_followed is_passed number sent back c v t slave slave' frame m m' (slice_get a.script a.number) u.begun turn.begun eager_c remembers_c link k pause
+    waits_quiet : Waiting (serving ex) c.life slave.node m.memory t → IsUnpaused r.pick m.memory t → Quiet
+    waits_quiet w pause = waits_silent ex processor table x acknowledged is_followed is_passed number sent back c v t slave slave' frame m m' next r.begun r.wish r.eager r.remembers o.link w pause
 
-    visited_quiet : Visited (serving ex) (x c.spot) c.life slave.node m.memory t → HeldUp (x c.spot) acknowledged (slice_get a.script a.number ≡ None) c.life m.memory t → Quiet
-    visited_quiet k held = waits_quiet k.waits (held_unpaused (x c.spot) acknowledged is_followed is_passed number c.life m.memory t turn.next.pick (slice_get a.script a.number ≡ None) held (λ target e. states_c target (sym turn.begun ∙ e)))
+    visited_quiet : Visited (serving ex) (x c.spot) c.life slave.node m.memory t → HeldUp (x c.spot) acknowledged (next_of a ≡ None) c.life m.memory t → Quiet
+    visited_quiet w held = waits_quiet w.waits (unpaused (x c.spot) acknowledged is_followed is_passed number c.life m.memory t r.pick (next_of a ≡ None) held (λ target e. states target (sym r.wish ∙ e)))
 
     fresh_quiet : Unvisited (serving ex) c.life slave.node t → Quiet
-    fresh_quiet k = waits_quiet (unvisited_waits (serving ex) c.life slave.node t m.memory k) (λ target e one. absurd (let none = k.tries in omega (arith, none, one)))
+    fresh_quiet w = waits_quiet (unvisited_waits (serving ex) c.life slave.node t m.memory w) (λ target e one. absurd (let none = w.tries in omega (arith, none, one)))
 
     going_quiet : Going table c.life slave.registers t → c.life.era.side.halves.inn.state ≡ HalfState.Clear → Quiet
-    going_quiet g clear = going_silent ex (asked (profile_of s) s.boot lens).processor table x acknowledged is_followed is_passed number sent back c v t slave slave' frame m (slice_get a.script a.number) u.begun eager_c g clear
+    going_quiet g clear = going_silent ex processor table x acknowledged is_followed is_passed number sent back c v t slave slave' frame m next r.begun r.eager g clear
 
-    visited : GetsNone m m' → (k : Visited (serving ex) (x c.spot) c.life slave.node m.memory t) → (t.stepped ≡ true → slave.registers.control ≡ None) → (2 ≤ t.tries → IsAtEnd (slice_get a.script a.number) m) →
-        HeldUp (x c.spot) acknowledged (slice_get a.script a.number ≡ None) c.life m.memory t → Behind × (WaitsYet ⊎ Rest)
-    visited gets k control end held = (
-      Slaves.visited_stands ex (asked (profile_of s) s.boot lens).processor table x acknowledged is_followed is_passed number sent back c v t slave slave' frame m m' (slice_get a.script a.number) u.begun turn.begun eager_c remembers_c (slice_get u.script u.number) gets script link answered_c states_c ends_c frees_c settles k control end held,
-      elim (Slaves.visited_waits ex (asked (profile_of s) s.boot lens).processor table x acknowledged is_followed is_passed number sent back c v t slave slave' frame m m' (slice_get a.script a.number) u.begun turn.begun eager_c remembers_c (slice_get u.script u.number) gets script link answered_c states_c ends_c frees_c settles k control end held) [
-        | inl waits ↦ inl waits
-        | inr done ↦ inr (rests_c done)
-      ],
-    )
+    by_standing : Before → Quiet
+    by_standing (Standing.gone e) = absurd (let no : Stand.Gone ≡ Stand.Open = sym e ∙ stands in cc)
+    by_standing (Standing.fresh w control) = fresh_quiet w
+    by_standing (Standing.waits w control end held) = visited_quiet w held
+    by_standing (Standing.goes g clear) = going_quiet g clear
 
-    fresh : GetsNone m m' → (k : Unvisited (serving ex) c.life slave.node t) → (t.stepped ≡ true → slave.registers.control ≡ None) → Behind × (WaitsYet ⊎ Rest)
-    fresh gets k control =
-        let both = Slaves.fresh_stands ex (asked (profile_of s) s.boot lens).processor table x acknowledged is_followed is_passed number sent back c v t slave slave' frame m m' (slice_get a.script a.number) u.begun turn.begun eager_c remembers_c (slice_get u.script u.number) gets script link answered_c states_c ends_c frees_c settles k control in
-        (both.0, inl both.1)
-
-    going : (g : Going table c.life slave.registers t) → c.life.era.side.halves.inn.state ≡ HalfState.Clear → Behind × (WaitsYet ⊎ Rest)
-    going g clear =
-        let both = going_stands ex (asked (profile_of s) s.boot lens).processor table x acknowledged is_followed is_passed number sent back c v t slave slave' frame m (slice_get a.script a.number) u.begun eager_c g clear m' (slice_get u.script u.number) in
-        (both.0, inl both.1)
+  -- its master stands to it before the frame as it chose
+  stand_is : v.life.stand ≡ c.life.stand
+  stand_is = ap (λ (l : Life Body Asked Reply). l.stand) r.life ∙ stand_next (x c.spot) acknowledged is_followed is_passed number c.life r.pick
 
   -- ---- one that was given up for good
-  gone : c.life.stand ≡ Stand.Gone → Behind × (WaitsYet ⊎ Rest)
+  gone : c.life.stand ≡ Stand.Gone → Behind × (WaitsYet ⊎ Rests lens s a n m)
   gone e =
-      let stand : u.lived.life.stand ≡ Stand.Gone = ap (λ (l : Life Body Asked Reply). l.stand) life_is ∙ stand_next (x c.spot) acknowledged is_followed is_passed number c.life turn.next.pick ∙ e in (
-        Standing.gone (ap (λ y. (life_back (x c.spot) acknowledged is_followed is_passed number c.spot [] back v.came u.lived.life y).stand) stand ∙ stand),
-        inr (inl (ap (λ (l : Life Body Asked Reply). l.stand) (sym life) ∙ e)),
+      let stand : v.life.stand ≡ Stand.Gone = stand_is ∙ e in (
+        Standing.gone (ap (λ y. (life_back (x c.spot) acknowledged is_followed is_passed number c.spot v.news back v.came v.life y).stand) stand ∙ stand),
+        inr (r.rest (inl e)),
       )
 
-  pub stands_on : GetsNone m m' → Before → Behind × (WaitsYet ⊎ Rest)
+  pub stands_on : GetsNone m m' → Before → Behind × (WaitsYet ⊎ Rests lens s a n m)
   stands_on gets (Standing.gone e) = gone e
-  stands_on gets (Standing.fresh k control) = fresh k.shows.stands gets k control
-  stands_on gets (Standing.waits k control end held) = visited k.waits.shows.stands gets k control end held
-  stands_on gets (Standing.goes g clear) = going g.stands g clear
+  stands_on gets (Standing.fresh w control) = opened w.shows.stands gets (Standing.fresh w control)
+  stands_on gets (Standing.waits w control end held) = opened w.waits.shows.stands gets (Standing.waits w control end held)
+  stands_on gets (Standing.goes g clear) = opened g.stands gets (Standing.goes g clear)
 
   -- no mail is heard of an open one
-  pub quiet_at : Before → u.lived.life.stand ≡ Stand.Open → all_accepted u.lived.spot.station u.lived.life.era.side.halves (grams (own u.lived.spot.station back)) ≡ []
-  quiet_at k stands = subst (λ (z : Spot). all_accepted z.station u.lived.life.era.side.halves (grams (own z.station back)) ≡ []) (sym under_spot) (by k)
-    where
-      stand : u.lived.life.stand ≡ c.life.stand
-      stand = ap (λ (l : Life Body Asked Reply). l.stand) life_is ∙ stand_next (x c.spot) acknowledged is_followed is_passed number c.life turn.next.pick
-
-      by : Before → all_accepted c.spot.station u.lived.life.era.side.halves (grams (own c.spot.station back)) ≡ []
-      by (Standing.gone e) = absurd (let no : Stand.Gone ≡ Stand.Open = sym e ∙ sym stand ∙ stands in cc)
-      by (Standing.fresh k control) = fresh_quiet k.shows.stands k
-      by (Standing.waits k control end held) = visited_quiet k.waits.shows.stands k held
-      by (Standing.goes g clear) = going_quiet g.stands g clear
+  pub quiet_at : Before → v.life.stand ≡ Stand.Open → all_accepted c.spot.station v.life.era.side.halves (grams (own c.spot.station back)) ≡ []
+  quiet_at before open_then = by_standing (sym stand_is ∙ open_then) before

@@ -33,13 +33,15 @@ use Rattle.segment_plan.specs.declared.service.Service as Script
 use Rattle.segment_plan.specs.declared.slave.SlaveSpec.{SlaveSpec}
 use Rattle.segment_ring.specs.declared.wire.Fate.TheVariants.{Pass, Lost}
 use Rattle.wait_runs.specs.Eager.{AllRest, AllSilent, IsEagerFrame, EagerIn}
-use Rattle.wait_runs.proofs.Lists.{Slave, still_same, all_same, AllStanding, NeverAll, all_begin, repaired, all_silent, all_stand}
+use Rattle.wait_runs.proofs.Fits.{AllReady, AllSeated, nexts_of}
+use Rattle.wait_runs.proofs.Lists.{Slave, still_same, all_same, AllStanding, all_begin, all_quiet, all_stand, repaired}
+use Rattle.wait_runs.proofs.Ready.{NeverAll, all_ready, all_seated, all_silent, nexts_behind, nexts_led}
 
-one_more : (fs : List Exchanged) (f : Exchanged) (n : ℕ) → n ≡ length fs → suc n ≡ length (fs ++ f ∷ [])
+pub one_more : (fs : List Exchanged) (f : Exchanged) (n : ℕ) → n ≡ length fs → suc n ≡ length (fs ++ f ∷ [])
 one_more fs f n e = ap suc e ∙ sym (length-append fs (f ∷ []) ∙ (let sum : length fs + 1 ≡ suc (length fs) = omega arith in sum))
 
 -- how many frames in a row gained nothing, behind one more: none; as many, where a repair went on; or one more
-still_is : (repair : ℕ) (before behind : List Slave) (still : ℕ) → (let many = still_behind repair before behind still in (many ≡ 0) ⊎ (((many ≡ still) × (1 ≤ repair)) ⊎ (many ≡ suc still)))
+pub still_is : (repair : ℕ) (before behind : List Slave) (still : ℕ) → (let many = still_behind repair before behind still in (many ≡ 0) ⊎ (((many ≡ still) × (1 ≤ repair)) ⊎ (many ≡ suc still)))
 still_is repair before behind still = first (nat_lt (reopened_all before) (reopened_all behind))
   where
     Cases : ℕ → Type 0
@@ -59,37 +61,37 @@ still_is repair before behind still = first (nat_lt (reopened_all before) (reope
 
 -- ---- what a frame leaves of the lists
 module _ (x : Spot → Speech Body Asked Reply) (number : ℕ) (sent : List (Datagram Body)) where
-  anew_back : (back : List (Datagram Body)) (cs : List Slave) (vs : List (Under Body Asked Reply)) → AllUnder x acknowledged is_followed is_passed number sent cs vs → all_anew cs ≡ all_anew (all_back x acknowledged is_followed is_passed number back cs vs)
+  pub anew_back : (back : List (Datagram Body)) (cs : List Slave) (vs : List (Under Body Asked Reply)) → AllUnder x acknowledged is_followed is_passed number sent cs vs → all_anew cs ≡ all_anew (all_back x acknowledged is_followed is_passed number back cs vs)
   anew_back back [] [] t = refl
   anew_back back [] (v ∷ vs) t = absurd t
   anew_back back (c ∷ cs) [] t = absurd t
   anew_back back (c ∷ cs) (v ∷ vs) t = ap (λ l. new_waits ∷ l) (anew_back back cs vs t.1)
 
-  paces_back : (back : List (Datagram Body)) (cs : List Slave) (vs : List (Under Body Asked Reply)) → AllUnder x acknowledged is_followed is_passed number sent cs vs → map (λ (c : Slave). c.pace) (all_back x acknowledged is_followed is_passed number back cs vs) ≡ map (λ (c : Slave). c.pace) cs
+  pub paces_back : (back : List (Datagram Body)) (cs : List Slave) (vs : List (Under Body Asked Reply)) → AllUnder x acknowledged is_followed is_passed number sent cs vs → map (λ (c : Slave). c.pace) (all_back x acknowledged is_followed is_passed number back cs vs) ≡ map (λ (c : Slave). c.pace) cs
   paces_back back [] [] t = refl
   paces_back back [] (v ∷ vs) t = absurd t
   paces_back back (c ∷ cs) [] t = absurd t
   paces_back back (c ∷ cs) (v ∷ vs) t = ap (λ l. c.pace ∷ l) (paces_back back cs vs t.1)
 
-  long_back : (back : List (Datagram Body)) (cs : List Slave) (vs : List (Under Body Asked Reply)) → AllUnder x acknowledged is_followed is_passed number sent cs vs → length (all_back x acknowledged is_followed is_passed number back cs vs) ≡ length cs
+  pub long_back : (back : List (Datagram Body)) (cs : List Slave) (vs : List (Under Body Asked Reply)) → AllUnder x acknowledged is_followed is_passed number sent cs vs → length (all_back x acknowledged is_followed is_passed number back cs vs) ≡ length cs
   long_back back [] [] t = refl
   long_back back [] (v ∷ vs) t = absurd t
   long_back back (c ∷ cs) [] t = absurd t
   long_back back (c ∷ cs) (v ∷ vs) t = ap suc (long_back back cs vs t.1)
 
-  anew_lost : (gives : Bool) (recover : ℕ) (cs : List Slave) (vs : List (Under Body Asked Reply)) → AllUnder x acknowledged is_followed is_passed number sent cs vs → all_anew cs ≡ all_anew (all_lost x acknowledged is_followed is_passed gives recover number sent cs vs)
+  pub anew_lost : (gives : Bool) (recover : ℕ) (cs : List Slave) (vs : List (Under Body Asked Reply)) → AllUnder x acknowledged is_followed is_passed number sent cs vs → all_anew cs ≡ all_anew (all_lost x acknowledged is_followed is_passed gives recover number sent cs vs)
   anew_lost gives recover [] [] t = refl
   anew_lost gives recover [] (v ∷ vs) t = absurd t
   anew_lost gives recover (c ∷ cs) [] t = absurd t
   anew_lost gives recover (c ∷ cs) (v ∷ vs) t = ap (λ l. new_waits ∷ l) (anew_lost gives recover cs vs t.1)
 
-  paces_lost : (gives : Bool) (recover : ℕ) (cs : List Slave) (vs : List (Under Body Asked Reply)) → AllUnder x acknowledged is_followed is_passed number sent cs vs → map (λ (c : Slave). c.pace) (all_lost x acknowledged is_followed is_passed gives recover number sent cs vs) ≡ map (λ (c : Slave). c.pace) cs
+  pub paces_lost : (gives : Bool) (recover : ℕ) (cs : List Slave) (vs : List (Under Body Asked Reply)) → AllUnder x acknowledged is_followed is_passed number sent cs vs → map (λ (c : Slave). c.pace) (all_lost x acknowledged is_followed is_passed gives recover number sent cs vs) ≡ map (λ (c : Slave). c.pace) cs
   paces_lost gives recover [] [] t = refl
   paces_lost gives recover [] (v ∷ vs) t = absurd t
   paces_lost gives recover (c ∷ cs) [] t = absurd t
   paces_lost gives recover (c ∷ cs) (v ∷ vs) t = ap (λ l. c.pace ∷ l) (paces_lost gives recover cs vs t.1)
 
-hands_of : (slowest : ℕ) (cs : List Slave) → AllClocked slowest cs → AllHand cs
+pub hands_of : (slowest : ℕ) (cs : List Slave) → AllClocked slowest cs → AllHand cs
 hands_of slowest [] k = tt
 hands_of slowest (c ∷ cs) k = (k.0.hand, hands_of slowest cs k.1)
 
@@ -126,7 +128,7 @@ module _ (seen_is : SeenIs) (plan : Scenario) (laws : Laws plan) (never : NeverA
     pub hands : AllHand cs
     pub anew : p.still ≡ 0 → p.waits ≡ all_anew cs
     pub none : p.opened < length cs → p.still ≡ 0
-    pub stands : 1 ≤ p.still → AllStanding plan plan.slaves as' cs (ring_after (ring_of plan) fs).nodes ns p.waits
+    pub stands : 1 ≤ p.still → AllStanding (lens_of plan.slaves) plan.slaves (nexts_of as') cs (ring_after (ring_of plan) fs).nodes ns p.waits
 
   -- ---- one frame
   module _ (fs : List Exchanged) (missed : ℕ) (as' : List Leads) (p : Progress) (cs : List Slave) (ms : List Remembered) (h : Holds fs missed as' p cs ms) (f : Exchanged) (us : List Turn) (l : IsLedFrame (lens_of plan.slaves) (length fs) f.sent as' us) where
@@ -167,6 +169,9 @@ module _ (seen_is : SeenIs) (plan : Scenario) (laws : Laws plan) (never : NeverA
         opens : AllOpenAt plan fs 0 plan.slaves as' (ring_after (ring_of plan) fs).nodes
         opens = laws.opens fs as' lived
 
+        seated : AllSeated lens plan.slaves as' (ring_after (ring_of plan) fs).nodes
+        seated = all_seated plan fs 0 plan.slaves as' (ring_after (ring_of plan) fs).nodes opens never e.unpassed
+
         met : AllMet lens (seen lens f.sent) (seen lens f.back) p.frames plan.slaves as' plan.paces (ring_after (ring_of plan) fs).nodes (ring_after (ring_of plan) (fs ++ f ∷ [])).nodes
         met = subst (λ (n : ℕ). AllMet lens (seen lens f.sent) (seen lens f.back) n plan.slaves as' plan.paces (ring_after (ring_of plan) fs).nodes (ring_after (ring_of plan) (fs ++ f ∷ [])).nodes) (sym h.frames)
             (laws.meets fs as' f us lived l (last_round (ring_of plan) fs f went) fate)
@@ -174,34 +179,41 @@ module _ (seen_is : SeenIs) (plan : Scenario) (laws : Laws plan) (never : NeverA
         same : (repair_of slowest (length cs) p.opened p.last p.frames cs ≡ 0) × (gains_all on ≤ gains_all cs)
         same = still_same (repair_of slowest (length cs) p.opened p.last p.frames cs) cs on p.still counted
 
-        before : (still : ℕ) → p.still ≡ still → AllStanding plan plan.slaves as' cs (ring_after (ring_of plan) fs).nodes ms p.waits
+        before : (still : ℕ) → p.still ≡ still → AllStanding (lens_of plan.slaves) plan.slaves (nexts_of as') cs (ring_after (ring_of plan) fs).nodes ms p.waits
         before zero is =
-            subst (λ ws. AllStanding plan plan.slaves as' cs (ring_after (ring_of plan) fs).nodes ms ws) (sym (h.anew is))
-            (all_begin plan fs 0 (seen lens f.sent) plan.slaves as' cs us (ring_after (ring_of plan) fs).nodes ms opens h.led e.eager (all_repaired slowest p.opened p.frames p.last cs over same.0) h.hands e.unpassed)
+            subst (λ ws. AllStanding (lens_of plan.slaves) plan.slaves (nexts_of as') cs (ring_after (ring_of plan) fs).nodes ms ws) (sym (h.anew is))
+            (all_begin lens (seen lens f.sent) plan.slaves as' cs us (ring_after (ring_of plan) fs).nodes ms seated h.led e.eager (all_repaired slowest p.opened p.frames p.last cs over same.0) h.hands)
         before (suc n) is = h.stands (omega (arith, is))
 
-        silent : AllSilent (seen (lens_of plan.slaves) f.back) us
-        silent = all_silent plan fs p.frames f plan.recover plan.retry (length fs) gives at_frames.datagrams view 0 plan.slaves as' cs us plan.paces (ring_after (ring_of plan) fs).nodes (ring_after (ring_of plan) (fs ++ f ∷ [])).nodes ms ns p.waits
-            opens h.led at_frames.each met h.paced never e.eager e.remembers e.unpassed (all_same x p.frames (seen lens f.sent) (seen lens f.back) cs vs lists same.1) (before p.still refl)
+        ready : AllReady (lens_of plan.slaves) p.frames (seen (lens_of plan.slaves) f.sent) (seen (lens_of plan.slaves) f.back) plan.slaves as' cs (unders (seen (lens_of plan.slaves) f.back) us) (nexts_behind us) (ring_after (ring_of plan) fs).nodes (ring_after (ring_of plan) (fs ++ f ∷ [])).nodes ms ns p.waits
+        ready = all_ready lens p.frames (seen lens f.sent) (seen lens f.back) at_frames.datagrams view plan.slaves as' cs us plan.paces (ring_after (ring_of plan) fs).nodes (ring_after (ring_of plan) (fs ++ f ∷ [])).nodes ms ns p.waits
+            seated h.led at_frames.each met h.paced e.eager e.remembers e.unpassed (all_same x p.frames (seen lens f.sent) (seen lens f.back) cs vs lists same.1) (before p.still refl)
 
-        both : AllStanding plan plan.slaves (leads_behind lens plan.recover plan.retry slowest missed (length fs) f us) on (ring_after (ring_of plan) (fs ++ f ∷ [])).nodes ns (all_on p.frames cs vs p.waits)
+        silent : AllSilent (seen (lens_of plan.slaves) f.back) us
+        silent = all_silent lens p.frames (seen lens f.sent) (seen lens f.back) at_frames.datagrams view as' cs us h.led at_frames.each
+            (all_quiet lens p.frames (seen lens f.sent) (seen lens f.back) plan.slaves as' cs vs (nexts_behind us) (ring_after (ring_of plan) fs).nodes (ring_after (ring_of plan) (fs ++ f ∷ [])).nodes ms ns p.waits ready (before p.still refl))
+
+        both : AllStanding (lens_of plan.slaves) plan.slaves (nexts_of (leads_behind lens plan.recover plan.retry slowest missed (length fs) f us)) on (ring_after (ring_of plan) (fs ++ f ∷ [])).nodes ns (all_on p.frames cs vs p.waits)
             × (SomeWaits on (all_on p.frames cs vs p.waits) ⊎ AllRest (lens_of plan.slaves) plan.slaves ms as' (ring_after (ring_of plan) fs).nodes)
-        both = all_stand plan fs p.frames f plan.recover plan.retry (length fs) gives at_frames.datagrams view 0 plan.slaves as' cs us plan.paces (ring_after (ring_of plan) fs).nodes (ring_after (ring_of plan) (fs ++ f ∷ [])).nodes ms ns p.waits
-            opens h.led at_frames.each met h.paced never e.eager e.remembers (e.none silent) e.unpassed (all_same x p.frames (seen lens f.sent) (seen lens f.back) cs vs lists same.1) (before p.still refl)
+        both =
+            let stand = all_stand lens p.frames (seen lens f.sent) (seen lens f.back) plan.slaves as' cs vs (nexts_behind us) (ring_after (ring_of plan) fs).nodes (ring_after (ring_of plan) (fs ++ f ∷ [])).nodes ms ns p.waits ready (e.none silent) (before p.still refl) in (
+              subst (λ zs. AllStanding lens plan.slaves zs on (ring_after (ring_of plan) (fs ++ f ∷ [])).nodes ns (all_on p.frames cs vs p.waits)) (sym (nexts_led lens plan.recover plan.retry gives (length fs) f us)) stand.0,
+              stand.1,
+            )
 
         pub some : SomeWaits on (waits_led (lens_of plan.slaves) plan.recover plan.retry slowest p f us cs)
         some = subst (λ z. SomeWaits on (waits_behind z p.frames cs vs p.waits)) (sym counted) (elim both.1 [ inl waits ↦ waits | inr rest ↦ absurd (e.some rest) ])
 
-        standing_on : AllStanding plan plan.slaves (leads_behind lens plan.recover plan.retry slowest missed (length fs) f us) on (ring_after (ring_of plan) (fs ++ f ∷ [])).nodes ns (waits_led lens plan.recover plan.retry slowest p f us cs)
-        standing_on = subst (λ z. AllStanding plan plan.slaves (leads_behind lens plan.recover plan.retry slowest missed (length fs) f us) on (ring_after (ring_of plan) (fs ++ f ∷ [])).nodes ns (waits_behind z p.frames cs vs p.waits)) (sym counted) both.0
+        standing_on : AllStanding (lens_of plan.slaves) plan.slaves (nexts_of (leads_behind lens plan.recover plan.retry slowest missed (length fs) f us)) on (ring_after (ring_of plan) (fs ++ f ∷ [])).nodes ns (waits_led lens plan.recover plan.retry slowest p f us cs)
+        standing_on = subst (λ z. AllStanding (lens_of plan.slaves) plan.slaves (nexts_of (leads_behind lens plan.recover plan.retry slowest missed (length fs) f us)) on (ring_after (ring_of plan) (fs ++ f ∷ [])).nodes ns (waits_behind z p.frames cs vs p.waits)) (sym counted) both.0
 
       -- whatever it gained
       stands_on : (still_led lens plan.recover plan.retry slowest p f us cs ≡ suc p.still → IsEagerFrame plan fs f ms ns as' us) → 1 ≤ many →
-          AllStanding plan plan.slaves (leads_behind lens plan.recover plan.retry slowest missed (length fs) f us) on (ring_after (ring_of plan) (fs ++ f ∷ [])).nodes ns (waits_led lens plan.recover plan.retry slowest p f us cs)
+          AllStanding (lens_of plan.slaves) plan.slaves (nexts_of (leads_behind lens plan.recover plan.retry slowest missed (length fs) f us)) on (ring_after (ring_of plan) (fs ++ f ∷ [])).nodes ns (waits_led lens plan.recover plan.retry slowest p f us cs)
       stands_on e one = elim (still_is (repair_of slowest (length cs) p.opened p.last p.frames cs) cs on p.still) [
         | inl zero_is ↦ absurd (omega (arith, zero_is, one))
         | inr (inl (same, repairs)) ↦ absurd (
-            let all = repaired plan plan.slaves as' cs (ring_after (ring_of plan) fs).nodes ms p.waits (h.stands (omega (arith, same, one))) in
+            let all = repaired lens plan.slaves (nexts_of as') cs (ring_after (ring_of plan) fs).nodes ms p.waits (h.stands (omega (arith, same, one))) in
             let none = none_repaired slowest p.opened p.frames p.last cs over all in
             omega (arith, none, repairs)
             )

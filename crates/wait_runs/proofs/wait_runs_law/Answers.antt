@@ -1,6 +1,6 @@
 use Rattle.run_frames.proofs.Tallying.{first_of_plan}
 use Rattle.segment_plan.specs.Bound.{slowest}
-use Rattle.wait_runs.proofs.Lists.{never_all}
+use Rattle.wait_runs.proofs.Ready.{never_all}
 use Rattle.wait_runs.proofs.Walk.{Laws, walks, first_paces}
 use Rattle.wait_runs.proofs.wait_runs_law.Goals as goal
 

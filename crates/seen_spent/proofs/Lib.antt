@@ -1,0 +1,3 @@
+mod Spent
+mod Led
+mod Told

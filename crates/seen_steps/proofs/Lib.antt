@@ -1,0 +1,3 @@
+mod Stands
+mod Alone
+mod Rows

@@ -1,0 +1,7 @@
+mod Tells
+mod Ready
+mod Unread
+mod Counted
+mod Stays
+mod Walk
+mod Stations
