@@ -1,12 +1,11 @@
-use crate::idns::{element, long_idn};
-use anyhow::{Result, bail};
+use crate::idns::long_idn;
 use arrayvec::ArrayVec;
+use ec_fields::Transfer;
 use idn_table::IdnTable;
 use mailbox_mail::Took;
-use row_table::{Bench, Words, digits_of};
+use row_table::{Bench, Row};
 use soe_client::SoeClient;
 use soe_server::SoeServer;
-use std::alloc::Global;
 
 /// A client and a server through mailboxes of 64 octets and 65, over an IDN of 4,096 octets.
 #[derive(Drop)]
@@ -27,59 +26,60 @@ fn turn(client: &mut SoeClient, server: &mut SoeServer, idns: &mut IdnTable) -> 
     (mails + 1, client.take(&mail) == Took::Done)
 }
 
-// Hands mails over until the service is done, and says how many of them there were.
-fn talk(client: &mut SoeClient, server: &mut SoeServer, idns: &mut IdnTable) -> Result<u32> {
+// Hands mails over until the service is done, and tells how many of them there were.
+fn talk(row: &mut Row<'_>, client: &mut SoeClient, server: &mut SoeServer, idns: &mut IdnTable) {
     let mut mails = 0_u32;
     for _ in 0..200 {
         let (count, done) = turn(client, server, idns);
         mails = mails.saturating_add(count);
         if done {
-            return Ok(mails);
+            return row.show(&mails);
         }
     }
-    bail!("no end")
+    row.fail();
 }
 
 // The octets are written and read back: by how many mails each.
-fn exchanged(alloc: Global, octets: &[u8], idns: &mut IdnTable) -> Result<(u32, u32)> {
+fn exchange(row: &mut Row<'_>, octets: &[u8], idns: &mut IdnTable) {
     if octets.len() > 16_384 {
-        bail!("a value of more octets");
+        return row.fail();
     }
-    let mut server = SoeServer::new(alloc, 65)?;
-    let mut client = SoeClient::new(alloc, 64, 65)?;
+    let Ok(mut server) = SoeServer::new(row.alloc(), 65) else {
+        return row.fail();
+    };
+    let Ok(mut client) = SoeClient::new(row.alloc(), 64, 65) else {
+        return row.fail();
+    };
     client.start_write(7, 65_535, 0x40, octets);
-    let written = talk(&mut client, &mut server, idns)?;
+    talk(row, &mut client, &mut server, idns);
     client.start_read(7, 65_535, 0x40);
-    let read = talk(&mut client, &mut server, idns)?;
-    Ok((written, read))
+    talk(row, &mut client, &mut server, idns);
 }
 
 // Whether these octets are the value of the IDN.
-fn stands(alloc: Global, octets: &[u8], idns: &IdnTable) -> Result<bool> {
-    let found = element(alloc, idns, 7, 65_535, 0x40)?;
-    let digits = digits_of(alloc, octets)?;
-    match found.as_str().split_once(' ') {
-        Some((_, value)) => Ok(value == digits.as_str()),
-        None => Ok(false),
-    }
+fn compare(row: &mut Row<'_>, octets: &[u8], idns: &IdnTable) {
+    let Ok(mut value) = Transfer::new(row.alloc(), 16_384) else {
+        return row.fail();
+    };
+    let refused = idns.read_element(7, 65_535, 0x40, &mut value);
+    row.show(&(refused.is_none() && value.bytes() == octets));
 }
 
 // The octets are written and read back: by how many mails each, and whether they stand there.
-fn carried(alloc: Global, octets: &[u8]) -> Result<String> {
-    let mut idns = long_idn(alloc)?;
-    let (written, read) = exchanged(alloc, octets, &mut idns)?;
-    let same = stands(alloc, octets, &idns)?;
-    Ok(format!(in alloc; "{written} {read} {same}")?)
+fn carried(row: &mut Row<'_>) {
+    let octets = row.octets();
+    let Ok(mut idns) = long_idn(row.alloc()) else {
+        return row.fail();
+    };
+    exchange(row, octets.bytes(), &mut idns);
+    compare(row, octets.bytes(), &idns);
 }
 
 impl Bench for CarriedBench {
-    fn found(&mut self, alloc: Global, asked: &mut Words<'_>) -> Result<String> {
-        match asked.word()? {
-            "carried" => {
-                let octets = asked.octets(alloc)?;
-                carried(alloc, octets.bytes())
-            }
-            call => bail!("no call: {call}"),
+    fn carry(&mut self, row: &mut Row<'_>) {
+        match row.word() {
+            "carried" => carried(row),
+            _ => row.fail(),
         }
     }
 }

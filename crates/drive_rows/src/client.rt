@@ -1,11 +1,10 @@
 ghost use Rattle.std.specs.Prelude.{◌≡◌, true};
 ghost use Rattle.soe_client.specs.Talk.{awaits_nothing};
 
-use anyhow::{Result, bail};
 use arrayvec::ArrayVec;
-use ec_fields::{Octets, buffer_of};
+use ec_fields::{NoMemory, Octets, buffer_of};
 use mailbox_mail::{Kind, Mail, Took};
-use row_table::{Bench, Words, digits_of};
+use row_table::{Bench, Row};
 use soe_client::SoeClient;
 use std::alloc::Global;
 
@@ -15,86 +14,87 @@ pub struct ClientBench {
     client: SoeClient,
 }
 
-// A mail with this body.
-fn mail_of(kind: Kind, octets: &[u8]) -> Result<Mail> {
-    if octets.len() > 1480 {
-        bail!("no mail");
-    }
-    Ok(Mail {
-        address: 0,
-        kind,
-        counter: 1,
-        body: buffer_of(octets),
-    })
-}
-
 // The reply of a service that ended, and its value.
-fn ended_of(alloc: Global, client: &SoeClient) -> Result<String>
+fn tell_end(row: &mut Row<'_>, client: &SoeClient)
     requires { awaits_nothing client.now.awaits ≡ true }
 {
-    let mut value = Octets::new(alloc);
-    client.value(&mut value)?;
-    let (reply, digits) = (client.reply(), digits_of(alloc, value.bytes())?);
-    Ok(format!(in alloc; "Done {reply:?} {digits}")?)
+    let mut value = Octets::new(row.alloc());
+    row.check(client.value(&mut value).is_ok());
+    row.say("Done");
+    row.show(&client.reply());
+    row.digits(value.bytes());
 }
 
 impl ClientBench {
     /// No service is begun.
-    pub fn new(alloc: Global) -> Result<ClientBench> {
+    pub fn new(alloc: Global) -> Result<ClientBench, NoMemory> {
         let client = SoeClient::new(alloc, 64, 64)?;
         Ok(ClientBench { client })
     }
 
-    // A read of an element, or a write of its octets.
-    fn start(&mut self, alloc: Global, asked: &mut Words<'_>, writes: bool) -> Result<String> {
-        let (drive, idn, elements) = (asked.small()?, asked.short()?, asked.small()?);
+    // A read of an element.
+    fn start_read(&mut self, row: &mut Row<'_>) {
+        let (drive, idn, elements) = (row.small(), row.short(), row.small());
         if drive > 7 {
-            bail!("no drive");
+            return row.fail();
         }
-        if !writes {
-            self.client.start_read(drive, idn, elements);
-            return Ok(format!(in alloc; "begun")?);
-        }
-        let octets = asked.octets(alloc)?;
-        if octets.len() > 16_384 {
-            bail!("a value of more octets");
+        self.client.start_read(drive, idn, elements);
+        row.say("begun");
+    }
+
+    // A write of an element's octets.
+    fn start_write(&mut self, row: &mut Row<'_>) {
+        let (drive, idn, elements) = (row.small(), row.short(), row.small());
+        let octets = row.octets();
+        if drive > 7 || octets.len() > 16_384 {
+            return row.fail();
         }
         self.client
             .start_write(drive, idn, elements, octets.bytes());
-        Ok(format!(in alloc; "begun")?)
+        row.say("begun");
     }
 
     // The next mail that goes, by its length and its first octets.
-    fn send(&mut self, alloc: Global, head: usize) -> Result<String> {
+    fn send(&mut self, row: &mut Row<'_>) {
+        let head = row.count();
         let mut body = ArrayVec::new();
         if !self.client.next_mail(&mut body) {
-            return Ok(format!(in alloc; "none")?);
+            return row.say("none");
         }
         let octets = body.as_slice();
         let len = octets.len();
-        let digits = digits_of(alloc, &octets[..head.min(len)])?;
-        Ok(format!(in alloc; "{len} {digits}")?)
+        row.show(&len);
+        row.digits(&octets[..head.min(len)]);
     }
 
     // What a mail is to the client, and where it ends the service, the reply.
-    fn take(&mut self, alloc: Global, kind: Kind, octets: &[u8]) -> Result<String> {
-        let took = self.client.take(&mail_of(kind, octets)?);
+    fn take(&mut self, row: &mut Row<'_>, kind: Kind) {
+        let octets = row.octets();
+        if octets.len() > 1480 {
+            return row.fail();
+        }
+        let took = self.client.take(&Mail {
+            address: 0,
+            kind,
+            counter: 1,
+            body: buffer_of(octets.bytes()),
+        });
         match took {
-            Took::Done => ended_of(alloc, &self.client),
-            other => Ok(format!(in alloc; "{other:?}")?),
+            Took::Done => tell_end(row, &self.client),
+            _ => row.show(&took),
         }
     }
 }
 
 impl Bench for ClientBench {
-    fn found(&mut self, alloc: Global, asked: &mut Words<'_>) -> Result<String> {
-        match asked.word()? {
-            "start_read" => self.start(alloc, asked, false),
-            "start_write" => self.start(alloc, asked, true),
-            "send" => self.send(alloc, asked.count()?),
-            "take" => self.take(alloc, Kind::SoE, asked.octets(alloc)?.bytes()),
-            "take_error" => self.take(alloc, Kind::Error, asked.octets(alloc)?.bytes()),
-            call => bail!("no call: {call}"),
+    fn carry(&mut self, row: &mut Row<'_>) {
+        match row.word() {
+            "start_read" => self.start_read(row),
+            "start_write" => self.start_write(row),
+            "send" => self.send(row),
+            "take" => self.take(row, Kind::SoE),
+            "take_error" => self.take(row, Kind::Error),
+            _ => row.fail(),
         }
     }
 }

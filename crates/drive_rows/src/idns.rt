@@ -1,10 +1,9 @@
 ghost use Rattle.std.specs.Prelude.{◌≡◌, ◌≤◌, true, IfOk};
 ghost use Rattle.idn_table.specs.Idns.{idn_of, is_idn};
 
-use anyhow::{Result, bail};
 use ec_fields::{NoMemory, Octets, Transfer};
 use idn_table::{IdnSpec, IdnTable};
-use row_table::digits_of;
+use row_table::Row;
 use std::alloc::Global;
 
 // IDN 100 of drive 0: an integer of 2 octets from 5 to 100, with name and unit.
@@ -53,42 +52,43 @@ fn octets(
     })
 }
 
-fn add(idns: &mut IdnTable, spec: &IdnSpec) -> Result<()>
-    requires { is_idn (idn_of spec.now) ≡ true }
+// One more IDN.
+fn add(idns: &mut IdnTable, spec: Result<IdnSpec, NoMemory>) -> Result<(), NoMemory>
+    requires { IfOk spec (λ s. is_idn (idn_of s) ≡ true) }
 {
+    let spec = spec?;
     if idns.has(spec.drive, spec.number) {
-        bail!("an IDN twice");
+        return Ok(());
     }
-    idns.insert(spec)?;
-    Ok(())
+    idns.insert(&spec)
+}
+
+// IDN 200 that may be written, IDN 7 of drive 3 that may not, and the integer.
+fn add_three(alloc: Global, idns: &mut IdnTable) -> Result<(), NoMemory> {
+    add(idns, octets(alloc, 0, 200, 100, true))?;
+    add(idns, octets(alloc, 3, 7, 2, false))?;
+    add(idns, integer(alloc))
 }
 
 /// IDN 200 that may be written, IDN 7 of drive 3 that may not, and the integer.
-pub fn three_idns(alloc: Global) -> Result<IdnTable> {
+pub fn three_idns(alloc: Global) -> Result<IdnTable, NoMemory> {
     let mut idns = IdnTable::new(alloc)?;
-    add(&mut idns, &octets(alloc, 0, 200, 100, true)?)?;
-    add(&mut idns, &octets(alloc, 3, 7, 2, false)?)?;
-    add(&mut idns, &integer(alloc)?)?;
+    add_three(alloc, &mut idns)?;
     Ok(idns)
 }
 
 /// An IDN of 4,096 octets at most, the last of the last drive.
-pub fn long_idn(alloc: Global) -> Result<IdnTable> {
+pub fn long_idn(alloc: Global) -> Result<IdnTable, NoMemory> {
     let mut idns = IdnTable::new(alloc)?;
-    add(&mut idns, &octets(alloc, 7, 65_535, 4096, true)?)?;
+    add(&mut idns, octets(alloc, 7, 65_535, 4096, true))?;
     Ok(idns)
 }
 
-/// The code that refuses the read of an element, or its octets.
-pub fn element(
-    alloc: Global,
-    idns: &IdnTable,
-    drive: u8,
-    idn: u16,
-    elements: u8,
-) -> Result<String> {
-    let mut into = Transfer::new(alloc, 16_384)?;
-    let code = idns.read_element(drive, idn, elements, &mut into);
-    let digits = digits_of(alloc, into.bytes())?;
-    Ok(format!(in alloc; "{code:?} {digits}")?)
+/// Tells the code that refuses the read of an element, and its octets.
+pub fn tell_element(row: &mut Row<'_>, idns: &IdnTable, drive: u8, idn: u16, elements: u8) {
+    let Ok(mut into) = Transfer::new(row.alloc(), 16_384) else {
+        return row.fail();
+    };
+    row.show(&idns.read_element(drive, idn, elements, &mut into));
+    row.digits(into.bytes());
 }

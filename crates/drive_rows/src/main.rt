@@ -14,25 +14,12 @@ use client::ClientBench;
 use pool::PoolBench;
 use row_table::tell;
 use server::ServerBench;
-use std::rt::Files;
 use store::StoreBench;
 
-// The table of the IDNs and the server.
-fn tell_server<R: AllocGlobal + Files + Print>(rt: &R) -> Result<()> {
-    let mut bench = ServerBench::new(rt.alloc())?;
-    tell(rt, "server", &mut bench)
-}
-
-// The table of the client.
-fn tell_client<R: AllocGlobal + Files + Print>(rt: &R) -> Result<()> {
-    let mut bench = ClientBench::new(rt.alloc())?;
-    tell(rt, "client", &mut bench)
-}
-
 fn main(rt: HostRuntime) -> Result<()> {
-    tell(&rt, "pool", &mut PoolBench)?;
-    tell(&rt, "store", &mut StoreBench)?;
-    tell_server(&rt)?;
-    tell_client(&rt)?;
-    tell(&rt, "carried", &mut CarriedBench)
+    tell(&rt, "pool", Some(PoolBench))?;
+    tell(&rt, "store", Some(StoreBench))?;
+    tell(&rt, "server", ServerBench::new(rt.alloc()).ok())?;
+    tell(&rt, "client", ClientBench::new(rt.alloc()).ok())?;
+    tell(&rt, "carried", Some(CarriedBench))
 }

@@ -1,8 +1,8 @@
-use crate::idns::{element, three_idns};
-use anyhow::{Result, bail};
+use crate::idns::{tell_element, three_idns};
+use ec_fields::NoMemory;
 use idn_table::IdnTable;
 use mailbox_mail::Kind;
-use row_table::{Bench, Words, digits_of};
+use row_table::{Bench, Row};
 use soe_server::SoeServer;
 use std::alloc::Global;
 
@@ -15,7 +15,7 @@ pub struct ServerBench {
 
 impl ServerBench {
     /// The server is at rest.
-    pub fn new(alloc: Global) -> Result<ServerBench> {
+    pub fn new(alloc: Global) -> Result<ServerBench, NoMemory> {
         Ok(ServerBench {
             idns: three_idns(alloc)?,
             server: SoeServer::new(alloc, 64)?,
@@ -23,61 +23,66 @@ impl ServerBench {
     }
 
     // The IDNs and the server as they were.
-    fn renew(&mut self, alloc: Global) -> Result<String> {
-        *self = ServerBench::new(alloc)?;
-        Ok(format!(in alloc; "new")?)
+    fn renew(&mut self, row: &mut Row<'_>) {
+        match ServerBench::new(row.alloc()) {
+            Ok(bench) => {
+                *self = bench;
+                row.say("new");
+            }
+            Err(_) => row.fail(),
+        }
     }
 
     // An element.
-    fn read(&self, alloc: Global, asked: &mut Words<'_>) -> Result<String> {
-        let (drive, idn, elements) = (asked.small()?, asked.short()?, asked.small()?);
-        element(alloc, &self.idns, drive, idn, elements)
+    fn read(&self, row: &mut Row<'_>) {
+        let (drive, idn, elements) = (row.small(), row.short(), row.small());
+        tell_element(row, &self.idns, drive, idn, elements);
     }
 
     // The code that refuses a write, and the integer behind it.
-    fn write(&mut self, alloc: Global, asked: &mut Words<'_>) -> Result<String> {
-        let (drive, idn, elements) = (asked.small()?, asked.short()?, asked.small()?);
-        let octets = asked.octets(alloc)?;
-        let code = self
-            .idns
-            .write_element(drive, idn, elements, octets.bytes());
-        let value = element(alloc, &self.idns, 0, 100, 0x40)?;
-        Ok(format!(in alloc; "{code:?} {value}")?)
+    fn write(&mut self, row: &mut Row<'_>) {
+        let (drive, idn, elements) = (row.small(), row.short(), row.small());
+        let octets = row.octets();
+        row.show(
+            &self
+                .idns
+                .write_element(drive, idn, elements, octets.bytes()),
+        );
+        tell_element(row, &self.idns, 0, 100, 0x40);
     }
 
     // The next mail.
-    fn next(&mut self, alloc: Global) -> Result<String> {
+    fn next(&mut self, row: &mut Row<'_>) {
         if !self.server.waiting() {
-            return Ok(format!(in alloc; "none")?);
+            return row.say("none");
         }
         let mail = self.server.next();
-        let digits = digits_of(alloc, mail.body.as_slice())?;
-        match mail.kind {
-            Kind::SoE => Ok(digits),
-            other => Ok(format!(in alloc; "{other:?} {digits}")?),
+        if mail.kind != Kind::SoE {
+            row.show(&mail.kind);
         }
+        row.digits(mail.body.as_slice());
     }
 
     // Whether a mail counts as a service, and the answer.
-    fn take(&mut self, alloc: Global, body: &[u8]) -> Result<String> {
+    fn take(&mut self, row: &mut Row<'_>) {
+        let body = row.octets();
         if body.len() > 1480 {
-            bail!("no mail");
+            return row.fail();
         }
-        let counts = self.server.take(&mut self.idns, body);
-        let answer = self.next(alloc)?;
-        let waits = self.server.waiting();
-        Ok(format!(in alloc; "{counts} {answer} {waits}")?)
+        row.show(&self.server.take(&mut self.idns, body.bytes()));
+        self.next(row);
+        row.show(&self.server.waiting());
     }
 }
 
 impl Bench for ServerBench {
-    fn found(&mut self, alloc: Global, asked: &mut Words<'_>) -> Result<String> {
-        match asked.word()? {
-            "new" => self.renew(alloc),
-            "read" => self.read(alloc, asked),
-            "write" => self.write(alloc, asked),
-            "take" => self.take(alloc, asked.octets(alloc)?.bytes()),
-            call => bail!("no call: {call}"),
+    fn carry(&mut self, row: &mut Row<'_>) {
+        match row.word() {
+            "new" => self.renew(row),
+            "read" => self.read(row),
+            "write" => self.write(row),
+            "take" => self.take(row),
+            _ => row.fail(),
         }
     }
 }

@@ -1,26 +1,24 @@
-ghost use Rattle.std.specs.Prelude.{◌≡◌, IfOk, None};
+ghost use Rattle.std.specs.Prelude.{◌≡◌, ◌≤◌, IfSome, None};
 ghost use Rattle.file_store.specs.Stored.{HasPart};
 
-use anyhow::{Result, bail};
 use ec_fields::buffer_of;
 use file_store::{FileSpec, PoolFull, Store};
-use row_table::{Bench, Words, shown};
-use std::alloc::Global;
+use row_table::{Bench, Row};
 
 /// A store with the file `fw`, which may be read and written under the password 7, and is busy twice.
 #[derive(Drop)]
 pub struct StoreBench;
 
 // A store of so many blocks, whose file has these octets.
-fn store_with(alloc: Global, blocks: u32, boot: bool, bytes: &[u8]) -> Result<Store>
-    ensures { IfOk result (λ store. store.part ≡ None) }
+fn store_with(row: &mut Row<'_>, blocks: u32, boot: bool, bytes: &[u8]) -> Option<Store>
+    requires { blocks ≤ 1024 }
+    ensures { IfSome result (λ store. store.part ≡ None) }
 {
-    if blocks > 1024 {
-        bail!("no such store");
-    }
-    let mut store = Store::new(alloc, blocks)?;
+    let Ok(mut store) = Store::new(row.alloc(), blocks) else {
+        return None;
+    };
     if bytes.len().div_ceil(128) > store.free() as usize {
-        bail!("no room");
+        return None;
     }
     let spec = FileSpec {
         name: buffer_of(b"fw"),
@@ -30,22 +28,25 @@ fn store_with(alloc: Global, blocks: u32, boot: bool, bytes: &[u8]) -> Result<St
         boot,
         busy: 2,
     };
-    store.insert(spec, bytes)?;
-    Ok(store)
+    if store.insert(spec, bytes).is_err() {
+        return None;
+    }
+    Some(store)
 }
 
 // A new version of the file, where the blocks allow it.
-fn write(store: &mut Store, bytes: &[u8]) -> Result<Result<(), PoolFull>> {
+fn write(row: &mut Row<'_>, store: &mut Store, bytes: &[u8]) -> Result<(), PoolFull> {
     if store.allowed(b"fw", 7, true, 2).is_some() {
-        bail!("no such file");
+        row.fail();
+        return Ok(());
     }
     store.begin(b"fw");
     if let Err(full) = store.append(bytes) {
         store.drop_part();
-        return Ok(Err(full));
+        return Err(full);
     }
     store.commit();
-    Ok(Ok(()))
+    Ok(())
 }
 
 // What the file has at a place, one octet.
@@ -58,69 +59,83 @@ fn octet(store: &Store, at: usize) -> Option<u8> {
 }
 
 // A version begins with 128 octets: how often the file is busy, and behind them the free blocks and the first octet.
-fn begun(store: &mut Store) -> Result<(u8, u32, Option<u8>)>
-    ensures { IfOk result (λ _. HasPart store.new) }
+fn begun(store: &mut Store) -> Option<(u8, u32, Option<u8>)>
+    ensures { IfSome result (λ _. HasPart store.new) }
 {
     if store.allowed(b"fw", 7, true, 2).is_some() {
-        bail!("no such file");
+        return None;
     }
     let busy = store.busy(b"fw");
     store.begin(b"fw");
     if store.append(&[2; 128]).is_err() {
-        bail!("full too early");
+        return None;
     }
-    Ok((busy, store.free(), octet(store, 0)))
+    Some((busy, store.free(), octet(store, 0)))
 }
 
 // Why one octet more is refused, and behind the version's end the free blocks and octets 127 and 128.
-fn ended(store: &mut Store) -> Result<(PoolFull, u32, Option<u8>, Option<u8>)>
+fn ended(store: &mut Store) -> Option<(PoolFull, u32, Option<u8>, Option<u8>)>
     requires { HasPart store.old }
 {
     let Err(full) = store.append(&[2]) else {
-        bail!("not full");
+        return None;
     };
     store.commit();
-    Ok((full, store.free(), octet(store, 127), octet(store, 128)))
+    Some((full, store.free(), octet(store, 127), octet(store, 128)))
 }
 
 // A version of 129 octets over two blocks, of which the file has one: what is seen before, while it is appended and behind its end.
-fn version(alloc: Global) -> Result<String> {
-    let mut store = store_with(alloc, 2, false, &[1; 128])?;
+fn version(row: &mut Row<'_>) {
+    let Some(mut store) = store_with(row, 2, false, &[1; 128]) else {
+        return row.fail();
+    };
     let before = (store.free(), store.len(b"fw"));
-    let during = begun(&mut store)?;
-    let behind = ended(&mut store)?;
-    shown(alloc, &(before, during, behind))
+    let Some(during) = begun(&mut store) else {
+        return row.fail();
+    };
+    let Some(behind) = ended(&mut store) else {
+        return row.fail();
+    };
+    row.show(&(before, during, behind));
+}
+
+// Whether a version was refused, and two blocks are free and the file has its octet as before.
+fn stays(store: &Store, written: Result<(), PoolFull>) -> bool {
+    written.is_err() && store.free() == 2 && octet(store, 0) == Some(9)
 }
 
 // So many versions of 257 octets and one of 256, over two free blocks: what the last of each came to, the free blocks, and one octet.
-fn dropped(alloc: Global, count: u32, at: usize) -> Result<String> {
+fn dropped(row: &mut Row<'_>) {
+    let (count, at) = (row.number(), row.count());
     let octets = [3; 257];
-    let mut store = store_with(alloc, 3, false, &[9])?;
+    let Some(mut store) = store_with(row, 3, false, &[9]) else {
+        return row.fail();
+    };
     for _ in 0..count {
-        let written = write(&mut store, &octets)?;
-        if written != Err(PoolFull) || store.free() != 2 || octet(&store, 0) != Some(9) {
-            bail!("not as before");
-        }
+        let written = write(row, &mut store, &octets);
+        row.check(stays(&store, written));
     }
-    let written = write(&mut store, &octets[..256])?;
-    shown(alloc, &(written, store.free(), octet(&store, at)))
+    let written = write(row, &mut store, &octets[..256]);
+    row.show(&(written, store.free(), octet(&store, at)));
 }
 
 // The code by which the file refuses, or another file.
-fn refused(alloc: Global, asked: &mut Words<'_>) -> Result<String> {
-    let (boot, name) = (asked.flag()?, asked.word()?.as_bytes());
-    let (pass, al) = (asked.number()?, asked.small()?);
-    let store = store_with(alloc, 1, boot, &[])?;
-    shown(alloc, &store.allowed(name, pass, false, al))
+fn refused(row: &mut Row<'_>) {
+    let (boot, name) = (row.flag(), row.word().as_bytes());
+    let (pass, al) = (row.number(), row.small());
+    match store_with(row, 1, boot, &[]) {
+        Some(store) => row.show(&store.allowed(name, pass, false, al)),
+        None => row.fail(),
+    }
 }
 
 impl Bench for StoreBench {
-    fn found(&mut self, alloc: Global, asked: &mut Words<'_>) -> Result<String> {
-        match asked.word()? {
-            "version" => version(alloc),
-            "dropped" => dropped(alloc, asked.number()?, asked.count()?),
-            "refused" => refused(alloc, asked),
-            call => bail!("no call: {call}"),
+    fn carry(&mut self, row: &mut Row<'_>) {
+        match row.word() {
+            "version" => version(row),
+            "dropped" => dropped(row),
+            "refused" => refused(row),
+            _ => row.fail(),
         }
     }
 }

@@ -11,6 +11,6 @@ use ec_outside::DiskFiles;
 use row_table::tell;
 
 fn main(rt: HostRuntime) -> Result<()> {
-    let mut bench = CallBench::new(rt.alloc(), DiskFiles::new(&rt))?;
-    tell(&rt, "calls", &mut bench)
+    let bench = CallBench::new(rt.alloc(), DiskFiles::new(&rt));
+    tell(&rt, "calls", Some(bench))
 }

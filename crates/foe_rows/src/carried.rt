@@ -1,106 +1,120 @@
 use crate::client::names_file;
 use crate::stage::{Course, Stage};
-use anyhow::{Result, bail};
-use ec_fields::Octets;
-use row_table::{Bench, Words, digits_of};
+use arrayvec::ArrayVec;
+use ec_fields::{Octets, refill};
+use row_table::{Bench, Row};
 use std::alloc::Global;
 
 /// A client and a server over one store, and the client's last mail.
 #[derive(Drop)]
 pub struct CarriedBench {
     stage: Stage,
-    last: Octets,
+    last: ArrayVec<u8, 1480>,
 }
 
 // A file of so many octets.
-fn pattern(alloc: Global, len: usize) -> Result<Octets> {
-    let mut octets = Octets::new(alloc);
+fn pattern(row: &mut Row<'_>, len: usize) -> Octets {
+    let mut octets = Octets::new(row.alloc());
     for place in 0..len {
-        octets.add(&[(place % 251) as u8])?;
+        row.check(octets.add(&[(place % 251) as u8]).is_ok());
     }
-    Ok(octets)
+    octets
 }
 
-// A service's reply, and how many mails went and came.
-fn told(alloc: Global, course: &Course) -> Result<String> {
-    let (sent, given) = (course.sent, course.given);
+// A service's reply.
+fn tell_reply(row: &mut Row<'_>, course: &Course) {
     match course.reply {
-        Some(reply) => Ok(format!(in alloc; "{reply:?} {sent} {given}")?),
-        None => Ok(format!(in alloc; "none {sent} {given}")?),
+        Some(reply) => row.show(&reply),
+        None => row.say("none"),
     }
 }
 
 impl CarriedBench {
     /// Mailboxes of 64 octets, and a store of one block.
-    pub fn new(alloc: Global) -> Result<CarriedBench> {
-        Ok(CarriedBench {
+    pub fn new(alloc: Global) -> Option<CarriedBench> {
+        Some(CarriedBench {
             stage: Stage::new(alloc, 64, 64, 1, 0)?,
-            last: Octets::new(alloc),
+            last: ArrayVec::new(),
         })
     }
 
-    // Writes the file.
-    fn write(&mut self, alloc: Global, octets: &[u8]) -> Result<String> {
-        let course = self.stage.write(octets)?;
-        told(alloc, &course)
+    // Writes the file: the reply, and how many mails went and came.
+    fn write(&mut self, row: &mut Row<'_>) {
+        let octets = row.octets();
+        if octets.len() > 131_072 {
+            return row.fail();
+        }
+        let course = self.stage.write(octets.bytes());
+        tell_reply(row, &course);
+        row.show(&course.sent);
+        row.show(&course.given);
     }
 
-    // Reads a file that is to have these octets.
-    fn read(&mut self, alloc: Global, name: &[u8], octets: &[u8]) -> Result<String> {
+    // Reads a file that is to have these octets: the same.
+    fn read(&mut self, row: &mut Row<'_>, name: &[u8], octets: &[u8]) {
         if !names_file(name) {
-            bail!("no name");
+            return row.fail();
         }
-        let course = self.stage.read(name)?;
-        self.last = Octets::copy_of(alloc, course.last.as_slice())?;
-        if self.stage.value.bytes() != octets {
-            return Ok(format!(in alloc; "other octets")?);
-        }
-        told(alloc, &course)
+        let course = self.stage.read(name);
+        row.check(self.stage.value.bytes() == octets);
+        tell_reply(row, &course);
+        row.show(&course.sent);
+        row.show(&course.given);
+        refill(&mut self.last, course.last.as_slice());
     }
 
     // A file of so many octets is written and read: each reply, how many mails went and how many came back.
-    fn arrive(&mut self, alloc: Global, len: usize) -> Result<String> {
-        let octets = pattern(alloc, len)?;
-        let written = self.stage.write(octets.bytes())?;
-        let read = self.stage.read(b"a")?;
-        if self.stage.value.bytes() != octets.bytes() {
-            return Ok(format!(in alloc; "other octets")?);
+    fn arrive(&mut self, row: &mut Row<'_>) {
+        let len = row.count();
+        let octets = pattern(row, len);
+        if octets.len() > 131_072 {
+            return row.fail();
         }
-        match (written.reply, read.reply) {
-            (Some(first), Some(second)) => {
-                let (sent, given) = (written.sent, read.given);
-                Ok(format!(in alloc; "{first:?} {sent} {second:?} {given}")?)
-            }
-            _ => Ok(format!(in alloc; "no reply")?),
-        }
+        let course = self.stage.write(octets.bytes());
+        tell_reply(row, &course);
+        row.show(&course.sent);
+        let course = self.stage.read(b"a");
+        tell_reply(row, &course);
+        row.show(&course.given);
+        row.check(self.stage.value.bytes() == octets.bytes());
     }
 
     // A new stage, by the lengths of its mailboxes, its blocks and how often its file is busy.
-    fn begin(&mut self, alloc: Global, asked: &mut Words<'_>) -> Result<String> {
-        let (out, back) = (asked.short()?, asked.short()?);
-        let (blocks, busy) = (asked.number()?, asked.small()?);
-        self.stage = Stage::new(alloc, out, back, blocks, busy)?;
-        Ok(format!(in alloc; "new")?)
+    fn renew(&mut self, row: &mut Row<'_>) {
+        let (out, back, blocks, busy) = (row.short(), row.short(), row.number(), row.small());
+        match Stage::new(row.alloc(), out, back, blocks, busy) {
+            Some(stage) => {
+                self.stage = stage;
+                row.say("new");
+            }
+            None => row.fail(),
+        }
     }
 
     // How many blocks are free, and the length of the file.
-    fn stored(&self, alloc: Global) -> Result<String> {
-        let (free, len) = (self.stage.store.free(), self.stage.store.len(b"a"));
-        Ok(format!(in alloc; "{free} {len}")?)
+    fn tell_stored(&self, row: &mut Row<'_>) {
+        row.show(&self.stage.store.free());
+        row.show(&self.stage.store.len(b"a"));
     }
 }
 
 impl Bench for CarriedBench {
-    fn found(&mut self, alloc: Global, asked: &mut Words<'_>) -> Result<String> {
-        match asked.word()? {
-            "new" => self.begin(alloc, asked),
-            "write" => self.write(alloc, asked.octets(alloc)?.bytes()),
-            "read" => self.read(alloc, b"a", asked.octets(alloc)?.bytes()),
-            "read_other" => self.read(alloc, asked.word()?.as_bytes(), &[]),
-            "arrive" => self.arrive(alloc, asked.count()?),
-            "last" => digits_of(alloc, self.last.bytes()),
-            "stored" => self.stored(alloc),
-            call => bail!("no call: {call}"),
+    fn carry(&mut self, row: &mut Row<'_>) {
+        match row.word() {
+            "new" => self.renew(row),
+            "write" => self.write(row),
+            "read" => {
+                let octets = row.octets();
+                self.read(row, b"a", octets.bytes());
+            }
+            "read_other" => {
+                let name = row.word();
+                self.read(row, name.as_bytes(), &[]);
+            }
+            "arrive" => self.arrive(row),
+            "last" => row.digits(self.last.as_slice()),
+            "stored" => self.tell_stored(row),
+            _ => row.fail(),
         }
     }
 }

@@ -11,28 +11,9 @@ use carried::CarriedBench;
 use client::ClientBench;
 use row_table::tell;
 use server::ServerBench;
-use std::rt::Files;
-
-// The table of the client.
-fn tell_client<R: AllocGlobal + Files + Print>(rt: &R) -> Result<()> {
-    let mut bench = ClientBench::new(rt.alloc())?;
-    tell(rt, "client", &mut bench)
-}
-
-// The table of the server.
-fn tell_server<R: AllocGlobal + Files + Print>(rt: &R) -> Result<()> {
-    let mut bench = ServerBench::new(rt.alloc())?;
-    tell(rt, "server", &mut bench)
-}
-
-// The table of both over one store.
-fn tell_carried<R: AllocGlobal + Files + Print>(rt: &R) -> Result<()> {
-    let mut bench = CarriedBench::new(rt.alloc())?;
-    tell(rt, "carried", &mut bench)
-}
 
 fn main(rt: HostRuntime) -> Result<()> {
-    tell_client(&rt)?;
-    tell_server(&rt)?;
-    tell_carried(&rt)
+    tell(&rt, "client", ClientBench::new(rt.alloc()).ok())?;
+    tell(&rt, "server", ServerBench::new(rt.alloc()))?;
+    tell(&rt, "carried", CarriedBench::new(rt.alloc()))
 }

@@ -1,9 +1,8 @@
 use crate::stage::store_with;
-use anyhow::{Result, bail};
 use file_store::Store;
 use foe_server::FoeServer;
 use mailbox_mail::Kind;
-use row_table::{Bench, Words, digits_of};
+use row_table::{Bench, Row};
 use std::alloc::Global;
 use std::marker::Model;
 
@@ -27,66 +26,66 @@ impl Model for ServerBench {
 
 impl ServerBench {
     /// A store of one block, with an empty file.
-    pub fn new(alloc: Global) -> Result<ServerBench> {
+    pub fn new(alloc: Global) -> Option<ServerBench> {
         ServerBench::with(alloc, 1, 0, &[])
     }
 
     // A store of so many blocks, whose file is so often busy and has these octets.
-    fn with(alloc: Global, blocks: u32, busy: u8, octets: &[u8]) -> Result<ServerBench> {
-        Ok(ServerBench {
-            store: store_with(alloc, blocks, busy, octets)?,
-            server: FoeServer::new(alloc, 64, 64)?,
-        })
+    fn with(alloc: Global, blocks: u32, busy: u8, octets: &[u8]) -> Option<ServerBench> {
+        let store = store_with(alloc, blocks, busy, octets)?;
+        let Ok(server) = FoeServer::new(alloc, 64, 64) else {
+            return None;
+        };
+        Some(ServerBench { server, store })
     }
 
     // Whether a mail counts as a service, and the body of its answer.
-    fn take(&mut self, alloc: Global, octets: &[u8]) -> Result<String> {
+    fn take(&mut self, row: &mut Row<'_>) {
+        let octets = row.octets();
         if octets.len() > 1480 {
-            bail!("no mail");
+            return row.fail();
         }
-        let counts = self.server.take(&mut self.store, 2, octets);
+        let counts = self.server.take(&mut self.store, 2, octets.bytes());
+        row.show(&counts);
         if !self.server.waiting() {
-            return Ok(format!(in alloc; "{counts} none")?);
+            return row.say("none");
         }
         let mail = self.server.next(&self.store);
-        let digits = digits_of(alloc, mail.body.as_slice())?;
-        match mail.kind {
-            Kind::FoE => Ok(format!(in alloc; "{counts} {digits}")?),
-            other => Ok(format!(in alloc; "{counts} {other:?} {digits}")?),
+        if mail.kind != Kind::FoE {
+            row.show(&mail.kind);
         }
+        row.digits(mail.body.as_slice());
     }
-}
 
-impl ServerBench {
     // A new server in its place.
-    fn renew(&mut self, alloc: Global, asked: &mut Words<'_>) -> Result<String> {
-        let (blocks, busy) = (asked.number()?, asked.small()?);
-        let octets = asked.octets(alloc)?;
-        *self = ServerBench::with(alloc, blocks, busy, octets.bytes())?;
-        Ok(format!(in alloc; "new")?)
+    fn renew(&mut self, row: &mut Row<'_>) {
+        let (blocks, busy) = (row.number(), row.small());
+        let octets = row.octets();
+        match ServerBench::with(row.alloc(), blocks, busy, octets.bytes()) {
+            Some(bench) => {
+                *self = bench;
+                row.say("new");
+            }
+            None => row.fail(),
+        }
     }
 
     // How many blocks are free, and the length of the file.
-    fn stored(&self, alloc: Global) -> Result<String> {
-        let (free, len) = (self.store.free(), self.store.len(b"a"));
-        Ok(format!(in alloc; "{free} {len}")?)
+    fn tell_stored(&self, row: &mut Row<'_>) {
+        row.show(&self.store.free());
+        row.show(&self.store.len(b"a"));
     }
 }
 
-// A number.
-fn number(alloc: Global, number: usize) -> Result<String> {
-    Ok(format!(in alloc; "{number}")?)
-}
-
 impl Bench for ServerBench {
-    fn found(&mut self, alloc: Global, asked: &mut Words<'_>) -> Result<String> {
-        match asked.word()? {
-            "new" => self.renew(alloc, asked),
-            "take" => self.take(alloc, asked.octets(alloc)?.bytes()),
-            "stored" => self.stored(alloc),
-            "free" => number(alloc, self.store.free() as usize),
-            "len" => number(alloc, self.store.len(b"a")),
-            call => bail!("no call: {call}"),
+    fn carry(&mut self, row: &mut Row<'_>) {
+        match row.word() {
+            "new" => self.renew(row),
+            "take" => self.take(row),
+            "stored" => self.tell_stored(row),
+            "free" => row.show(&self.store.free()),
+            "len" => row.show(&self.store.len(b"a")),
+            _ => row.fail(),
         }
     }
 }

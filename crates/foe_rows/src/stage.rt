@@ -1,9 +1,8 @@
-ghost use Rattle.std.specs.Prelude.{◌≡◌, true, IfOk, None};
+ghost use Rattle.std.specs.Prelude.{◌≡◌, ◌≤◌, true, length, IfSome, None};
 ghost use Rattle.foe_codec.specs.Message.{is_name};
 
-use anyhow::{Result, bail};
 use arrayvec::ArrayVec;
-use ec_fields::{Octets, buffer_of};
+use ec_fields::{NoMemory, Octets, buffer_of};
 use file_store::{FileSpec, Store};
 use foe_client::FoeClient;
 use foe_server::FoeServer;
@@ -41,13 +40,15 @@ impl Model for Stage {
 }
 
 /// A store of so many blocks with one file, `a`, that may be read and written, is so often busy and has these octets.
-pub fn store_with(alloc: Global, blocks: u32, busy: u8, bytes: &[u8]) -> Result<Store>
-    ensures { IfOk result (λ store. store.part ≡ None) }
+pub fn store_with(alloc: Global, blocks: u32, busy: u8, bytes: &[u8]) -> Option<Store>
+    ensures { IfSome result (λ store. store.part ≡ None) }
 {
     if blocks > 1024 || busy > 15 {
-        bail!("no such store");
+        return None;
     }
-    let mut store = Store::new(alloc, blocks)?;
+    let Ok(mut store) = Store::new(alloc, blocks) else {
+        return None;
+    };
     let spec = FileSpec {
         name: buffer_of(b"a"),
         pass: 0,
@@ -57,28 +58,37 @@ pub fn store_with(alloc: Global, blocks: u32, busy: u8, bytes: &[u8]) -> Result<
         busy,
     };
     if bytes.len().div_ceil(128) > store.free() as usize {
-        bail!("no room");
+        return None;
     }
-    store.insert(spec, bytes)?;
-    Ok(store)
+    if store.insert(spec, bytes).is_err() {
+        return None;
+    }
+    Some(store)
 }
 
 impl Stage {
     /// Mailboxes of these lengths, and a store of so many blocks, whose file is empty and so often busy.
-    pub fn new(alloc: Global, out: u16, back: u16, blocks: u32, busy: u8) -> Result<Stage> {
+    pub fn new(alloc: Global, out: u16, back: u16, blocks: u32, busy: u8) -> Option<Stage> {
         if out < 64 || out > 1486 || back < 64 || back > 1486 {
-            bail!("no mailboxes");
+            return None;
         }
-        Ok(Stage {
-            client: FoeClient::new(alloc, out, back)?,
-            server: FoeServer::new(alloc, out, back)?,
-            store: store_with(alloc, blocks, busy, &[])?,
+        let store = store_with(alloc, blocks, busy, &[])?;
+        let Ok(client) = FoeClient::new(alloc, out, back) else {
+            return None;
+        };
+        let Ok(server) = FoeServer::new(alloc, out, back) else {
+            return None;
+        };
+        Some(Stage {
+            client,
+            server,
+            store,
             value: Octets::new(alloc),
         })
     }
 
     // One mail of the client, and what comes back. `false` where the client has none.
-    fn turn(&mut self, course: &mut Course) -> Result<bool> {
+    fn turn(&mut self, course: &mut Course) -> Result<bool, NoMemory> {
         if !self.client.next_mail(&mut course.last) {
             return Ok(false);
         }
@@ -96,7 +106,7 @@ impl Stage {
     }
 
     // The mails of the service that was begun, until the client has no mail left.
-    fn carry(&mut self) -> Result<Course> {
+    fn carry(&mut self) -> Course {
         let mut course = Course {
             reply: None,
             sent: 0,
@@ -105,24 +115,23 @@ impl Stage {
         };
         self.value.clear();
         for _ in 0..10_000 {
-            if !self.turn(&mut course)? {
-                return Ok(course);
+            if self.turn(&mut course) != Ok(true) {
+                return course;
             }
         }
-        Ok(course)
+        course
     }
 
     /// Writes the file `a`.
-    pub fn write(&mut self, bytes: &[u8]) -> Result<Course> {
-        if bytes.len() > 131_072 {
-            bail!("a file of more octets");
-        }
+    pub fn write(&mut self, bytes: &[u8]) -> Course
+        requires { length bytes.now ≤ 131072 }
+    {
         self.client.start_write(b"a", 0, bytes);
         self.carry()
     }
 
     /// Reads a file.
-    pub fn read(&mut self, name: &[u8]) -> Result<Course>
+    pub fn read(&mut self, name: &[u8]) -> Course
         requires named { is_name name.now ≡ true }
     {
         self.client.start_read(name, 0);

@@ -1,12 +1,9 @@
 //! Tables of rows, a line each: what a row asks, ` = `, and what is to be found for it. A line that begins with `#` is no row.
 #![tactic(auto)]
 
-mod found;
 mod octets;
+mod row;
 mod table;
-mod words;
 
-pub use found::{no_call, shown};
-pub use octets::{digits_of, octets_in};
+pub use row::Row;
 pub use table::{Bench, tell};
-pub use words::Words;

@@ -1,8 +1,7 @@
 use crate::stage::Stage;
-use anyhow::{Result, bail};
-use ec_fields::{Octets, Rows};
+use ec_fields::{NoMemory, Octets, Rows};
 use object_dictionary::{EntrySpec, Objects, SdoService};
-use row_table::{Bench, Words, digits_of, octets_in};
+use row_table::{Bench, Row};
 use std::alloc::Global;
 
 /// A client and a server over a dictionary with two strings of 8,000 octets at 2003, one of 1 to 8,000 at 2002:01 and one of 1 at 2002:02.
@@ -11,10 +10,17 @@ pub struct CarriedBench {
     stage: Stage,
 }
 
-// An entry that can be read and written in each state.
-fn entry(alloc: Global, kind: u16, least: u32, most: u32, text: &str) -> Result<EntrySpec> {
-    let value = octets_in(alloc, text)?;
-    Ok(EntrySpec {
+// One more entry that can be read and written in each state.
+fn add_entry(
+    alloc: Global,
+    entries: &mut Rows<EntrySpec>,
+    kind: u16,
+    least: u32,
+    most: u32,
+    octets: &[u8],
+) -> Result<(), NoMemory> {
+    let value = Octets::copy_of(alloc, octets)?;
+    entries.add(EntrySpec {
         kind,
         access: 63,
         least,
@@ -26,89 +32,99 @@ fn entry(alloc: Global, kind: u16, least: u32, most: u32, text: &str) -> Result<
     })
 }
 
+// Two strings of 8,000 octets.
+fn two_long(alloc: Global) -> Result<Rows<EntrySpec>, NoMemory> {
+    let mut entries = Rows::new(alloc);
+    add_entry(alloc, &mut entries, 10, 8000, 8000, &[1; 8000])?;
+    add_entry(alloc, &mut entries, 9, 8000, 8000, &[1; 8000])?;
+    Ok(entries)
+}
+
+// One of 1 to 8,000 octets, and one of one.
+fn two_short(alloc: Global) -> Result<Rows<EntrySpec>, NoMemory> {
+    let mut entries = Rows::new(alloc);
+    add_entry(alloc, &mut entries, 10, 1, 8000, &[0])?;
+    add_entry(alloc, &mut entries, 10, 1, 1, &[0])?;
+    Ok(entries)
+}
+
+// One more object, where the dictionary accepts it.
 fn insert(
     alloc: Global,
     objects: &mut Objects,
     index: u16,
     code: u8,
-    given: [EntrySpec; 2],
-) -> Result<()> {
-    let mut entries = Rows::new(alloc);
-    for one in given {
-        entries.add(one)?;
-    }
+    entries: Rows<EntrySpec>,
+) -> Result<(), NoMemory> {
     let name = Octets::copy_of(alloc, b"Store")?;
     if !objects.accepts(index, code, &name, &entries) {
-        bail!("no object");
+        return Ok(());
     }
-    objects.insert(index, code, name, entries)?;
-    Ok(())
+    objects.insert(index, code, name, entries)
+}
+
+// The dictionary with the strings.
+fn strings(alloc: Global) -> Result<Objects, NoMemory> {
+    let mut objects = Objects::new(alloc, true)?;
+    insert(alloc, &mut objects, 0x2003, 9, two_long(alloc)?)?;
+    insert(alloc, &mut objects, 0x2002, 8, two_short(alloc)?)?;
+    Ok(objects)
 }
 
 impl CarriedBench {
     /// The strings.
-    pub fn new(alloc: Global) -> Result<CarriedBench> {
-        let mut objects = Objects::new(alloc, true)?;
-        let first = entry(alloc, 10, 8000, 8000, "01*8000")?;
-        let second = entry(alloc, 9, 8000, 8000, "01*8000")?;
-        insert(alloc, &mut objects, 0x2003, 9, [first, second])?;
-        let string = entry(alloc, 10, 1, 8000, "00")?;
-        let other = entry(alloc, 10, 1, 1, "00")?;
-        insert(alloc, &mut objects, 0x2002, 8, [string, other])?;
-        let stage = Stage::new(alloc, objects)?;
+    pub fn new(alloc: Global) -> Result<CarriedBench, NoMemory> {
+        let stage = Stage::new(alloc, strings(alloc)?)?;
         Ok(CarriedBench { stage })
     }
 
     // A service's reply, and by how many mails, where its value is this.
-    fn carry(&mut self, alloc: Global, service: SdoService, value: &Octets) -> Result<String> {
-        let course = self.stage.carry(alloc, &service)?;
-        let (kind, mails) = (course.kind, course.mails);
-        if course.value.bytes() != value.bytes() {
-            let digits = digits_of(alloc, course.value.bytes())?;
-            return Ok(format!(in alloc; "{kind:?} {mails} {digits}")?);
-        }
-        Ok(format!(in alloc; "{kind:?} {mails}")?)
-    }
-}
-
-impl CarriedBench {
-    // A service that brings a value.
-    fn bring(&mut self, alloc: Global, asked: &mut Words<'_>, all: bool) -> Result<String> {
-        let (index, sub) = (asked.short()?, asked.small()?);
-        let bytes = asked.octets(alloc)?;
-        let service = if all {
-            SdoService::DownloadAll {
-                index,
-                from: sub,
-                bytes,
-            }
-        } else {
-            SdoService::Download { index, sub, bytes }
+    fn serve(&mut self, row: &mut Row<'_>, service: &SdoService, value: &[u8]) {
+        let Some(course) = self.stage.carry(row.alloc(), service) else {
+            return row.fail();
         };
-        self.carry(alloc, service, &Octets::new(alloc))
+        row.show(&course.kind);
+        row.show(&course.mails);
+        row.check(course.value.bytes() == value);
     }
 
-    // A service that fetches a value.
-    fn fetch(&mut self, alloc: Global, asked: &mut Words<'_>, all: bool) -> Result<String> {
-        let (index, sub) = (asked.short()?, asked.small()?);
-        let value = asked.octets(alloc)?;
-        let service = if all {
-            SdoService::UploadAll { index, from: sub }
-        } else {
-            SdoService::Upload { index, sub }
-        };
-        self.carry(alloc, service, &value)
+    // A value is brought to an entry.
+    fn download(&mut self, row: &mut Row<'_>) {
+        let (index, sub) = (row.short(), row.small());
+        let bytes = row.octets();
+        self.serve(row, &SdoService::Download { index, sub, bytes }, &[]);
+    }
+
+    // A value is brought to an object.
+    fn download_all(&mut self, row: &mut Row<'_>) {
+        let (index, from) = (row.short(), row.small());
+        let bytes = row.octets();
+        self.serve(row, &SdoService::DownloadAll { index, from, bytes }, &[]);
+    }
+
+    // An entry's value is fetched.
+    fn upload(&mut self, row: &mut Row<'_>) {
+        let (index, sub) = (row.short(), row.small());
+        let value = row.octets();
+        self.serve(row, &SdoService::Upload { index, sub }, value.bytes());
+    }
+
+    // An object's value is fetched.
+    fn upload_all(&mut self, row: &mut Row<'_>) {
+        let (index, from) = (row.short(), row.small());
+        let value = row.octets();
+        self.serve(row, &SdoService::UploadAll { index, from }, value.bytes());
     }
 }
 
 impl Bench for CarriedBench {
-    fn found(&mut self, alloc: Global, asked: &mut Words<'_>) -> Result<String> {
-        match asked.word()? {
-            "download" => self.bring(alloc, asked, false),
-            "download_all" => self.bring(alloc, asked, true),
-            "upload" => self.fetch(alloc, asked, false),
-            "upload_all" => self.fetch(alloc, asked, true),
-            call => bail!("no call: {call}"),
+    fn carry(&mut self, row: &mut Row<'_>) {
+        match row.word() {
+            "download" => self.download(row),
+            "download_all" => self.download_all(row),
+            "upload" => self.upload(row),
+            "upload_all" => self.upload_all(row),
+            _ => row.fail(),
         }
     }
 }

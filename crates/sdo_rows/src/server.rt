@@ -1,9 +1,9 @@
 use crate::cell::Cell;
-use anyhow::{Result, bail};
 use arrayvec::ArrayVec;
 use coe_server::CoeServer;
+use ec_fields::NoMemory;
 use mailbox_mail::Kind;
-use row_table::{Bench, Words, digits_of};
+use row_table::{Bench, Row};
 use std::alloc::Global;
 
 /// A server through mailboxes of 64 octets, over one entry and the emergency's.
@@ -15,7 +15,7 @@ pub struct ServerBench {
 
 impl ServerBench {
     /// The entry has no octets.
-    pub fn new(alloc: Global) -> Result<ServerBench> {
+    pub fn new(alloc: Global) -> Result<ServerBench, NoMemory> {
         Ok(ServerBench {
             server: CoeServer::new(alloc, false, 64)?,
             objects: Cell {
@@ -25,36 +25,35 @@ impl ServerBench {
     }
 
     // The next mail.
-    fn next(&mut self, alloc: Global) -> Result<String> {
+    fn next(&mut self, row: &mut Row<'_>) {
         if !self.server.waiting() {
-            return Ok(format!(in alloc; "none")?);
+            return row.say("none");
         }
         let mail = self.server.next();
-        let digits = digits_of(alloc, mail.body.as_slice())?;
-        match mail.kind {
-            Kind::CoE => Ok(digits),
-            other => Ok(format!(in alloc; "{other:?} {digits}")?),
+        if mail.kind != Kind::CoE {
+            row.show(&mail.kind);
         }
+        row.digits(mail.body.as_slice());
     }
 
     // Whether a mail counts as a service, and the body of its answer.
-    fn take(&mut self, alloc: Global, octets: &[u8]) -> Result<String> {
+    fn take(&mut self, row: &mut Row<'_>) {
+        let octets = row.octets();
         if octets.len() > 1480 {
-            bail!("no mail");
+            return row.fail();
         }
-        let counts = self.server.take(&mut self.objects, 2, octets);
-        let answer = self.next(alloc)?;
-        Ok(format!(in alloc; "{counts} {answer}")?)
+        row.show(&self.server.take(&mut self.objects, 2, octets.bytes()));
+        self.next(row);
     }
 }
 
 impl Bench for ServerBench {
-    fn found(&mut self, alloc: Global, asked: &mut Words<'_>) -> Result<String> {
-        match asked.word()? {
-            "take" => self.take(alloc, asked.octets(alloc)?.bytes()),
-            "next" => self.next(alloc),
-            "stored" => digits_of(alloc, self.objects.bytes.as_slice()),
-            call => bail!("no call: {call}"),
+    fn carry(&mut self, row: &mut Row<'_>) {
+        match row.word() {
+            "take" => self.take(row),
+            "next" => self.next(row),
+            "stored" => row.digits(self.objects.bytes.as_slice()),
+            _ => row.fail(),
         }
     }
 }

@@ -1,11 +1,10 @@
 ghost use Rattle.std.specs.Prelude.{◌≡◌};
 ghost use Rattle.coe_client.specs.Talk.{octets_in};
 
-use anyhow::{Result, bail};
 use coe_client::CoeClient;
 use coe_law::{Mailboxes, carry_out};
 use coe_server::CoeServer;
-use ec_fields::Octets;
+use ec_fields::{NoMemory, Octets};
 use mailbox_mail::ReplyKind;
 use object_dictionary::{Objects, SdoService};
 use std::alloc::Global;
@@ -72,7 +71,7 @@ pub struct Course {
 
 impl Stage {
     /// Mailboxes of 64 octets over this dictionary.
-    pub fn new(alloc: Global, objects: Objects) -> Result<Stage> {
+    pub fn new(alloc: Global, objects: Objects) -> Result<Stage, NoMemory> {
         let client = CoeClient::new(alloc, 64, 64)?;
         let server = CoeServer::new(alloc, true, 64)?;
         let mailboxes = Mailboxes::new(alloc, 64, 64)?;
@@ -84,10 +83,10 @@ impl Stage {
         })
     }
 
-    /// Carries out a service in PreOp.
-    pub fn carry(&mut self, alloc: Global, service: &SdoService) -> Result<Course> {
+    /// Carries out a service in PreOp, where it brings 16,384 octets at most.
+    pub fn carry(&mut self, alloc: Global, service: &SdoService) -> Option<Course> {
         if len_of(service) > 16_384 {
-            bail!("a value of more octets");
+            return None;
         }
         let carried = carry_out(
             &mut self.client,
@@ -98,8 +97,10 @@ impl Stage {
             service,
         );
         let mut value = Octets::new(alloc);
-        self.client.value(&mut value)?;
-        Ok(Course {
+        if self.client.value(&mut value).is_err() {
+            return None;
+        }
+        Some(Course {
             kind: carried.kind,
             value,
             mails: carried.mails,

@@ -9,6 +9,5 @@ use row_table::tell;
 use words::NodeBench;
 
 fn main(rt: HostRuntime) -> Result<()> {
-    let mut bench = NodeBench::new(rt.alloc())?;
-    tell(&rt, "words", &mut bench)
+    tell(&rt, "words", NodeBench::new(rt.alloc()).ok())
 }
