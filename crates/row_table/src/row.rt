@@ -1,4 +1,5 @@
-use crate::octets::{digits_of, octets_in};
+use crate::octets::octets_in;
+use crate::page::Page;
 use ec_fields::Octets;
 use std::alloc::Global;
 use std::fmt::Debug;
@@ -7,49 +8,47 @@ use std::fmt::Debug;
 /// can't be carried out; it stays, and a row with a fault doesn't hold. So who reads and tells words goes on without looking back.
 #[derive(Drop)]
 pub struct Row<'a> {
-    alloc: Global,
     asked: Option<&'a str>,
-    found: String,
-    faulty: bool,
+    found: Page,
 }
 
 impl<'a> Row<'a> {
     /// All words of what is asked, and nothing found yet.
     pub fn of(alloc: Global, asked: &'a str) -> Row<'a> {
         Row {
-            alloc,
             asked: Some(asked),
-            found: String::new(alloc),
-            faulty: false,
+            found: Page::new(alloc),
         }
     }
 
     /// Where memory is taken.
     pub fn alloc(&self) -> Global {
-        self.alloc
+        self.found.alloc()
     }
 
     /// The row can't be carried out.
     pub fn fail(&mut self) {
-        self.faulty = true;
-        self.say("fault");
+        self.found.fail();
     }
 
     /// The row can't be carried out, unless this holds.
     pub fn check(&mut self, holds: bool) {
-        if !holds {
-            self.fail();
-        }
+        self.found.check(holds);
     }
 
     /// Whether each word was read, there was no fault, and just this was found.
     pub fn holds(&self, wanted: &str) -> bool {
-        !self.faulty && self.asked.is_none() && self.found.as_str() == wanted
+        self.is_read() && !self.is_faulty() && self.found() == wanted
+    }
+
+    /// Whether there was a fault.
+    pub fn is_faulty(&self) -> bool {
+        self.found.is_faulty()
     }
 
     /// What was found.
     pub fn found(&self) -> &str {
-        self.found.as_str()
+        self.found.text()
     }
 
     /// Whether each word was read.
@@ -78,11 +77,11 @@ impl<'a> Row<'a> {
     /// The octets that the next word stands for.
     pub fn octets(&mut self) -> Octets {
         let word = self.word();
-        match octets_in(self.alloc, word) {
+        match octets_in(self.alloc(), word) {
             Ok(octets) => octets,
             Err(_) => {
                 self.fail();
-                Octets::new(self.alloc)
+                Octets::new(self.alloc())
             }
         }
     }
@@ -130,44 +129,30 @@ impl<'a> Row<'a> {
 
     /// The text is found right behind what was found before.
     pub fn put(&mut self, text: &str) {
-        if self.found.push_str(text).is_err() {
-            self.faulty = true;
-        }
+        self.found.put(text);
     }
 
     /// A value is found right behind what was found before, as it is shown.
     pub fn join<T: Debug>(&mut self, value: &T) {
-        let alloc = self.alloc;
-        match format!(in alloc; "{value:?}") {
-            Ok(text) => self.put(text.as_str()),
-            Err(_) => self.fail(),
-        }
-    }
-
-    // The next word begins.
-    fn part(&mut self) {
-        if !self.found.is_empty() {
-            self.put(" ");
-        }
+        self.found.join(value);
     }
 
     /// One more word is found.
     pub fn say(&mut self, word: &str) {
-        self.part();
-        self.put(word);
+        self.found.say(word);
     }
 
     /// A value is found, as it is shown.
     pub fn show<T: Debug>(&mut self, value: &T) {
-        self.part();
-        self.join(value);
+        self.found.show(value);
     }
 
     /// Octets are found, by their hexadecimal digits; `-` stands for none.
     pub fn digits(&mut self, octets: &[u8]) {
-        match digits_of(self.alloc, octets) {
-            Ok(digits) => self.say(digits.as_str()),
-            Err(_) => self.fail(),
+        if octets.is_empty() {
+            self.say("-");
+        } else {
+            self.found.digits(octets);
         }
     }
 }

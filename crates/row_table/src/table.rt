@@ -20,8 +20,8 @@ fn wrong_at<B: Bench>(alloc: Global, line: &str, bench: &mut B) -> Result<Option
     if row.holds(wanted) {
         return Ok(None);
     }
-    let found = row.found();
-    Ok(Some(format!(in alloc; "{asked}: {found} and not {wanted}")?))
+    let (found, faulty) = (row.found(), row.is_faulty());
+    Ok(Some(format!(in alloc; "{asked}: {found} (fault: {faulty}) and not {wanted}")?))
 }
 
 // How many rows of a table hold, or the first that doesn't.

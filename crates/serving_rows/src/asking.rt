@@ -4,14 +4,13 @@
 ghost use Rattle.segment_plan.specs.Sound.{IsPlan};
 
 use crate::loading::{octets_of, plan_of};
-use anyhow::{Result, bail};
-use ec_fields::{Octets, Rows};
-use ec_outside::{DiskFiles, Files, MemPort, MemSink, Peer, PortItem, SentGram};
+use ec_fields::Rows;
+use ec_outside::{Files, MemPort, MemSink, Peer, PortItem, SentGram};
 use ecmbx_words::Status;
 use gateway_run::serve;
+use row_table::Page;
 use run_book::{Book, Ending};
 use segment_plan::Scenario;
-use std::alloc::Global;
 use tool_call::ask_call;
 
 /// Who asks, and the gateway.
@@ -33,99 +32,98 @@ struct Left {
     port: MemPort,
 }
 
-// The words of a call.
-fn words_of<F: Files>(alloc: Global, name: &str, files: &mut F) -> Result<Vec<String>> {
-    let file = format!(in alloc; "{name}.words")?;
-    let octets = octets_of(alloc, file.as_str(), files)?;
+// The words of a call, a line each.
+fn words_in(page: &mut Page, octets: &[u8]) -> Vec<String> {
+    let alloc = page.alloc();
     let mut words = Vec::new(alloc);
-    for line in std::str::from_utf8(octets.bytes())?.lines() {
-        words.push(String::from_str(alloc, line)?)?;
+    for line in page.text_in(octets).lines() {
+        match String::from_str(alloc, line) {
+            Ok(word) => page.check(words.push(word).is_ok()),
+            Err(_) => page.fail(),
+        }
     }
-    Ok(words)
+    words
 }
 
 // A port that hears these datagrams from a peer.
-fn port_of(alloc: Global, from: Peer, grams: &[SentGram]) -> Result<MemPort> {
-    let mut items = Rows::new(alloc);
+fn port_of(page: &mut Page, from: Peer, grams: &[SentGram]) -> MemPort {
+    let mut items = Rows::new(page.alloc());
     for gram in grams {
-        let bytes = Octets::copy_of(alloc, gram.bytes.bytes())?;
-        items.add(PortItem::Gram { from, bytes })?;
+        let bytes = page.copy(gram.bytes.bytes());
+        page.check(items.add(PortItem::Gram { from, bytes }).is_ok());
     }
-    Ok(MemPort::new(alloc, items, Rows::new(alloc)))
+    MemPort::new(page.alloc(), items, Rows::new(page.alloc()))
 }
 
 // Makes the call over a port that hears these datagrams.
 fn ask_over<F: Files>(
-    alloc: Global,
+    page: &mut Page,
+    files: &mut F,
     words: &[String],
     heard: &[SentGram],
-    files: &mut F,
-) -> Result<Left> {
-    let mut out = MemSink::new(alloc, Rows::new(alloc));
-    let mut port = port_of(alloc, GATEWAY, heard)?;
-    let status = ask_call(alloc, words, files, &mut out, &mut port);
-    Ok(Left { status, out, port })
+) -> Left {
+    let mut out = MemSink::new(page.alloc(), Rows::new(page.alloc()));
+    let mut port = port_of(page, GATEWAY, heard);
+    let status = ask_call(page.alloc(), words, files, &mut out, &mut port);
+    Left { status, out, port }
 }
 
 // What a serving of the plan sends for these datagrams.
-fn served(alloc: Global, plan: &Scenario, grams: &[SentGram]) -> Result<MemPort>
+fn served(page: &mut Page, plan: &Scenario, grams: &[SentGram]) -> MemPort
     requires { IsPlan plan.now }
 {
-    let mut port = port_of(alloc, TOOL, grams)?;
-    let mut book = Book::new(alloc);
+    let mut port = port_of(page, TOOL, grams);
     let count = grams.len();
     if count < 1 || count > 1_000_000 {
-        bail!("no datagrams, or too many");
+        page.fail();
+        return port;
     }
-    if serve(alloc, plan, count as u32, &mut port, &mut book) != Ending::Done {
-        bail!("the serving isn't done");
-    }
-    Ok(port)
+    let mut book = Book::new(page.alloc());
+    let ending = serve(page.alloc(), plan, count as u32, &mut port, &mut book);
+    page.check(ending == Ending::Done);
+    port
 }
 
 // Makes the call anew over what the plan's slaves reply to all that it sent before, until no reply is left to hear.
-fn ask<F: Files>(
-    alloc: Global,
-    words: &[String],
-    plan: &Scenario,
-    files: &mut F,
-) -> Result<(Left, usize)>
+fn ask<F: Files>(page: &mut Page, files: &mut F, plan: &Scenario, words: &[String]) -> (Left, usize)
     requires { IsPlan plan.now }
 {
-    let mut left = ask_over(alloc, words, &[], files)?;
+    let mut left = ask_over(page, files, words, &[]);
     let mut heard: usize = 0;
     for _ in 0..1000 {
-        let replies = served(alloc, plan, left.port.sent().as_slice())?;
+        let replies = served(page, plan, left.port.sent().as_slice());
         let many = replies.sent().len();
-        left = ask_over(alloc, words, replies.sent().as_slice(), files)?;
+        left = ask_over(page, files, words, replies.sent().as_slice());
         if many <= heard {
-            return Ok((left, heard));
+            return (left, heard);
         }
         heard = many;
     }
-    bail!("no end")
+    page.fail();
+    (left, heard)
 }
 
-// Prints what a call left.
-fn tell<P: Print>(rt: &P, name: &str, left: &Left, heard: usize) -> Result<()> {
-    let text = std::str::from_utf8(left.out.bytes())?;
-    let sent = left.port.sent().len();
-    let number = left.status.number();
-    print!(rt; "{name}\n{text}")?;
-    println!(rt; "sent {sent} heard {heard} status {number}")?;
-    Ok(())
+// Tells what a call left.
+fn tell(page: &mut Page, name: &str, left: &Left, heard: usize) {
+    page.put(name);
+    page.put("\n");
+    page.put_octets(left.out.bytes());
+    page.say("sent");
+    page.show(&left.port.sent().len());
+    page.say("heard");
+    page.show(&heard);
+    page.say("status");
+    page.show(&left.status.number());
+    page.put("\n");
 }
 
-/// Makes the call whose words stand in NAME.words, one a line, to the slaves of the plan SCENARIO.toml, and prints what it left.
-pub fn tell_asking<P: Print + AllocGlobal + std::rt::Files>(
-    rt: &P,
-    scenario: &str,
-    name: &str,
-) -> Result<()> {
-    let alloc = rt.alloc();
-    let mut files = DiskFiles::new(rt);
-    let plan = plan_of(alloc, scenario, &mut files)?;
-    let words = words_of(alloc, name, &mut files)?;
-    let (left, heard) = ask(alloc, words.as_slice(), &plan, &mut files)?;
-    tell(rt, name, &left, heard)
+/// Makes the call whose words stand in NAME.words, one a line, to the slaves of the plan SCENARIO.toml, and tells what it left.
+pub fn tell_asking<F: Files>(page: &mut Page, files: &mut F, scenario: &str, name: &str) {
+    let Some(plan) = plan_of(page, files, scenario) else {
+        return;
+    };
+    let octets = octets_of(page, files, name, ".words");
+    let words = words_in(page, octets.bytes());
+    let (left, heard) = ask(page, files, &plan, words.as_slice());
+    tell(page, name, &left, heard);
 }

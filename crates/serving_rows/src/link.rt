@@ -1,7 +1,6 @@
-use anyhow::{Result, bail};
 use ec_fields::{Octets, Rows};
 use ec_links::{LinkItem, MemLink};
-use std::alloc::Global;
+use row_table::{Page, Row};
 
 /// How many requests a call is to hear, and the link on which they come.
 #[derive(Drop)]
@@ -18,45 +17,62 @@ struct Lines {
     failing: Rows<u64>,
 }
 
-// Octets in hexadecimal digits, that come in one piece.
-fn piece_in(alloc: Global, digits: &str) -> Result<LinkItem> {
-    let octets = hex::decode(alloc, digits)?;
-    Ok(LinkItem::Bytes(Octets::copy_of(alloc, octets.as_slice())?))
-}
-
-// Octets in hexadecimal digits, that come one by one.
-fn add_singles(alloc: Global, digits: &str, items: &mut Rows<LinkItem>) -> Result<()> {
-    for octet in hex::decode(alloc, digits)? {
-        items.add(LinkItem::Bytes(Octets::copy_of(alloc, &[octet])?))?;
+impl Lines {
+    // One item more.
+    fn add(&mut self, row: &mut Row<'_>, item: LinkItem) {
+        row.check(self.items.add(item).is_ok());
     }
-    Ok(())
-}
 
-// Reads a line: `count NUMBER`, `fail NUMBER`, `piece DIGITS`, `singles DIGITS` or `pause`.
-fn read_line(alloc: Global, line: &str, lines: &mut Lines) -> Result<()> {
-    match line.split_once(' ') {
-        Some(("count", number)) => lines.count = number.parse()?,
-        Some(("fail", number)) => lines.failing.add(number.parse()?)?,
-        Some(("piece", digits)) => lines.items.add(piece_in(alloc, digits)?)?,
-        Some(("singles", digits)) => add_singles(alloc, digits, &mut lines.items)?,
-        None if line == "pause" => lines.items.add(LinkItem::Pause)?,
-        _ => bail!("no line of a link: {line}"),
+    // Octets that come in one piece.
+    fn add_piece(&mut self, row: &mut Row<'_>) {
+        let octets = row.octets();
+        self.add(row, LinkItem::Bytes(octets));
     }
-    Ok(())
+
+    // Octets that come one by one.
+    fn add_singles(&mut self, row: &mut Row<'_>) {
+        let octets = row.octets();
+        for octet in octets.bytes() {
+            let mut single = Octets::new(row.alloc());
+            row.check(single.add(&[*octet]).is_ok());
+            self.add(row, LinkItem::Bytes(single));
+        }
+    }
+
+    // A call that fails.
+    fn add_failing(&mut self, row: &mut Row<'_>) {
+        let number = row.number();
+        row.check(self.failing.add(u64::from(number)).is_ok());
+    }
+
+    // Reads a line: `count NUMBER`, `fail NUMBER`, `piece DIGITS`, `singles DIGITS` or `pause`.
+    fn read(&mut self, row: &mut Row<'_>) {
+        match row.word() {
+            "count" => self.count = row.number(),
+            "fail" => self.add_failing(row),
+            "piece" => self.add_piece(row),
+            "singles" => self.add_singles(row),
+            "pause" => self.add(row, LinkItem::Pause),
+            _ => row.fail(),
+        }
+    }
 }
 
 /// Reads a script, a line each.
-pub fn script_in(alloc: Global, octets: &[u8]) -> Result<Script> {
+pub fn script_in(page: &mut Page, octets: &[u8]) -> Script {
+    let alloc = page.alloc();
     let mut lines = Lines {
         count: 0,
         items: Rows::new(alloc),
         failing: Rows::new(alloc),
     };
-    for line in std::str::from_utf8(octets)?.lines() {
-        read_line(alloc, line, &mut lines)?;
+    for line in page.text_in(octets).lines() {
+        let mut row = Row::of(alloc, line);
+        lines.read(&mut row);
+        page.check(row.holds(""));
     }
-    Ok(Script {
+    Script {
         count: lines.count,
         link: MemLink::new(alloc, lines.items, lines.failing),
-    })
+    }
 }

@@ -1,9 +1,8 @@
-ghost use Rattle.std.specs.Prelude.{◌<◌, IfOk};
+ghost use Rattle.std.specs.Prelude.{◌<◌};
 
-use anyhow::{Result, bail};
 use ec_fields::{Octets, Rows};
 use ec_outside::{MemPort, Peer, PortItem};
-use std::alloc::Global;
+use row_table::{Page, Row};
 
 /// How many datagrams a serving is to hear, and the port on which it hears them.
 #[derive(Drop)]
@@ -20,50 +19,65 @@ struct Lines {
     failing: Rows<u64>,
 }
 
-// A datagram of a peer, in hexadecimal digits.
-fn gram_in(alloc: Global, ip: &str, port: &str, digits: &str) -> Result<PortItem> {
-    let from = Peer {
-        ip: ip.parse()?,
-        port: port.parse()?,
-    };
-    let octets = hex::decode(alloc, digits)?;
-    let bytes = Octets::copy_of(alloc, octets.as_slice())?;
-    Ok(PortItem::Gram { from, bytes })
-}
-
-// Reads a line: `count NUMBER`, `fail NUMBER`, `gram IP PORT DIGITS` or `pause`.
-fn read_line(alloc: Global, line: &str, lines: &mut Lines) -> Result<()> {
-    let mut words = line.split_whitespace();
-    match (words.next(), words.next(), words.next(), words.next()) {
-        (Some("count"), Some(number), None, None) => lines.count = number.parse()?,
-        (Some("fail"), Some(number), None, None) => lines.failing.add(number.parse()?)?,
-        (Some("gram"), Some(ip), Some(port), digits) => {
-            let item = gram_in(alloc, ip, port, digits.unwrap_or(""))?;
-            lines.items.add(item)?;
-        }
-        (Some("pause"), None, None, None) => lines.items.add(PortItem::Pause)?,
-        _ => bail!("no line of a port: {line}"),
+impl Lines {
+    // One item more.
+    fn add(&mut self, row: &mut Row<'_>, item: PortItem) {
+        row.check(self.items.add(item).is_ok());
     }
-    Ok(())
+
+    // A datagram of a peer, by its octets, if it has any.
+    fn add_gram(&mut self, row: &mut Row<'_>) {
+        let from = Peer {
+            ip: row.number(),
+            port: row.short(),
+        };
+        let bytes = if row.is_read() {
+            Octets::new(row.alloc())
+        } else {
+            row.octets()
+        };
+        self.add(row, PortItem::Gram { from, bytes });
+    }
+
+    // A call that fails.
+    fn add_failing(&mut self, row: &mut Row<'_>) {
+        let number = row.number();
+        row.check(self.failing.add(u64::from(number)).is_ok());
+    }
+
+    // Reads a line: `count NUMBER`, `fail NUMBER`, `gram IP PORT DIGITS` or `pause`.
+    fn read(&mut self, row: &mut Row<'_>) {
+        match row.word() {
+            "count" => self.count = row.number(),
+            "fail" => self.add_failing(row),
+            "gram" => self.add_gram(row),
+            "pause" => self.add(row, PortItem::Pause),
+            _ => row.fail(),
+        }
+    }
 }
 
-/// Reads a script, a line each.
-pub fn script_in(alloc: Global, octets: &[u8]) -> Result<Script>
-    ensures { IfOk result (λ script. 0 < script.count) }
+/// Reads a script, a line each. A serving hears one datagram or more.
+pub fn script_in(page: &mut Page, octets: &[u8]) -> Script
+    ensures { 0 < result.count }
 {
+    let alloc = page.alloc();
     let mut lines = Lines {
         count: 0,
         items: Rows::new(alloc),
         failing: Rows::new(alloc),
     };
-    for line in std::str::from_utf8(octets)?.lines() {
-        read_line(alloc, line, &mut lines)?;
+    for line in page.text_in(octets).lines() {
+        let mut row = Row::of(alloc, line);
+        lines.read(&mut row);
+        page.check(row.holds(""));
     }
     if lines.count == 0 {
-        bail!("a port without a count");
+        page.fail();
+        lines.count = 1;
     }
-    Ok(Script {
+    Script {
         count: lines.count,
         port: MemPort::new(alloc, lines.items, lines.failing),
-    })
+    }
 }

@@ -1,51 +1,41 @@
 //! A plan served over a port in memory: its report, the datagrams that were sent, and the digest of its frames as a capture.
 
-ghost use Rattle.std.specs.Prelude.{◌<◌, IfOk};
+ghost use Rattle.std.specs.Prelude.{◌<◌, IfSome};
 ghost use Rattle.segment_plan.specs.Sound.{IsPlan};
 ghost use Rattle.serving_rows.specs.Told.{IsTold};
 
 use crate::loading::{octets_of, plan_of};
 use crate::port::{Script, script_in};
 use crate::telling::tell;
-use anyhow::{Result, bail};
-use ec_outside::{DiskFiles, Files};
+use ec_outside::Files;
 use gateway_run::serve;
+use row_table::Page;
 use run_book::{Book, Ending};
 use segment_plan::Scenario;
-use std::alloc::Global;
-
-// The port of a name.
-fn script_of<F: Files>(alloc: Global, name: &str, files: &mut F) -> Result<Script>
-    ensures { IfOk result (λ script. 0 < script.count) }
-{
-    let file = format!(in alloc; "{name}.port")?;
-    let octets = octets_of(alloc, file.as_str(), files)?;
-    script_in(alloc, octets.bytes())
-}
 
 // Serves a plan over a port, and gives the book.
-fn book_of(alloc: Global, name: &str, plan: &Scenario, script: &mut Script) -> Result<Book>
+fn book_of(page: &mut Page, plan: &Scenario, script: &mut Script) -> Option<Book>
     requires plan { IsPlan plan.now }
     requires some { 0 < script.old.count }
-    ensures { IfOk result (IsTold plan.now) }
+    ensures { IfSome result (IsTold plan.now) }
 {
+    let alloc = page.alloc();
     let mut book = Book::new(alloc);
     if serve(alloc, plan, script.count, &mut script.port, &mut book) == Ending::NoMemory {
-        bail!("{name}: no memory");
+        return None;
     }
-    Ok(book)
+    Some(book)
 }
 
-/// Serves the plan SCENARIO.toml over the port NAME.port, and prints what the serving told.
-pub fn tell_serving<P: Print + AllocGlobal + std::rt::Files>(
-    rt: &P,
-    scenario: &str,
-    name: &str,
-) -> Result<()> {
-    let alloc = rt.alloc();
-    let mut files = DiskFiles::new(rt);
-    let plan = plan_of(alloc, scenario, &mut files)?;
-    let mut script = script_of(alloc, name, &mut files)?;
-    let book = book_of(alloc, name, &plan, &mut script)?;
-    tell(rt, name, &plan, &script.port, &book)
+/// Serves the plan SCENARIO.toml over the port NAME.port, and tells what the serving told.
+pub fn tell_serving<F: Files>(page: &mut Page, files: &mut F, scenario: &str, name: &str) {
+    let Some(plan) = plan_of(page, files, scenario) else {
+        return;
+    };
+    let octets = octets_of(page, files, name, ".port");
+    let mut script = script_in(page, octets.bytes());
+    match book_of(page, &plan, &mut script) {
+        Some(book) => tell(page, name, &plan, &script.port, &book),
+        None => page.fail(),
+    }
 }

@@ -2,62 +2,54 @@ ghost use Rattle.std.specs.Prelude.{◌≡◌, ◌≤◌, length, All};
 ghost use Rattle.run_book.specs.Book.{IsShort};
 ghost use Rattle.serving_rows.specs.Told.{IsTold};
 
-use anyhow::Result;
 use ec_fields::{Octets, Rows};
 use ec_outside::{MemPort, SentGram};
+use row_table::Page;
 use run_book::Book;
 use run_report::{report, saved};
 use segment_plan::Scenario;
 use sha2::{Digest, Sha256};
-use std::alloc::Global;
 
 // The report of a serving.
-fn lines_of(alloc: Global, plan: &Scenario, book: &Book) -> Result<Rows<Octets>>
+fn tell_report(page: &mut Page, plan: &Scenario, book: &Book)
     requires { IsTold plan.now book.now }
 {
-    let mut lines = Rows::new(alloc);
-    report(alloc, plan, book, &mut lines)?;
-    Ok(lines)
+    let mut lines = Rows::new(page.alloc());
+    page.check(report(page.alloc(), plan, book, &mut lines).is_ok());
+    for line in lines.as_slice() {
+        page.put_octets(line.bytes());
+    }
 }
 
 // The digest of the frames as a capture.
-fn digest_of(alloc: Global, book: &Book) -> Result<String>
+fn tell_digest(page: &mut Page, book: &Book)
     requires few { length book.now.frames ≤ 100000000 }
     requires short { All IsShort book.now.frames }
 {
-    let mut capture = Octets::new(alloc);
-    saved(book.frames.as_slice(), &mut capture)?;
+    let mut capture = Octets::new(page.alloc());
+    page.check(saved(book.frames.as_slice(), &mut capture).is_ok());
     let digest = Sha256::digest(capture.bytes());
-    Ok(hex::encode(alloc, digest.as_slice())?)
+    page.line("capture", digest.as_slice());
 }
 
 // A datagram that was sent.
-fn tell_sent<P: Print + AllocGlobal>(rt: &P, sent: &SentGram) -> Result<()> {
-    let digits = hex::encode(rt.alloc(), sent.bytes.bytes())?;
-    let (ip, port) = (sent.to.ip, sent.to.port);
-    println!(rt; "to {ip} {port} {digits}")?;
-    Ok(())
+fn tell_sent(page: &mut Page, sent: &SentGram) {
+    page.say("to");
+    page.show(&sent.to.ip);
+    page.show(&sent.to.port);
+    page.digits(sent.bytes.bytes());
+    page.put("\n");
 }
 
-/// Prints what a serving told.
-pub fn tell<P: Print + AllocGlobal>(
-    rt: &P,
-    name: &str,
-    plan: &Scenario,
-    port: &MemPort,
-    book: &Book,
-) -> Result<()>
+/// Tells what a serving told.
+pub fn tell(page: &mut Page, name: &str, plan: &Scenario, port: &MemPort, book: &Book)
     requires { IsTold plan.now book.now }
 {
-    println!(rt; "{name}")?;
-    for line in lines_of(rt.alloc(), plan, book)?.as_slice() {
-        let text = std::str::from_utf8(line.bytes())?;
-        print!(rt; "{text}")?;
-    }
+    page.put(name);
+    page.put("\n");
+    tell_report(page, plan, book);
     for sent in port.sent().as_slice() {
-        tell_sent(rt, sent)?;
+        tell_sent(page, sent);
     }
-    let digest = digest_of(rt.alloc(), book)?;
-    println!(rt; "capture {digest}")?;
-    Ok(())
+    tell_digest(page, book);
 }
