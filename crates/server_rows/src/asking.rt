@@ -2,12 +2,12 @@ ghost use Rattle.std.specs.Prelude.{◌≡◌};
 ghost use Rattle.coe_client.specs.Talk.{octets_in};
 
 use crate::desk::Desk;
-use anyhow::{Result, bail};
 use coe_client::CoeClient;
 use ec_fields::Rows;
 use foe_client::FoeClient;
 use mailbox_mail::Mail;
 use object_dictionary::SdoService;
+use row_table::Page;
 use slave_app::Reply;
 use soe_client::SoeClient;
 
@@ -26,86 +26,96 @@ fn size_of(service: &SdoService) -> usize
 }
 
 /// A service of CoE by its mails.
-pub fn ask_sdo<P: Print>(
-    rt: &P,
+pub fn ask_sdo(
+    page: &mut Page,
     desk: &mut Desk,
     al: u8,
     service: &SdoService,
     sent: &mut Rows<Mail>,
-) -> Result<Reply> {
+) -> Option<Reply> {
     let (out_len, in_len) = desk.lengths()?;
     if size_of(service) > 16_384 {
-        bail!("a value too long");
+        return None;
     }
-    let mut client = CoeClient::new(desk.alloc, out_len, in_len)?;
+    let Ok(mut client) = CoeClient::new(desk.alloc, out_len, in_len) else {
+        return None;
+    };
     client.start(service);
-    desk.talk(rt, &mut client, al, sent)
+    desk.talk(page, &mut client, al, sent)
 }
 
 /// A file that is read, by its mails.
-pub fn ask_file<P: Print>(
-    rt: &P,
+pub fn ask_file(
+    page: &mut Page,
     desk: &mut Desk,
     al: u8,
     (name, pass): (&[u8], u32),
     sent: &mut Rows<Mail>,
-) -> Result<Reply> {
+) -> Option<Reply> {
     let (out_len, in_len) = desk.lengths()?;
     if name.is_empty() || name.len() > 32 {
-        bail!("no name");
+        return None;
     }
-    let mut client = FoeClient::new(desk.alloc, out_len, in_len)?;
+    let Ok(mut client) = FoeClient::new(desk.alloc, out_len, in_len) else {
+        return None;
+    };
     client.start_read(name, pass);
-    desk.talk(rt, &mut client, al, sent)
+    desk.talk(page, &mut client, al, sent)
 }
 
 /// A file that is written, by its mails.
-pub fn tell_file<P: Print>(
-    rt: &P,
+pub fn tell_file(
+    page: &mut Page,
     desk: &mut Desk,
     al: u8,
     (name, pass, bytes): (&[u8], u32, &[u8]),
     sent: &mut Rows<Mail>,
-) -> Result<Reply> {
+) -> Option<Reply> {
     let (out_len, in_len) = desk.lengths()?;
     if name.is_empty() || name.len() > 32 || bytes.len() > 131_072 {
-        bail!("no name, or a file too long");
+        return None;
     }
-    let mut client = FoeClient::new(desk.alloc, out_len, in_len)?;
+    let Ok(mut client) = FoeClient::new(desk.alloc, out_len, in_len) else {
+        return None;
+    };
     client.start_write(name, pass, bytes);
-    desk.talk(rt, &mut client, al, sent)
+    desk.talk(page, &mut client, al, sent)
 }
 
 /// An element that is read, by its mails.
-pub fn ask_idn<P: Print>(
-    rt: &P,
+pub fn ask_idn(
+    page: &mut Page,
     desk: &mut Desk,
     al: u8,
     (drive, idn, elements): (u8, u16, u8),
     sent: &mut Rows<Mail>,
-) -> Result<Reply> {
+) -> Option<Reply> {
     let (out_len, in_len) = desk.lengths()?;
     if drive > 7 {
-        bail!("no drive");
+        return None;
     }
-    let mut client = SoeClient::new(desk.alloc, out_len, in_len)?;
+    let Ok(mut client) = SoeClient::new(desk.alloc, out_len, in_len) else {
+        return None;
+    };
     client.start_read(drive, idn, elements);
-    desk.talk(rt, &mut client, al, sent)
+    desk.talk(page, &mut client, al, sent)
 }
 
 /// An element that is written, by its mails.
-pub fn tell_idn<P: Print>(
-    rt: &P,
+pub fn tell_idn(
+    page: &mut Page,
     desk: &mut Desk,
     al: u8,
     (drive, idn, elements, bytes): (u8, u16, u8, &[u8]),
     sent: &mut Rows<Mail>,
-) -> Result<Reply> {
+) -> Option<Reply> {
     let (out_len, in_len) = desk.lengths()?;
     if drive > 7 || bytes.len() > 16_384 {
-        bail!("no drive, or a value too long");
+        return None;
     }
-    let mut client = SoeClient::new(desk.alloc, out_len, in_len)?;
+    let Ok(mut client) = SoeClient::new(desk.alloc, out_len, in_len) else {
+        return None;
+    };
     client.start_write(drive, idn, elements, bytes);
-    desk.talk(rt, &mut client, al, sent)
+    desk.talk(page, &mut client, al, sent)
 }
