@@ -67,31 +67,19 @@ impl Stage {
         row.say("opened");
     }
 
-    // The text that the last call put.
-    fn text(&self, row: &mut Row<'_>) -> &str {
-        match std::str::from_utf8(self.out.bytes()) {
-            Ok(text) => text,
-            Err(_) => {
-                row.fail();
-                ""
-            }
-        }
-    }
-
     // A call's status, and all that it put.
     fn tell(&mut self, row: &mut Row<'_>) {
         let status = self.call_asked(row);
         row.show(&status);
-        let text = self.text(row);
-        row.show(&text);
+        row.show_text(self.out.bytes());
     }
 
     // A call's status, and the last line that it put.
     fn tell_end(&mut self, row: &mut Row<'_>) {
         let status = self.call_asked(row);
         row.show(&status);
-        let line = last_line(self.text(row));
-        row.say(line);
+        let text = row.text_in(self.out.bytes());
+        row.say(last_line(text));
     }
 
     // A call whose text becomes a file.

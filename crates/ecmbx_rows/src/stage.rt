@@ -1,6 +1,7 @@
 use ec_fields::{Octets, Rows};
+use ec_links::MemLink;
 use ec_outside::{MemFiles, MemPort, MemSink, Peer, PortItem};
-use ecmbx_call::{Book, Status, ecmbx};
+use ecmbx_call::{Book, Status, program};
 use row_table::Row;
 use std::alloc::Global;
 
@@ -58,10 +59,10 @@ fn gram_in(row: &mut Row<'_>) -> PortItem {
     }
 }
 
-// Datagrams of peers, 16 at most.
+// Datagrams of peers, 64 at most.
 fn grams_in(row: &mut Row<'_>) -> Rows<PortItem> {
     let mut items = Rows::new(row.alloc());
-    for _ in 0..16 {
+    for _ in 0..64 {
         if row.is_read() {
             return items;
         }
@@ -93,14 +94,16 @@ impl Stage {
     pub fn call(&mut self, alloc: Global, words: &[String]) -> Status {
         self.out = MemSink::new(alloc, numbers(alloc, self.failing));
         let mut book = Book::new(alloc);
-        ecmbx(
+        let (status, _link) = program(
             alloc,
             words,
             &mut self.files,
             &mut self.out,
             &mut self.port,
+            MemLink::new(alloc, Rows::new(alloc), Rows::new(alloc)),
             &mut book,
-        )
+        );
+        status
     }
 
     /// Makes the call of the words that are left.

@@ -1,4 +1,4 @@
-//! The formats against octets from outside: the codecs, the switch and the adapters, by tables of rows in files of their names.
+//! The formats against octets from outside: the codecs, the text of captures, the switch and the adapters, by tables of rows in files of their names.
 #![tactic(auto)]
 
 mod captures;
@@ -12,6 +12,7 @@ mod mails;
 mod outside;
 mod soe;
 mod switch;
+mod views;
 
 use anyhow::Result;
 use captures::CaptureBench;
@@ -28,6 +29,7 @@ use row_table::tell;
 use soe::SoeBench;
 use std::fs;
 use switch::SwitchBench;
+use views::ViewBench;
 
 // A line by the sink of the standard output.
 fn tell_sink<R: Print>(rt: &R) -> Result<()> {
@@ -46,6 +48,7 @@ fn main(rt: HostRuntime) -> Result<()> {
     tell(&rt, "eoe", Some(EoeBench::new()))?;
     tell(&rt, "frames", Some(FrameBench))?;
     tell(&rt, "captures", Some(CaptureBench::new(rt.alloc())))?;
+    tell(&rt, "views", Some(ViewBench))?;
     tell(&rt, "switch", SwitchBench::new(rt.alloc()).ok())?;
     tell(&rt, "outside", OutsideBench::new(rt.alloc()).ok())?;
     let disk = DiskBench::new(rt.alloc(), DiskFiles::new(&rt));

@@ -147,6 +147,17 @@ impl<'a> Row<'a> {
         self.found.show(value);
     }
 
+    /// The text that octets are.
+    pub fn text_in<'b>(&mut self, octets: &'b [u8]) -> &'b str {
+        self.found.text_in(octets)
+    }
+
+    /// A text is found, as it is shown between quotes.
+    pub fn show_text(&mut self, octets: &[u8]) {
+        let text = self.text_in(octets);
+        self.show(&text);
+    }
+
     /// Octets are found, by their hexadecimal digits; `-` stands for none.
     pub fn digits(&mut self, octets: &[u8]) {
         if octets.is_empty() {

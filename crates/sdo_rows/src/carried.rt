@@ -66,8 +66,10 @@ fn insert(
 // The dictionary with the strings.
 fn strings(alloc: Global) -> Result<Objects, NoMemory> {
     let mut objects = Objects::new(alloc, true)?;
-    insert(alloc, &mut objects, 0x2003, 9, two_long(alloc)?)?;
-    insert(alloc, &mut objects, 0x2002, 8, two_short(alloc)?)?;
+    let long = two_long(alloc)?;
+    insert(alloc, &mut objects, 0x2003, 9, long)?;
+    let short = two_short(alloc)?;
+    insert(alloc, &mut objects, 0x2002, 8, short)?;
     Ok(objects)
 }
 
