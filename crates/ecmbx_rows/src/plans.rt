@@ -63,9 +63,10 @@ fn tell_plan(row: &mut Row<'_>, octets: &[u8]) {
 fn tell_made(row: &mut Row<'_>) {
     let (seed, size, count) = (row.number(), row.number(), row.count());
     let mut text = Octets::new(row.alloc());
-    if size > 4096 || make(seed, size, &mut text).is_err() {
+    if size > 4096 {
         return row.fail();
     }
+    row.check(make(seed, size, &mut text).is_ok());
     let octets = text.bytes();
     row.digits(&octets[..count.min(octets.len())]);
     tell_plan(row, octets);

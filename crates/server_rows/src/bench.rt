@@ -64,12 +64,10 @@ fn performed(app: &mut App, alloc: Global, service: &Service) -> Option<Performe
 }
 
 // A change of the AL state by its words.
-fn stated(page: &mut Page, desk: &Desk, (al, boot): (u8, bool), target: u8) -> Option<Reply> {
+fn stated(page: &mut Page, al: u8, boot: bool, target: u8) -> Option<Reply> {
     let kind = tell_state(page, al, boot, target)?;
-    Some(Reply {
-        kind,
-        value: Octets::new(desk.alloc),
-    })
+    let value = Octets::new(page.alloc());
+    Some(Reply { kind, value })
 }
 
 // A service by its mails, in this AL state and with the number of the next packet's frame.
@@ -105,7 +103,7 @@ fn asked(
         }
         Service::SetIp { block } => tell_block(page, desk, al, block.bytes(), sent),
         Service::GetIp => ask_block(page, desk, al, sent),
-        Service::State { target } => stated(page, desk, (al, boot), *target),
+        Service::State { target } => stated(page, al, boot, *target),
         Service::Forward(packet) => tell_packet(page, desk, al, (packet, frame), sent),
     }
 }
@@ -176,7 +174,8 @@ fn first(slaves: &[SlaveSpec]) -> Option<&SlaveSpec>
 fn bench_for(alloc: Global, plan: &Scenario) -> Option<Bench>
     requires { IsLaid plan.now }
 {
-    bench_of(alloc, first(plan.slaves.as_slice())?)
+    let spec = first(plan.slaves.as_slice())?;
+    bench_of(alloc, spec)
 }
 
 // The services of a plan at its first slave.

@@ -7,6 +7,7 @@ use ec_links::MemLink;
 use ec_outside::{Files, MemPort, MemSink};
 use ecmbx_call::{Book, Status, program};
 use row_table::Page;
+use std::alloc::Global;
 
 // What a call left.
 #[derive(Drop)]
@@ -35,8 +36,7 @@ fn words_of(page: &mut Page, form: &str, scenario: &str) -> Vec<String> {
 }
 
 // Makes the call over a link.
-fn call<F: Files>(page: &Page, files: &mut F, words: &[String], link: MemLink) -> Called {
-    let alloc = page.alloc();
+fn call<F: Files>(alloc: Global, files: &mut F, words: &[String], link: MemLink) -> Called {
     let mut out = MemSink::new(alloc, Rows::new(alloc));
     let mut port = MemPort::new(alloc, Rows::new(alloc), Rows::new(alloc));
     let mut book = Book::new(alloc);
@@ -79,7 +79,7 @@ pub fn tell_streaming<F: Files>(page: &mut Page, files: &mut F, scenario: &str, 
     let mut number = Page::new(page.alloc());
     number.show(&count);
     add_word(page, &mut words, number.text(), "");
-    let called = call(page, files, words.as_slice(), link);
+    let called = call(page.alloc(), files, words.as_slice(), link);
     tell_put(page, name, &called);
     tell_link(page, &called);
     tell_status(page, &called);
@@ -90,7 +90,7 @@ pub fn tell_running<F: Files>(page: &mut Page, files: &mut F, scenario: &str) {
     let alloc = page.alloc();
     let words = words_of(page, "run", scenario);
     let link = MemLink::new(alloc, Rows::new(alloc), Rows::new(alloc));
-    let called = call(page, files, words.as_slice(), link);
+    let called = call(alloc, files, words.as_slice(), link);
     tell_put(page, scenario, &called);
     tell_status(page, &called);
 }
