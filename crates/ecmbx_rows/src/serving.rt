@@ -2,7 +2,7 @@
 
 ghost use Rattle.std.specs.Prelude.{◌<◌, IfSome};
 ghost use Rattle.segment_plan.specs.Sound.{IsPlan};
-ghost use Rattle.serving_rows.specs.Told.{IsTold};
+ghost use Rattle.ecmbx_rows.specs.Told.{IsTold};
 
 use crate::loading::{octets_of, plan_of};
 use crate::port::{Script, script_in};

@@ -1,6 +1,6 @@
 ghost use Rattle.std.specs.Prelude.{◌≡◌, ◌≤◌, length, All};
 ghost use Rattle.run_book.specs.Book.{IsShort};
-ghost use Rattle.serving_rows.specs.Told.{IsTold};
+ghost use Rattle.ecmbx_rows.specs.Told.{IsTold};
 
 use ec_fields::{Octets, Rows};
 use ec_outside::{MemPort, SentGram};

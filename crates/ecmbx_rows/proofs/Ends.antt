@@ -10,7 +10,7 @@ use Rattle.run_record.specs.Ran.{HasSent, HasRows}
 use Rattle.run_record.proofs.Budgets.{few_sent}
 use Rattle.gateway_run.specs.Serving.{Told}
 use Rattle.gateway_run.specs.Served.{IsServed}
-use Rattle.serving_rows.specs.Told.{IsTold}
+use Rattle.ecmbx_rows.specs.Told.{IsTold}
 
 rows_of : (plan : Scenario) (count : ℕ) (first last : Told) (book : Book) (ending : Ending) → ending ≢ endings.NoMemory → IsServed plan count first last book ending → HasRows plan book
 rows_of plan count first last book endings.Done apart s = s.0.rows
