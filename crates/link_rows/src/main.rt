@@ -1,10 +1,12 @@
-//! A mailbox link, by tables of rows in files of their names: registers, AL states and bring-up, the slave's box, the master's halves, and a link
-//! with losses.
+//! A mailbox link, by tables of rows in files of their names: registers, AL states and bring-up, the slave's box, the master's halves, a link with
+//! losses, and a slave against frames from outside, octet by octet.
 #![tactic(auto)]
 
 mod boxes;
 mod inward;
+mod nodes;
 mod outward;
+mod quiet;
 mod registers;
 mod runs;
 mod seats;
@@ -13,6 +15,7 @@ mod states;
 use anyhow::Result;
 use boxes::BoxBench;
 use inward::InwardBench;
+use nodes::NodeBench;
 use outward::OutwardBench;
 use registers::EscBench;
 use row_table::tell;
@@ -29,5 +32,6 @@ fn main(rt: HostRuntime) -> Result<()> {
     tell(&rt, "inward", Some(InwardBench::new()))?;
     tell(&rt, "outward", Some(OutwardBench::new()))?;
     tell(&rt, "seats", Some(SeatBench::new()))?;
-    tell(&rt, "runs", Some(RunBench))
+    tell(&rt, "runs", Some(RunBench))?;
+    tell(&rt, "nodes", NodeBench::new(rt.alloc()).ok())
 }

@@ -1,4 +1,4 @@
-use crate::stage::store_with;
+use crate::foe::stage::store_with;
 use file_store::Store;
 use foe_server::FoeServer;
 use mailbox_mail::Kind;

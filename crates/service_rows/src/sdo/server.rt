@@ -1,4 +1,4 @@
-use crate::cell::Cell;
+use crate::sdo::cell::Cell;
 use arrayvec::ArrayVec;
 use coe_server::CoeServer;
 use ec_fields::NoMemory;

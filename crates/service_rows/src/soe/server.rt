@@ -1,4 +1,4 @@
-use crate::idns::{tell_element, three_idns};
+use crate::soe::idns::{tell_element, three_idns};
 use ec_fields::NoMemory;
 use idn_table::IdnTable;
 use mailbox_mail::Kind;

@@ -1,5 +1,5 @@
-use crate::client::names_file;
-use crate::stage::{Course, Stage};
+use crate::foe::client::names_file;
+use crate::foe::stage::{Course, Stage};
 use arrayvec::ArrayVec;
 use ec_fields::{Octets, refill};
 use row_table::{Bench, Row};

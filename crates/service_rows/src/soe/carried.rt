@@ -1,4 +1,4 @@
-use crate::idns::long_idn;
+use crate::soe::idns::long_idn;
 use arrayvec::ArrayVec;
 use ec_fields::Transfer;
 use idn_table::IdnTable;

@@ -1,4 +1,4 @@
-use crate::stage::Stage;
+use crate::sdo::stage::Stage;
 use ec_fields::{NoMemory, Octets, Rows};
 use object_dictionary::{EntrySpec, Objects, SdoService};
 use row_table::{Bench, Row};
