@@ -8,7 +8,7 @@ use Rattle.link_mails.specs.Body.{Body}
 use Rattle.serving_model.specs.Tagged.{untag, told}
 use Rattle.serving_model.specs.TaggedStates.{IsStatedServed}
 use Rattle.serving_model.proofs.TaggedLaw.{untag-told}
-use Rattle.serving_sum.specs.Whole.{gated_whole}
+use Rattle.slave_served.specs.Whole.{gated_whole}
 use Rattle.slave_model.specs.Acknowledged.{acknowledged}
 use Rattle.slave_model.specs.Product.{refusal}
 use Rattle.slave_model.specs.Profile.{Protocol, Profile, areas_of, serves}

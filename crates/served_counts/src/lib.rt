@@ -33,7 +33,7 @@ pub fn slave_law()
     ensures { (p : Profile) → IsProfile p → (first : InState Server) (l : Life Body Asked Reply) → IsServedLife p first l → AreUnopened l → gains l ≤ 1 + life_most (serving_most p (shape_at first)) l }
 {
     whole_counts::passed_law();
-    parts_served::parts_are_served();
+    slave_served::parts_are_served();
 }
 
 /// THE LIVES OF A SERVING of a plan, which its slaves work, have together gained no more than all services of the plan count of their own, the fragments of
@@ -44,7 +44,7 @@ pub fn served_law()
         served_in ws ≤ length plan.slaves + work_in own_work plan.slaves plan.services + (cuts_begun plan.slaves (leads_of ws) + packets_begun plan.slaves (leads_of ws)) + 82 * asked_in ws }
 {
     whole_counts::passed_law();
-    parts_served::parts_are_served();
+    slave_served::parts_are_served();
     served_work::served_work();
 }
 

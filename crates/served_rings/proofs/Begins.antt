@@ -2,7 +2,7 @@
 use Rattle.std.proofs.Common.{◌≡◌, ◌≤◌, ℕ, suc, ◌&&◌, Bool, true, List, [], ◌∷◌, map, length, refl, ap, ap₂, sym, ◌∙◌, arith}
 use Rattle.std.specs.Prelude.{None, All}
 use Rattle.std.proofs.lemmas.List.Elements.{All-head, All-tail}
-use Rattle.foe_served.specs.Served.{has_its_room}
+use Rattle.slave_served.specs.FoeServed.{has_its_room}
 use Rattle.frame_view.specs.View.{Lens}
 use Rattle.led_lives.proofs.Lived as Lived
 use Rattle.led_rings.specs.Rings.{LedMember, AllLedMembers}

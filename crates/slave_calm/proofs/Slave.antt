@@ -5,9 +5,9 @@ use Rattle.std.proofs.Math.Nat.{div-mul-le_self}
 use Rattle.coe_model.specs.Meaning.{Service, download, upload, information}
 use Rattle.coe_model.specs.Model.{value_length}
 use Rattle.coe_model.specs.Server.{Transfer}
-use Rattle.coe_served.specs.Served.{transfer_behind}
-use Rattle.foe_served.specs.Served.{has_its_room}
-use Rattle.serving_sum.specs.Whole.{gated_whole}
+use Rattle.slave_served.specs.CoeServed.{transfer_behind}
+use Rattle.slave_served.specs.FoeServed.{has_its_room}
+use Rattle.slave_served.specs.Whole.{gated_whole}
 use Rattle.slave_model.specs.Application.{Parts, ArePartsLawful, station_valid, station_files}
 use Rattle.slave_model.specs.Product.{refusal}
 use Rattle.slave_model.specs.Profile.{Protocol, Profile, IsProfile, serves}

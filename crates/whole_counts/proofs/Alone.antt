@@ -11,10 +11,10 @@ use Rattle.soe_model.specs.Mails as SoeMails
 use Rattle.soe_model.specs.Octets as SoeOctets
 use Rattle.soe_model.specs.Server as Soe
 use Rattle.soe_model.proofs.Carries.{answer_to}
-use Rattle.soe_served.specs.Served.{ahead_of, soe_served}
-use Rattle.soe_served.proofs.ServedLaw.{kept}
-use Rattle.serving_sum.specs.Whole.{gated_whole}
-use Rattle.serving_sum.proofs.JoinedLaw.{given_whole}
+use Rattle.slave_served.specs.SoeServed.{ahead_of, soe_served}
+use Rattle.slave_served.proofs.ServedLaw.{kept}
+use Rattle.slave_served.specs.Whole.{gated_whole}
+use Rattle.slave_served.proofs.JoinedLaw.{given_whole}
 use Rattle.state_exchange.specs.Families.{InState}
 use Rattle.state_exchange.proofs.FamilyLaw.{given_in}
 use Rattle.mail_counts.specs.Counts.{mails_between}
@@ -24,7 +24,7 @@ use Rattle.slave_model.specs.Profile.{Protocol, Profile, IsProfile, serves, area
 use Rattle.slave_model.specs.Server.{Server, seat, reseated, ServiceOf, heard_by, told_by}
 use Rattle.slave_model.proofs.Sides.{sized, told_spells}
 use Rattle.slave_model.proofs.Stations.{left_of, elements_law}
-use Rattle.foe_served.specs.Served.{has_its_room}
+use Rattle.slave_served.specs.FoeServed.{has_its_room}
 use Rattle.slave_served.specs.Served.{core_of, served_whole, side_whole, is_fine, slave_whole, protocols_whole, product_whole, AreFilesServed}
 use Rattle.slave_served.proofs.Sides.{side_of}
 use Rattle.slave_served.proofs.SlaveLaw.{client}

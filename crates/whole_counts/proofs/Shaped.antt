@@ -19,8 +19,8 @@ use Rattle.eoe_model.specs.Octets as EoeOctets
 use Rattle.eoe_model.specs.Echo.{echo_of}
 use Rattle.eoe_model.specs.Network.{Station}
 use Rattle.eoe_model.specs.Server.{sends}
-use Rattle.soe_served.specs.Served.{met}
-use Rattle.serving_sum.specs.Whole.{gated_whole}
+use Rattle.slave_served.specs.SoeServed.{met}
+use Rattle.slave_served.specs.Whole.{gated_whole}
 use Rattle.slave_model.specs.Application.{with_objects, stored, station_tables, station_files, written, station_elements, network}
 use Rattle.slave_model.specs.Product.{served, refusal, serve, serve_by, serve_other, protocol_of}
 use Rattle.slave_model.specs.Profile.{Protocol, Profile, serves, areas_of}
@@ -28,8 +28,8 @@ use Rattle.slave_model.specs.Server.{Seat, seat, reseated, ServiceOf, heard_by, 
 use Rattle.slave_parts.specs.Parts.{Core, Server, parts}
 use Rattle.slave_served.specs.Served.{served_whole, side_whole}
 use Rattle.slave_served.proofs.SoeKeeping as Soe
-use Rattle.coe_served.proofs.Keeping as Coe
-use Rattle.eoe_served.proofs.Keeping as Eoe
+use Rattle.slave_served.proofs.Keeping as Coe
+use Rattle.slave_served.proofs.EoeKeeping as Eoe
 use Rattle.service_counts.specs.Shapes.{Shape, shape_of}
 use Rattle.service_counts.proofs.Stays.{with_table, with_kept, stored_sizes, shape_stays}
 use Rattle.whole_counts.proofs.Filed as Foe

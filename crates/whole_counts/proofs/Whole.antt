@@ -7,7 +7,7 @@ use Rattle.coe_model.specs.Tables.{Ask, list, object, entry}
 use Rattle.coe_server.specs.ObjectTables.{tells}
 use Rattle.exchange_model.specs.Exchange.{IsLawful}
 use Rattle.few_replies.specs.Most.{Tells}
-use Rattle.foe_served.specs.Served.{has_its_room}
+use Rattle.slave_served.specs.FoeServed.{has_its_room}
 use Rattle.mail_counts.specs.RowCounts.{AreCounted}
 use Rattle.passed_counts.specs.Calm.{IsCalm, KeepsPassed, calm_tagged, asked_count}
 use Rattle.passed_counts.proofs.Calms.{calm_lawful, calm_counted}

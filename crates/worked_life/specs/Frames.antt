@@ -14,7 +14,7 @@ use Rattle.soe_model.specs.Server as Server
 use Rattle.soe_model.specs.Client as Client
 use Rattle.soe_model.specs.Client.{Reply}
 use Rattle.soe_model.specs.Model.{soe_speech}
-use Rattle.soe_served.specs.Served.{soe_served}
+use Rattle.slave_served.specs.SoeServed.{soe_served}
 use Rattle.serving_model.specs.Tagged.{Asked, Meant, told, ideal, tagged}
 use Rattle.passed_model.specs.Client.{asked_speech}
 use Rattle.life_model.specs.Lives.{Life, Spot, new_life, life_next, life_back, life_lost, gives_up}
