@@ -8,7 +8,7 @@ ghost use Rattle.life_measure.specs.Gains.{era_gains, gains};
 ghost use Rattle.life_model.specs.Eras.{Clearing, OpenEra};
 ghost use Rattle.life_model.specs.Lives.{Spot, Life, new_life, life_next, life_back, life_lost, gives_up};
 ghost use Rattle.link_mails.specs.Body.{Body};
-ghost use Rattle.mail_counts.specs.RowCounts.{AreCounted};
+ghost use Rattle.few_replies.specs.RowCounts.{AreCounted};
 ghost use Rattle.segment_model.specs.Record.{Frame, News};
 ghost use Rattle.segment_model.specs.Slaves.{Datagram, Found};
 ghost use Rattle.slave_lives.specs.Lived.{Behind};

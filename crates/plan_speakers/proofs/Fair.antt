@@ -16,7 +16,7 @@ use Rattle.served_counts.specs.Fair.{AsksFair}
 use Rattle.served_runs.specs.Came.{ServedCame, AreAmong, HasServed}
 use Rattle.served_runs.specs.Served.{Keyed, Serves}
 use Rattle.served_work.proofs.Counted.{passes, none_passes}
-use Rattle.slave_calm.specs.Packets.{is_fair}
+use Rattle.few_replies.specs.Packets.{is_fair}
 use Rattle.slave_model.specs.Profile.{Profile}
 use Rattle.state_exchange.specs.Stated.{Service}
 use Rattle.tagged_epochs.specs.Epochs.{AllFair}

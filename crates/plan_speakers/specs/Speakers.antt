@@ -7,7 +7,7 @@ use Rattle.master_hand.specs.Spoken as Spoken
 use Rattle.segment_model.specs.Slaves.{Processor}
 use Rattle.serving_model.specs.Tagged.{Asked, untag, asked_full, asked_exec, asked_reply, asked_emits}
 use Rattle.serving_model.specs.TaggedStates.{told_state}
-use Rattle.slave_calm.specs.Packets.{is_calm, is_fair}
+use Rattle.few_replies.specs.Packets.{is_calm, is_fair}
 use Rattle.slave_model.specs.Acknowledged.{acknowledged}
 use Rattle.slave_model.specs.Profile.{Protocol, Profile, areas_of}
 use Rattle.slave_model.specs.Server.{Reply}

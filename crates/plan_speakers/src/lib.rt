@@ -27,7 +27,7 @@ pub fn speaker_law()
     ensures { (p : Profile) → IsProfile p → IsSpeaker (speaker p) }
 {
     slave_served::parts_are_served();
-    whole_counts::parts_tell();
+    few_replies::parts_tell();
     last_told::parts_last_told();
 }
 

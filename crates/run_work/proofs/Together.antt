@@ -21,7 +21,7 @@ use Rattle.segment_plan.specs.Sound.{IsSlave, IsService, IsAddressed}
 use Rattle.segment_plan.specs.declared.plan.Scenario.{Scenario}
 use Rattle.segment_plan.specs.declared.service.Service as Plan
 use Rattle.segment_plan.specs.declared.slave.SlaveSpec.{SlaveSpec}
-use Rattle.service_counts.specs.Shapes.{shape_of}
+use Rattle.few_replies.specs.Shapes.{shape_of}
 use Rattle.slave_server.specs.Spec.{core_of, profile_of}
 use Rattle.state_exchange.specs.Stated.{Service}
 use Rattle.run_frames.specs.Clocks.{reopened}

@@ -22,10 +22,9 @@ ghost use Rattle.run_frames.specs.Clocks.{Clocked};
 ghost use Rattle.run_frames.specs.Fates.{AreFated, gained_in};
 ghost use Rattle.run_frames.specs.Led.{IsTallied};
 ghost use Rattle.run_frames.specs.Runs.{Progress};
-ghost use Rattle.segment_plan.specs.Bound.{slowest};
+ghost use Rattle.segment_plan.specs.Bound.{slowest, services_work, host_work, bound_of};
 ghost use Rattle.run_work.specs.Gained.{app_shape, AllGain};
 ghost use Rattle.run_work.specs.Bounds.{IsPlanRun, bound_with};
-ghost use Rattle.segment_plan.specs.Bound.{services_work, host_work, bound_of};
 ghost use Rattle.run_work.specs.Switched.{AreSwitched, cuts_begun};
 ghost use Rattle.run_work.specs.Together.{packets_begun};
 ghost use Rattle.plan_counts.specs.Split.{own_work};
@@ -37,7 +36,7 @@ pub fn shape_law()
     ensures { (p : Profile) → IsProfile p → (boot : Bool) (lens : ℕ → Lens) → KeepsShape (asked p boot lens) real_clearing app_shape (asked_most p) }
 {
     slave_parts::parts_are_lawful();
-    service_counts::shape_counts();
+    few_replies::shape_counts();
 }
 
 /// THE GAINS OF A RUN: of each slave of a plan what its life has gained is no more than what the services and packets count that came into hand of it,

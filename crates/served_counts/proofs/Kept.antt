@@ -2,9 +2,9 @@
 use Rattle.std.proofs.Common.{◌≡◌, ℕ, ◌+◌, ◌≤◌, Ok, Err, refl, arith}
 use Rattle.life_model.specs.Eras.{Clearing}
 use Rattle.link_mails.specs.Body.{Body}
-use Rattle.mail_counts.specs.RowCounts.{AreCounted}
-use Rattle.passed_counts.specs.Calm.{asked_count}
-use Rattle.service_counts.specs.Shapes.{Shape, shape_at, shape_most}
+use Rattle.few_replies.specs.RowCounts.{AreCounted}
+use Rattle.few_replies.specs.Calm.{asked_count}
+use Rattle.few_replies.specs.Shapes.{Shape, shape_at, shape_most}
 use Rattle.serving_model.specs.Tagged.{Asked, ideal}
 use Rattle.served_work.specs.Gained.{serving_most}
 use Rattle.slave_model.specs.Profile.{Protocol, Profile}
@@ -13,7 +13,7 @@ use Rattle.slave_parts.specs.Parts.{Server, parts}
 use Rattle.slave_served.specs.Served.{product_whole}
 use Rattle.state_exchange.specs.Families.{InState}
 use Rattle.tagged_lives.specs.Worked.{KeepsAll}
-use Rattle.whole_counts.proofs.Shaped.{mail_stays, exec_stays}
+use Rattle.few_replies.proofs.Shaped.{mail_stays, exec_stays}
 use Rattle.served_counts.specs.Sessions.{Wanted, InRow, session, session_states, named, named_mail, named_wanted}
 
 -- what each counts at most

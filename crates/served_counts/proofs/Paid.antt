@@ -6,16 +6,16 @@ use Rattle.life_counts.specs.Begun.{life_most, AreUnopened}
 use Rattle.life_measure.specs.Gains.{gains}
 use Rattle.life_model.specs.Lives.{Life}
 use Rattle.link_mails.specs.Body.{Body}
-use Rattle.mail_counts.specs.RowCounts.{AreCounted}
+use Rattle.few_replies.specs.RowCounts.{AreCounted}
 use Rattle.master_duty.specs.Reply as Master
 use Rattle.master_hand.specs.Spoken as Spoken
 use Rattle.segment_plan.specs.Sound.{IsSlave}
 use Rattle.segment_plan.specs.declared.slave.SlaveSpec.{SlaveSpec}
 use Rattle.served_runs.specs.Served.{Serves}
 use Rattle.served_work.specs.Gained.{serving_most, AllPaid}
-use Rattle.service_counts.specs.Shapes.{shape_at}
+use Rattle.few_replies.specs.Shapes.{shape_at}
 use Rattle.serving_model.specs.Tagged.{ideal, tagged}
-use Rattle.slave_calm.specs.Packets.{is_calm, is_fair}
+use Rattle.few_replies.specs.Packets.{is_calm, is_fair}
 use Rattle.slave_model.specs.Acknowledged.{acknowledged}
 use Rattle.slave_model.specs.Profile.{Profile, IsProfile}
 use Rattle.slave_parts.specs.Parts.{Server, parts}

@@ -3,7 +3,7 @@ use Rattle.std.specs.Prelude.{◌≡◌, ℕ, true, All, List, Ok}
 use Rattle.gateway_core.specs.Framing.{request_in}
 use Rattle.mailbox_mail.specs.declared.mail.Mail.{Mail}
 use Rattle.served_runs.specs.Served.{Keyed, Serves}
-use Rattle.slave_calm.specs.Packets.{is_fair}
+use Rattle.few_replies.specs.Packets.{is_fair}
 
 -- a datagram whose mail, where it has one, begins none
 abbrev pub IsFairGram : List ℕ → Type 0

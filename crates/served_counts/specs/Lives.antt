@@ -8,7 +8,7 @@ use Rattle.master_hand.specs.Spoken as Spoken
 use Rattle.segment_model.specs.Slaves.{Processor}
 use Rattle.segment_plan.specs.declared.slave.SlaveSpec.{SlaveSpec}
 use Rattle.served_runs.specs.Served.{Serves}
-use Rattle.service_counts.specs.Shapes.{shape_at}
+use Rattle.few_replies.specs.Shapes.{shape_at}
 use Rattle.slave_model.specs.Profile.{Profile}
 use Rattle.slave_model.specs.Server.{Reply}
 use Rattle.slave_parts.specs.Parts.{Server}

@@ -4,10 +4,10 @@ use Rattle.exchange_model.specs.Exchange.{Exchange}
 use Rattle.link_mails.specs.Body.{Body}
 use Rattle.mailbox_mail.specs.Mail.{error_of}
 use Rattle.master_hand.specs.Spoken as Spoken
-use Rattle.passed_counts.specs.Calm.{calm_tagged}
+use Rattle.few_replies.specs.Calm.{calm_tagged}
 use Rattle.serving_model.specs.Tagged.{Tagged, Asked, Rowed}
 use Rattle.serving_model.specs.TaggedStates.{tagged_states}
-use Rattle.slave_calm.specs.Packets.{is_calm, is_fair}
+use Rattle.few_replies.specs.Packets.{is_calm, is_fair}
 use Rattle.slave_model.specs.Acknowledged.{acknowledged}
 use Rattle.slave_model.specs.Profile.{Protocol, Profile}
 use Rattle.slave_model.specs.Server.{ServiceOf, Reply}

@@ -20,7 +20,7 @@ ghost use Rattle.segment_plan.specs.declared.plan.Scenario.{Scenario};
 ghost use Rattle.segment_plan.specs.declared.slave.SlaveSpec.{SlaveSpec};
 ghost use Rattle.served_runs.specs.Served.{Serves, IsServedLed, all_serve};
 ghost use Rattle.served_work.specs.Gained.{serving_most, AllPaid, served_in, asked_in, leads_of};
-ghost use Rattle.service_counts.specs.Shapes.{shape_at};
+ghost use Rattle.few_replies.specs.Shapes.{shape_at};
 ghost use Rattle.slave_model.specs.Profile.{Profile, IsProfile};
 ghost use Rattle.slave_parts.specs.Parts.{Server};
 ghost use Rattle.state_exchange.specs.Families.{InState};
@@ -32,7 +32,7 @@ ghost use Rattle.served_counts.specs.Lives.{IsServedLife, AllServedLives};
 pub fn slave_law()
     ensures { (p : Profile) → IsProfile p → (first : InState Server) (l : Life Body Asked Reply) → IsServedLife p first l → AreUnopened l → gains l ≤ 1 + life_most (serving_most p (shape_at first)) l }
 {
-    whole_counts::passed_law();
+    few_replies::passed_law();
     slave_served::parts_are_served();
 }
 
@@ -43,7 +43,7 @@ pub fn served_law()
         IsServedLed (lens_of plan.slaves) plan.recover plan.retry (all_serve plan.paces (first_leads plan)) fs missed ws → AllServedLives plan.slaves ws →
         served_in ws ≤ length plan.slaves + work_in own_work plan.slaves plan.services + (cuts_begun plan.slaves (leads_of ws) + packets_begun plan.slaves (leads_of ws)) + 82 * asked_in ws }
 {
-    whole_counts::passed_law();
+    few_replies::passed_law();
     slave_served::parts_are_served();
     served_work::served_work();
 }

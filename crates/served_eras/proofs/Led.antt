@@ -9,7 +9,7 @@ use Rattle.master_hand.specs.Spoken.{Asked, is_followed, is_passed}
 use Rattle.plan_speakers.specs.Speakers.{speaker, spoken, spoken_states, table_of, processor_of, seer_of}
 use Rattle.seen_lives.specs.Led.{WasLed}
 use Rattle.segment_model.specs.Record.{Frame}
-use Rattle.slave_calm.specs.Packets.{is_calm}
+use Rattle.few_replies.specs.Packets.{is_calm}
 use Rattle.slave_lives.specs.Lived.{node_seen}
 use Rattle.slave_model.specs.Profile.{Profile}
 use Rattle.slave_parts.specs.Parts.{Server}

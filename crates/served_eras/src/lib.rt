@@ -12,7 +12,7 @@ ghost use Rattle.master_hand.specs.Spoken.{Asked, is_followed, is_passed};
 ghost use Rattle.plan_speakers.specs.Speakers.{speaker, spoken, table_of, processor_of, seer_of};
 ghost use Rattle.seen_lives.specs.Led.{WasLed};
 ghost use Rattle.segment_model.specs.Record.{Frame};
-ghost use Rattle.slave_calm.specs.Packets.{is_calm};
+ghost use Rattle.few_replies.specs.Packets.{is_calm};
 ghost use Rattle.slave_lives.specs.Lived.{IsBehind, node_seen};
 ghost use Rattle.slave_model.specs.Profile.{Profile};
 ghost use Rattle.slave_parts.specs.Parts.{Server};

@@ -12,7 +12,7 @@ use Rattle.seen_lives.specs.Led.{AllLed, IsNewestLed, IsLedLife}
 use Rattle.segment_model.specs.Record.{Frame, Kept}
 use Rattle.served_eras.specs.Serves.{serves}
 use Rattle.served_eras.proofs.Led.{was_led}
-use Rattle.slave_calm.specs.Packets.{is_calm}
+use Rattle.few_replies.specs.Packets.{is_calm}
 use Rattle.slave_lives.specs.Lived.{Behind, node_seen}
 use Rattle.slave_lives.specs.Opening.{Plan}
 use Rattle.slave_lives.specs.Stands.{opening_again}

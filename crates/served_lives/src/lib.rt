@@ -13,7 +13,7 @@ ghost use Rattle.plan_speakers.specs.Speakers.{cleared_whole, processor_of, seer
 ghost use Rattle.seen_lives.specs.Led.{IsLedLife};
 ghost use Rattle.segment_model.specs.Record.{Frame, Kept};
 ghost use Rattle.served_eras.specs.Serves.{serves};
-ghost use Rattle.slave_calm.specs.Packets.{is_calm};
+ghost use Rattle.few_replies.specs.Packets.{is_calm};
 ghost use Rattle.slave_lives.specs.Opening.{Plan};
 ghost use Rattle.slave_model.specs.Profile.{Profile};
 ghost use Rattle.slave_parts.specs.Parts.{Server};

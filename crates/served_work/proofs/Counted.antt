@@ -21,7 +21,7 @@ use Rattle.segment_plan.specs.declared.slave.SlaveSpec.{SlaveSpec}
 use Rattle.served_runs.specs.Came.{ServedCame, AreAmong}
 use Rattle.served_runs.specs.Served.{Keyed}
 use Rattle.served_work.specs.Gained.{serving_most}
-use Rattle.service_counts.specs.Shapes.{shape_of}
+use Rattle.few_replies.specs.Shapes.{shape_of}
 use Rattle.slave_server.specs.Spec.{core_of, profile_of}
 use Rattle.state_exchange.specs.Stated.{Service}
 use Rattle.task_model.specs.Accounts.{Started}

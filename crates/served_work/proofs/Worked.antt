@@ -29,7 +29,7 @@ use Rattle.served_runs.specs.Served.{Serves}
 use Rattle.served_work.specs.Gained.{serving_most, AllPaid, served_in, asked_in, leads_of}
 use Rattle.served_work.proofs.Counted.{Enough, all_came, life_all, among_fewer}
 use Rattle.served_work.proofs.Placed.{AllPlaced}
-use Rattle.service_counts.specs.Shapes.{shape_of}
+use Rattle.few_replies.specs.Shapes.{shape_of}
 use Rattle.slave_server.specs.Spec.{core_of, profile_of}
 
 module _ (enough : Enough) (plan : Scenario) (services : All (λ (row : ℕ × Plan.Service). IsAddressed (length plan.slaves) row) plan.services) (lens : ℕ → Lens) where

@@ -8,7 +8,7 @@ use Rattle.plan_counts.specs.Asked.{asked_most}
 use Rattle.segment_plan.specs.declared.slave.SlaveSpec.{SlaveSpec}
 use Rattle.served_gains.specs.Served.{served_gains}
 use Rattle.served_runs.specs.Served.{Serves}
-use Rattle.service_counts.specs.Shapes.{Shape, shape_of}
+use Rattle.few_replies.specs.Shapes.{Shape, shape_of}
 use Rattle.slave_model.specs.Profile.{Profile}
 use Rattle.slave_server.specs.Spec.{core_of, profile_of}
 

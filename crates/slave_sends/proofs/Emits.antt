@@ -24,7 +24,7 @@ use Rattle.eoe_model.specs.Server.{sends}
 use Rattle.exchange_sum.specs.Refusing.{gated}
 use Rattle.link_mails.specs.Body.{Body}
 use Rattle.master_hand.specs.Brings.{as_list}
-use Rattle.service_counts.specs.Shapes.{sdo_emission, net_echo}
+use Rattle.few_replies.specs.Shapes.{sdo_emission, net_echo}
 use Rattle.slave_model.specs.Application.{stored, station_tables, network}
 use Rattle.slave_model.specs.Product.{served, refusal, side}
 use Rattle.slave_model.specs.Profile.{Protocol, Profile, IsProfile, serves}

@@ -8,7 +8,7 @@ use Rattle.master_hand.specs.Joins.{fragment_in}
 use Rattle.master_hand.specs.Spoken.{Asked, sdo, file, drive, net, passed}
 use Rattle.object_dictionary.specs.Sound.{is_table}
 use Rattle.packet_model.specs.Packets.{Emitted, ArePackets, all_fragments, octets_of, parts}
-use Rattle.service_counts.specs.Shapes.{sdo_emission, net_echo}
+use Rattle.few_replies.specs.Shapes.{sdo_emission, net_echo}
 use Rattle.slave_model.specs.Profile.{Protocol, Profile}
 use Rattle.slave_model.specs.Server.{ServiceOf}
 use Rattle.slave_parts.specs.Parts.{Core}

@@ -29,7 +29,7 @@ use Rattle.script_runs.specs.Slaves.{HasCome, AllCome}
 use Rattle.segment_plan.specs.declared.plan.Scenario.{Scenario}
 use Rattle.segment_plan.specs.declared.slave.SlaveSpec.{SlaveSpec}
 use Rattle.sent_packets.specs.Sent.{AllSend}
-use Rattle.service_counts.specs.Shapes.{shape_of}
+use Rattle.few_replies.specs.Shapes.{shape_of}
 use Rattle.slave_sends.specs.Sends.{all_most}
 use Rattle.slave_server.specs.Spec.{core_of, profile_of}
 use Rattle.switched_runs.proofs.Begun.{weights, started_at, begun_weights, none_begun}

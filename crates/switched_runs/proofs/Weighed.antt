@@ -17,7 +17,7 @@ use Rattle.plan_counts.specs.Asked.{asked_most}
 use Rattle.plan_counts.specs.Split.{sdo_cuts, entering}
 use Rattle.script_runs.specs.Came.{handed_over, AreThose, is_packet}
 use Rattle.segment_plan.specs.declared.service.Service as Plan
-use Rattle.service_counts.specs.Shapes.{Shape, sdo_emission, echo_mails}
+use Rattle.few_replies.specs.Shapes.{Shape, sdo_emission, echo_mails}
 use Rattle.slave_model.specs.Profile.{Profile}
 use Rattle.slave_sends.specs.Sends.{of_emission, asked_sends, sends_most, all_most}
 use Rattle.state_exchange.specs.Stated.{Service}

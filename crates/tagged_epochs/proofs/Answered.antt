@@ -5,7 +5,7 @@ use Rattle.std.proofs.lemmas.Bool.Decides.{nat_tests}
 use Rattle.exchange_model.specs.Exchange.{Exchange, Speech}
 use Rattle.exchange_model.specs.Rows.{Row, row_told, left}
 use Rattle.life_model.specs.Lives.{Era, era_next, granted, passing_begins}
-use Rattle.passed_counts.specs.Calm.{calm_tagged}
+use Rattle.few_replies.specs.Calm.{calm_tagged}
 use Rattle.passed_model.specs.Erased.{OfRow}
 use Rattle.passed_whole.specs.Silent.{is_passed}
 use Rattle.segment_model.specs.Ends.{Passing}

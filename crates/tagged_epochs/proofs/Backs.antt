@@ -6,7 +6,7 @@ use Rattle.life_model.specs.Lives.{Era, era_after, passes}
 use Rattle.life_model.specs.Own.{own}
 use Rattle.link_model.specs.Frames.{all_accepted}
 use Rattle.link_model.specs.Segment.{RingFate}
-use Rattle.passed_counts.specs.Calm.{calm_tagged}
+use Rattle.few_replies.specs.Calm.{calm_tagged}
 use Rattle.passed_model.specs.Client.{ByContents}
 use Rattle.passed_model.specs.Erased.{side_seen, all_news_as, OfRow, EndOne}
 use Rattle.passed_model.proofs.Naturals.{back_side, lost_side}

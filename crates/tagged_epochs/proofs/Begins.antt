@@ -6,7 +6,7 @@ use Rattle.std.proofs.lemmas.List.{map-append, length-map}
 use Rattle.exchange_model.specs.Exchange.{Exchange, Speech}
 use Rattle.exchange_model.specs.Rows.{Row, begun, row_told}
 use Rattle.life_model.specs.Lives.{Era, era_next, passing_begins}
-use Rattle.passed_counts.specs.Calm.{calm_tagged}
+use Rattle.few_replies.specs.Calm.{calm_tagged}
 use Rattle.passed_model.specs.Client.{ByContents}
 use Rattle.passed_model.specs.Erased.{row_seen, side_seen, OfRow, PlanOne}
 use Rattle.passed_model.proofs.Naturals.{takes_up}

@@ -4,7 +4,7 @@ use Rattle.std.specs.Prelude.{⊤}
 use Rattle.exchange_model.specs.Exchange.{Exchange, Speech, plain}
 use Rattle.exchange_model.specs.Rows.{Row, left}
 use Rattle.link_model.specs.Mails.{LinkMail}
-use Rattle.passed_counts.specs.Calm.{calm_tagged}
+use Rattle.few_replies.specs.Calm.{calm_tagged}
 use Rattle.passed_model.specs.Client.{ByContents}
 use Rattle.passed_model.specs.Erased.{row_seen, PlanOne, EndOne}
 use Rattle.passed_model.proofs.Clients.{plain_untag, untag_told}

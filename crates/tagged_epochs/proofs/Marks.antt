@@ -7,7 +7,7 @@ use Rattle.exchange_model.specs.Rows.{Row, told_all, services, exec_all}
 use Rattle.exchange_model.proofs.Lists.{append_none}
 use Rattle.exchange_model.proofs.Nows.{heard_begins}
 use Rattle.exchange_model.proofs.Settles.{settled_app, settled_ready}
-use Rattle.passed_counts.specs.Calm.{calm_tagged}
+use Rattle.few_replies.specs.Calm.{calm_tagged}
 use Rattle.passed_model.specs.Erased.{OfRow}
 use Rattle.passed_model.proofs.Clients.{plain_untag}
 use Rattle.passed_whole.specs.Silent.{IsForeseenRight}

@@ -7,7 +7,7 @@ use Rattle.exchange_model.specs.Rows.{Row, IsWhole, Settled, told_all, services}
 use Rattle.exchange_model.proofs.Lists.{cut}
 use Rattle.exchange_model.proofs.Settles.{whole_behind, whole_ready}
 use Rattle.exchange_model.proofs.Words.{after-append}
-use Rattle.passed_counts.specs.Calm.{calm_tagged}
+use Rattle.few_replies.specs.Calm.{calm_tagged}
 use Rattle.passed_model.specs.Client.{ByContents}
 use Rattle.passed_whole.specs.Silent.{IsForeseenRight}
 use Rattle.segment_model.specs.Ends.{Outcome}

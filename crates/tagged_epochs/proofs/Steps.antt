@@ -5,7 +5,7 @@ use Rattle.exchange_model.specs.Rows.{told_all, services}
 use Rattle.exchange_model.proofs.Lists.{append_cancel, append_none}
 use Rattle.link_model.specs.Slave.{node_look, node_takes, node_serve}
 use Rattle.link_model.proofs.Law.{taken_of_held, accepted_of_offered}
-use Rattle.passed_counts.specs.Calm.{calm_tagged}
+use Rattle.few_replies.specs.Calm.{calm_tagged}
 use Rattle.passed_model.specs.Client.{ByContents}
 use Rattle.segment_model.specs.Ends.{Outcome}
 use Rattle.segment_model.specs.Record.{Frame, heard}

@@ -9,7 +9,7 @@ use Rattle.life_model.proofs.Eras as LifeEras
 use Rattle.life_model.proofs.Eras.{frames_push}
 use Rattle.link_model.specs.Frames.{IsFrameFor, all_accepted}
 use Rattle.link_model.specs.Segment.{RingFate}
-use Rattle.passed_counts.specs.Calm.{calm_tagged}
+use Rattle.few_replies.specs.Calm.{calm_tagged}
 use Rattle.passed_model.specs.Client.{ByContents}
 use Rattle.passed_model.specs.Erased.{halves_as}
 use Rattle.passed_whole.specs.Led.{counted_news, AreSingle}

@@ -3,7 +3,7 @@ use Rattle.std.proofs.Common.{◌≡◌, ℕ, Bool, true, Option, List, [], ◌�
 use Rattle.exchange_model.specs.Exchange.{Exchange, IsLawful}
 use Rattle.life_model.specs.Eras.{planned}
 use Rattle.life_model.specs.Lives.{Spot, Era}
-use Rattle.passed_counts.proofs.Calms.{calm_lawful}
+use Rattle.few_replies.proofs.Calms.{calm_lawful}
 use Rattle.passed_whole.proofs.Silences.{answered}
 use Rattle.passed_whole.proofs.Turns.{heard_law}
 use Rattle.passed_whole.specs.Led.{IsLed}

@@ -3,7 +3,7 @@ use Rattle.std.specs.Prelude.{◌≡◌, ℕ, Bool, true, Option, Some, None, Li
 use Rattle.exchange_model.specs.Exchange.{Exchange}
 use Rattle.life_model.specs.Eras.{EraIs, era_frames}
 use Rattle.life_model.specs.Lives.{Spot, Era}
-use Rattle.passed_counts.specs.Calm.{IsCalm, calm_tagged}
+use Rattle.few_replies.specs.Calm.{IsCalm, calm_tagged}
 use Rattle.passed_model.specs.Erased.{frame_as, OfRow, PlanOne, EndOne}
 use Rattle.passed_whole.specs.Led.{IsLed, RepliesFirst}
 use Rattle.passed_whole.specs.Silent.{is_passed}

@@ -1,7 +1,7 @@
 -- The AL state of calm servers.
 use Rattle.std.proofs.Common.{◌≡◌, ℕ, ◌&&◌, Bool, true, false, refl, ap, ap₂, ◌∙◌}
 use Rattle.exchange_model.specs.Exchange.{Exchange, AnswersLast}
-use Rattle.passed_counts.specs.Calm.{asked_fair, calm_tagged}
+use Rattle.few_replies.specs.Calm.{asked_fair, calm_tagged}
 use Rattle.serving_model.specs.Tagged.{Asked, ideal, tagged}
 use Rattle.serving_model.specs.TaggedStates.{tagged_states}
 use Rattle.state_exchange.specs.Stated.{Stated, IsStated}

@@ -3,7 +3,7 @@ use Rattle.std.specs.Prelude.{◌≡◌, ℕ, None, List, [], ◌∷◌, ◌++�
 use Rattle.exchange_model.specs.Exchange.{Exchange}
 use Rattle.life_model.specs.Eras.{Clearing, WasOpen}
 use Rattle.life_model.specs.Lives.{Spot, Era, Life}
-use Rattle.mail_counts.specs.RowCounts.{AreCounted}
+use Rattle.few_replies.specs.RowCounts.{AreCounted}
 use Rattle.segment_model.specs.Record.{Frame}
 use Rattle.segment_model.specs.Slaves.{Processor}
 use Rattle.state_exchange.specs.Stated.{Stated}

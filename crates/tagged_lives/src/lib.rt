@@ -8,7 +8,7 @@ ghost use Rattle.life_counts.specs.Begun.{life_most, AreUnopened};
 ghost use Rattle.life_measure.specs.Gains.{gains};
 ghost use Rattle.life_model.specs.Eras.{Clearing};
 ghost use Rattle.life_model.specs.Lives.{Spot, Life};
-ghost use Rattle.passed_counts.specs.Calm.{calm_tagged};
+ghost use Rattle.few_replies.specs.Calm.{calm_tagged};
 ghost use Rattle.segment_model.specs.Slaves.{Processor};
 ghost use Rattle.serving_model.specs.Tagged.{tagged};
 ghost use Rattle.serving_model.specs.TaggedStates.{tagged_states};

@@ -4,7 +4,7 @@
 ghost use Rattle.std.specs.Prelude.{Bool};
 ghost use Rattle.exchange_model.specs.Exchange.{Exchange};
 ghost use Rattle.never_waits.specs.Waits.{NeverWaits};
-ghost use Rattle.passed_counts.specs.Calm.{calm_tagged};
+ghost use Rattle.few_replies.specs.Calm.{calm_tagged};
 ghost use Rattle.serving_model.specs.Tagged.{IsServed, tagged};
 
 /// A CLIENT THAT NEVER WAITS IN VAIN never does where mails are passed on beside its services: such a mail is told at once, whatever was heard.
