@@ -3,9 +3,9 @@ use Rattle.std.proofs.Common.{◌≡◌, ℕ, suc, ◌+◌, true, false, is_some
 use Rattle.std.specs.Prelude.{slice_get}
 use Rattle.arrayvec.specs.ArrayVec.{ArrayVec}
 use Rattle.datagrams.specs.Datagram as Raw
-use Rattle.eager_slaves.specs.Eager as Eager
-use Rattle.eager_slaves.specs.Eager.{AllEager, AllGetNone, AllRemember, IsAtEnd, IsClear, IsDraining, IsEager, IsInVain, MayBegin, NoneLeft, Remembered, RemembersOn}
-use Rattle.eager_slaves.proofs.Choices.{stand_next}
+use Rattle.idle_slaves.specs.Eager as Eager
+use Rattle.idle_slaves.specs.Eager.{AllEager, AllGetNone, AllRemember, IsAtEnd, IsClear, IsDraining, IsEager, IsInVain, MayBegin, NoneLeft, Remembered, RemembersOn}
+use Rattle.idle_slaves.proofs.Choices.{stand_next}
 use Rattle.eoe_switch.specs.declared.switching.SwitchEvent.{SwitchEvent}
 use Rattle.frame_view.specs.View.{Lens}
 use Rattle.idle_slaves.specs.Visited.{life_visit, memory_of}
@@ -29,7 +29,7 @@ use Rattle.master_tour.specs.Brings.{accepted_at}
 use Rattle.recalled_runs.specs.Recalled.{AllQuiet, AllStill, IsLanOf}
 use Rattle.segment_model.specs.Slaves.{Datagram, grams}
 use Rattle.segment_plan.specs.declared.plan.Scenario.{Scenario}
-use Rattle.wait_runs.specs.Eager.{AllSilent}
+use Rattle.idle_slaves.specs.WaitEager.{AllSilent}
 use Rattle.plan_dues.specs.Dues.{AllDue}
 use Rattle.eager_runs.specs.Runs.{is_waiting, remembered, waiting_at}
 use Rattle.eager_runs.proofs.Maps.{each_asks, full_is, memory, memory_behind_is, memory_same, visit_is}

@@ -19,7 +19,7 @@ use Rattle.segment_plan.specs.declared.slave.SlaveSpec.{SlaveSpec}
 use Rattle.slave_server.specs.Serving.{Serving, next_mail}
 use Rattle.slave_server.specs.Spec.{profile_of}
 use Rattle.slave_steps.specs.Node.{Node, is_settled}
-use Rattle.wait_runs.specs.Eager.{AllRest, IsResting}
+use Rattle.idle_slaves.specs.WaitEager.{AllRest, IsResting}
 use Rattle.eager_runs.specs.Runs.{is_waiting, remembered, waiting_at}
 use Rattle.eager_runs.proofs.Settled.{settled_back}
 

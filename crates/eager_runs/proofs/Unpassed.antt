@@ -16,7 +16,7 @@ use Rattle.segment_plan.specs.declared.service.Service as Plan
 use Rattle.segment_ring.specs.declared.wire.Fate.{Fate}
 use Rattle.segment_ring.specs.declared.wire.Fate.TheVariants.{Pass, Lost}
 use Rattle.state_exchange.specs.Stated.{Service}
-use Rattle.wait_runs.specs.Eager.{AllUnpassed}
+use Rattle.idle_slaves.specs.WaitEager.{AllUnpassed}
 
 -- no script passes a mail on
 abbrev passed_in : Option Asked → Bool

@@ -2,7 +2,7 @@
 use Rattle.std.proofs.Common.{◌≡◌, ◌≤◌, ℕ, ◌+◌, Bool, true, false, Option, List, [], ◌∷◌, ◌++◌, length, sym, ap, ◌∙◌, subst, arith}
 use Rattle.std.specs.Prelude.{slice_get}
 use Rattle.bound_premises.proofs.Tours.{FramesIn, Stays}
-use Rattle.entered_runs.specs.Entered.{EagerBut, host_frames}
+use Rattle.idle_slaves.specs.Entered.{EagerBut, host_frames}
 use Rattle.frame_view.specs.Seen.{seen}
 use Rattle.frame_view.specs.View.{Lens}
 use Rattle.life_runs.specs.First.{AreApart, lens_of, first_leads}
@@ -29,7 +29,7 @@ use Rattle.segment_ring.specs.declared.wire.Fate.TheVariants.{Pass, Lost}
 use Rattle.slave_server.specs.Serving.{Serving}
 use Rattle.slave_steps.specs.Node.{Node}
 use Rattle.visit_orders.specs.Toured as Visits
-use Rattle.wait_runs.specs.Eager.{AllRest, AllUnpassed, IsEagerFrame}
+use Rattle.idle_slaves.specs.WaitEager.{AllRest, AllUnpassed, IsEagerFrame}
 use Rattle.plan_dues.specs.Dues.{MailsAreDue}
 use Rattle.eager_runs.specs.Runs.{ScriptsMay, remembered, waiting_at}
 use Rattle.eager_runs.proofs.Counts.{came_more, entered_few, lost_more, lost_one}

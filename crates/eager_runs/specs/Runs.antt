@@ -1,7 +1,7 @@
 -- A RUN WHOSE MASTER MAKES NO VISIT IN VAIN, as the count of its frames has it.
 use Rattle.std.specs.Prelude.{◌≡◌, ◌≤◌, ℕ, suc, ◌+◌, Bool, true, false, Option, Some, List, [], ◌∷◌, length, slice_get}
 use Rattle.arrayvec.specs.ArrayVec.{ArrayVec}
-use Rattle.eager_slaves.specs.Eager.{Remembered}
+use Rattle.idle_slaves.specs.Eager.{Remembered}
 use Rattle.eoe_switch.specs.Switch.{switched}
 use Rattle.eoe_switch.specs.declared.switching.SwitchEvent.{SwitchEvent}
 use Rattle.life_runs.specs.First.{lens_of, first_leads, script_for}

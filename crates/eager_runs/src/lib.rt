@@ -29,6 +29,6 @@ pub fn eager_run_law()
     plan_met::plan_met_law();
     plan_dues::plan_due_law();
     plan_rooms::room_law();
-    entered_runs::entered_law();
-    wait_runs::wait_runs_law();
+    idle_slaves::entered_law();
+    idle_slaves::wait_runs_law();
 }

@@ -7,7 +7,7 @@ use Rattle.segment_model.specs.Slaves.{Processor, Registers, Slave, serving}
 use Rattle.serving_model.specs.Erasing.{slave_as}
 use Rattle.state_exchange.specs.Stated.{Stated}
 use Rattle.state_model.specs.States.{Table, carry}
-use Rattle.states_come.specs.Steps.{StepsAlone}
+use Rattle.idle_slaves.specs.Steps.{StepsAlone}
 use Rattle.task_model.specs.Accounts.{Duty}
 
 pub alone_as : {V A N P S W B M Q R : Type 0} (x : Exchange V A N P S) (s : Stated V A P) (table : Table) (hand : Option Duty) (n : Slave V N) → IsStanding x s table hand n → (f : N → M) (server : V → W) (u : Exchange W B M Q R) (processor : Processor W) (tell : ℕ → W → W) (state : W → ℕ) →

@@ -15,7 +15,7 @@ use Rattle.task_model.proofs.Walks.{EachOne}
 use Rattle.task_model.specs.Accounts.{Account, Duty, Stage}
 use Rattle.task_model.specs.Promise.{EachTask}
 use Rattle.task_model.specs.Tasks.{IsTasked, IsTaskPlan, run, new_tasks}
-use Rattle.states_come.specs.Steps.{Drains, NotGone}
+use Rattle.idle_slaves.specs.Steps.{Drains, NotGone}
 
 -- the AL state stays
 stays : (table : Table) (from : ℕ) (hand : Option Duty) (r : Registers) → NotGone hand → StateStep table from hand r → (carry table r).state ≡ r.state

@@ -1,2 +1,2 @@
-pub use Rattle.states_come.specs as of_states_come
+pub use Rattle.idle_slaves.specs as of_idle_slaves
 pub mod Steps

@@ -4,7 +4,7 @@ use Rattle.exchange_model.specs.Exchange.{Exchange}
 use Rattle.segment_model.specs.Slaves.{Slave}
 use Rattle.state_exchange.specs.Stated.{Stated}
 use Rattle.state_model.specs.States.{Table, carry}
-use Rattle.states_come.specs.Steps.{NotGone}
+use Rattle.idle_slaves.specs.Steps.{NotGone}
 use Rattle.task_model.specs.Accounts.{Duty}
 
 -- the word that is carried out leaves it while no state service is past its drain; and its server stands in it

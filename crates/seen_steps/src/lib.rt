@@ -14,7 +14,7 @@ ghost use Rattle.serving_model.specs.Tagged.{Rowed, ideal, real};
 ghost use Rattle.serving_model.specs.TaggedStates.{IsStatedServed};
 ghost use Rattle.state_exchange.specs.Stated.{Stated, IsStated};
 ghost use Rattle.state_model.specs.States.{Table, carry};
-ghost use Rattle.states_come.specs.Steps.{StepsAlone};
+ghost use Rattle.idle_slaves.specs.Steps.{StepsAlone};
 ghost use Rattle.task_model.specs.Accounts.{Duty};
 
 /// OF AN OPEN EPOCH the slave's server stands in the AL state of its registers, which the word that it carries out leaves while no state service is past its drain.

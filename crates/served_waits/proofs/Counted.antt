@@ -1,7 +1,7 @@
 -- While nothing is gained an empty read counts behind each step of its slave.
 use Rattle.std.proofs.Common.{◌≡◌, ℕ, suc, ◌%◌, ◌==◌, ◌&&◌, Bool, true, false, not, Option, List, [], ◌∷◌, map, refl, sym, ap, ◌∙◌, if◌then◌else◌}
 use Rattle.std.specs.Prelude.{nat_le}
-use Rattle.eager_slaves.specs.Eager.{Remembered}
+use Rattle.idle_slaves.specs.Eager.{Remembered}
 use Rattle.frame_view.specs.Seen.{seen}
 use Rattle.frame_view.specs.View.{Lens}
 use Rattle.life_model.specs.Lives.{Spot, Stand}
@@ -25,8 +25,8 @@ use Rattle.served_waits.proofs.Ready.{AllCounted, AllStationed, nexts_then}
 use Rattle.served_waits.proofs.Unread.{unread_on}
 use Rattle.slave_server.specs.Serving.{Serving}
 use Rattle.slave_steps.specs.Node.{Node}
-use Rattle.wait_runs.proofs.Fits.{AllReady, IsReady, Slave, next_of, nexts_of}
-use Rattle.wait_runs.proofs.Lists.{AllStanding, IsStanding}
+use Rattle.idle_slaves.proofs.Fits.{AllReady, IsReady, Slave, next_of, nexts_of}
+use Rattle.idle_slaves.proofs.Lists.{AllStanding, IsStanding}
 
 -- where something was gained just now
 pub counted_anew : (ws : List Serves) (cs : List Slave) → AreLed (leads_of ws) cs → AllCounted (all_anew cs) ws

@@ -2,10 +2,10 @@
 use Rattle.std.proofs.Common.{◌≡◌, ℕ, ◌==◌, Bool, true, false, Option, Some, None, List, [], ◌∷◌, map, refl, sym, ap, ◌∙◌, subst}
 use Rattle.std.specs.Prelude.{nat_le, slice_get, ⊤}
 use Rattle.datagrams.specs.Datagram as Raw
-use Rattle.eager_slaves.specs.Eager.{Remembered, AllEager, AllRemember, IsEager, RemembersOn}
-use Rattle.eager_slaves.specs.Frames.{One, TellsBy}
-use Rattle.eager_slaves.proofs.Choices.{stand_next}
-use Rattle.eager_slaves.proofs.Sent.{counter_is, met, none_sent, one_sent}
+use Rattle.idle_slaves.specs.Eager.{Remembered, AllEager, AllRemember, IsEager, RemembersOn}
+use Rattle.idle_slaves.specs.EagerFrames.{One, TellsBy}
+use Rattle.idle_slaves.proofs.Choices.{stand_next}
+use Rattle.idle_slaves.proofs.Sent.{counter_is, met, none_sent, one_sent}
 use Rattle.exchange_model.specs.Exchange.{Speech}
 use Rattle.frame_view.specs.Seen.{datagrams_seen, seen}
 use Rattle.frame_view.specs.View.{Lens}
@@ -34,10 +34,10 @@ use Rattle.served_waits.proofs.Tells.{tells}
 use Rattle.slave_server.specs.Serving.{Serving}
 use Rattle.slave_steps.specs.Node.{Node}
 use Rattle.state_exchange.specs.Stated.{Service}
-use Rattle.wait_runs.proofs.Fits.{AllReady, AllSeated, IsReady, IsSeated, Slave, next_of, nexts_of}
-use Rattle.wait_runs.proofs.Lists.{AllStanding, SameAll}
-use Rattle.wait_runs.proofs.Ready.{script_end, state_left}
-use Rattle.wait_runs.proofs.Rests.{over_rests}
+use Rattle.idle_slaves.proofs.Fits.{AllReady, AllSeated, IsReady, IsSeated, Slave, next_of, nexts_of}
+use Rattle.idle_slaves.proofs.Lists.{AllStanding, SameAll}
+use Rattle.idle_slaves.proofs.Ready.{script_end, state_left}
+use Rattle.idle_slaves.proofs.Rests.{over_rests}
 
 -- a script at its end stays there; and a change of state that comes into hand was left of it
 served_end : (room : ℕ) (script : List Plan.Service) (waits : List Keyed) (hand : Option Passed) (n : ℕ) (begun : Option (Service Asked)) (n' : ℕ) (rest : List Keyed) (later : Option Passed) → ServedComes room script waits hand n begun n' rest later →

@@ -3,7 +3,7 @@ use Rattle.std.proofs.Common.{◌≡◌, ◌++◌, ℕ, suc, Bool, true, Option,
 use Rattle.std.specs.Prelude.{All, nat_le}
 use Rattle.std.proofs.lemmas.Bool.{le-leb}
 use Rattle.std.proofs.lemmas.List.Elements.{All-nil, All-cons, All-head, All-tail}
-use Rattle.eager_slaves.specs.Eager.{Remembered}
+use Rattle.idle_slaves.specs.Eager.{Remembered}
 use Rattle.frame_view.specs.Seen.{seen}
 use Rattle.frame_view.specs.View.{Lens}
 use Rattle.kept_rows.proofs.Each.{each}
@@ -31,7 +31,7 @@ use Rattle.served_tours.proofs.Slaves.{begins_so}
 use Rattle.served_waits.specs.Eager.{ServedEagerIn, leads_of}
 use Rattle.served_waits.proofs.Ready.{AllStationed}
 use Rattle.served_waits.proofs.Walk.{Led, ServedLaws, first_of, nodes_at, walks}
-use Rattle.wait_runs.proofs.Fits.{AllSeated, Slave}
+use Rattle.idle_slaves.proofs.Fits.{AllSeated, Slave}
 
 -- before the first frame they are new
 pub leads_new : (rows : List (ℕ × Plan.Service)) (place : ℕ) (ss : List SlaveSpec) → All IsSlave ss → All IsNew (leads_from rows place ss)

@@ -1,10 +1,10 @@
 -- What is remembered of visits stays while mails are asked.
 use Rattle.std.proofs.Common.{◌≡◌, ℕ, zero, suc, Bool, true, false, Option, None, List, [], ◌∷◌, map, refl, sym, ap, ◌∙◌, subst}
 use Rattle.datagrams.specs.Datagram as Raw
-use Rattle.eager_slaves.specs.Eager.{Remembered, IsAtEnd}
-use Rattle.eager_slaves.specs.Standing.{Standing, Visited}
+use Rattle.idle_slaves.specs.Eager.{Remembered, IsAtEnd}
+use Rattle.idle_slaves.specs.Standing.{Standing, Visited}
 use Rattle.frame_view.specs.View.{Lens}
-use Rattle.held_visits.specs.Held.{HeldUp}
+use Rattle.idle_slaves.specs.Held.{HeldUp}
 use Rattle.idle_slaves.specs.Waiting.{Memory}
 use Rattle.life_model.specs.Lives.{Spot}
 use Rattle.life_model.specs.Own.{own}
@@ -24,9 +24,9 @@ use Rattle.served_waits.specs.Eager.{AllStaySo, StaysSo, leads_of, turns_of}
 use Rattle.served_waits.proofs.Ready.{AllCounted}
 use Rattle.slave_server.specs.Serving.{Serving}
 use Rattle.slave_steps.specs.Node.{Node}
-use Rattle.wait_runs.specs.Eager.{AllSilent}
-use Rattle.wait_runs.proofs.Fits.{Slave, exchange_at}
-use Rattle.wait_runs.proofs.Lists.{AllQuiet, AllStanding, IsStanding}
+use Rattle.idle_slaves.specs.WaitEager.{AllSilent}
+use Rattle.idle_slaves.proofs.Fits.{Slave, exchange_at}
+use Rattle.idle_slaves.proofs.Lists.{AllQuiet, AllStanding, IsStanding}
 
 not_more : (a b : Bool) → (b ≡ true → a ≡ true) → a ≡ false → b ≡ false
 not_more a true k e = absurd (let no : true ≡ false = sym (k refl) ∙ e in cc)

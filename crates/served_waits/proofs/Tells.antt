@@ -1,6 +1,6 @@
 -- What a frame tells of a mail that is passed on, by the one datagram of its slave.
 use Rattle.std.proofs.Common.{◌≡◌, ℕ, ◌==◌, Bool, true, false, Option, List, [], ◌∷◌, ◌++◌, map, refl, sym, ap, ◌∙◌, subst, append-nil, if◌then◌else◌}
-use Rattle.eager_slaves.specs.Frames.{TellsBy}
+use Rattle.idle_slaves.specs.EagerFrames.{TellsBy}
 use Rattle.life_model.specs.Own.{own}
 use Rattle.link_mails.specs.Body.{Body}
 use Rattle.link_model.specs.Frames.{Ask}

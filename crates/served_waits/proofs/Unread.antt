@@ -1,11 +1,11 @@
 -- A frame that gained nothing brought no read of mailbox 1 that was done: so an empty read counts behind it as it did before.
 use Rattle.std.proofs.Common.{◌≡◌, ◌≢◌, ℕ, ◌==◌, ◌&&◌, Bool, true, false, not, Option, Some, None, List, [], ◌∷◌, ◌++◌, refl, sym, ap, ◌∙◌, subst, arith, append-nil, if◌then◌else◌}
 use Rattle.std.proofs.lemmas.Bool.Decides.{nat_tests}
-use Rattle.eager_slaves.specs.Eager.{Remembered}
-use Rattle.eager_slaves.specs.Frames.{One}
-use Rattle.eager_slaves.specs.Standing.{Standing}
-use Rattle.eager_slaves.proofs.Choices.{stand_next}
-use Rattle.eager_slaves.proofs.Sent.{gram_is, met, met_ask, read_counter}
+use Rattle.idle_slaves.specs.Eager.{Remembered}
+use Rattle.idle_slaves.specs.EagerFrames.{One}
+use Rattle.idle_slaves.specs.Standing.{Standing}
+use Rattle.idle_slaves.proofs.Choices.{stand_next}
+use Rattle.idle_slaves.proofs.Sent.{gram_is, met, met_ask, read_counter}
 use Rattle.frame_view.specs.View.{Lens}
 use Rattle.idle_slaves.proofs.Waiting.{holds}
 use Rattle.life_model.specs.Lives.{Life, Stand, life_next}
@@ -32,9 +32,9 @@ use Rattle.segment_plan.specs.declared.service.Service as Plan
 use Rattle.segment_plan.specs.declared.slave.SlaveSpec.{SlaveSpec}
 use Rattle.slave_server.specs.Serving.{Serving}
 use Rattle.slave_steps.specs.Node.{Node as Real}
-use Rattle.wait_runs.proofs.Fits.{IsFit, IsReady, Slave, exchange_at, next_of}
-use Rattle.wait_runs.proofs.Lists.{IsStanding}
-use Rattle.wait_runs.proofs.One.{quiet_at}
+use Rattle.idle_slaves.proofs.Fits.{IsFit, IsReady, Slave, exchange_at, next_of}
+use Rattle.idle_slaves.proofs.Lists.{IsStanding}
+use Rattle.idle_slaves.proofs.One.{quiet_at}
 
 -- the slave's own datagrams tell whether it was read
 own_read : (station : ℕ) (ds : List (Datagram Body)) → SameAim station ds → did_read station (grams (own station ds)) ≡ did_read station (grams ds)

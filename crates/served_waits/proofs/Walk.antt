@@ -1,6 +1,6 @@
 -- Frame by frame of a serving.
 use Rattle.std.proofs.Common.{◌≡◌, ◌⊎◌, ◌≤◌, ◌<◌, ℕ, zero, suc, Bool, Option, None, List, [], ◌∷◌, ◌++◌, map, length, refl, sym, ap, ◌∙◌, subst, arith, inl, inr}
-use Rattle.eager_slaves.specs.Eager.{Remembered}
+use Rattle.idle_slaves.specs.Eager.{Remembered}
 use Rattle.exchange_model.specs.Exchange.{Speech}
 use Rattle.frame_view.specs.Seen.{seen, datagrams_seen}
 use Rattle.frame_view.specs.View.{Lens}
@@ -35,10 +35,10 @@ use Rattle.served_waits.proofs.Ready.{AllCounted, AllStationed, all_ready, nexts
 use Rattle.served_waits.proofs.Stays.{all_silent, all_stay, counted_asked, paces_asked, paces_served}
 use Rattle.slave_server.specs.Serving.{Serving}
 use Rattle.slave_steps.specs.Node.{Node}
-use Rattle.wait_runs.specs.Eager.{AllRest, AllSilent}
-use Rattle.wait_runs.proofs.Fits.{AllReady, AllSeated, Slave, nexts_of}
-use Rattle.wait_runs.proofs.Lists.{still_same, all_same, AllStanding, all_begin, all_quiet, all_stand, repaired}
-use Rattle.wait_runs.proofs.Walk.{anew_back, anew_lost, hands_of, long_back, one_more, paces_back, paces_lost, still_is}
+use Rattle.idle_slaves.specs.WaitEager.{AllRest, AllSilent}
+use Rattle.idle_slaves.proofs.Fits.{AllReady, AllSeated, Slave, nexts_of}
+use Rattle.idle_slaves.proofs.Lists.{still_same, all_same, AllStanding, all_begin, all_quiet, all_stand, repaired}
+use Rattle.idle_slaves.proofs.Walk.{anew_back, anew_lost, hands_of, long_back, one_more, paces_back, paces_lost, still_is}
 
 -- the slaves of a plan's serving before the first frame
 abbrev pub first_of : Scenario → List Serves

@@ -1,6 +1,6 @@
 -- A SERVING WHOSE MASTER MAKES NO VISIT IN VAIN where more could go on, and no frame where all is done.
 use Rattle.std.specs.Prelude.{◌≡◌, ℕ, suc, Option, List, [], ◌∷◌, map, ⊤}
-use Rattle.eager_slaves.specs.Eager.{Remembered, AllEager, AllGetNone, AllRemember, GetsNone}
+use Rattle.idle_slaves.specs.Eager.{Remembered, AllEager, AllGetNone, AllRemember, GetsNone}
 use Rattle.frame_view.specs.Seen.{seen}
 use Rattle.life_runs.specs.First.{lens_of}
 use Rattle.life_runs.specs.Led.{Exchanged, Leads, Turn, gives_up_at}
@@ -13,7 +13,7 @@ use Rattle.run_frames.specs.Runs.{Progress}
 use Rattle.segment_plan.specs.declared.plan.Scenario.{Scenario}
 use Rattle.served_runs.specs.Served.{Serves, ServedTurn, served_behind}
 use Rattle.served_tours.specs.Toured.{IsServedToured, still_served}
-use Rattle.wait_runs.specs.Eager.{AllRest, AllSilent}
+use Rattle.idle_slaves.specs.WaitEager.{AllRest, AllSilent}
 
 -- what is remembered of a slave's visits stays, and no packet came to its port, nor was a mail asked that is to be passed on
 pub record StaysSo (m n : Remembered) : Type 0 where
