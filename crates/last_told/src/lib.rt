@@ -8,7 +8,7 @@ ghost use Rattle.coe_model.specs.Octets.{coe_mail_written};
 ghost use Rattle.coe_model.specs.Server.{information_parts};
 ghost use Rattle.link_mails.specs.Body.{Body};
 ghost use Rattle.master_hand.specs.Spoken.{is_followed};
-ghost use Rattle.passing_rows.specs.Heard.{LastTold};
+ghost use Rattle.passed_whole.specs.Heard.{LastTold};
 ghost use Rattle.serving_model.specs.Passing.{ends_told, LastTells};
 ghost use Rattle.serving_model.specs.Tagged.{Asked, tagged};
 ghost use Rattle.slave_model.specs.Application.{Parts, ArePartsLawful};

@@ -8,7 +8,7 @@ ghost use Rattle.life_model.specs.Lives.{Spot, Life};
 ghost use Rattle.link_mails.specs.Body.{Body};
 ghost use Rattle.master_duty.specs.Reply.{Reply};
 ghost use Rattle.master_hand.specs.Spoken.{Asked};
-ghost use Rattle.passed_model.specs.Clearing.{Forgets};
+ghost use Rattle.passed_whole.specs.Clearing.{Forgets};
 ghost use Rattle.seen_lives.specs.Led.{IsFairLife, IsLedLife};
 ghost use Rattle.served_counts.specs.Fair.{AsksFair};
 ghost use Rattle.served_counts.specs.Lives.{IsServedLife};

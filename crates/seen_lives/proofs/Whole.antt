@@ -2,8 +2,8 @@
 use Rattle.std.proofs.Common.{ℕ, Option, length, refl}
 use Rattle.exchange_model.specs.Exchange.{Exchange}
 use Rattle.life_model.specs.Lives.{Spot, Life}
-use Rattle.passed_model.specs.Clearing.{Forgets}
-use Rattle.passed_model.proofs.Clears.{clears}
+use Rattle.passed_whole.specs.Clearing.{Forgets}
+use Rattle.passed_whole.proofs.Clears.{clears}
 use Rattle.segment_model.specs.Slaves.{Processor}
 use Rattle.serving_model.specs.Tagged.{Rowed}
 use Rattle.state_model.specs.States.{Table}

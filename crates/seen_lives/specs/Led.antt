@@ -3,7 +3,7 @@ use Rattle.std.specs.Prelude.{◌≡◌, ℕ, Bool, Option, List, [], ◌∷◌,
 use Rattle.exchange_model.specs.Exchange.{Exchange}
 use Rattle.life_model.specs.Eras.{Clearing, planned}
 use Rattle.life_model.specs.Lives.{Spot, Era, Life, new_era}
-use Rattle.passed_model.specs.Clearing.{cleared_rowed}
+use Rattle.passed_whole.specs.Clearing.{cleared_rowed}
 use Rattle.passed_whole.specs.Led.{IsLed}
 use Rattle.segment_model.specs.Record.{Frame}
 use Rattle.segment_model.specs.Slaves.{Registers, Processor, Slave}

@@ -5,7 +5,7 @@ use Rattle.std.proofs.lemmas.List.{length-map}
 use Rattle.exchange_model.specs.Exchange.{Speech, plain}
 use Rattle.exchange_model.specs.Rows.{Row, left}
 use Rattle.link_model.specs.Mails.{LinkMail}
-use Rattle.passed_model.specs.Erased.{PlanOne, row_seen}
+use Rattle.passed_whole.specs.Erased.{PlanOne, row_seen}
 use Rattle.segment_model.specs.Laws.{IsSettled}
 use Rattle.segment_model.specs.Slaves.{Slave}
 use Rattle.serving_model.specs.Erasing.{box_as, mail_as, slave_as}

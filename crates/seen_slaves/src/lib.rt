@@ -7,7 +7,7 @@ ghost use Rattle.exchange_model.specs.Exchange.{Speech};
 ghost use Rattle.exchange_model.specs.Rows.{Row, left};
 ghost use Rattle.idle_slaves.specs.Going.{IsCome};
 ghost use Rattle.idle_slaves.specs.Links.{HasLink};
-ghost use Rattle.passed_model.specs.Erased.{PlanOne, row_seen, side_seen};
+ghost use Rattle.passed_whole.specs.Erased.{PlanOne, row_seen, side_seen};
 ghost use Rattle.segment_model.specs.Laws.{IsSettled};
 ghost use Rattle.segment_model.specs.Seats.{Side};
 ghost use Rattle.segment_model.specs.Slaves.{Registers, Slave};

@@ -9,8 +9,8 @@ use Rattle.life_model.specs.Eras.{EraIs}
 use Rattle.life_model.specs.Lives.{Era, Spot}
 use Rattle.link_model.specs.Mails.{LinkMail}
 use Rattle.never_waits.specs.Waits.{NeverWaits}
-use Rattle.passed_model.specs.Erased.{OfRow, PlanOne, row_seen, side_seen}
-use Rattle.passing_rows.specs.Heard.{EraPasses, HeardBy, IsPassedBy}
+use Rattle.passed_whole.specs.Erased.{OfRow, PlanOne, row_seen, side_seen}
+use Rattle.passed_whole.specs.Heard.{EraPasses, HeardBy, IsPassedBy}
 use Rattle.seen_slaves.proofs.Left.{left_as, settled_back}
 use Rattle.seen_spent.specs.Spent.{IsEndTold, NothingSeen, SpeakOne}
 use Rattle.segment_model.specs.Ends.{Passing}

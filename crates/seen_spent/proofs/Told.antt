@@ -5,7 +5,7 @@ use Rattle.exchange_model.specs.Exchange.{Exchange, Speech, IsLawful}
 use Rattle.exchange_model.specs.Rows.{Row, left}
 use Rattle.life_model.specs.Eras.{EraIs}
 use Rattle.life_model.specs.Lives.{Era, Spot}
-use Rattle.passed_model.specs.Erased.{OfRow, PlanOne, row_seen, side_seen}
+use Rattle.passed_whole.specs.Erased.{OfRow, PlanOne, row_seen, side_seen}
 use Rattle.seen_slaves.proofs.Left.{left_as}
 use Rattle.segment_model.specs.Record.{Frame}
 use Rattle.segment_model.specs.Slaves.{Processor, Registers, Slave}

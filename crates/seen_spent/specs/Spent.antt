@@ -5,7 +5,7 @@ use Rattle.exchange_model.specs.Exchange.{Speech, plain}
 use Rattle.exchange_model.specs.Rows.{Row}
 use Rattle.life_model.specs.Lives.{Era}
 use Rattle.link_model.specs.Master.{InState}
-use Rattle.passed_model.specs.Erased.{OfRow, PlanOne, side_seen}
+use Rattle.passed_whole.specs.Erased.{OfRow, PlanOne, side_seen}
 use Rattle.segment_model.specs.Laws.{IsSettled}
 use Rattle.segment_model.specs.Slaves.{Slave}
 use Rattle.serving_model.specs.Erasing.{slave_as}

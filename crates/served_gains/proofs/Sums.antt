@@ -5,8 +5,8 @@ use Rattle.life_counts.specs.Begun.{life_most}
 use Rattle.life_measure.specs.Gains.{gains}
 use Rattle.life_measure.proofs.Gaining.{next_same, back_grows, lost_same}
 use Rattle.life_model.specs.Lives.{Stand, Life, Spot, life_next, life_back, life_lost, passes}
-use Rattle.passing_gains.specs.Steps.{steps_left, IsUnderWay}
-use Rattle.passing_gains.proofs.Steps as Steps
+use Rattle.passed_whole.specs.Steps.{steps_left, IsUnderWay}
+use Rattle.passed_whole.proofs.PassingSteps as Steps
 use Rattle.segment_model.specs.Record.{News}
 use Rattle.segment_model.specs.Slaves.{Datagram, Found}
 use Rattle.task_model.specs.Accounts.{Pick}

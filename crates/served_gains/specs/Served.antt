@@ -3,7 +3,7 @@ use Rattle.std.specs.Prelude.{ℕ, ◌+◌, ◌*◌, Bool}
 use Rattle.life_counts.specs.Begun.{life_most}
 use Rattle.life_measure.specs.Gains.{gains}
 use Rattle.life_model.specs.Lives.{Life}
-use Rattle.passing_gains.specs.Steps.{life_steps, life_passed}
+use Rattle.passed_whole.specs.Steps.{life_steps, life_passed}
 
 -- both
 abbrev pub served_gains : {M Q R : Type 0} → (Q → Bool) → Life M Q R → ℕ

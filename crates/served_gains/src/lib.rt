@@ -7,7 +7,7 @@ ghost use Rattle.exchange_model.specs.Exchange.{Speech};
 ghost use Rattle.life_counts.specs.Begun.{life_most};
 ghost use Rattle.life_measure.specs.Gains.{gains};
 ghost use Rattle.life_model.specs.Lives.{Stand, Life, Spot, life_next, life_back, life_lost, gives_up, passes};
-ghost use Rattle.passing_gains.specs.Steps.{steps_left, IsUnderWay};
+ghost use Rattle.passed_whole.specs.Steps.{steps_left, IsUnderWay};
 ghost use Rattle.segment_model.specs.Record.{News};
 ghost use Rattle.segment_model.specs.Slaves.{Datagram, Found};
 ghost use Rattle.task_model.specs.Accounts.{Pick};

@@ -15,8 +15,8 @@ use Rattle.master_duty.specs.Reply.{Reply}
 use Rattle.master_hand.specs.Spoken.{Asked, acknowledged, is_followed}
 use Rattle.master_side.specs.Passing.{news_back, news_lost}
 use Rattle.news_kept.specs.Counts.{kept_on}
-use Rattle.passing_rows.specs.Heard.{EraPasses}
-use Rattle.passing_rows.proofs.Rows as Passing
+use Rattle.passed_whole.specs.Heard.{EraPasses}
+use Rattle.passed_whole.proofs.Rows as Passing
 use Rattle.segment_model.specs.Record.{Kept}
 use Rattle.segment_model.specs.Slaves.{Found}
 use Rattle.segment_ring.specs.declared.wire.Fate.{Fate}

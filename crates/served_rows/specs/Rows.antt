@@ -4,7 +4,7 @@ use Rattle.frame_view.specs.View.{Lens}
 use Rattle.life_model.specs.Lives.{Stand, new_life}
 use Rattle.life_runs.specs.Led.{Leads, speech_at, is_passed}
 use Rattle.master_hand.specs.Spoken.{is_followed}
-use Rattle.passing_rows.specs.Heard.{EraPasses}
+use Rattle.passed_whole.specs.Heard.{EraPasses}
 use Rattle.served_runs.specs.Served.{Serves}
 use Rattle.spent_rows.specs.Last.{LastPasses}
 use Rattle.spent_rows.specs.of_answered_rows.Moments.{NowAnswered}

@@ -10,7 +10,7 @@ use Rattle.life_model.specs.Lives.{Era, Life}
 use Rattle.life_runs.specs.Led.{Comes}
 use Rattle.master_hand.specs.Spoken.{Asked, net, passed, is_passed}
 use Rattle.master_hand.specs.Talk.{asked_of}
-use Rattle.passing_gains.specs.Steps.{passed_one, passed_in, eras_passed, life_passed}
+use Rattle.passed_whole.specs.Steps.{passed_one, passed_in, eras_passed, life_passed}
 use Rattle.plan_counts.specs.Asked.{asked_most}
 use Rattle.plan_counts.specs.Split.{own_work, entering}
 use Rattle.run_work.proofs.Together.{whole_work}

@@ -8,7 +8,7 @@ use Rattle.life_counts.specs.Begun.{begun_most, life_most}
 use Rattle.life_measure.specs.Gains.{gains}
 use Rattle.life_runs.specs.First.{lens_of, script_for, leads_from}
 use Rattle.master_hand.specs.Spoken.{is_passed}
-use Rattle.passing_gains.proofs.Steps as Steps
+use Rattle.passed_whole.proofs.PassingSteps as Steps
 use Rattle.plan_counts.specs.Asked.{asked_most}
 use Rattle.plan_counts.specs.Split.{own_work}
 use Rattle.run_work.specs.Switched.{cuts_begun}

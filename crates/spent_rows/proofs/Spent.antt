@@ -6,8 +6,8 @@ use Rattle.exchange_model.specs.Exchange.{Exchange, IsLawful}
 use Rattle.life_model.specs.Eras.{EraIs}
 use Rattle.life_model.specs.Lives.{Era, Spot}
 use Rattle.never_waits.specs.Waits.{NeverWaits}
-use Rattle.passing_rows.specs.Heard.{EraPasses}
-use Rattle.passing_rows.proofs.Heard.{ends}
+use Rattle.passed_whole.specs.Heard.{EraPasses}
+use Rattle.passed_whole.proofs.Heard.{ends}
 use Rattle.segment_model.specs.Ends.{Passing}
 use Rattle.segment_model.specs.Record.{Frame}
 use Rattle.segment_model.specs.Slaves.{Processor, Registers, Slave}

@@ -5,7 +5,7 @@ use Rattle.answered_rows.specs.Moments.{NoneLeft}
 use Rattle.exchange_model.specs.Exchange.{Speech, plain}
 use Rattle.exchange_model.specs.Rows.{Row}
 use Rattle.life_model.specs.Lives.{Era}
-use Rattle.passing_rows.specs.Heard.{EraPasses}
+use Rattle.passed_whole.specs.Heard.{EraPasses}
 use Rattle.segment_model.specs.Ends.{Passing}
 use Rattle.spent_rows.specs.Told.{EraTold, NoneTold, PlansSome}
 

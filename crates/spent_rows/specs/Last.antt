@@ -6,7 +6,7 @@ use Rattle.exchange_model.specs.Rows.{Row}
 use Rattle.life_model.specs.Eras.{EraIs}
 use Rattle.life_model.specs.Lives.{Era, Spot}
 use Rattle.never_waits.specs.Waits.{NeverWaits}
-use Rattle.passing_rows.specs.Heard.{EraPasses, LastTold}
+use Rattle.passed_whole.specs.Heard.{EraPasses, LastTold}
 use Rattle.segment_model.specs.Ends.{Passing}
 use Rattle.segment_model.specs.Record.{Frame}
 use Rattle.segment_model.specs.Slaves.{Processor, Registers, Slave}

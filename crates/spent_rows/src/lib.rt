@@ -6,7 +6,7 @@ ghost use Rattle.std.specs.Prelude.{◌≡◌, ◌≢◌, ℕ, Bool, Option, Som
 ghost use Rattle.answered_rows.specs.Moments.{NoneLeft, NowAnswered};
 ghost use Rattle.exchange_model.specs.Exchange.{Speech};
 ghost use Rattle.life_model.specs.Lives.{Stand, Era, Life, Spot, new_life, life_next, life_back, life_lost, gives_up};
-ghost use Rattle.passing_rows.specs.Heard.{EraPasses};
+ghost use Rattle.passed_whole.specs.Heard.{EraPasses};
 ghost use Rattle.segment_model.specs.Ends.{Passing};
 ghost use Rattle.segment_model.specs.Record.{News};
 ghost use Rattle.segment_model.specs.Slaves.{Datagram, Found};

@@ -6,7 +6,7 @@ use Rattle.exchange_model.specs.Exchange.{Exchange, Speech}
 use Rattle.exchange_model.specs.Rows.{Row, row_told, left}
 use Rattle.life_model.specs.Lives.{Era, era_next, granted, passing_begins}
 use Rattle.few_replies.specs.Calm.{calm_tagged}
-use Rattle.passed_model.specs.Erased.{OfRow}
+use Rattle.passed_whole.specs.Erased.{OfRow}
 use Rattle.passed_whole.specs.Silent.{is_passed}
 use Rattle.segment_model.specs.Ends.{Passing}
 use Rattle.segment_model.specs.Seats.{Side, is_none_left, side_begins, side_holds, next_mail}

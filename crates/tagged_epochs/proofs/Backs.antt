@@ -7,9 +7,9 @@ use Rattle.life_model.specs.Own.{own}
 use Rattle.link_model.specs.Frames.{all_accepted}
 use Rattle.link_model.specs.Segment.{RingFate}
 use Rattle.few_replies.specs.Calm.{calm_tagged}
-use Rattle.passed_model.specs.Client.{ByContents}
-use Rattle.passed_model.specs.Erased.{side_seen, all_news_as, OfRow, EndOne}
-use Rattle.passed_model.proofs.Naturals.{back_side, lost_side}
+use Rattle.passed_whole.specs.Client.{ByContents}
+use Rattle.passed_whole.specs.Erased.{side_seen, all_news_as, OfRow, EndOne}
+use Rattle.passed_whole.proofs.Naturals.{back_side, lost_side}
 use Rattle.passed_whole.specs.Silent.{is_passed}
 use Rattle.segment_model.specs.Ends.{Outcome, Passing}
 use Rattle.segment_model.specs.Record.{News, is_for, mails_heard}

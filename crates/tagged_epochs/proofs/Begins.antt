@@ -7,9 +7,9 @@ use Rattle.exchange_model.specs.Exchange.{Exchange, Speech}
 use Rattle.exchange_model.specs.Rows.{Row, begun, row_told}
 use Rattle.life_model.specs.Lives.{Era, era_next, passing_begins}
 use Rattle.few_replies.specs.Calm.{calm_tagged}
-use Rattle.passed_model.specs.Client.{ByContents}
-use Rattle.passed_model.specs.Erased.{row_seen, side_seen, OfRow, PlanOne}
-use Rattle.passed_model.proofs.Naturals.{takes_up}
+use Rattle.passed_whole.specs.Client.{ByContents}
+use Rattle.passed_whole.specs.Erased.{row_seen, side_seen, OfRow, PlanOne}
+use Rattle.passed_whole.proofs.Naturals.{takes_up}
 use Rattle.segment_model.specs.Ends.{Passing}
 use Rattle.segment_model.specs.Seats.{Side, newest, is_over, side_begins, side_next, side_holds, next_mail}
 use Rattle.serving_model.specs.Tagged.{Tagged, Asked, asked_exec, no_reply}

@@ -5,9 +5,9 @@ use Rattle.life_model.specs.Eras.{EraIs, OpenEra, era_frames}
 use Rattle.life_model.specs.Lives.{Spot, Era}
 use Rattle.life_model.proofs.Eras.{session_of, of_one}
 use Rattle.few_replies.specs.Calm.{calm_tagged}
-use Rattle.passed_model.specs.Client.{ByContents}
+use Rattle.passed_whole.specs.Client.{ByContents}
 use Rattle.link_model.specs.Mails.{LinkMail}
-use Rattle.passed_model.specs.Erased.{OfRow}
+use Rattle.passed_whole.specs.Erased.{OfRow}
 use Rattle.segment_model.specs.Record.{Frame, heard, kept_all, nothing_kept}
 use Rattle.segment_model.proofs.Posts.{IsFresh, KeptOut}
 use Rattle.serving_model.specs.Passing.{LastTells}

@@ -9,13 +9,13 @@ use Rattle.life_model.specs.Own as Own
 use Rattle.life_model.specs.Own.{own_fate, own_frame, blank}
 use Rattle.link_model.specs.Frames.{all_accepted}
 use Rattle.link_model.specs.Segment.{RingFate}
-use Rattle.passed_model.specs.Client.{ByContents}
-use Rattle.passed_model.specs.Erased.{frame_as, all_news_as, OfRow, EndOne}
-use Rattle.passed_model.proofs.Naturals.{frame_of}
+use Rattle.passed_whole.specs.Client.{ByContents}
+use Rattle.passed_whole.specs.Erased.{frame_as, all_news_as, OfRow, EndOne}
+use Rattle.passed_whole.proofs.Naturals.{frame_of}
 use Rattle.passed_whole.specs.Led.{IsLed, EraTurn, MayTurn, NoneUnheard, NowHeard, HasHeard, IsAnswered, frame_in, news_in, turn_next, turn_after, counted_news, counts_behind, has_step}
 use Rattle.passed_whole.specs.Silent.{is_passed}
-use Rattle.passing_rows.proofs.Rows as PassingRows
-use Rattle.passing_rows.specs.Heard.{EraPasses, HeardBy}
+use Rattle.passed_whole.proofs.Rows as PassingRows
+use Rattle.passed_whole.specs.Heard.{EraPasses, HeardBy}
 use Rattle.segment_model.specs.Ends.{Passing}
 use Rattle.segment_model.specs.Record.{Frame, News, Kept, frame_news, kept_all, nothing_kept, mails_heard, did_read}
 use Rattle.segment_model.specs.Slaves.{Registers, Processor, Slave, Datagram, Ring, grams, ring_after, ring_back, ring_steps}

@@ -8,8 +8,8 @@ use Rattle.exchange_model.proofs.Lists.{append_none}
 use Rattle.exchange_model.proofs.Nows.{heard_begins}
 use Rattle.exchange_model.proofs.Settles.{settled_app, settled_ready}
 use Rattle.few_replies.specs.Calm.{calm_tagged}
-use Rattle.passed_model.specs.Erased.{OfRow}
-use Rattle.passed_model.proofs.Clients.{plain_untag}
+use Rattle.passed_whole.specs.Erased.{OfRow}
+use Rattle.passed_whole.proofs.Clients.{plain_untag}
 use Rattle.passed_whole.specs.Silent.{IsForeseenRight}
 use Rattle.segment_model.specs.Ends.{Outcome}
 use Rattle.segment_model.specs.Record.{Frame}

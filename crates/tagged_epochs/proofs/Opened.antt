@@ -7,7 +7,7 @@ use Rattle.life_model.specs.Lives.{Spot, Era, era_after}
 use Rattle.life_model.specs.Own as Own
 use Rattle.life_model.specs.Own.{own_frame, blank}
 use Rattle.link_model.specs.Segment.{RingFate}
-use Rattle.passed_model.specs.Erased.{frame_as}
+use Rattle.passed_whole.specs.Erased.{frame_as}
 use Rattle.segment_model.specs.Record.{Frame, News, is_for}
 use Rattle.segment_model.specs.Slaves.{Datagram}
 use Rattle.task_model.specs.Accounts.{Account, Duty, Progress, account_met, account_by, account_back, access_done}

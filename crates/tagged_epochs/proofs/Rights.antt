@@ -8,7 +8,7 @@ use Rattle.exchange_model.proofs.Lists.{cut}
 use Rattle.exchange_model.proofs.Settles.{whole_behind, whole_ready}
 use Rattle.exchange_model.proofs.Words.{after-append}
 use Rattle.few_replies.specs.Calm.{calm_tagged}
-use Rattle.passed_model.specs.Client.{ByContents}
+use Rattle.passed_whole.specs.Client.{ByContents}
 use Rattle.passed_whole.specs.Silent.{IsForeseenRight}
 use Rattle.segment_model.specs.Ends.{Outcome}
 use Rattle.serving_model.specs.Tagged.{IsServed, Meant, Tagged, Asked, untag, more_of, told, gift, own_gift, is_own, no_reply, last_gifts, answer_gifts, Rowed, real, ideal, tagged, serve_tagged}

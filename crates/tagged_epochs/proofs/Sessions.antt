@@ -7,10 +7,10 @@ use Rattle.life_model.specs.Eras.{planned, opened_slave}
 use Rattle.life_model.specs.Lives.{Spot, Era, new_era, granted}
 use Rattle.life_model.specs.Own.{blank}
 use Rattle.life_model.proofs.Eras as LifeEras
-use Rattle.passed_model.specs.Erased.{frame_as, OfRow, EndOne}
+use Rattle.passed_whole.specs.Erased.{frame_as, OfRow, EndOne}
 use Rattle.passed_whole.specs.Led.{IsLed, EraTurn, NoneUnheard, IsAnswered, news_in, turn_next, turn_after}
 use Rattle.passed_whole.specs.Silent.{is_passed}
-use Rattle.passing_rows.proofs.Rows as PassingRows
+use Rattle.passed_whole.proofs.Rows as PassingRows
 use Rattle.segment_model.specs.Record.{Frame}
 use Rattle.segment_model.specs.Slaves.{Registers, Processor, Slave}
 use Rattle.serving_model.specs.Tagged.{Tagged, Asked, Rowed}

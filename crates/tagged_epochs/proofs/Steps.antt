@@ -6,7 +6,7 @@ use Rattle.exchange_model.proofs.Lists.{append_cancel, append_none}
 use Rattle.link_model.specs.Slave.{node_look, node_takes, node_serve}
 use Rattle.link_model.proofs.Law.{taken_of_held, accepted_of_offered}
 use Rattle.few_replies.specs.Calm.{calm_tagged}
-use Rattle.passed_model.specs.Client.{ByContents}
+use Rattle.passed_whole.specs.Client.{ByContents}
 use Rattle.segment_model.specs.Ends.{Outcome}
 use Rattle.segment_model.specs.Record.{Frame, heard}
 use Rattle.segment_model.specs.Seats.{Seat, link_of, seat_steps}

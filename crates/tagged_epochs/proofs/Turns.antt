@@ -10,8 +10,8 @@ use Rattle.life_model.proofs.Eras.{frames_push}
 use Rattle.link_model.specs.Frames.{IsFrameFor, all_accepted}
 use Rattle.link_model.specs.Segment.{RingFate}
 use Rattle.few_replies.specs.Calm.{calm_tagged}
-use Rattle.passed_model.specs.Client.{ByContents}
-use Rattle.passed_model.specs.Erased.{halves_as}
+use Rattle.passed_whole.specs.Client.{ByContents}
+use Rattle.passed_whole.specs.Erased.{halves_as}
 use Rattle.passed_whole.specs.Led.{counted_news, AreSingle}
 use Rattle.passed_whole.specs.Silent.{is_passed}
 use Rattle.segment_model.specs.Record.{Frame, News, Kept, frame_news, kept_all, nothing_kept, news_each, joined, mails_heard, heard, is_for}

@@ -4,10 +4,10 @@ use Rattle.exchange_model.specs.Exchange.{Exchange}
 use Rattle.life_model.specs.Eras.{EraIs, era_frames}
 use Rattle.life_model.specs.Lives.{Spot, Era}
 use Rattle.few_replies.specs.Calm.{IsCalm, calm_tagged}
-use Rattle.passed_model.specs.Erased.{frame_as, OfRow, PlanOne, EndOne}
+use Rattle.passed_whole.specs.Erased.{frame_as, OfRow, PlanOne, EndOne}
 use Rattle.passed_whole.specs.Led.{IsLed, RepliesFirst}
 use Rattle.passed_whole.specs.Silent.{is_passed}
-use Rattle.passing_rows.specs.Heard.{EraPasses}
+use Rattle.passed_whole.specs.Heard.{EraPasses}
 use Rattle.segment_model.specs.Record.{Frame}
 use Rattle.segment_model.specs.Slaves.{Registers, Processor, Slave}
 use Rattle.serving_model.specs.Erasing.{slave_as}

@@ -2,7 +2,7 @@
 -- which mails have tags.
 use Rattle.std.specs.Prelude.{map}
 use Rattle.life_model.specs.Lives.{Era, Life}
-use Rattle.passed_model.specs.Erased.{side_seen}
+use Rattle.passed_whole.specs.Erased.{side_seen}
 use Rattle.segment_model.specs.Ends.{Outcome}
 use Rattle.state_exchange.specs.Stated.{Service}
 use Rattle.task_model.specs.Accounts.{Account, Change, Started}

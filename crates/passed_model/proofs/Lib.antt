@@ -1,3 +1,0 @@
-pub mod Clears
-pub mod Naturals
-pub mod Clients
