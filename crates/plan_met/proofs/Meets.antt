@@ -12,8 +12,8 @@ use Rattle.life_runs.specs.Led.{Exchanged, Leads, Turn, IsLedFrame, is_passed}
 use Rattle.link_mails.specs.Body.{Body}
 use Rattle.master_duty.specs.Reply.{Reply}
 use Rattle.master_hand.specs.Spoken.{Asked, is_followed}
-use Rattle.open_met.specs.Met.{OpenMet, AllOpenMet}
-use Rattle.open_met.proofs.Each.{each_met}
+use Rattle.slave_clocks.specs.Met.{OpenMet, AllOpenMet}
+use Rattle.slave_clocks.proofs.OpenEach.{each_met}
 use Rattle.plan_ring.specs.Asked.{asked}
 use Rattle.plan_ring.specs.Lives.{IsKnown, IsShown, AllShown, AreLived}
 use Rattle.plan_ring.specs.Master.{AllUnder}
@@ -23,7 +23,7 @@ use Rattle.plan_ring.proofs.Known.{AllBoot, all_boot}
 use Rattle.plan_ring.proofs.Lives.{one_after}
 use Rattle.plan_ring.proofs.Master as Ring
 use Rattle.plan_ring.proofs.Turns.{under_of, all_under}
-use Rattle.ring_clocks.proofs.Each.{meets}
+use Rattle.slave_clocks.proofs.Each.{meets}
 use Rattle.segment_model.specs.Record.{Frame}
 use Rattle.segment_model.specs.Slaves.{Datagram, slave_after, slave_steps, frame_after}
 use Rattle.segment_plan.specs.Sound as Plan

@@ -13,9 +13,9 @@ use Rattle.master_hand.specs.Spoken.{Asked, acknowledged, is_followed}
 use Rattle.plan_met.specs.Met.{AllMet}
 use Rattle.plan_ring.specs.Round.{ring_of, ring_after, AllRound}
 use Rattle.plan_ring.proofs.Lives.{front_round}
-use Rattle.quiet_rings.specs.Hands.{AllHand}
-use Rattle.quiet_rings.proofs.Hands.{hands_back, hands_lost}
-use Rattle.quiet_rings.proofs.Repairs.{all_repaired, none_repaired}
+use Rattle.slave_clocks.specs.Hands.{AllHand}
+use Rattle.slave_clocks.proofs.Hands.{hands_back, hands_lost}
+use Rattle.slave_clocks.proofs.Repairs.{all_repaired, none_repaired}
 use Rattle.run_frames.specs.Clocks.{repair_of, gains_all}
 use Rattle.run_frames.specs.Goes.{Under, AllUnder, AllClocked}
 use Rattle.run_frames.specs.Led.{AreLed}

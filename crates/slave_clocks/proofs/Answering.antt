@@ -3,8 +3,8 @@ use Rattle.std.proofs.Common.{◌≡◌, ◌+◌, ◌%◌, ◌==◌, ◌&&◌, B
 use Rattle.frame_view.specs.Seen.{seen}
 use Rattle.frames_seen.specs.Own.{own_seen}
 use Rattle.frames_seen.specs.Slaves.{registers_seen, slave_of}
-use Rattle.half_asked.specs.Asked.{AllAsk, AllMet, AllRead}
-use Rattle.half_asked.proofs.Answers.{just_one}
+use Rattle.slave_clocks.specs.Asked.{AllAsk, AllMet, AllRead}
+use Rattle.slave_clocks.proofs.Answers.{just_one}
 use Rattle.life_measure.specs.Repairs.{awaits_at, awaited}
 use Rattle.life_model.specs.Eras.{Clearing}
 use Rattle.life_model.specs.Lives.{Spot, Era, Opening, AsksOpen, Stand, is_shown}

@@ -15,8 +15,8 @@ use Rattle.frames_seen.specs.Ring.{AllApart, IsRingMet}
 use Rattle.frames_seen.specs.Slaves.{registers_seen, slave_of}
 use Rattle.frames_seen.specs.Spoken.{AllSpoken}
 use Rattle.frames_seen.proofs.Rings as FrameRings
-use Rattle.half_asked.specs.Asked.{AllHere, IsAsked, GoesOn}
-use Rattle.half_asked.proofs.Goes.{all_back, all_lost, all_unmet, first}
+use Rattle.slave_clocks.specs.Asked.{AllHere, IsAsked, GoesOn}
+use Rattle.slave_clocks.proofs.Goes.{all_back, all_lost, all_unmet, first}
 use Rattle.life_model.specs.Eras.{Clearing}
 use Rattle.life_model.specs.Lives.{Spot, Era, AsksOpen, Stand, granted}
 use Rattle.life_model.specs.Own.{own}

@@ -1,6 +1,6 @@
 -- An open slave, by a frame: it is open yet, or its reopening begins.
 use Rattle.std.proofs.Common.{◌≡◌, ℕ, Bool, true, false, Option, Some, None, List, refl, sym, ap, ap₂, ◌∙◌, subst, if◌then◌else◌}
-use Rattle.half_asked.specs.Asked.{IsAsked, GoesOn}
+use Rattle.slave_clocks.specs.Asked.{IsAsked, GoesOn}
 use Rattle.life_measure.specs.Repairs.{way_of, stand_way}
 use Rattle.life_model.specs.Eras.{Clearing}
 use Rattle.life_model.specs.Lives.{Spot, Era, Life, Stand, reopens, reopens_at, reopening, returns_to_init, opens_state}

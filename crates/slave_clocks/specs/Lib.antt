@@ -1,1 +1,5 @@
+pub mod Asked
+pub mod Clocks
+pub mod Hands
+pub mod Met
 pub mod Stands

@@ -2,7 +2,6 @@
 //! here does nothing, and its contract states the laws.
 #![tactic(auto)]
 
-ghost use Rattle.std.specs.Prelude.{◌≡◌, ℕ, Bool, List, Option};
 ghost use Rattle.esc_registers.specs.declared.registers.Registers.{Registers};
 ghost use Rattle.life_measure.specs.Repairs.{way_of};
 ghost use Rattle.life_model.specs.Eras.{Clearing};
@@ -11,12 +10,19 @@ ghost use Rattle.link_mails.specs.Body.{Body};
 ghost use Rattle.run_frames.specs.Goes.{is_same, stepped_behind};
 ghost use Rattle.segment_model.specs.Record.{Frame, News};
 ghost use Rattle.segment_model.specs.Slaves.{Found};
+ghost use Rattle.slave_clocks.specs.Stands.{StandsTo};
 ghost use Rattle.slave_lives.specs.Lived.{Behind, RingFrame, node_behind, frame_of};
 ghost use Rattle.slave_lives.specs.Opening.{Plan};
+ghost use Rattle.std.specs.Prelude.{◌≡◌, ℕ, Bool, List, Option};
 ghost use Rattle.task_model.specs.Accounts.{Pick};
 ghost use Rattle.whole_lives.specs.Turns.{FrameComes, TurnsAs, life_by};
 ghost use Rattle.whole_lives.specs.Whole.{IsWhole, IsLived};
-ghost use Rattle.slave_clocks.specs.Stands.{StandsTo};
+
+pub mod half_asked;
+pub mod open_met;
+pub mod quiet_rings;
+pub mod ring_clocks;
+pub mod run_answers;
 
 /// THE CLOCK OF A SLAVE IS RIGHT: where it says that the slave made a step since the access in hand is in hand, the slave shows what that access awaits.
 /// It stays so by each frame that its ring exchanges, met by the slave, lost before it or behind it, and by the step behind it, whatever the frame makes of
