@@ -22,8 +22,8 @@ use Rattle.run_frames.specs.Toured.{IsToured, AskIn}
 use Rattle.run_frames.specs.Tours.{IsVisited, PlacesOf, again_behind, last_lost}
 use Rattle.run_frames.specs.Waits.{all_anew}
 use Rattle.run_frames.proofs.Leading.{SeenIs, all_led_lost, all_led_back}
-use Rattle.visit_orders.specs.Toured as Visits
-use Rattle.visit_orders.specs.Toured.{tour_behind}
+use Rattle.packets_heard.specs.Toured as Visits
+use Rattle.packets_heard.specs.Toured.{tour_behind}
 use Rattle.bound_premises.proofs.Asks.{asks_same}
 use Rattle.bound_premises.proofs.Ahead.{out_stays, kept_stays, alone, not_in}
 use Rattle.bound_premises.proofs.Places.{Slave, lives_same, long_same, opened_same, places_are, comes_again, shares_are, under_same, last_round, last_first}

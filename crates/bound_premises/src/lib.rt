@@ -9,7 +9,7 @@ ghost use Rattle.life_runs.specs.Led.{Exchanged, Leads};
 ghost use Rattle.master_node.specs.of_master_tour.Toured.{Tour};
 ghost use Rattle.segment_plan.specs.Sound.{IsPlan};
 ghost use Rattle.segment_plan.specs.declared.plan.Scenario.{Scenario};
-ghost use Rattle.visit_orders.specs.Toured.{IsToured};
+ghost use Rattle.packets_heard.specs.Toured.{IsToured};
 ghost use Rattle.bound_premises.specs.Tours.{IsCounted};
 
 /// THE FRAMES OF A MASTER'S TOUR ARE THE VISITS THAT THE COUNT OF FRAMES SPEAKS OF, frame by frame, with the slaves that come again, as many that have

@@ -11,7 +11,7 @@ use Rattle.master_hand.specs.Spoken.{Asked}
 use Rattle.master_node.specs.Happened.{arrivals_at}
 use Rattle.master_node.specs.of_master_tour.Toured.{Tour}
 use Rattle.plan_ring.specs.Round.{ring_of, AllRound, behind}
-use Rattle.recalled_runs.specs.Recalled.{State, RecalledIn}
+use Rattle.packets_heard.specs.Recalled.{State, RecalledIn}
 use Rattle.run_book.specs.declared.book.Book.{Book}
 use Rattle.run_book.specs.declared.book.Ending.{Ending}
 use Rattle.run_book.specs.declared.book.Ending.TheVariants as endings
@@ -28,7 +28,7 @@ use Rattle.segment_plan.specs.declared.plan.Scenario.{Scenario}
 use Rattle.segment_ring.specs.Ring.{RingState}
 use Rattle.slave_server.specs.Serving.{Serving}
 use Rattle.slave_steps.specs.Node.{Node}
-use Rattle.visit_orders.specs.Toured.{IsToured}
+use Rattle.packets_heard.specs.Toured.{IsToured}
 
 -- its frames went round the ring
 all_round : (ring : RingState (Node Serving)) (fs : List SentFrame) → AreRecorded ring fs → AllRound ring (map exchanged fs)

@@ -10,9 +10,9 @@ use Rattle.master_duty.specs.Reply.{Reply}
 use Rattle.master_hand.specs.Spoken.{Asked}
 use Rattle.master_node.specs.Happened.{arrivals_at}
 use Rattle.master_node.specs.Ports.{IsAtPort, ports_behind, ports_of}
-use Rattle.packets_begun.specs.Over.{AreBegun}
+use Rattle.packets_heard.specs.Over.{AreBegun}
 use Rattle.plan_ring.specs.Round.{ring_of, AllRound}
-use Rattle.port_events.specs.Listed.{Listed}
+use Rattle.packets_heard.specs.Listed.{Listed}
 use Rattle.run_book.specs.declared.book.Book.{Book}
 use Rattle.run_book.specs.declared.book.Ending.{Ending}
 use Rattle.run_book.specs.declared.book.Ending.TheVariants as endings

@@ -5,8 +5,8 @@ use Rattle.eoe_switch.specs.declared.switching.SwitchEvent.{SwitchEvent}
 use Rattle.eoe_switch.specs.declared.switching.SwitchEvent.TheVariants.{Arrive, Begun, Down}
 use Rattle.life_runs.specs.Led.{Exchanged}
 use Rattle.master_node.specs.Happened.{arrivals_at, arrived_by}
-use Rattle.port_events.proofs.Ports.{arrivals_append}
-use Rattle.recalled_runs.specs.Recalled.{enters, has_entered}
+use Rattle.packets_heard.proofs.Ports.{arrivals_append}
+use Rattle.packets_heard.specs.Recalled.{enters, has_entered}
 use Rattle.run_frames.specs.Fates.{lost_by, lost_of}
 use Rattle.segment_ring.specs.declared.wire.Fate.TheVariants.{Lost}
 

@@ -26,7 +26,7 @@ use Rattle.master_node.specs.declared.lan.Lan.{Lan}
 use Rattle.master_side.specs.Due.{EachDue}
 use Rattle.master_side.specs.Recall.{Recall}
 use Rattle.master_tour.specs.Brings.{accepted_at}
-use Rattle.recalled_runs.specs.Recalled.{AllQuiet, AllStill, IsLanOf}
+use Rattle.packets_heard.specs.Recalled.{AllQuiet, AllStill, IsLanOf}
 use Rattle.segment_model.specs.Slaves.{Datagram, grams}
 use Rattle.segment_plan.specs.declared.plan.Scenario.{Scenario}
 use Rattle.idle_slaves.specs.WaitEager.{AllSilent}

@@ -13,11 +13,11 @@ use Rattle.master_node.specs.Begins.{begun_of, switch_on, switch_behind, taken_i
 use Rattle.master_node.specs.Forwards.{port_by, waiting_by}
 use Rattle.master_node.specs.Made.{IsOfMaking}
 use Rattle.master_node.specs.Ports.{ports_behind, ports_of}
-use Rattle.packets_begun.specs.Over.{packet_begun}
-use Rattle.packets_begun.proofs.Follows.{all_at, flow_switch}
-use Rattle.packets_begun.proofs.Runs.{frame_all}
-use Rattle.port_events.proofs.Owns.{own_port}
-use Rattle.recalled_runs.specs.Recalled.{AtSwitch, enters, has_entered}
+use Rattle.packets_heard.specs.Over.{packet_begun}
+use Rattle.packets_heard.proofs.Follows.{all_at, flow_switch}
+use Rattle.packets_heard.proofs.PacketsRuns.{frame_all}
+use Rattle.packets_heard.proofs.Owns.{own_port}
+use Rattle.packets_heard.specs.Recalled.{AtSwitch, enters, has_entered}
 use Rattle.segment_plan.specs.declared.plan.Scenario.{Scenario}
 use Rattle.eager_runs.specs.Runs.{waiting_at}
 

@@ -13,7 +13,7 @@ use Rattle.master_node.specs.declared.lan.Lan.{Lan}
 use Rattle.master_side.specs.Recall.{Recall}
 use Rattle.plan_met.specs.Met.{AllOpenAt, IsAt}
 use Rattle.plan_ring.specs.Asked.{asked}
-use Rattle.recalled_runs.specs.Recalled.{AllSettled, IsLanOf}
+use Rattle.packets_heard.specs.Recalled.{AllSettled, IsLanOf}
 use Rattle.segment_plan.specs.declared.plan.Scenario.{Scenario}
 use Rattle.segment_plan.specs.declared.slave.SlaveSpec.{SlaveSpec}
 use Rattle.slave_server.specs.Serving.{Serving, next_mail}

@@ -17,7 +17,7 @@ use Rattle.plan_met.specs.Met.{AllOpenAt}
 use Rattle.plan_ring.specs.Lives.{AreLived}
 use Rattle.plan_ring.specs.Round.{ring_of, ring_after, behind, AllRound}
 use Rattle.plan_ring.proofs.Lives.{front_round, one_after}
-use Rattle.recalled_runs.specs.Recalled.{State, AllSettled, IsFirst, IsRecalledFrame, RecalledIn, has_entered}
+use Rattle.packets_heard.specs.Recalled.{State, AllSettled, IsFirst, IsRecalledFrame, RecalledIn, has_entered}
 use Rattle.run_frames.specs.Clocks.{Clocked}
 use Rattle.run_frames.specs.Fates.{lost_of}
 use Rattle.run_frames.specs.Led.{leads_behind}
@@ -28,7 +28,7 @@ use Rattle.segment_ring.specs.Ring.{RingState}
 use Rattle.segment_ring.specs.declared.wire.Fate.TheVariants.{Pass, Lost}
 use Rattle.slave_server.specs.Serving.{Serving}
 use Rattle.slave_steps.specs.Node.{Node}
-use Rattle.visit_orders.specs.Toured as Visits
+use Rattle.packets_heard.specs.Toured as Visits
 use Rattle.idle_slaves.specs.WaitEager.{AllRest, AllUnpassed, IsEagerFrame}
 use Rattle.plan_dues.specs.Dues.{MailsAreDue}
 use Rattle.eager_runs.specs.Runs.{ScriptsMay, remembered, waiting_at}

@@ -12,10 +12,10 @@ ghost use Rattle.master_node.specs.of_master_tour.Toured.{Tour};
 ghost use Rattle.plan_ring.specs.Lives.{IsKnown};
 ghost use Rattle.plan_ring.specs.Round.{ring_of, AllRound};
 ghost use Rattle.plan_rooms.specs.Rooms.{HasRoom};
-ghost use Rattle.recalled_runs.specs.Recalled.{State, RecalledIn};
+ghost use Rattle.packets_heard.specs.Recalled.{State, RecalledIn};
 ghost use Rattle.segment_plan.specs.Sound.{IsPlan};
 ghost use Rattle.segment_plan.specs.declared.plan.Scenario.{Scenario};
-ghost use Rattle.visit_orders.specs.Toured.{IsToured};
+ghost use Rattle.packets_heard.specs.Toured.{IsToured};
 
 /// THE FRAMES OF A TOUR ARE A RUN OF THE PLAN whose count has a bound, where frame by frame its master makes no visit in vain by what it remembers: of those that
 /// gained nothing, with nothing to repair and no packet of the host, each leaves some slave waiting. And no more let packets of the host in than it has.

@@ -1,1 +1,7 @@
 pub mod Heard
+pub mod Listed
+pub mod Numbers
+pub mod Over
+pub mod Recalled
+pub mod Toured
+pub mod Visits

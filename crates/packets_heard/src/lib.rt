@@ -2,7 +2,6 @@
 //! states a law.
 #![tactic(auto)]
 
-ghost use Rattle.std.specs.Prelude.{◌≡◌, ◌≤◌, ◌++◌, ℕ, None, List, length};
 ghost use Rattle.eoe.specs.declared.message.Fragment.{Fragment};
 ghost use Rattle.exchange_model.specs.Prefix.{IsPrefixOf};
 ghost use Rattle.frame_view.specs.View.{Lens};
@@ -12,6 +11,12 @@ ghost use Rattle.link_mails.specs.Body.{Body};
 ghost use Rattle.master_hand.specs.Joins.{fragment_in, packets_in};
 ghost use Rattle.packet_model.specs.Packets.{Emitted, ArePackets, all_fragments, octets_of, parts};
 ghost use Rattle.packets_heard.specs.Heard.{IsJoined, times_in, joined_in, joined_on};
+ghost use Rattle.std.specs.Prelude.{◌≡◌, ◌≤◌, ◌++◌, ℕ, None, List, length};
+
+pub mod packets_begun;
+pub mod port_events;
+pub mod recalled_runs;
+pub mod visit_orders;
 
 /// FRAME BY FRAME a slave's packets are joined as from its mails at once: over a run they are, in order, just those that the mails of each time that it
 /// was open join to, with nothing unfinished before. And where the fragments of such a time are the first of those of packets that the slave sent, the

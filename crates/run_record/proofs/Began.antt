@@ -22,8 +22,8 @@ use Rattle.master_node.specs.of_master_hand.of_eoe_model.Client as EoeClient
 use Rattle.master_node.specs.of_master_tour.Made.{is_in}
 use Rattle.master_node.specs.of_master_tour.Orders.{AreOnce}
 use Rattle.master_node.specs.of_task_model.Accounts.{starts}
-use Rattle.packets_begun.specs.Numbers.{each_with, frames_begun}
-use Rattle.packets_begun.specs.Over.{packet_begun}
+use Rattle.packets_heard.specs.Numbers.{each_with, frames_begun}
+use Rattle.packets_heard.specs.Over.{packet_begun}
 use Rattle.run_record.specs.Forwarded.{PacketsNoted}
 use Rattle.run_record.specs.Led.{LeadTo}
 use Rattle.run_notes.specs.Packets.{AllPackets, BeginsOn, HasPacket, PacketFor, begun_noted, numbered_from, packet_row, packets_at, rows_by}

@@ -27,20 +27,20 @@ use Rattle.master_node.specs.Rooms.{area_at}
 use Rattle.master_node.specs.Shows.{MasterUnder, is_live_lead}
 use Rattle.master_node.specs.Toured.{tour_of, turn_share}
 use Rattle.master_node.specs.declared.node.MasterNode.{MasterNode}
-use Rattle.packets_begun.proofs.Numbers.{numbered_on}
-use Rattle.packets_begun.proofs.Runs.{begun_on, none_behind}
-use Rattle.packets_begun.specs.Numbers.{each_with}
-use Rattle.packets_begun.specs.Over.{IsNoBegun}
-use Rattle.port_events.proofs.Carries.{carries_all, listed_on}
-use Rattle.port_events.proofs.Unfinished.{under_way, joined_so}
-use Rattle.port_events.specs.Listed.{CarriesAll, packets_by, unfinished_of}
-use Rattle.port_events.specs.of_packets_heard.Heard.{Joined, joined_in, mails_by}
+use Rattle.packets_heard.proofs.Numbers.{numbered_on}
+use Rattle.packets_heard.proofs.PacketsRuns.{begun_on, none_behind}
+use Rattle.packets_heard.specs.Numbers.{each_with}
+use Rattle.packets_heard.specs.Over.{IsNoBegun}
+use Rattle.packets_heard.proofs.Carries.{carries_all, listed_on}
+use Rattle.packets_heard.proofs.Unfinished.{under_way, joined_so}
+use Rattle.packets_heard.specs.Listed.{CarriesAll, packets_by, unfinished_of}
+use Rattle.packets_heard.specs.of_packets_heard.Heard.{Joined, joined_in, mails_by}
 use Rattle.segment_plan.specs.declared.plan.Scenario.{Scenario}
 use Rattle.segment_ring.specs.declared.wire.Fate.{Fate}
 use Rattle.segment_ring.specs.declared.wire.Fate.TheVariants as Fates
 use Rattle.run_record.specs.Forwarded.{IsForwarded}
 use Rattle.run_record.specs.Led.{LeadTo, ListsAll, BeginsAll, NumbersAll}
-use Rattle.visit_orders.specs.Toured.{lives_behind}
+use Rattle.packets_heard.specs.Toured.{lives_behind}
 
 -- as many slaves
 as_many : {G : Ghosts InHand} (us : List Turn) (js : List Joined) (ss : List (Stop InHand G)) → AllThree (λ l j s. IsUnfinished l s.side.hand.found.join j) (map stand_under us) (unfinished_of js) ss → length js ≡ length us

@@ -11,8 +11,7 @@ use Rattle.master_node.specs.of_life_frames.Shares.{AllBoth}
 use Rattle.life_heard.proofs.Heards.{loses}
 use Rattle.life_heard.specs.Heard.{AllNoted, brought_by, heard_in, heard_on}
 use Rattle.master_node.specs.of_life_runs.First.{lens_of, script_for, first_leads, leads_from}
-use Rattle.master_node.specs.of_life_runs.Led.{Exchanged, Leads, Turn, AllTurn, IsLed, IsLedFrame, IsTurn, life_behind, led_behind, gives_up_at, missed_behind}
-use Rattle.master_node.specs.of_life_runs.Led.{new_leads}
+use Rattle.master_node.specs.of_life_runs.Led.{Exchanged, Leads, Turn, AllTurn, IsLed, IsLedFrame, IsTurn, life_behind, led_behind, gives_up_at, missed_behind, new_leads}
 use Rattle.master_node.specs.of_life_model.Lives.{Spot}
 use Rattle.master_node.specs.Arrivals.{completed_at, ComeIn}
 use Rattle.master_node.specs.Begins.{PacketsBegin}
@@ -43,12 +42,12 @@ use Rattle.master_node.specs.of_master_tour.Sizes.{frame_size}
 use Rattle.master_node.specs.of_master_tour.Toured.{Tour, IsOfTour, new_tour}
 use Rattle.master_node.proofs.Counts.{counted}
 use Rattle.master_node.proofs.Quiets.{lead_lives}
-use Rattle.packets_begun.specs.Numbers.{each_with}
-use Rattle.port_events.specs.Listed.{unfinished_of}
-use Rattle.port_events.specs.of_packets_heard.Heard.{Joined, joined_in, joined_none, mails_by}
-use Rattle.port_events.proofs.Unfinished.{under_way}
-use Rattle.recalled_runs.specs.Recalled.{AllSettled, AtSwitch, IsLanOf, IsRecalledFrame, RecalledIn, has_entered}
-use Rattle.recalled_runs.proofs.Steps.{at_switch, before_is, made_is, still_of}
+use Rattle.packets_heard.specs.Numbers.{each_with}
+use Rattle.packets_heard.specs.Listed.{unfinished_of}
+use Rattle.packets_heard.specs.of_packets_heard.Heard.{Joined, joined_in, joined_none, mails_by}
+use Rattle.packets_heard.proofs.Unfinished.{under_way}
+use Rattle.packets_heard.specs.Recalled.{AllSettled, AtSwitch, IsLanOf, IsRecalledFrame, RecalledIn, has_entered}
+use Rattle.packets_heard.proofs.Steps.{at_switch, before_is, made_is, still_of}
 use Rattle.run_book.specs.declared.book.Book.{Book}
 use Rattle.run_book.specs.declared.book.SentFrame.{SentFrame}
 use Rattle.master_node.specs.of_segment_model.Returned.{Returns}
@@ -69,14 +68,13 @@ use Rattle.run_record.specs.Recalling.{Remembers, RunBegins, RunStands, state_of
 use Rattle.run_record.specs.Replay.{behind, first_ring}
 use Rattle.run_notes.specs.Packets.{BeginsOn, begun_noted}
 use Rattle.run_record.specs.Led.{exchanged, TouredTo, Leading, AreLed}
-use Rattle.run_notes.specs.Slaves.{gaves_noted}
+use Rattle.run_notes.specs.Slaves.{gaves_noted, first_notes, scripted, GaveBy}
 use Rattle.run_notes.specs.Heard.{emergencies_noted, HeardBy}
 use Rattle.run_notes.specs.Notes.{new_notes}
 use Rattle.run_notes.specs.Reports.{Reports, AllReport, ReportsOn, ReportsBy, TurnsAll}
 use Rattle.run_notes.specs.Unsent.{IsNumbered}
 use Rattle.run_notes.proofs.Unsent.{none_begun, all_left}
 use Rattle.run_record.specs.Session.{has_live}
-use Rattle.run_notes.specs.Slaves.{first_notes, scripted, GaveBy}
 use Rattle.script_answers.specs.Answers.{turned as turned_lead}
 use Rattle.script_answers.specs.Steps.{TurnsSo, PassesSo, LosesSo}
 use Rattle.script_answers.proofs.Losses.{passes_so, loses_so}
@@ -87,7 +85,7 @@ use Rattle.run_record.proofs.Forwards.{forwarded_on}
 use Rattle.run_record.proofs.Nexts.{next_frame}
 use Rattle.run_record.proofs.Noted.{GivesOne, lost_gives, next_gives, noted_by, noted_now, pass_gives}
 use Rattle.run_notes.proofs.Heard.{first_heard}
-use Rattle.visit_orders.specs.Toured.{IsToured, tour_behind, lives_behind}
+use Rattle.packets_heard.specs.Toured.{IsToured, tour_behind, lives_behind}
 
 -- BEFORE THE FIRST FRAME
 pub first_gaves : (services : List (ℕ × Plan.Service)) (number place : ℕ) (ss : List SlaveSpec) → gaves_noted (first_notes services number ss) ≡ map gave_of (leads_from services place ss)

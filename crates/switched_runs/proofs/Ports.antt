@@ -12,7 +12,7 @@ use Rattle.master_node.specs.Happened.{arrived_by, arrivals_at}
 use Rattle.master_node.specs.Ports.{IsAtPort}
 use Rattle.packet_work.specs.Flows.{forwards_work, slaves_work, entry_work, entries_work, AllComeAt}
 use Rattle.packet_work.specs.Packets.{waiting_work, queue_work}
-use Rattle.packets_begun.specs.Over.{forwarded_to}
+use Rattle.packets_heard.specs.Over.{forwarded_to}
 use Rattle.segment_plan.specs.declared.slave.SlaveSpec.{SlaveSpec}
 
 -- the sum over the ports of slaves, behind this one

@@ -16,12 +16,12 @@ use Rattle.master_node.specs.Happened.{arrivals_at}
 use Rattle.master_node.specs.Ports.{IsAtPort, port_where, last_where, ports_behind, ports_of}
 use Rattle.packet_work.specs.Flows.{slaves_work, entries_work, AllComeAt}
 use Rattle.packet_work.specs.Packets.{cuts, waiting_work, queue_work}
-use Rattle.packets_begun.specs.Over.{AreBegun, forwarded_to}
-use Rattle.packets_begun.specs.Over as Over
+use Rattle.packets_heard.specs.Over.{AreBegun, forwarded_to}
+use Rattle.packets_heard.specs.Over as Over
 use Rattle.packets_heard.specs.Heard.{Joined, joined_in}
 use Rattle.plan_counts.specs.Asked.{asked_most}
 use Rattle.plan_counts.specs.Split.{entering}
-use Rattle.port_events.specs.Listed.{IsOwn, long_where, long_ones, packets_at}
+use Rattle.packets_heard.specs.Listed.{IsOwn, long_where, long_ones, packets_at}
 use Rattle.run_work.specs.Switched.{cuts_begun, host_cuts}
 use Rattle.run_work.specs.Together.{packets_begun}
 use Rattle.script_runs.specs.Came.{is_packet}

@@ -9,10 +9,10 @@ ghost use Rattle.life_runs.specs.First.{lens_of, first_leads};
 ghost use Rattle.life_runs.specs.Led.{Exchanged, Leads, IsLed};
 ghost use Rattle.master_node.specs.Happened.{arrivals_at};
 ghost use Rattle.master_node.specs.Ports.{IsAtPort, ports_behind, ports_of};
-ghost use Rattle.packets_begun.specs.Over.{AreBegun};
+ghost use Rattle.packets_heard.specs.Over.{AreBegun};
 ghost use Rattle.plan_ring.specs.Lives.{IsKnown};
 ghost use Rattle.plan_ring.specs.Round.{ring_of, AllRound};
-ghost use Rattle.port_events.specs.Listed.{Listed};
+ghost use Rattle.packets_heard.specs.Listed.{Listed};
 ghost use Rattle.run_work.specs.Switched.{AreSwitched};
 ghost use Rattle.segment_plan.specs.Sound.{IsPlan};
 ghost use Rattle.segment_plan.specs.declared.plan.Scenario.{Scenario};
@@ -25,8 +25,8 @@ pub fn switched_run_law()
         Listed (lens_of plan.slaves) plan.recover plan.retry (ports_behind 0 plan.slaves) led es → AreBegun (ports_behind 0 plan.slaves) (ports_of plan.slaves) led es → AreSwitched plan leads }
 {
     sent_packets::sent_law();
-    port_events::port_law();
-    packets_begun::begun_law();
+    packets_heard::port_law();
+    packets_heard::begun_law();
     packet_work::packet_law();
     script_runs::script_run_law();
 }

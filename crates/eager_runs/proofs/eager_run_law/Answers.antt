@@ -6,7 +6,7 @@ use Rattle.run_frames.proofs.Tallying.{first_of_plan}
 use Rattle.bound_premises.proofs.News.{all_news}
 use Rattle.bound_premises.proofs.Tours.{bridged}
 use Rattle.master_node.specs.Happened.{arrivals_at}
-use Rattle.recalled_runs.specs.Recalled.{IsFirst}
+use Rattle.packets_heard.specs.Recalled.{IsFirst}
 use Rattle.std.specs.Prelude.{[], length, ◌≡◌, ◌+◌}
 use Rattle.eager_runs.specs.Runs.{remembered}
 use Rattle.eager_runs.proofs.First.{first_unpassed}

@@ -1,4 +1,4 @@
-use Rattle.std.proofs.Common.{◌≡◌, ℕ, suc, map, refl, ap, sym, ◌∙◌, subst}
+use Rattle.std.proofs.Common.{◌≡◌, ℕ, suc, map, refl, ap, sym, ◌∙◌, subst, List}
 use Rattle.master_node.specs.of_life_runs.Led.{led_behind, gives_up_at, missed_behind}
 use Rattle.master_node.specs.Listing.{events_in}
 use Rattle.master_node.specs.Serving.{ServedShows}
@@ -7,12 +7,11 @@ use Rattle.master_node.specs.Toured.{tour_of}
 use Rattle.segment_ring.specs.declared.wire.Fate.{Fate}
 use Rattle.segment_ring.specs.declared.wire.Fate.TheVariants as Fates
 use Rattle.served_runs.specs.Served.{served_behind}
-use Rattle.visit_orders.specs.Toured.{tour_behind, lives_behind}
-use Rattle.std.proofs.Common.{List}
+use Rattle.packets_heard.specs.Toured.{tour_behind, lives_behind}
 use Rattle.master_node.specs.of_frame_view.Seen.{seen}
 use Rattle.master_node.specs.Joined.{HasUnfinished, stand_before, unfinished_after, mails_back}
-use Rattle.port_events.specs.Listed.{unfinished_of}
-use Rattle.port_events.specs.of_packets_heard.Heard.{mails_by}
+use Rattle.packets_heard.specs.Listed.{unfinished_of}
+use Rattle.packets_heard.specs.of_packets_heard.Heard.{mails_by}
 use Rattle.run_record.proofs.ServedTold.{told_lost, told_pass}
 use Rattle.run_record.proofs.session.tell.Goals as goal
 
