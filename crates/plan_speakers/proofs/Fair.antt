@@ -12,10 +12,10 @@ use Rattle.master_hand.specs.Spoken.{Asked, passed, net, is_passed}
 use Rattle.master_hand.specs.of_eoe_model.Client as EoeClient
 use Rattle.seen_lives.specs.Led.{ErasFair, IsFairLife}
 use Rattle.segment_plan.specs.declared.service.Service as Plan
-use Rattle.served_counts.specs.Fair.{AsksFair}
+use Rattle.run_work.specs.Fair.{AsksFair}
 use Rattle.served_runs.specs.Came.{ServedCame, AreAmong, HasServed}
 use Rattle.served_runs.specs.Served.{Keyed, Serves}
-use Rattle.served_work.proofs.Counted.{passes, none_passes}
+use Rattle.run_work.proofs.Counted.{passes, none_passes}
 use Rattle.few_replies.specs.Packets.{is_fair}
 use Rattle.slave_model.specs.Profile.{Profile}
 use Rattle.state_exchange.specs.Stated.{Service}

@@ -17,7 +17,7 @@ use Rattle.slave_parts.specs.Parts.{Server, parts}
 use Rattle.slave_served.specs.Served.{product_whole, served_whole, side_whole}
 use Rattle.state_exchange.specs.Families.{InState}
 use Rattle.state_exchange.specs.Stated.{IsStated}
-use Rattle.served_counts.specs.Sessions.{OwnService, named}
+use Rattle.run_work.specs.Sessions.{OwnService, named}
 use Rattle.tagged_epochs.specs.Spoken.{IsScript, IsNamed, Speaks}
 use Rattle.plan_speakers.specs.Speakers.{naming_of, spoken, spoken_states, whole_states}
 

@@ -19,7 +19,7 @@ use Rattle.state_exchange.specs.Families.{InState, states_of}
 use Rattle.state_exchange.specs.Stated.{Stated}
 use Rattle.state_law.specs.Shows.{slave_table}
 use Rattle.state_model.specs.States.{Table, carry}
-use Rattle.served_counts.specs.Sessions.{OwnService, Wanted, InRow, named_wanted}
+use Rattle.run_work.specs.Sessions.{OwnService, Wanted, InRow, named_wanted}
 use Rattle.tagged_epochs.specs.Epochs.{Speaker}
 use Rattle.tagged_epochs.specs.Spoken.{Naming}
 

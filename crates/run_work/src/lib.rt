@@ -2,7 +2,6 @@
 //! so are its frames. Definitions and laws, no running code: each function here does nothing, and its contract states the law.
 #![tactic(auto)]
 
-ghost use Rattle.std.specs.Prelude.{◌≢◌, ℕ, Bool, List, ◌≤◌, ◌<◌, ◌+◌, length};
 ghost use Rattle.frame_view.specs.View.{Lens};
 ghost use Rattle.life_counts.specs.Begun.{KeepsShape};
 ghost use Rattle.life_runs.specs.First.{lens_of, first_leads};
@@ -11,24 +10,29 @@ ghost use Rattle.link_mails.specs.Body.{Body};
 ghost use Rattle.master_duty.specs.Reply.{Reply};
 ghost use Rattle.master_hand.specs.Spoken.{Asked};
 ghost use Rattle.plan_counts.specs.Asked.{asked_most};
+ghost use Rattle.plan_counts.specs.Split.{own_work};
 ghost use Rattle.plan_ring.specs.Asked.{asked};
 ghost use Rattle.plan_ring.specs.Lives.{IsKnown};
 ghost use Rattle.plan_ring.specs.Round.{ring_of, AllRound};
-ghost use Rattle.segment_plan.specs.Sound.{IsPlan};
-ghost use Rattle.segment_plan.specs.declared.plan.Scenario.{Scenario};
-ghost use Rattle.server_lives.specs.Real.{real_clearing};
-ghost use Rattle.slave_model.specs.Profile.{Profile, IsProfile};
 ghost use Rattle.run_frames.specs.Clocks.{Clocked};
 ghost use Rattle.run_frames.specs.Fates.{AreFated, gained_in};
 ghost use Rattle.run_frames.specs.Led.{IsTallied};
 ghost use Rattle.run_frames.specs.Runs.{Progress};
-ghost use Rattle.segment_plan.specs.Bound.{slowest, services_work, host_work, bound_of};
-ghost use Rattle.run_work.specs.Gained.{app_shape, AllGain};
 ghost use Rattle.run_work.specs.Bounds.{IsPlanRun, bound_with};
+ghost use Rattle.run_work.specs.Gained.{app_shape, AllGain};
 ghost use Rattle.run_work.specs.Switched.{AreSwitched, cuts_begun};
 ghost use Rattle.run_work.specs.Together.{packets_begun};
-ghost use Rattle.plan_counts.specs.Split.{own_work};
 ghost use Rattle.script_work.specs.Begun.{work_in};
+ghost use Rattle.segment_plan.specs.Bound.{slowest, services_work, host_work, bound_of};
+ghost use Rattle.segment_plan.specs.Sound.{IsPlan};
+ghost use Rattle.segment_plan.specs.declared.plan.Scenario.{Scenario};
+ghost use Rattle.server_lives.specs.Real.{real_clearing};
+ghost use Rattle.slave_model.specs.Profile.{Profile, IsProfile};
+ghost use Rattle.std.specs.Prelude.{◌≢◌, ℕ, Bool, List, ◌≤◌, ◌<◌, ◌+◌, length};
+
+pub mod packet_work;
+pub mod served_counts;
+pub mod served_work;
 
 /// THE SHAPE OF A PLAN'S SLAVE STAYS, whatever services it carries out, whatever its AL state and whenever it is returned to Init; and each service that
 /// its master asks for takes at most as many mails as its shape says.

@@ -19,8 +19,8 @@ use Rattle.segment_plan.specs.Sound.{IsSlave}
 use Rattle.segment_plan.specs.declared.plan.Scenario.{Scenario}
 use Rattle.segment_plan.specs.declared.service.Service as Row
 use Rattle.segment_plan.specs.declared.slave.SlaveSpec.{SlaveSpec}
-use Rattle.served_counts.specs.Fair.{AsksFair}
-use Rattle.served_counts.specs.Lives.{AllServedLives, IsServedLife, first_server}
+use Rattle.run_work.specs.Fair.{AsksFair}
+use Rattle.run_work.specs.Lives.{AllServedLives, IsServedLife, first_server}
 use Rattle.served_lives.proofs.Leds.{life_led}
 use Rattle.served_runs.specs.Came.{HasServed, IsFresh}
 use Rattle.served_runs.specs.Served.{Serves}

@@ -9,8 +9,8 @@ ghost use Rattle.plan_ring.specs.Lives.{IsKnown};
 ghost use Rattle.plan_ring.specs.Round.{AllRound, ring_of};
 ghost use Rattle.segment_plan.specs.Sound.{IsPlan};
 ghost use Rattle.segment_plan.specs.declared.plan.Scenario.{Scenario};
-ghost use Rattle.served_counts.specs.Fair.{AsksFair};
-ghost use Rattle.served_counts.specs.Lives.{AllServedLives};
+ghost use Rattle.run_work.specs.Fair.{AsksFair};
+ghost use Rattle.run_work.specs.Lives.{AllServedLives};
 ghost use Rattle.served_rings.specs.Rings.{AreServedLived};
 ghost use Rattle.served_runs.specs.Served.{IsServedLed, Serves, all_serve};
 

@@ -17,7 +17,7 @@ use Rattle.master_hand.specs.Spoken.{Asked, sdo, file, drive, net, passed}
 use Rattle.master_node.specs.Begins.{Taken, switch_on, taken_by, taken_in, begins_by, begun_of, begins_in}
 use Rattle.master_node.specs.Forwards.{port_by}
 use Rattle.master_tour.specs.Made.{is_in}
-use Rattle.packet_work.specs.Packets.{waiting_work, queue_work}
+use Rattle.run_work.specs.Packets.{waiting_work, queue_work}
 use Rattle.packets_heard.specs.Over.{AreBegun, packet_begun, packets_begun}
 use Rattle.script_runs.specs.Came.{is_packet}
 use Rattle.script_runs.proofs.Came.{listed, turn_started, behind_same}

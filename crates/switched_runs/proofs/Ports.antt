@@ -10,8 +10,8 @@ use Rattle.eoe_switch.specs.declared.switching.SwitchEvent.{SwitchEvent}
 use Rattle.eoe_switch.specs.declared.switching.SwitchEvent.TheVariants.{Arrive, Begun, Down}
 use Rattle.master_node.specs.Happened.{arrived_by, arrivals_at}
 use Rattle.master_node.specs.Ports.{IsAtPort}
-use Rattle.packet_work.specs.Flows.{forwards_work, slaves_work, entry_work, entries_work, AllComeAt}
-use Rattle.packet_work.specs.Packets.{waiting_work, queue_work}
+use Rattle.run_work.specs.Flows.{forwards_work, slaves_work, entry_work, entries_work, AllComeAt}
+use Rattle.run_work.specs.Packets.{waiting_work, queue_work}
 use Rattle.packets_heard.specs.Over.{forwarded_to}
 use Rattle.segment_plan.specs.declared.slave.SlaveSpec.{SlaveSpec}
 
@@ -208,7 +208,7 @@ pub come_at : (many : ℕ) (es : List SwitchEvent) → All (IsAtPort many) es �
 come_at many [] at = tt
 come_at many (e ∷ es) at = (one e (All-head (IsAtPort many) e es at), come_at many es (All-tail (IsAtPort many) e es at))
   where
-    one : (e : SwitchEvent) → IsAtPort many e → Rattle.packet_work.specs.Flows.ComesAt many e
+    one : (e : SwitchEvent) → IsAtPort many e → Rattle.run_work.specs.Flows.ComesAt many e
     one (Arrive port packet) at = at.0
     one (Begun port) at = tt
     one (Down port) at = tt

@@ -14,8 +14,8 @@ use Rattle.life_runs.specs.Led.{Exchanged, Leads, IsLed}
 use Rattle.master_node.specs.Forwards.{port_by}
 use Rattle.master_node.specs.Happened.{arrivals_at}
 use Rattle.master_node.specs.Ports.{IsAtPort, port_where, last_where, ports_behind, ports_of}
-use Rattle.packet_work.specs.Flows.{slaves_work, entries_work, AllComeAt}
-use Rattle.packet_work.specs.Packets.{cuts, waiting_work, queue_work}
+use Rattle.run_work.specs.Flows.{slaves_work, entries_work, AllComeAt}
+use Rattle.run_work.specs.Packets.{cuts, waiting_work, queue_work}
 use Rattle.packets_heard.specs.Over.{AreBegun, forwarded_to}
 use Rattle.packets_heard.specs.Over as Over
 use Rattle.packets_heard.specs.Heard.{Joined, joined_in}
@@ -51,7 +51,7 @@ host_least n [] = omega arith
 host_least n (p ∷ ps) =
     let sum = sum_by-cons (λ (packet : ArrayVec ℕ). cuts packet.items) p ps in
     let whole : (cuts p.items + host_cuts ps) * (n + 1) ≡ cuts p.items * (n + 1) + host_cuts ps * (n + 1) = omega arith in
-    omega (arith, host_least n ps, one (Rattle.packet_work.specs.Packets.may_echo p.items), whole, ap (λ z. z * (n + 1)) sum)
+    omega (arith, host_least n ps, one (Rattle.run_work.specs.Packets.may_echo p.items), whole, ap (λ z. z * (n + 1)) sum)
   where
     one : (b : Bool) → cuts p.items * (if b then n + 1 else 1) ≤ cuts p.items * (n + 1)
     one true = omega arith

@@ -12,7 +12,7 @@ use Rattle.master_hand.specs.Brings.{as_list}
 use Rattle.master_hand.specs.Spoken.{Asked, sdo, file, drive, net, passed}
 use Rattle.master_hand.specs.Talk.{asked_of}
 use Rattle.object_dictionary.specs.declared.service.SdoService.{SdoService}
-use Rattle.packet_work.specs.Packets.{cuts, may_echo, waiting_work}
+use Rattle.run_work.specs.Packets.{cuts, may_echo, waiting_work}
 use Rattle.plan_counts.specs.Asked.{asked_most}
 use Rattle.plan_counts.specs.Split.{sdo_cuts, entering}
 use Rattle.script_runs.specs.Came.{handed_over, AreThose, is_packet}

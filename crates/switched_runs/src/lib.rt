@@ -27,6 +27,6 @@ pub fn switched_run_law()
     sent_packets::sent_law();
     packets_heard::port_law();
     packets_heard::begun_law();
-    packet_work::packet_law();
+    run_work::packet_law();
     script_runs::script_run_law();
 }

@@ -1,7 +1,7 @@
 use Rattle.std.proofs.Common.{◌≡◌, ◌+◌, ◌-◌, ◌*◌, ◌≤◌, suc, length, subst, arith}
 use Rattle.life_runs.specs.First.{lens_of, first_leads}
 use Rattle.master_node.specs.Ports.{ports_behind, ports_of}
-use Rattle.packet_work.specs.Packets.{waiting_work}
+use Rattle.run_work.specs.Packets.{waiting_work}
 use Rattle.run_work.specs.Together.{packets_begun}
 use Rattle.switched_runs.proofs.Switched.{switched_so}
 use Rattle.switched_runs.proofs.switched_run_law.Goals as goal
