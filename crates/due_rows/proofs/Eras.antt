@@ -2,7 +2,7 @@
 use Rattle.std.proofs.Common.{◌≡◌, inl, inr, ℕ, Bool, true, false, List, [], ◌∷◌, ◌++◌, refl, sym, ap, ◌∙◌, append_assoc}
 use Rattle.exchange_model.specs.Exchange.{Exchange, IsLawful}
 use Rattle.exchange_model.specs.Prefix.{IsPrefixOf}
-use Rattle.hears_first.specs.Hears.{HearsFirst}
+use Rattle.never_waits.specs.Hears.{HearsFirst}
 use Rattle.life_model.specs.Eras.{EraIs, era_frames, planned}
 use Rattle.life_model.specs.Lives.{Spot, Era}
 use Rattle.link_model.specs.Frames.{IsFrameFor, all_accepted}

@@ -3,8 +3,8 @@ use Rattle.std.proofs.Common.{◌≡◌, inl, inr, ℕ, true, false, Option, Som
 use Rattle.exchange_model.specs.Exchange.{Exchange, IsLawful, given, plain}
 use Rattle.exchange_model.specs.Prefix.{IsPrefixOf}
 use Rattle.exchange_model.specs.Rows.{Row, left}
-use Rattle.hears_first.specs.Hears.{HearsFirst}
-use Rattle.hears_first.proofs.States.{states_hears}
+use Rattle.never_waits.specs.Hears.{HearsFirst}
+use Rattle.never_waits.proofs.HearsStates.{states_hears}
 use Rattle.master_side.specs.Due.{IsReply, IsAwaited}
 use Rattle.segment_model.specs.Ends.{Outcome}
 use Rattle.segment_model.specs.Laws.{as_outcome}

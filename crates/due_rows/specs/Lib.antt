@@ -1,2 +1,2 @@
-pub use Rattle.hears_first.specs as of_hears_first
+pub use Rattle.never_waits.specs as of_never_waits
 pub mod Brings

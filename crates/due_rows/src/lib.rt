@@ -3,7 +3,7 @@
 #![tactic(auto)]
 
 ghost use Rattle.due_rows.specs.Brings.{BringsDue};
-ghost use Rattle.hears_first.specs.Hears.{HearsFirst};
+ghost use Rattle.never_waits.specs.Hears.{HearsFirst};
 ghost use Rattle.life_model.specs.Eras.{OpenEra};
 
 /// EACH MAIL THAT A FRAME MORE BRINGS OF AN OPEN EPOCH IS DUE, where the client hears first.

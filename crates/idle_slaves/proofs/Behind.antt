@@ -3,7 +3,7 @@ use Rattle.std.proofs.Common.{◌≡◌, ℕ, ◌==◌, Bool, true, false, Optio
 use Rattle.std.specs.Prelude.{◌&&◌, not, option_map, drop}
 use Rattle.exchange_model.specs.Exchange.{Speech, plain}
 use Rattle.exchange_model.specs.Rows.{Row, left, row_heard, answer_after}
-use Rattle.answered_rows.specs.Moments.{NowAnswered}
+use Rattle.never_waits.specs.Moments.{NowAnswered}
 use Rattle.idle_slaves.specs.Visited.{IsFor}
 use Rattle.idle_slaves.specs.Waiting.{Wanted}
 use Rattle.idle_slaves.proofs.Returning.{reopens_era}

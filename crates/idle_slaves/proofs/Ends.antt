@@ -1,8 +1,8 @@
 -- By a master's rule at a visit: where a state service might begin behind a write in vain, none is left.
 use Rattle.std.proofs.Common.{◌≡◌, ℕ, ◌&&◌, Bool, true, false, Option, Some, None, List, [], ◌∷◌, length, length-append, refl, sym, ap, ◌∙◌, subst, arith, if◌then◌else◌}
-use Rattle.answered_rows.specs.Moments.{IsFree, HeldStill, NowAnswered}
-use Rattle.answered_rows.proofs.Laws.{answered, begun}
-use Rattle.answered_rows.proofs.Ready.{ready}
+use Rattle.never_waits.specs.Moments.{IsFree, HeldStill, NowAnswered}
+use Rattle.never_waits.proofs.Laws.{answered, begun}
+use Rattle.never_waits.proofs.Ready.{ready}
 use Rattle.exchange_model.specs.Exchange.{Exchange, Speech, IsLawful}
 use Rattle.exchange_model.specs.Rows.{Row, left}
 use Rattle.idle_slaves.specs.Held.{Took}

@@ -6,7 +6,7 @@ use Rattle.idle_slaves.specs.Standing.{IsDone}
 use Rattle.exchange_model.specs.Exchange.{Exchange, Speech}
 use Rattle.exchange_model.specs.Rows.{Row, left}
 use Rattle.frame_view.specs.View.{Lens}
-use Rattle.answered_rows.specs.Moments.{NowAnswered}
+use Rattle.never_waits.specs.Moments.{NowAnswered}
 use Rattle.idle_slaves.specs.Going.{IsCome}
 use Rattle.idle_slaves.specs.Links.{HasLink}
 use Rattle.idle_slaves.specs.Visited.{LifeSpent}

@@ -1,7 +1,7 @@
 -- Behind a write in vain.
 use Rattle.std.proofs.Common.{◌≡◌, ◌≤◌, ℕ, ◌==◌, Bool, true, false, is_some, Option, Some, None, List, [], ◌∷◌, ◌++◌, refl, sym, ap, ◌∙◌, subst, arith, if◌then◌else◌, inl, inr, length, length-append}
-use Rattle.answered_rows.specs.Moments.{IsFree, HeldStill}
-use Rattle.answered_rows.proofs.Laws.{state}
+use Rattle.never_waits.specs.Moments.{IsFree, HeldStill}
+use Rattle.never_waits.proofs.Laws.{state}
 use Rattle.exchange_model.specs.Exchange.{Speech}
 use Rattle.idle_slaves.specs.Held.{HeldUp, EndsHeld}
 use Rattle.idle_slaves.specs.Visited.{IsFor, Meets, CameBack, HasRow, IsStill, IsUnpaused, Chosen, is_boxed, visit_for, life_visit, memory_of}

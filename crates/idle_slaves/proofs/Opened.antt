@@ -1,6 +1,6 @@
 -- An open slave of a plan's run, as its session has it, where no mail is passed on.
 use Rattle.std.proofs.Common.{◌≡◌, ◌≢◌, ℕ, Bool, true, Option, Some, None, List, [], ◌∷◌, length, refl, sym, ap, ◌∙◌, subst}
-use Rattle.answered_rows.specs.Moments.{IsFree, NowAnswered}
+use Rattle.never_waits.specs.Moments.{IsFree, NowAnswered}
 use Rattle.idle_slaves.specs.Eager.{NoneLeft, MayBegin}
 use Rattle.exchange_model.specs.Exchange.{Speech, plain}
 use Rattle.exchange_model.specs.Rows.{Row, answer_after}

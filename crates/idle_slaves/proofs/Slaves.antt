@@ -3,7 +3,7 @@ use Rattle.std.proofs.Common.{◌≡◌, ◌⊎◌, ◌≤◌, ℕ, zero, suc, �
 use Rattle.std.specs.Prelude.{◌&&◌}
 use Rattle.exchange_model.specs.Exchange.{Exchange, Speech}
 use Rattle.idle_slaves.specs.Held.{HeldUp, EndsHeld}
-use Rattle.answered_rows.specs.Moments.{IsFree, NowAnswered}
+use Rattle.never_waits.specs.Moments.{IsFree, NowAnswered}
 use Rattle.idle_slaves.proofs.Held.{held_up, unpaused}
 use Rattle.idle_slaves.specs.Frames.{InVain, node_on, memory_on}
 use Rattle.idle_slaves.specs.Going.{registers_on}

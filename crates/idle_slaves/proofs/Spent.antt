@@ -1,7 +1,7 @@
 -- A slave that is spent, as its master speaks with it.
 use Rattle.std.proofs.Common.{ℕ, Bool, List}
-use Rattle.answered_rows.specs.Moments.{IsFree, NoneLeft, NowAnswered}
-use Rattle.answered_rows.proofs.Laws.{nothing}
+use Rattle.never_waits.specs.Moments.{IsFree, NoneLeft, NowAnswered}
+use Rattle.never_waits.proofs.Laws.{nothing}
 use Rattle.exchange_model.specs.Exchange.{Exchange, Speech, IsLawful}
 use Rattle.idle_slaves.specs.Visited.{LifeSpent}
 use Rattle.idle_slaves.proofs.Settled.{is_left}

@@ -2,7 +2,7 @@
 use Rattle.std.proofs.Common.{◌≡◌, ℕ, Bool, Option, Some, None, List, [], sym, subst}
 use Rattle.exchange_model.specs.Exchange.{Speech}
 use Rattle.idle_slaves.specs.Held.{EndsHeld}
-use Rattle.answered_rows.specs.Moments.{IsFree, HeldStill, NowAnswered}
+use Rattle.never_waits.specs.Moments.{IsFree, HeldStill, NowAnswered}
 use Rattle.idle_slaves.proofs.Ends.{ends_known}
 use Rattle.idle_slaves.proofs.Held.{side_is}
 use Rattle.life_model.specs.Lives.{Era, Life, Spot, Stand, life_back, era_next}

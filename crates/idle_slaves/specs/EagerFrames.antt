@@ -2,7 +2,7 @@
 use Rattle.std.specs.Prelude.{◌≡◌, ◌⊎◌, ◌≤◌, ℕ, suc, ◌%◌, ◌==◌, true, false, is_some, Bool, if◌then◌else◌, Option, Some, None, List, [], ◌∷◌}
 use Rattle.exchange_model.specs.Exchange.{Exchange, Speech}
 use Rattle.idle_slaves.specs.Held.{EndsHeld}
-use Rattle.answered_rows.specs.Moments.{NowAnswered}
+use Rattle.never_waits.specs.Moments.{NowAnswered}
 use Rattle.idle_slaves.specs.Links.{HasLink}
 use Rattle.idle_slaves.specs.Visited.{LifeSpent}
 use Rattle.life_measure.specs.Gains.{gains}

@@ -1,6 +1,6 @@
 -- A WRITE IN VAIN, and what may come into hand behind it.
 use Rattle.std.specs.Prelude.{◌≡◌, ◌≤◌, ℕ, true, Bool, Some, None, List}
-use Rattle.answered_rows.specs.Moments.{IsFree, HeldStill}
+use Rattle.never_waits.specs.Moments.{IsFree, HeldStill}
 use Rattle.exchange_model.specs.Exchange.{Speech}
 use Rattle.idle_slaves.specs.Waiting.{Memory}
 use Rattle.life_model.specs.Lives.{Era, Life, era_next}

@@ -2,7 +2,7 @@
 //! laws, no running code: the functions here do nothing, and their contracts state the laws.
 
 ghost use Rattle.std.specs.Prelude.{◌≡◌, ℕ, Bool, Option, Some, None, List};
-ghost use Rattle.answered_rows.specs.Moments.{IsFree, HeldStill, NoneLeft, NowAnswered};
+ghost use Rattle.never_waits.specs.Moments.{IsFree, HeldStill, NoneLeft, NowAnswered};
 ghost use Rattle.exchange_model.specs.Exchange.{Exchange, Speech, IsLawful};
 ghost use Rattle.idle_slaves.specs.Held.{HeldUp, EndsHeld, Took};
 ghost use Rattle.idle_slaves.specs.Visited.{Chosen, CameBack, HasRow, IsStill, IsUnpaused, LifeSpent, life_visit, memory_of};

@@ -3,7 +3,7 @@
 #![tactic(auto)]
 
 ghost use Rattle.std.specs.Prelude.{Bool};
-ghost use Rattle.answered_rows.specs.Moments.{IsFree, NoneLeft, NowAnswered};
+ghost use Rattle.never_waits.specs.Moments.{IsFree, NoneLeft, NowAnswered};
 ghost use Rattle.exchange_model.specs.Exchange.{Exchange, Speech};
 ghost use Rattle.named_lives.specs.Alike.{Alike, RowIs};
 ghost use Rattle.named_lives.specs.Named.{Naming, Agrees, named};

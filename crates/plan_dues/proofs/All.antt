@@ -6,7 +6,7 @@ use Rattle.life_runs.specs.of_datagrams.Frame.{chained}
 use Rattle.life_runs.specs.of_frame_view.Seen.{seen, datagrams_seen}
 use Rattle.life_runs.specs.of_frame_view.View.{Lens}
 use Rattle.life_runs.proofs.of_frame_view.Octets.{seen_is, seen_chained}
-use Rattle.hears_first.specs.Hears.{HearsFirst}
+use Rattle.never_waits.specs.Hears.{HearsFirst}
 use Rattle.life_runs.specs.First.{lens_of}
 use Rattle.life_runs.specs.Led.{Exchanged, Leads, Turn, AllTurn, IsLedFrame}
 use Rattle.life_runs.specs.of_link_mails.Body.{Body}

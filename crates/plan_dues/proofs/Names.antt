@@ -3,7 +3,7 @@ use Rattle.std.proofs.Common.{◌≡◌, ◌&&◌, Bool, true, false, Option, So
 use Rattle.std.specs.Prelude.{drop, length}
 use Rattle.plan_ring.specs.of_named_lives.of_exchange_model.Exchange.{Exchange, Speech, plain}
 use Rattle.plan_ring.specs.of_named_lives.of_exchange_model.Rows.{Row}
-use Rattle.hears_first.specs.Hears.{HearsFirst}
+use Rattle.never_waits.specs.Hears.{HearsFirst}
 use Rattle.life_runs.specs.of_master_side.Due.{IsReply, IsAwaited, IsDue, EachDue}
 use Rattle.plan_ring.specs.of_named_lives.Alike.{Alike, RowIs}
 use Rattle.plan_ring.specs.of_named_lives.Named.{Naming, Agrees, named}

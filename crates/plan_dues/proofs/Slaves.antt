@@ -5,7 +5,7 @@ use Rattle.due_rows.proofs.Eras.{era_due}
 use Rattle.plan_ring.specs.of_named_lives.of_exchange_model.Exchange.{Exchange, Speech}
 use Rattle.life_runs.specs.of_frame_view.Seen.{datagrams_seen}
 use Rattle.life_runs.specs.of_frame_view.View.{Lens}
-use Rattle.hears_first.specs.Hears.{HearsFirst}
+use Rattle.never_waits.specs.Hears.{HearsFirst}
 use Rattle.life_runs.specs.of_life_frames.of_life_model.Lives.{Life, Spot, Stand, AsksOpen, life_next, granted}
 use Rattle.life_runs.specs.of_life_frames.of_life_model.Own.{own}
 use Rattle.life_runs.specs.First.{lens_of, spot_of}

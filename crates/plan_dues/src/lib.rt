@@ -3,7 +3,7 @@
 #![tactic(auto)]
 
 ghost use Rattle.std.specs.Prelude.{ℕ, Bool};
-ghost use Rattle.hears_first.specs.Hears.{HearsFirst};
+ghost use Rattle.never_waits.specs.Hears.{HearsFirst};
 ghost use Rattle.life_runs.specs.of_frame_view.View.{Lens};
 ghost use Rattle.life_runs.specs.of_segment_plan.Sound.{IsPlan};
 ghost use Rattle.life_runs.specs.of_segment_plan.declared.plan.Scenario.{Scenario};

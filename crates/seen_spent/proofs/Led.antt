@@ -1,6 +1,6 @@
 -- Along an epoch as its master leads it.
 use Rattle.std.proofs.Common.{◌≡◌, ℕ, Bool, true, false, Option, Some, None, List, [], length, refl, subst, if◌then◌else◌}
-use Rattle.answered_rows.specs.Moments.{NowAnswered}
+use Rattle.never_waits.specs.Moments.{NowAnswered}
 use Rattle.exchange_model.specs.Exchange.{Exchange}
 use Rattle.life_model.specs.Lives.{Era, Life, Spot, Stand, era_after, era_back, new_life, opens_state, reopening, reopens, reopens_at, returns_to_init}
 use Rattle.link_model.specs.Segment.{RingFate}

@@ -1,8 +1,8 @@
 -- Where nothing is left, as another sees it.
 use Rattle.std.proofs.Common.{◌≡◌, ℕ, ◌&&◌, Bool, true, false, not, Option, Some, None, option_map, List, [], ◌∷◌, ◌++◌, map, refl, sym, ap, ◌∙◌, subst, inl, inr, if◌then◌else◌}
 use Rattle.std.specs.Prelude.{is_none, is_some}
-use Rattle.answered_rows.specs.Moments.{HasNothing, IsFree, IsMailsLast, WasHeard}
-use Rattle.answered_rows.proofs.Laws.{heard, nothing}
+use Rattle.never_waits.specs.Moments.{HasNothing, IsFree, IsMailsLast, WasHeard}
+use Rattle.never_waits.proofs.Laws.{heard, nothing}
 use Rattle.exchange_model.specs.Exchange.{Exchange, Speech, IsLawful}
 use Rattle.exchange_model.specs.Rows.{Row, left}
 use Rattle.life_model.specs.Eras.{EraIs}

@@ -1,6 +1,6 @@
 -- What has its answer was told whole, as another sees it.
 use Rattle.std.proofs.Common.{◌≡◌, ℕ, Bool, false, Option, Some, None, option_map, List, [], map, refl, sym, ap, ◌∙◌, subst}
-use Rattle.answered_rows.proofs.Laws.{answered}
+use Rattle.never_waits.proofs.Laws.{answered}
 use Rattle.exchange_model.specs.Exchange.{Exchange, Speech, IsLawful}
 use Rattle.exchange_model.specs.Rows.{Row, left}
 use Rattle.life_model.specs.Eras.{EraIs}

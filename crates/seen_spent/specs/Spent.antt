@@ -1,6 +1,6 @@
 -- AN OPEN SLAVE WITH NOTHING LEFT, as another sees its mails, its services and its replies.
 use Rattle.std.specs.Prelude.{◌≡◌, ◌⊎◌, Bool, true, None, [], map}
-use Rattle.answered_rows.specs.Moments.{NoneLeft, NowAnswered}
+use Rattle.never_waits.specs.Moments.{NoneLeft, NowAnswered}
 use Rattle.exchange_model.specs.Exchange.{Speech, plain}
 use Rattle.exchange_model.specs.Rows.{Row}
 use Rattle.life_model.specs.Lives.{Era}

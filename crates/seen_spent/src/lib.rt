@@ -3,7 +3,7 @@
 #![tactic(auto)]
 
 ghost use Rattle.std.specs.Prelude.{◌≡◌, ℕ, Bool, true, false, Some, None, List, []};
-ghost use Rattle.answered_rows.specs.Moments.{IsFree, NowAnswered, WasHeard};
+ghost use Rattle.never_waits.specs.Moments.{IsFree, NowAnswered, WasHeard};
 ghost use Rattle.exchange_model.specs.Exchange.{Exchange, Speech, IsLawful};
 ghost use Rattle.exchange_model.specs.Rows.{Row, left};
 ghost use Rattle.life_model.specs.Eras.{EraIs};

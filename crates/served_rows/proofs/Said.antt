@@ -17,7 +17,7 @@ use Rattle.segment_ring.specs.declared.wire.Fate.TheVariants.{Pass, Lost}
 use Rattle.served_runs.specs.Served.{Serves, ServedTurn, IsServedTurn, IsServedLed, all_serve, new_serves, served_life}
 use Rattle.served_rows.specs.Rows.{IsNew, SaidSo}
 use Rattle.served_rows.proofs.Rows.{each_first}
-use Rattle.spent_rows.specs.of_answered_rows.Moments.{NowAnswered}
+use Rattle.spent_rows.specs.of_never_waits.Moments.{NowAnswered}
 use Rattle.spent_rows.proofs.Said as Said
 
 module _ (lens : ℕ → Lens) (silent : (spot : Spot) (q : Asked) → (speech_at lens spot).ends q [] ≡ None) where

@@ -7,7 +7,7 @@ use Rattle.master_hand.specs.Spoken.{is_followed}
 use Rattle.passed_whole.specs.Heard.{EraPasses}
 use Rattle.served_runs.specs.Served.{Serves}
 use Rattle.spent_rows.specs.Last.{LastPasses}
-use Rattle.spent_rows.specs.of_answered_rows.Moments.{NowAnswered}
+use Rattle.spent_rows.specs.of_never_waits.Moments.{NowAnswered}
 use Rattle.spent_rows.specs.Told.{EraTold}
 
 -- a slave before the first frame: it has a station, and nothing happened in its life

@@ -2,7 +2,7 @@
 use Rattle.std.proofs.Common.{◌≡◌, ℕ, Bool, true, false, Option, Some, None, List, [], length, refl, sym, subst, arith, if◌then◌else◌}
 use Rattle.std.specs.Prelude.{◌&&◌, nat_lt}
 use Rattle.std.proofs.lemmas.Bool.Decides.{nat_tests}
-use Rattle.answered_rows.specs.Moments.{IsMailsLast}
+use Rattle.never_waits.specs.Moments.{IsMailsLast}
 use Rattle.exchange_model.specs.Exchange.{Speech}
 use Rattle.life_model.specs.Lives.{Era, Life, Spot, Stand, era_back, granted, life_back, life_lost, life_next, passes, passing_begins}
 use Rattle.life_model.specs.Own.{own}

@@ -1,6 +1,6 @@
 -- What was heard of the newest service is its answer, at every frame of a life.
 use Rattle.std.proofs.Common.{◌≡◌, ℕ, ◌&&◌, Bool, true, false, Option, Some, None, option_map, List, [], ◌∷◌, ◌++◌, refl, ap, subst, if◌then◌else◌}
-use Rattle.answered_rows.specs.Moments.{NowAnswered}
+use Rattle.never_waits.specs.Moments.{NowAnswered}
 use Rattle.exchange_model.specs.Exchange.{Speech, plain}
 use Rattle.exchange_model.specs.Rows.{Row, answer_after, begun, row_heard, row_told}
 use Rattle.life_model.specs.Lives.{Era, Life, Spot, Stand, granted, life_back, life_lost, life_next}

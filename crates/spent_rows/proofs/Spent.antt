@@ -1,7 +1,7 @@
 -- A mail that is passed on awaits no reply where nothing is left of its slave.
 use Rattle.std.proofs.Common.{◌≡◌, ℕ, Bool, Some, List}
-use Rattle.answered_rows.specs.Moments.{HasNothing}
-use Rattle.answered_rows.proofs.Laws.{heard}
+use Rattle.never_waits.specs.Moments.{HasNothing}
+use Rattle.never_waits.proofs.Laws.{heard}
 use Rattle.exchange_model.specs.Exchange.{Exchange, IsLawful}
 use Rattle.life_model.specs.Eras.{EraIs}
 use Rattle.life_model.specs.Lives.{Era, Spot}

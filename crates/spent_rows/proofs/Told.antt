@@ -1,7 +1,7 @@
 -- Where no mail is held and none is left to tell, a mail that is passed on is on its way no more.
 use Rattle.std.proofs.Common.{◌≡◌, ◌≢◌, Bool, Option, Some, None, List, [], length, sym, ap, ◌∙◌, subst, inl, inr}
 use Rattle.std.specs.Prelude.{drop}
-use Rattle.answered_rows.specs.Moments.{NoneLeft}
+use Rattle.never_waits.specs.Moments.{NoneLeft}
 use Rattle.exchange_model.specs.Exchange.{Speech, plain}
 use Rattle.exchange_model.specs.Rows.{Row}
 use Rattle.life_model.specs.Lives.{Era}

@@ -1,6 +1,6 @@
 -- THE NEWEST SERVICE while a mail that is passed on isn't over.
 use Rattle.std.specs.Prelude.{◌≡◌, ℕ, true, Bool, Some, List}
-use Rattle.answered_rows.specs.Moments.{HasNothing, IsMailsLast}
+use Rattle.never_waits.specs.Moments.{HasNothing, IsMailsLast}
 use Rattle.exchange_model.specs.Exchange.{Exchange, IsLawful}
 use Rattle.exchange_model.specs.Rows.{Row}
 use Rattle.life_model.specs.Eras.{EraIs}

@@ -3,7 +3,7 @@
 #![tactic(auto)]
 
 ghost use Rattle.std.specs.Prelude.{◌≡◌, ◌≢◌, ℕ, Bool, Option, Some, None, List, []};
-ghost use Rattle.answered_rows.specs.Moments.{NoneLeft, NowAnswered};
+ghost use Rattle.never_waits.specs.Moments.{NoneLeft, NowAnswered};
 ghost use Rattle.exchange_model.specs.Exchange.{Speech};
 ghost use Rattle.life_model.specs.Lives.{Stand, Era, Life, Spot, new_life, life_next, life_back, life_lost, gives_up};
 ghost use Rattle.passed_whole.specs.Heard.{EraPasses};

@@ -1,7 +1,7 @@
 use Rattle.plan_dues.proofs.Names.{named_hears}
 use Rattle.plan_dues.proofs.asked_hears_law.Goals as goal
 use Rattle.life_runs.specs.of_master_hand.Spoken.{hand_speech}
-use Rattle.hears_first.proofs.Slaves.{slave_hears}
+use Rattle.never_waits.proofs.HearsSlaves.{slave_hears}
 use Rattle.plan_ring.proofs.Asked.{agrees}
 use Rattle.plan_ring.specs.Asked.{as_asked}
 use Rattle.slave_parts.specs.of_slave_model.Product.{product}

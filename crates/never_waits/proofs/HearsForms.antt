@@ -13,8 +13,8 @@ use Rattle.exchange_sum.proofs.Refusals.{snoc_cut, each_front, Quiet, quiet_give
 use Rattle.exchange_sum.proofs.SumLaw.{each_left, plain_same, told_part}
 use Rattle.state_exchange.specs.Families.{AreOneClient, in_states}
 use Rattle.state_exchange.proofs.FamilyLaw.{plain_given_in}
-use Rattle.hears_first.specs.Hears.{HearsFirst}
-use Rattle.hears_first.proofs.Dialogues.{at_last, not_none}
+use Rattle.never_waits.specs.Hears.{HearsFirst}
+use Rattle.never_waits.proofs.HearsDialogues.{at_last, not_none}
 
 -- OVER WHAT MAILS ARE WRITTEN AS
 module _ {V A M N Q R : Type 0} (x : Exchange V A M Q R) (read : N → M) (write : M → N) (spells : Spells x read write) (hears : HearsFirst x) where

@@ -21,9 +21,9 @@ use Rattle.task_model.specs.Accounts.{Account, Started, is_free, is_acknowledged
 use Rattle.task_model.proofs.Ghosts.{MailsNow, Rested, RestedRow, Rowed, Staged, StateNow, counting, starts_append, starts_of}
 use Rattle.task_model.proofs.Newest.{Holds}
 use Rattle.task_model.proofs.Stately.{state_over}
-use Rattle.answered_rows.specs.Moments.{IsMailsLast, WasHeard}
-use Rattle.answered_rows.proofs.Answers.{acknowledges, answered_all, before, on, replied, states_last, whole_heard}
-use Rattle.answered_rows.proofs.Unsent.{Unsent}
+use Rattle.never_waits.specs.Moments.{IsMailsLast, WasHeard}
+use Rattle.never_waits.proofs.Answers.{acknowledges, answered_all, before, on, replied, states_last, whole_heard}
+use Rattle.never_waits.proofs.Unsent.{Unsent}
 
 module _ {V A M Q R : Type 0} (x : Exchange V A M Q R) (law : IsLawful x) (s : Stated V A Q) (stated : IsStated x s) (table : Table) (more : M → Bool) (start : ℕ) (is : IsTable table start)
     (fs : List (Frame M)) (seat : Seat V M Q R) (a : Account Q R) (h : Holds x law s stated table more start is fs seat a) (unsent : Unsent x seat) (idle : a.hand ≡ None) where

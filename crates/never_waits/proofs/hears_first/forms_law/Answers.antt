@@ -1,6 +1,6 @@
-use Rattle.hears_first.proofs.Forms.{lifted_hears, gated_hears, joined_hears, family_hears}
-use Rattle.hears_first.proofs.States.{states_hears}
-use Rattle.hears_first.proofs.forms_law.Goals as goal
+use Rattle.never_waits.proofs.HearsForms.{lifted_hears, gated_hears, joined_hears, family_hears}
+use Rattle.never_waits.proofs.HearsStates.{states_hears}
+use Rattle.never_waits.proofs.hears_first.forms_law.Goals as goal
 
 pub returns-clause-lifted : goal.returns-clause-lifted
 returns-clause-lifted g c = λ x read write spells hears. lifted_hears x read write spells hears

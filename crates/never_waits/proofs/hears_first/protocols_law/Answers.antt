@@ -1,5 +1,5 @@
-use Rattle.hears_first.proofs.Protocols.{coe_hears, foe_hears, soe_hears, eoe_hears}
-use Rattle.hears_first.proofs.protocols_law.Goals as goal
+use Rattle.never_waits.proofs.HearsProtocols.{coe_hears, foe_hears, soe_hears, eoe_hears}
+use Rattle.never_waits.proofs.hears_first.protocols_law.Goals as goal
 
 pub returns-clause-objects : goal.returns-clause-objects
 returns-clause-objects g c = λ o eoe areas law sized. coe_hears o law eoe areas sized

@@ -8,7 +8,7 @@ use Rattle.segment_model.specs.Seats.{Side, is_over, is_none_left, side_back, si
 use Rattle.segment_model.specs.Slaves.{Datagram}
 use Rattle.state_exchange.specs.Stated.{Service}
 use Rattle.task_model.specs.Accounts.{Account, Duty, account_begins, is_free, is_acknowledged, mails_begin, starts, state_begins}
-use Rattle.answered_rows.specs.Moments.{IsFree, HeldStill, NowAnswered}
+use Rattle.never_waits.specs.Moments.{IsFree, HeldStill, NowAnswered}
 
 and_parts : (a b : Bool) → (a && b) ≡ true → (a ≡ true) × (b ≡ true)
 and_parts true b e = (refl, e)

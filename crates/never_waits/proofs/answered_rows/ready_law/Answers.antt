@@ -1,5 +1,5 @@
-use Rattle.answered_rows.proofs.Laws.{before, begun, state}
-use Rattle.answered_rows.proofs.ready_law.Goals as goal
+use Rattle.never_waits.proofs.Laws.{before, begun, state}
+use Rattle.never_waits.proofs.answered_rows.ready_law.Goals as goal
 
 pub returns-clause-before : goal.returns-clause-before
 returns-clause-before g c = λ x s processor table spot e opened last fs v r slave law stated is. before x s processor table spot e opened last fs v r slave law stated is

@@ -30,9 +30,9 @@ use Rattle.eoe_model.specs.Mails as EoeMails
 use Rattle.eoe_model.specs.Model.{eoe_exchange}
 use Rattle.eoe_model.specs.Network.{Network, IsSound}
 use Rattle.eoe_model.proofs.EoeLaw as EoeLaw
-use Rattle.hears_first.specs.Hears.{HearsFirst}
+use Rattle.never_waits.specs.Hears.{HearsFirst}
 use Rattle.never_waits.proofs.Protocols.{planned_more, fewer_than}
-use Rattle.hears_first.proofs.Dialogues.{drop_none, at_last, not_none, hears}
+use Rattle.never_waits.proofs.HearsDialogues.{drop_none, at_last, not_none, hears}
 
 -- SoE and EoE: nothing comes before the last mail, and none is told behind it
 module _ {S : Type 0} (o : Elements.Elements S) (law : Elements.AreLawful o) (areas : Areas) (sized : AreMailboxes areas) where

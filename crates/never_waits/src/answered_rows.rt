@@ -1,8 +1,7 @@
 //! The newest service of an open slave: when it is over, and that it isn't over sooner than its mails were taken. Definitions and laws, no running code: the
 //! functions here do nothing, and their contracts state the laws.
-#![tactic(auto)]
 
-ghost use Rattle.answered_rows.specs.Answered.{AnsweredIsTold, NothingIsFree, NothingUnheard, NothingFrees, BegunIsHeld, StateWasFree};
+ghost use Rattle.never_waits.specs.Answered.{AnsweredIsTold, NothingIsFree, NothingUnheard, NothingFrees, BegunIsHeld, StateWasFree};
 
 /// A SERVICE BY MAILS THAT HAS ITS ANSWER, but for one that ends with an acknowledgement, was told whole, and each of its mails was sent.
 pub fn answered_law<V, A, M, Q, R>()

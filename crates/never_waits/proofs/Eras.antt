@@ -16,7 +16,7 @@ use Rattle.task_model.proofs.Walks.{EachOne}
 use Rattle.task_model.specs.Accounts.{Account}
 use Rattle.task_model.specs.Promise.{EachTask}
 use Rattle.task_model.specs.Tasks.{TaskSession, TaskTurn, IsTasked, IsTaskPlan, MayRun, happens, mails_turn, run, new_tasks}
-use Rattle.answered_rows.proofs.Unsent.{One, Unsent, turn_one}
+use Rattle.never_waits.proofs.Unsent.{One, Unsent, turn_one}
 
 module _ {V A M Q R : Type 0} (x : Exchange V A M Q R) (law : IsLawful x) (s : Stated V A Q) (stated : IsStated x s) (processor : Processor V) (table : ℕ → Table) where
   abbrev more : M → Bool

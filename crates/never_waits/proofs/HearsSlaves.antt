@@ -17,9 +17,9 @@ use Rattle.slave_model.proofs.Sides.{told_spells, sized, coe_spelled, foe_spelle
 use Rattle.slave_model.proofs.Joint.{side_of}
 use Rattle.slave_model.proofs.Own.{are_own}
 use Rattle.slave_model.proofs.ProductLaw.{refusals, one_client}
-use Rattle.hears_first.specs.Hears.{HearsFirst}
-use Rattle.hears_first.proofs.Forms.{lifted_hears, gated_hears, joined_hears, family_hears}
-use Rattle.hears_first.proofs.Protocols.{coe_hears, foe_hears, soe_hears, eoe_hears}
+use Rattle.never_waits.specs.Hears.{HearsFirst}
+use Rattle.never_waits.proofs.HearsForms.{lifted_hears, gated_hears, joined_hears, family_hears}
+use Rattle.never_waits.proofs.HearsProtocols.{coe_hears, foe_hears, soe_hears, eoe_hears}
 
 module _ {T F I : Type 0} (o : Parts T F I) (law : ArePartsLawful o) (p : Profile) (is : IsProfile p) (al : ℕ) where
   served_hears : (i : Protocol) → HearsFirst (served o p al i)

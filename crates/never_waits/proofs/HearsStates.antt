@@ -6,8 +6,8 @@ use Rattle.exchange_model.proofs.Lists.{append_none}
 use Rattle.state_exchange.specs.of_state_model.States.{Table}
 use Rattle.state_exchange.specs.Stated.{Stated, Act, Service, Counting, acts, mails, all_mails, planned_by, with_states}
 use Rattle.state_exchange.proofs.Acts.{acts_drop, acts_length, all_acts, front_acts, rest_acts, cut_mails, plain_given_acts}
-use Rattle.hears_first.specs.Hears.{HearsFirst}
-use Rattle.hears_first.proofs.Dialogues.{not_none}
+use Rattle.never_waits.specs.Hears.{HearsFirst}
+use Rattle.never_waits.proofs.HearsDialogues.{not_none}
 
 no_word : {X M : Type 0} (ms : List M) (target : ℕ) (more : List (Act M)) → acts ms ≡ Act.Word target ∷ more → X
 no_word [] target more e = absurd (cc)

@@ -13,10 +13,10 @@ use Rattle.segment_model.specs.Slaves.{Datagram, Processor, Registers, Slave}
 use Rattle.state_exchange.specs.Stated.{Stated, IsStated, Service}
 use Rattle.state_model.specs.States.{Table}
 use Rattle.task_model.specs.Accounts.{Account, Pick, account_begins, mails_begin, starts}
-use Rattle.answered_rows.specs.Moments.{IsFree, HasNothing, HeldStill, IsMailsLast, NowAnswered, NoneLeft, WasHeard}
-use Rattle.answered_rows.proofs.Eras.{of_era}
-use Rattle.answered_rows.proofs.Ready.{ready, begun_none, state_free}
-use Rattle.answered_rows.proofs.Seats.{answered_known, free, heard_whole}
+use Rattle.never_waits.specs.Moments.{IsFree, HasNothing, HeldStill, IsMailsLast, NowAnswered, NoneLeft, WasHeard}
+use Rattle.never_waits.proofs.Eras.{of_era}
+use Rattle.never_waits.proofs.Ready.{ready, begun_none, state_free}
+use Rattle.never_waits.proofs.Seats.{answered_known, free, heard_whole}
 
 module _ {V A M Q R : Type 0} (x : Exchange V A M Q R) (s : Stated V A Q) (processor : Processor V) (table : ℕ → Table) (spot : Spot) (e : Era M Q R) (opened last : ℕ) (fs : List (Frame M)) (v : V) (r : Registers) (slave : Slave V M)
     (law : IsLawful x) (stated : IsStated x s) (is : EraIs x s processor table spot e opened last fs v r slave) where

@@ -1,6 +1,5 @@
 //! Clients that hear first: while a reply to what they told isn't heard yet, they have no further mail to tell. No running code: the functions here do nothing,
 //! and their contracts state the laws.
-#![tactic(auto)]
 
 ghost use Rattle.std.specs.Prelude.{ℕ, Bool};
 ghost use Rattle.exchange_model.specs.Areas.{Areas, AreMailboxes};
@@ -22,7 +21,7 @@ ghost use Rattle.eoe_model.specs.Model.{eoe_exchange};
 ghost use Rattle.slave_model.specs.Profile.{Profile, IsProfile};
 ghost use Rattle.slave_model.specs.Application.{Parts, ArePartsLawful};
 ghost use Rattle.slave_model.specs.Product.{product};
-ghost use Rattle.hears_first.specs.Hears.{HearsFirst};
+ghost use Rattle.never_waits.specs.Hears.{HearsFirst};
 
 /// So it is of each protocol's client: of SDO and of files each mail but an acknowledgement has its answer before the next is told, and elements, packets and
 /// address blocks are answered for their last mail alone.

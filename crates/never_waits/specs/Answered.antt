@@ -11,7 +11,7 @@ use Rattle.segment_model.specs.Slaves.{Datagram, Processor, Registers, Slave}
 use Rattle.state_exchange.specs.Stated.{Stated, IsStated, Service}
 use Rattle.state_model.specs.States.{Table}
 use Rattle.task_model.specs.Accounts.{Pick, starts}
-use Rattle.answered_rows.specs.Moments.{IsFree, IsMailsLast, HasNothing, HeldStill, NowAnswered, WasHeard}
+use Rattle.never_waits.specs.Moments.{IsFree, IsMailsLast, HasNothing, HeldStill, NowAnswered, WasHeard}
 
 -- the newest service has its answer, and ends with no acknowledgement: it was told whole, and each of its mails was sent
 abbrev pub ToldWhole : {V A M Q R : Type 0} → Exchange V A M Q R → Stated V A Q → Era M Q R → Type 0
