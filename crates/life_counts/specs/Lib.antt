@@ -1,1 +1,4 @@
 pub mod Begun
+pub mod Seen
+pub mod Served
+pub mod Worked

@@ -2,22 +2,25 @@
 //! do nothing, and their contracts state the laws.
 #![tactic(auto)]
 
-ghost use Rattle.std.specs.Prelude.{◌≡◌, ◌≤◌, ◌+◌, ℕ, Bool, Option, List};
 ghost use Rattle.exchange_model.specs.Exchange.{Speech};
+ghost use Rattle.few_replies.specs.RowCounts.{AreCounted};
+ghost use Rattle.life_counts.specs.Begun.{begun_most, life_most, KeepsShape, AreUnopened};
 ghost use Rattle.life_measure.specs.Gains.{era_gains, gains};
 ghost use Rattle.life_model.specs.Eras.{Clearing, OpenEra};
 ghost use Rattle.life_model.specs.Lives.{Spot, Life, new_life, life_next, life_back, life_lost, gives_up};
 ghost use Rattle.link_mails.specs.Body.{Body};
-ghost use Rattle.few_replies.specs.RowCounts.{AreCounted};
 ghost use Rattle.segment_model.specs.Record.{Frame, News};
 ghost use Rattle.segment_model.specs.Slaves.{Datagram, Found};
 ghost use Rattle.slave_lives.specs.Lived.{Behind};
 ghost use Rattle.slave_lives.specs.Opening.{Plan};
 ghost use Rattle.slave_steps.specs.Node.{Node};
+ghost use Rattle.std.specs.Prelude.{◌≡◌, ◌≤◌, ◌+◌, ℕ, Bool, Option, List};
 ghost use Rattle.task_model.specs.Accounts.{Pick};
 ghost use Rattle.task_model.specs.Promise.{services_in};
 ghost use Rattle.whole_lives.specs.Whole.{OwesLaws, IsLived};
-ghost use Rattle.life_counts.specs.Begun.{begun_most, life_most, KeepsShape, AreUnopened};
+
+pub mod served_gains;
+pub mod tagged_lives;
 
 /// WHAT AN EPOCH HAS GAINED, in mails and in steps of state services, is no more than what its services count: each by mails what it takes at most, a
 /// state service six.

@@ -12,7 +12,7 @@ use Rattle.slave_model.specs.Server.{ServiceOf}
 use Rattle.slave_parts.specs.Parts.{Server, parts}
 use Rattle.slave_served.specs.Served.{product_whole}
 use Rattle.state_exchange.specs.Families.{InState}
-use Rattle.tagged_lives.specs.Worked.{KeepsAll}
+use Rattle.life_counts.specs.Worked.{KeepsAll}
 use Rattle.few_replies.proofs.Shaped.{mail_stays, exec_stays}
 use Rattle.run_work.specs.Sessions.{Wanted, InRow, session, session_states, named, named_mail, named_wanted}
 

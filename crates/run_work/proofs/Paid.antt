@@ -23,9 +23,9 @@ use Rattle.slave_served.specs.Served.{product_whole}
 use Rattle.slave_server.specs.Spec.{profile_of}
 use Rattle.state_exchange.specs.Families.{InState, states_of}
 use Rattle.state_exchange.specs.Stated.{IsStated}
-use Rattle.tagged_lives.proofs.Seen.{gains_seen, unopened_seen, most_seen}
-use Rattle.tagged_lives.proofs.Stated.{calm_stated}
-use Rattle.tagged_lives.proofs.Worked.{worked_gains}
+use Rattle.life_counts.proofs.Seen.{gains_seen, unopened_seen, most_seen}
+use Rattle.life_counts.proofs.Stated.{calm_stated}
+use Rattle.life_counts.proofs.Worked.{worked_gains}
 use Rattle.run_work.specs.Lives.{IsServedLife, AllServedLives}
 use Rattle.run_work.specs.Sessions.{session, session_states, named_wanted}
 use Rattle.run_work.proofs.Kept.{counts, keeps_all, wanted_most}

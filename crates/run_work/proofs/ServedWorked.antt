@@ -23,7 +23,7 @@ use Rattle.segment_plan.specs.Sound.{IsSlave, IsService, IsAddressed}
 use Rattle.segment_plan.specs.declared.plan.Scenario.{Scenario}
 use Rattle.segment_plan.specs.declared.service.Service as Plan
 use Rattle.segment_plan.specs.declared.slave.SlaveSpec.{SlaveSpec}
-use Rattle.served_gains.specs.Served.{served_gains}
+use Rattle.life_counts.specs.Served.{served_gains}
 use Rattle.served_runs.specs.Came.{HasServed}
 use Rattle.served_runs.specs.Served.{Serves}
 use Rattle.run_work.specs.ServedGained.{serving_most, AllPaid, served_in, asked_in, leads_of}

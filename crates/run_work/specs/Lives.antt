@@ -15,8 +15,8 @@ use Rattle.slave_parts.specs.Parts.{Server}
 use Rattle.slave_server.specs.Spec.{profile_of, server_of}
 use Rattle.state_exchange.specs.Families.{InState}
 use Rattle.state_model.specs.States.{Table}
-use Rattle.tagged_lives.specs.Seen.{life_seen}
-use Rattle.tagged_lives.specs.Worked.{IsWorked}
+use Rattle.life_counts.specs.Seen.{life_seen}
+use Rattle.life_counts.specs.Worked.{IsWorked}
 use Rattle.run_work.specs.Sessions.{Meant, Wanted, InRow, session, session_states, named_wanted}
 
 -- IT IS WORKED by a slave of this profile, from these parts and transfers on: each epoch is a session of services and fair mails; a return to Init leaves the

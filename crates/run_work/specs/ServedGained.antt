@@ -6,7 +6,7 @@ use Rattle.life_runs.specs.Led.{Leads}
 use Rattle.master_hand.specs.Spoken.{Asked, is_passed}
 use Rattle.plan_counts.specs.Asked.{asked_most}
 use Rattle.segment_plan.specs.declared.slave.SlaveSpec.{SlaveSpec}
-use Rattle.served_gains.specs.Served.{served_gains}
+use Rattle.life_counts.specs.Served.{served_gains}
 use Rattle.served_runs.specs.Served.{Serves}
 use Rattle.few_replies.specs.Shapes.{Shape, shape_of}
 use Rattle.slave_model.specs.Profile.{Profile}

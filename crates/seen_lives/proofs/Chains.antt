@@ -11,7 +11,7 @@ use Rattle.serving_model.specs.Tagged.{Tagged, Asked, Rowed, real, ideal}
 use Rattle.state_model.specs.States.{Table}
 use Rattle.task_model.specs.Tasks.{IsTaskPlan}
 use Rattle.tagged_epochs.specs.Epochs.{Speaker, AllFair, IsSeen, between, seeing, seeing_states, era_named}
-use Rattle.tagged_lives.specs.Worked.{AllWorked, IsNewest}
+use Rattle.life_counts.specs.Worked.{AllWorked, IsNewest}
 use Rattle.seen_lives.specs.Led.{ErasFair, IsFairLife, IsSeenLife, WasLed, AllLed, IsNewestLed, IsLedLife}
 
 module _ {V M Q R C T A : Type 0} (w : Speaker V M Q R C T) (seer : Processor (Rowed V M Q)) (table : ℕ → Table) (spot : Spot) (u : Exchange V A M T (Option R)) (processor : Processor V) (clear : V → V) where

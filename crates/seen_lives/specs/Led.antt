@@ -10,8 +10,8 @@ use Rattle.segment_model.specs.Slaves.{Registers, Processor, Slave}
 use Rattle.serving_model.specs.Tagged.{Tagged, Asked, Rowed}
 use Rattle.state_model.specs.States.{Table}
 use Rattle.tagged_epochs.specs.Epochs.{Speaker, AllFair, between, seeing, seeing_states}
-use Rattle.tagged_lives.specs.Seen.{life_seen}
-use Rattle.tagged_lives.specs.Worked.{IsWorked}
+use Rattle.life_counts.specs.Seen.{life_seen}
+use Rattle.life_counts.specs.Worked.{IsWorked}
 use Rattle.task_model.specs.Tasks.{IsTaskPlan}
 
 module _ {V M Q R C T : Type 0} (w : Speaker V M Q R C T) where

@@ -19,7 +19,7 @@ ghost use Rattle.segment_model.specs.Slaves.{Processor, Registers, Slave};
 ghost use Rattle.spent_rows.specs.Last.{LastPasses};
 ghost use Rattle.state_exchange.specs.Stated.{Stated, IsStated};
 ghost use Rattle.state_model.specs.States.{Table};
-ghost use Rattle.tagged_lives.specs.Seen.{era_seen};
+ghost use Rattle.life_counts.specs.Seen.{era_seen};
 
 /// WHERE NOTHING IS LEFT of a slave as another sees it, its newest service is over for the other.
 pub fn free_seen<N, M, P, Q, S, R, V, A, W>()

@@ -20,7 +20,7 @@ use Rattle.state_model.specs.Promises.{state_behind}
 use Rattle.state_model.specs.States.{Table}
 use Rattle.task_model.specs.Promise.{services_in}
 use Rattle.task_model.specs.Accounts.{Account, Duty, Pick, Started, is_free, is_acknowledged, account_begins, state_begins, starts, mails_begin}
-use Rattle.tagged_lives.specs.Seen.{service_seen, account_seen, era_seen, started_seen}
+use Rattle.life_counts.specs.Seen.{service_seen, account_seen, era_seen, started_seen}
 use Rattle.tagged_epochs.specs.Foreseen.{AllRight, server_behind}
 use Rattle.tagged_epochs.specs.Spoken.{Naming, IsScript, IsPassed, IsNamed, Speaks}
 use Rattle.tagged_epochs.proofs.Clients.{IsKnown, HasEnded, hands, plans, overs}

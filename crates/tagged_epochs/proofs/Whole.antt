@@ -14,7 +14,7 @@ use Rattle.serving_model.specs.Tagged.{Rowed}
 use Rattle.serving_model.proofs.StatesLaw.{tagged_stated}
 use Rattle.state_exchange.specs.Stated.{IsStated}
 use Rattle.state_model.specs.States.{Table}
-use Rattle.tagged_lives.proofs.Stated.{calm_stated}
+use Rattle.life_counts.proofs.Stated.{calm_stated}
 use Rattle.task_model.specs.Tasks.{IsTaskPlan}
 use Rattle.tagged_epochs.specs.Epochs.{Speaker, IsSpeaker, IsRun, IsSeen, AllFair, between, seeing, seeing_states}
 use Rattle.tagged_epochs.proofs.Sessions.{seen_so}

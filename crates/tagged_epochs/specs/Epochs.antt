@@ -16,7 +16,7 @@ use Rattle.serving_model.specs.Tagged.{IsServed, Tagged, Asked, Rowed, real}
 use Rattle.serving_model.specs.TaggedStates.{IsStatedServed, tagged_states}
 use Rattle.state_exchange.specs.Stated.{Stated, Service}
 use Rattle.state_model.specs.States.{Table, carry}
-use Rattle.tagged_lives.specs.Seen.{era_seen}
+use Rattle.life_counts.specs.Seen.{era_seen}
 use Rattle.task_model.specs.Accounts.{Started}
 use Rattle.task_model.specs.Promise.{services_in}
 use Rattle.tagged_epochs.specs.Foreseen.{AllRight}

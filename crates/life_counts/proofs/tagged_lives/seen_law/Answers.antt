@@ -1,5 +1,5 @@
-use Rattle.tagged_lives.proofs.Seen.{gains_seen, unopened_seen, most_seen}
-use Rattle.tagged_lives.proofs.seen_law.Goals as goal
+use Rattle.life_counts.proofs.Seen.{gains_seen, unopened_seen, most_seen}
+use Rattle.life_counts.proofs.tagged_lives.seen_law.Goals as goal
 
 pub returns : goal.returns
 returns g c = record {

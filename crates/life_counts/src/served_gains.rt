@@ -1,6 +1,5 @@
 //! What a life of a serving has gained, and how much that is at most. Definitions and a law, no running code: the function here does nothing, and its
 //! contract states the law.
-#![tactic(auto)]
 
 ghost use Rattle.std.specs.Prelude.{◌≡◌, ◌≤◌, ◌+◌, ℕ, suc, Bool, Option, List};
 ghost use Rattle.exchange_model.specs.Exchange.{Speech};
@@ -11,7 +10,7 @@ ghost use Rattle.passed_whole.specs.Steps.{steps_left, IsUnderWay};
 ghost use Rattle.segment_model.specs.Record.{News};
 ghost use Rattle.segment_model.specs.Slaves.{Datagram, Found};
 ghost use Rattle.task_model.specs.Accounts.{Pick};
-ghost use Rattle.served_gains.specs.Served.{served_gains, served_most};
+ghost use Rattle.life_counts.specs.Served.{served_gains, served_most};
 
 /// WHAT A LIFE OF A SERVING HAS GAINED NEVER FALLS: a service or a mail that comes into hand and a give-up leave it, and a frame adds to it what its mails
 /// and state services gain, and what the mail that is passed on comes on. It is no more than services and mails count, with four steps of each mail.

@@ -1,6 +1,5 @@
 //! What a life has gained in which mails are passed on beside services, by a session that sees what is meant by its mails. Definitions and laws, no
 //! running code: the functions here do nothing, and their contracts state the laws.
-#![tactic(auto)]
 
 ghost use Rattle.std.specs.Prelude.{◌≡◌, ◌≤◌, ◌+◌, ℕ, Bool};
 ghost use Rattle.exchange_model.specs.Exchange.{Exchange, IsLawful};
@@ -14,8 +13,8 @@ ghost use Rattle.serving_model.specs.Tagged.{tagged};
 ghost use Rattle.serving_model.specs.TaggedStates.{tagged_states};
 ghost use Rattle.state_exchange.specs.Stated.{Stated, IsStated};
 ghost use Rattle.state_model.specs.States.{Table};
-ghost use Rattle.tagged_lives.specs.Worked.{KeepsAll, IsWorked};
-ghost use Rattle.tagged_lives.specs.Seen.{life_seen};
+ghost use Rattle.life_counts.specs.Worked.{KeepsAll, IsWorked};
+ghost use Rattle.life_counts.specs.Seen.{life_seen};
 
 /// WHAT A LIFE HAS GAINED whose epochs are sessions of an exchange is no more than what the services count that came into hand in all of them: whatever
 /// its mails are, so also where it is seen what is meant by each.

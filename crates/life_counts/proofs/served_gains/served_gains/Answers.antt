@@ -1,6 +1,6 @@
 use Rattle.std.proofs.Common.{refl}
-use Rattle.served_gains.proofs.Sums.{before, grows, lost, most, by_mails, by_news}
-use Rattle.served_gains.proofs.served_gains.Goals as goal
+use Rattle.life_counts.proofs.Sums.{before, grows, lost, most, by_mails, by_news}
+use Rattle.life_counts.proofs.served_gains.served_gains.Goals as goal
 
 pub returns : goal.returns
 returns g c = record {

@@ -13,7 +13,7 @@ use Rattle.state_exchange.specs.Stated.{Service}
 use Rattle.task_model.specs.Accounts.{Started, Change}
 use Rattle.task_model.specs.Promise.{services_in}
 use Rattle.passed_whole.specs.Erased.{row_seen}
-use Rattle.tagged_lives.specs.Seen.{service_seen, started_seen, change_seen, era_seen, life_seen}
+use Rattle.life_counts.specs.Seen.{service_seen, started_seen, change_seen, era_seen, life_seen}
 
 module _ {N M P Q S R : Type 0} (f : N → M) (g : P → Q) (h : S → R) where
   one_row : (r : Row N P S) → row_gains (row_seen f g h r) ≡ row_gains r

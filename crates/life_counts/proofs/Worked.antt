@@ -13,7 +13,7 @@ use Rattle.segment_model.specs.Slaves.{Processor}
 use Rattle.state_exchange.specs.Stated.{Stated, IsStated, Service, with_states}
 use Rattle.state_model.specs.States.{Table}
 use Rattle.task_model.specs.Promise.{services_in}
-use Rattle.tagged_lives.specs.Worked.{KeepsAll, AllWorked, IsNewest, IsWorked}
+use Rattle.life_counts.specs.Worked.{KeepsAll, AllWorked, IsNewest, IsWorked}
 
 idle_one : {M : Type 0} (holding : Option (LinkMail M)) → idle_gains holding ≤ 1
 idle_one None = omega arith

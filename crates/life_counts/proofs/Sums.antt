@@ -10,7 +10,7 @@ use Rattle.passed_whole.proofs.PassingSteps as Steps
 use Rattle.segment_model.specs.Record.{News}
 use Rattle.segment_model.specs.Slaves.{Datagram, Found}
 use Rattle.task_model.specs.Accounts.{Pick}
-use Rattle.served_gains.specs.Served.{served_gains, served_most}
+use Rattle.life_counts.specs.Served.{served_gains, served_most}
 
 module _ {M Q R : Type 0} (x : Speech M Q R) (acknowledged : Q → Bool) (more : M → Bool) (passed : Q → Bool) where
   pub before : (frame : ℕ) (l : Life M Q R) (pick : Pick Q) → served_gains passed (life_next x acknowledged more passed frame l l.stand pick) ≡ served_gains passed l
