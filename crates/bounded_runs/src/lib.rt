@@ -6,7 +6,7 @@ ghost use Rattle.link_mails.specs.Body.{Body};
 ghost use Rattle.master_duty.specs.Reply.{Reply};
 ghost use Rattle.master_hand.specs.Spoken.{Asked};
 ghost use Rattle.plan_ring.specs.Lives.{IsKnown};
-ghost use Rattle.plan_rooms.specs.Rooms.{HasRoom};
+ghost use Rattle.plan_ring.specs.PlanRooms.{HasRoom};
 ghost use Rattle.run_book.specs.declared.book.Book.{Book};
 ghost use Rattle.run_book.specs.declared.book.Ending.{Ending};
 ghost use Rattle.run_book.specs.declared.book.Ending.TheVariants as endings;

@@ -11,7 +11,7 @@ use Rattle.plan_ring.specs.Plan.{PlanMember}
 use Rattle.segment_plan.specs.declared.plan.Scenario.{Scenario}
 use Rattle.segment_plan.specs.declared.service.Service as Plan
 use Rattle.segment_plan.specs.declared.slave.SlaveSpec.{SlaveSpec}
-use Rattle.plan_rooms.specs.Rooms.{MayBegin}
+use Rattle.plan_ring.specs.PlanRooms.{MayBegin}
 
 -- a slave's services, with the room of its mailbox 0
 abbrev pub MayAll : (ℕ → Lens) → Leads → Type 0

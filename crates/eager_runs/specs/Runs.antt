@@ -13,7 +13,7 @@ use Rattle.master_node.specs.Forwards.{port_by, waiting_by}
 use Rattle.master_node.specs.Ports.{ports_behind, ports_of}
 use Rattle.master_side.specs.Recall.{Recall}
 use Rattle.plan_ring.specs.Round.{ring_of, AllRound}
-use Rattle.plan_rooms.specs.Rooms.{MayBegin}
+use Rattle.plan_ring.specs.PlanRooms.{MayBegin}
 use Rattle.run_frames.specs.Clocks.{Clocked}
 use Rattle.run_frames.specs.Fates.{lost_of}
 use Rattle.run_frames.specs.Runs.{Progress}

@@ -11,7 +11,7 @@ ghost use Rattle.master_node.specs.Happened.{arrivals_at};
 ghost use Rattle.master_node.specs.of_master_tour.Toured.{Tour};
 ghost use Rattle.plan_ring.specs.Lives.{IsKnown};
 ghost use Rattle.plan_ring.specs.Round.{ring_of, AllRound};
-ghost use Rattle.plan_rooms.specs.Rooms.{HasRoom};
+ghost use Rattle.plan_ring.specs.PlanRooms.{HasRoom};
 ghost use Rattle.packets_heard.specs.Recalled.{State, RecalledIn};
 ghost use Rattle.segment_plan.specs.Sound.{IsPlan};
 ghost use Rattle.segment_plan.specs.declared.plan.Scenario.{Scenario};
@@ -28,7 +28,7 @@ pub fn eager_run_law()
     plan_ring::run_lives_law();
     plan_met::plan_met_law();
     plan_dues::plan_due_law();
-    plan_rooms::room_law();
+    plan_ring::room_law();
     idle_slaves::entered_law();
     idle_slaves::wait_runs_law();
 }

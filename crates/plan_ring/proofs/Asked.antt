@@ -18,7 +18,7 @@ use Rattle.slave_parts.specs.Parts.{Core, Server, parts}
 use Rattle.named_lives.specs.Named.{Agrees, AgreesLast}
 use Rattle.book_lives.specs.of_book_model.Chain.{Same}
 use Rattle.book_lives.specs.First.{Forgets}
-use Rattle.server_lives.specs.Real.{real_clearing}
+use Rattle.plan_ring.specs.Real.{real_clearing}
 use Rattle.named_lives.specs.Alike.{Alike}
 use Rattle.plan_ring.specs.Asked.{is_service, service_of, as_asked, asked}
 

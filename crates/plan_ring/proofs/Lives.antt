@@ -23,7 +23,7 @@ use Rattle.life_runs.specs.of_segment_ring.declared.wire.Fate.{Fate}
 use Rattle.life_runs.specs.of_segment_ring.Ring.{RingState}
 use Rattle.life_runs.specs.of_segment_ring.Schedule.{fate_at}
 use Rattle.book_lives.specs.of_slave_lives.Rings.{fate_seen}
-use Rattle.server_lives.specs.of_slave_server.Serving.{Serving}
+use Rattle.slave_server.specs.Serving.{Serving}
 use Rattle.book_lives.specs.of_slave_steps.Node.{Node, node_passed}
 use Rattle.whole_ring.specs.Members.{IsRing, first_ring}
 use Rattle.whole_ring.specs.Turning.{frame_at}

@@ -16,7 +16,7 @@ use Rattle.life_runs.specs.of_segment_ring.declared.wire.Fate.{Fate}
 use Rattle.life_runs.specs.of_segment_ring.declared.wire.Fate.TheVariants.{Pass, Lost}
 use Rattle.life_runs.specs.of_segment_ring.Ring.{RingState, ring_behind}
 use Rattle.life_runs.specs.of_segment_ring.Schedule.{fate_at}
-use Rattle.server_lives.specs.of_slave_server.Serving.{Serving}
+use Rattle.slave_server.specs.Serving.{Serving}
 use Rattle.book_lives.specs.of_slave_steps.Node.{Node, node_passed}
 use Rattle.life_runs.specs.of_master_duty.Reply as Master
 use Rattle.life_runs.specs.of_master_hand.Spoken.{Asked, acknowledged}
@@ -34,7 +34,7 @@ use Rattle.whole_ring.proofs.Turning.{next_stand}
 use Rattle.plan_ring.specs.Asked.{is_service, asked}
 use Rattle.plan_ring.specs.Plan.{PlanMember, FitsPlan, AllMacs, step, new_members}
 use Rattle.plan_ring.proofs.Asked.{alike, forgets_as}
-use Rattle.server_lives.specs.of_slave_server.Spec.{profile_of}
+use Rattle.slave_server.specs.Spec.{profile_of}
 use Rattle.plan_ring.specs.Master.{speech_of, lived_of, IsLed, AllLed, Under, IsUnder, AllUnder, IsSame, AllSame, AllBehind, OnAs, GoesOn}
 
 module _ (more : Body → Bool) (passed : Asked → Bool) (lens : ℕ → Lens) (made : ℕ) (ds : List Raw.Datagram) where

@@ -27,7 +27,7 @@ use Rattle.life_runs.specs.of_segment_ring.declared.wire.Fate.{Fate}
 use Rattle.life_runs.specs.of_segment_ring.declared.wire.Fate.TheVariants.{Pass, Lost}
 use Rattle.life_runs.specs.of_segment_ring.Ring.{RingState, ring_returned}
 use Rattle.life_runs.specs.of_segment_ring.Schedule.{fate_at}
-use Rattle.server_lives.specs.of_slave_server.Serving.{Serving}
+use Rattle.slave_server.specs.Serving.{Serving}
 use Rattle.book_lives.specs.of_slave_steps.Node.{Node, node_passed}
 use Rattle.slave_parts.specs.of_state_exchange.Stated.{Service}
 use Rattle.whole_ring.specs.Members.{MemberIs, AllLived}

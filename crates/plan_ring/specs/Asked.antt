@@ -14,8 +14,8 @@ use Rattle.slave_parts.specs.of_slave_model.Product.{product}
 use Rattle.slave_parts.specs.of_slave_model.Profile.{Protocol, Profile, areas_of}
 use Rattle.slave_parts.specs.of_slave_model.Server.{ServiceOf, Reply}
 use Rattle.slave_parts.specs.Parts.{Core, Server, parts}
-use Rattle.server_lives.specs.of_slave_server.Serving.{Serving}
-use Rattle.server_lives.specs.Real.{real}
+use Rattle.slave_server.specs.Serving.{Serving}
+use Rattle.plan_ring.specs.Real.{real}
 
 -- a service of one of the slave's protocols; a mail that is passed on is none
 abbrev pub is_service : Asked → Bool

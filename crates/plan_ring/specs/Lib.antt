@@ -1,12 +1,15 @@
 pub use Rattle.book_lives.specs as of_book_lives
 pub use Rattle.named_lives.specs as of_named_lives
-pub use Rattle.server_lives.specs as of_server_lives
+pub use Rattle.plan_ring.specs.of_slave_server as of_slave_server
 pub use Rattle.slave_parts.specs as of_slave_parts
-pub use Rattle.server_lives.specs.of_slave_server as of_slave_server
+pub use Rattle.slave_server.specs as of_slave_server
 pub use Rattle.whole_ring.specs as of_whole_ring
 pub mod Asked
-pub mod Plan
-pub mod Master
 pub mod First
-pub mod Round
 pub mod Lives
+pub mod Master
+pub mod Plan
+pub mod PlanRooms
+pub mod Real
+pub mod Rooms
+pub mod Round

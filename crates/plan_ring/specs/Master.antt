@@ -10,7 +10,7 @@ use Rattle.life_runs.specs.of_segment_ring.declared.wire.Fate.{Fate}
 use Rattle.life_runs.specs.of_segment_ring.declared.wire.Fate.TheVariants.{Pass, Lost}
 use Rattle.life_runs.specs.of_segment_ring.Ring.{RingState, ring_behind}
 use Rattle.life_runs.specs.of_segment_ring.Schedule.{fate_at}
-use Rattle.server_lives.specs.of_slave_server.Serving.{Serving}
+use Rattle.slave_server.specs.Serving.{Serving}
 use Rattle.book_lives.specs.of_slave_steps.Node.{Node, node_passed}
 use Rattle.life_runs.specs.of_master_duty.Reply as Master
 use Rattle.life_runs.specs.of_master_hand.Spoken.{Asked, hand_speech, acknowledged}

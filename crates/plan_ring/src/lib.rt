@@ -2,42 +2,45 @@
 //! of its slaves. No running code: each function here does nothing, and its contract states a law.
 #![tactic(auto)]
 
-ghost use Rattle.std.specs.Prelude.{◌≡◌, ◌<◌, ◌∷◌, ◌++◌, ℕ, suc, Bool, List, [], map, length};
+ghost use Rattle.book_lives.specs.First.{FirstBook};
+ghost use Rattle.book_lives.specs.Rows.{IsFirst};
+ghost use Rattle.book_lives.specs.of_book_model.Script.{Addressed, AnyLive};
+ghost use Rattle.book_lives.specs.of_slave_lives.Opening as Opening;
+ghost use Rattle.book_lives.specs.of_slave_steps.Node.{Node, node_passed};
+ghost use Rattle.book_lives.specs.of_whole_lives.Whole.{OwesLaws};
+ghost use Rattle.life_runs.specs.First.{lens_of, first_leads};
+ghost use Rattle.life_runs.specs.Led.{Exchanged, Leads, IsLed};
 ghost use Rattle.life_runs.specs.of_datagrams.Datagram as Raw;
 ghost use Rattle.life_runs.specs.of_datagrams.Frame.{IsFrame, chained};
 ghost use Rattle.life_runs.specs.of_frame_view.View.{Lens};
 ghost use Rattle.life_runs.specs.of_link_mails.Body.{Body};
-ghost use Rattle.slave_parts.specs.of_segment_model.Record.{Frame};
-ghost use Rattle.life_runs.specs.of_segment_ring.declared.wire.Fate.{Fate};
-ghost use Rattle.life_runs.specs.of_segment_ring.Ring.{RingState, ring_behind};
-ghost use Rattle.life_runs.specs.of_segment_ring.Schedule.{fate_at};
-ghost use Rattle.book_lives.specs.of_slave_steps.Node.{Node, node_passed};
-ghost use Rattle.server_lives.specs.of_slave_server.Serving.{Serving};
-ghost use Rattle.server_lives.specs.of_slave_server.Spec.{node_of};
-ghost use Rattle.named_lives.specs.of_life_model.Lives.{Spot, Stand};
-ghost use Rattle.book_lives.specs.of_book_model.Script.{Addressed, AnyLive};
-ghost use Rattle.book_lives.specs.First.{FirstBook};
-ghost use Rattle.book_lives.specs.Rows.{IsFirst};
 ghost use Rattle.life_runs.specs.of_master_hand.Spoken.{Asked, hand_speech};
-ghost use Rattle.named_lives.specs.Alike.{Alike};
-ghost use Rattle.book_lives.specs.of_slave_lives.Opening as Opening;
-ghost use Rattle.slave_parts.specs.of_slave_model.Profile.{Profile, IsProfile, areas_of};
 ghost use Rattle.life_runs.specs.of_segment_plan.Sound as Plan;
+ghost use Rattle.life_runs.specs.of_segment_plan.Sound.{IsPlan};
 ghost use Rattle.life_runs.specs.of_segment_plan.declared.plan.Scenario.{Scenario};
 ghost use Rattle.life_runs.specs.of_segment_plan.declared.slave.SlaveSpec.{SlaveSpec};
-ghost use Rattle.server_lives.specs.Real.{real_clearing};
-ghost use Rattle.book_lives.specs.of_whole_lives.Whole.{OwesLaws};
+ghost use Rattle.life_runs.specs.of_segment_ring.Ring.{RingState, ring_behind};
+ghost use Rattle.life_runs.specs.of_segment_ring.Schedule.{fate_at};
+ghost use Rattle.life_runs.specs.of_segment_ring.declared.wire.Fate.{Fate};
+ghost use Rattle.named_lives.specs.Alike.{Alike};
+ghost use Rattle.named_lives.specs.of_life_model.Lives.{Spot, Stand};
+ghost use Rattle.plan_ring.specs.Asked.{is_service, asked};
+ghost use Rattle.plan_ring.specs.First.{AllFirst, AllStay, AllOpen, AllBooks, AllAtRest, runs_of, RunEnds};
+ghost use Rattle.plan_ring.specs.Lives.{IsKnown, AreLived};
+ghost use Rattle.plan_ring.specs.Master.{owed, Under, IsLed as IsLedMember, AllLed, AllUnder, AllBehind, GoesOn};
+ghost use Rattle.plan_ring.specs.Plan.{PlanMember, FitsPlan, AllMacs, lens_of, members_of, step};
+ghost use Rattle.plan_ring.specs.Real.{real_clearing};
+ghost use Rattle.plan_ring.specs.Round.{ring_of, AllRound};
+ghost use Rattle.slave_parts.specs.of_segment_model.Record.{Frame};
+ghost use Rattle.slave_parts.specs.of_slave_model.Profile.{Profile, IsProfile, areas_of};
+ghost use Rattle.slave_server.specs.Serving.{Serving};
+ghost use Rattle.slave_server.specs.Spec.{node_of};
+ghost use Rattle.std.specs.Prelude.{◌≡◌, ◌<◌, ◌∷◌, ◌++◌, ℕ, suc, Bool, List, [], map, length};
 ghost use Rattle.whole_ring.specs.Members.{MemberIs, IsRing, first_ring};
 ghost use Rattle.whole_ring.specs.Turning.{Turn, AllTurn, frame_at, behind_frame, given_up};
-ghost use Rattle.plan_ring.specs.Asked.{is_service, asked};
-ghost use Rattle.plan_ring.specs.Master.{owed, Under, IsLed as IsLedMember, AllLed, AllUnder, AllBehind, GoesOn};
-ghost use Rattle.plan_ring.specs.First.{AllFirst, AllStay, AllOpen, AllBooks, AllAtRest, runs_of, RunEnds};
-ghost use Rattle.plan_ring.specs.Plan.{PlanMember, FitsPlan, AllMacs, lens_of, members_of, step};
-ghost use Rattle.life_runs.specs.First.{lens_of, first_leads};
-ghost use Rattle.life_runs.specs.Led.{Exchanged, Leads, IsLed};
-ghost use Rattle.life_runs.specs.of_segment_plan.Sound.{IsPlan};
-ghost use Rattle.plan_ring.specs.Round.{ring_of, AllRound};
-ghost use Rattle.plan_ring.specs.Lives.{IsKnown, AreLived};
+
+pub mod plan_rooms;
+pub mod server_lives;
 
 /// The services of a slave of a plan, as the master asks for them, are such as the laws of whole lives speak of; and the master speaks of them as
 /// their own client does, but for mails that are passed on.
@@ -46,7 +49,7 @@ pub fn asked_whole_law()
     ensures speech { (p : Profile) (boot : Bool) (lens : ℕ → Lens) → Alike is_service (hand_speech (areas_of p)) (asked p boot lens).exchange.speech }
 {
     slave_parts::slave_is_lawful();
-    server_lives::real_server_law();
+    crate::real_server_law();
 }
 
 /// THE LIVES OF A PLAN'S RING begin with the ring that runs; they go on by each frame and step, and where slaves are given up.
@@ -60,8 +63,8 @@ pub fn plan_ring_law()
         IsRing lens step (FitsPlan ss) fs ring ms → IsRing lens step (FitsPlan ss) fs ring (given_up recover frame ms carried) }
 {
     asked_whole_law();
-    server_lives::real_server_law();
-    server_lives::real_room_law();
+    crate::real_server_law();
+    crate::real_room_law();
 }
 
 /// A MASTER OF A PLAN'S RING leads the lives of its slaves: it begins with them, whose services owe the laws; and where the frame under way is its own, and was exchanged with the

@@ -20,7 +20,7 @@ use Rattle.script_runs.specs.of_segment_model.Ends.{Outcome}
 use Rattle.script_runs.specs.of_segment_model.Record.{Frame}
 use Rattle.segment_plan.specs.declared.plan.Scenario.{Scenario}
 use Rattle.segment_plan.specs.declared.slave.SlaveSpec.{SlaveSpec}
-use Rattle.run_promises.specs.of_server_lives.Real.{real_clearing}
+use Rattle.run_promises.specs.of_plan_ring.Real.{real_clearing}
 use Rattle.run_promises.specs.of_slave_lives.Lived.{Behind, table_of}
 use Rattle.run_book.specs.of_slave_server.Serving.{Serving}
 use Rattle.run_book.specs.of_slave_steps.Node.{Node}

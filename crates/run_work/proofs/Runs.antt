@@ -17,7 +17,7 @@ use Rattle.segment_model.specs.Record.{Frame}
 use Rattle.segment_plan.specs.declared.plan.Scenario.{Scenario}
 use Rattle.segment_plan.specs.declared.slave.SlaveSpec.{SlaveSpec}
 use Rattle.segment_plan.specs.Sound.{IsSlave}
-use Rattle.server_lives.specs.Real.{real_clearing}
+use Rattle.plan_ring.specs.Real.{real_clearing}
 use Rattle.few_replies.specs.Shapes.{shape_of}
 use Rattle.slave_model.specs.Profile.{Profile, IsProfile}
 use Rattle.slave_server.specs.Spec.{core_of, profile_of}

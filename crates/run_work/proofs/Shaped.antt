@@ -8,7 +8,7 @@ use Rattle.master_hand.specs.Spoken.{Asked, sdo, file, drive, net, passed, hand_
 use Rattle.plan_counts.specs.Asked.{asked_most}
 use Rattle.plan_ring.specs.Asked.{asked, is_service, service_of}
 use Rattle.plan_ring.proofs.Asked.{agrees}
-use Rattle.server_lives.specs.Real.{real_clearing}
+use Rattle.plan_ring.specs.Real.{real_clearing}
 use Rattle.few_replies.specs.Shapes.{Shape, shape_at, shape_most}
 use Rattle.few_replies.proofs.Stays.{shape_stays}
 use Rattle.slave_model.specs.Application.{ArePartsLawful}

@@ -26,7 +26,7 @@ ghost use Rattle.script_work.specs.Begun.{work_in};
 ghost use Rattle.segment_plan.specs.Bound.{slowest, services_work, host_work, bound_of};
 ghost use Rattle.segment_plan.specs.Sound.{IsPlan};
 ghost use Rattle.segment_plan.specs.declared.plan.Scenario.{Scenario};
-ghost use Rattle.server_lives.specs.Real.{real_clearing};
+ghost use Rattle.plan_ring.specs.Real.{real_clearing};
 ghost use Rattle.slave_model.specs.Profile.{Profile, IsProfile};
 ghost use Rattle.std.specs.Prelude.{◌≢◌, ℕ, Bool, List, ◌≤◌, ◌<◌, ◌+◌, length};
 

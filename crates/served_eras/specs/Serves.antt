@@ -4,7 +4,7 @@ use Rattle.frame_view.specs.View.{Lens}
 use Rattle.master_duty.specs.Reply.{Reply}
 use Rattle.master_hand.specs.Spoken.{Asked}
 use Rattle.plan_speakers.specs.Speakers.{spoken, spoken_states, processor_of}
-use Rattle.server_lives.specs.Real.{running_as}
+use Rattle.plan_ring.specs.Real.{running_as}
 use Rattle.slave_lives.specs.Lived.{Behind}
 use Rattle.slave_model.specs.Profile.{Profile}
 use Rattle.slave_parts.specs.Parts.{Server}

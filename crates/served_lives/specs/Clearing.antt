@@ -1,6 +1,6 @@
 -- WHAT A RETURN TO INIT DOES to a slave of a serving: its services are those of its node, whose application is the server itself.
 use Rattle.life_model.specs.Eras.{Clearing}
-use Rattle.server_lives.specs.Real.{real_clearing}
+use Rattle.plan_ring.specs.Real.{real_clearing}
 use Rattle.slave_parts.specs.Parts.{Server}
 use Rattle.state_exchange.specs.Families.{InState}
 

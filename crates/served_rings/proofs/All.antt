@@ -23,7 +23,7 @@ use Rattle.segment_ring.specs.Ring.{RingState}
 use Rattle.segment_ring.specs.Schedule.{fate_at}
 use Rattle.segment_ring.specs.declared.wire.Fate.{Fate}
 use Rattle.segment_ring.specs.declared.wire.Fate.TheVariants.{Pass, Lost}
-use Rattle.server_lives.specs.Real.{running_as}
+use Rattle.plan_ring.specs.Real.{running_as}
 use Rattle.served_runs.specs.Served.{Serves, ServedTurn, AllServedTurn, served_behind}
 use Rattle.slave_lives.specs.Rings.{is_met_at, met, turned}
 use Rattle.slave_server.specs.Serving.{Serving}

@@ -21,7 +21,7 @@ use Rattle.segment_plan.specs.declared.service.Service as Row
 use Rattle.segment_plan.specs.declared.slave.SlaveSpec.{SlaveSpec}
 use Rattle.served_eras.specs.Serves.{serves}
 use Rattle.served_runs.specs.Served.{Serves, all_serve, new_serves}
-use Rattle.server_lives.specs.Rooms.{IsSound}
+use Rattle.plan_ring.specs.Rooms.{IsSound}
 use Rattle.slave_lives.specs.Lived.{IsBehind}
 use Rattle.slave_model.specs.Profile.{Profile, IsProfile}
 use Rattle.slave_model.specs.Application.{station_files, station_valid}

@@ -1,5 +1,5 @@
 use Rattle.std.proofs.Common.{refl}
-use Rattle.server_lives.proofs.real_whole_law.Goals as goal
+use Rattle.plan_ring.proofs.server_lives.real_whole_law.Goals as goal
 
 pub returns : goal.returns
 returns c = λ p profile boot lens plan spot is station start.

@@ -9,8 +9,8 @@ use Rattle.slave_parts.specs.of_coe_server.Serving.{IsShort}
 use Rattle.slave_parts.proofs.of_coe_server.Fits.{short_fits}
 use Rattle.whole_lives.specs.of_slave_lives.Nodes.{IsPlaced}
 use Rattle.slave_parts.proofs.of_slave_model.Stations.{right_of}
-use Rattle.server_lives.specs.Rooms.{AllPlaced}
-use Rattle.server_lives.proofs.Rooms.{body_placed, error_placed, all_append, take_few}
+use Rattle.plan_ring.specs.Rooms.{AllPlaced}
+use Rattle.plan_ring.proofs.Rooms.{body_placed, error_placed, all_append, take_few}
 
 module _ {S : Type 0} (o : Tables S) (Is : S → Type 0) (stays : (s changed : S) (t : Target) (bytes : List ℕ) → Is s → o.download s t bytes ≡ Ok changed → Is changed) (cuts : (s : S) (octets : List ℕ) → Is s → Is (o.packet s octets).0)
     (eight : (s changed : S) (eoe : Bool) (t : Target) (bytes octets : List ℕ) → Is s → o.download s t bytes ≡ Ok changed → emission_of eoe t bytes ≡ Some (emergency octets) → length octets ≡ 8)

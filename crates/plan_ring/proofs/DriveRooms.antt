@@ -21,8 +21,8 @@ use Rattle.slave_parts.specs.of_eoe_model.Network.{Network, Station}
 use Rattle.slave_parts.specs.of_eoe_model.Server as Eoe
 use Rattle.slave_parts.specs.of_eoe_model.Octets.{eoe_mail_written}
 use Rattle.whole_lives.specs.of_slave_lives.Nodes.{IsPlaced}
-use Rattle.server_lives.specs.Rooms.{AllPlaced}
-use Rattle.server_lives.proofs.Rooms.{body_placed, error_placed, take_few, fragments_placed}
+use Rattle.plan_ring.specs.Rooms.{AllPlaced}
+use Rattle.plan_ring.proofs.Rooms.{body_placed, error_placed, take_few, fragments_placed}
 
 module _ (back : ℕ) (least : 64 ≤ back) (most : back ≤ 1486) where
   -- ---- SoE

@@ -1,5 +1,5 @@
-use Rattle.plan_rooms.proofs.Told.{has_room, script_may}
-use Rattle.plan_rooms.proofs.room_law.Goals as goal
+use Rattle.plan_ring.proofs.Told.{has_room, script_may}
+use Rattle.plan_ring.proofs.plan_rooms.room_law.Goals as goal
 
 pub returns : goal.returns
 returns c = record {

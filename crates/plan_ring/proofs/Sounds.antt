@@ -37,11 +37,11 @@ use Rattle.slave_parts.specs.Parts as The
 use Rattle.slave_parts.specs.Parts.{Server, parts}
 use Rattle.slave_server.specs.Serving as Serving
 use Rattle.whole_lives.specs.of_slave_lives.Nodes.{IsPlaced}
-use Rattle.server_lives.specs.Rooms.{AllPlaced, MayWrite, IsUnderWay, IsSound}
-use Rattle.server_lives.proofs.Rooms.{body_placed, error_placed, all_append, told, fragments_placed}
-use Rattle.server_lives.proofs.CoeRooms as CoeRooms
-use Rattle.server_lives.proofs.FoeRooms as FoeRooms
-use Rattle.server_lives.proofs.DriveRooms as DriveRooms
+use Rattle.plan_ring.specs.Rooms.{AllPlaced, MayWrite, IsUnderWay, IsSound}
+use Rattle.plan_ring.proofs.Rooms.{body_placed, error_placed, all_append, told, fragments_placed}
+use Rattle.plan_ring.proofs.CoeRooms as CoeRooms
+use Rattle.plan_ring.proofs.FoeRooms as FoeRooms
+use Rattle.plan_ring.proofs.DriveRooms as DriveRooms
 
 abbrev At : Type 0
 At = Station The.Core

@@ -1,6 +1,5 @@
 //! The services of a slave of a plan are such as the laws of lives speak of. No running code: the functions here do nothing, and their contracts
 //! state the laws.
-#![tactic(auto)]
 
 ghost use Rattle.std.specs.Prelude.{◌≡◌, ◌+◌, ◌≤◌, ℕ, Bool, true, [], None, length};
 ghost use Rattle.whole_lives.specs.of_frame_view.View.{Lens};
@@ -16,8 +15,8 @@ ghost use Rattle.slave_parts.specs.Parts.{Core, parts};
 ghost use Rattle.whole_lives.specs.Whole.{OwesLaws};
 ghost use Rattle.slave_server.specs.Serving.{Serving, fresh};
 ghost use Rattle.whole_lives.specs.of_slave_steps.Node.{Node};
-ghost use Rattle.server_lives.specs.Real.{running_as, real, real_clearing, StepsAs};
-ghost use Rattle.server_lives.specs.Rooms.{IsSound};
+ghost use Rattle.plan_ring.specs.Real.{running_as, real, real_clearing, StepsAs};
+ghost use Rattle.plan_ring.specs.Rooms.{IsSound};
 
 /// The services of a slave of a plan are those of its exchange, in each AL state, a return to Init
 /// clears them, and its steps are theirs.

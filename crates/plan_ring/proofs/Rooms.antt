@@ -12,7 +12,7 @@ use Rattle.slave_parts.specs.of_coe_model.Octets.{mail_with}
 use Rattle.slave_parts.specs.of_slave_model.Server.{told_by}
 use Rattle.slave_server.specs.Serving.{written}
 use Rattle.whole_lives.specs.of_slave_lives.Nodes.{IsPlaced}
-use Rattle.server_lives.specs.Rooms.{AllPlaced}
+use Rattle.plan_ring.specs.Rooms.{AllPlaced}
 
 pub take_few : (n : ℕ) (l : List ℕ) → length (take n l) ≤ n
 take_few zero l = omega arith

@@ -1,7 +1,7 @@
 use Rattle.std.proofs.Common.{refl}
 use Rattle.slave_server.proofs.SeenLaw.{is_exchange}
-use Rattle.server_lives.proofs.Reals as Its
-use Rattle.server_lives.proofs.real_server_law.Goals as goal
+use Rattle.plan_ring.proofs.Reals as Its
+use Rattle.plan_ring.proofs.server_lives.real_server_law.Goals as goal
 
 pub returns : goal.returns
 returns c = record {

@@ -9,7 +9,7 @@ use Rattle.whole_lives.specs.of_slave_steps.Step.{pdi_step}
 use Rattle.whole_lives.specs.of_slave_lives.Lived.{IsBehind}
 use Rattle.whole_lives.specs.of_slave_lives.Nodes.{stepped}
 use Rattle.whole_lives.proofs.of_slave_lives.Servers.{step_holds}
-use Rattle.server_lives.specs.Real.{running_as, real, StepsAs}
+use Rattle.plan_ring.specs.Real.{running_as, real, StepsAs}
 
 pub is_behind : ((p : Profile) (al : ℕ) → IsExchange p al) → (p : Profile) (boot : Bool) (lens : ℕ → Lens) → IsBehind (real p boot lens)
 is_behind law p boot lens = record {

@@ -1,6 +1,6 @@
 use Rattle.std.proofs.Common.{refl}
-use Rattle.server_lives.proofs.Sounds as Sound
-use Rattle.server_lives.proofs.real_room_law.Goals as goal
+use Rattle.plan_ring.proofs.Sounds as Sound
+use Rattle.plan_ring.proofs.server_lives.real_room_law.Goals as goal
 
 pub returns : goal.returns
 returns c = record {

@@ -1,9 +1,8 @@
 //! Which services of a plan may begin. Definitions and a law, no running code: the function here does nothing, and its contract states the law.
-#![tactic(auto)]
 
 ghost use Rattle.std.specs.Prelude.{◌≡◌, ℕ, Some, slice_get};
 ghost use Rattle.life_runs.specs.First.{script_for};
-ghost use Rattle.plan_rooms.specs.Rooms.{MayBegin, HasRoom};
+ghost use Rattle.plan_ring.specs.PlanRooms.{MayBegin, HasRoom};
 ghost use Rattle.scenario.specs.Told.{IsTold};
 ghost use Rattle.segment_plan.specs.Sound.{IsPlan};
 ghost use Rattle.segment_plan.specs.declared.plan.Scenario.{Scenario};

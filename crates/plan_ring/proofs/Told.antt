@@ -13,7 +13,7 @@ use Rattle.segment_plan.specs.Sound.{IsService, IsAddressed}
 use Rattle.segment_plan.specs.declared.plan.Scenario.{Scenario}
 use Rattle.segment_plan.specs.declared.service.Service as Plan
 use Rattle.segment_plan.specs.declared.slave.SlaveSpec.{SlaveSpec}
-use Rattle.plan_rooms.specs.Rooms.{MayBegin, RowMayBegin, HasRoom}
+use Rattle.plan_ring.specs.PlanRooms.{MayBegin, RowMayBegin, HasRoom}
 
 some_none : {X : Type 0} (x : X) → Some x ≡ None → ⊥
 some_none x e = cc
