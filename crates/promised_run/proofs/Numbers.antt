@@ -33,7 +33,7 @@ use Rattle.run_record.specs.of_run_notes.Packets.{AreNumbered, begun_in, numbere
 use Rattle.run_record.specs.Ran.{EndsAs, HasRows, IsGivenUp}
 use Rattle.run_record.specs.of_run_notes.Reports.{IsBooked, noted_in, noted_of, reply_in}
 use Rattle.run_record.specs.of_packets_heard.Numbers.{NoneWaits, events_up_to, frames_begun, given_up_at, number_behind}
-use Rattle.run_record.specs.of_script_answers.Answers.{AllNoted, Noted, Scripted, changes_behind, era_scripted, eras_scripted, life_scripted, next_opened, opened_anew, scripted_by, scripted_in, scripted_mails, side_answers}
+use Rattle.run_record.specs.of_script_runs.Answers.{AllNoted, Noted, Scripted, changes_behind, era_scripted, eras_scripted, life_scripted, next_opened, opened_anew, scripted_by, scripted_in, scripted_mails, side_answers}
 use Rattle.script_runs.specs.Came.{is_packet}
 use Rattle.script_runs.specs.of_life_model.Lives.{Era, Life}
 use Rattle.script_runs.specs.of_state_exchange.Stated.{Service}

@@ -20,8 +20,8 @@ use Rattle.run_book.specs.declared.book.SlaveBook.{SlaveBook}
 use Rattle.run_promises.specs.Round.{all_seen}
 use Rattle.run_promises.specs.Slaves.{services_of}
 use Rattle.run_record.specs.of_run_notes.Reports.{noted_in, IsBooked}
-use Rattle.run_record.specs.of_script_answers.Answers.{Came, Scripted, Noted, AllNoted, answers_in, side_answers, first_change, changes_behind, change_outcome, opened_anew, scripted_by, scripted_in, scripted_mails, era_scripted, eras_scripted, life_scripted, reply_by, outcome_reply}
-use Rattle.run_record.proofs.of_script_answers.Lists.{eras_more}
+use Rattle.run_record.specs.of_script_runs.Answers.{Came, Scripted, Noted, AllNoted, answers_in, side_answers, first_change, changes_behind, change_outcome, opened_anew, scripted_by, scripted_in, scripted_mails, era_scripted, eras_scripted, life_scripted, reply_by, outcome_reply}
+use Rattle.run_record.proofs.of_script_runs.Lists.{eras_more}
 use Rattle.script_runs.specs.Came.{is_packet}
 use Rattle.script_runs.specs.of_link_model.Mails.{first_of}
 use Rattle.script_runs.specs.of_segment_model.Ends.{Outcome, state_ends}

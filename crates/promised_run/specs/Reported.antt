@@ -14,7 +14,7 @@ use Rattle.run_book.specs.declared.book.SlaveBook.{SlaveBook}
 use Rattle.run_promises.specs.Round.{all_seen}
 use Rattle.run_promises.specs.Slaves.{services_of}
 use Rattle.run_record.specs.of_run_notes.Reports.{noted_in}
-use Rattle.run_record.specs.of_script_answers.Answers.{Noted, reply_by, outcome_reply, change_outcome, opened_anew}
+use Rattle.run_record.specs.of_script_runs.Answers.{Noted, reply_by, outcome_reply, change_outcome, opened_anew}
 use Rattle.script_runs.specs.Came.{is_packet}
 use Rattle.script_runs.specs.of_segment_model.Ends.{Outcome}
 use Rattle.script_runs.specs.of_segment_model.Record.{Frame}

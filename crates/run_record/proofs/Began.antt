@@ -31,8 +31,8 @@ use Rattle.run_notes.specs.Reports.{AllReport}
 use Rattle.run_notes.specs.Slaves.{first_notes}
 use Rattle.run_notes.specs.declared.notes.Notes.{Notes}
 use Rattle.run_notes.proofs.Packets.{rows_append}
-use Rattle.script_answers.specs.Answers.{turned}
-use Rattle.script_answers.proofs.Turns.{life_mails}
+use Rattle.script_runs.specs.Answers.{turned}
+use Rattle.script_runs.proofs.Turns.{life_mails}
 use Rattle.segment_plan.specs.declared.plan.Scenario.{Scenario}
 use Rattle.segment_plan.specs.declared.service.Service as Plan
 use Rattle.segment_plan.specs.declared.slave.SlaveSpec.{SlaveSpec}

@@ -75,10 +75,10 @@ use Rattle.run_notes.specs.Reports.{Reports, AllReport, ReportsOn, ReportsBy, Tu
 use Rattle.run_notes.specs.Unsent.{IsNumbered}
 use Rattle.run_notes.proofs.Unsent.{none_begun, all_left}
 use Rattle.run_record.specs.Session.{has_live}
-use Rattle.script_answers.specs.Answers.{turned as turned_lead}
-use Rattle.script_answers.specs.Steps.{TurnsSo, PassesSo, LosesSo}
-use Rattle.script_answers.proofs.Losses.{passes_so, loses_so}
-use Rattle.script_answers.proofs.Turns.{turns_so}
+use Rattle.script_runs.specs.Answers.{turned as turned_lead}
+use Rattle.script_runs.specs.Steps.{TurnsSo, PassesSo, LosesSo}
+use Rattle.script_runs.proofs.Losses.{passes_so, loses_so}
+use Rattle.script_runs.proofs.Turns.{turns_so}
 use Rattle.run_record.proofs.Befores.{AllBefore, turns_before, all_before}
 use Rattle.run_record.proofs.Began.{packets_first, packets_on}
 use Rattle.run_record.proofs.Forwards.{forwarded_on}

@@ -8,7 +8,7 @@ use Rattle.arrayvec.specs.ArrayVec.{ArrayVec}
 use Rattle.life_runs.specs.Led.{Leads}
 use Rattle.run_work.specs.Packets.{cuts}
 use Rattle.plan_counts.specs.Split.{own_work, entering, split_work}
-use Rattle.script_work.specs.Begun.{work_begun, addressed, work_in}
+use Rattle.script_runs.specs.Begun.{work_begun, addressed, work_in}
 use Rattle.segment_plan.specs.Sound.{IsPacket}
 use Rattle.segment_plan.specs.Bound.{spread, work_of, addressed_work, services_work, host_work}
 use Rattle.segment_plan.specs.declared.service.Service as Plan

@@ -17,8 +17,8 @@ use Rattle.run_work.proofs.Packets.{begun_parts}
 use Rattle.run_work.proofs.Sums.{life_one}
 use Rattle.run_work.proofs.Together.{whole_work, scripted}
 use Rattle.script_runs.specs.Came.{is_packet}
-use Rattle.script_work.specs.Begun.{work_begun, work_in}
-use Rattle.script_work.proofs.Shared.{scripts, all_work, begun_less, all_rows}
+use Rattle.script_runs.specs.Begun.{work_begun, work_in}
+use Rattle.script_runs.proofs.Shared.{scripts, all_work, begun_less, all_rows}
 use Rattle.segment_plan.specs.Sound.{IsSlave, IsService, IsAddressed}
 use Rattle.segment_plan.specs.declared.plan.Scenario.{Scenario}
 use Rattle.segment_plan.specs.declared.service.Service as Plan

@@ -14,7 +14,7 @@ use Rattle.plan_counts.specs.Asked.{asked_most}
 use Rattle.run_work.specs.Gained.{AllGain}
 use Rattle.script_runs.specs.Came.{handed_over, AreThose, is_packet}
 use Rattle.script_runs.specs.Slaves.{HasCome, AllCome}
-use Rattle.script_work.specs.Begun.{work_begun}
+use Rattle.script_runs.specs.Begun.{work_begun}
 use Rattle.plan_counts.specs.Split.{own_work, entering}
 use Rattle.segment_plan.specs.Bound.{state_work}
 use Rattle.segment_plan.specs.Sound.{IsSlave, IsService, IsAddressed}

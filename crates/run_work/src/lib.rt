@@ -22,7 +22,7 @@ ghost use Rattle.run_work.specs.Bounds.{IsPlanRun, bound_with};
 ghost use Rattle.run_work.specs.Gained.{app_shape, AllGain};
 ghost use Rattle.run_work.specs.Switched.{AreSwitched, cuts_begun};
 ghost use Rattle.run_work.specs.Together.{packets_begun};
-ghost use Rattle.script_work.specs.Begun.{work_in};
+ghost use Rattle.script_runs.specs.Begun.{work_in};
 ghost use Rattle.segment_plan.specs.Bound.{slowest, services_work, host_work, bound_of};
 ghost use Rattle.segment_plan.specs.Sound.{IsPlan};
 ghost use Rattle.segment_plan.specs.declared.plan.Scenario.{Scenario};
@@ -64,7 +64,7 @@ pub fn run_work()
     run_counts();
     plan_counts::plan_counts();
     script_runs::script_run_law();
-    script_work::script_law();
+    script_runs::script_law();
 }
 
 /// THE PACKETS OF A RUN COUNT NO MORE THAN THE FRAME BOUND HAS FOR THEM, where they are those of one switch: what downloads emit and what comes into hand
@@ -75,7 +75,7 @@ pub fn switched_law()
         work_in own_work plan.slaves plan.services + (cuts_begun plan.slaves leads + packets_begun plan.slaves leads) + length plan.host ≤ services_work plan.slaves plan.services + host_work (length plan.slaves) plan.host }
 {
     plan_counts::plan_counts();
-    script_work::script_law();
+    script_runs::script_law();
 }
 
 /// FRAMES THAT WENT ROUND THE RING OF A PLAN have the fates of the plan's schedule.

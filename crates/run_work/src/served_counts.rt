@@ -13,7 +13,7 @@ ghost use Rattle.master_hand.specs.Spoken.{Asked};
 ghost use Rattle.plan_counts.specs.Split.{own_work};
 ghost use Rattle.run_work.specs.Switched.{cuts_begun};
 ghost use Rattle.run_work.specs.Together.{packets_begun};
-ghost use Rattle.script_work.specs.Begun.{work_in};
+ghost use Rattle.script_runs.specs.Begun.{work_in};
 ghost use Rattle.segment_plan.specs.Sound.{IsPlan};
 ghost use Rattle.segment_plan.specs.declared.plan.Scenario.{Scenario};
 ghost use Rattle.segment_plan.specs.declared.slave.SlaveSpec.{SlaveSpec};

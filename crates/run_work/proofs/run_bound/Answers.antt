@@ -1,6 +1,6 @@
 use Rattle.std.proofs.Common.{◌≡◌, ℕ, ◌+◌, ◌-◌, ◌*◌, ◌<◌, length, subst, arith}
 use Rattle.plan_counts.specs.Split.{own_work}
-use Rattle.script_work.specs.Begun.{work_in}
+use Rattle.script_runs.specs.Begun.{work_in}
 use Rattle.segment_plan.specs.Bound.{services_work, host_work, slowest}
 use Rattle.run_work.specs.Switched.{cuts_begun}
 use Rattle.run_work.specs.Together.{packets_begun}

@@ -8,8 +8,8 @@ use Rattle.script_runs.specs.of_life_model.Lives.{Era}
 use Rattle.script_runs.specs.of_link_mails.Body.{Body}
 use Rattle.script_runs.specs.of_master_duty.Reply.{Reply}
 use Rattle.script_runs.specs.of_master_hand.Spoken.{Asked}
-use Rattle.script_answers.specs.Answers.{gave_between, opened_anew, era_scripted, next_opened, eras_scripted}
-use Rattle.script_answers.specs.Steps.{OpenedBefore}
+use Rattle.script_runs.specs.Answers.{gave_between, opened_anew, era_scripted, next_opened, eras_scripted}
+use Rattle.script_runs.specs.Steps.{OpenedBefore}
 
 abbrev pub EraOf : Type 0
 EraOf = Era Body Asked Reply

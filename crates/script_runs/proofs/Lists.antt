@@ -8,7 +8,7 @@ use Rattle.script_runs.specs.Came.{is_packet}
 use Rattle.script_runs.specs.of_state_exchange.Stated.{Service}
 use Rattle.script_runs.specs.of_task_model.Accounts.{Started, Change}
 use Rattle.script_runs.specs.of_task_model.Promise.{services_in, mails_in}
-use Rattle.script_answers.specs.Answers.{Came, Scripted, Noted, IsReported, AllNoted, states_in, first_change, changes_behind, change_outcome, scripted_mails, scripted_by, scripted_in, opened_anew, era_scripted, next_opened, eras_scripted}
+use Rattle.script_runs.specs.Answers.{Came, Scripted, Noted, IsReported, AllNoted, states_in, first_change, changes_behind, change_outcome, scripted_mails, scripted_by, scripted_in, opened_anew, era_scripted, next_opened, eras_scripted}
 
 abbrev pub Answer : Type 0
 Answer = Option (Reply × ℕ)

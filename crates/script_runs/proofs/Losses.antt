@@ -3,27 +3,27 @@ use Rattle.std.proofs.Common.{◌≡◌, ◌⊎◌, inl, inr, ℕ, ◌<◌, Bool
 use Rattle.std.specs.Prelude.{◌==◌, ◌&&◌, nat_lt, if◌then◌else◌}
 use Rattle.std.specs.List.{All}
 use Rattle.script_runs.specs.of_exchange_model.Exchange.{Speech}
-use Rattle.script_runs.specs.of_frame_view.View.{Lens}
-use Rattle.script_runs.specs.of_frame_view.Seen.{seen}
-use Rattle.script_runs.proofs.of_life_runs.Spans as Spans
-use Rattle.script_runs.specs.of_life_runs.Spans.{is_leaving, is_open}
+use Rattle.frame_view.specs.View.{Lens}
+use Rattle.frame_view.specs.Seen.{seen}
+use Rattle.life_runs.proofs.Spans as Spans
+use Rattle.life_runs.specs.Spans.{is_leaving, is_open}
 use Rattle.script_runs.specs.of_life_frames.Shares.{came_at, given_where}
 use Rattle.script_runs.specs.of_life_model.Lives.{Spot, Era, Life, Stand, Opening, life_back, life_lost, era_back, opening_back, shows_clear, is_shown, last_step, clears, opens, steps_on, reopens, reopens_at, reopening, opens_state, returns_to_init}
-use Rattle.script_runs.specs.of_life_runs.Led.{Exchanged, Leads, Turn, is_passed, speech_at}
+use Rattle.life_runs.specs.Led.{Exchanged, Leads, Turn, is_passed, speech_at}
 use Rattle.script_runs.specs.of_link_mails.Body.{Body}
 use Rattle.script_runs.specs.of_master_duty.Reply.{Reply}
 use Rattle.script_runs.specs.of_master_hand.Spoken.{Asked, acknowledged, is_followed}
 use Rattle.script_runs.specs.of_segment_model.Slaves.{Datagram, Found}
 use Rattle.script_runs.specs.of_segment_ring.declared.wire.Fate.TheVariants.{Pass, Lost}
 use Rattle.script_runs.specs.of_task_model.Accounts.{Duty, Stage}
-use Rattle.script_answers.specs.Answers.{Noted, AllNoted, IsStill, Waits, StandsBy, FreshBy, IsNoted, era_scripted, eras_scripted, life_scripted, turned}
-use Rattle.script_answers.specs.Steps.{IsBefore, PassesSo, LosesSo}
-use Rattle.script_answers.proofs.Anew.{anew_lost, eras_given}
-use Rattle.script_answers.proofs.Befores.{back_before, lost_before, given_before}
-use Rattle.script_answers.proofs.Lists.{eras_more}
-use Rattle.script_answers.proofs.Passes.{led, pass_still, pass_waits, pass_told, pass_own, awaiting, pass_goes, pass_ends, pass_some, pass_anew}
-use Rattle.script_answers.proofs.Sides.{longer}
-use Rattle.script_answers.proofs.Turns.{awaits_on, changes_on, rests_on, fresh_open}
+use Rattle.script_runs.specs.Answers.{Noted, AllNoted, IsStill, Waits, StandsBy, FreshBy, IsNoted, era_scripted, eras_scripted, life_scripted, turned}
+use Rattle.script_runs.specs.Steps.{IsBefore, PassesSo, LosesSo}
+use Rattle.script_runs.proofs.Anew.{anew_lost, eras_given}
+use Rattle.script_runs.proofs.Befores.{back_before, lost_before, given_before}
+use Rattle.script_runs.proofs.Lists.{eras_more}
+use Rattle.script_runs.proofs.Passes.{led, pass_still, pass_waits, pass_told, pass_own, awaiting, pass_goes, pass_ends, pass_some, pass_anew}
+use Rattle.script_runs.proofs.Sides.{longer}
+use Rattle.script_runs.proofs.Turns.{awaits_on, changes_on, rests_on, fresh_open}
 
 -- A LIFE BEHIND A LOST FRAME
 module _ (u : Turn) (x : Speech Body Asked Reply) (recover frame : ℕ) (sent : List (Datagram Body)) (before : IsBefore frame u.lived.life) where

@@ -4,16 +4,16 @@ use Rattle.std.specs.Prelude.{nat_lt, is_some, if◌then◌else◌}
 use Rattle.std.specs.List.{All}
 use Rattle.std.proofs.lemmas.Bool.{ltb-true, ltb-false}
 use Rattle.std.proofs.lemmas.List.{map-append}
-use Rattle.script_runs.specs.of_datagrams.Datagram as Raw
+use Rattle.datagrams.specs.Datagram as Raw
 use Rattle.script_runs.specs.of_eoe_model.Client as EoeClient
 use Rattle.script_runs.specs.of_exchange_model.Areas.{Areas}
 use Rattle.script_runs.specs.of_exchange_model.Exchange.{Speech}
 use Rattle.script_runs.specs.of_exchange_model.Rows.{Row}
-use Rattle.script_runs.specs.of_frame_view.View.{Lens}
-use Rattle.script_runs.proofs.of_life_runs.Spans as Spans
-use Rattle.script_runs.specs.of_life_runs.Spans.{is_leaving, is_open}
+use Rattle.frame_view.specs.View.{Lens}
+use Rattle.life_runs.proofs.Spans as Spans
+use Rattle.life_runs.specs.Spans.{is_leaving, is_open}
 use Rattle.script_runs.specs.of_life_model.Lives.{Era, Life, Stand, granted, life_next, returns_to_init}
-use Rattle.script_runs.specs.of_life_runs.Led.{Leads, Turn, Comes, Took, IsTurn, is_passed, speech_at}
+use Rattle.life_runs.specs.Led.{Leads, Turn, Comes, Took, IsTurn, is_passed, speech_at}
 use Rattle.script_runs.specs.of_link_mails.Body.{Body}
 use Rattle.script_runs.specs.of_master_duty.Reply.{Reply}
 use Rattle.script_runs.specs.of_master_hand.Spoken.{Asked, sdo, file, drive, net, handed, ends, acknowledged, is_followed}
@@ -21,15 +21,15 @@ use Rattle.script_runs.specs.of_master_hand.Talk.{asked_of}
 use Rattle.script_runs.specs.Came.{is_packet}
 use Rattle.script_runs.specs.of_segment_model.Ends.{Passing}
 use Rattle.script_runs.specs.of_segment_model.Seats.{newest, rows_of}
-use Rattle.script_runs.specs.of_segment_plan.declared.service.Service as Plan
+use Rattle.segment_plan.specs.declared.service.Service as Plan
 use Rattle.script_runs.specs.of_state_exchange.Stated.{Service}
 use Rattle.script_runs.specs.of_task_model.Accounts.{Duty, Stage, Pick, is_free, starts}
 use Rattle.script_runs.specs.of_task_model.Promise.{services_in, mails_in}
-use Rattle.script_answers.specs.Answers.{Came, Noted, AllNoted, RowRests, RestsSo, Awaits, Changes, ComesAnew, IsStill, IsAwaiting, Waits, StandsBy, IsNew, IsSpared, FreshBy, IsNoted, answers_in, side_answers, states_in, now_answer, scripted_in, scripted_mails, era_scripted, eras_scripted, over_scripted, life_scripted, turned}
-use Rattle.script_answers.specs.Steps.{awaited, with_begun, IsBefore, Turns, TurnsSo}
-use Rattle.script_answers.proofs.Backs.{past_scripted}
-use Rattle.script_answers.proofs.Lists.{Answer, scripted_state, scripted_one, no_outcome, mails_more, states_more, changes_same, noted_more}
-use Rattle.script_answers.proofs.Sides.{Rests, Mails, State, longer, rests, mails, state, not_free}
+use Rattle.script_runs.specs.Answers.{Came, Noted, AllNoted, RowRests, RestsSo, Awaits, Changes, ComesAnew, IsStill, IsAwaiting, Waits, StandsBy, IsNew, IsSpared, FreshBy, IsNoted, answers_in, side_answers, states_in, now_answer, scripted_in, scripted_mails, era_scripted, eras_scripted, over_scripted, life_scripted, turned}
+use Rattle.script_runs.specs.Steps.{awaited, with_begun, IsBefore, Turns, TurnsSo}
+use Rattle.script_runs.proofs.Backs.{past_scripted}
+use Rattle.script_runs.proofs.Lists.{Answer, scripted_state, scripted_one, no_outcome, mails_more, states_more, changes_same, noted_more}
+use Rattle.script_runs.proofs.Sides.{Rests, Mails, State, longer, rests, mails, state, not_free}
 
 -- NO SERVICE OF A SCRIPT is a packet, and each has a reply
 abbrev among : (Asked → Bool) → Option Asked → Bool

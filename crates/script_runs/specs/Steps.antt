@@ -1,13 +1,13 @@
 -- WHAT A FRAME LEAVES OF WHAT IS NOTED OF A SLAVE: before it, behind its return, and behind its loss.
 use Rattle.std.specs.Prelude.{◌≡◌, ◌⊎◌, ◌<◌, ℕ, suc, Bool, true, false, nat_lt, is_some, Option, Some, None, List, [], ◌∷◌, ◌++◌, ⊤}
 use Rattle.std.specs.List.{All}
-use Rattle.script_runs.specs.of_life_runs.Spans.{is_open, SameEpochs, EpochsBack, EpochsLost}
+use Rattle.life_runs.specs.Spans.{is_open, SameEpochs, EpochsBack, EpochsLost}
 use Rattle.script_runs.specs.of_life_model.Lives.{Era, Life, Stand}
-use Rattle.script_runs.specs.of_life_runs.Led.{Leads}
+use Rattle.life_runs.specs.Led.{Leads}
 use Rattle.script_runs.specs.of_master_duty.Reply.{Reply}
 use Rattle.script_runs.specs.of_segment_model.Ends.{Outcome}
 use Rattle.script_runs.specs.of_task_model.Accounts.{Account, Change}
-use Rattle.script_answers.specs.Answers.{Noted, IsNoted, Waits, newest_answer, reply_by}
+use Rattle.script_runs.specs.Answers.{Noted, IsNoted, Waits, newest_answer, reply_by}
 use Rattle.script_runs.specs.of_exchange_model.Rows.{Row}
 use Rattle.script_runs.specs.of_link_mails.Body.{Body}
 use Rattle.script_runs.specs.of_master_hand.Spoken.{Asked, is_passed}

@@ -5,12 +5,12 @@ use Rattle.std.specs.List.{All}
 use Rattle.script_runs.specs.of_exchange_model.Areas.{Areas}
 use Rattle.script_runs.specs.of_exchange_model.Exchange.{Speech, plain}
 use Rattle.script_runs.specs.of_exchange_model.Rows.{answer_after, row_heard}
-use Rattle.script_runs.specs.of_frame_view.Seen.{seen}
-use Rattle.script_runs.proofs.of_life_runs.Spans.{clear_leaves, cleared_stays, last_stays, steps_stay}
-use Rattle.script_runs.specs.of_life_runs.Spans.{is_leaving, is_open}
+use Rattle.frame_view.specs.Seen.{seen}
+use Rattle.life_runs.proofs.Spans.{clear_leaves, cleared_stays, last_stays, steps_stay}
+use Rattle.life_runs.specs.Spans.{is_leaving, is_open}
 use Rattle.script_runs.specs.of_life_model.Lives.{Spot, Era, Life, Stand, Opening, life_back, era_back, opening_back, shows_clear, is_shown, last_step, clears, opens, steps_on, reopens, reopens_at, reopening, opens_state, returns_to_init, new_side}
 use Rattle.script_runs.specs.of_life_model.Own.{own}
-use Rattle.script_runs.specs.of_life_runs.Led.{is_passed}
+use Rattle.life_runs.specs.Led.{is_passed}
 use Rattle.script_runs.specs.of_link_mails.Body.{Body}
 use Rattle.script_runs.specs.of_link_model.Frames.{all_accepted}
 use Rattle.script_runs.specs.of_master_duty.Reply.{Reply}
@@ -21,11 +21,11 @@ use Rattle.script_runs.specs.of_segment_model.Slaves.{Datagram, Found, grams}
 use Rattle.script_runs.specs.of_task_model.Accounts.{Account, Duty, Stage, Change, new_account}
 use Rattle.script_runs.specs.of_task_model.Promise.{services_in, mails_in}
 use Rattle.script_runs.proofs.of_task_model.Completed.{started_back}
-use Rattle.script_answers.specs.Answers.{Came, Scripted, RowRests, RestsSo, Awaits, Changes, ComesAnew, IsStill, IsNew, FreshBy, answers_in, side_answers, now_answer, states_in, reached_at, opened_anew, scripted_in, era_scripted, eras_scripted, over_scripted, life_scripted}
-use Rattle.script_answers.proofs.Backs.{Held, Went, AwaitsBack, past_scripted, changes_front, changes_scripted, changes_opened, change_with, change_reported, hand_back, no_hand, answers_rest, rests_heard, many_answers}
-use Rattle.script_answers.proofs.Anew.{anew_spared}
-use Rattle.script_answers.proofs.Lists.{Answer, eras_more, changes_more}
-use Rattle.script_answers.proofs.Turns.{awaits_on, changes_on, rests_on, spared, fresh_open}
+use Rattle.script_runs.specs.Answers.{Came, Scripted, RowRests, RestsSo, Awaits, Changes, ComesAnew, IsStill, IsNew, FreshBy, answers_in, side_answers, now_answer, states_in, reached_at, opened_anew, scripted_in, era_scripted, eras_scripted, over_scripted, life_scripted}
+use Rattle.script_runs.proofs.Backs.{Held, Went, AwaitsBack, past_scripted, changes_front, changes_scripted, changes_opened, change_with, change_reported, hand_back, no_hand, answers_rest, rests_heard, many_answers}
+use Rattle.script_runs.proofs.Anew.{anew_spared}
+use Rattle.script_runs.proofs.Lists.{Answer, eras_more, changes_more}
+use Rattle.script_runs.proofs.Turns.{awaits_on, changes_on, rests_on, spared, fresh_open}
 
 abbrev LifeOf : Type 0
 LifeOf = Life Body Asked Reply

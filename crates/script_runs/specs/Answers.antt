@@ -3,9 +3,9 @@ use Rattle.std.specs.Prelude.{◌≡◌, ◌⊎◌, ◌<◌, ◌&&◌, ℕ, suc,
 use Rattle.std.specs.List.{All}
 use Rattle.script_runs.specs.of_exchange_model.Areas.{Areas}
 use Rattle.script_runs.specs.of_exchange_model.Rows.{Row}
-use Rattle.script_runs.specs.of_life_runs.Spans.{is_leaving, is_open}
+use Rattle.life_runs.specs.Spans.{is_leaving, is_open}
 use Rattle.script_runs.specs.of_life_model.Lives.{Era, Life, Stand, Opening, returns_to_init, new_side}
-use Rattle.script_runs.specs.of_life_runs.Led.{Leads, Turn}
+use Rattle.life_runs.specs.Led.{Leads, Turn}
 use Rattle.script_runs.specs.of_link_mails.Body.{Body}
 use Rattle.script_runs.specs.of_mailbox_mail.declared.outcome.ReplyKind.{ReplyKind}
 use Rattle.script_runs.specs.of_master_duty.Reply.{Reply}

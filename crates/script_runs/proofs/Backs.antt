@@ -14,8 +14,8 @@ use Rattle.script_runs.specs.of_segment_model.Seats.{newest}
 use Rattle.script_runs.specs.of_segment_model.Slaves.{Datagram}
 use Rattle.script_runs.specs.of_state_exchange.Stated.{Service}
 use Rattle.script_runs.specs.of_task_model.Accounts.{Account, Duty, Change, Progress, access_done, account_by, account_met, account_back}
-use Rattle.script_answers.specs.Answers.{Came, Scripted, RowRests, Awaits, Changes, answers_in, side_answers, now_answer, reached_at, change_outcome, scripted_in, scripted_mails, era_scripted, eras_scripted, life_scripted}
-use Rattle.script_answers.proofs.Lists.{Answer, Over, scripted_state, scripted_one, steady, no_outcome}
+use Rattle.script_runs.specs.Answers.{Came, Scripted, RowRests, Awaits, Changes, answers_in, side_answers, now_answer, reached_at, change_outcome, scripted_in, scripted_mails, era_scripted, eras_scripted, life_scripted}
+use Rattle.script_runs.proofs.Lists.{Answer, Over, scripted_state, scripted_one, steady, no_outcome}
 
 abbrev pub Held : Type 0
 Held = Row Body Asked Reply

@@ -1,13 +1,12 @@
 //! What became of the scripted services of a slave, as its life has it, and what is noted of them frame by frame. No running code: the function
 //! here does nothing, and its contract states a law.
-#![tactic(auto)]
 
 ghost use Rattle.std.specs.Prelude.{ℕ, Bool, List};
-ghost use Rattle.script_runs.specs.of_datagrams.Datagram as Raw;
-ghost use Rattle.script_runs.specs.of_frame_view.View.{Lens};
-ghost use Rattle.script_runs.specs.of_life_runs.Led.{Exchanged, Leads, Turn, IsTurn, life_behind};
-ghost use Rattle.script_answers.specs.Answers.{turned};
-ghost use Rattle.script_answers.specs.Steps.{IsBefore, TurnsSo, PassesSo, LosesSo};
+ghost use Rattle.datagrams.specs.Datagram as Raw;
+ghost use Rattle.frame_view.specs.View.{Lens};
+ghost use Rattle.life_runs.specs.Led.{Exchanged, Leads, Turn, IsTurn, life_behind};
+ghost use Rattle.script_runs.specs.Answers.{turned};
+ghost use Rattle.script_runs.specs.Steps.{IsBefore, TurnsSo, PassesSo, LosesSo};
 ghost use Rattle.script_runs.specs.of_segment_ring.declared.wire.Fate.TheVariants.{Pass, Lost};
 
 /// FRAME BY FRAME what is noted of a slave's scripted services goes with its life: one service more where its script went on, the reply that a return

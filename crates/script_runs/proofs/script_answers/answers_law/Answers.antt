@@ -1,6 +1,6 @@
-use Rattle.script_answers.proofs.Losses.{passes_so, loses_so}
-use Rattle.script_answers.proofs.Turns.{turns_so}
-use Rattle.script_answers.proofs.answers_law.Goals as goal
+use Rattle.script_runs.proofs.Losses.{passes_so, loses_so}
+use Rattle.script_runs.proofs.Turns.{turns_so}
+use Rattle.script_runs.proofs.script_answers.answers_law.Goals as goal
 
 pub returns-clause-turns : goal.returns-clause-turns
 returns-clause-turns c = λ lens made ds a u y. turns_so lens made ds a u y

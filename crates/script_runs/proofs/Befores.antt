@@ -6,14 +6,14 @@ use Rattle.std.proofs.lemmas.List.Elements.{All-push, All-weaker}
 use Rattle.script_runs.specs.of_exchange_model.Exchange.{Speech}
 use Rattle.script_runs.specs.of_life_frames.Shares.{given_where}
 use Rattle.script_runs.specs.of_life_model.Lives.{Spot, Life, Stand, Opening, life_back, life_lost, era_back, opening_back, shows_clear, is_shown, last_step, clears, opens, steps_on, reopens, reopens_at, reopening, opens_state, returns_to_init}
-use Rattle.script_runs.specs.of_life_runs.Led.{is_passed}
+use Rattle.life_runs.specs.Led.{is_passed}
 use Rattle.script_runs.specs.of_link_mails.Body.{Body}
 use Rattle.script_runs.specs.of_master_duty.Reply.{Reply}
 use Rattle.script_runs.specs.of_master_hand.Spoken.{Asked, acknowledged, is_followed}
 use Rattle.script_runs.specs.of_segment_model.Slaves.{Datagram, Found}
 use Rattle.script_runs.specs.of_task_model.Accounts.{Duty, Stage}
-use Rattle.script_answers.specs.Steps.{OpenedBefore, IsBefore}
-use Rattle.script_answers.proofs.Anew.{WasBefore}
+use Rattle.script_runs.specs.Steps.{OpenedBefore, IsBefore}
+use Rattle.script_runs.proofs.Anew.{WasBefore}
 
 abbrev LifeOf : Type 0
 LifeOf = Life Body Asked Reply

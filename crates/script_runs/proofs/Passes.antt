@@ -2,12 +2,12 @@
 use Rattle.std.proofs.Common.{◌≡◌, ◌⊎◌, inl, inr, ℕ, Bool, true, false, Option, Some, None, List, [], ◌∷◌, ◌++◌, length, length-append, refl, ap, sym, ◌∙◌, subst, arith}
 use Rattle.std.specs.Prelude.{is_some}
 use Rattle.script_runs.specs.of_exchange_model.Areas.{Areas}
-use Rattle.script_runs.specs.of_frame_view.View.{Lens}
-use Rattle.script_runs.specs.of_frame_view.Seen.{seen}
-use Rattle.script_runs.specs.of_life_runs.Spans.{is_open}
+use Rattle.frame_view.specs.View.{Lens}
+use Rattle.frame_view.specs.Seen.{seen}
+use Rattle.life_runs.specs.Spans.{is_open}
 use Rattle.script_runs.specs.of_life_frames.Shares.{came_at}
 use Rattle.script_runs.specs.of_life_model.Lives.{Life}
-use Rattle.script_runs.specs.of_life_runs.Led.{Exchanged, Leads, Turn, is_passed, life_behind}
+use Rattle.life_runs.specs.Led.{Exchanged, Leads, Turn, is_passed, life_behind}
 use Rattle.script_runs.specs.of_link_mails.Body.{Body}
 use Rattle.script_runs.specs.of_master_duty.Reply.{Reply}
 use Rattle.script_runs.specs.of_master_hand.Spoken.{Asked, ends}
@@ -16,11 +16,11 @@ use Rattle.script_runs.specs.of_segment_model.Slaves.{Datagram, Found}
 use Rattle.script_runs.specs.of_segment_ring.declared.wire.Fate.{Fate}
 use Rattle.script_runs.specs.of_segment_ring.declared.wire.Fate.TheVariants.{Pass}
 use Rattle.script_runs.specs.of_task_model.Accounts.{Change}
-use Rattle.script_answers.specs.Answers.{Came, Noted, IsReported, AllNoted, RowRests, RestsSo, Awaits, ComesAnew, IsGoing, Waits, StandsBy, FreshBy, IsNoted, now_answer, newest_answer, reply_by, reached_at, life_scripted, turned}
-use Rattle.script_answers.specs.Steps.{IsBefore, EndedSo, account_of, opened, with_begun, with_reply}
-use Rattle.script_answers.proofs.Backs.{Held, AwaitsBack, front_scripted, changes_front, awaits_scripted, changes_scripted, after_none, not_passed, last_change, change_reported}
-use Rattle.script_answers.proofs.Frames.{Stays, AnewBack, ChangeBack, back_stays, still_back, anew_back, awaits_back, change_back}
-use Rattle.script_answers.proofs.Lists.{Answer, Over, noted_more, noted_front}
+use Rattle.script_runs.specs.Answers.{Came, Noted, IsReported, AllNoted, RowRests, RestsSo, Awaits, ComesAnew, IsGoing, Waits, StandsBy, FreshBy, IsNoted, now_answer, newest_answer, reply_by, reached_at, life_scripted, turned}
+use Rattle.script_runs.specs.Steps.{IsBefore, EndedSo, account_of, opened, with_begun, with_reply}
+use Rattle.script_runs.proofs.Backs.{Held, AwaitsBack, front_scripted, changes_front, awaits_scripted, changes_scripted, after_none, not_passed, last_change, change_reported}
+use Rattle.script_runs.proofs.Frames.{Stays, AnewBack, ChangeBack, back_stays, still_back, anew_back, awaits_back, change_back}
+use Rattle.script_runs.proofs.Lists.{Answer, Over, noted_more, noted_front}
 
 -- an outcome is reported by its reply
 reported : (outcome : Outcome Reply) (c : Change Reply) (made : ℕ) → c.answer ≡ outcome → c.completed ≡ made → IsReported (change_reported c) (Some (reply_by outcome, made))

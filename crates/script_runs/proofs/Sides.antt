@@ -10,8 +10,8 @@ use Rattle.script_runs.specs.of_master_hand.Spoken.{Asked}
 use Rattle.script_runs.specs.of_segment_model.Seats.{Side, newest, rows_of, is_none_left, is_over, next_mail, side_begins, side_holds}
 use Rattle.script_runs.specs.of_state_exchange.Stated.{Service}
 use Rattle.script_runs.specs.of_task_model.Accounts.{Account, Duty, Stage, mails_begin, is_free, is_acknowledged, starts, state_begins, account_begins}
-use Rattle.script_answers.specs.Answers.{RowRests, answers_in, side_answers}
-use Rattle.script_answers.proofs.Lists.{Answer}
+use Rattle.script_runs.specs.Answers.{RowRests, answers_in, side_answers}
+use Rattle.script_runs.proofs.Lists.{Answer}
 
 abbrev Held : Type 0
 Held = Row Body Asked Reply

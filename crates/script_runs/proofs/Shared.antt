@@ -9,7 +9,7 @@ use Rattle.segment_plan.specs.declared.service.Service as Plan
 use Rattle.segment_plan.specs.declared.slave.SlaveSpec.{SlaveSpec}
 use Rattle.life_runs.specs.Led.{Leads, Turn, Exchanged, AllTurn, IsLed, led_behind, gives_up_at}
 use Rattle.life_runs.specs.First.{script_for, leads_from, first_leads}
-use Rattle.script_work.specs.Begun.{work_begun, addressed, work_in}
+use Rattle.script_runs.specs.Begun.{work_begun, addressed, work_in}
 
 -- THE SCRIPTS STAY
 abbrev pub scripts : List Leads → List (List Plan.Service)
