@@ -30,7 +30,7 @@ use Rattle.packets_heard.specs.Recalled.{AllQuiet, AllStill, IsLanOf}
 use Rattle.segment_model.specs.Slaves.{Datagram, grams}
 use Rattle.segment_plan.specs.declared.plan.Scenario.{Scenario}
 use Rattle.idle_slaves.specs.WaitEager.{AllSilent}
-use Rattle.plan_dues.specs.Dues.{AllDue}
+use Rattle.plan_met.specs.Dues.{AllDue}
 use Rattle.eager_runs.specs.Runs.{is_waiting, remembered, waiting_at}
 use Rattle.eager_runs.proofs.Maps.{each_asks, full_is, memory, memory_behind_is, memory_same, visit_is}
 use Rattle.eager_runs.proofs.Rests.{at_port}

@@ -30,7 +30,7 @@ use Rattle.slave_server.specs.Serving.{Serving}
 use Rattle.slave_steps.specs.Node.{Node}
 use Rattle.packets_heard.specs.Toured as Visits
 use Rattle.idle_slaves.specs.WaitEager.{AllRest, AllUnpassed, IsEagerFrame}
-use Rattle.plan_dues.specs.Dues.{MailsAreDue}
+use Rattle.plan_met.specs.Dues.{MailsAreDue}
 use Rattle.eager_runs.specs.Runs.{ScriptsMay, remembered, waiting_at}
 use Rattle.eager_runs.proofs.Counts.{came_more, entered_few, lost_more, lost_one}
 use Rattle.eager_runs.proofs.Frames.{all_eager, all_known, all_quiet, all_remember, gets_none, lost_known}

@@ -27,7 +27,7 @@ pub fn eager_run_law()
     frame_view::seen_is();
     plan_ring::run_lives_law();
     plan_met::plan_met_law();
-    plan_dues::plan_due_law();
+    plan_met::plan_due_law();
     plan_ring::room_law();
     idle_slaves::entered_law();
     idle_slaves::wait_runs_law();

@@ -2,7 +2,6 @@
 //! and a law, no running code: the function here does nothing, and its contract states the law.
 #![tactic(auto)]
 
-ghost use Rattle.std.specs.Prelude.{◌≡◌, ◌∷◌, ◌++◌, ℕ, List, [], length};
 ghost use Rattle.frame_view.specs.Seen.{seen};
 ghost use Rattle.life_runs.specs.First.{lens_of};
 ghost use Rattle.life_runs.specs.Led.{Exchanged, Leads, Turn, IsLedFrame};
@@ -12,6 +11,10 @@ ghost use Rattle.plan_ring.specs.Round.{ring_of, ring_after, WentRound};
 ghost use Rattle.segment_plan.specs.Sound.{IsPlan};
 ghost use Rattle.segment_plan.specs.declared.plan.Scenario.{Scenario};
 ghost use Rattle.segment_ring.specs.declared.wire.Fate.{Fate};
+ghost use Rattle.std.specs.Prelude.{◌≡◌, ◌∷◌, ◌++◌, ℕ, List, [], length};
+
+pub mod due_rows;
+pub mod plan_dues;
 
 /// EACH SLAVE OF A PLAN'S RUN that is open lives its epoch as the node of the ring; and of a frame that came back its own datagrams came back as it makes them,
 /// and its node is the one behind them and the step of its pace.

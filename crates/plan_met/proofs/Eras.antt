@@ -22,8 +22,8 @@ use Rattle.task_model.proofs.Ghosts.{Carried}
 use Rattle.task_model.proofs.Newest.{Holds}
 use Rattle.task_model.proofs.Sessions.{of_slaves}
 use Rattle.task_model.proofs.Stately.{state_over, free_state}
-use Rattle.due_rows.specs.Brings.{BringsDue}
-use Rattle.due_rows.proofs.Seats.{awaited}
+use Rattle.plan_met.specs.Brings.{BringsDue}
+use Rattle.plan_met.proofs.Seats.{awaited}
 
 module _ {V A M Q R : Type 0} (x : Exchange V A M Q R) (law : IsLawful x) (hears : HearsFirst x) (s : Stated V A Q) (stated : IsStated x s) where
   module _ (table : Table) (begun : ℕ) (is : IsTable table begun) (fs : List (Frame M)) (seat : Seat V M Q R) (a : Account Q R) (h : Holds x law s stated table (λ m. false) begun is fs seat a) (frame : ℕ) (pick : Pick Q) (sent : List (Datagram M)) where

@@ -1,5 +1,5 @@
-use Rattle.due_rows.proofs.Eras.{era_due}
-use Rattle.due_rows.proofs.due_law.Goals as goal
+use Rattle.plan_met.proofs.Eras.{era_due}
+use Rattle.plan_met.proofs.due_rows.due_law.Goals as goal
 
 pub returns : goal.returns
 returns g c = λ w hears frame pick sent asks.

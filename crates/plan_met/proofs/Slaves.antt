@@ -1,7 +1,7 @@
 -- One slave of a plan's ring by a frame that came back.
 use Rattle.std.proofs.Common.{◌≡◌, ℕ, Option, List, length, refl, sym, ap, ◌∙◌, subst}
 use Rattle.life_runs.specs.of_datagrams.Datagram as Raw
-use Rattle.due_rows.proofs.Eras.{era_due}
+use Rattle.plan_met.proofs.Eras.{era_due}
 use Rattle.plan_ring.specs.of_named_lives.of_exchange_model.Exchange.{Exchange, Speech}
 use Rattle.life_runs.specs.of_frame_view.Seen.{datagrams_seen}
 use Rattle.life_runs.specs.of_frame_view.View.{Lens}
@@ -34,7 +34,7 @@ use Rattle.plan_ring.specs.of_book_lives.of_slave_steps.Node.{Node}
 use Rattle.slave_parts.specs.of_state_exchange.Families.{InState}
 use Rattle.slave_parts.specs.of_state_exchange.Stated.{Service}
 use Rattle.plan_ring.specs.of_named_lives.of_task_model.Accounts.{Pick}
-use Rattle.plan_dues.proofs.Names.{due_alike}
+use Rattle.plan_met.proofs.Names.{due_alike}
 
 -- a choice leaves how the master stands to a slave
 next_stands : (x : Speech Body Asked Reply) (number : ℕ) (l : Life Body Asked Reply) (z : Stand) (pick : Pick Asked) → (life_next x acknowledged is_followed is_passed number l z pick).stand ≡ l.stand

@@ -1,5 +1,5 @@
-use Rattle.plan_dues.proofs.All.{Laws, all_due}
-use Rattle.plan_dues.proofs.plan_due_law.Goals as goal
+use Rattle.plan_met.proofs.All.{Laws, all_due}
+use Rattle.plan_met.proofs.plan_dues.plan_due_law.Goals as goal
 use Rattle.plan_ring.proofs.Lives.{front_round, last_round}
 use Rattle.plan_ring.specs.Round.{ring_of}
 

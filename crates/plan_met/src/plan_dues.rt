@@ -1,13 +1,12 @@
 //! What a frame that came back brings of a plan's slaves is due to their master. Definitions and laws, no running code: the functions here do nothing, and their
 //! contracts state the laws.
-#![tactic(auto)]
 
 ghost use Rattle.std.specs.Prelude.{ℕ, Bool};
 ghost use Rattle.never_waits.specs.Hears.{HearsFirst};
 ghost use Rattle.life_runs.specs.of_frame_view.View.{Lens};
 ghost use Rattle.life_runs.specs.of_segment_plan.Sound.{IsPlan};
 ghost use Rattle.life_runs.specs.of_segment_plan.declared.plan.Scenario.{Scenario};
-ghost use Rattle.plan_dues.specs.Dues.{MailsAreDue};
+ghost use Rattle.plan_met.specs.Dues.{MailsAreDue};
 ghost use Rattle.plan_ring.specs.Asked.{asked};
 ghost use Rattle.plan_ring.specs.Lives.{IsKnown};
 ghost use Rattle.slave_parts.specs.of_slave_model.Profile.{Profile, IsProfile};

@@ -15,7 +15,7 @@ use Rattle.state_exchange.proofs.StatedLaw.{stated_law}
 use Rattle.state_model.specs.States.{Table}
 use Rattle.task_model.specs.Accounts.{Account}
 use Rattle.task_model.proofs.Ghosts.{Carried, GhostRow, Rowed, Shows, counting}
-use Rattle.due_rows.proofs.Moments.{next_due}
+use Rattle.plan_met.proofs.Moments.{next_due}
 
 -- no answer as an outcome is none
 no_outcome : {R : Type 0} (answer : Option (R × ℕ)) → as_outcome answer ≡ None → answer ≡ None

@@ -1,5 +1,5 @@
-use Rattle.plan_dues.proofs.Names.{named_hears}
-use Rattle.plan_dues.proofs.asked_hears_law.Goals as goal
+use Rattle.plan_met.proofs.Names.{named_hears}
+use Rattle.plan_met.proofs.plan_dues.asked_hears_law.Goals as goal
 use Rattle.life_runs.specs.of_master_hand.Spoken.{hand_speech}
 use Rattle.never_waits.proofs.HearsSlaves.{slave_hears}
 use Rattle.plan_ring.proofs.Asked.{agrees}

@@ -1,8 +1,7 @@
 //! What comes next of an open slave is due: it replies to nothing, or to the service in hand, with nothing left to tell before it. A definition and a law, no
 //! running code: the function here does nothing, and its contract states the law.
-#![tactic(auto)]
 
-ghost use Rattle.due_rows.specs.Brings.{BringsDue};
+ghost use Rattle.plan_met.specs.Brings.{BringsDue};
 ghost use Rattle.never_waits.specs.Hears.{HearsFirst};
 ghost use Rattle.life_model.specs.Eras.{OpenEra};
 

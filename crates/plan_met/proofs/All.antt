@@ -23,8 +23,8 @@ use Rattle.slave_parts.specs.of_slave_model.Profile.{Profile, IsProfile}
 use Rattle.plan_ring.specs.of_slave_server.Serving.{Serving}
 use Rattle.plan_ring.specs.of_slave_server.Spec.{profile_of}
 use Rattle.plan_ring.specs.of_book_lives.of_slave_steps.Node.{Node}
-use Rattle.plan_dues.specs.Dues.{AllDue}
-use Rattle.plan_dues.proofs.Slaves.{is_due}
+use Rattle.plan_met.specs.Dues.{AllDue}
+use Rattle.plan_met.proofs.Slaves.{is_due}
 
 -- what the laws below say
 pub record Laws (plan : Scenario) : Type 0 where
