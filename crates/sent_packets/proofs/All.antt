@@ -39,7 +39,7 @@ use Rattle.slave_model.specs.Application.{core_valid, station_valid}
 use Rattle.slave_model.specs.Profile.{Protocol, Profile, IsProfile}
 use Rattle.slave_model.proofs.Stations.{left_of, right_of}
 use Rattle.slave_parts.specs.Parts.{Core, parts}
-use Rattle.slave_sends.specs.Sends.{MaySend, Sends, asked_sends, sends_most, all_most}
+use Rattle.sent_packets.specs.Sends.{MaySend, Sends, asked_sends, sends_most, all_most}
 use Rattle.slave_server.specs.Serving.{Serving}
 use Rattle.slave_server.specs.Spec.{profile_of}
 use Rattle.slave_steps.specs.Node.{Node, node_passed}

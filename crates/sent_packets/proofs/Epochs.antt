@@ -24,8 +24,8 @@ use Rattle.slave_parts.specs.Parts.{Core, Server, parts as real_parts}
 use Rattle.slave_server.specs.Serving.{Serving}
 use Rattle.slave_steps.specs.Node.{Node}
 use Rattle.eoe_model.specs.Network.{Station}
-use Rattle.slave_sends.specs.Sends.{MaySend, Sends, may_send, asked_sends, sends_most}
-use Rattle.slave_sends.proofs.Cuts.{parts_append, sends_none, sends_both}
+use Rattle.sent_packets.specs.Sends.{MaySend, Sends, may_send, asked_sends, sends_most}
+use Rattle.sent_packets.proofs.Cuts.{parts_append, sends_none, sends_both}
 use Rattle.state_exchange.specs.Families.{InState}
 use Rattle.state_exchange.specs.Stated.{Service, acts, mails, with_states}
 use Rattle.state_exchange.proofs.Acts.{mails_acts, mails_append}

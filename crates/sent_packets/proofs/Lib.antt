@@ -1,7 +1,14 @@
+mod All
+mod Begun
+mod Calm
+pub mod Cuts
+mod Emits
+mod Epochs
 mod Live
 mod Owns
-mod Epochs
-mod Calm
+mod Ports
+mod Stays
+mod Switched
 mod Times
 mod Turns
-mod All
+mod Weighed

@@ -1,6 +1,6 @@
-use Rattle.slave_sends.proofs.Emits.{side_emits}
-use Rattle.slave_sends.proofs.Stays.{side_stays}
-use Rattle.slave_sends.proofs.emits_law.Goals as goal
+use Rattle.sent_packets.proofs.Emits.{side_emits}
+use Rattle.sent_packets.proofs.Stays.{side_stays}
+use Rattle.sent_packets.proofs.slave_sends.emits_law.Goals as goal
 
 pub returns : goal.returns
 returns c = record {

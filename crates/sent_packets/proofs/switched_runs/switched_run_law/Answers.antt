@@ -3,8 +3,8 @@ use Rattle.life_runs.specs.First.{lens_of, first_leads}
 use Rattle.master_node.specs.Ports.{ports_behind, ports_of}
 use Rattle.run_work.specs.Packets.{waiting_work}
 use Rattle.run_work.specs.Together.{packets_begun}
-use Rattle.switched_runs.proofs.Switched.{switched_so}
-use Rattle.switched_runs.proofs.switched_run_law.Goals as goal
+use Rattle.sent_packets.proofs.Switched.{switched_so}
+use Rattle.sent_packets.proofs.switched_runs.switched_run_law.Goals as goal
 
 pub returns : goal.returns
 returns c = λ plan is known fs missed leads led round es rest at host listed begun.

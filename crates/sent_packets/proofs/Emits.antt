@@ -30,9 +30,9 @@ use Rattle.slave_model.specs.Product.{served, refusal, side}
 use Rattle.slave_model.specs.Profile.{Protocol, Profile, IsProfile, serves}
 use Rattle.slave_model.specs.Server.{ServiceOf, told_by}
 use Rattle.slave_parts.specs.Parts.{Core, parts}
-use Rattle.slave_sends.specs.Sends.{of_emission, may_send, MaySend, Sends}
-use Rattle.slave_sends.proofs.Cuts.{sends_none, sends_packet}
-use Rattle.slave_sends.proofs.Stays.{emitted_sized}
+use Rattle.sent_packets.specs.Sends.{of_emission, may_send, MaySend, Sends}
+use Rattle.sent_packets.proofs.Cuts.{sends_none, sends_packet}
+use Rattle.sent_packets.proofs.Stays.{emitted_sized}
 
 -- a fragment is the same mail by CoE's server as by EoE's
 same_mails : (fs : List Fragment) → map (told_by CoeOctets.coe_mail_written) (map CoeMails.fragment (map (λ (f : Fragment). eoe_text (Part f)) fs)) ≡ map (told_by EoeOctets.eoe_mail_written) (map part fs)

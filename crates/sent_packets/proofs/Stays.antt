@@ -28,7 +28,7 @@ use Rattle.slave_model.specs.Product.{served, refusal, side}
 use Rattle.slave_model.specs.Profile.{Protocol, Profile, serves}
 use Rattle.slave_model.specs.Server.{ServiceOf}
 use Rattle.slave_parts.specs.Parts.{Core, parts}
-use Rattle.slave_sends.specs.Sends.{MaySend}
+use Rattle.sent_packets.specs.Sends.{MaySend}
 
 -- ---- the octets of a packet that a download emits
 sized : (al : ℕ) (o new : Object) (sub : ℕ) (bytes : List ℕ) → are_sized 14 1514 o.entries ≡ true → download_object al o sub bytes ≡ Ok new → (14 ≤ length bytes) × (length bytes ≤ 1514)

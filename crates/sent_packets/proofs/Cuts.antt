@@ -16,7 +16,7 @@ use Rattle.link_mails.specs.Body.{Body}
 use Rattle.master_hand.specs.Joins.{fragment_of, fragment_in}
 use Rattle.packet_model.specs.Packets.{Emitted, ArePackets, all_fragments, octets_of, as_part, parts}
 use Rattle.slave_model.specs.Server.{told_by}
-use Rattle.slave_sends.specs.Sends.{Sends}
+use Rattle.sent_packets.specs.Sends.{Sends}
 
 -- ---- several
 pub parts_append : (xs ys : List Body) → parts fragment_in (xs ++ ys) ≡ parts fragment_in xs ++ parts fragment_in ys

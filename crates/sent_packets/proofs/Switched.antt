@@ -30,11 +30,11 @@ use Rattle.segment_plan.specs.declared.plan.Scenario.{Scenario}
 use Rattle.segment_plan.specs.declared.slave.SlaveSpec.{SlaveSpec}
 use Rattle.sent_packets.specs.Sent.{AllSend}
 use Rattle.few_replies.specs.Shapes.{shape_of}
-use Rattle.slave_sends.specs.Sends.{all_most}
+use Rattle.sent_packets.specs.Sends.{all_most}
 use Rattle.slave_server.specs.Spec.{core_of, profile_of}
-use Rattle.switched_runs.proofs.Begun.{weights, started_at, begun_weights, none_begun}
-use Rattle.switched_runs.proofs.Ports.{ports_sum, eoe_count, forwards_within, queue_append, entries_within, come_at, few_ports}
-use Rattle.switched_runs.proofs.Weighed.{Echoes, echoes, packets_weigh, all_send}
+use Rattle.sent_packets.proofs.Begun.{weights, started_at, begun_weights, none_begun}
+use Rattle.sent_packets.proofs.Ports.{ports_sum, eoe_count, forwards_within, queue_append, entries_within, come_at, few_ports}
+use Rattle.sent_packets.proofs.Weighed.{Echoes, echoes, packets_weigh, all_send}
 
 -- packets that are too short are left out
 long_less : (n : ℕ) (ps : List (List ℕ)) → queue_work n (long_ones ps) ≤ sum_by (waiting_work n) ps

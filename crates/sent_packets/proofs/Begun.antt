@@ -22,7 +22,7 @@ use Rattle.packets_heard.specs.Over.{AreBegun, packet_begun, packets_begun}
 use Rattle.script_runs.specs.Came.{is_packet}
 use Rattle.script_runs.proofs.Came.{listed, turn_started, behind_same}
 use Rattle.state_exchange.specs.Stated.{Service}
-use Rattle.switched_runs.proofs.Ports.{queue_append}
+use Rattle.sent_packets.proofs.Ports.{queue_append}
 
 -- what a packet comes to at a port of one of n slaves, if a service is one
 abbrev pub weight : ℕ → Service Asked → ℕ

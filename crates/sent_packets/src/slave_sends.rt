@@ -1,15 +1,13 @@
 //! The packets that a slave sends of itself, by the services of its master. Definitions and a law, no running code: the function here does nothing, and its
 //! contract states the law.
-#![tactic(auto)]
 
-ghost use Rattle.std.specs.Prelude.{ℕ, List};
+ghost use Rattle.std.specs.Prelude.{ℕ, List, sum_by};
 ghost use Rattle.eoe_model.specs.Network.{Station};
 ghost use Rattle.slave_model.specs.Product.{side};
 ghost use Rattle.slave_model.specs.Profile.{Protocol, Profile, IsProfile};
 ghost use Rattle.slave_model.specs.Server.{ServiceOf};
 ghost use Rattle.slave_parts.specs.Parts.{Core, parts};
-ghost use Rattle.slave_sends.specs.Sends.{MaySend, Sends, may_send};
-ghost use Rattle.std.specs.Prelude.{sum_by};
+ghost use Rattle.sent_packets.specs.Sends.{MaySend, Sends, may_send};
 
 /// WHAT A SLAVE SENDS BY A SERVICE, in whatever AL state, are the fragments of the packet that a download emits or of the one that goes back, or an
 /// emergency, or nothing; and it may send packets behind it.

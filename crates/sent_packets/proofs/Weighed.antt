@@ -19,9 +19,9 @@ use Rattle.script_runs.specs.Came.{handed_over, AreThose, is_packet}
 use Rattle.segment_plan.specs.declared.service.Service as Plan
 use Rattle.few_replies.specs.Shapes.{Shape, sdo_emission, echo_mails}
 use Rattle.slave_model.specs.Profile.{Profile}
-use Rattle.slave_sends.specs.Sends.{of_emission, asked_sends, sends_most, all_most}
+use Rattle.sent_packets.specs.Sends.{of_emission, asked_sends, sends_most, all_most}
 use Rattle.state_exchange.specs.Stated.{Service}
-use Rattle.switched_runs.proofs.Begun.{weight, weights}
+use Rattle.sent_packets.proofs.Begun.{weight, weights}
 
 -- what a law says of echoes
 pub record Echoes (mac : List ℕ) : Type 0 where

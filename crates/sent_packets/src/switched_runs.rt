@@ -1,6 +1,5 @@
 //! The packets of a program's run are those of one switch. Definitions and a law, no running code: the function here does nothing, and its contract states
 //! the law.
-#![tactic(auto)]
 
 ghost use Rattle.std.specs.Prelude.{◌≡◌, ◌++◌, ℕ, List, All};
 ghost use Rattle.arrayvec.specs.ArrayVec.{ArrayVec};
