@@ -3,10 +3,10 @@ use Rattle.std.proofs.Common.{◌≡◌, ◌<◌, ◌≤◌, ℕ, suc, ◌+◌, 
 use Rattle.std.specs.Prelude.{◌≢◌, ◌==◌, cond, filter, find, if◌then◌else◌, nat_le, not, slice_get, slice_index_or, All}
 use Rattle.std.proofs.lemmas.Bool.{leb-true}
 use Rattle.std.proofs.lemmas.List.Elements.{All-nil, All-append, All-cons, All-filter, All-head, All-map, All-tail, All-weaker}
-use Rattle.kept_rows.proofs.Held.{all_held}
-use Rattle.kept_rows.proofs.of_served_runs.Telling.{serves_tell}
-use Rattle.kept_rows.specs.Rows.{IsHeld, ToldAll}
-use Rattle.kept_rows.specs.of_served_runs.Served.{Serves, ServedTurn, TellsSo}
+use Rattle.served_places.proofs.Held.{all_held}
+use Rattle.served_places.proofs.of_served_runs.Telling.{serves_tell}
+use Rattle.served_places.specs.Rows.{IsHeld, ToldAll}
+use Rattle.served_places.specs.of_served_runs.Served.{Serves, ServedTurn, TellsSo}
 use Rattle.mailbox_mail.specs.Mail.{error_of}
 use Rattle.mailbox_mail.specs.declared.mail.Mail.{Mail}
 use Rattle.master_node.specs.Begins.{begun_of as began_of}

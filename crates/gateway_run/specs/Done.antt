@@ -1,6 +1,6 @@
 -- WHERE A SERVING LEAVES NOTHING each datagram that was queued at a slave is done, unless that slave was given up.
 use Rattle.std.specs.Prelude.{◌≡◌, ◌⊎◌, ℕ, suc, true, Option, Some, None, List, [], ◌∷◌, slice_get, ⊤}
-use Rattle.kept_rows.specs.of_served_runs.Served.{Serves}
+use Rattle.served_places.specs.of_served_runs.Served.{Serves}
 use Rattle.master_node.specs.of_master_tour.Made.{is_in}
 use Rattle.run_book.specs.declared.book.Ending.{Ending}
 use Rattle.run_book.specs.declared.book.Ending.TheVariants as endings

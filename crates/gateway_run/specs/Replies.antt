@@ -5,9 +5,9 @@ use Rattle.master_node.specs.of_life_frames.of_exchange_model.Exchange.{plain}
 use Rattle.master_node.specs.of_life_frames.of_exchange_model.Rows.{Row}
 use Rattle.gateway_core.specs.Framing.{request_in}
 use Rattle.gateway_core.specs.declared.framing.GatewayFault.{GatewayFault}
-use Rattle.kept_rows.specs.Rows.{AreAll, ToldAll, passed_rows}
-use Rattle.kept_rows.specs.of_served_runs.Served.{Keyed, Serves}
-use Rattle.kept_rows.specs.of_served_runs.Told.{Passed}
+use Rattle.served_places.specs.Rows.{AreAll, ToldAll, passed_rows}
+use Rattle.served_places.specs.of_served_runs.Served.{Keyed, Serves}
+use Rattle.served_places.specs.of_served_runs.Told.{Passed}
 use Rattle.mailbox_mail.specs.Mail.{error_of}
 use Rattle.mailbox_mail.specs.declared.mail.Mail.{Mail}
 use Rattle.master_node.specs.of_life_frames.Shares.{AllBoth}

@@ -5,7 +5,7 @@ use Rattle.std.proofs.lemmas.Bool.{le-leb}
 use Rattle.std.proofs.lemmas.List.Elements.{All-nil, All-cons, All-head, All-tail}
 use Rattle.frame_view.specs.Seen.{seen}
 use Rattle.frame_view.specs.View.{Lens}
-use Rattle.kept_rows.proofs.Each.{each}
+use Rattle.served_places.proofs.Each.{each}
 use Rattle.life_frames.specs.Shares.{came_at, given_where}
 use Rattle.life_model.specs.Lives.{Life, Spot, Stand, life_back, life_lost, life_next}
 use Rattle.life_runs.specs.Led.{Exchanged, Leads, speech_at, is_passed}

@@ -3,7 +3,7 @@ use Rattle.std.proofs.Common.{◌≡◌, ℕ, Bool, true, false, None, List, [],
 use Rattle.std.specs.Prelude.{◌&&◌, All}
 use Rattle.frame_view.specs.Seen.{seen}
 use Rattle.frame_view.specs.View.{Lens}
-use Rattle.kept_rows.proofs.Each.{each}
+use Rattle.served_places.proofs.Each.{each}
 use Rattle.life_frames.specs.Shares.{came_at, given_where}
 use Rattle.life_model.specs.Lives.{Life, Spot, life_lost, life_next}
 use Rattle.life_runs.specs.Led.{Exchanged, Leads, speech_at, is_passed}

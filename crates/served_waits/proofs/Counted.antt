@@ -19,7 +19,7 @@ use Rattle.segment_plan.specs.declared.slave.SlaveSpec.{SlaveSpec}
 use Rattle.segment_ring.specs.declared.wire.Fate.{Fate}
 use Rattle.segment_ring.specs.declared.wire.Fate.TheVariants.{Pass}
 use Rattle.served_runs.specs.Served.{Serves, ServedTurn, AllServedTurn, IsServedTurn, recorded, served_behind}
-use Rattle.served_tours.specs.Toured.{back_under}
+use Rattle.served_places.specs.Toured.{back_under}
 use Rattle.served_waits.specs.Eager.{leads_of}
 use Rattle.served_waits.proofs.Ready.{AllCounted, AllStationed, nexts_then}
 use Rattle.served_waits.proofs.Unread.{unread_on}

@@ -28,7 +28,7 @@ use Rattle.segment_ring.specs.declared.wire.Fate.{Fate}
 use Rattle.segment_ring.specs.declared.wire.Fate.TheVariants.{Pass}
 use Rattle.served_runs.specs.Served.{Keyed, Serves, ServedTurn, AllServedTurn, IsServedTurn, ServedComes, served_behind, served_life}
 use Rattle.served_runs.specs.Told.{Passed}
-use Rattle.served_tours.specs.Toured.{back_under}
+use Rattle.served_places.specs.Toured.{back_under}
 use Rattle.served_waits.specs.Eager.{AllStill, leads_of, turns_of}
 use Rattle.served_waits.proofs.Tells.{tells}
 use Rattle.slave_server.specs.Serving.{Serving}

@@ -6,7 +6,7 @@ use Rattle.std.proofs.lemmas.List.Elements.{All-nil, All-cons, All-head, All-tai
 use Rattle.idle_slaves.specs.Eager.{Remembered}
 use Rattle.frame_view.specs.Seen.{seen}
 use Rattle.frame_view.specs.View.{Lens}
-use Rattle.kept_rows.proofs.Each.{each}
+use Rattle.served_places.proofs.Each.{each}
 use Rattle.life_model.specs.Lives.{Spot}
 use Rattle.life_runs.specs.First.{lens_of, first_leads, leads_from}
 use Rattle.life_runs.specs.Led.{Exchanged, Leads}
@@ -25,9 +25,9 @@ use Rattle.segment_ring.specs.declared.wire.Fate.TheVariants.{Pass, Lost}
 use Rattle.served_rows.specs.Rows.{IsNew}
 use Rattle.served_rows.proofs.Rows.{each_first}
 use Rattle.served_runs.specs.Served.{Serves, ServedTurn, IsServedFrame, IsServedTurn, all_serve, served_behind, served_life}
-use Rattle.served_tours.specs.Answered.{ServedWaits}
-use Rattle.served_tours.specs.Toured.{IsServedToured}
-use Rattle.served_tours.proofs.Slaves.{begins_so}
+use Rattle.served_places.specs.Answered.{ServedWaits}
+use Rattle.served_places.specs.Toured.{IsServedToured}
+use Rattle.served_places.proofs.Slaves.{begins_so}
 use Rattle.served_waits.specs.Eager.{ServedEagerIn, leads_of}
 use Rattle.served_waits.proofs.Ready.{AllStationed}
 use Rattle.served_waits.proofs.Walk.{Led, ServedLaws, first_of, nodes_at, walks}

@@ -19,7 +19,7 @@ use Rattle.segment_model.specs.Slaves.{Datagram, grams, serving}
 use Rattle.segment_plan.specs.declared.service.Service as Plan
 use Rattle.segment_plan.specs.declared.slave.SlaveSpec.{SlaveSpec}
 use Rattle.served_runs.specs.Served.{Keyed, Serves, ServedTurn, AllServedTurn, asked_at, served_behind}
-use Rattle.served_tours.specs.Toured.{back_under}
+use Rattle.served_places.specs.Toured.{back_under}
 use Rattle.served_waits.specs.Eager.{AllStaySo, StaysSo, leads_of, turns_of}
 use Rattle.served_waits.proofs.Ready.{AllCounted}
 use Rattle.slave_server.specs.Serving.{Serving}

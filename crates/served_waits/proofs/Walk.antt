@@ -26,9 +26,9 @@ use Rattle.run_frames.proofs.Leading.{SeenIs, led_view}
 use Rattle.segment_plan.specs.declared.plan.Scenario.{Scenario}
 use Rattle.segment_ring.specs.declared.wire.Fate.TheVariants.{Pass, Lost}
 use Rattle.served_runs.specs.Served.{Keyed, MayAsk, Serves, ServedTurn, IsServedFrame, IsServedLed, all_serve, asked_at}
-use Rattle.served_tours.specs.Answered.{ServedWaits}
-use Rattle.served_tours.specs.Toured.{IsServedToured, back_under, first_served, lost_under, serves_on, served_back, served_lost, still_served, waits_served}
-use Rattle.served_tours.proofs.Slaves.{all_led_back, all_led_lost, all_under, leads_asked}
+use Rattle.served_places.specs.Answered.{ServedWaits}
+use Rattle.served_places.specs.Toured.{IsServedToured, back_under, first_served, lost_under, serves_on, served_back, served_lost, still_served, waits_served}
+use Rattle.served_places.proofs.Slaves.{all_led_back, all_led_lost, all_under, leads_asked}
 use Rattle.served_waits.specs.Eager.{AllStaySo, IsServedEager, ServedEagerIn, leads_of, turns_of}
 use Rattle.served_waits.proofs.Counted.{counted_anew, counted_on}
 use Rattle.served_waits.proofs.Ready.{AllCounted, AllStationed, all_ready, nexts_served, nexts_then}

@@ -12,7 +12,7 @@ use Rattle.run_frames.specs.Clocks.{Clocked}
 use Rattle.run_frames.specs.Runs.{Progress}
 use Rattle.segment_plan.specs.declared.plan.Scenario.{Scenario}
 use Rattle.served_runs.specs.Served.{Serves, ServedTurn, served_behind}
-use Rattle.served_tours.specs.Toured.{IsServedToured, still_served}
+use Rattle.served_places.specs.Toured.{IsServedToured, still_served}
 use Rattle.idle_slaves.specs.WaitEager.{AllRest, AllSilent}
 
 -- what is remembered of a slave's visits stays, and no packet came to its port, nor was a mail asked that is to be passed on

@@ -2,11 +2,11 @@ use Rattle.std.proofs.Common.{◌<◌, ◌+◌, ◌*◌, length, subst}
 use Rattle.life_runs.specs.First.{lens_of, first_leads}
 use Rattle.segment_plan.specs.Bound.{slowest}
 use Rattle.served_runs.specs.Served.{all_serve}
-use Rattle.served_tours.specs.Toured.{first_served}
+use Rattle.served_places.specs.Toured.{first_served}
 use Rattle.run_frames.proofs.Within.{plan_within}
-use Rattle.served_tours.proofs.Runs.{counts}
-use Rattle.served_tours.proofs.Slaves.{begins_so, leads_in}
-use Rattle.served_tours.proofs.served_frames.Goals as goal
+use Rattle.served_places.proofs.Runs.{counts}
+use Rattle.served_places.proofs.Slaves.{begins_so, leads_in}
+use Rattle.served_places.proofs.served_tours.served_frames.Goals as goal
 
 pub returns-clause-run : goal.returns-clause-run
 returns-clause-run c = λ plan fs again missed ws p cs is t back asks answers waits.

@@ -17,10 +17,10 @@ use Rattle.run_frames.proofs.Touring.{AgainOf}
 use Rattle.run_frames.proofs.Visiting.{visit_again, visit_carries, visit_rounds}
 use Rattle.segment_ring.specs.declared.wire.Fate.TheVariants.{Pass, Lost}
 use Rattle.served_runs.specs.Served.{Serves, ServedTurn, IsServedFrame}
-use Rattle.served_tours.specs.Answered.{ServedAsks, ServedAnswers, ServedWaits}
-use Rattle.served_tours.specs.Toured.{IsServedToured, back_under, first_served, lost_under, serves_on, served_back, served_lost}
-use Rattle.served_tours.proofs.Slaves.{Slave, all_bring, all_led_back, all_led_lost, all_under, leads_asked, leads_in}
-use Rattle.served_tours.proofs.Toured.{one_more}
+use Rattle.served_places.specs.Answered.{ServedAsks, ServedAnswers, ServedWaits}
+use Rattle.served_places.specs.Toured.{IsServedToured, back_under, first_served, lost_under, serves_on, served_back, served_lost}
+use Rattle.served_places.proofs.Slaves.{Slave, all_bring, all_led_back, all_led_lost, all_under, leads_asked, leads_in}
+use Rattle.served_places.proofs.Toured.{one_more}
 
 module _ (seen_is : SeenIs) (lens : ℕ → Lens) (recover retry slowest : ℕ) (first : List Serves) (begins : AllNew (first_served first) × AllClocked slowest (first_served first) × AreLed (leads_in first) (first_served first)) where
   abbrev Run : Progress → List Slave → Type 0

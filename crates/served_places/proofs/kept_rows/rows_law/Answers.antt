@@ -1,6 +1,6 @@
-use Rattle.kept_rows.proofs.Next.{next_stays}
-use Rattle.kept_rows.proofs.Behind.{behind_stays}
-use Rattle.kept_rows.proofs.rows_law.Goals as goal
+use Rattle.served_places.proofs.Next.{next_stays}
+use Rattle.served_places.proofs.Behind.{behind_stays}
+use Rattle.served_places.proofs.kept_rows.rows_law.Goals as goal
 
 pub returns-clause-next : goal.returns-clause-next
 returns-clause-next c = λ lens made ds w v t. next_stays lens made ds w v t

@@ -35,10 +35,10 @@ use Rattle.master_tour.specs.Brings.{accepted_at}
 use Rattle.serving_model.specs.Passing.{ends_told}
 use Rattle.served_runs.specs.Served.{Keyed, Serves, ServedTurn, ServedComes, IsServedTurn, accepted_by, gives_it, served_behind, served_life}
 use Rattle.served_runs.specs.Told.{Passed, replies_in, told_on}
-use Rattle.kept_rows.specs.Rows.{IsHeld, StandsTold, ToldAll}
-use Rattle.kept_rows.proofs.Behind.{reopens_keeps}
-use Rattle.kept_rows.proofs.Next.{next_open, next_passing}
-use Rattle.kept_rows.proofs.News.{Brings, IsBrief, IsStill, frame_brings, still_heard, told_brings}
+use Rattle.served_places.specs.Rows.{IsHeld, StandsTold, ToldAll}
+use Rattle.served_places.proofs.Behind.{reopens_keeps}
+use Rattle.served_places.proofs.Next.{next_open, next_passing}
+use Rattle.served_places.proofs.News.{Brings, IsBrief, IsStill, frame_brings, still_heard, told_brings}
 
 -- others follow each of these
 abbrev AllFollowed : List Body → Type 0

@@ -28,7 +28,7 @@ use Rattle.segment_plan.specs.declared.service.Service as Plan
 use Rattle.segment_plan.specs.declared.slave.SlaveSpec.{SlaveSpec}
 use Rattle.segment_ring.specs.declared.wire.Fate.TheVariants.{Pass, Lost}
 use Rattle.served_runs.specs.Served.{Keyed, Serves, ServedTurn, AllServedTurn, all_serve, asked_at, served_behind, served_life}
-use Rattle.served_tours.specs.Toured.{back_under, first_served, lost_under}
+use Rattle.served_places.specs.Toured.{back_under, first_served, lost_under}
 
 abbrev pub Slave : Type 0
 Slave = Clocked Body Asked Reply

@@ -1,10 +1,9 @@
 //! The rows of the mails that are passed on to the slaves of a serving. Definitions and laws, no running code: the functions here do nothing, and their
 //! contracts state the laws.
-#![tactic(auto)]
 
 ghost use Rattle.std.specs.Prelude.{◌≡◌, ◌≤◌, ◌++◌, ℕ, Bool, List, Some, None, All};
 ghost use Rattle.counters_kept.specs.Lives.{LifeKept};
-ghost use Rattle.kept_rows.specs.Rows.{IsHeld, Stays, ToldAll, passed_rows, row_begun};
+ghost use Rattle.served_places.specs.Rows.{IsHeld, Stays, ToldAll, passed_rows, row_begun};
 ghost use Rattle.life_runs.specs.of_datagrams.Datagram as Raw;
 ghost use Rattle.life_runs.specs.of_datagrams.Frame.{IsFrame, chained};
 ghost use Rattle.life_runs.specs.of_frame_view.Seen.{seen};

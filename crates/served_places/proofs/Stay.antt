@@ -10,7 +10,7 @@ use Rattle.life_runs.specs.of_life_frames.Shares.{AllBoth}
 use Rattle.life_runs.specs.of_link_mails.Body.{Body}
 use Rattle.life_runs.specs.of_master_duty.Reply.{Reply}
 use Rattle.life_runs.specs.of_master_hand.Spoken.{Asked, is_passed}
-use Rattle.kept_rows.specs.Rows.{Stays, eras_rows, is_passed_row, life_rows, passed_rows}
+use Rattle.served_places.specs.Rows.{Stays, eras_rows, is_passed_row, life_rows, passed_rows}
 
 -- a list of rows
 abbrev pub Listed : Type 0

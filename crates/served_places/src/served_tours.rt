@@ -1,5 +1,4 @@
 //! A serving whose frames are visits of one tour. Definitions and a law, no running code: the function here does nothing, and its contract states the law.
-#![tactic(auto)]
 
 ghost use Rattle.std.specs.Prelude.{◌≡◌, ◌≤◌, ◌<◌, ◌+◌, ◌*◌, ℕ, Option, List, length, map};
 ghost use Rattle.frame_view.specs.View.{Lens};
@@ -16,8 +15,8 @@ ghost use Rattle.segment_plan.specs.Bound.{slowest};
 ghost use Rattle.segment_plan.specs.Sound.{IsPlan};
 ghost use Rattle.segment_plan.specs.declared.plan.Scenario.{Scenario};
 ghost use Rattle.served_runs.specs.Served.{Serves, IsServedLed, all_serve};
-ghost use Rattle.served_tours.specs.Answered.{ServedAsks, ServedAnswers, ServedWaits};
-ghost use Rattle.served_tours.specs.Toured.{IsServedToured, first_served};
+ghost use Rattle.served_places.specs.Answered.{ServedAsks, ServedAnswers, ServedWaits};
+ghost use Rattle.served_places.specs.Toured.{IsServedToured, first_served};
 
 /// SUCH FRAMES ARE A SERVING, and each is counted once.
 pub fn served_tours()

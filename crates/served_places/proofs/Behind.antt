@@ -23,8 +23,8 @@ use Rattle.life_runs.specs.of_segment_ring.declared.wire.Fate.TheVariants.{Pass,
 use Rattle.life_runs.specs.Led.{Exchanged, speech_at}
 use Rattle.master_tour.proofs.Unpassed.{unpassed_back, unpassed_lost}
 use Rattle.served_runs.specs.Served.{ServedTurn, gives_it, served_behind, served_life}
-use Rattle.kept_rows.specs.Rows.{Stays, eras_rows, life_rows, passed_rows}
-use Rattle.kept_rows.proofs.Stay.{all_append, all_itself, all_same, eras_append, lives_stay, newest_heard}
+use Rattle.served_places.specs.Rows.{Stays, eras_rows, life_rows, passed_rows}
+use Rattle.served_places.proofs.Stay.{all_append, all_itself, all_same, eras_append, lives_stay, newest_heard}
 
 -- the rows of a life stay as they are
 abbrev SameRows : Life Body Asked Reply → Life Body Asked Reply → Type 0

@@ -18,8 +18,8 @@ use Rattle.life_runs.specs.of_master_hand.Spoken.{Asked, acknowledged, is_follow
 use Rattle.life_runs.specs.of_master_side.Passing.{passing_behind}
 use Rattle.life_runs.specs.Led.{Took, speech_at}
 use Rattle.served_runs.specs.Served.{Serves, ServedTurn, IsServedTurn}
-use Rattle.kept_rows.specs.Rows.{Stays, eras_rows, is_passed_row, life_rows, passed_rows, row_begun}
-use Rattle.kept_rows.proofs.Stay.{all_append, all_itself, lives_more, side_holds_stays}
+use Rattle.served_places.specs.Rows.{Stays, eras_rows, is_passed_row, life_rows, passed_rows, row_begun}
+use Rattle.served_places.proofs.Stay.{all_append, all_itself, lives_more, side_holds_stays}
 
 -- one more is never none
 more_not : {T : Type 0} (xs : List T) (y : T) → xs ≡ xs ++ y ∷ [] → ⊥

@@ -19,8 +19,8 @@ use Rattle.life_runs.specs.Led.{Exchanged, Leads, Took, speech_at}
 use Rattle.served_runs.specs.Served.{Keyed, Serves, ServedTurn, ServedComes, IsServedTurn, IsServedLed, accepted_by, all_serve, gives_it, served_life}
 use Rattle.served_runs.specs.Told.{Passed, replies_in, told_on}
 use Rattle.served_runs.proofs.Tells.{HasPassed, back_has, lost_has, mail_next, none_next}
-use Rattle.kept_rows.specs.Rows.{IsHeld}
-use Rattle.kept_rows.proofs.Each.{each}
+use Rattle.served_places.specs.Rows.{IsHeld}
+use Rattle.served_places.proofs.Each.{each}
 
 abbrev Has : Option Passed → Life Body Asked Reply → Type 0
 Has hand l = (p : Passed) → hand ≡ Some p → HasPassed p l

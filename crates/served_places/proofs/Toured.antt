@@ -8,7 +8,7 @@ use Rattle.master_hand.specs.Spoken.{Asked}
 use Rattle.run_frames.specs.Clocks.{Clocked}
 use Rattle.run_frames.specs.Runs.{Progress}
 use Rattle.served_runs.specs.Served.{Serves, IsServedLed}
-use Rattle.served_tours.specs.Toured.{IsServedToured}
+use Rattle.served_places.specs.Toured.{IsServedToured}
 
 pub one_more : (fs : List Exchanged) (f : Exchanged) (n : ℕ) → n ≡ length fs → suc n ≡ length (fs ++ f ∷ [])
 one_more fs f n e = omega (arith, e, length-append fs (f ∷ []))

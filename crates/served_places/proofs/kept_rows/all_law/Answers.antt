@@ -1,6 +1,6 @@
 use Rattle.std.specs.Prelude.{◌≡◌, Some, None}
-use Rattle.kept_rows.proofs.All.{goes_told}
-use Rattle.kept_rows.proofs.all_law.Goals as goal
+use Rattle.served_places.proofs.All.{goes_told}
+use Rattle.served_places.proofs.kept_rows.all_law.Goals as goal
 
 pub returns-clause-begins : goal.returns-clause-begins
 returns-clause-begins c = λ pace a p e. absurd (let bad : None ≡ Some p = e in cc)

@@ -29,9 +29,9 @@ use Rattle.master_tour.proofs.Backs.{seen_aims}
 use Rattle.master_tour.proofs.Unders.{SameAim}
 use Rattle.master_tour.specs.Brings.{accepted_at}
 use Rattle.served_runs.specs.Served.{Serves, ServedTurn, IsServedTurn, accepted_by, served_life}
-use Rattle.kept_rows.proofs.All.{same_many}
-use Rattle.kept_rows.proofs.Behind.{reopens_keeps}
-use Rattle.kept_rows.proofs.News.{none_news}
+use Rattle.served_places.proofs.All.{same_many}
+use Rattle.served_places.proofs.Behind.{reopens_keeps}
+use Rattle.served_places.proofs.News.{none_news}
 
 -- no news of it
 module _ (station : ℕ) where
