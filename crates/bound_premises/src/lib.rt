@@ -2,15 +2,18 @@
 //! of. Definitions and laws, no running code: the function here does nothing, and its contract states the law.
 #![tactic(auto)]
 
-ghost use Rattle.std.specs.Prelude.{ℕ, List};
+ghost use Rattle.bound_premises.specs.Tours.{IsCounted};
 ghost use Rattle.frame_view.specs.View.{Lens};
 ghost use Rattle.life_runs.specs.First.{lens_of, first_leads};
 ghost use Rattle.life_runs.specs.Led.{Exchanged, Leads};
 ghost use Rattle.master_node.specs.of_master_tour.Toured.{Tour};
+ghost use Rattle.packets_heard.specs.Toured.{IsToured};
 ghost use Rattle.segment_plan.specs.Sound.{IsPlan};
 ghost use Rattle.segment_plan.specs.declared.plan.Scenario.{Scenario};
-ghost use Rattle.packets_heard.specs.Toured.{IsToured};
-ghost use Rattle.bound_premises.specs.Tours.{IsCounted};
+ghost use Rattle.std.specs.Prelude.{ℕ, List};
+
+pub mod bounded_runs;
+pub mod eager_runs;
 
 /// THE FRAMES OF A MASTER'S TOUR ARE THE VISITS THAT THE COUNT OF FRAMES SPEAKS OF, frame by frame, with the slaves that come again, as many that have
 /// ended their first bring-up, and as many frames lost in a row; and each asks by the inward half first.

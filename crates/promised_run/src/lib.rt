@@ -9,7 +9,7 @@ ghost use Rattle.segment_plan.specs.Sound.{IsPlan};
 ghost use Rattle.promised_run.specs.Bounded.{IsBounded};
 ghost use Rattle.promised_run.specs.Promised.{IsPromised};
 
-use bounded_runs::uncut_law;
+use bound_premises::uncut_law;
 use life_runs::epochs_law;
 use plan_ring::room_law;
 use run_book::{Book, Ending};

@@ -20,8 +20,8 @@ use Rattle.slave_server.specs.Serving.{Serving, next_mail}
 use Rattle.slave_server.specs.Spec.{profile_of}
 use Rattle.slave_steps.specs.Node.{Node, is_settled}
 use Rattle.idle_slaves.specs.WaitEager.{AllRest, IsResting}
-use Rattle.eager_runs.specs.Runs.{is_waiting, remembered, waiting_at}
-use Rattle.eager_runs.proofs.Settled.{settled_back}
+use Rattle.bound_premises.specs.Runs.{is_waiting, remembered, waiting_at}
+use Rattle.bound_premises.proofs.Settled.{settled_back}
 
 pub none_waiting : (q : List (ArrayVec ℕ)) → is_waiting q ≡ false → q ≡ []
 none_waiting [] e = refl

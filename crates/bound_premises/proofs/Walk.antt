@@ -31,13 +31,13 @@ use Rattle.slave_steps.specs.Node.{Node}
 use Rattle.packets_heard.specs.Toured as Visits
 use Rattle.idle_slaves.specs.WaitEager.{AllRest, AllUnpassed, IsEagerFrame}
 use Rattle.plan_met.specs.Dues.{MailsAreDue}
-use Rattle.eager_runs.specs.Runs.{ScriptsMay, remembered, waiting_at}
-use Rattle.eager_runs.proofs.Counts.{came_more, entered_few, lost_more, lost_one}
-use Rattle.eager_runs.proofs.Frames.{all_eager, all_known, all_quiet, all_remember, gets_none, lost_known}
-use Rattle.eager_runs.proofs.Ports.{none_before, none_more}
-use Rattle.eager_runs.proofs.Rests.{rests_so, settled_so}
-use Rattle.eager_runs.proofs.Scripts.{AllMay, may_all}
-use Rattle.eager_runs.proofs.Unpassed.{TurnsUnpassed, turns_unpassed, unpassed_on}
+use Rattle.bound_premises.specs.Runs.{ScriptsMay, remembered, waiting_at}
+use Rattle.bound_premises.proofs.Counts.{came_more, entered_few, lost_more, lost_one}
+use Rattle.bound_premises.proofs.Frames.{all_eager, all_known, all_quiet, all_remember, gets_none, lost_known}
+use Rattle.bound_premises.proofs.Ports.{none_before, none_more}
+use Rattle.bound_premises.proofs.Rests.{rests_so, settled_so}
+use Rattle.bound_premises.proofs.Scripts.{AllMay, may_all}
+use Rattle.bound_premises.proofs.Unpassed.{TurnsUnpassed, turns_unpassed, unpassed_on}
 
 abbrev Slave : Type 0
 Slave = Clocked Body Asked Reply

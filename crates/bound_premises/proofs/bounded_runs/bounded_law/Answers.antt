@@ -1,5 +1,5 @@
-use Rattle.bounded_runs.proofs.Uncut.{never_spent}
-use Rattle.bounded_runs.proofs.bounded_law.Goals as goal
+use Rattle.bound_premises.proofs.Uncut.{never_spent}
+use Rattle.bound_premises.proofs.bounded_runs.bounded_law.Goals as goal
 
 pub returns : goal.returns
 returns c = λ plan book ending is known sent ends led p cs run enough.

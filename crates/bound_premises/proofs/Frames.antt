@@ -31,11 +31,11 @@ use Rattle.segment_model.specs.Slaves.{Datagram, grams}
 use Rattle.segment_plan.specs.declared.plan.Scenario.{Scenario}
 use Rattle.idle_slaves.specs.WaitEager.{AllSilent}
 use Rattle.plan_met.specs.Dues.{AllDue}
-use Rattle.eager_runs.specs.Runs.{is_waiting, remembered, waiting_at}
-use Rattle.eager_runs.proofs.Maps.{each_asks, full_is, memory, memory_behind_is, memory_same, visit_is}
-use Rattle.eager_runs.proofs.Rests.{at_port}
-use Rattle.eager_runs.proofs.Scripts.{AllMay, MayAll, none_left}
-use Rattle.eager_runs.proofs.Unpassed.{TurnsUnpassed}
+use Rattle.bound_premises.specs.Runs.{is_waiting, remembered, waiting_at}
+use Rattle.bound_premises.proofs.Maps.{each_asks, full_is, memory, memory_behind_is, memory_same, visit_is}
+use Rattle.bound_premises.proofs.Rests.{at_port}
+use Rattle.bound_premises.proofs.Scripts.{AllMay, MayAll, none_left}
+use Rattle.bound_premises.proofs.Unpassed.{TurnsUnpassed}
 
 none_is : (q : List (ArrayVec ℕ)) → q ≡ [] → is_waiting q ≡ false
 none_is q e = ap is_waiting e

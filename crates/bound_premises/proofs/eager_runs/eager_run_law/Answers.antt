@@ -8,10 +8,10 @@ use Rattle.bound_premises.proofs.Tours.{bridged}
 use Rattle.master_node.specs.Happened.{arrivals_at}
 use Rattle.packets_heard.specs.Recalled.{IsFirst}
 use Rattle.std.specs.Prelude.{[], length, ◌≡◌, ◌+◌}
-use Rattle.eager_runs.specs.Runs.{remembered}
-use Rattle.eager_runs.proofs.First.{first_unpassed}
-use Rattle.eager_runs.proofs.Walk.{Holds, Laws, Step, frames, starts, stays}
-use Rattle.eager_runs.proofs.eager_run_law.Goals as goal
+use Rattle.bound_premises.specs.Runs.{remembered}
+use Rattle.bound_premises.proofs.First.{first_unpassed}
+use Rattle.bound_premises.proofs.Walk.{Holds, Laws, Step, frames, starts, stays}
+use Rattle.bound_premises.proofs.eager_runs.eager_run_law.Goals as goal
 
 pub returns : goal.returns
 returns c = λ plan fs t leads s is known room toured recalled went rest host.

@@ -19,7 +19,7 @@ use Rattle.packets_heard.proofs.PacketsRuns.{frame_all}
 use Rattle.packets_heard.proofs.Owns.{own_port}
 use Rattle.packets_heard.specs.Recalled.{AtSwitch, enters, has_entered}
 use Rattle.segment_plan.specs.declared.plan.Scenario.{Scenario}
-use Rattle.eager_runs.specs.Runs.{waiting_at}
+use Rattle.bound_premises.specs.Runs.{waiting_at}
 
 -- ---- a port that is changed
 changed_later : (f : Port → Port) (p : Port) (ps : List Port) (at : ℕ) (o : Option Port) → changed f (p ∷ ps) (suc at) o ≡ p ∷ changed f ps at o

@@ -1,10 +1,9 @@
 //! A run of one tour whose master makes no visit in vain is one whose count has a bound. Definitions and a law, no running code: the function here does nothing,
 //! and its contract states the law.
-#![tactic(auto)]
 
 ghost use Rattle.std.specs.Prelude.{◌≡◌, ◌++◌, ℕ, List};
 ghost use Rattle.arrayvec.specs.ArrayVec.{ArrayVec};
-ghost use Rattle.eager_runs.specs.Runs.{HasRun};
+ghost use Rattle.bound_premises.specs.Runs.{HasRun};
 ghost use Rattle.life_runs.specs.First.{lens_of, first_leads};
 ghost use Rattle.life_runs.specs.Led.{Exchanged, Leads};
 ghost use Rattle.master_node.specs.Happened.{arrivals_at};

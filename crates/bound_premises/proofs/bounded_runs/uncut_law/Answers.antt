@@ -1,5 +1,5 @@
-use Rattle.bounded_runs.proofs.Recalled.{uncut}
-use Rattle.bounded_runs.proofs.uncut_law.Goals as goal
+use Rattle.bound_premises.proofs.Recalled.{uncut}
+use Rattle.bound_premises.proofs.bounded_runs.uncut_law.Goals as goal
 
 pub returns : goal.returns
 returns c = λ plan book ending is known room sent ends led enough.

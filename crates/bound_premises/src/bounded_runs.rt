@@ -1,5 +1,4 @@
 //! A run is never cut off by a budget of as many frames as the bound. Laws, no running code: the functions here do nothing, and their contracts state the laws.
-#![tactic(auto)]
 
 ghost use Rattle.std.specs.Prelude.{◌≢◌, ◌≤◌, ℕ, List, map};
 ghost use Rattle.link_mails.specs.Body.{Body};
@@ -37,5 +36,5 @@ pub fn uncut_law()
         bound_of plan 0 ≤ budget_of plan 0 → ending ≢ endings.BudgetSpent }
 {
     bounded_law();
-    eager_runs::eager_run_law();
+    bound_premises::eager_run_law();
 }
