@@ -18,7 +18,7 @@ use Rattle.link_mails.specs.Body.{Body}
 use Rattle.master_duty.specs.Reply.{Reply}
 use Rattle.master_hand.specs.Spoken.{Asked, acknowledged}
 use Rattle.named_lives.specs.Alike.{Alike}
-use Rattle.named_waits.proofs.Alike.{answered_alike}
+use Rattle.named_lives.proofs.NamedAlike.{answered_alike}
 use Rattle.never_waits.specs.Waits.{NeverWaits}
 use Rattle.plan_met.specs.Met.{slave_at, IsOpenAt, IsAt}
 use Rattle.plan_ring.specs.Asked.{asked, is_service}

@@ -8,8 +8,8 @@ use Rattle.idle_slaves.proofs.Settled.{is_left}
 use Rattle.life_model.specs.Eras.{EraIs}
 use Rattle.life_model.specs.Lives.{Life, Spot}
 use Rattle.named_lives.specs.Alike.{Alike, RowIs}
-use Rattle.named_waits.proofs.Alike.{free_back, left_alike, answered_alike}
-use Rattle.named_waits.specs.of_never_waits.Waits.{NeverWaits}
+use Rattle.named_lives.proofs.NamedAlike.{free_back, left_alike, answered_alike}
+use Rattle.named_lives.specs.of_never_waits.Waits.{NeverWaits}
 use Rattle.segment_model.specs.Record.{Frame}
 use Rattle.segment_model.specs.Slaves.{Processor, Registers, Slave, serving}
 use Rattle.state_exchange.specs.Stated.{Stated, IsStated}

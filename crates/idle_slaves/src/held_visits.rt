@@ -12,7 +12,7 @@ ghost use Rattle.life_model.specs.Eras.{EraIs};
 ghost use Rattle.life_model.specs.Lives.{Life, Era, Spot, Stand, life_back, era_next};
 ghost use Rattle.link_model.specs.Slave.{Node, Server};
 ghost use Rattle.named_lives.specs.Alike.{Alike, RowIs};
-ghost use Rattle.named_waits.specs.of_never_waits.Waits.{NeverWaits};
+ghost use Rattle.named_lives.specs.of_never_waits.Waits.{NeverWaits};
 ghost use Rattle.run_frames.specs.Waits.{Waits};
 ghost use Rattle.segment_model.specs.Record.{Frame, News};
 ghost use Rattle.segment_model.specs.Seats.{side_back};

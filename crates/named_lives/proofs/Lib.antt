@@ -1,2 +1,4 @@
-pub mod Named
 pub mod Alike
+pub mod Named
+pub mod NamedAlike
+pub mod Names

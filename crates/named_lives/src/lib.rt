@@ -2,15 +2,17 @@
 //! contract states a law.
 #![tactic(auto)]
 
-ghost use Rattle.std.specs.Prelude.{◌≡◌, ℕ, Bool, List, Option};
 ghost use Rattle.exchange_model.specs.Exchange.{Exchange, Speech, IsLawful};
+ghost use Rattle.life_model.specs.Lives.{Spot, Life, Stand, life_next, life_back, life_lost};
+ghost use Rattle.named_lives.specs.Alike.{Alike, WishIs, InHandIs};
+ghost use Rattle.named_lives.specs.Named.{Naming, named, named_states, Agrees, AgreesLast};
 ghost use Rattle.segment_model.specs.Record.{News};
 ghost use Rattle.segment_model.specs.Slaves.{Datagram, Found};
 ghost use Rattle.state_exchange.specs.Stated.{Stated, IsStated};
+ghost use Rattle.std.specs.Prelude.{◌≡◌, ℕ, Bool, List, Option};
 ghost use Rattle.task_model.specs.Accounts.{Pick};
-ghost use Rattle.life_model.specs.Lives.{Spot, Life, Stand, life_next, life_back, life_lost};
-ghost use Rattle.named_lives.specs.Named.{Naming, named, named_states, Agrees, AgreesLast};
-ghost use Rattle.named_lives.specs.Alike.{Alike, WishIs, InHandIs};
+
+pub mod named_waits;
 
 /// An exchange owes its laws by its client's names too, and its AL state is a part of its application.
 pub fn named_law<V, A, M, Q, R, P, T>()

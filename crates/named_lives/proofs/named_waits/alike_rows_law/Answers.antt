@@ -1,5 +1,5 @@
-use Rattle.named_waits.proofs.Alike.{free_alike, free_back, left_alike, answered_alike}
-use Rattle.named_waits.proofs.alike_rows_law.Goals as goal
+use Rattle.named_lives.proofs.NamedAlike.{free_alike, free_back, left_alike, answered_alike}
+use Rattle.named_lives.proofs.named_waits.alike_rows_law.Goals as goal
 
 pub returns-clause-free : goal.returns-clause-free
 returns-clause-free g c = λ is y z same d acknowledged row. (free_alike is y z same d acknowledged row, free_back is y z same d acknowledged row)

@@ -1,6 +1,5 @@
 //! Clients by other names of their services: they never wait in vain either, and a service in hand is over for both or for none. No running code: the functions
 //! here do nothing, and their contracts state the laws.
-#![tactic(auto)]
 
 ghost use Rattle.std.specs.Prelude.{Bool};
 ghost use Rattle.never_waits.specs.Moments.{IsFree, NoneLeft, NowAnswered};
