@@ -1,3 +1,5 @@
-pub mod Settled
-mod Owns
 pub mod Epochs
+pub mod First
+mod Owns
+pub mod Rows
+pub mod Settled

@@ -1,7 +1,7 @@
 //! What a life that is lived by its node keeps, epoch by epoch. No running code: the function here does nothing, and its contract states a law.
 #![tactic(auto)]
 
-ghost use Rattle.std.specs.Prelude.{◌≡◌, true, Bool, List};
+ghost use Rattle.kept_lives.specs.Epochs.{IsKeptLife};
 ghost use Rattle.life_model.specs.Eras.{Clearing};
 ghost use Rattle.life_model.specs.Lives.{Spot, Life};
 ghost use Rattle.link_mails.specs.Body.{Body};
@@ -9,8 +9,10 @@ ghost use Rattle.segment_model.specs.Record.{Frame};
 ghost use Rattle.slave_lives.specs.Lived.{Behind};
 ghost use Rattle.slave_lives.specs.Opening.{Plan};
 ghost use Rattle.slave_steps.specs.Node.{Node};
+ghost use Rattle.std.specs.Prelude.{◌≡◌, true, Bool, List};
 ghost use Rattle.whole_lives.specs.Whole.{OwesLaws, IsLived};
-ghost use Rattle.kept_lives.specs.Epochs.{IsKeptLife};
+
+pub mod book_lives;
 
 /// OF A LIFE THAT IS LIVED each epoch has carried out just the first of the services that came into hand in it, each once and in order, from what the
 /// epoch before left, cleared; each reply is that of its service; and of the newest, where nothing is left, all are carried out.

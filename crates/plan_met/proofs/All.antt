@@ -22,7 +22,7 @@ use Rattle.life_runs.specs.of_segment_ring.declared.wire.Fate.{Fate}
 use Rattle.slave_parts.specs.of_slave_model.Profile.{Profile, IsProfile}
 use Rattle.plan_ring.specs.of_slave_server.Serving.{Serving}
 use Rattle.plan_ring.specs.of_slave_server.Spec.{profile_of}
-use Rattle.plan_ring.specs.of_book_lives.of_slave_steps.Node.{Node}
+use Rattle.plan_ring.specs.of_kept_lives.of_slave_steps.Node.{Node}
 use Rattle.plan_met.specs.Dues.{AllDue}
 use Rattle.plan_met.proofs.Slaves.{is_due}
 

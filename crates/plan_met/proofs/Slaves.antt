@@ -25,12 +25,12 @@ use Rattle.plan_ring.proofs.Turns.{wish_is}
 use Rattle.slave_parts.specs.of_segment_model.Slaves.{Datagram, Slave, grams}
 use Rattle.life_runs.specs.of_segment_plan.declared.plan.Scenario.{Scenario}
 use Rattle.life_runs.specs.of_segment_plan.declared.slave.SlaveSpec.{SlaveSpec}
-use Rattle.plan_ring.specs.of_book_lives.of_slave_lives.Lived.{table_of}
+use Rattle.plan_ring.specs.of_kept_lives.of_slave_lives.Lived.{table_of}
 use Rattle.slave_parts.specs.Parts.{Core, Server}
 use Rattle.slave_parts.specs.of_eoe_model.Network.{Station}
 use Rattle.plan_ring.specs.of_slave_server.Serving.{Serving}
 use Rattle.plan_ring.specs.of_slave_server.Spec.{profile_of}
-use Rattle.plan_ring.specs.of_book_lives.of_slave_steps.Node.{Node}
+use Rattle.plan_ring.specs.of_kept_lives.of_slave_steps.Node.{Node}
 use Rattle.slave_parts.specs.of_state_exchange.Families.{InState}
 use Rattle.slave_parts.specs.of_state_exchange.Stated.{Service}
 use Rattle.plan_ring.specs.of_named_lives.of_task_model.Accounts.{Pick}

@@ -16,8 +16,8 @@ use Rattle.slave_parts.specs.of_slave_model.Product.{product, served, refusal, s
 use Rattle.slave_parts.specs.of_slave_model.Profile.{Protocol, Profile, IsProfile, areas_of, serves}
 use Rattle.slave_parts.specs.Parts.{Core, Server, parts}
 use Rattle.named_lives.specs.Named.{Agrees, AgreesLast}
-use Rattle.book_lives.specs.of_book_model.Chain.{Same}
-use Rattle.book_lives.specs.First.{Forgets}
+use Rattle.kept_lives.specs.of_book_model.Chain.{Same}
+use Rattle.kept_lives.specs.First.{Forgets}
 use Rattle.plan_ring.specs.Real.{real_clearing}
 use Rattle.named_lives.specs.Alike.{Alike}
 use Rattle.plan_ring.specs.Asked.{is_service, service_of, as_asked, asked}

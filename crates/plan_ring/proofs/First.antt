@@ -12,10 +12,10 @@ use Rattle.named_lives.specs.of_life_model.Lives.{Life, Stand, life_next, life_b
 use Rattle.life_runs.specs.of_master_duty.Reply as Master
 use Rattle.life_runs.specs.of_master_hand.Spoken.{Asked, acknowledged}
 use Rattle.life_runs.specs.of_life_frames.Shares.{came_at, given_where}
-use Rattle.book_lives.specs.of_book_model.Script.{Addressed, HaveBegun, AnyLive, EachLive, AllLive, RestsWhole, DoneWhole}
-use Rattle.book_lives.specs.Rows.{IsFirst}
-use Rattle.book_lives.proofs.Rows.{back_first, lost_first, new_first}
-use Rattle.book_lives.proofs.First.{first_book}
+use Rattle.kept_lives.specs.of_book_model.Script.{Addressed, HaveBegun, AnyLive, EachLive, AllLive, RestsWhole, DoneWhole}
+use Rattle.kept_lives.specs.Rows.{IsFirst}
+use Rattle.kept_lives.proofs.Rows.{back_first, lost_first, new_first}
+use Rattle.kept_lives.proofs.First.{first_book}
 use Rattle.whole_ring.specs.Members.{AllLived}
 use Rattle.plan_ring.specs.Plan.{PlanMember, FitsPlan, step, new_members}
 use Rattle.plan_ring.specs.Master.{owed, speech_of, AllLed, Under, IsUnder, AllUnder, led_behind, AllBehind}

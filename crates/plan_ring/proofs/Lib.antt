@@ -1,4 +1,4 @@
-pub use Rattle.book_lives.proofs as of_book_lives
+pub use Rattle.kept_lives.proofs as of_kept_lives
 pub use Rattle.named_lives.proofs as of_named_lives
 pub use Rattle.slave_server.proofs as of_slave_server
 pub mod Asked

@@ -13,14 +13,14 @@ use Rattle.life_runs.specs.of_segment_plan.Sound as Plan
 use Rattle.life_runs.specs.of_segment_plan.declared.plan.Scenario.{Scenario}
 use Rattle.life_runs.specs.of_segment_plan.declared.slave.SlaveSpec.{SlaveSpec}
 use Rattle.slave_parts.specs.of_slave_model.Profile.{Profile, IsProfile}
-use Rattle.book_lives.specs.of_slave_lives.Opening.{Plan, IsPlan}
+use Rattle.kept_lives.specs.of_slave_lives.Opening.{Plan, IsPlan}
 use Rattle.slave_server.specs.Serving.{Serving}
 use Rattle.slave_server.specs.Spec.{profile_of, server_of, node_of}
-use Rattle.book_lives.specs.of_slave_steps.Node.{Node}
+use Rattle.kept_lives.specs.of_slave_steps.Node.{Node}
 use Rattle.plan_ring.specs.Real.{real, running_as, real_clearing, StepsAs}
 use Rattle.plan_ring.specs.Rooms.{IsSound}
-use Rattle.book_lives.specs.of_slave_lives.Nodes.{GivesPlaced}
-use Rattle.book_lives.specs.of_whole_lives.Whole.{OwesLaws}
+use Rattle.kept_lives.specs.of_slave_lives.Nodes.{GivesPlaced}
+use Rattle.kept_lives.specs.of_whole_lives.Whole.{OwesLaws}
 use Rattle.whole_ring.specs.Members as Ring
 use Rattle.whole_ring.specs.Members.{Serves, IsNew, AllNew, IsRing, first_ring}
 use Rattle.whole_ring.proofs.Begins.{ring_begins}

@@ -28,7 +28,7 @@ use Rattle.life_runs.specs.of_segment_ring.declared.wire.Fate.TheVariants.{Pass,
 use Rattle.life_runs.specs.of_segment_ring.Ring.{RingState, ring_returned}
 use Rattle.life_runs.specs.of_segment_ring.Schedule.{fate_at}
 use Rattle.slave_server.specs.Serving.{Serving}
-use Rattle.book_lives.specs.of_slave_steps.Node.{Node, node_passed}
+use Rattle.kept_lives.specs.of_slave_steps.Node.{Node, node_passed}
 use Rattle.slave_parts.specs.of_state_exchange.Stated.{Service}
 use Rattle.whole_ring.specs.Members.{MemberIs, AllLived}
 use Rattle.whole_ring.specs.Turning.{BeginBoots, frame_at}

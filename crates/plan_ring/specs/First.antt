@@ -14,10 +14,10 @@ use Rattle.named_lives.specs.of_task_model.Promise.{services_in}
 use Rattle.named_lives.specs.of_life_model.Lives.{Stand}
 use Rattle.life_runs.specs.of_master_duty.Reply as Master
 use Rattle.life_runs.specs.of_master_hand.Spoken as Spoken
-use Rattle.book_lives.specs.of_book_model.Script.{Addressed, HaveBegun, SlaveRun, RunRests, RunDone}
-use Rattle.book_lives.specs.Rows.{WishStays, IsFirst}
-use Rattle.book_lives.specs.First.{setting_of, FirstBook}
-use Rattle.book_lives.specs.of_slave_lives.Lived.{node_seen}
+use Rattle.kept_lives.specs.of_book_model.Script.{Addressed, HaveBegun, SlaveRun, RunRests, RunDone}
+use Rattle.kept_lives.specs.Rows.{WishStays, IsFirst}
+use Rattle.kept_lives.specs.First.{setting_of, FirstBook}
+use Rattle.kept_lives.specs.of_slave_lives.Lived.{node_seen}
 use Rattle.slave_parts.specs.Parts.{Core, Server}
 use Rattle.whole_ring.specs.Members.{AllLived}
 use Rattle.plan_ring.specs.Plan.{PlanMember, FitsPlan, step}

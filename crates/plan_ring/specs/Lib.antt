@@ -1,4 +1,4 @@
-pub use Rattle.book_lives.specs as of_book_lives
+pub use Rattle.kept_lives.specs as of_kept_lives
 pub use Rattle.named_lives.specs as of_named_lives
 pub use Rattle.plan_ring.specs.of_slave_server as of_slave_server
 pub use Rattle.slave_parts.specs as of_slave_parts

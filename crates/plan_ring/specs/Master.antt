@@ -11,15 +11,15 @@ use Rattle.life_runs.specs.of_segment_ring.declared.wire.Fate.TheVariants.{Pass,
 use Rattle.life_runs.specs.of_segment_ring.Ring.{RingState, ring_behind}
 use Rattle.life_runs.specs.of_segment_ring.Schedule.{fate_at}
 use Rattle.slave_server.specs.Serving.{Serving}
-use Rattle.book_lives.specs.of_slave_steps.Node.{Node, node_passed}
+use Rattle.kept_lives.specs.of_slave_steps.Node.{Node, node_passed}
 use Rattle.life_runs.specs.of_master_duty.Reply as Master
 use Rattle.life_runs.specs.of_master_hand.Spoken.{Asked, hand_speech, acknowledged}
 use Rattle.life_runs.specs.of_life_frames.Frames.{Share}
 use Rattle.life_runs.specs.of_life_frames.Shares as Shares
 use Rattle.life_runs.specs.of_life_frames.Shares.{Lived, IsNext, lived_back, lived_lost}
-use Rattle.book_lives.specs.First.{Forgets}
+use Rattle.kept_lives.specs.First.{Forgets}
 use Rattle.named_lives.specs.Alike.{Alike, WishIs, InHandIs}
-use Rattle.book_lives.specs.of_whole_lives.Whole.{IsWhole, OwesLaws}
+use Rattle.kept_lives.specs.of_whole_lives.Whole.{IsWhole, OwesLaws}
 use Rattle.whole_ring.specs.Members.{IsRing}
 use Rattle.whole_ring.specs.Turning.{BeginBoots, frame_at}
 use Rattle.plan_ring.specs.Asked.{is_service}

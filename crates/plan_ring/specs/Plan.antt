@@ -11,12 +11,12 @@ use Rattle.named_lives.specs.of_life_model.Tours.{item_at}
 use Rattle.life_runs.specs.of_segment_plan.Sound.{IsSlave}
 use Rattle.life_runs.specs.of_segment_plan.declared.plan.Scenario.{Scenario}
 use Rattle.life_runs.specs.of_segment_plan.declared.slave.SlaveSpec.{SlaveSpec}
-use Rattle.book_lives.specs.of_slave_lives.Opening as Opening
+use Rattle.kept_lives.specs.of_slave_lives.Opening as Opening
 use Rattle.slave_parts.specs.Parts.{Core, Server}
 use Rattle.slave_server.specs.Serving.{Serving, takes, next_mail, rest, cleared}
 use Rattle.slave_server.specs.Spec.{profile_of, server_of, node_of}
-use Rattle.book_lives.specs.of_slave_steps.Node.{Node}
-use Rattle.book_lives.specs.of_slave_steps.Step.{pdi_step}
+use Rattle.kept_lives.specs.of_slave_steps.Node.{Node}
+use Rattle.kept_lives.specs.of_slave_steps.Step.{pdi_step}
 use Rattle.plan_ring.specs.Real.{real_clearing}
 use Rattle.plan_ring.specs.Rooms.{IsSound}
 use Rattle.whole_ring.specs.Members.{Member}

@@ -2,12 +2,12 @@
 //! of its slaves. No running code: each function here does nothing, and its contract states a law.
 #![tactic(auto)]
 
-ghost use Rattle.book_lives.specs.First.{FirstBook};
-ghost use Rattle.book_lives.specs.Rows.{IsFirst};
-ghost use Rattle.book_lives.specs.of_book_model.Script.{Addressed, AnyLive};
-ghost use Rattle.book_lives.specs.of_slave_lives.Opening as Opening;
-ghost use Rattle.book_lives.specs.of_slave_steps.Node.{Node, node_passed};
-ghost use Rattle.book_lives.specs.of_whole_lives.Whole.{OwesLaws};
+ghost use Rattle.kept_lives.specs.First.{FirstBook};
+ghost use Rattle.kept_lives.specs.Rows.{IsFirst};
+ghost use Rattle.kept_lives.specs.of_book_model.Script.{Addressed, AnyLive};
+ghost use Rattle.kept_lives.specs.of_slave_lives.Opening as Opening;
+ghost use Rattle.kept_lives.specs.of_slave_steps.Node.{Node, node_passed};
+ghost use Rattle.kept_lives.specs.of_whole_lives.Whole.{OwesLaws};
 ghost use Rattle.life_runs.specs.First.{lens_of, first_leads};
 ghost use Rattle.life_runs.specs.Led.{Exchanged, Leads, IsLed};
 ghost use Rattle.life_runs.specs.of_datagrams.Datagram as Raw;

@@ -1,9 +1,9 @@
 -- THE BOOKS of slaves that stay up.
 use Rattle.std.proofs.Common.{◌≡◌, ℕ, suc, true, List, [], ◌∷◌, map, length, ap, sym, ◌∙◌, subst}
 use Rattle.std.proofs.lemmas.List.{length-map}
-use Rattle.plan_ring.specs.of_book_lives.First.{Forgets, FirstBook}
-use Rattle.plan_ring.specs.of_book_lives.Rows.{IsFirst}
-use Rattle.plan_ring.proofs.of_book_lives.First.{first_book}
+use Rattle.plan_ring.specs.of_kept_lives.First.{Forgets, FirstBook}
+use Rattle.plan_ring.specs.of_kept_lives.Rows.{IsFirst}
+use Rattle.plan_ring.proofs.of_kept_lives.First.{first_book}
 use Rattle.script_runs.specs.of_eoe_model.Network.{Station}
 use Rattle.script_runs.specs.of_frame_view.View.{Lens}
 use Rattle.script_runs.specs.of_life_frames.Shares.{Lived}

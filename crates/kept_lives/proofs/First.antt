@@ -17,8 +17,8 @@ use Rattle.whole_lives.specs.Whole.{OwesLaws, LivesOpen, StandsAs, IsLived}
 use Rattle.segment_model.specs.Laws.{IsSettled, WantsNothing}
 use Rattle.book_model.proofs.Opens.{open_answers, open_epochs, open_state, open_rests, open_each}
 use Rattle.book_model.proofs.Scripts.{open_rows}
-use Rattle.book_lives.specs.First.{Forgets, setting_of, FirstBook}
-use Rattle.book_lives.specs.Rows.{IsFirst, StandsFirst}
+use Rattle.kept_lives.specs.First.{Forgets, setting_of, FirstBook}
+use Rattle.kept_lives.specs.Rows.{IsFirst, StandsFirst}
 
 pub no_end : {X : Type 0} (xs : List X) (x : X) → xs ++ x ∷ [] ≡ [] → ⊥
 no_end [] x e = let no_ : x ∷ [] ≡ [] = e in cc

@@ -1,6 +1,6 @@
 use Rattle.std.proofs.Common.{refl}
-use Rattle.book_lives.proofs.Rows
-use Rattle.book_lives.proofs.first_rows_law.Goals as goal
+use Rattle.kept_lives.proofs.Rows
+use Rattle.kept_lives.proofs.book_lives.first_rows_law.Goals as goal
 
 pub returns : goal.returns
 returns g k = record {

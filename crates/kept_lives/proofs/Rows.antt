@@ -13,7 +13,7 @@ use Rattle.life_model.specs.Book.{NoInits}
 use Rattle.life_model.specs.Lives.{Spot, Life, Era, Opening, Stand, granted, era_next, era_back, returns_to_init, reopens, reopens_at, reopening, opens_state, life_next, life_back, life_lost, opening_back, clears, opens, steps_on, shows_clear, last_step, is_shown, new_life}
 use Rattle.life_model.specs.Own.{own}
 use Rattle.book_model.specs.Chain.{AllBegin}
-use Rattle.book_lives.specs.Rows.{HandStays, WishStays, StandsFirst, IsFirst}
+use Rattle.kept_lives.specs.Rows.{HandStays, WishStays, StandsFirst, IsFirst}
 
 -- one row more
 begins_more : {Q : Type 0} (opened : ℕ) (rs : List (Started Q)) (r : Started Q) → opened < r.frame → AllBegin opened rs → AllBegin opened (rs ++ r ∷ [])

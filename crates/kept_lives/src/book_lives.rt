@@ -1,5 +1,4 @@
 //! The book of a slave whose life is lived by its node. No running code: each function here does nothing, and its contract states a law.
-#![tactic(auto)]
 
 ghost use Rattle.std.specs.Prelude.{◌≡◌, ℕ, suc, Bool, List, Option, length};
 ghost use Rattle.exchange_model.specs.Exchange.{Speech};
@@ -13,8 +12,8 @@ ghost use Rattle.life_model.specs.Lives.{Spot, Life, Stand, new_life, life_next,
 ghost use Rattle.slave_lives.specs.Lived.{Behind};
 ghost use Rattle.slave_lives.specs.Opening.{Plan};
 ghost use Rattle.whole_lives.specs.Whole.{OwesLaws, IsLived};
-ghost use Rattle.book_lives.specs.Rows.{WishStays, IsFirst};
-ghost use Rattle.book_lives.specs.First.{Forgets, FirstBook};
+ghost use Rattle.kept_lives.specs.Rows.{WishStays, IsFirst};
+ghost use Rattle.kept_lives.specs.First.{Forgets, FirstBook};
 
 /// A life stays in its first epoch, with rows that began behind its opening, as long as no service returns the slave to Init and it isn't given up:
 /// from the switch on, by frames that came back and by lost ones.
