@@ -17,7 +17,7 @@ use Rattle.slave_steps.specs.Node.{Node}
 use Rattle.state_exchange.specs.Stated.{mails, with_states}
 use Rattle.task_model.specs.Promise.{TasksPromised, TasksAnswered, TasksRestIf, services_in}
 use Rattle.task_model.proofs.Sessions.{of_slaves, tasks_promised, tasks_rest, tasks_answered}
-use Rattle.whole_lives.specs.Whole.{OwesLaws, OpensAs, OpensBy, StandsAs, IsLived}
+use Rattle.whole_ring.specs.Whole.{OwesLaws, OpensAs, OpensBy, StandsAs, IsLived}
 use Rattle.kept_lives.proofs.Owns.{owned}
 use Rattle.kept_lives.proofs.Settled.{settled_seen}
 use Rattle.kept_lives.specs.Epochs.{IsCarriedOut, IsAnswered, replies_all, IsKept, AreKept, RestsIf, IsNewest, IsKeptLife, app_of, app_behind, emitted_by}

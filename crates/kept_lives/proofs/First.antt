@@ -13,7 +13,7 @@ use Rattle.book_model.specs.Open.{Setting, Begun, IsOpenLife, IsIdle}
 use Rattle.slave_lives.specs.Ends.{LeftEras}
 use Rattle.slave_lives.specs.Lived.{Behind, LivesEra, node_seen}
 use Rattle.slave_lives.specs.Opening.{Plan}
-use Rattle.whole_lives.specs.Whole.{OwesLaws, LivesOpen, StandsAs, IsLived}
+use Rattle.whole_ring.specs.Whole.{OwesLaws, LivesOpen, StandsAs, IsLived}
 use Rattle.segment_model.specs.Laws.{IsSettled, WantsNothing}
 use Rattle.book_model.proofs.Opens.{open_answers, open_epochs, open_state, open_rests, open_each}
 use Rattle.book_model.proofs.Scripts.{open_rows}

@@ -13,7 +13,7 @@ use Rattle.book_model.specs.Open.{Setting, IsOpenLife, BookAnswers, BookFits, Bo
 use Rattle.book_model.specs.Script.{services_of}
 use Rattle.slave_lives.specs.Lived.{Behind, table_of, node_seen}
 use Rattle.slave_lives.specs.Opening.{Plan}
-use Rattle.whole_lives.specs.Whole.{OwesLaws}
+use Rattle.whole_ring.specs.Whole.{OwesLaws}
 
 -- what telling an AL state and a return to Init do to an application
 pub record Forgets {S V A Q R : Type 0} (w : Behind S V A Q R) (c : Clearing V A) : Type 0 where

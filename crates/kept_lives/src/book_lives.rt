@@ -11,7 +11,7 @@ ghost use Rattle.life_model.specs.Eras.{Clearing};
 ghost use Rattle.life_model.specs.Lives.{Spot, Life, Stand, new_life, life_next, life_back, life_lost};
 ghost use Rattle.slave_lives.specs.Lived.{Behind};
 ghost use Rattle.slave_lives.specs.Opening.{Plan};
-ghost use Rattle.whole_lives.specs.Whole.{OwesLaws, IsLived};
+ghost use Rattle.whole_ring.specs.Whole.{OwesLaws, IsLived};
 ghost use Rattle.kept_lives.specs.Rows.{WishStays, IsFirst};
 ghost use Rattle.kept_lives.specs.First.{Forgets, FirstBook};
 

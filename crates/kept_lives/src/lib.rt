@@ -10,7 +10,7 @@ ghost use Rattle.slave_lives.specs.Lived.{Behind};
 ghost use Rattle.slave_lives.specs.Opening.{Plan};
 ghost use Rattle.slave_steps.specs.Node.{Node};
 ghost use Rattle.std.specs.Prelude.{◌≡◌, true, Bool, List};
-ghost use Rattle.whole_lives.specs.Whole.{OwesLaws, IsLived};
+ghost use Rattle.whole_ring.specs.Whole.{OwesLaws, IsLived};
 
 pub mod book_lives;
 

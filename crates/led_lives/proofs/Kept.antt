@@ -21,9 +21,9 @@ use Rattle.slave_lives.specs.Opening.{Plan}
 use Rattle.slave_lives.proofs.Quiets.{asks_none}
 use Rattle.slave_steps.specs.Node.{Node}
 use Rattle.task_model.specs.Accounts.{Pick}
-use Rattle.whole_lives.specs.Turns.{era_before, era_behind}
-use Rattle.whole_lives.specs.Whole.{IsWhole, Living}
-use Rattle.whole_lives.proofs.Keeps.{Keeps}
+use Rattle.whole_ring.specs.Turns.{era_before, era_behind}
+use Rattle.whole_ring.specs.Whole.{IsWhole, Living}
+use Rattle.whole_ring.proofs.Keeps.{Keeps}
 use Rattle.led_lives.specs.Lives.{LedKept, LedYet, LedLeft, AllLeds, news_as, recorded_as}
 use Rattle.led_lives.proofs.Frames.{tells}
 

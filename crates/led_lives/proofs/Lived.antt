@@ -12,10 +12,10 @@ use Rattle.slave_lives.specs.Opening.{Plan}
 use Rattle.slave_lives.specs.Seats.{KnownAs}
 use Rattle.slave_steps.specs.Node.{Node, new_node}
 use Rattle.task_model.specs.Accounts.{Pick}
-use Rattle.whole_lives.specs.Turns.{FrameComes, TurnsAs, life_by, plan_at}
-use Rattle.whole_lives.specs.Whole.{IsWhole, Living, Leaving, Passing}
-use Rattle.whole_lives.proofs.Seated.{known_by}
-use Rattle.whole_lives.proofs.Turning.{begins_by, given_by, turns_by}
+use Rattle.whole_ring.specs.Turns.{FrameComes, TurnsAs, life_by, plan_at}
+use Rattle.whole_ring.specs.Whole.{IsWhole, Living, Leaving, Passing}
+use Rattle.whole_ring.proofs.Seated.{known_by}
+use Rattle.whole_ring.proofs.WholeTurning.{begins_by, given_by, turns_by}
 use Rattle.led_lives.specs.Lives.{LedKept, LedYet, LedLeft, AllLeds, IsLedLived, news_as, recorded_as}
 use Rattle.led_lives.proofs.Kept.{keeps, session_of}
 

@@ -14,7 +14,7 @@ use Rattle.segment_model.specs.Slaves.{Datagram}
 use Rattle.slave_lives.specs.Lived.{Behind, RingFrame, octets_back}
 use Rattle.slave_lives.specs.Opening.{Plan}
 use Rattle.slave_steps.specs.Node.{Node}
-use Rattle.whole_lives.specs.Whole.{IsLivedBy}
+use Rattle.whole_ring.specs.Whole.{IsLivedBy}
 
 module _ {S V A Q R : Type 0} (w : Behind S V A Q R) (more : Body → Bool) (passed : Q → Bool) (spot : Spot) where
   -- an open slave's epoch, with those counters

@@ -15,8 +15,8 @@ ghost use Rattle.slave_lives.specs.Opening.{Plan};
 ghost use Rattle.slave_lives.specs.Seats.{KnownAs};
 ghost use Rattle.slave_steps.specs.Node.{Node, new_node};
 ghost use Rattle.task_model.specs.Accounts.{Pick};
-ghost use Rattle.whole_lives.specs.Turns.{FrameComes, TurnsAs, life_by, plan_at};
-ghost use Rattle.whole_lives.specs.Whole.{IsWhole};
+ghost use Rattle.whole_ring.specs.Turns.{FrameComes, TurnsAs, life_by, plan_at};
+ghost use Rattle.whole_ring.specs.Whole.{IsWhole};
 
 /// SO A LIFE IS LIVED from the moment the slave is switched on; by each frame that the ring exchanges, with the record's news of it and the record's counters
 /// behind it; and where the slave is given up, for good or not. What is known of its node is what the law of a ring's seats asks for.

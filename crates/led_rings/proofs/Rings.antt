@@ -12,7 +12,7 @@ use Rattle.slave_lives.specs.Lived.{RingFrame, frame_of, node_behind}
 use Rattle.slave_lives.specs.Rings.{come_to, fate_seen, is_met_at, met, turned}
 use Rattle.slave_lives.specs.Seats.{AllMeet}
 use Rattle.slave_steps.specs.Node.{Node}
-use Rattle.whole_lives.specs.Turns as Whole
+use Rattle.whole_ring.specs.Turns as Whole
 use Rattle.whole_ring.specs.Members.{Member, MemberIs, AllLived, IsRing, IsNew, AllNew}
 use Rattle.whole_ring.specs.Turning.{Turn, TurnsFor, AllTurn, frame_at, life_by, behind_frame}
 use Rattle.whole_ring.proofs.Members as Members

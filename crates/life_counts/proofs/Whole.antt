@@ -16,7 +16,7 @@ use Rattle.slave_lives.specs.Lived.{Behind, table_of, node_seen, LivesEra}
 use Rattle.slave_lives.specs.Opening.{Plan}
 use Rattle.slave_lives.specs.Stands.{opening_again}
 use Rattle.slave_steps.specs.Node.{Node}
-use Rattle.whole_lives.specs.Whole.{OwesLaws, OpensAs, OpensBy, StandsAs, IsLived}
+use Rattle.whole_ring.specs.Whole.{OwesLaws, OpensAs, OpensBy, StandsAs, IsLived}
 use Rattle.life_counts.proofs.Epoch.{epoch_within, epoch_app}
 use Rattle.life_counts.specs.Begun.{era_most, eras_most, life_most, IsUnopened, AllUnopened, AreUnopened, KeepsShape}
 

@@ -17,7 +17,7 @@ ghost use Rattle.slave_steps.specs.Node.{Node};
 ghost use Rattle.std.specs.Prelude.{◌≡◌, ◌≤◌, ◌+◌, ℕ, Bool, Option, List};
 ghost use Rattle.task_model.specs.Accounts.{Pick};
 ghost use Rattle.task_model.specs.Promise.{services_in};
-ghost use Rattle.whole_lives.specs.Whole.{OwesLaws, IsLived};
+ghost use Rattle.whole_ring.specs.Whole.{OwesLaws, IsLived};
 
 pub mod served_gains;
 pub mod tagged_lives;

@@ -26,7 +26,7 @@ use Rattle.slave_server.specs.Spec.{profile_of}
 use Rattle.slave_steps.specs.Node.{Node}
 use Rattle.state_exchange.specs.Families.{InState}
 use Rattle.state_exchange.specs.Stated.{IsStated}
-use Rattle.whole_lives.specs.Whole.{StandsAs, LivesOpen}
+use Rattle.whole_ring.specs.Whole.{StandsAs, LivesOpen}
 use Rattle.whole_ring.specs.Members.{MemberIs, AllLived}
 use Rattle.plan_met.specs.Met.{IsOpenAt, IsAt, AllOpenAt}
 

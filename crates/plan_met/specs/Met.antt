@@ -23,7 +23,7 @@ use Rattle.slave_server.specs.Spec.{profile_of}
 use Rattle.slave_steps.specs.Node.{Node}
 use Rattle.state_exchange.specs.Families.{InState}
 use Rattle.state_exchange.specs.Stated.{IsStated}
-use Rattle.whole_lives.specs.Whole.{LivesOpen}
+use Rattle.whole_ring.specs.Whole.{LivesOpen}
 
 -- a slave's node as its session has it
 abbrev pub slave_at : (ℕ → Lens) → SlaveSpec → Node Serving → Slave (InState Server) Body

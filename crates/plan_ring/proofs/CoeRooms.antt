@@ -7,7 +7,7 @@ use Rattle.slave_parts.specs.of_coe_model.Server.{Transfer, idle, downloading, u
 use Rattle.slave_parts.specs.of_coe_model.Octets.{coe_mail_written}
 use Rattle.slave_parts.specs.of_coe_server.Serving.{IsShort}
 use Rattle.slave_parts.proofs.of_coe_server.Fits.{short_fits}
-use Rattle.whole_lives.specs.of_slave_lives.Nodes.{IsPlaced}
+use Rattle.whole_ring.specs.of_slave_lives.Nodes.{IsPlaced}
 use Rattle.slave_parts.proofs.of_slave_model.Stations.{right_of}
 use Rattle.plan_ring.specs.Rooms.{AllPlaced}
 use Rattle.plan_ring.proofs.Rooms.{body_placed, error_placed, all_append, take_few}

@@ -20,7 +20,7 @@ use Rattle.slave_parts.specs.of_eoe_model.Mails.{Eoe, EoeMail, Part}
 use Rattle.slave_parts.specs.of_eoe_model.Network.{Network, Station}
 use Rattle.slave_parts.specs.of_eoe_model.Server as Eoe
 use Rattle.slave_parts.specs.of_eoe_model.Octets.{eoe_mail_written}
-use Rattle.whole_lives.specs.of_slave_lives.Nodes.{IsPlaced}
+use Rattle.whole_ring.specs.of_slave_lives.Nodes.{IsPlaced}
 use Rattle.plan_ring.specs.Rooms.{AllPlaced}
 use Rattle.plan_ring.proofs.Rooms.{body_placed, error_placed, take_few, fragments_placed}
 

@@ -20,7 +20,7 @@ use Rattle.kept_lives.specs.of_slave_steps.Node.{Node}
 use Rattle.plan_ring.specs.Real.{real, running_as, real_clearing, StepsAs}
 use Rattle.plan_ring.specs.Rooms.{IsSound}
 use Rattle.kept_lives.specs.of_slave_lives.Nodes.{GivesPlaced}
-use Rattle.kept_lives.specs.of_whole_lives.Whole.{OwesLaws}
+use Rattle.kept_lives.specs.of_whole_ring.Whole.{OwesLaws}
 use Rattle.whole_ring.specs.Members as Ring
 use Rattle.whole_ring.specs.Members.{Serves, IsNew, AllNew, IsRing, first_ring}
 use Rattle.whole_ring.proofs.Begins.{ring_begins}

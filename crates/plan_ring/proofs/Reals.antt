@@ -1,14 +1,14 @@
 -- The real server is one of those of which lives speak.
 use Rattle.std.proofs.Common.{◌≡◌, ℕ, Bool, refl, ap}
-use Rattle.whole_lives.specs.of_frame_view.View.{Lens}
+use Rattle.whole_ring.specs.of_frame_view.View.{Lens}
 use Rattle.slave_parts.specs.of_slave_model.Profile.{Profile}
 use Rattle.slave_server.specs.Seen.{IsExchange}
 use Rattle.slave_server.specs.Serving.{Serving, takes, next_mail, rest, cleared}
-use Rattle.whole_lives.specs.of_slave_steps.Node.{Node}
-use Rattle.whole_lives.specs.of_slave_steps.Step.{pdi_step}
-use Rattle.whole_lives.specs.of_slave_lives.Lived.{IsBehind}
-use Rattle.whole_lives.specs.of_slave_lives.Nodes.{stepped}
-use Rattle.whole_lives.proofs.of_slave_lives.Servers.{step_holds}
+use Rattle.whole_ring.specs.of_slave_steps.Node.{Node}
+use Rattle.whole_ring.specs.of_slave_steps.Step.{pdi_step}
+use Rattle.whole_ring.specs.of_slave_lives.Lived.{IsBehind}
+use Rattle.whole_ring.specs.of_slave_lives.Nodes.{stepped}
+use Rattle.whole_ring.proofs.of_slave_lives.Servers.{step_holds}
 use Rattle.plan_ring.specs.Real.{running_as, real, StepsAs}
 
 pub is_behind : ((p : Profile) (al : ℕ) → IsExchange p al) → (p : Profile) (boot : Bool) (lens : ℕ → Lens) → IsBehind (real p boot lens)

@@ -11,7 +11,7 @@ use Rattle.slave_server.specs.of_eoe.Message.{eoe_text}
 use Rattle.slave_parts.specs.of_coe_model.Octets.{mail_with}
 use Rattle.slave_parts.specs.of_slave_model.Server.{told_by}
 use Rattle.slave_server.specs.Serving.{written}
-use Rattle.whole_lives.specs.of_slave_lives.Nodes.{IsPlaced}
+use Rattle.whole_ring.specs.of_slave_lives.Nodes.{IsPlaced}
 use Rattle.plan_ring.specs.Rooms.{AllPlaced}
 
 pub take_few : (n : ℕ) (l : List ℕ) → length (take n l) ≤ n

@@ -4,7 +4,7 @@ use Rattle.std.specs.Prelude.{if◌then◌else◌, is_none}
 use Rattle.slave_server.specs.of_mailbox_mail.declared.mail.Mail.{Mail}
 use Rattle.slave_server.specs.of_mailbox_mail.declared.mail.Kind.{Kind}
 use Rattle.slave_server.specs.of_mailbox_mail.declared.mail.MailFault.TheVariants.{Short, LengthPastArea, UnknownKind}
-use Rattle.whole_lives.specs.of_link_mails.Body.{Body}
+use Rattle.whole_ring.specs.of_link_mails.Body.{Body}
 use Rattle.slave_server.specs.of_eoe.declared.message.Eoe.TheVariants.{Fragment as Part}
 use Rattle.slave_server.specs.of_eoe.declared.message.Fragment.{Fragment}
 use Rattle.slave_server.specs.of_eoe.Cutting.{fragments_of}
@@ -36,7 +36,7 @@ use Rattle.slave_parts.proofs.of_slave_model.Stations.{both, left_of, right_of, 
 use Rattle.slave_parts.specs.Parts as The
 use Rattle.slave_parts.specs.Parts.{Server, parts}
 use Rattle.slave_server.specs.Serving as Serving
-use Rattle.whole_lives.specs.of_slave_lives.Nodes.{IsPlaced}
+use Rattle.whole_ring.specs.of_slave_lives.Nodes.{IsPlaced}
 use Rattle.plan_ring.specs.Rooms.{AllPlaced, MayWrite, IsUnderWay, IsSound}
 use Rattle.plan_ring.proofs.Rooms.{body_placed, error_placed, all_append, told, fragments_placed}
 use Rattle.plan_ring.proofs.CoeRooms as CoeRooms

@@ -19,7 +19,7 @@ use Rattle.life_runs.specs.of_life_frames.Shares as Shares
 use Rattle.life_runs.specs.of_life_frames.Shares.{Lived, IsNext, lived_back, lived_lost}
 use Rattle.kept_lives.specs.First.{Forgets}
 use Rattle.named_lives.specs.Alike.{Alike, WishIs, InHandIs}
-use Rattle.kept_lives.specs.of_whole_lives.Whole.{IsWhole, OwesLaws}
+use Rattle.kept_lives.specs.of_whole_ring.Whole.{IsWhole, OwesLaws}
 use Rattle.whole_ring.specs.Members.{IsRing}
 use Rattle.whole_ring.specs.Turning.{BeginBoots, frame_at}
 use Rattle.plan_ring.specs.Asked.{is_service}

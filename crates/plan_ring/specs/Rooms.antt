@@ -3,7 +3,7 @@ use Rattle.std.specs.Prelude.{◌≡◌, ℕ, ◌+◌, ◌≤◌, true, List, []
 use Rattle.slave_server.specs.of_file_store.Files as Store
 use Rattle.slave_parts.specs.of_foe_model.Server.{Transfer, idle, reading, writing, closing}
 use Rattle.slave_server.specs.of_mailbox_mail.declared.mail.Mail.{Mail}
-use Rattle.whole_lives.specs.of_slave_lives.Nodes.{IsPlaced}
+use Rattle.whole_ring.specs.of_slave_lives.Nodes.{IsPlaced}
 use Rattle.slave_parts.specs.of_slave_model.Application.{station_valid}
 use Rattle.slave_parts.specs.of_slave_model.Profile.{Profile}
 use Rattle.slave_parts.specs.Parts.{parts}

@@ -7,7 +7,7 @@ ghost use Rattle.kept_lives.specs.Rows.{IsFirst};
 ghost use Rattle.kept_lives.specs.of_book_model.Script.{Addressed, AnyLive};
 ghost use Rattle.kept_lives.specs.of_slave_lives.Opening as Opening;
 ghost use Rattle.kept_lives.specs.of_slave_steps.Node.{Node, node_passed};
-ghost use Rattle.kept_lives.specs.of_whole_lives.Whole.{OwesLaws};
+ghost use Rattle.kept_lives.specs.of_whole_ring.Whole.{OwesLaws};
 ghost use Rattle.life_runs.specs.First.{lens_of, first_leads};
 ghost use Rattle.life_runs.specs.Led.{Exchanged, Leads, IsLed};
 ghost use Rattle.life_runs.specs.of_datagrams.Datagram as Raw;

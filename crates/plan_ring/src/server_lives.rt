@@ -2,19 +2,19 @@
 //! state the laws.
 
 ghost use Rattle.std.specs.Prelude.{◌≡◌, ◌+◌, ◌≤◌, ℕ, Bool, true, [], None, length};
-ghost use Rattle.whole_lives.specs.of_frame_view.View.{Lens};
-ghost use Rattle.whole_lives.specs.of_link_mails.Body.{Body};
-ghost use Rattle.whole_lives.specs.of_slave_lives.Ends.{ClearsAs};
-ghost use Rattle.whole_lives.specs.of_slave_lives.Lived.{IsBehind};
-ghost use Rattle.whole_lives.specs.of_life_model.Lives.{Spot};
-ghost use Rattle.whole_lives.specs.of_slave_lives.Nodes.{GivesPlaced};
-ghost use Rattle.whole_lives.specs.of_slave_lives.Opening.{Plan, IsPlan};
+ghost use Rattle.whole_ring.specs.of_frame_view.View.{Lens};
+ghost use Rattle.whole_ring.specs.of_link_mails.Body.{Body};
+ghost use Rattle.whole_ring.specs.of_slave_lives.Ends.{ClearsAs};
+ghost use Rattle.whole_ring.specs.of_slave_lives.Lived.{IsBehind};
+ghost use Rattle.whole_ring.specs.of_life_model.Lives.{Spot};
+ghost use Rattle.whole_ring.specs.of_slave_lives.Nodes.{GivesPlaced};
+ghost use Rattle.whole_ring.specs.of_slave_lives.Opening.{Plan, IsPlan};
 ghost use Rattle.slave_parts.specs.of_slave_model.Profile.{Profile, IsProfile};
 ghost use Rattle.slave_parts.specs.of_slave_model.Application.{station_valid};
 ghost use Rattle.slave_parts.specs.Parts.{Core, parts};
-ghost use Rattle.whole_lives.specs.Whole.{OwesLaws};
+ghost use Rattle.whole_ring.specs.Whole.{OwesLaws};
 ghost use Rattle.slave_server.specs.Serving.{Serving, fresh};
-ghost use Rattle.whole_lives.specs.of_slave_steps.Node.{Node};
+ghost use Rattle.whole_ring.specs.of_slave_steps.Node.{Node};
 ghost use Rattle.plan_ring.specs.Real.{running_as, real, real_clearing, StepsAs};
 ghost use Rattle.plan_ring.specs.Rooms.{IsSound};
 

@@ -29,7 +29,7 @@ use Rattle.kept_lives.specs.of_slave_lives.Steps.{Stands}
 use Rattle.kept_lives.specs.of_mailbox_slave.Node.{in_side}
 use Rattle.script_runs.specs.of_segment_model.Laws.{IsSettled}
 use Rattle.script_runs.specs.of_state_exchange.Families.{InState}
-use Rattle.kept_lives.specs.of_whole_lives.Whole.{OwesLaws, StandsAs}
+use Rattle.kept_lives.specs.of_whole_ring.Whole.{OwesLaws, StandsAs}
 use Rattle.plan_ring.specs.of_whole_ring.Members.{MemberIs, AllLived}
 use Rattle.plan_ring.specs.Lives.{IsShown, AllShown, AreLived}
 use Rattle.plan_ring.specs.Round.{ring_of, ring_after, frame_seen, all_seen}

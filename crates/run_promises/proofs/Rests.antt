@@ -30,7 +30,7 @@ use Rattle.plan_ring.specs.of_slave_parts.Parts.{Core, Server}
 use Rattle.plan_ring.specs.of_slave_server.Serving.{Serving, next_mail}
 use Rattle.kept_lives.specs.of_slave_steps.Node.{Node, is_settled}
 use Rattle.script_runs.specs.of_state_exchange.Families.{InState}
-use Rattle.kept_lives.specs.of_whole_lives.Whole.{StandsAs, LivesOpen}
+use Rattle.kept_lives.specs.of_whole_ring.Whole.{StandsAs, LivesOpen}
 use Rattle.plan_ring.specs.of_whole_ring.Members.{MemberIs, AllLived}
 use Rattle.plan_ring.specs.Lives.{IsShown, AllShown, AreLived}
 use Rattle.plan_ring.specs.Round.{ring_of, ring_after, all_seen}

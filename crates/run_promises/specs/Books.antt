@@ -15,7 +15,7 @@ use Rattle.script_runs.specs.of_segment_model.Laws.{IsSettled}
 use Rattle.kept_lives.specs.of_slave_lives.Lived.{node_seen}
 use Rattle.plan_ring.specs.of_slave_server.Serving.{Serving, next_mail}
 use Rattle.kept_lives.specs.of_slave_steps.Node.{Node, is_settled}
-use Rattle.kept_lives.specs.of_whole_lives.Whole.{OwesLaws}
+use Rattle.kept_lives.specs.of_whole_ring.Whole.{OwesLaws}
 use Rattle.plan_ring.specs.Round.{all_seen}
 use Rattle.run_promises.specs.Slaves.{services_of}
 

@@ -31,8 +31,8 @@ use Rattle.state_exchange.specs.Stated.{Service, acts, mails, with_states}
 use Rattle.state_exchange.proofs.Acts.{mails_acts, mails_append}
 use Rattle.state_model.specs.States.{Table}
 use Rattle.task_model.specs.Promise.{services_in}
-use Rattle.whole_lives.specs.Whole.{OwesLaws, IsLived}
-use Rattle.whole_lives.proofs.Promised.{promised}
+use Rattle.whole_ring.specs.Whole.{OwesLaws, IsLived}
+use Rattle.whole_ring.proofs.Promised.{promised}
 use Rattle.sent_packets.proofs.Live.{IsLive}
 
 abbrev pub Real : Type 0

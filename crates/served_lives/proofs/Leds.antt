@@ -21,7 +21,7 @@ use Rattle.slave_parts.specs.Parts.{Server}
 use Rattle.slave_server.specs.Serving.{Serving}
 use Rattle.slave_steps.specs.Node.{Node}
 use Rattle.state_exchange.specs.Families.{InState}
-use Rattle.whole_lives.specs.Whole.{OpensBy, StandsBy}
+use Rattle.whole_ring.specs.Whole.{OpensBy, StandsBy}
 use Rattle.served_lives.specs.Clearing.{serves_clearing, in_init}
 
 module _ (p : Profile) (boot : Bool) (lens : ℕ → Lens) (spot : Spot) where

@@ -29,8 +29,8 @@ use Rattle.slave_parts.specs.Parts.{parts}
 use Rattle.slave_server.specs.Serving.{Serving, cleared}
 use Rattle.slave_server.specs.Spec.{node_of, profile_of, server_of}
 use Rattle.state_exchange.specs.Stated.{IsStated}
-use Rattle.whole_lives.specs.Whole.{IsWhole}
-use Rattle.whole_lives.proofs.Turning as Turning
+use Rattle.whole_ring.specs.Whole.{IsWhole}
+use Rattle.whole_ring.proofs.WholeTurning as Turning
 use Rattle.whole_ring.specs.Members.{MemberIs, AllLived, AreDistinct, IsElsewhere, IsRing, first_ring}
 use Rattle.served_rings.specs.Rings.{AllServedAt, AreServedLived, ServedMember, counters_of, served_member, served_members}
 

@@ -25,8 +25,8 @@ use Rattle.slave_lives.specs.Stands.{Closing}
 use Rattle.steps_shown.specs.Shown.{StandsFor}
 use Rattle.steps_shown.proofs.Standing.{access_shows}
 use Rattle.task_model.specs.Accounts.{Pick}
-use Rattle.whole_lives.specs.Turns.{FrameComes, era_before}
-use Rattle.whole_lives.specs.Whole.{IsWhole, OpensAs, OpensBy, plan_to}
+use Rattle.whole_ring.specs.Turns.{FrameComes, era_before}
+use Rattle.whole_ring.specs.Whole.{IsWhole, OpensAs, OpensBy, plan_to}
 use Rattle.slave_clocks.specs.Stands.{Asked, CameFirst}
 use Rattle.slave_clocks.proofs.Halves.{half_same, sent_so, own_here, grams_same, mine_is, back_mine}
 

@@ -25,9 +25,9 @@ use Rattle.slave_lives.specs.Seats.{AllMeet}
 use Rattle.slave_lives.proofs.AllSeats.{all_meet_first}
 use Rattle.slave_steps.specs.Node.{Node, node_passed}
 use Rattle.frame_pass.specs.Passing.{datagrams_after}
-use Rattle.whole_lives.specs.Turns as Whole
-use Rattle.whole_lives.specs.Turns.{Came}
-use Rattle.whole_lives.specs.Whole.{StandsAs, OpensAs}
+use Rattle.whole_ring.specs.Turns as Whole
+use Rattle.whole_ring.specs.Turns.{Came}
+use Rattle.whole_ring.specs.Whole.{StandsAs, OpensAs}
 use Rattle.whole_ring.specs.Members.{Member, MemberIs, AllLived, IsRing}
 use Rattle.whole_ring.specs.Turning.{Turn, TurnsFor, AllTurn, frame_at, next_life, life_by, behind_frame}
 use Rattle.whole_ring.proofs.Members as Members

@@ -44,9 +44,9 @@ use Rattle.slave_lives.proofs.RingFrames.{met_runs}
 use Rattle.slave_lives.proofs.RingLives.{sent_is, back_is}
 use Rattle.steps_shown.proofs.Asking.{acknowledges}
 use Rattle.task_model.specs.Accounts.{Pick, mails_choice}
-use Rattle.whole_lives.specs.Turns.{FrameComes, era_before, era_behind}
-use Rattle.whole_lives.specs.Whole.{IsWhole}
-use Rattle.whole_lives.proofs.Still.{own_comes}
+use Rattle.whole_ring.specs.Turns.{FrameComes, era_before, era_behind}
+use Rattle.whole_ring.specs.Whole.{IsWhole}
+use Rattle.whole_ring.proofs.Still.{own_comes}
 use Rattle.slave_clocks.specs.Stands.{Asked}
 use Rattle.slave_clocks.proofs.Ways.{clock_out}
 

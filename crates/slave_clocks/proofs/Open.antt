@@ -35,11 +35,11 @@ use Rattle.slave_steps.specs.Node.{Node}
 use Rattle.state_law.specs.Shows.{slave_table}
 use Rattle.state_model.specs.States as States
 use Rattle.task_model.specs.Accounts.{Pick}
-use Rattle.whole_lives.specs.Turns.{FrameComes, era_before}
-use Rattle.whole_lives.specs.Whole.{IsWhole, LivesOpen}
-use Rattle.whole_lives.proofs.Open.{steady_of, over_begins, hand_begins}
-use Rattle.whole_lives.proofs.Steady.{IsUp, stays_up}
-use Rattle.whole_lives.proofs.Still.{own_comes}
+use Rattle.whole_ring.specs.Turns.{FrameComes, era_before}
+use Rattle.whole_ring.specs.Whole.{IsWhole, LivesOpen}
+use Rattle.whole_ring.proofs.Open.{steady_of, over_begins, hand_begins}
+use Rattle.whole_ring.proofs.Steady.{IsUp, stays_up}
+use Rattle.whole_ring.proofs.Still.{own_comes}
 
 among_self : (place : ℕ) → is_among place (suc place) ≡ true
 among_self zero = refl

@@ -16,8 +16,8 @@ use Rattle.slave_lives.specs.Lived.{Behind, RingFrame, node_behind, frame_of, no
 use Rattle.slave_lives.specs.Rings.{come_to, is_met_at, met, turned}
 use Rattle.slave_lives.specs.Seats.{AllMeet}
 use Rattle.slave_steps.specs.Node.{Node, node_passed}
-use Rattle.whole_lives.specs.Turns as Whole
-use Rattle.whole_lives.specs.Whole.{StandsAs}
+use Rattle.whole_ring.specs.Turns as Whole
+use Rattle.whole_ring.specs.Whole.{StandsAs}
 use Rattle.whole_ring.specs.Members.{Member, MemberIs, AllLived, IsRing}
 use Rattle.whole_ring.specs.Turning.{Turn, TurnsFor, AllTurn, frame_at, next_life, behind_frame}
 use Rattle.whole_ring.proofs.Members as Members

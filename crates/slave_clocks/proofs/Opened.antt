@@ -27,9 +27,9 @@ use Rattle.slave_lives.proofs.Words.{state_in}
 use Rattle.steps_shown.specs.Shown.{StandsFor}
 use Rattle.steps_shown.proofs.Going.{stays_on, goes_on, step_on}
 use Rattle.steps_shown.proofs.Standing.{watch_stands}
-use Rattle.whole_lives.specs.Turns.{FrameComes, Came}
-use Rattle.whole_lives.specs.Whole.{IsWhole, LivesStill, OpensAs, OpensBy, plan_to}
-use Rattle.whole_lives.proofs.Kept.{met_boot}
+use Rattle.whole_ring.specs.Turns.{FrameComes, Came}
+use Rattle.whole_ring.specs.Whole.{IsWhole, LivesStill, OpensAs, OpensBy, plan_to}
+use Rattle.whole_ring.proofs.Kept.{met_boot}
 use Rattle.slave_clocks.proofs.Ways.{clock_out}
 
 -- an access that awaits no step answers for nothing

@@ -14,8 +14,8 @@ use Rattle.segment_model.specs.Slaves.{Found}
 use Rattle.slave_lives.specs.Lived.{Behind, RingFrame, LivesEra, fate_of, node_met, node_behind, frame_of}
 use Rattle.slave_lives.specs.Opening.{Plan}
 use Rattle.task_model.specs.Accounts.{Pick, Duty, Stage}
-use Rattle.whole_lives.specs.Turns.{FrameComes, AsksFor, era_before, era_behind, life_by}
-use Rattle.whole_lives.specs.Whole.{IsWhole}
+use Rattle.whole_ring.specs.Turns.{FrameComes, AsksFor, era_before, era_behind, life_by}
+use Rattle.whole_ring.specs.Whole.{IsWhole}
 use Rattle.slave_clocks.specs.Stands.{Asked, StandsTo}
 use Rattle.slave_clocks.proofs.Halves.{half_same, half_goes, stands_on}
 use Rattle.slave_clocks.proofs.Opened.{nothing_awaited}

@@ -15,8 +15,8 @@ use Rattle.slave_lives.specs.Lived.{Behind, RingFrame, node_behind, frame_of}
 use Rattle.slave_lives.specs.Opening.{Plan}
 use Rattle.steps_shown.specs.Shown.{StandsFor}
 use Rattle.task_model.specs.Accounts.{Pick}
-use Rattle.whole_lives.specs.Turns.{FrameComes, TurnsAs, CameAs, Came, life_by}
-use Rattle.whole_lives.specs.Whole.{IsWhole, IsLived, OpensAs, OpensBy, StandsAs}
+use Rattle.whole_ring.specs.Turns.{FrameComes, TurnsAs, CameAs, Came, life_by}
+use Rattle.whole_ring.specs.Whole.{IsWhole, IsLived, OpensAs, OpensBy, StandsAs}
 use Rattle.slave_clocks.specs.Stands.{StandsTo}
 use Rattle.slave_clocks.proofs.Opened.{nothing_awaited, stays, goes}
 use Rattle.slave_clocks.proofs.Opens.{open_turns}

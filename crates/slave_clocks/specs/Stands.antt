@@ -10,7 +10,7 @@ use Rattle.segment_model.specs.Slaves.{Found}
 use Rattle.slave_lives.specs.Lived.{Behind, RingFrame, AccessBack}
 use Rattle.slave_lives.specs.Opening.{Plan}
 use Rattle.steps_shown.specs.Shown.{StandsFor}
-use Rattle.whole_lives.specs.Whole.{plan_to}
+use Rattle.whole_ring.specs.Whole.{plan_to}
 
 -- where its acknowledge is awaited the repeat request stands, and once the slave made a step its acknowledge
 pub record Asked (stepped : Bool) (h : InHalf) (r : Esc.Registers) : Type 0 where

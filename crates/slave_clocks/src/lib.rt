@@ -15,8 +15,8 @@ ghost use Rattle.slave_lives.specs.Lived.{Behind, RingFrame, node_behind, frame_
 ghost use Rattle.slave_lives.specs.Opening.{Plan};
 ghost use Rattle.std.specs.Prelude.{◌≡◌, ℕ, Bool, List, Option};
 ghost use Rattle.task_model.specs.Accounts.{Pick};
-ghost use Rattle.whole_lives.specs.Turns.{FrameComes, TurnsAs, life_by};
-ghost use Rattle.whole_lives.specs.Whole.{IsWhole, IsLived};
+ghost use Rattle.whole_ring.specs.Turns.{FrameComes, TurnsAs, life_by};
+ghost use Rattle.whole_ring.specs.Whole.{IsWhole, IsLived};
 
 pub mod half_asked;
 pub mod open_met;

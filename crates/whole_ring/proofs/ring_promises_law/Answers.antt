@@ -1,5 +1,5 @@
-use Rattle.whole_lives.proofs.of_slave_lives.EraEnds as Ends
-use Rattle.whole_lives.proofs.Promised
+use Rattle.slave_lives.proofs.EraEnds as Ends
+use Rattle.whole_ring.proofs.Promised
 use Rattle.whole_ring.proofs.Begins
 use Rattle.whole_ring.specs.Members.{Passes}
 use Rattle.whole_ring.proofs.ring_promises_law.Goals as goal

@@ -12,9 +12,9 @@ use Rattle.slave_lives.specs.of_life_model.Lives.{Spot, Life, Stand}
 use Rattle.slave_lives.proofs.of_life_model.Eras.{session_of, of_one}
 use Rattle.slave_lives.specs.Lived.{Behind, table_of, node_seen}
 use Rattle.slave_lives.specs.Opening.{Plan}
-use Rattle.whole_lives.specs.Promises.{IsPromised}
-use Rattle.whole_lives.specs.Whole.{OwesLaws, LivesOpen, StandsAs, IsLived}
-use Rattle.whole_lives.proofs.Open.{steady_of}
+use Rattle.whole_ring.specs.Promises.{IsPromised}
+use Rattle.whole_ring.specs.Whole.{OwesLaws, LivesOpen, StandsAs, IsLived}
+use Rattle.whole_ring.proofs.Open.{steady_of}
 
 pub promised : {S V A Q R : Type 0} (w : Behind S V A Q R) (c : Clearing V A) (p : Plan) (spot : Spot) (first : A) (l : Life Body Q R) (fs : List (Frame Body)) (n : Node S) → OwesLaws w c p spot → (i : IsLived w c p spot first l fs n) → l.stand ≡ Stand.Open →
     IsPromised w spot i.from l.era fs n

@@ -21,13 +21,13 @@ use Rattle.slave_lives.specs.Ways.{OneOnWay}
 use Rattle.slave_lives.proofs.Arrives as Arrived
 use Rattle.slave_lives.proofs.Closing.{again_is}
 use Rattle.slave_lives.proofs.NodeFrames as NodeFrames
-use Rattle.whole_lives.specs.Turns.{FrameComes, CameAs, TurnsAs, life_by}
-use Rattle.whole_lives.specs.Whole.{IsWhole, Living, Leaving, Passing, OpensBy, StandsBy, IsLivedBy, IsLived, plan_to}
-use Rattle.whole_lives.proofs.Keeps.{Keeps, sessions}
-use Rattle.whole_lives.proofs.Kept.{none_is_most}
-use Rattle.whole_lives.proofs.Open.{steady_of, open_turns}
-use Rattle.whole_lives.proofs.Shut.{ShutFrame, runs_behind, boot_behind, shut_stays, shut_goes, stays_so}
-use Rattle.whole_lives.proofs.Still.{Nothing, own_first, own_not}
+use Rattle.whole_ring.specs.Turns.{FrameComes, CameAs, TurnsAs, life_by}
+use Rattle.whole_ring.specs.Whole.{IsWhole, Living, Leaving, Passing, OpensBy, StandsBy, IsLivedBy, IsLived, plan_to}
+use Rattle.whole_ring.proofs.Keeps.{Keeps, sessions}
+use Rattle.whole_ring.proofs.Kept.{none_is_most}
+use Rattle.whole_ring.proofs.Open.{steady_of, open_turns}
+use Rattle.whole_ring.proofs.Shut.{ShutFrame, runs_behind, boot_behind, shut_stays, shut_goes, stays_so}
+use Rattle.whole_ring.proofs.Still.{Nothing, own_first, own_not}
 
 module _ {S V A Q R : Type 0} (w : Behind S V A Q R) (c : Clearing V A) (p : Plan) (spot : Spot) (whole : IsWhole w c p spot) where
   -- SWITCHED ON

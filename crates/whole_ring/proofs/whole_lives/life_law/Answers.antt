@@ -1,5 +1,5 @@
-use Rattle.whole_lives.proofs.Turning
-use Rattle.whole_lives.proofs.life_law.Goals as goal
+use Rattle.whole_ring.proofs.WholeTurning
+use Rattle.whole_ring.proofs.whole_lives.life_law.Goals as goal
 
 pub returns : goal.returns
 returns g k = record {

@@ -18,7 +18,7 @@ use Rattle.slave_lives.specs.Opening.{Plan}
 use Rattle.slave_lives.specs.of_slave_steps.Node.{Node}
 use Rattle.slave_lives.specs.Rings.{registers_of, come_to}
 use Rattle.slave_lives.specs.Seats.{Seat, ComesAs, MeetsAs}
-use Rattle.whole_lives.specs.Whole.{plan_to}
+use Rattle.whole_ring.specs.Whole.{plan_to}
 
 -- the plan of the opening in hand
 abbrev pub plan_at : Plan → Stand → Plan

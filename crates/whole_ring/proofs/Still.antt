@@ -28,9 +28,9 @@ use Rattle.slave_lives.specs.Ways.{OneOnWay, AllNotFor, IsOnWay}
 use Rattle.slave_lives.proofs.Owned.{own_is}
 use Rattle.slave_lives.proofs.RingFrames.{met_runs}
 use Rattle.slave_lives.proofs.RingLives.{sent_is, back_is}
-use Rattle.whole_lives.specs.Whole.{Living, LivesStillBy}
-use Rattle.whole_lives.proofs.Kept.{met_none, none_alone, turned_with}
-use Rattle.whole_lives.proofs.Steady.{IsUp, carried_up, stays_up}
+use Rattle.whole_ring.specs.Whole.{Living, LivesStillBy}
+use Rattle.whole_ring.proofs.Kept.{met_none, none_alone, turned_with}
+use Rattle.whole_ring.proofs.Steady.{IsUp, carried_up, stays_up}
 
 -- what isn't for it has no datagram to its station, and neither has the first access of a reopening
 pub own_not : (p : Plan) (place behind : ℕ) (ds : List Raw.Datagram) → AllNotFor p place behind ds → own_of p.station ds ≡ []

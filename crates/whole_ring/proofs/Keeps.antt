@@ -13,8 +13,8 @@ use Rattle.slave_lives.proofs.EraBegins as Begins
 use Rattle.slave_lives.proofs.EraEnds as Ends
 use Rattle.slave_lives.proofs.Quiets.{lives_yet}
 use Rattle.slave_lives.proofs.RingLives as RingLives
-use Rattle.whole_lives.specs.Turns.{era_behind}
-use Rattle.whole_lives.specs.Whole.{IsWhole, Living, Leaving, Passing}
+use Rattle.whole_ring.specs.Turns.{era_behind}
+use Rattle.whole_ring.specs.Whole.{IsWhole, Living, Leaving, Passing}
 
 -- `E` is what is known of the epoch of an open slave before the frame, `F` behind it, `Y` of one whose reopening hasn't reached it, `L` of an epoch that is
 -- over, and `P` of all those

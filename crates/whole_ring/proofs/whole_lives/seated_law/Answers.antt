@@ -1,5 +1,5 @@
-use Rattle.whole_lives.proofs.Seated
-use Rattle.whole_lives.proofs.seated_law.Goals as goal
+use Rattle.whole_ring.proofs.Seated
+use Rattle.whole_ring.proofs.whole_lives.seated_law.Goals as goal
 
 pub returns : goal.returns
 returns g k = record {

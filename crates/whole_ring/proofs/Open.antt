@@ -30,14 +30,14 @@ use Rattle.slave_lives.specs.Rings.{registers_of, come_to, met, is_among}
 use Rattle.slave_lives.proofs.EraFrames.{lives_on}
 use Rattle.slave_lives.proofs.RingFrames.{met_runs}
 use Rattle.slave_lives.proofs.RingLives.{sent_is, lived_on}
-use Rattle.whole_lives.specs.Turns.{FrameComes, AsksFor, era_before, era_behind, life_by}
-use Rattle.whole_lives.specs.Whole.{IsWhole, Living, Leaving, Passing, LivesOpenBy, OpensBy, StandsBy, IsLivedBy, plan_to}
-use Rattle.whole_lives.proofs.Keeps.{Keeps}
-use Rattle.whole_lives.proofs.Kept.{turned_with}
-use Rattle.whole_lives.proofs.Overs.{over_back, quiet_back, sent_quiet}
-use Rattle.whole_lives.proofs.Rows.{next_answered, after_answered}
-use Rattle.whole_lives.proofs.Steady.{IsUp, carried_up, stays_up}
-use Rattle.whole_lives.proofs.Still.{own_comes}
+use Rattle.whole_ring.specs.Turns.{FrameComes, AsksFor, era_before, era_behind, life_by}
+use Rattle.whole_ring.specs.Whole.{IsWhole, Living, Leaving, Passing, LivesOpenBy, OpensBy, StandsBy, IsLivedBy, plan_to}
+use Rattle.whole_ring.proofs.Keeps.{Keeps}
+use Rattle.whole_ring.proofs.Kept.{turned_with}
+use Rattle.whole_ring.proofs.Overs.{over_back, quiet_back, sent_quiet}
+use Rattle.whole_ring.proofs.Rows.{next_answered, after_answered}
+use Rattle.whole_ring.proofs.Steady.{IsUp, carried_up, stays_up}
+use Rattle.whole_ring.proofs.Still.{own_comes}
 
 -- a master's choice asks for no Init: a state service that comes into hand drains
 module _ {M Q R : Type 0} (x : Speech M Q R) (acknowledged : Q → Bool) (frame : ℕ) (d : Side M Q R) (a : Account Q R) where

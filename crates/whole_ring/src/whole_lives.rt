@@ -1,5 +1,4 @@
 //! All epochs of a slave's life, its node and the frames so far. No running code: each function here does nothing, and its contract states a law.
-#![tactic(auto)]
 
 ghost use Rattle.std.specs.Prelude.{◌≡◌, ◌==◌, ◌∷◌, ◌++◌, ℕ, Bool, true, false, Option, None, List, [], length};
 ghost use Rattle.slave_lives.specs.of_link_mails.Body.{Body};
@@ -15,9 +14,9 @@ ghost use Rattle.slave_lives.specs.Lived.{Behind, RingFrame, node_met, node_behi
 ghost use Rattle.slave_lives.specs.Nodes.{IsRoomy};
 ghost use Rattle.slave_lives.specs.Seats.{Seat, KnownAs, ComesAs, AreDistinct, AllMeet, nodes_of};
 ghost use Rattle.slave_lives.specs.Opening.{Plan};
-ghost use Rattle.whole_lives.specs.Whole.{IsWhole, OwesLaws, IsLived};
-ghost use Rattle.whole_lives.specs.Turns.{FrameComes, TurnsAs, life_by, plan_at, seat_at};
-ghost use Rattle.whole_lives.specs.Promises.{IsPromised};
+ghost use Rattle.whole_ring.specs.Whole.{IsWhole, OwesLaws, IsLived};
+ghost use Rattle.whole_ring.specs.Turns.{FrameComes, TurnsAs, life_by, plan_at, seat_at};
+ghost use Rattle.whole_ring.specs.Promises.{IsPromised};
 
 /// A LIFE IS LIVED BY ITS NODE from the moment the slave is switched on; by each frame that the ring exchanges, met by the slave, lost before it or
 /// behind it, and by the step behind it, at any pace; and where the slave is given up, for good or not.

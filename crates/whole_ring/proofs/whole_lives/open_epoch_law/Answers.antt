@@ -1,6 +1,6 @@
 use Rattle.slave_lives.proofs.EraEnds as Ends
-use Rattle.whole_lives.proofs.Promised
-use Rattle.whole_lives.proofs.open_epoch_law.Goals as goal
+use Rattle.whole_ring.proofs.Promised
+use Rattle.whole_ring.proofs.whole_lives.open_epoch_law.Goals as goal
 
 pub returns : goal.returns
 returns g k = record {

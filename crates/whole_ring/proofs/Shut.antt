@@ -27,11 +27,11 @@ use Rattle.slave_lives.proofs.ClosedFrames as Frames
 use Rattle.slave_lives.proofs.EraEnds as Ends
 use Rattle.slave_lives.proofs.RingFrames.{met_runs}
 use Rattle.slave_lives.proofs.Words.{state_in}
-use Rattle.whole_lives.specs.Turns.{Came}
-use Rattle.whole_lives.specs.Whole.{IsWhole, Living, Leaving, Passing, LivesOpenBy, LivesStillBy, Waits, IsOverBy, OpensBy, StandsBy, IsLivedBy, plan_to}
-use Rattle.whole_lives.proofs.Keeps.{Keeps}
-use Rattle.whole_lives.proofs.Kept.{one_or_none, met_server, met_boot, turned_runs, turned_boot, closed_server}
-use Rattle.whole_lives.proofs.Still.{Nothing, still_on}
+use Rattle.whole_ring.specs.Turns.{Came}
+use Rattle.whole_ring.specs.Whole.{IsWhole, Living, Leaving, Passing, LivesOpenBy, LivesStillBy, Waits, IsOverBy, OpensBy, StandsBy, IsLivedBy, plan_to}
+use Rattle.whole_ring.proofs.Keeps.{Keeps}
+use Rattle.whole_ring.proofs.Kept.{one_or_none, met_server, met_boot, turned_runs, turned_boot, closed_server}
+use Rattle.whole_ring.proofs.Still.{Nothing, still_on}
 
 module _ {S V A Q R : Type 0} (w : Behind S V A Q R) (from : A) (e : Era Body Q R) where
   waits_stay : (s t : S) → w.running.clear t ≡ w.running.clear s → Waits w from e s → Waits w from e t

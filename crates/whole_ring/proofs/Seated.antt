@@ -24,8 +24,8 @@ use Rattle.slave_lives.specs.Stands.{OpenUp}
 use Rattle.slave_lives.proofs.AllSeats as All
 use Rattle.slave_lives.proofs.Arrives as Arrived
 use Rattle.slave_lives.proofs.Words.{state_in}
-use Rattle.whole_lives.specs.Turns.{FrameComes, plan_at, seat_at}
-use Rattle.whole_lives.specs.Whole.{IsWhole, Living, Leaving, OpensBy, StandsBy, StandsAs, plan_to}
+use Rattle.whole_ring.specs.Turns.{FrameComes, plan_at, seat_at}
+use Rattle.whole_ring.specs.Whole.{IsWhole, Living, Leaving, OpensBy, StandsBy, StandsAs, plan_to}
 
 module _ {S V A Q R : Type 0} (w : Behind S V A Q R) (c : Clearing V A) (p : Plan) (spot : Spot) (whole : IsWhole w c p spot) where
   up_still : (state : ℕ) (from : A) (e : Era Body Q R) (fs : List (Frame Body)) (n : Node S) → LivesEra w spot from e fs n → IsSteady (node_seen w n) → OpenUp w.lens (plan_to p state) n.registers
