@@ -3,7 +3,7 @@ use Rattle.std.proofs.Common.{refl}
 use Rattle.coe_server.specs.ObjectTables.{tables_with}
 use Rattle.coe_server.proofs.ObjectsLaw.{lawful, spelled}
 use Rattle.coe_states.proofs.StatesLaw.{coe_states_law, coe_states_are, coe_mail_states_law, coe_mail_states_are}
-use Rattle.object_states.proofs.objects_are_stated.Goals as goal
+use Rattle.coe_states.proofs.object_states.objects_are_stated.Goals as goal
 
 pub returns-clause-lawful : goal.returns-clause-lawful
 returns-clause-lawful c = λ cut eoe areas sized. coe_states_law (tables_with cut) eoe areas (lawful cut) sized

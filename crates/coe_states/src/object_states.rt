@@ -1,6 +1,5 @@
 //! A slave's object dictionary with its AL state: what its CoE server owes so that state services stand beside its services by mails. No running
 //! code: the function here does nothing, and its contract states the law.
-#![tactic(auto)]
 
 ghost use Rattle.std.specs.Prelude.{◌≡◌, ℕ, Bool, true, List};
 ghost use Rattle.exchange_model.specs.Areas.{Areas, AreMailboxes};
