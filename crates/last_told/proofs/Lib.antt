@@ -1,7 +1,9 @@
+mod Calms
 pub mod Ends
+pub mod Gifts
 pub mod Octets
-pub mod Words
 pub mod OfCoe
 pub mod Others
-pub mod Slaves
 pub mod Passed
+pub mod Slaves
+pub mod Words

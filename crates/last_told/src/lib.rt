@@ -2,7 +2,6 @@
 //! here do nothing, and their contracts state the laws.
 #![tactic(auto)]
 
-ghost use Rattle.std.specs.Prelude.{◌≡◌, ℕ, ◌<◌, Bool, true, false, List, [], ◌∷◌, map, replicate, length};
 ghost use Rattle.coe_model.specs.Client as CoeClient;
 ghost use Rattle.coe_model.specs.Octets.{coe_mail_written};
 ghost use Rattle.coe_model.specs.Server.{information_parts};
@@ -20,6 +19,9 @@ ghost use Rattle.soe_model.specs.Client as SoeClient;
 ghost use Rattle.soe_model.specs.Elements.{Target, target};
 ghost use Rattle.soe_model.specs.Mails.{fragments_of};
 ghost use Rattle.soe_model.specs.Octets.{soe_mail_written};
+ghost use Rattle.std.specs.Prelude.{◌≡◌, ℕ, ◌<◌, Bool, true, false, List, [], ◌∷◌, map, replicate, length};
+
+pub mod replies_first;
 
 /// THE PARTS OF AN ANSWER go on but the last: those of an information, and the fragments of an element, where the mailbox has room for an octet of them.
 pub fn parts_told()

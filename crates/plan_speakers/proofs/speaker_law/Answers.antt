@@ -1,5 +1,5 @@
 use Rattle.std.proofs.Common.{refl}
-use Rattle.replies_first.proofs.Gifts.{replies}
+use Rattle.last_told.proofs.Gifts.{replies}
 use Rattle.slave_parts.specs.Parts.{parts}
 use Rattle.plan_speakers.proofs.Speakers.{speaks}
 use Rattle.plan_speakers.proofs.speaker_law.Goals as goal

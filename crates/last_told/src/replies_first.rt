@@ -1,5 +1,4 @@
 //! The servers of a slave give replies first, and emissions behind them. Definitions and laws, no running code.
-#![tactic(auto)]
 
 ghost use Rattle.std.specs.Prelude.{ℕ};
 ghost use Rattle.passed_whole.specs.Led.{RepliesFirst};

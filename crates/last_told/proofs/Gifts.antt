@@ -33,7 +33,7 @@ use Rattle.slave_model.specs.Application.{Core, Parts, station_tables, network}
 use Rattle.slave_model.specs.Server.{Server as SlaveServer, Seat, seat, failure, told_by, heard_by, refused_gives, soe_quiet, eoe_quiet}
 use Rattle.slave_model.specs.Product.{emission, served, side, refusal, protocol_of, serve_by, serve_other, serve}
 use Rattle.slave_model.proofs.Stations.{fragment_told}
-use Rattle.replies_first.proofs.Calms.{calm_read}
+use Rattle.last_told.proofs.Calms.{calm_read}
 
 -- REPLIES, and behind them emissions
 abbrev pub Ordered : List Body → Type 0
