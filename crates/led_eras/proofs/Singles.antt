@@ -29,10 +29,7 @@ module _ (lens : Lens) (octets : List ℕ) where
       go : (a : Bool) → (ado == 4096) ≡ a → (b : Bool) → (ado == 2062) ≡ b → One (write_ask lens ado octets) (write_access lens ado octets)
       go true e b f = inr (ap (λ k. write_access lens k octets) (eqb-true ado 4096 e))
       go false e true f = inr (ap (λ k. write_access lens k octets) (eqb-true ado 2062 f))
-      go false e false f = inl (
-        ap (λ c. if c then (if length octets == lens.out then Ask.WriteMail (link_read (mail_read octets)) else Ask.Other) else if ado == 2062 then (if length octets == 1 then Ask.WriteRequest (bit_1 (slice_index octets 0)) else Ask.Other) else Ask.Other) e
-        ∙ ap (λ c. let other : Ask Body = if c then (if length octets == 1 then Ask.WriteRequest (bit_1 (slice_index octets 0)) else Ask.Other) else Ask.Other in other) f,
-      )
+      go false e false f = inl (ap (λ c. if c then (if length octets == lens.out then Ask.WriteMail (link_read (mail_read octets)) else Ask.Other) else if ado == 2062 then (if length octets == 1 then Ask.WriteRequest (bit_1 (slice_index octets 0)) else Ask.Other) else Ask.Other) e ∙ ap (λ c. let other : Ask Body = if c then (if length octets == 1 then Ask.WriteRequest (bit_1 (slice_index octets 0)) else Ask.Other) else Ask.Other in other) f)
 
   read_one : (ado len : ℕ) → One (read_ask lens ado len) (read_access ado len)
   read_one ado len = go (ado == 6144) refl (ado == 2063) refl

@@ -54,8 +54,7 @@ module _ (law : LifeLaw) (plan : Scenario) (gs : List (Frame Body)) where
   all_served place (s ∷ ss) (w ∷ ws) (n ∷ ns) slaves macs led at has fair =
       let here = All-head IsSlave s ss slaves in
       let profile : IsProfile (profile_of s) = record { out_least = here.out_least; out_most = here.out_most; back_least = here.in_least; back_most = here.in_most; mac = macs.0 } in
-      let life = life_led (profile_of s) s.boot lens (spot_of place s) (plan_of s) w.kept w.counts (first_server s) w.lead.lived.life gs n refl led.0 in
-      (
+      let life = life_led (profile_of s) s.boot lens (spot_of place s) (plan_of s) w.kept w.counts (first_server s) w.lead.lived.life gs n refl led.0 in (
         law (profile_of s) profile s.boot (spot_of place s) (first_server s) w.lead.lived.life life (life_fair (profile_of s) lens w (All-head (HasServed lens) w ws has) (All-head AsksFair w ws fair)),
         all_served (suc place) ss ws ns (All-tail IsSlave s ss slaves) macs.1 led.1 at.1 (All-tail (HasServed lens) w ws has) (All-tail AsksFair w ws fair),
       )
