@@ -37,10 +37,7 @@ module _ (lens : Lens) (octets : List ℕ) where
       go : (a : Bool) → (ado == 6144) ≡ a → (b : Bool) → (ado == 2063) ≡ b → One (read_ask lens ado len) (read_access ado len)
       go true e b f = inr (ap (λ k. read_access k len) (eqb-true ado 6144 e))
       go false e true f = inr (ap (λ k. read_access k len) (eqb-true ado 2063 f))
-      go false e false f = inl (
-        ap (λ c. if c then (if len == lens.back then Ask.ReadMail else Ask.Other) else if ado == 2063 then (if len == 1 then Ask.ReadAcknowledge else Ask.Other) else Ask.Other) e
-        ∙ ap (λ c. let other : Ask Body = if c then (if len == 1 then Ask.ReadAcknowledge else Ask.Other) else Ask.Other in other) f,
-      )
+      go false e false f = inl (ap (λ c. if c then (if len == lens.back then Ask.ReadMail else Ask.Other) else if ado == 2063 then (if len == 1 then Ask.ReadAcknowledge else Ask.Other) else Ask.Other) e ∙ ap (λ c. let other : Ask Body = if c then (if len == 1 then Ask.ReadAcknowledge else Ask.Other) else Ask.Other in other) f)
 
   by_command : (c : Command) (ado : ℕ) → One (ask_of lens c ado octets) (access_of lens c ado octets)
   by_command Nop ado = inl refl
