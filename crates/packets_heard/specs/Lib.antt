@@ -4,4 +4,5 @@ pub mod Numbers
 pub mod Over
 pub mod Recalled
 pub mod Toured
+pub mod Served
 pub mod Visits
