@@ -38,6 +38,7 @@ pub mod Eagers
 pub mod Servings
 pub mod Serveds
 pub mod OnFrames
+pub mod ServedJoins
 pub mod Mailings
 pub mod Handeds
 pub mod Handings
