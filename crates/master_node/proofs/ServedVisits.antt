@@ -158,6 +158,12 @@ kept_is (Some (Coming.State target)) true s t u i e c =
 any_same : {G : Ghosts InHand} (s : Stop InHand G) → SomeKept s s
 any_same s = record { number = _; kept = stop_same s }
 
+pub kept_by : {G : Ghosts InHand} (coming : Option Coming) (result : Bool) (place : ℕ) (s2 s3 s4 : List (Stop InHand G)) →
+    StepsAt (λ s t. IsNextState (next_of s) coming × (scripted t.side.hand.laying ≡ (if takes_ready result (wish_of coming) then scripted_behind s.side.hand.laying else scripted s.side.hand.laying))) place s2 s3 →
+    StepsAt (λ s t. CameBy result coming s t) place s3 s4 → EachPair (λ s t. SomeKept s t) s3 s4
+kept_by coming result place s2 s3 s4 began came =
+    steps_each _ (λ s t. SomeKept s t) place s3 s4 any_same (λ s t k. k) (steps_mid _ _ (λ s t. SomeKept s t) place s2 s3 s4 (λ s t u a b. kept_is coming result s t u a.0 a.1 b) began came)
+
 script_stays : {G : Ghosts InHand} (b : Bool) (s t : Stop InHand G) → scripted t.side.hand.laying ≡ (if b then scripted_behind s.side.hand.laying else scripted s.side.hand.laying) → t.side.hand.laying.script ≡ s.side.hand.laying.script
 script_stays b s t e = ap (λ w. w.script) e ∙ go b
   where

@@ -71,7 +71,7 @@ loop-init c = (
   (λ b short. (visiting_first c.args.into.now.items c.args.self.now short b, b.count)),
   happens_none 0 _ _ refl,
   makes_none _ _ refl,
-  (λ quiet b short. (quiet, each_same (λ s t. StopGoes s t) c.args.self.now.tour.stops.items (λ s. (refl, λ h. h)))),
+  (λ b short. each_same (λ s t. StopGoes s t) c.args.self.now.tour.stops.items (λ s. (refl, λ h. h))),
   omega arith,
   (λ lens recover made forwards ws d f b. rounds_first (map run_lead ws) (λ left m octets. IsPassing lens recover made forwards left m octets ws) (λ left m octets g. many_serve lens recover made forwards ws left m octets g) (λ left m n octets k g. passing_same lens recover made forwards ws left m n octets k g) c.args.self.now c.args.into.now.items f b),
   refl,
@@ -114,18 +114,15 @@ loop-preserved c = (
       )),
   happens_then c.loop.counter 1 _ _ _ c.loop.invariant.6 c.visit.ensures.lan,
   makes_then _ _ _ c.loop.invariant.7 c.visit.ensures.made,
-  (λ quiet b short.
+  (λ b short.
       let e = c.due.ensures in
       let v = c.visit.ensures in
       let p = c.in-Some.place in
       let is : c.due.result ≡ Some p = cc in
-      let was = c.loop.invariant.8 quiet b short in
       let none = unvisited c.loop.into.items c.visit.new.into.items c.args.self.now c.loop.self c.visit.new.self c.due.new.self p (c.loop.invariant.5 b short).0 c.loop.invariant.2
-      (record { stops = e.stops; count = e.kept.0; again = e.kept.1; visit = e.kept.2 }) (e.order p is).1 (c.in-Some.ensures.few) v.on.1 v.visits v.shares v.takes in (
-        v.quiet was.0,
-        each_trans (λ s t. StopGoes s t) c.args.self.now.tour.stops.items c.loop.self.tour.stops.items c.visit.new.self.tour.stops.items (λ x y z a h. (h.0 ∙ a.0, λ g. h.1 (a.1 g))) was.1
-            (subst (λ z. EachPair (λ s t. StopGoes s t) z.items c.visit.new.self.tour.stops.items) e.stops (v.eager was.0 none)),
-      )),
+      (record { stops = e.stops; count = e.kept.0; again = e.kept.1; visit = e.kept.2 }) (e.order p is).1 (c.in-Some.ensures.few) v.on.1 v.visits v.shares v.takes in
+      each_trans (λ s t. StopGoes s t) c.args.self.now.tour.stops.items c.loop.self.tour.stops.items c.visit.new.self.tour.stops.items (λ x y z a h. (h.0 ∙ a.0, λ g. h.1 (a.1 g))) (c.loop.invariant.8 b short)
+      (subst (λ z. EachPair (λ s t. StopGoes s t) z.items c.visit.new.self.tour.stops.items) e.stops (v.eager none))),
   (let h = c.loop.invariant.9 in let v = c.visit.ensures.events in omega (arith, h, v)),
   (λ lens recover made forwards ws d f b.
       let e = c.due.ensures in
@@ -235,35 +232,35 @@ pub returns-clause-made : goal.returns-clause-made
 returns-clause-made c = c.loop.invariant.7
 
 pub returns-in_default-clause-eager : goal.returns-in_default-clause-eager
-returns-in_default-clause-eager c = λ quiet b short.
-    subst (λ z. EachPair (λ s t. StopGoes s t) c.args.self.now.tour.stops.items z.items) (sym c.due.ensures.stops) (c.loop.invariant.8 quiet b short).1
+returns-in_default-clause-eager c = λ b short.
+    subst (λ z. EachPair (λ s t. StopGoes s t) c.args.self.now.tour.stops.items z.items) (sym c.due.ensures.stops) (c.loop.invariant.8 b short)
 
 pub returns-then-not-visit-clause-eager : goal.returns-then-not-visit-clause-eager
-returns-then-not-visit-clause-eager c = λ quiet b short.
+returns-then-not-visit-clause-eager c = λ b short.
     let e = c.due.ensures in
     let v = c.visit.ensures in
     let p = c.in-Some.place in
     let is : c.due.result ≡ Some p = cc in
-    let was = c.loop.invariant.8 quiet b short in
+    let was = c.loop.invariant.8 b short in
     let none = unvisited c.loop.into.items c.visit.new.into.items c.args.self.now c.loop.self c.visit.new.self c.due.new.self p (c.loop.invariant.5 b short).0 c.loop.invariant.2
     (record { stops = e.stops; count = e.kept.0; again = e.kept.1; visit = e.kept.2 }) (e.order p is).1 (c.in-Some.ensures.few) v.on.1 v.visits v.shares v.takes in
-    each_trans (λ s t. StopGoes s t) c.args.self.now.tour.stops.items c.loop.self.tour.stops.items c.visit.new.self.tour.stops.items (λ x y z a h. (h.0 ∙ a.0, λ g. h.1 (a.1 g))) was.1
-    (subst (λ z. EachPair (λ s t. StopGoes s t) z.items c.visit.new.self.tour.stops.items) e.stops (v.eager was.0 none))
+    each_trans (λ s t. StopGoes s t) c.args.self.now.tour.stops.items c.loop.self.tour.stops.items c.visit.new.self.tour.stops.items (λ x y z a h. (h.0 ∙ a.0, λ g. h.1 (a.1 g))) was
+    (subst (λ z. EachPair (λ s t. StopGoes s t) z.items c.visit.new.self.tour.stops.items) e.stops (v.eager none))
 
 pub returns-then-self-count-clause-eager : goal.returns-then-self-count-clause-eager
-returns-then-self-count-clause-eager c = λ quiet b short.
+returns-then-self-count-clause-eager c = λ b short.
     let e = c.due.ensures in
     let v = c.visit.ensures in
     let p = c.in-Some.place in
     let is : c.due.result ≡ Some p = cc in
-    let was = c.loop.invariant.8 quiet b short in
+    let was = c.loop.invariant.8 b short in
     let none = unvisited c.loop.into.items c.visit.new.into.items c.args.self.now c.loop.self c.visit.new.self c.due.new.self p (c.loop.invariant.5 b short).0 c.loop.invariant.2
     (record { stops = e.stops; count = e.kept.0; again = e.kept.1; visit = e.kept.2 }) (e.order p is).1 (c.in-Some.ensures.few) v.on.1 v.visits v.shares v.takes in
-    each_trans (λ s t. StopGoes s t) c.args.self.now.tour.stops.items c.loop.self.tour.stops.items c.visit.new.self.tour.stops.items (λ x y z a h. (h.0 ∙ a.0, λ g. h.1 (a.1 g))) was.1
-    (subst (λ z. EachPair (λ s t. StopGoes s t) z.items c.visit.new.self.tour.stops.items) e.stops (v.eager was.0 none))
+    each_trans (λ s t. StopGoes s t) c.args.self.now.tour.stops.items c.loop.self.tour.stops.items c.visit.new.self.tour.stops.items (λ x y z a h. (h.0 ∙ a.0, λ g. h.1 (a.1 g))) was
+    (subst (λ z. EachPair (λ s t. StopGoes s t) z.items c.visit.new.self.tour.stops.items) e.stops (v.eager none))
 
 pub returns-clause-eager : goal.returns-clause-eager
-returns-clause-eager c = λ quiet b short. (c.loop.invariant.8 quiet b short).1
+returns-clause-eager c = c.loop.invariant.8
 
 pub returns-in_default-clause-serves : goal.returns-in_default-clause-serves
 returns-in_default-clause-serves c = λ lens recover made forwards ws d f b.

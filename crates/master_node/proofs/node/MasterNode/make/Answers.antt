@@ -136,14 +136,14 @@ returns-clause-joins c =
     each_trans (λ s t. t.side.hand.found.join ≡ s.side.hand.found.join) s0 s1 c.fill.new.self.tour.stops.items (λ x y z a b. b ∙ a) (each_map _ _ s0 s1 (λ s t p. ap (λ z. z.hand.found.join) p.0) c.begin.ensures.each) c.fill.ensures.joins
 
 pub returns-clause-eager : goal.returns-clause-eager
-returns-clause-eager c = λ lens recover retry missed as' x.
+returns-clause-eager c = λ as' stands fits.
     let m = c.args.self.now in
     let e = c.begin.ensures in
     let t1 = c.begin.new.self in
     let ss = m.tour.stops.items in
     let ts = t1.stops.items in
-    let goes = goes_begun m.tour.again t1.again m.tour.visit.items t1.visit.items m.tour.opened t1.opened as' e.tour.0 e.tour.1 (λ a. ap (λ z. z.items) (e.again a)) x.goes in
-    let on = c.fill.ensures.eager x.quiet (record {
+    let goes = goes_begun m.tour.again t1.again m.tour.visit.items t1.visit.items m.tour.opened t1.opened as' e.tour.0 e.tour.1 (λ a. ap (λ z. z.items) (e.again a)) stands in
+    let on = c.fill.ensures.eager (record {
       count = e.count;
       passed = e.tour.5;
       under = each_none _ (λ s. s.under) (λ s t p. p.5) ss ts e.each;
@@ -151,7 +151,7 @@ returns-clause-eager c = λ lens recover retry missed as' x.
       anew = λ a. e.anew (sym e.tour.0 ∙ a);
       fits = λ a.
           let was = sym e.tour.0 ∙ a in
-          subst (λ z. FitAgain z ts) (sym (ap (λ z. z.items) (e.again was))) (again_on _ (λ s t p. side_sends s t p.0 p.1) ss ts m.tour.visit.items e.each (x.again was));
+          subst (λ z. FitAgain z ts) (sym (ap (λ z. z.items) (e.again was))) (again_on _ (λ s t p. side_sends s t p.0 p.1) ss ts m.tour.visit.items e.each (fits was));
     }) e.empty in
     each_comp _ _ (λ s t. (recall_of t ≡ recall_of s) × StopTakesUp t) (λ s t u p q. (q.0 ∙ ap (λ z. recall_by z.paused z.duty z.turn (knows z.hand.course)) p.0, q.1 (λ v. absurd (true_false t.under v p.5)))) ss ts c.fill.new.self.tour.stops.items e.each on
 

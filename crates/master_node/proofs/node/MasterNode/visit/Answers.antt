@@ -57,7 +57,8 @@ use Rattle.master_tour.specs.declared.stop.Stand.{Stand}
 use Rattle.master_node.proofs.Unvisited.{Lacking, Roomed, Roomy, Went, roomy, some_wish, steps_behind, without}
 use Rattle.master_hand.specs.Shown.{awaits_reply}
 use Rattle.master_side.specs.Free.{is_free_side}
-use Rattle.master_node.specs.Coming.{wish_of}
+use Rattle.master_node.specs.Coming.{next_of, wish_of}
+use Rattle.master_hand.specs.Laying.{Scripted}
 use Rattle.master_node.specs.Handed.{IsHanding}
 use Rattle.master_node.specs.Kept.{StopKept}
 use Rattle.master_node.specs.Passes.{IsNextState, IsServing, waits_in}
@@ -316,7 +317,7 @@ pub returns-clause-made : goal.returns-clause-made
 returns-clause-made c = makes_then _ _ _ (makes_none _ _ c.lay.ensures.lan) c.came.ensures.made
 
 pub returns-then-not-fits-clause-eager : goal.returns-then-not-fits-clause-eager
-returns-then-not-fits-clause-eager c = λ quiet under.
+returns-then-not-fits-clause-eager c = λ under.
     let e = c.fits.ensures in
     let s0 = c.args.self.now.tour.stops.items in
     let s1 = c.fits.new.self.stops.items in
@@ -324,7 +325,7 @@ returns-then-not-fits-clause-eager c = λ quiet under.
     (steps_tested (λ s. s.under) false _ c.args.place s0 s1 under (steps_both _ _ c.args.place s0 s1 e.recalled e.lives))
 
 pub returns-clause-eager : goal.returns-clause-eager
-returns-clause-eager c = λ quiet under.
+returns-clause-eager c = λ under.
     let e = c.fits.ensures in
     let v = c.visit-began.ensures in
     let place = c.args.place in
@@ -335,11 +336,12 @@ returns-clause-eager c = λ quiet under.
     let s2 = c.lay.new.self.tour.stops.items in
     let s3 = c.visit-began.new.self.stops.items in
     let s4 = c.came.new.self.tour.stops.items in
-    let fitted = steps_map _ (λ s t. Fitted s t) place s0 s1 (λ s t p. record { place = p.0.1; passing = p.1.2; script = p.1.3; out = p.1.0.out_is }) (steps_both _ _ place s0 s1 e.lives e.step) in
+    let first_next = steps_map _ (λ s t. IsNextState (next_of t) coming) place s0 s1 (λ s t p. subst (λ (z : Scripted). IsNextState (slice_get z.script z.number) coming) (sym p.1.3) p.0) (steps_some (λ s. IsNextState (next_of s) coming) _ place s0 s1 e.step c.coming-coming.ensures.states) in
+    let second_next = steps_mid (λ s t. IsNextState (next_of t) coming) _ (λ s t. IsNextState (next_of t) coming) place s0 s1 s2
+    (λ r s t a b. subst (λ (z : Scripted). IsNextState (slice_get z.script z.number) coming) (sym (λ i. record { script = b.0.side.script i; number = b.0.side.number i })) a) first_next c.lay.ensures.laid in
     let began = subst (λ z. StepsAt (λ s t. Began r z s t) place s2 s3) c.wish_of-wish.ensures
     (steps_map _ (λ s t. Began r c.wish_of-wish.result s t) place s2 s3 (λ s t p. record { place = p.0.4; out = p.1.0.0.out_is; ready = p.1.1.0; script = p.1.1.1; unpassed = p.1.1.2 }) (steps_both _ _ place s2 s3 v.lives (steps_both _ _ place s2 s3 v.step v.began))) in
-    let rooms : (s : Stop InHand Impl.ghosts) → s.side.out.len ≡ s.side.hand.laying.areas.out = λ s. s.side.room ∙ ap (λ z. z.out) (sym s.side.hand.one_slave) in
-    let kept = Visited.kept coming r place s0 s1 s2 s3 s4 rooms (c.coming-coming.ensures.comes quiet) fitted c.lay.ensures.laid began c.came.ensures.came in
+    let kept = Served.kept_by coming r place s2 s3 s4 (steps_mid (λ s t. IsNextState (next_of t) coming) _ _ place s1 s2 s3 (λ r s t a b. (a, b.script)) second_next began) c.came.ensures.came in
     let same = λ (s t : Stop InHand Impl.ghosts). recall_of t ≡ recall_of s in
     let first = steps_trans same same same place s0 s1 s2 (λ x y z a b. b ∙ a) e.recalled (steps_map _ same place s1 s2 (λ s t p. recall_kept _ s t p.0) c.lay.ensures.laid) in
     let second = steps_trans same _ (λ s t. StopGoes s t) place s0 s2 s3 (λ x y z a b. (b.0 ∙ a, λ h u. b.1)) first (steps_both _ _ place s2 s3 v.recalled v.takes) in
