@@ -2,6 +2,7 @@
 use Rattle.std.proofs.Common.{◌≡◌, ◌==◌, ◌+◌, ◌<◌, ℕ, zero, suc, Bool, true, false, Option, None, Some, List, [], ◌∷◌, refl, sym, ap, ◌∙◌, subst, arith, length}
 use Rattle.std.specs.Prelude.{◌&&◌, is_some, is_none, map, All, IfSome, slice_get, if◌then◌else◌}
 use Rattle.std.proofs.lemmas.Bool.{eq-eqb, eqb-true}
+use Rattle.std.proofs.lemmas.List.Elements.{All-head}
 use Rattle.datagrams.specs.Datagram as Raw
 use Rattle.life_runs.specs.of_frame_view.View.{Lens}
 use Rattle.life_runs.specs.of_life_frames.Shares.{Lived, AllFrom, AreDistinct, IsElsewhere}
@@ -12,7 +13,7 @@ use Rattle.master_duty.specs.of_exchange_model.Exchange.{Speech}
 use Rattle.master_duty.specs.of_segment_model.Seats
 use Rattle.master_duty.specs.of_state_exchange.Stated.{Service}
 use Rattle.master_duty.specs.of_task_model.Accounts.{Account, Pick}
-use Rattle.master_hand.specs.Laying.{Scripted, ready_of, scripted, scripted_behind}
+use Rattle.master_hand.specs.Laying.{Scripted, Waiting, ready_of, scripted, scripted_behind}
 use Rattle.master_hand.specs.Shown.{awaits_reply, knows}
 use Rattle.master_hand.specs.Spoken.{Asked, acknowledged, is_followed, is_passed}
 use Rattle.master_hand.specs.declared.hand.InHand.{InHand}
@@ -29,16 +30,19 @@ use Rattle.master_tour.specs.Made.{ComesAt, FrameMade, IsPlanned, is_in}
 use Rattle.master_tour.specs.Passing.{StandPassing}
 use Rattle.master_tour.specs.Stands.{Counts, StandShows, StopShows}
 use Rattle.master_tour.specs.Walks.{EachPair, StepsAt}
+use Rattle.master_tour.proofs.Walks.{steps_both}
 use Rattle.master_tour.specs.declared.stop.Stand.{Stand}
 use Rattle.master_tour.specs.declared.stop.Stop.{Stop}
 use Rattle.master_tour.specs.of_life_model.Lives
 use Rattle.master_tour.specs.of_life_model.Lives.{Life, Spot, life_next}
 use Rattle.segment_plan.specs.declared.service.Service as Plan
 use Rattle.served_runs.specs.Served.{Keyed, Serves, ServedComes}
+use Rattle.master_node.specs.Begins.{LaysOldest, PacketFirst, begins_by as packets_by, begins_other, taken_where}
 use Rattle.master_node.specs.Coming.{CameBy, IsLaid, next_of, wish_of}
 use Rattle.master_node.specs.Filling.{StopFills}
+use Rattle.master_node.specs.Forwards.{forwarded, port_by}
 use Rattle.master_node.specs.Kept.{StopKept, StopStays}
-use Rattle.master_node.specs.Passes.{BeginsFree, IsNextState, IsServing, LaysMail, MailWaits, ThreeFrom, waits_behind, waits_in}
+use Rattle.master_node.specs.Passes.{BeginsFree, IsMailReady, IsNextState, IsServing, LaysMail, MailWaits, ThreeFrom, waits_behind, waits_in}
 use Rattle.master_node.specs.Handed.{HasBegun, IsHanding, LaysWork, hand_behind, work_from}
 use Rattle.master_node.specs.Inhand.{HasInHand, WorkOf}
 use Rattle.master_node.specs.Listing.{where_began}
@@ -46,13 +50,15 @@ use Rattle.master_node.specs.Named.{IsHanded}
 use Rattle.master_node.specs.Serving.{MayPass, run_lead, waits_of}
 use Rattle.master_node.specs.Shows.{lived_of, side_shows}
 use Rattle.master_node.specs.declared.coming.Coming.{Coming}
+use Rattle.master_node.specs.declared.lan.Lan.{Lan}
 use Rattle.master_node.specs.declared.post.Post.{Post}
 use Rattle.master_node.specs.declared.post.Work.{Work}
+use Rattle.master_node.proofs.Begins.{leaves_served, none_waits, steps_any}
 use Rattle.master_node.proofs.Cames.{NumberBehind, got_inside}
 use Rattle.master_node.proofs.Fills.{begun_at, begun_comes, begun_here, fills_kept, frame_each}
 use Rattle.master_node.proofs.Handings.{handing_on}
 use Rattle.master_node.proofs.Kepts.{lives_kept, stop_same}
-use Rattle.master_node.proofs.Lists.{no_end, no_step, steps_each, steps_got, steps_map, steps_mid, steps_trans}
+use Rattle.master_node.proofs.Lists.{no_end, no_step, steps_each, steps_got, steps_map, steps_mid, steps_some, steps_trans}
 use Rattle.master_node.proofs.Mailed.{next_passing, next_stands, none_begun, none_came, served_came, stand_awaits, stand_same}
 use Rattle.master_node.proofs.Threes.{three_with}
 use Rattle.master_node.proofs.Visits.{Began, SomeKept}
@@ -193,6 +199,38 @@ passes_on x made l m b hold awaits stand p = λ counts free s e.
     let n = life_next x acknowledged is_followed is_passed made l l.stand pick in
     stand_same stand awaits p n m (e ∙ sym (next_passing x made l n b pick refl refl counts free)) s
 
+-- A MAIL THAT MAY COME is ready, since it fits the slave's mailbox
+ready_mail : (coming : Option Coming) (room : ℕ) (ks : List Keyed) (w : Waiting) → LaysMail coming room ks w → MailWaits ks coming → All (λ k. MayPass room k) ks → IsMailReady coming w
+ready_mail None room ks w h m f = tt
+ready_mail (Some Coming.Packet) room ks w h m f = tt
+ready_mail (Some Coming.Mail) room [] w h m f = absurd (m refl)
+ready_mail (Some Coming.Mail) room (k ∷ ks) w h m f = (k.mail, (h (All-head (λ q. MayPass room q) k ks f)).1)
+ready_mail (Some Coming.Script) room ks w h m f = tt
+ready_mail (Some (Coming.State target)) room ks w h m f = tt
+
+-- those that wait for the slave at a place fit it
+fit_there : {G : Ghosts InHand} (lens : ℕ → Lens) (begun : ℕ → Option (Service Asked)) (made : ℕ) (left : List ℕ) (i n m : ℕ) (ws : List Serves) (kss : List (List Keyed)) (ss : List (Stop InHand G)) → m ≡ i + n → is_in m left ≡ true →
+    ThreeFrom (λ j w ks s. IsServing lens begun made left j w ks s) i ws kss ss → IfSome (slice_get ss n) (λ s. All (λ k. MayPass s.side.out.len k) (waits_in kss n))
+fit_there lens begun made left i n m [] [] [] e at h = tt
+fit_there lens begun made left i n m [] [] (s ∷ ss) e at h = absurd h
+fit_there lens begun made left i n m [] (ks ∷ kss) ss e at h = absurd h
+fit_there lens begun made left i n m (w ∷ ws) [] ss e at h = absurd h
+fit_there lens begun made left i n m (w ∷ ws) (ks ∷ kss) [] e at h = tt
+fit_there lens begun made left i zero m (w ∷ ws) (ks ∷ kss) (s ∷ ss) e at h =
+    let f : m ≡ i = omega (arith, e) in
+    let room = (lens w.lead.lived.spot.station).out in
+    let same = none_came room w.lead.script w.waits ks w.hand h.0.hand w.lead.number s.side.hand.laying.number (begun w.lead.lived.spot.place) h.0.comes (h.0.still (subst (λ z. is_in z left ≡ true) f at)) in
+    subst (λ n. All (λ k. MayPass n k) ks) h.0.room (subst (λ z. All (λ k. MayPass room k) z) (sym same.waits_are) h.0.fits)
+fit_there lens begun made left i (suc n) m (w ∷ ws) (ks ∷ kss) (s ∷ ss) e at h = fit_there lens begun made left (suc i) n m ws kss ss (omega (arith, e)) at h.1
+
+pub mail_ready : {G : Ghosts InHand} (lens : ℕ → Lens) (begun : ℕ → Option (Service Asked)) (made : ℕ) (left : List ℕ) (coming : Option Coming) (place : ℕ) (ws : List Serves) (kss : List (List Keyed)) (s1 s2 : List (Stop InHand G)) → is_in place left ≡ true →
+    ThreeFrom (λ i w ks s. IsServing lens begun made left i w ks s) 0 ws kss s1 → MailWaits (waits_in kss place) coming → StepsAt (λ s t. Readied coming (waits_in kss place) s t) place s1 s2 → StepsAt (λ s t. IsMailReady coming t.side.hand.laying) place s1 s2
+mail_ready lens begun made left coming place ws kss s1 s2 at h waits readied =
+    let got = waits_in kss place in
+    steps_map _ (λ s t. IsMailReady coming t.side.hand.laying) place s1 s2
+    (λ s t p. ready_mail coming t.side.out.len got t.side.hand.laying p.1.mail waits (subst (λ n. All (λ k. MayPass n k) got) (sym (ap (λ z. z.len) p.1.stays.side.side.out_is)) p.0))
+    (steps_some (λ s. All (λ k. MayPass s.side.out.len k) got) (λ s t. Readied coming got s t) place s1 s2 readied (fit_there lens begun made left 0 place place ws kss s1 (omega arith) at h))
+
 -- something is wished where something may come
 pub wish_some : (coming : Option Coming) → is_some coming ≡ true → is_some (wish_of coming) ≡ true
 wish_some None e = e
@@ -284,6 +322,23 @@ module _ {G : Ghosts InHand} (lens : ℕ → Lens) (recover made : ℕ) (coming 
 
   pub all_here : StepsAt (λ s v. s.place ≡ here) place s1 s4
   all_here = steps_map (λ s v. Goes lens recover made coming result got (slice_get s2 place) s v) (λ s v. s.place ≡ here) place s1 s4 (λ s v g. sym g.ready.readied.stays.place ∙ sym (ap place_of g.seen.is)) all_go
+
+  -- WHAT LEAVES THE SWITCH is what came into hand
+  pub leaves : (l : Lan) → StepsAt (λ s t. LaysOldest l place coming t) place s1 s2 → StepsAt (λ s t. IsMailReady coming t.side.hand.laying) place s1 s2 → taken_where result l place coming ≡ packets_by (port_by (slice_get l.ports.items place)) what
+  leaves l oldest mail =
+      let same = taken_where result l place coming ≡ packets_by (port_by (slice_get l.ports.items place)) what in
+      let laid = steps_both _ _ place s1 s2 oldest (steps_both _ _ place s1 s2 mail readied) in
+      steps_any same place s2 s3
+      (steps_mid _ (λ s t. Seen lens recover made coming result (slice_get s2 place) s t) (λ s t. same) place s1 s2 s3
+      (λ r s t a b. leaves_served l place coming result s b.next a.1.1.laid b.visited.began.ready a.0 a.1.0 ∙ ap (λ z. packets_by (port_by (slice_get l.ports.items place)) (came_of z)) (sym b.is)) laid all_seen)
+
+  -- and none waits there, where that is no packet
+  pub waits_none : (l : Lan) → PacketFirst l place coming → begins_other what ≡ true → forwarded l.switch l.ports.items place ≡ []
+  waits_none l first e =
+      let none = forwarded l.switch l.ports.items place ≡ [] in
+      steps_any none place s2 s3
+      (steps_mid (λ s t. Readied coming got s t) (λ s t. Seen lens recover made coming result (slice_get s2 place) s t) (λ s t. none) place s1 s2 s3
+      (λ r s t a b. none_waits l place coming result s a.laid first (ap (λ z. begins_other (came_of z)) (sym b.is) ∙ e)) readied all_seen)
 
   module _ (begun : ℕ → Option (Service Asked)) (index : ℕ) (left next : List ℕ) (ds : List Raw.Datagram) (fewer : (k : ℕ) → is_in k next ≡ true → is_in k left ≡ true) (waits : MailWaits got coming) where
     abbrev Before : ℕ → Serves → List Keyed → Stop InHand G → Type 0

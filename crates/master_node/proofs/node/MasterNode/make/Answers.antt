@@ -33,7 +33,7 @@ use Rattle.master_node.specs.Starts.{HasStarted}
 use Rattle.master_node.proofs.Starts.{all_start}
 use Rattle.life_runs.specs.of_life_frames.Shares.{AreDistinct}
 use Rattle.master_hand.specs.Shown.{awaits_reply}
-use Rattle.master_node.specs.Serving.{IsServed, run_lead}
+use Rattle.master_node.specs.Serving.{IsServed, run_lead, run_turn}
 use Rattle.life_runs.specs.of_life_frames.Shares.{AllFrom, AllThree}
 use Rattle.master_hand.specs.Laying.{scripted}
 use Rattle.master_node.specs.Shows.{IsLived}
@@ -156,7 +156,7 @@ returns-clause-eager c = λ as' stands fits.
     each_comp _ _ (λ s t. (recall_of t ≡ recall_of s) × StopTakesUp t) (λ s t u p q. (q.0 ∙ ap (λ z. recall_by z.paused z.duty z.turn (knows z.hand.course)) p.0, q.1 (λ v. absurd (true_false t.under v p.5)))) ss ts c.fill.new.self.tour.stops.items e.each on
 
 pub returns-clause-serves : goal.returns-clause-serves
-returns-clause-serves c = λ lens recover retry missed made forwards ws some small unlisted x.
+returns-clause-serves c = λ lens recover retry missed made from ws some small room taken unlisted x.
     let m = c.args.self.now in
     let e = c.begin.ensures in
     let t1 = c.begin.new.self in
@@ -184,14 +184,15 @@ returns-clause-serves c = λ lens recover retry missed made forwards ws some sma
       out = ap (λ z. z.out.len) p.0;
       known = ap (λ z. knows z.hand.course) p.0;
     }) e.each in
-    let f = c.fill.ensures.serves lens recover made forwards ws x.distinct
+    let f = c.fill.ensures.serves lens recover made from ws x.distinct
     (λ left. record {
       begun = nothing;
       frame = subst (λ n. FrameMade (λ ds i a s. StopFills lens recover made nothing index left ds i a s) c.begin.new.frame.items n lives ts) (sym e.count) (e.made (speech_at lens) is_followed is_passed made recover index lens left lives nothing (λ k. refl) before);
       each = Served.firsts_serving lens recover made left 0 ws m.posts.items ss ts x.each alike;
       handed = Served.firsts_handing lens recover made 0 ws m.posts.items ss ts x.each alike;
       numbered = x.numbered;
-      listing = listed_nothing (served_tells ws) forwards left as' _ (record { few = unlisted.few; none = unlisted.none; counts = unlisted.counts });
+      packets = begun_nothing from.switch left as' m.lan taken;
+      listing = listed_nothing (served_tells ws) from.forwards left as' _ (record { few = unlisted.few; none = unlisted.none; counts = unlisted.counts });
     })
     (record {
       count = e.count;
@@ -202,6 +203,7 @@ returns-clause-serves c = λ lens recover retry missed made forwards ws some sma
       lives = alive;
       again = goes.comes;
       anew = λ a. e.anew (sym e.tour.0 ∙ a);
+      room = room;
       listed = unlisted.few;
     }) in
     let left = f.0 in
@@ -231,6 +233,7 @@ returns-clause-serves c = λ lens recover retry missed made forwards ws some sma
     let sends = subst (λ y. AllThree (λ a b s. Served.Sends lens recover made begun octets z.datagrams is a b s) y z.lives t2.stops.items) (sym flat) z.each in
     let fills = subst (λ y. AllFrom (λ i a s. StopFills lens recover made begun (c.fill.new.self.made % 256) left filling.frame.datagrams i a s) 0 y t2.stops.items) (sym flat) filling.frame.each in
     let areas = areas_from lens (λ i a s. StopFills lens recover made begun (c.fill.new.self.made % 256) left filling.frame.datagrams i a s) (λ i a s w. area_planned lens a.spot s w.lives.planned) 0 as' t2.stops.items fills in
+    let came = Served.sent_begun us sent.sent sent.turns_are (λ k. begun_for begun as' k) (λ k. begun_turns lens recover made begun octets z.datagrams is as' z.lives t2.stops.items sends k) in
     let bare = Steps.from_map _ (λ n a s. is_in n left ≡ true → s.under ≡ false) (λ i a s w. w.bare) 0 as' t2.stops.items
     (from_map lived_of (λ i a s. StopFills lens recover made begun (c.fill.new.self.made % 256) left filling.frame.datagrams i a s) 0 as' t2.stops.items fills) in (
       sent.sent,
@@ -251,8 +254,9 @@ returns-clause-serves c = λ lens recover retry missed made forwards ws some sma
         numbered = sent.numbered;
       },
       on.made ∙ x.made_is,
-      served_begin forwards left begun ws sent.sent c.fill.new.self _ (Served.sent_begun us sent.sent sent.turns_are (λ k. begun_for begun as' k) (λ k. begun_turns lens recover made begun octets z.datagrams is as' z.lives t2.stops.items sends k)) refl refl filling.listing,
+      served_begin from.forwards left begun ws sent.sent c.fill.new.self _ came refl refl filling.listing,
       tour_same into m _ c.fill.new.self v e.tour.0 visits e.tour.1 e.tour.2 e.tour.3 on,
+      packets_begin from.switch left begun as' (map run_turn sent.sent) c.fill.new.self.lan came filling.packets,
       of_tour into m _ c.fill.new.self v e.tour.0 visits e.tour.1 e.tour.2 e.tour.3 on (λ k. holds_at is_live_lead as' k) alive (λ k. v.alive k ∙ alive k) (frame_size octets) (λ k. area_at lens as' k) (c.finish-some.ensures.size yes) areas (length (seen lens octets)) (sent_many lens octets filling.frame.datagrams (c.finish-some.ensures.reads yes filling.frame.datagrams filling.frame.begun filling.frame.long filling.frame.named) ∙ filling.frame.long) ends.some,
     )
 

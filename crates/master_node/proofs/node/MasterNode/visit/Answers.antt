@@ -355,7 +355,7 @@ pub returns-clause-events : goal.returns-clause-events
 returns-clause-events c = let e = ap (λ z. z.count) c.lay.ensures.list in let f = c.came.ensures.events in omega (arith, e, f)
 
 pub returns-then-not-fits-clause-serves : goal.returns-then-not-fits-clause-serves
-returns-then-not-fits-clause-serves c = λ lens recover made forwards left next ws few d at over fewer f.
+returns-then-not-fits-clause-serves c = λ lens recover made from left next ws room few d at over fewer f.
     let m = c.args.self.now in
     let e = c.fits.ensures in
     let s0 = m.tour.stops.items in
@@ -371,11 +371,12 @@ returns-then-not-fits-clause-serves c = λ lens recover made forwards left next 
       handed = three_each (λ i w p s. IsHanding lens f.begun w p.work (knows s.side.hand.course)) (λ i w p s. IsHanding lens f.begun w p.work (knows s.side.hand.course)) (λ s t. Served.Alike s t)
           (λ i w p s t h k. subst (λ z. IsHanding lens f.begun w p.work z) (sym k.known) h) 0 ws m.posts.items s0 s1 f.handed alike;
       numbered = f.numbered;
-      listing = listed_on (served_tells ws) forwards left f.begun (map run_lead ws) m _ refl refl f.listing;
+      packets = f.packets;
+      listing = listed_on (served_tells ws) from.forwards left f.begun (map run_lead ws) m _ refl refl f.listing;
     }
 
 pub returns-clause-serves : goal.returns-clause-serves
-returns-clause-serves c = λ lens recover made forwards left next ws few d at over fewer f.
+returns-clause-serves c = λ lens recover made from left next ws room few d at over fewer f.
     let m = c.args.self.now in
     let e = c.fits.ensures in
     let v = c.visit-began.ensures in
@@ -432,6 +433,7 @@ returns-clause-serves c = λ lens recover made forwards left next ws few d at ov
     let stands = Served.all_here lens recover made coming r place got s0 s1 s2 s3 s4 rooms frees ahead readied visited came in
     let here_is = Served.here lens recover made coming r place got s0 s1 s2 s3 s4 rooms frees ahead readied visited came in
     let what_is = Served.what lens recover made coming r place got s0 s1 s2 s3 s4 rooms frees ahead readied visited came in
+    let apart = subst (λ z. AreDistinct z) (sym (map_map lived_of run_lead ws)) d in
     let told = told_visit lens recover made coming r place got (slice_get s2 place) here_is what_is (λ t z. ap (λ y. Served.came_of lens recover made coming r place got s0 s1 s2 s3 s4 rooms frees ahead readied visited came y) z) f.begun left c.coming-coming.ensures.oldest
     ws m.posts.items c.lay.new.self.posts.items s1 s2 s4 at all f.numbered refl goes stands c.lay.ensures.origins in
     record {
@@ -445,7 +447,11 @@ returns-clause-serves c = λ lens recover made forwards left next ws few d at ov
       numbered = both_each _ _ (λ w p. IsNumbered (length w.asked) p) (λ w p q h k. k (length w.asked) h) ws m.posts.items c.came.new.self.posts.items f.numbered
           (each_trans (λ p q. StaysNumbered p q) m.posts.items c.lay.new.self.posts.items c.came.new.self.posts.items (λ p q u y z n h. z n (y n h)) (steps_each _ (λ p q. StaysNumbered p q) place m.posts.items c.lay.new.self.posts.items (λ p n h. h) (λ p q h. h.numbered) told.2)
           (steps_each _ (λ p q. StaysNumbered p q) place c.lay.new.self.posts.items c.came.new.self.posts.items (λ p n h. h) (λ p q h. h.numbered) c.came.ensures.lists));
-      listing = listed_step (served_tells ws) forwards left next f.begun (map run_lead ws) m c.came.new.self place here_is what_is (subst (λ z. AreDistinct z) (sym (map_map lived_of run_lead ws)) d) told.0 at over fewer
+      packets = begun_step from.switch left next f.begun (map run_lead ws) m.lan c.came.new.self.lan place here_is what_is (taken_where r m.lan place coming) apart told.0 room at over fewer
+          (Served.leaves lens recover made coming r place got s0 s1 s2 s3 s4 rooms frees ahead readied visited came m.lan c.lay.ensures.oldest (Served.mail_ready lens f.begun made left coming place ws (mails_in m) s1 s2 at all c.coming-coming.ensures.oldest readied))
+          (subst (λ z. TakesOn (taken_where r z place coming) z c.came.new.self.lan) c.lay.ensures.lan c.came.ensures.takes) (subst (λ z. NoneMore z c.came.new.self.lan) c.lay.ensures.lan c.came.ensures.fewer)
+          (Served.waits_none lens recover made coming r place got s0 s1 s2 s3 s4 rooms frees ahead readied visited came m.lan c.coming-coming.ensures.first) f.packets;
+      listing = listed_step (served_tells ws) from.forwards left next f.begun (map run_lead ws) m c.came.new.self place here_is what_is apart told.0 at over fewer
           (listed_visit (served_tells ws) place (where_began r coming) what_is m _ c.came.new.self c.lay.ensures.list few told.1 c.came.ensures.lists) f.listing;
     }
 
