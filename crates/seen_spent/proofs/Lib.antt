@@ -1,3 +1,3 @@
-mod Spent
-mod Led
-mod Told
+pub mod Spent
+pub mod Led
+pub mod Told
