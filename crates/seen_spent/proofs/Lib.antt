@@ -1,3 +1,4 @@
-pub mod Spent
+pub mod Fits
 pub mod Led
+pub mod Spent
 pub mod Told
