@@ -44,7 +44,11 @@ pub fn served_law()
 {
     few_replies::whole_counts::passed_law();
     slave_served::parts_served::parts_are_served();
+<<<<<<< HEAD
+    crate::served_work::served_work();
+=======
     crate::served_work();
+>>>>>>> 80ed2810d9f44a058270ebe12cf8cbd6db8cfe50
 }
 
 /// A worked row: a datagram that is no request is fair.
