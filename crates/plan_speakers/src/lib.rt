@@ -27,11 +27,7 @@ pub fn speaker_law()
     ensures { (p : Profile) → IsProfile p → IsSpeaker (speaker p) }
 {
     slave_served::parts_served::parts_are_served();
-<<<<<<< HEAD
     few_replies::whole_counts::passed_law();
-=======
-    few_replies::whole_counts::parts_tell();
->>>>>>> 80ed2810d9f44a058270ebe12cf8cbd6db8cfe50
     last_told::parts_last_told();
 }
 
