@@ -1,4 +1,5 @@
 pub mod Fits
 pub mod Led
+pub mod Speaks
 pub mod Spent
 pub mod Told
