@@ -1,9 +1,10 @@
 -- AN EPOCH AS A MASTER LEADS IT, and the same with what is meant by its mails.
-use Rattle.std.specs.Prelude.{◌≡◌, ℕ, Bool, true, Option, Some, None, List, [], ◌∷◌, map, length, ⊤}
-use Rattle.exchange_model.specs.Exchange.{Exchange}
+use Rattle.std.specs.Prelude.{◌≡◌, ℕ, Bool, true, is_some, Option, Some, None, List, [], ◌∷◌, map, length, ⊤}
+use Rattle.exchange_model.specs.Exchange.{Exchange, IsLawful}
 use Rattle.life_model.specs.Eras.{EraIs, era_frames}
 use Rattle.life_model.specs.Lives.{Spot, Era}
-use Rattle.few_replies.specs.Calm.{IsCalm, calm_tagged}
+use Rattle.few_replies.specs.Calm.{calm_tagged}
+use Rattle.passed_whole.specs.Client.{ByContents}
 use Rattle.passed_whole.specs.Erased.{frame_as, OfRow, PlanOne, EndOne}
 use Rattle.passed_whole.specs.Led.{IsLed, RepliesFirst}
 use Rattle.passed_whole.specs.Silent.{is_passed}
@@ -29,15 +30,14 @@ pub record Speaker (V M Q R C T : Type 0) : Type 0 where
   pub states : Stated V V Q
   pub calm : V → Bool
   pub fair : M → Bool
-  pub most : ℕ
   pub naming : Naming M Q T R
 
--- they keep their laws: the server owes those of its services and of its AL state in whatever state it is, is calm behind fair mails, gives replies first,
--- of which the last tells that it is; and the master speaks as the clients do
+-- they keep their laws: the server owes those of its services and of its AL state in whatever state it is, and with fair mails among them those of one
+-- exchange; it gives replies first, of which the last tells that it is; and the master speaks as the clients do
 pub record IsSpeaker {V M Q R C T : Type 0} (w : Speaker V M Q R C T) : Type 0 where
   pub served : IsServed w.exchange w.core
   pub stated : IsStatedServed w.exchange w.states
-  pub calm : IsCalm w.exchange w.calm w.fair w.most
+  pub lawful : IsLawful (calm_tagged w.exchange w.calm w.fair)
   pub keeps : (state : ℕ) (v : V) → w.calm (w.states.tell state v) ≡ w.calm v
   pub first : RepliesFirst w.exchange
   pub last : LastTells w.exchange w.naming.more
@@ -82,8 +82,8 @@ module _ {V M Q R C T : Type 0} (w : Speaker V M Q R C T) where
     pub worded : (r : Registers) → seer.carry r ≡ carry table r
 
   -- THE SAME EPOCH SEEN WITH WHAT IS MEANT by its mails: it is a session of the exchange that sees it, led by its master, and without that it is the epoch
-  -- as it was; each mail that was passed on is foreseen right, a mail is passed on only by its own row, and both speak alike of the row in hand by what was heard,
-  -- and end it alike where no state service came into hand behind it
+  -- as it was; each mail that was passed on is foreseen right, a mail is passed on only by its own row, both speak alike of the row in hand by what was heard, and
+  -- tell alike whether its last write ends it, and end it alike where no state service came into hand behind it
   pub record IsSeen (seer : Processor (Rowed V M Q)) (table : ℕ → Table) (spot : Spot) (opened : ℕ) (v : V) (r : Registers) (fs : List (Frame M)) (counts : Bool) (e : Era M T (Option R)) (n : Slave V M) : Type 0 where
     pub frames : List (Frame (Tagged M Q))
     pub era : Era (Tagged M Q) (Asked M Q) (Option R)
@@ -98,5 +98,9 @@ module _ {V M Q R C T : Type 0} (w : Speaker V M Q R C T) where
     pub passes : EraPasses seeing.speech (λ t. w.naming.more t.mail) is_passed era
     pub plans : OfRow (λ h. PlanOne (λ t. t.mail) w.naming.name (λ a. a) seeing.speech w.naming.speech h.service h.heard) era.side.now
     pub hands : OfRow (λ h. seeing.speech.handed h.service ≡ true → w.naming.speech.handed (w.naming.name h.service) ≡ true) era.side.now
+    pub lasts : OfRow (λ h. w.naming.acknowledged (w.naming.name h.service) ≡ seeing_states.acknowledged h.service) era.side.now
+    -- contents tell what was heard for it; and where its mail is over, and was foreseen to be answered, it has its answer
+    pub contents : OfRow (λ h. ByContents w.exchange.speech.emission h.heard) era.side.now
+    pub answered : era.passing ≡ None → OfRow (λ h. (m : M) → h.service ≡ Asked.Passed m true → is_some h.answer ≡ true) era.side.now
     pub ends : ((target : ℕ) → newest_of era.account.started ≡ Some (Service.State target) → ⊥) →
         OfRow (λ h. EndOne (λ t. t.mail) w.naming.name (λ a. a) seeing.speech w.naming.speech h.service h.heard) era.side.now
