@@ -51,7 +51,9 @@ mod Gateways
 mod Turneds
 pub mod Mailed
 pub mod FreeKept
+pub mod Alikes
 pub mod ServedVisits
+pub mod MailsReady
 pub mod Threes
 pub mod ServedTells
 pub mod Roundings

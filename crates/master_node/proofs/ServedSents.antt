@@ -51,7 +51,7 @@ use Rattle.master_node.proofs.Roundings.{SameTour}
 use Rattle.master_node.proofs.Mailed as Mailed
 use Rattle.master_node.proofs.Mailed.{next_passing}
 use Rattle.master_node.proofs.Sents.{took_of, turns}
-use Rattle.master_node.proofs.ServedVisits.{Alike, serving_alike}
+use Rattle.master_node.proofs.Alikes.{Alike, serving_alike}
 
 pub map_map : {A B C : Type 0} (g : B → C) (f : A → B) (xs : List A) → map g (map f xs) ≡ map (λ x. g (f x)) xs
 map_map g f [] = refl

@@ -2,7 +2,6 @@
 use Rattle.std.proofs.Common.{◌≡◌, ◌==◌, ◌+◌, ◌<◌, ℕ, zero, suc, Bool, true, false, Option, None, Some, List, [], ◌∷◌, refl, sym, ap, ◌∙◌, subst, arith, length}
 use Rattle.std.specs.Prelude.{◌&&◌, is_some, is_none, map, All, IfSome, slice_get, if◌then◌else◌}
 use Rattle.std.proofs.lemmas.Bool.{eq-eqb, eqb-true}
-use Rattle.std.proofs.lemmas.List.Elements.{All-head}
 use Rattle.datagrams.specs.Datagram as Raw
 use Rattle.life_runs.specs.of_frame_view.View.{Lens}
 use Rattle.life_runs.specs.of_life_frames.Shares.{Lived, AllFrom, AreDistinct, IsElsewhere}
@@ -13,7 +12,7 @@ use Rattle.master_duty.specs.of_exchange_model.Exchange.{Speech}
 use Rattle.master_duty.specs.of_segment_model.Seats
 use Rattle.master_duty.specs.of_state_exchange.Stated.{Service}
 use Rattle.master_duty.specs.of_task_model.Accounts.{Account, Pick}
-use Rattle.master_hand.specs.Laying.{Scripted, Waiting, ready_of, scripted, scripted_behind}
+use Rattle.master_hand.specs.Laying.{Scripted, ready_of, scripted, scripted_behind}
 use Rattle.master_hand.specs.Shown.{awaits_reply, knows}
 use Rattle.master_hand.specs.Spoken.{Asked, acknowledged, is_followed, is_passed}
 use Rattle.master_hand.specs.declared.hand.InHand.{InHand}
@@ -58,42 +57,10 @@ use Rattle.master_node.proofs.Cames.{NumberBehind, got_inside}
 use Rattle.master_node.proofs.Fills.{begun_at, begun_comes, begun_here, fills_kept, frame_each}
 use Rattle.master_node.proofs.Handings.{handing_on}
 use Rattle.master_node.proofs.Kepts.{lives_kept, stop_same}
-use Rattle.master_node.proofs.Lists.{no_end, no_step, steps_each, steps_got, steps_map, steps_mid, steps_some, steps_trans}
-use Rattle.master_node.proofs.Mailed.{next_passing, next_stands, none_begun, none_came, served_came, stand_awaits, stand_same}
+use Rattle.master_node.proofs.Lists.{no_end, no_step, steps_each, steps_got, steps_map, steps_mid, steps_trans}
+use Rattle.master_node.proofs.Mailed.{next_passing, next_stands, none_begun, none_came, served_came, stand_same}
 use Rattle.master_node.proofs.Threes.{three_with}
 use Rattle.master_node.proofs.Visits.{Began, SomeKept}
-
--- A SLAVE THAT STAYS but for what is held, and for its place in the frame
-pub record Alike {G : Ghosts InHand} (s t : Stop InHand G) : Type 0 where
-  pub script : scripted t.side.hand.laying ≡ scripted s.side.hand.laying
-  pub place : t.place ≡ s.place
-  pub stand : t.stand ≡ s.stand
-  pub passing : t.side.passing ≡ s.side.passing
-  pub awaits : awaits_reply s.side.hand.course s.side.hand.which s.side.hand.clients ≡ true → awaits_reply t.side.hand.course t.side.hand.which t.side.hand.clients ≡ true
-  pub read : ReadStays s t
-  pub out : t.side.out.len ≡ s.side.out.len
-  pub known : knows t.side.hand.course ≡ knows s.side.hand.course
-
-pub alike_same : {G : Ghosts InHand} (s : Stop InHand G) → Alike s s
-alike_same s = record { script = refl; place = refl; stand = refl; passing = refl; awaits = λ e. e; read = (refl, refl); out = refl; known = refl }
-
-pub serving_alike : {G : Ghosts InHand} (lens : ℕ → Lens) (begun : ℕ → Option (Service Asked)) (made : ℕ) (left : List ℕ) (i : ℕ) (w : Serves) (ks : List Keyed) (s t : Stop InHand G) → IsServing lens begun made left i w ks s → Alike s t → IsServing lens begun made left i w ks t
-serving_alike lens begun made left i w ks s t h k = record {
-  hand = h.hand;
-  script = ap (λ z. z.script) k.script ∙ h.script;
-  comes = subst (λ z. ServedComes (lens w.lead.lived.spot.station).out w.lead.script w.waits w.hand w.lead.number (begun w.lead.lived.spot.place) z ks h.hand) (sym (ap (λ z. z.number) k.script)) h.comes;
-  still = h.still;
-  free = h.free;
-  short = h.short;
-  place = k.place ∙ h.place;
-  room = h.room ∙ sym k.out;
-  passing = λ l e. subst (λ z. StandPassing z (awaits_reply t.side.hand.course t.side.hand.which t.side.hand.clients) t.side.passing l) (sym k.stand)
-      (subst (λ z. StandPassing s.stand (awaits_reply t.side.hand.course t.side.hand.which t.side.hand.clients) z l) (sym k.passing) (stand_awaits s.stand _ _ s.side.passing l k.awaits (h.passing l e)));
-  kept = h.kept;
-  counts = subst (λ (z : Type 0). z) (λ j. StandCounts (sym k.stand j) (sym k.read.0 j) (sym k.read.1 j) made w.counts) h.counts;
-  pace = k.read.1 ∙ h.pace;
-  fits = h.fits;
-}
 
 -- what is ahead of a slave
 pub record Ahead {G : Ghosts InHand} (coming : Option Coming) (s : Stop InHand G) : Type 0 where
@@ -198,38 +165,6 @@ passes_on x made l m b hold awaits stand p = λ counts free s e.
     let pick : Pick Asked = record { begin = b; hold = hold } in
     let n = life_next x acknowledged is_followed is_passed made l l.stand pick in
     stand_same stand awaits p n m (e ∙ sym (next_passing x made l n b pick refl refl counts free)) s
-
--- A MAIL THAT MAY COME is ready, since it fits the slave's mailbox
-ready_mail : (coming : Option Coming) (room : ℕ) (ks : List Keyed) (w : Waiting) → LaysMail coming room ks w → MailWaits ks coming → All (λ k. MayPass room k) ks → IsMailReady coming w
-ready_mail None room ks w h m f = tt
-ready_mail (Some Coming.Packet) room ks w h m f = tt
-ready_mail (Some Coming.Mail) room [] w h m f = absurd (m refl)
-ready_mail (Some Coming.Mail) room (k ∷ ks) w h m f = (k.mail, (h (All-head (λ q. MayPass room q) k ks f)).1)
-ready_mail (Some Coming.Script) room ks w h m f = tt
-ready_mail (Some (Coming.State target)) room ks w h m f = tt
-
--- those that wait for the slave at a place fit it
-fit_there : {G : Ghosts InHand} (lens : ℕ → Lens) (begun : ℕ → Option (Service Asked)) (made : ℕ) (left : List ℕ) (i n m : ℕ) (ws : List Serves) (kss : List (List Keyed)) (ss : List (Stop InHand G)) → m ≡ i + n → is_in m left ≡ true →
-    ThreeFrom (λ j w ks s. IsServing lens begun made left j w ks s) i ws kss ss → IfSome (slice_get ss n) (λ s. All (λ k. MayPass s.side.out.len k) (waits_in kss n))
-fit_there lens begun made left i n m [] [] [] e at h = tt
-fit_there lens begun made left i n m [] [] (s ∷ ss) e at h = absurd h
-fit_there lens begun made left i n m [] (ks ∷ kss) ss e at h = absurd h
-fit_there lens begun made left i n m (w ∷ ws) [] ss e at h = absurd h
-fit_there lens begun made left i n m (w ∷ ws) (ks ∷ kss) [] e at h = tt
-fit_there lens begun made left i zero m (w ∷ ws) (ks ∷ kss) (s ∷ ss) e at h =
-    let f : m ≡ i = omega (arith, e) in
-    let room = (lens w.lead.lived.spot.station).out in
-    let same = none_came room w.lead.script w.waits ks w.hand h.0.hand w.lead.number s.side.hand.laying.number (begun w.lead.lived.spot.place) h.0.comes (h.0.still (subst (λ z. is_in z left ≡ true) f at)) in
-    subst (λ n. All (λ k. MayPass n k) ks) h.0.room (subst (λ z. All (λ k. MayPass room k) z) (sym same.waits_are) h.0.fits)
-fit_there lens begun made left i (suc n) m (w ∷ ws) (ks ∷ kss) (s ∷ ss) e at h = fit_there lens begun made left (suc i) n m ws kss ss (omega (arith, e)) at h.1
-
-pub mail_ready : {G : Ghosts InHand} (lens : ℕ → Lens) (begun : ℕ → Option (Service Asked)) (made : ℕ) (left : List ℕ) (coming : Option Coming) (place : ℕ) (ws : List Serves) (kss : List (List Keyed)) (s1 s2 : List (Stop InHand G)) → is_in place left ≡ true →
-    ThreeFrom (λ i w ks s. IsServing lens begun made left i w ks s) 0 ws kss s1 → MailWaits (waits_in kss place) coming → StepsAt (λ s t. Readied coming (waits_in kss place) s t) place s1 s2 → StepsAt (λ s t. IsMailReady coming t.side.hand.laying) place s1 s2
-mail_ready lens begun made left coming place ws kss s1 s2 at h waits readied =
-    let got = waits_in kss place in
-    steps_map _ (λ s t. IsMailReady coming t.side.hand.laying) place s1 s2
-    (λ s t p. ready_mail coming t.side.out.len got t.side.hand.laying p.1.mail waits (subst (λ n. All (λ k. MayPass n k) got) (sym (ap (λ z. z.len) p.1.stays.side.side.out_is)) p.0))
-    (steps_some (λ s. All (λ k. MayPass s.side.out.len k) got) (λ s t. Readied coming got s t) place s1 s2 readied (fit_there lens begun made left 0 place place ws kss s1 (omega arith) at h))
 
 -- something is wished where something may come
 pub wish_some : (coming : Option Coming) → is_some coming ≡ true → is_some (wish_of coming) ≡ true

@@ -41,7 +41,7 @@ use Rattle.master_node.proofs.Serveds.{long_served, three_both}
 use Rattle.master_node.proofs.ServedSents as Served
 use Rattle.master_node.specs.Events.{served_tells}
 use Rattle.master_node.proofs.ServedTells.{served_begin}
-use Rattle.master_node.proofs.ServedVisits.{Alike}
+use Rattle.master_node.proofs.Alikes.{Alike}
 use Rattle.master_node.proofs.node.MasterNode.make.Goals as goal
 
 pub returns-clause-led : goal.returns-clause-led

@@ -65,6 +65,8 @@ use Rattle.master_node.specs.Passes.{IsNextState, IsServing, waits_in}
 use Rattle.master_node.specs.Serving.{mails_in, run_lead}
 use Rattle.master_node.specs.Passes.{ThreeFrom}
 use Rattle.master_node.proofs.ServedVisits as Served
+use Rattle.master_node.proofs.Alikes.{Alike, alike_same, serving_alike}
+use Rattle.master_node.proofs.MailsReady.{mail_ready}
 use Rattle.master_node.proofs.Threes.{three_each}
 use Rattle.master_node.proofs.FreeKept as Frees
 use Rattle.std.proofs.Common.{length}
@@ -360,15 +362,15 @@ returns-then-not-fits-clause-serves c = λ lens recover made from left next ws r
     let e = c.fits.ensures in
     let s0 = m.tour.stops.items in
     let s1 = c.fits.new.self.stops.items in
-    let alike = steps_each _ (λ s t. Served.Alike s t) c.args.place s0 s1 (λ s. Served.alike_same s)
+    let alike = steps_each _ (λ s t. Alike s t) c.args.place s0 s1 (λ s. alike_same s)
     (λ s t p. record { script = p.1.0.3; place = p.0.1; stand = p.1.0.1; passing = p.1.0.2; awaits = p.1.1.0.1; read = p.1.1.0.0; out = p.1.0.0.out_is; known = ap (λ z. z.knows) p.1.1.1 }) (steps_both _ _ c.args.place s0 s1 e.lives (steps_both _ _ c.args.place s0 s1 e.step (steps_both _ _ c.args.place s0 s1 e.read e.recalled))) in
     record {
       begun = f.begun;
       frame = subst (λ n. FrameMade (λ ds i a s. StopFills lens recover made f.begun (m.made % 256) left ds i a s) c.args.into.now.items n (map (λ w. lived_of (run_lead w)) ws) s1) (sym e.count)
           (e.made (speech_at lens) is_followed is_passed made recover (m.made % 256) m.tour.count lens left (map (λ w. lived_of (run_lead w)) ws) c.args.into.now.items f.begun d at f.frame);
-      each = three_each (λ i w ks s. IsServing lens f.begun made left i w ks s) (λ i w ks s. IsServing lens f.begun made left i w ks s) (λ s t. Served.Alike s t) (λ i w ks s t h k. Served.serving_alike lens f.begun made left i w ks s t h k)
+      each = three_each (λ i w ks s. IsServing lens f.begun made left i w ks s) (λ i w ks s. IsServing lens f.begun made left i w ks s) (λ s t. Alike s t) (λ i w ks s t h k. serving_alike lens f.begun made left i w ks s t h k)
           0 ws (mails_in m) s0 s1 f.each alike;
-      handed = three_each (λ i w p s. IsHanding lens f.begun w p.work (knows s.side.hand.course)) (λ i w p s. IsHanding lens f.begun w p.work (knows s.side.hand.course)) (λ s t. Served.Alike s t)
+      handed = three_each (λ i w p s. IsHanding lens f.begun w p.work (knows s.side.hand.course)) (λ i w p s. IsHanding lens f.begun w p.work (knows s.side.hand.course)) (λ s t. Alike s t)
           (λ i w p s t h k. subst (λ z. IsHanding lens f.begun w p.work z) (sym k.known) h) 0 ws m.posts.items s0 s1 f.handed alike;
       numbered = f.numbered;
       packets = f.packets;
@@ -393,7 +395,7 @@ returns-clause-serves c = λ lens recover made from left next ws room few d at o
     let index = m.made % 256 in
     let rooms : (s : Stop InHand Impl.ghosts) → s.side.out.len ≡ s.side.hand.laying.areas.out = λ s. s.side.room ∙ ap (λ z. z.out) (sym s.side.hand.one_slave) in
     let frees : (n : ℕ) (s t : Stop InHand Impl.ghosts) → StopKept n s t → is_free_side t.side ≡ is_free_side s.side = λ n s t k. Frees.free_kept n s t k in
-    let alike = steps_each _ (λ s t. Served.Alike s t) place s0 s1 (λ s. Served.alike_same s)
+    let alike = steps_each _ (λ s t. Alike s t) place s0 s1 (λ s. alike_same s)
     (λ s t p. record { script = p.1.0.3; place = p.0.1; stand = p.1.0.1; passing = p.1.0.2; awaits = p.1.1.0.1; read = p.1.1.0.0; out = p.1.0.0.out_is; known = ap (λ z. z.knows) p.1.1.1 }) (steps_both _ _ place s0 s1 e.lives (steps_both _ _ place s0 s1 e.step (steps_both _ _ place s0 s1 e.read e.recalled))) in
     let ahead = steps_map _ (λ s t. Served.Ahead coming t) place s0 s1
     (λ s t p. record {
@@ -423,9 +425,9 @@ returns-clause-serves c = λ lens recover made from left next ws room few d at o
     let made_frame = Served.frame lens recover made coming r place got s0 s1 s2 s3 s4 rooms frees ahead readied visited came index f.begun left next lives c.args.into.now.items c.visit-began.new.frame.items m.tour.count c.lay.new.self.tour.count c.visit-began.new.self.count
     (c.lay.ensures.kept.0.count ∙ e.count) before
     (λ g. v.made (speech_at lens) is_followed is_passed made recover lens left next lives f.begun begun d at over fewer (subst (λ z. IfSome (slice_get s2 place) (λ s. ComesAt f.begun begun s.place (wish_begun r z (ready_of s.side.hand.laying)))) (sym c.wish_of-wish.ensures) (Served.comes lens recover made coming r place got s0 s1 s2 s3 s4 rooms frees ahead readied visited came f.begun)) g) in
-    let all = three_each (λ i w ks s. IsServing lens f.begun made left i w ks s) (λ i w ks s. IsServing lens f.begun made left i w ks s) (λ s t. Served.Alike s t) (λ i w ks s t h k. Served.serving_alike lens f.begun made left i w ks s t h k) 0 ws (mails_in m) s0 s1 f.each alike in
+    let all = three_each (λ i w ks s. IsServing lens f.begun made left i w ks s) (λ i w ks s. IsServing lens f.begun made left i w ks s) (λ s t. Alike s t) (λ i w ks s t h k. serving_alike lens f.begun made left i w ks s t h k) 0 ws (mails_in m) s0 s1 f.each alike in
     let served = Served.serving lens recover made coming r place got s0 s1 s2 s3 s4 rooms frees ahead readied visited came f.begun index left next before.datagrams fewer c.coming-coming.ensures.oldest ws (mails_in m) (mails_in c.lay.new.self) at over d before.each all c.lay.ensures.mails refl in
-    let handed = three_each (λ i w p s. IsHanding lens f.begun w p.work (knows s.side.hand.course)) (λ i w p s. IsHanding lens f.begun w p.work (knows s.side.hand.course)) (λ s t. Served.Alike s t)
+    let handed = three_each (λ i w p s. IsHanding lens f.begun w p.work (knows s.side.hand.course)) (λ i w p s. IsHanding lens f.begun w p.work (knows s.side.hand.course)) (λ s t. Alike s t)
     (λ i w p s t h k. subst (λ z. IsHanding lens f.begun w p.work z) (sym k.known) h) 0 ws m.posts.items s0 s1 f.handed alike in
     let moved = steps_trans _ _ (λ p q. Served.Moved lens recover made coming r place got s0 s1 s2 s3 s4 rooms frees ahead readied visited came f.begun index left next before.datagrams fewer c.coming-coming.ensures.oldest p q) place m.posts.items c.lay.new.self.posts.items c.came.new.self.posts.items
     (λ p x q a b. record { mid = x; lays = a; works = b }) c.lay.ensures.works c.came.ensures.works in
@@ -448,7 +450,7 @@ returns-clause-serves c = λ lens recover made from left next ws room few d at o
           (each_trans (λ p q. StaysNumbered p q) m.posts.items c.lay.new.self.posts.items c.came.new.self.posts.items (λ p q u y z n h. z n (y n h)) (steps_each _ (λ p q. StaysNumbered p q) place m.posts.items c.lay.new.self.posts.items (λ p n h. h) (λ p q h. h.numbered) told.2)
           (steps_each _ (λ p q. StaysNumbered p q) place c.lay.new.self.posts.items c.came.new.self.posts.items (λ p n h. h) (λ p q h. h.numbered) c.came.ensures.lists));
       packets = begun_step from.switch left next f.begun (map run_lead ws) m.lan c.came.new.self.lan place here_is what_is (taken_where r m.lan place coming) apart told.0 room at over fewer
-          (Served.leaves lens recover made coming r place got s0 s1 s2 s3 s4 rooms frees ahead readied visited came m.lan c.lay.ensures.oldest (Served.mail_ready lens f.begun made left coming place ws (mails_in m) s1 s2 at all c.coming-coming.ensures.oldest readied))
+          (Served.leaves lens recover made coming r place got s0 s1 s2 s3 s4 rooms frees ahead readied visited came m.lan c.lay.ensures.oldest (mail_ready lens f.begun made left coming place ws (mails_in m) s1 s2 at all c.coming-coming.ensures.oldest readied))
           (subst (λ z. TakesOn (taken_where r z place coming) z c.came.new.self.lan) c.lay.ensures.lan c.came.ensures.takes) (subst (λ z. NoneMore z c.came.new.self.lan) c.lay.ensures.lan c.came.ensures.fewer)
           (Served.waits_none lens recover made coming r place got s0 s1 s2 s3 s4 rooms frees ahead readied visited came m.lan c.coming-coming.ensures.first) f.packets;
       listing = listed_step (served_tells ws) from.forwards left next f.begun (map run_lead ws) m c.came.new.self place here_is what_is apart told.0 at over fewer
