@@ -235,7 +235,7 @@ module _ (plan : Scenario) (is : Plan.IsPlan plan) (known : IsKnown plan) (fs : 
   pub answers : f.fate ≡ Pass → AllAsk (seen (lens_of plan.slaves) f.sent) (turns_of vs) → AllAnswer (seen (lens_of plan.slaves) f.back) cs (turns_of vs)
   answers pass asked =
       let given = each_answers (lens_of plan.slaves) step (FitsPlan plan.slaves) is_followed is_passed gs ring f.sent y.datagrams y.frame ms x.lives
-          (meets (lens_of plan.slaves) step (FitsPlan plan.slaves) is_followed is_passed gs ring f.sent y.datagrams y.frame ms turns x.lives asks) (sym went.fate ∙ pass) [] ms turns (clocks cs) refl x.lives.each asks stands
-          (all_asked 0 plan.slaves ws x.nodes vs each x.lives.each x.at asked) in
+      (meets (lens_of plan.slaves) step (FitsPlan plan.slaves) is_followed is_passed gs ring f.sent y.datagrams y.frame ms turns x.lives asks) (sym went.fate ∙ pass) [] ms turns (clocks cs) refl x.lives.each asks stands
+      (all_asked 0 plan.slaves ws x.nodes vs each x.lives.each x.at asked) in
       all_answer (seen (lens_of plan.slaves) f.back) 0 plan.slaves ws x.nodes vs cs each led x.lives.each x.at
       (subst (λ (octets : List ℕ). AllAnswered is_followed is_passed number (seen (lens_of plan.slaves) octets) (clocks cs) ms turns) (sym went.back) given)
