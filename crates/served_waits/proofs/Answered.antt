@@ -6,11 +6,11 @@ use Rattle.frame_view.specs.View.{Lens}
 use Rattle.idle_slaves.proofs.Fits.{Slave}
 use Rattle.idle_slaves.proofs.Walk.{one_more}
 use Rattle.life_runs.specs.First.{lens_of, first_leads}
-use Rattle.life_runs.specs.Led.{Exchanged, gives_up_at, is_passed, missed_behind, speech_at}
+use Rattle.life_runs.specs.Led.{Exchanged, gives_up_at, missed_behind, speech_at}
 use Rattle.life_runs.specs.of_datagrams.Datagram as Raw
 use Rattle.link_mails.specs.Body.{Body}
 use Rattle.master_duty.specs.Reply.{Reply}
-use Rattle.master_hand.specs.Spoken.{Asked, acknowledged, is_followed}
+use Rattle.master_hand.specs.Spoken.{Asked}
 use Rattle.plan_ring.specs.Lives.{IsKnown}
 use Rattle.plan_ring.specs.Round.{AllRound, ring_after, ring_of}
 use Rattle.plan_ring.proofs.Lives.{front_round, last_round}
@@ -29,12 +29,11 @@ use Rattle.served_rings.specs.Rings.{AreServedLived, ServedMember, served_member
 use Rattle.served_rings.proofs.Lives.{asked_members}
 use Rattle.served_runs.specs.Served.{Keyed, MayAsk, Serves, ServedTurn, AllServedTurn, IsServedFrame, IsServedLed, all_serve, asked_at}
 use Rattle.served_waits.specs.Eager.{leads_of, turns_of}
-use Rattle.served_waits.proofs.Clocks.{answers, stands_on}
+use Rattle.served_waits.proofs.Clocks.{RunOn, answers, clocks, run_back, run_lost, stands_on}
 use Rattle.served_waits.proofs.Seats.{nodes_are}
 use Rattle.served_waits.proofs.Stays.{paces_asked, paces_served}
 use Rattle.served_waits.proofs.Walk.{Led, first_of, nodes_at}
 use Rattle.slave_clocks.specs.Clocks.{AllStand}
-use Rattle.slave_clocks.proofs.Pairs.{RunOn, clocks, run_back, run_lost}
 
 -- a clock that runs on keeps its pace
 run_paces : (number : ℕ) (cs ds : List Slave) → RunOn number cs ds → map (λ (c : Slave). c.pace) ds ≡ map (λ (c : Slave). c.pace) cs
@@ -110,14 +109,14 @@ module _ (seen_is : SeenIs) (plan : Scenario) (is : Plan.IsPlan plan) (known : I
     -- it came back
     pub back_on : f.fate ≡ Pass → (q : Progress) → q.frames ≡ suc p.frames → Holds (fs ++ f ∷ []) (missed_behind (lens_of plan.slaves) plan.recover plan.retry f.fate missed) behind q (served_back (lens_of plan.slaves) plan.recover plan.retry slowest p.frames f vs cs)
     back_on fate q more = on_by q (served_back lens plan.recover plan.retry slowest p.frames f vs cs) more
-        (run_back (speech_at lens) acknowledged is_followed is_passed p.frames (seen lens f.back) cs (map (back_under (seen lens f.back)) vs) (long (back_under (seen lens f.back))))
+        (run_back (speech_at lens) p.frames (seen lens f.back) cs (map (back_under (seen lens f.back)) vs) (long (back_under (seen lens f.back))))
         (subst (λ (n : ℕ). AreLed (leads_of behind) (served_back lens plan.recover plan.retry slowest n f vs cs)) (sym h.frames) (all_led_back seen_is lens plan.recover plan.retry (length fs) f gives l.datagrams cs ws vs h.led l.each fate))
 
     -- it was lost
     pub lost_on : (after : ℕ) → f.fate ≡ Lost after → (q : Progress) → q.frames ≡ suc p.frames →
         Holds (fs ++ f ∷ []) (missed_behind (lens_of plan.slaves) plan.recover plan.retry f.fate missed) behind q (served_lost (lens_of plan.slaves) plan.recover plan.retry slowest gives p.frames f vs cs)
     lost_on after fate q more = on_by q (served_lost lens plan.recover plan.retry slowest gives p.frames f vs cs) more
-        (run_lost (speech_at lens) acknowledged is_followed is_passed p.frames gives plan.recover (seen lens f.sent) cs (map (lost_under (seen lens f.sent)) vs) (long (lost_under (seen lens f.sent))))
+        (run_lost (speech_at lens) p.frames gives plan.recover (seen lens f.sent) cs (map (lost_under (seen lens f.sent)) vs) (long (lost_under (seen lens f.sent))))
         (subst (λ (n : ℕ). AreLed (leads_of behind) (served_lost lens plan.recover plan.retry slowest gives n f vs cs)) (sym h.frames) (all_led_lost seen_is lens plan.recover plan.retry (length fs) f gives after l.datagrams cs ws vs h.led l.each fate))
 
   -- ---- ALL FRAMES
