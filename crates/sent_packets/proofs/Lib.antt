@@ -6,6 +6,7 @@ mod Emits
 mod Epochs
 mod Live
 mod Owns
+mod Passed
 mod Ports
 mod Stays
 mod Switched
