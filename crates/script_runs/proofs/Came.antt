@@ -61,30 +61,22 @@ module _ {M Q R : Type 0} (x : Speech M Q R) (ack : Q → Bool) (more : M → Bo
       ∙ ap (λ (a : Account Q R). a.started) (nothing_begins x ack made l.era.side l.era.account l.era.account.hand)
   rows_stay Stand.Gone e = refl
 
--- BEFORE A FRAME: what came into hand is the newest
-module _ (x : Speech Body Asked Reply) (made : ℕ) (l m : Life Body Asked Reply) (pick : Pick Asked) (begun : Option (Service Asked)) (is : m ≡ life_next x acknowledged is_followed is_passed made l l.stand pick) (picked : pick.begin ≡ begun) (took : Took made l.era.account m.era.account begun) where
-  next_past : m.past ≡ l.past
-  next_past = ap (λ (k : Life Body Asked Reply). k.past) is ∙ past_stays x acknowledged is_followed is_passed made l pick l.stand
-
-  started_is : (b : Option (Service Asked)) → begun ≡ b → Took made l.era.account m.era.account b → services_in m.era.account.started ≡ services_in l.era.account.started ++ listed b
-  started_is None e none =
-      ap services_in (ap (λ (k : Life Body Asked Reply). k.era.account.started) is ∙ rows_stay x acknowledged is_followed is_passed made l pick l.stand (picked ∙ e))
-      ∙ sym (append-nil (services_in l.era.account.started))
-  started_is (Some q) e one = ap services_in one ∙ services_append l.era.account.started (record { service = q; frame = made } ∷ [])
-
-  pub next_started : life_started m ≡ life_started l ++ listed begun
-  next_started =
-      ap (λ es. eras_started es ++ services_in m.era.account.started) next_past
-      ∙ ap (λ qs. eras_started l.past ++ qs) (started_is begun refl took)
-      ∙ sym (append_assoc (eras_started l.past) (services_in l.era.account.started) (listed begun))
-
--- so it is in a turn of a run
+-- A TURN: what came into hand is the newest
 module _ (lens : ℕ → Lens) (made : ℕ) (ds : List Raw.Datagram) (a : Leads) (t : Turn) (y : IsTurn lens made ds a t) where
   pub past_is : t.lived.life.past ≡ a.lived.life.past
-  past_is = next_past (speech_at lens a.lived.spot) made a.lived.life t.lived.life y.next.pick t.begun y.next.life y.begun y.took
+  past_is = ap (λ (l : Life Body Asked Reply). l.past) y.next.life ∙ past_stays (speech_at lens a.lived.spot) acknowledged is_followed is_passed made a.lived.life y.next.pick a.lived.life.stand
+
+  started_is : (b : Option (Service Asked)) → t.begun ≡ b → Took made a.lived.life.era.account t.lived.life.era.account b → services_in t.lived.life.era.account.started ≡ services_in a.lived.life.era.account.started ++ listed b
+  started_is None e took =
+      ap services_in (ap (λ (l : Life Body Asked Reply). l.era.account.started) y.next.life ∙ rows_stay (speech_at lens a.lived.spot) acknowledged is_followed is_passed made a.lived.life y.next.pick a.lived.life.stand (y.begun ∙ e))
+      ∙ sym (append-nil (services_in a.lived.life.era.account.started))
+  started_is (Some q) e took = ap services_in took ∙ services_append a.lived.life.era.account.started (record { service = q; frame = made } ∷ [])
 
   pub turn_started : life_started t.lived.life ≡ life_started a.lived.life ++ listed t.begun
-  turn_started = next_started (speech_at lens a.lived.spot) made a.lived.life t.lived.life y.next.pick t.begun y.next.life y.begun y.took
+  turn_started =
+      ap (λ es. eras_started es ++ services_in t.lived.life.era.account.started) past_is
+      ∙ ap (λ qs. eras_started a.lived.life.past ++ qs) (started_is t.begun refl y.took)
+      ∙ sym (append_assoc (eras_started a.lived.life.past) (services_in a.lived.life.era.account.started) (listed t.begun))
 
 -- ONE MORE of the script, or a packet, or nothing
 came_on : (room : ℕ) (script : List Plan.Service) (n : ℕ) (qs : List (Service Asked)) (b : Option (Service Asked)) (k : ℕ) → Came room script n qs → Comes room script n b k → Came room script k (qs ++ listed b)

@@ -29,12 +29,13 @@ use Rattle.run_work.specs.Packets.{waiting_work, queue_work}
 use Rattle.packets_heard.specs.Over.{AreBegun, BegunOn, packet_begun, packets_begun}
 use Rattle.packets_heard.specs.Servings.{AreServedBegun, served_packets}
 use Rattle.script_runs.specs.Came.{is_packet}
-use Rattle.script_runs.proofs.Came.{listed, next_started, turn_started, behind_same}
+use Rattle.script_runs.proofs.Came.{listed, turn_started, behind_same}
 use Rattle.segment_ring.specs.declared.wire.Fate.{Fate}
 use Rattle.segment_ring.specs.declared.wire.Fate.TheVariants.{Pass, Lost}
 use Rattle.served_runs.specs.Served.{Keyed, Serves, ServedTurn, AllServedTurn, IsServedLed, asked_at, served_behind, served_life}
 use Rattle.state_exchange.specs.Stated.{Service}
 use Rattle.sent_packets.proofs.Ports.{queue_append}
+use Rattle.sent_packets.proofs.Started.{next_started}
 
 -- what a packet comes to at a port of one of n slaves, if a service is one
 abbrev pub weight : ℕ → Service Asked → ℕ
@@ -115,7 +116,7 @@ module _ (lens : ℕ → Lens) (recover retry : ℕ) where
   served_more gives made f ds [] (v ∷ vs) y k = absurd y
   served_more gives made f ds (w ∷ ws) [] y k = absurd y
   served_more gives made f ds (w ∷ ws) (v ∷ vs) y zero =
-      served_same gives made f f.fate v ∙ next_started (speech_at lens w.lead.lived.spot) made w.lead.lived.life v.turn.lived.life y.0.next.pick v.turn.begun y.0.next.life y.0.begun y.0.took
+      served_same gives made f f.fate v ∙ next_started (speech_at lens w.lead.lived.spot) made w.lead.lived.life y.0.next.pick v.turn.lived.life v.turn.begun y.0.next.life y.0.begun y.0.took
   served_more gives made f ds (w ∷ ws) (v ∷ vs) y (suc k) = served_more gives made f ds ws vs y.1 k
 
   pub served_weights : (n : ℕ) (first : List Serves) → ((k : ℕ) → started_at (map run_lead first) k ≡ []) → (fs : List Exchanged) (missed : ℕ) (ws : List Serves) (led : IsServedLed lens recover retry first fs missed ws) (k : ℕ) →

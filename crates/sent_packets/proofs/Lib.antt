@@ -8,6 +8,7 @@ mod Live
 mod Owns
 mod Passed
 mod Ports
+mod Started
 mod Stays
 mod Switched
 mod Times
