@@ -47,13 +47,14 @@ and_true : (a : Bool) → a ≡ true → (a && true) ≡ true
 and_true true e = refl
 and_true false e = e
 
-module _ {V M Q R C : Type 0} (x : Exchange V V M Q R) (core : V → C) (served : IsServed x core) where
-  any_valid : (q : Asked M Q) → asked_fair x.speech (λ m. true) q ≡ true → (tagged x).speech.valid q ≡ true
+module _ {V M Q R C : Type 0} (x : Exchange V V M Q R) (core : V → C) (served : IsServed x core) (fair : M → Bool) where
+  any_valid : (q : Asked M Q) → asked_fair x.speech fair q ≡ true → (tagged x).speech.valid q ≡ true
   any_valid (Asked.Script q) e = e
   any_valid (Asked.Passed m answers) e = refl
 
-  pub any_lawful : IsLawful (calm_tagged x (λ v. true) (λ m. true))
+  -- whatever mails are passed on
+  pub any_lawful : IsLawful (calm_tagged x (λ v. true) fair)
   any_lawful =
       let law = tagged_lawful x core served in
-      fewer_lawful (tagged x) law (λ (w : Rowed V M Q). x.ready (ideal x w) && true) (asked_fair x.speech (λ m. true)) (λ w e. first_of (x.ready (ideal x w)) e) any_valid
+      fewer_lawful (tagged x) law (λ (w : Rowed V M Q). x.ready (ideal x w) && true) (asked_fair x.speech fair) (λ w e. first_of (x.ready (ideal x w)) e) any_valid
       (λ w q e k. and_true _ (law.ready w q (first_of (x.ready (ideal x w)) e) (any_valid q k)))

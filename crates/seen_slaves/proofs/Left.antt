@@ -21,7 +21,7 @@ left_as f g h y x r same =
     ∙ drop_as f (length r.told) (y.planned r.service (plain y.emission r.heard))
 
 module _ {N M W V : Type 0} (f : N → M) (server : W → V) (n : Slave W N) where
-  none_box : (b : Option (LinkMail N)) → box_as f b ≡ None → b ≡ None
+  pub none_box : (b : Option (LinkMail N)) → box_as f b ≡ None → b ≡ None
   none_box None e = refl
   none_box (Some m) e = absurd (let no : Some (mail_as f m) ≡ None = e in cc)
 

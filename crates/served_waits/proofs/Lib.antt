@@ -1,7 +1,9 @@
 mod Tells
-mod Ready
+pub mod Ready
 mod Unread
 mod Counted
 mod Stays
 mod Walk
 mod Stations
+mod Seats
+mod Meets

@@ -1,4 +1,4 @@
-use Rattle.std.proofs.Common.{refl}
+use Rattle.std.proofs.Common.{true, refl}
 use Rattle.plan_speakers.proofs.Any.{any_lawful}
 use Rattle.plan_speakers.specs.Speakers.{speaker}
 use Rattle.plan_speakers.proofs.any_law.Goals as goal
@@ -10,7 +10,7 @@ returns-clause-speaks c = λ p is.
     record {
       served = k.served;
       stated = k.stated;
-      lawful = any_lawful w.exchange w.core k.served;
+      lawful = any_lawful w.exchange w.core k.served (λ m. true);
       keeps = λ state v. refl;
       first = k.first;
       last = k.last;
