@@ -16,6 +16,7 @@ use Rattle.frame_view.specs.Seen.{seen}
 use Rattle.frame_view.specs.View.{Lens}
 use Rattle.life_frames.specs.Shares.{came_at, given_where}
 use Rattle.life_model.specs.Lives.{Spot, Life, life_lost}
+use Rattle.life_runs.specs.First.{leads_from}
 use Rattle.life_runs.specs.Led.{Exchanged, Leads, Turn, AllTurn, IsLed, is_passed, led_behind, gives_up_at, speech_at}
 use Rattle.link_mails.specs.Body.{Body}
 use Rattle.master_duty.specs.Reply.{Reply}
@@ -30,9 +31,11 @@ use Rattle.packets_heard.specs.Over.{AreBegun, BegunOn, packet_begun, packets_be
 use Rattle.packets_heard.specs.Servings.{AreServedBegun, served_packets}
 use Rattle.script_runs.specs.Came.{is_packet}
 use Rattle.script_runs.proofs.Came.{listed, turn_started, behind_same}
+use Rattle.segment_plan.specs.declared.service.Service as Plan
+use Rattle.segment_plan.specs.declared.slave.SlaveSpec.{SlaveSpec}
 use Rattle.segment_ring.specs.declared.wire.Fate.{Fate}
 use Rattle.segment_ring.specs.declared.wire.Fate.TheVariants.{Pass, Lost}
-use Rattle.served_runs.specs.Served.{Keyed, Serves, ServedTurn, AllServedTurn, IsServedLed, asked_at, served_behind, served_life}
+use Rattle.served_runs.specs.Served.{Keyed, Serves, ServedTurn, AllServedTurn, IsServedLed, all_serve, asked_at, served_behind, served_life}
 use Rattle.state_exchange.specs.Stated.{Service}
 use Rattle.sent_packets.proofs.Ports.{queue_append}
 use Rattle.sent_packets.proofs.Started.{next_started}
@@ -88,6 +91,23 @@ module _ (lens : ℕ → Lens) (recover retry : ℕ) where
       ∙ (λ i. begun_weights n first none fs missed as' led k i + one_weight n (begun_of us k) i)
       ∙ sym (weights_append n (started_at as' k) (listed (begun_of us k)))
       ∙ ap (weights n) (sym (started_more (gives_up_at lens recover retry missed) (length fs) f frame.datagrams as' us frame.each k))
+
+-- nothing came into hand of a plan's slaves before the first frame
+pub nothing_first : (rows : List (ℕ × Plan.Service)) (place : ℕ) (ss : List SlaveSpec) (k : ℕ) → started_at (leads_from rows place ss) k ≡ []
+nothing_first rows place [] k = refl
+nothing_first rows place (s ∷ ss) zero = refl
+nothing_first rows place (s ∷ ss) (suc k) = nothing_first rows (suc place) ss k
+
+pub nothing_served : (rows : List (ℕ × Plan.Service)) (paces : List ℕ) (place : ℕ) (ss : List SlaveSpec) (k : ℕ) → started_at (map run_lead (all_serve paces (leads_from rows place ss))) k ≡ []
+nothing_served rows paces place [] k = none paces
+  where
+    none : (paces : List ℕ) → started_at (map run_lead (all_serve paces [])) k ≡ []
+    none [] = refl
+    none (p ∷ ps) = refl
+nothing_served rows [] place (s ∷ ss) zero = refl
+nothing_served rows (p ∷ paces) place (s ∷ ss) zero = refl
+nothing_served rows [] place (s ∷ ss) (suc k) = nothing_served rows [] (suc place) ss k
+nothing_served rows (p ∷ paces) place (s ∷ ss) (suc k) = nothing_served rows paces (suc place) ss k
 
 -- ---- over a serving
 -- a mail that is asked leaves what came into hand
