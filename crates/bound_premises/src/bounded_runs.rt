@@ -26,7 +26,7 @@ pub fn bounded_law()
         IsPlanRun plan (map exchanged book.frames) led.missed led.leads p cs → bound_of plan 0 ≤ budget_of plan 0 → ending ≢ endings.BudgetSpent }
 {
     run_work::run_bound();
-    sent_packets::switched_run_law();
+    sent_packets::switched_runs::switched_run_law();
 }
 
 /// SO NO RUN OF A PLAN IS CUT OFF by such a budget, whatever frames are lost, where each of its services has room: its master makes no visit in vain by what it
@@ -36,5 +36,5 @@ pub fn uncut_law()
         bound_of plan 0 ≤ budget_of plan 0 → ending ≢ endings.BudgetSpent }
 {
     bounded_law();
-    bound_premises::eager_run_law();
+    crate::eager_runs::eager_run_law();
 }

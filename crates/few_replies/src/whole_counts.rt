@@ -19,7 +19,7 @@ pub fn whole_counts()
     ensures kept { (p : Profile) → KeepsPassed (product_whole parts p) is_calm is_fair shape_at }
 {
     slave_parts::parts_are_lawful();
-    slave_served::files_are_served();
+    slave_served::parts_served::files_are_served();
 }
 
 /// THE PARTS OF A SLAVE TELL FEW OCTETS: 1,024 of its objects and 4,096 of an element. So it answers each fair mail with 76 mails at most.
@@ -37,5 +37,5 @@ pub fn passed_law()
     ensures counted { (p : Profile) → IsProfile p → AreCounted (calm_tagged (product_whole parts p) is_calm is_fair) (λ w. shape_at (ideal (product_whole parts p) w)) (asked_count (λ k q. shape_most p k q.0 q.1) 76) }
 {
     slave_parts::parts_are_lawful();
-    slave_served::files_are_served();
+    slave_served::parts_served::files_are_served();
 }

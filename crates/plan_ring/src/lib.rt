@@ -49,7 +49,7 @@ pub fn asked_whole_law()
     ensures speech { (p : Profile) (boot : Bool) (lens : ℕ → Lens) → Alike is_service (hand_speech (areas_of p)) (asked p boot lens).exchange.speech }
 {
     slave_parts::slave_is_lawful();
-    crate::real_server_law();
+    crate::server_lives::real_server_law();
 }
 
 /// THE LIVES OF A PLAN'S RING begin with the ring that runs; they go on by each frame and step, and where slaves are given up.
@@ -63,8 +63,8 @@ pub fn plan_ring_law()
         IsRing lens step (FitsPlan ss) fs ring ms → IsRing lens step (FitsPlan ss) fs ring (given_up recover frame ms carried) }
 {
     asked_whole_law();
-    crate::real_server_law();
-    crate::real_room_law();
+    crate::server_lives::real_server_law();
+    crate::server_lives::real_room_law();
 }
 
 /// A MASTER OF A PLAN'S RING leads the lives of its slaves: it begins with them, whose services owe the laws; and where the frame under way is its own, and was exchanged with the

@@ -26,8 +26,8 @@ ghost use Rattle.plan_speakers.specs.Speakers.{speaker, spoken, spoken_states, t
 pub fn speaker_law()
     ensures { (p : Profile) → IsProfile p → IsSpeaker (speaker p) }
 {
-    slave_served::parts_are_served();
-    few_replies::parts_tell();
+    slave_served::parts_served::parts_are_served();
+    few_replies::whole_counts::parts_tell();
     last_told::parts_last_told();
 }
 
@@ -41,7 +41,7 @@ pub fn run_law()
 pub fn state_law()
     ensures { (p : Profile) → IsProfile p → IsStated (spoken p) spoken_states }
 {
-    slave_served::parts_are_served();
+    slave_served::parts_served::parts_are_served();
 }
 
 /// ALL MAILS THAT CAME INTO HAND of a slave of a serving are fair, where all are that were asked of it.

@@ -9,9 +9,9 @@ ghost use Rattle.segment_plan.specs.Sound.{IsPlan};
 ghost use Rattle.promised_run.specs.Bounded.{IsBounded};
 ghost use Rattle.promised_run.specs.Promised.{IsPromised};
 
-use bound_premises::uncut_law;
+use bound_premises::bounded_runs::uncut_law;
 use life_runs::epochs_law;
-use plan_ring::room_law;
+use plan_ring::plan_rooms::room_law;
 use run_book::{Book, Ending};
 use run_promises::{read_promise_law, rest_promise_law};
 use script_runs::script_run_law;

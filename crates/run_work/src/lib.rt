@@ -40,7 +40,7 @@ pub fn shape_law()
     ensures { (p : Profile) → IsProfile p → (boot : Bool) (lens : ℕ → Lens) → KeepsShape (asked p boot lens) real_clearing app_shape (asked_most p) }
 {
     slave_parts::parts_are_lawful();
-    few_replies::shape_counts();
+    few_replies::service_counts::shape_counts();
 }
 
 /// THE GAINS OF A RUN: of each slave of a plan what its life has gained is no more than what the services and packets count that came into hand of it,
@@ -64,7 +64,7 @@ pub fn run_work()
     run_counts();
     plan_counts::plan_counts();
     script_runs::script_run_law();
-    script_runs::script_law();
+    script_runs::script_work::script_law();
 }
 
 /// THE PACKETS OF A RUN COUNT NO MORE THAN THE FRAME BOUND HAS FOR THEM, where they are those of one switch: what downloads emit and what comes into hand
@@ -75,7 +75,7 @@ pub fn switched_law()
         work_in own_work plan.slaves plan.services + (cuts_begun plan.slaves leads + packets_begun plan.slaves leads) + length plan.host ≤ services_work plan.slaves plan.services + host_work (length plan.slaves) plan.host }
 {
     plan_counts::plan_counts();
-    script_runs::script_law();
+    script_runs::script_work::script_law();
 }
 
 /// FRAMES THAT WENT ROUND THE RING OF A PLAN have the fates of the plan's schedule.
@@ -89,7 +89,7 @@ pub fn tallied_law()
     ensures { (plan : Scenario) (fs : List Exchanged) (missed : ℕ) (leads : List Leads) (p : Progress) (cs : List (Clocked Body Asked Reply)) → IsPlan plan → IsKnown plan → IsPlanRun plan fs missed leads p cs →
         IsTallied (lens_of plan.slaves) plan.recover plan.retry (slowest plan.paces) (first_leads plan) plan.paces fs missed leads p cs }
 {
-    slave_clocks::answer_law();
+    slave_clocks::run_answers::answer_law();
     run_frames::toured_law();
 }
 

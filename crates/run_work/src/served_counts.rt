@@ -31,8 +31,8 @@ ghost use Rattle.run_work.specs.Lives.{IsServedLife, AllServedLives};
 pub fn slave_law()
     ensures { (p : Profile) → IsProfile p → (first : InState Server) (l : Life Body Asked Reply) → IsServedLife p first l → AreUnopened l → gains l ≤ 1 + life_most (serving_most p (shape_at first)) l }
 {
-    few_replies::passed_law();
-    slave_served::parts_are_served();
+    few_replies::whole_counts::passed_law();
+    slave_served::parts_served::parts_are_served();
 }
 
 /// THE LIVES OF A SERVING of a plan, which its slaves work, have together gained no more than all services of the plan count of their own, the fragments of
@@ -42,9 +42,9 @@ pub fn served_law()
         IsServedLed (lens_of plan.slaves) plan.recover plan.retry (all_serve plan.paces (first_leads plan)) fs missed ws → AllServedLives plan.slaves ws →
         served_in ws ≤ length plan.slaves + work_in own_work plan.slaves plan.services + (cuts_begun plan.slaves (leads_of ws) + packets_begun plan.slaves (leads_of ws)) + 82 * asked_in ws }
 {
-    few_replies::passed_law();
-    slave_served::parts_are_served();
-    run_work::served_work();
+    few_replies::whole_counts::passed_law();
+    slave_served::parts_served::parts_are_served();
+    crate::served_work::served_work();
 }
 
 /// A worked row: a datagram that is no request is fair.

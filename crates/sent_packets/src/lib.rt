@@ -23,5 +23,5 @@ pub fn sent_law()
 {
     plan_ring::run_lives_law();
     packets_heard::packets_law();
-    crate::emits_law();
+    crate::slave_sends::emits_law();
 }

@@ -24,8 +24,8 @@ pub fn switched_run_law()
         Listed (lens_of plan.slaves) plan.recover plan.retry (ports_behind 0 plan.slaves) led es → AreBegun (ports_behind 0 plan.slaves) (ports_of plan.slaves) led es → AreSwitched plan leads }
 {
     sent_packets::sent_law();
-    packets_heard::port_law();
-    packets_heard::begun_law();
-    run_work::packet_law();
+    packets_heard::port_events::port_law();
+    packets_heard::packets_begun::begun_law();
+    run_work::packet_work::packet_law();
     script_runs::script_run_law();
 }

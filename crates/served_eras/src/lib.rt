@@ -25,7 +25,7 @@ ghost use Rattle.served_eras.specs.Serves.{serves};
 pub fn behind_law()
     ensures { (p : Profile) (boot : Bool) (lens : ℕ → Lens) → IsBehind (serves p boot lens) }
 {
-    plan_ring::real_server_law();
+    plan_ring::server_lives::real_server_law();
 }
 
 /// AN EPOCH THAT ITS MASTER LED AND ITS NODE LIVED is one of those of which such a life is made, up to what the node is seen as; where no download was
