@@ -1,4 +1,4 @@
-use Rattle.whole_ring.proofs.WholeTurning
+use Rattle.whole_ring.proofs.WholeTurning as Turning
 use Rattle.whole_ring.proofs.whole_lives.life_law.Goals as goal
 
 pub returns : goal.returns
