@@ -13,6 +13,7 @@ use Rattle.master_hand.specs.Talk.{asked_of}
 use Rattle.passed_whole.specs.Steps.{passed_one, passed_in, eras_passed, life_passed}
 use Rattle.plan_counts.specs.Asked.{asked_most}
 use Rattle.plan_counts.specs.Split.{own_work, entering}
+use Rattle.run_frames.specs.States.{state_of}
 use Rattle.run_work.proofs.Together.{whole_work}
 use Rattle.script_runs.specs.Came.{is_packet}
 use Rattle.segment_plan.specs.Sound.{IsSlave, IsService}
@@ -86,14 +87,14 @@ module _ (enough : Enough) (s : SlaveSpec) (slave : IsSlave s) where
   abbrev pub most : Asked → ℕ
   most = serving_most (profile_of s) (shape_of (core_of s))
 
-  -- the steps that the mails among these come
+  -- the steps that the mails among these come, and how often these reopen their slave
   abbrev pub steps : List (Service Asked) → ℕ
-  steps qs = 4 * sum_by (passed_one is_passed) qs
+  steps qs = 4 * sum_by (passed_one is_passed) qs + sum_by state_of qs
 
   abbrev packets : List (Service Asked) → ℕ
   packets qs = begun_most own (filter is_packet qs)
 
-  state_less : (b : Bool) → 6 ≤ (if b then 24 else 8) + 0
+  state_less : (b : Bool) → 6 + 1 ≤ (if b then 24 else 8) + 0
   state_less true = omega arith
   state_less false = omega arith
 
@@ -115,6 +116,7 @@ module _ (enough : Enough) (s : SlaveSpec) (slave : IsSlave s) where
           arith,
           sum_by-cons (service_most most) (Service.Mails q) [],
           sum_by-cons (passed_one is_passed) (Service.Mails q) [],
+          sum_by-cons state_of (Service.Mails q) [],
           mails_own q unpassed,
           no_step q unpassed,
           fits,
@@ -126,12 +128,13 @@ module _ (enough : Enough) (s : SlaveSpec) (slave : IsSlave s) where
           arith,
           sum_by-cons (service_most most) q [],
           sum_by-cons (passed_one is_passed) q [],
+          sum_by-cons state_of q [],
           state_less (target == 1 || target == 3),
           take_last (whole_work s) script n (Plan.Service.State target) at,
         )
     one_more n _ _ (Comes.packet octets frame) =
         let q : Service Asked = Service.Mails (net (EoeClient.packet octets frame)) in
-        omega (arith, sum_by-cons (service_most most) q [], sum_by-cons (passed_one is_passed) q [], sum_by-cons (service_most own) q [])
+        omega (arith, sum_by-cons (service_most most) q [], sum_by-cons (passed_one is_passed) q [], sum_by-cons state_of q [], sum_by-cons (service_most own) q [])
 
     pub all_came : (n : ℕ) (ks : List Keyed) (qs : List (Service Asked)) → ServedCame room script n ks qs → begun_most most qs + steps qs ≤ sum_by (whole_work s) (take n script) + packets qs + 82 * length ks
     all_came _ _ _ ServedCame.none = omega arith
@@ -142,6 +145,7 @@ module _ (enough : Enough) (s : SlaveSpec) (slave : IsSlave s) where
           one_more n m (Some q) comes,
           sum_by-append (service_most most) qs (q ∷ []),
           sum_by-append (passed_one is_passed) qs (q ∷ []),
+          sum_by-append state_of qs (q ∷ []),
           filter_last (service_most own) is_packet qs q,
         )
     -- a mail
@@ -154,6 +158,8 @@ module _ (enough : Enough) (s : SlaveSpec) (slave : IsSlave s) where
           sum_by-cons (service_most most) q [],
           sum_by-append (passed_one is_passed) qs (q ∷ []),
           sum_by-cons (passed_one is_passed) q [],
+          sum_by-append state_of qs (q ∷ []),
+          sum_by-cons state_of q [],
           filter_last (service_most own) is_packet qs q,
           length-append ks (k ∷ []),
         )

@@ -9,7 +9,7 @@ pub mod Placed
 mod Reopened
 mod Rounds
 mod Runs
-pub mod ServedOpened
+pub mod ServedLasts
 pub mod ServedWorked
 mod Shaped
 mod Sharing

@@ -29,7 +29,7 @@ use Rattle.life_counts.proofs.Worked.{worked_gains}
 use Rattle.run_work.specs.Lives.{IsServedLife, AllServedLives}
 use Rattle.run_work.specs.Sessions.{session, session_states, named_wanted}
 use Rattle.run_work.proofs.Kept.{counts, keeps_all, wanted_most}
-use Rattle.run_work.proofs.ServedOpened.{AllUnopened}
+use Rattle.run_work.proofs.ServedLasts.{AllUnopened}
 
 -- what a session of a slave owes
 pub record Owes (p : Profile) : Type 0 where

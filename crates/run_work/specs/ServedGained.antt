@@ -5,6 +5,7 @@ use Rattle.life_measure.specs.Gains.{gains}
 use Rattle.life_runs.specs.Led.{Leads}
 use Rattle.master_hand.specs.Spoken.{Asked, is_passed}
 use Rattle.plan_counts.specs.Asked.{asked_most}
+use Rattle.run_frames.specs.Clocks.{reopened}
 use Rattle.segment_plan.specs.declared.slave.SlaveSpec.{SlaveSpec}
 use Rattle.life_counts.specs.Served.{served_gains}
 use Rattle.served_runs.specs.Served.{Serves}
@@ -22,10 +23,10 @@ AllPaid [] [] = ⊤
 AllPaid (s ∷ ss) (w ∷ ws) = (gains w.lead.lived.life ≤ 1 + life_most (serving_most (profile_of s) (shape_of (core_of s))) w.lead.lived.life) × AllPaid ss ws
 AllPaid _ _ = ⊥
 
--- what all lives have gained, with the steps of the mails that are passed on
+-- what all lives have gained, with the steps of the mails that are passed on, and how often state services began to reopen their slaves
 abbrev pub served_in : List Serves → ℕ
 served_in [] = 0
-served_in (w ∷ ws) = served_gains is_passed w.lead.lived.life + served_in ws
+served_in (w ∷ ws) = served_gains is_passed w.lead.lived.life + reopened w.lead.lived.life + served_in ws
 
 -- the mails that were asked of all slaves
 abbrev pub asked_in : List Serves → ℕ

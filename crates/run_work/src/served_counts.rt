@@ -35,8 +35,9 @@ pub fn slave_law()
     slave_served::parts_served::parts_are_served();
 }
 
-/// THE LIVES OF A SERVING of a plan, which its slaves work, have together gained no more than all services of the plan count of their own, the fragments of
-/// what downloads emit that began, what the packets take that came into hand, one for each slave, and 82 for each mail that was asked.
+/// THE LIVES OF A SERVING of a plan, which its slaves work: what they have together gained, and how often state services began to reopen their slaves, is no
+/// more than all services of the plan count of their own, the fragments of what downloads emit that began, what the packets take that came into hand, one
+/// for each slave, and 82 for each mail that was asked.
 pub fn served_law()
     ensures { (plan : Scenario) → IsPlan plan → All (λ (s : SlaveSpec). length s.mac ≡ 6) plan.slaves → (fs : List Exchanged) (missed : ℕ) (ws : List Serves) →
         IsServedLed (lens_of plan.slaves) plan.recover plan.retry (all_serve plan.paces (first_leads plan)) fs missed ws → AllServedLives plan.slaves ws →

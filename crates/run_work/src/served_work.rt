@@ -14,9 +14,9 @@ ghost use Rattle.segment_plan.specs.declared.plan.Scenario.{Scenario};
 ghost use Rattle.served_runs.specs.Served.{Serves, Keyed, IsServedLed, all_serve, new_serves, asked_at};
 ghost use Rattle.run_work.specs.ServedGained.{AllPaid, served_in, asked_in, leads_of};
 
-/// THE LIVES OF A SERVING TOGETHER, where each has gained no more than what came into hand of it counts: they have gained no more than all services of the
-/// plan count of their own, the fragments of what downloads emit that began, what the packets take that came into hand, one for each slave, and 82 for
-/// each mail that was asked. Of the 128 that the frame bound counts for a datagram 46 are left.
+/// THE LIVES OF A SERVING TOGETHER, where each has gained no more than what came into hand of it counts: what they have gained, and how often state services
+/// began to reopen their slaves, is no more than all services of the plan count of their own, the fragments of what downloads emit that began, what the
+/// packets take that came into hand, one for each slave, and 82 for each mail that was asked. Of the 128 that the frame bound counts for a datagram 46 are left.
 pub fn served_work()
     ensures { (plan : Scenario) → IsPlan plan → (fs : List Exchanged) (missed : ℕ) (ws : List Serves) →
         IsServedLed (lens_of plan.slaves) plan.recover plan.retry (all_serve plan.paces (first_leads plan)) fs missed ws → AllPaid plan.slaves ws →

@@ -5,7 +5,7 @@ use Rattle.slave_model.specs.Profile.{Profile, IsProfile}
 use Rattle.slave_parts.specs.Parts.{Server, parts}
 use Rattle.slave_served.specs.Served.{product_whole}
 use Rattle.state_exchange.specs.Families.{InState, states_of}
-use Rattle.run_work.proofs.ServedOpened.{led_unopened}
+use Rattle.run_work.proofs.ServedLasts.{led_unopened}
 use Rattle.run_work.proofs.Paid.{Owes, all_paid}
 use Rattle.run_work.proofs.served_counts.served_law.Goals as goal
 
