@@ -124,6 +124,13 @@ module _ {V M Q R T : Type 0} (x : Exchange V V M Q R) (calm : V → Bool) (fair
   hands_of None k = tt
   hands_of (Some r) k = hands x calm fair s.acknowledged n speaks.emission r.service k.known
 
+  abbrev pub LastsOf : Option (Row (Tagged M Q) (Asked M Q) (Option R)) → Type 0
+  LastsOf now = OfRow (λ r. n.acknowledged (n.name r.service) ≡ asked_acknowledged s.acknowledged r.service) now
+
+  pub lasts_of : (now : Option (Row (Tagged M Q) (Asked M Q) (Option R))) → NowKnown now → LastsOf now
+  lasts_of None k = tt
+  lasts_of (Some r) k = last_named r.service k.known
+
   module _ (frame : ℕ) (d : SideHere) (a : AccountHere) (known : NowKnown d.now) where
     abbrev side_begun : Option Duty → Option (Service (Asked M Q)) → SideHere
     side_begun hand w = side_begins y frame d d.now (mails_begin hand w)

@@ -82,8 +82,8 @@ module _ {V M Q R C T : Type 0} (w : Speaker V M Q R C T) where
     pub worded : (r : Registers) → seer.carry r ≡ carry table r
 
   -- THE SAME EPOCH SEEN WITH WHAT IS MEANT by its mails: it is a session of the exchange that sees it, led by its master, and without that it is the epoch
-  -- as it was; each mail that was passed on is foreseen right, a mail is passed on only by its own row, and both speak alike of the row in hand by what was heard,
-  -- and end it alike where no state service came into hand behind it
+  -- as it was; each mail that was passed on is foreseen right, a mail is passed on only by its own row, both speak alike of the row in hand by what was heard, and
+  -- tell alike whether its last write ends it, and end it alike where no state service came into hand behind it
   pub record IsSeen (seer : Processor (Rowed V M Q)) (table : ℕ → Table) (spot : Spot) (opened : ℕ) (v : V) (r : Registers) (fs : List (Frame M)) (counts : Bool) (e : Era M T (Option R)) (n : Slave V M) : Type 0 where
     pub frames : List (Frame (Tagged M Q))
     pub era : Era (Tagged M Q) (Asked M Q) (Option R)
@@ -98,5 +98,6 @@ module _ {V M Q R C T : Type 0} (w : Speaker V M Q R C T) where
     pub passes : EraPasses seeing.speech (λ t. w.naming.more t.mail) is_passed era
     pub plans : OfRow (λ h. PlanOne (λ t. t.mail) w.naming.name (λ a. a) seeing.speech w.naming.speech h.service h.heard) era.side.now
     pub hands : OfRow (λ h. seeing.speech.handed h.service ≡ true → w.naming.speech.handed (w.naming.name h.service) ≡ true) era.side.now
+    pub lasts : OfRow (λ h. w.naming.acknowledged (w.naming.name h.service) ≡ seeing_states.acknowledged h.service) era.side.now
     pub ends : ((target : ℕ) → newest_of era.account.started ≡ Some (Service.State target) → ⊥) →
         OfRow (λ h. EndOne (λ t. t.mail) w.naming.name (λ a. a) seeing.speech w.naming.speech h.service h.heard) era.side.now
