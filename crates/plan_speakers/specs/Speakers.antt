@@ -31,9 +31,9 @@ whole_states = states_of {V = Server} {A = Server} acknowledged
 abbrev pub naming_of : Profile → Naming Body OwnService Spoken.Asked Reply
 naming_of p = record { speech = Spoken.hand_speech (areas_of p); name = named_wanted; acknowledged = Spoken.acknowledged; passed = Spoken.is_passed; more = Spoken.is_followed }
 
--- THE SLAVE AND ITS MASTER: of the server its station is seen in the middle of a service; it is calm behind fair mails, which it answers with 76 at most
+-- THE SLAVE AND ITS MASTER: of the server its station is seen in the middle of a service; it is calm behind fair mails
 abbrev pub speaker : Profile → Speaker (InState Server) Body OwnService Reply (Station Core) Spoken.Asked
-speaker p = record { exchange = product_whole parts p; core = λ v. v.inner.app; states = whole_states; calm = is_calm; fair = is_fair; most = 76; naming = naming_of p }
+speaker p = record { exchange = product_whole parts p; core = λ v. v.inner.app; states = whole_states; calm = is_calm; fair = is_fair; naming = naming_of p }
 
 -- a service by the master's name for it
 abbrev pub wanted : Spoken.Asked → Wanted

@@ -21,13 +21,13 @@ ghost use Rattle.state_exchange.specs.Stated.{IsStated};
 ghost use Rattle.tagged_epochs.specs.Epochs.{IsSpeaker, IsRun};
 ghost use Rattle.plan_speakers.specs.Speakers.{speaker, spoken, spoken_states, table_of, processor_of, seer_of, cleared_whole};
 
-/// A SLAVE OF A PLAN AND ITS MASTER keep the laws of both: the server owes those of its services and of its AL state in whatever state it is, is calm behind
-/// fair mails, gives replies first, of which the last tells that it is; and the master speaks as the clients of the slave's protocols do.
+/// A SLAVE OF A PLAN AND ITS MASTER keep the laws of both: the server owes those of its services and of its AL state in whatever state it is, with fair mails
+/// among them, gives replies first, of which the last tells that it is; and the master speaks as the clients of the slave's protocols do.
 pub fn speaker_law()
     ensures { (p : Profile) → IsProfile p → IsSpeaker (speaker p) }
 {
     slave_served::parts_served::parts_are_served();
-    few_replies::whole_counts::parts_tell();
+    few_replies::whole_counts::passed_law();
     last_told::parts_last_told();
 }
 

@@ -3,7 +3,6 @@ use Rattle.std.proofs.Common.{◌≡◌, ℕ, Bool, true, Option, List, [], ◌�
 use Rattle.exchange_model.specs.Exchange.{Exchange, IsLawful}
 use Rattle.life_model.specs.Eras.{planned}
 use Rattle.life_model.specs.Lives.{Spot, Era}
-use Rattle.few_replies.proofs.Calms.{calm_lawful}
 use Rattle.passed_whole.proofs.Silences.{answered}
 use Rattle.passed_whole.proofs.Turns.{heard_law}
 use Rattle.passed_whole.specs.Led.{IsLed}
@@ -21,7 +20,7 @@ use Rattle.tagged_epochs.proofs.Sessions.{seen_so}
 
 module _ {V M Q R C T : Type 0} (w : Speaker V M Q R C T) (k : IsSpeaker w) where
   pub seeing_lawful : IsLawful (seeing w)
-  seeing_lawful = calm_lawful w.exchange w.core k.served w.calm w.fair w.most k.calm
+  seeing_lawful = k.lawful
 
   pub seeing_stated : IsStated (seeing w) (seeing_states w)
   seeing_stated = calm_stated w.exchange w.states w.calm w.fair k.keeps (tagged_stated w.exchange w.core k.served w.states k.stated)

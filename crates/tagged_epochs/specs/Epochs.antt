@@ -1,9 +1,9 @@
 -- AN EPOCH AS A MASTER LEADS IT, and the same with what is meant by its mails.
 use Rattle.std.specs.Prelude.{◌≡◌, ℕ, Bool, true, Option, Some, None, List, [], ◌∷◌, map, length, ⊤}
-use Rattle.exchange_model.specs.Exchange.{Exchange}
+use Rattle.exchange_model.specs.Exchange.{Exchange, IsLawful}
 use Rattle.life_model.specs.Eras.{EraIs, era_frames}
 use Rattle.life_model.specs.Lives.{Spot, Era}
-use Rattle.few_replies.specs.Calm.{IsCalm, calm_tagged}
+use Rattle.few_replies.specs.Calm.{calm_tagged}
 use Rattle.passed_whole.specs.Erased.{frame_as, OfRow, PlanOne, EndOne}
 use Rattle.passed_whole.specs.Led.{IsLed, RepliesFirst}
 use Rattle.passed_whole.specs.Silent.{is_passed}
@@ -29,15 +29,14 @@ pub record Speaker (V M Q R C T : Type 0) : Type 0 where
   pub states : Stated V V Q
   pub calm : V → Bool
   pub fair : M → Bool
-  pub most : ℕ
   pub naming : Naming M Q T R
 
--- they keep their laws: the server owes those of its services and of its AL state in whatever state it is, is calm behind fair mails, gives replies first,
--- of which the last tells that it is; and the master speaks as the clients do
+-- they keep their laws: the server owes those of its services and of its AL state in whatever state it is, and with fair mails among them those of one
+-- exchange; it gives replies first, of which the last tells that it is; and the master speaks as the clients do
 pub record IsSpeaker {V M Q R C T : Type 0} (w : Speaker V M Q R C T) : Type 0 where
   pub served : IsServed w.exchange w.core
   pub stated : IsStatedServed w.exchange w.states
-  pub calm : IsCalm w.exchange w.calm w.fair w.most
+  pub lawful : IsLawful (calm_tagged w.exchange w.calm w.fair)
   pub keeps : (state : ℕ) (v : V) → w.calm (w.states.tell state v) ≡ w.calm v
   pub first : RepliesFirst w.exchange
   pub last : LastTells w.exchange w.naming.more

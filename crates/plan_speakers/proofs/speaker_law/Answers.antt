@@ -8,7 +8,7 @@ pub returns : goal.returns
 returns c = λ p is. record {
   served = c.parts_are_served.ensures.served p is;
   stated = c.parts_are_served.ensures.stated p is;
-  calm = c.parts_tell.ensures.calm p is;
+  lawful = c.passed_law.ensures.lawful p is;
   keeps = λ state v. refl;
   first = λ v b. replies parts p v.state v.inner b;
   last = c.parts_last_told.ensures p is;
