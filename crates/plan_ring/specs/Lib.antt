@@ -1,6 +1,5 @@
 pub use Rattle.kept_lives.specs as of_kept_lives
 pub use Rattle.named_lives.specs as of_named_lives
-pub use Rattle.plan_ring.specs.of_slave_server as of_slave_server
 pub use Rattle.slave_parts.specs as of_slave_parts
 pub use Rattle.slave_server.specs as of_slave_server
 pub use Rattle.whole_ring.specs as of_whole_ring

@@ -27,7 +27,7 @@ pub fn speaker_law()
     ensures { (p : Profile) → IsProfile p → IsSpeaker (speaker p) }
 {
     slave_served::parts_served::parts_are_served();
-    few_replies::whole_counts::passed_law();
+    few_replies::whole_counts::parts_tell();
     last_told::parts_last_told();
 }
 

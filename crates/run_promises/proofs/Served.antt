@@ -13,7 +13,7 @@ use Rattle.plan_ring.specs.Plan.{PlanMember, FitsPlan, step, first_app}
 use Rattle.script_runs.specs.of_segment_model.Record.{Frame}
 use Rattle.script_runs.specs.of_segment_plan.declared.plan.Scenario.{Scenario}
 use Rattle.script_runs.specs.of_segment_plan.declared.slave.SlaveSpec.{SlaveSpec}
-use Rattle.plan_ring.specs.of_plan_ring.Real.{real_clearing}
+use Rattle.plan_ring.specs.Real.{real_clearing}
 use Rattle.plan_ring.specs.of_slave_server.Serving.{Serving}
 use Rattle.kept_lives.specs.of_slave_steps.Node.{Node}
 use Rattle.plan_ring.specs.of_whole_ring.Members.{MemberIs, AllLived}

@@ -10,7 +10,7 @@ use Rattle.script_runs.specs.of_master_hand.Spoken.{is_followed}
 use Rattle.plan_ring.specs.Plan.{plan_of, first_app}
 use Rattle.script_runs.specs.of_segment_plan.declared.plan.Scenario.{Scenario}
 use Rattle.script_runs.specs.of_segment_plan.declared.slave.SlaveSpec.{SlaveSpec}
-use Rattle.plan_ring.specs.of_plan_ring.Real.{real_clearing}
+use Rattle.plan_ring.specs.Real.{real_clearing}
 use Rattle.script_runs.specs.of_segment_model.Laws.{IsSettled}
 use Rattle.kept_lives.specs.of_slave_lives.Lived.{node_seen}
 use Rattle.plan_ring.specs.of_slave_server.Serving.{Serving, next_mail}

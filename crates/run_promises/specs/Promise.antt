@@ -14,7 +14,7 @@ use Rattle.run_promises.specs.Slaves.{services_of}
 use Rattle.script_runs.specs.Came.{Came, AreFirst}
 use Rattle.script_runs.specs.of_segment_plan.declared.plan.Scenario.{Scenario}
 use Rattle.script_runs.specs.of_segment_plan.declared.slave.SlaveSpec.{SlaveSpec}
-use Rattle.plan_ring.specs.of_plan_ring.Real.{real_clearing}
+use Rattle.plan_ring.specs.Real.{real_clearing}
 use Rattle.plan_ring.specs.of_slave_server.Serving.{Serving, next_mail}
 use Rattle.kept_lives.specs.of_slave_steps.Node.{Node, is_settled}
 

@@ -34,7 +34,7 @@ use Rattle.packets_heard.specs.Over.{IsNoBegun}
 use Rattle.packets_heard.proofs.Carries.{carries_all, listed_on}
 use Rattle.packets_heard.proofs.Unfinished.{under_way, joined_so}
 use Rattle.packets_heard.specs.Listed.{CarriesAll, packets_by, unfinished_of}
-use Rattle.packets_heard.specs.of_packets_heard.Heard.{Joined, joined_in, mails_by}
+use Rattle.packets_heard.specs.Heard.{Joined, joined_in, mails_by}
 use Rattle.segment_plan.specs.declared.plan.Scenario.{Scenario}
 use Rattle.segment_ring.specs.declared.wire.Fate.{Fate}
 use Rattle.segment_ring.specs.declared.wire.Fate.TheVariants as Fates

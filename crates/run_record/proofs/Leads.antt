@@ -44,7 +44,7 @@ use Rattle.master_node.proofs.Counts.{counted}
 use Rattle.master_node.proofs.Quiets.{lead_lives}
 use Rattle.packets_heard.specs.Numbers.{each_with}
 use Rattle.packets_heard.specs.Listed.{unfinished_of}
-use Rattle.packets_heard.specs.of_packets_heard.Heard.{Joined, joined_in, joined_none, mails_by}
+use Rattle.packets_heard.specs.Heard.{Joined, joined_in, joined_none, mails_by}
 use Rattle.packets_heard.proofs.Unfinished.{under_way}
 use Rattle.packets_heard.specs.Recalled.{AllSettled, AtSwitch, IsLanOf, IsRecalledFrame, RecalledIn, has_entered}
 use Rattle.packets_heard.proofs.Steps.{at_switch, before_is, made_is, still_of}

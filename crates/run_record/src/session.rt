@@ -16,7 +16,7 @@ ghost use Rattle.master_node.specs.Eager.{AllVisit, recalls};
 ghost use Rattle.master_node.specs.Happened.{HasHappened, HappensSo};
 ghost use Rattle.master_node.specs.Joined.{HasUnfinished, stand_before, stand_under, unfinished_after};
 ghost use Rattle.packets_heard.specs.Listed.{unfinished_of};
-ghost use Rattle.packets_heard.specs.of_packets_heard.Heard.{Joined, mails_by};
+ghost use Rattle.packets_heard.specs.Heard.{Joined, mails_by};
 ghost use Rattle.master_node.specs.Listed.{listed};
 ghost use Rattle.master_node.specs.Listing.{events_in};
 ghost use Rattle.master_node.specs.Origins.{forwards_at};

@@ -23,7 +23,7 @@ pub fn switched_run_law()
         (es : List SwitchEvent) (rest : List (ArrayVec ℕ)) → All (IsAtPort (ports_of plan.slaves)) es → arrivals_at 0 es ++ rest ≡ plan.host →
         Listed (lens_of plan.slaves) plan.recover plan.retry (ports_behind 0 plan.slaves) led es → AreBegun (ports_behind 0 plan.slaves) (ports_of plan.slaves) led es → AreSwitched plan leads }
 {
-    sent_packets::sent_law();
+    crate::sent_law();
     packets_heard::port_events::port_law();
     packets_heard::packets_begun::begun_law();
     run_work::packet_work::packet_law();

@@ -11,7 +11,7 @@ use Rattle.packets_heard.specs.Toured.{tour_behind, lives_behind}
 use Rattle.master_node.specs.of_frame_view.Seen.{seen}
 use Rattle.master_node.specs.Joined.{HasUnfinished, stand_before, unfinished_after, mails_back}
 use Rattle.packets_heard.specs.Listed.{unfinished_of}
-use Rattle.packets_heard.specs.of_packets_heard.Heard.{mails_by}
+use Rattle.packets_heard.specs.Heard.{mails_by}
 use Rattle.run_record.proofs.ServedTold.{told_lost, told_pass}
 use Rattle.run_record.proofs.session.tell.Goals as goal
 
