@@ -17,7 +17,7 @@ pub mod Held
 pub mod Links
 pub mod Lists
 pub mod One
-mod Opened
+pub mod Opened
 pub mod Phases
 pub mod Ready
 pub mod Rests

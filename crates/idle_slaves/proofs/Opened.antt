@@ -46,7 +46,7 @@ alike_back is y z same = record {
   handed = λ q k. sym (same.handed q k);
 }
 
-answered_is : {M Q R : Type 0} (x : Speech M Q R) (now : Option (Row M Q R)) (r : Row M Q R) → IsAnswered x now → now ≡ Some r → (frame : ℕ) → answer_after frame r.answer (x.ends r.service (plain x.emission r.heard)) ≡ r.answer
+pub answered_is : {M Q R : Type 0} (x : Speech M Q R) (now : Option (Row M Q R)) (r : Row M Q R) → IsAnswered x now → now ≡ Some r → (frame : ℕ) → answer_after frame r.answer (x.ends r.service (plain x.emission r.heard)) ≡ r.answer
 answered_is x now r k e = subst (λ z. IsAnswered x z) e k
 
 cons_none : {X : Type 0} (a : X) (xs : List X) → a ∷ xs ≢ []

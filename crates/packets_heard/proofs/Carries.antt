@@ -1,17 +1,19 @@
 -- The slaves that a frame carries are those of its visit.
 use Rattle.std.proofs.Common.{◌≡◌, ℕ, zero, suc, Bool, true, false, Option, Some, None, List, [], ◌∷◌, ◌++◌, map, length, refl, sym, ap, subst, ◌∙◌}
-use Rattle.std.specs.Prelude.{◌==◌, if◌then◌else◌, All}
+use Rattle.std.specs.Prelude.{◌==◌, if◌then◌else◌, All, ⊤}
 use Rattle.std.proofs.lemmas.List.Elements.{All-nil, All-cons, All-head, All-tail}
 use Rattle.datagrams.specs.Datagram as Raw
+use Rattle.datagrams.specs.Frame.{IsFrame, chained}
 use Rattle.eoe_switch.specs.declared.switching.SwitchEvent.{SwitchEvent}
 use Rattle.frame_view.specs.View.{Lens}
 use Rattle.frame_view.specs.Seen.{seen}
 use Rattle.frame_view.proofs.Octets.{seen_is, seen_chained}
 use Rattle.life_frames.specs.Frames.{FrameFor}
+use Rattle.life_frames.specs.Shares.{Asked}
 use Rattle.life_frames.proofs.Frames.{own_none}
 use Rattle.life_model.specs.Lives.{Stand}
 use Rattle.life_model.specs.Own.{own}
-use Rattle.life_runs.specs.Led.{Exchanged, Leads, Turn, AllTurn, IsLed, IsLedFrame, led_behind, gives_up_at}
+use Rattle.life_runs.specs.Led.{Exchanged, Leads, Turn, AllTurn}
 use Rattle.link_mails.specs.Body.{Body}
 use Rattle.link_model.specs.Frames.{all_accepted}
 use Rattle.master_hand.specs.Joins.{packets_in}
@@ -19,6 +21,7 @@ use Rattle.master_node.specs.Arrivals.{completed_at, ComeIn}
 use Rattle.master_node.specs.Downs.{goes_down, GoDown}
 use Rattle.master_node.specs.Happened.{events_of}
 use Rattle.master_node.specs.Made.{IsOfMaking, AreOfMaking}
+use Rattle.master_node.specs.Serving.{run_turn}
 use Rattle.master_node.specs.Shows.{is_carried}
 use Rattle.master_node.specs.Toured.{turn_share}
 use Rattle.master_node.specs.declared.happened.Happening.{Happening}
@@ -28,13 +31,14 @@ use Rattle.master_tour.specs.Goes.{holds_at}
 use Rattle.master_tour.specs.Made.{is_in}
 use Rattle.master_tour.specs.Orders.{AreOnce}
 use Rattle.master_tour.specs.Toured.{Tour, IsOfTour, visit_of, visit_on}
-use Rattle.packets_heard.specs.Heard.{Joined, joined_in}
+use Rattle.packets_heard.specs.Heard.{Joined}
 use Rattle.segment_model.specs.Returned.{Returns}
 use Rattle.segment_model.specs.Record.{is_for}
 use Rattle.segment_model.specs.Slaves.{Datagram, grams}
 use Rattle.segment_ring.specs.declared.wire.Fate.{Fate}
 use Rattle.segment_ring.specs.declared.wire.Fate.TheVariants.{Pass, Lost}
-use Rattle.packets_heard.specs.Listed.{unfinished_of, CarriesAll, packets_by, listed_behind, Listed}
+use Rattle.packets_heard.specs.Listed.{unfinished_of, CarriesAll, packets_by, listed_behind, ListedOn}
+use Rattle.served_runs.specs.Served.{Serves, ServedTurn, AllServedTurn}
 
 -- ---- the places that a frame carries are among those of its visit
 in_first : (k : ℕ) (ps rest : List ℕ) → is_in k ps ≡ true → is_in k (ps ++ rest) ≡ true
@@ -67,23 +71,38 @@ none_accepted u back e (Stand.Opens o) = refl
 none_accepted u back e Stand.Open = ap (λ ds. all_accepted u.lived.spot.station u.lived.life.era.side.halves (grams ds)) e
 none_accepted u back e Stand.Gone = refl
 
-module _ (lens : ℕ → Lens) (number : ℕ) (f : Exchanged) where
+-- each slave asks what the frame has of it
+abbrev pub AllAsked : (ℕ → Lens) → List Raw.Datagram → List Turn → Type 0
+AllAsked lens ds [] = ⊤
+AllAsked lens ds (u ∷ us) = Asked lens ds u.lived u.share × AllAsked lens ds us
+
+pub turns_asked : (lens : ℕ → Lens) (made : ℕ) (ds : List Raw.Datagram) (as' : List Leads) (us : List Turn) → AllTurn lens made ds as' us → AllAsked lens ds us
+turns_asked lens made ds [] [] t = tt
+turns_asked lens made ds [] (u ∷ us) t = absurd t
+turns_asked lens made ds (a ∷ as') [] t = absurd t
+turns_asked lens made ds (a ∷ as') (u ∷ us) t = (t.0.asked, turns_asked lens made ds as' us t.1)
+
+pub serves_asked : (lens : ℕ → Lens) (made : ℕ) (ds : List Raw.Datagram) (ws : List Serves) (vs : List ServedTurn) → AllServedTurn lens made ds ws vs → AllAsked lens ds (map run_turn vs)
+serves_asked lens made ds [] [] t = tt
+serves_asked lens made ds [] (v ∷ vs) t = absurd t
+serves_asked lens made ds (w ∷ ws) [] t = absurd t
+serves_asked lens made ds (w ∷ ws) (v ∷ vs) t = (t.0.asked, serves_asked lens made ds ws vs t.1)
+
+module _ (lens : ℕ → Lens) (f : Exchanged) where
   sees : (ds : List Raw.Datagram) → seen lens f.sent ≡ map (λ d. Rattle.frame_view.specs.View.datagram_seen lens d) ds → (u : Turn) → FrameFor lens u.lived.spot u.lived.life.stand u.share ds → u.share.under ≡ false → own u.lived.spot.station (seen lens f.sent) ≡ []
   sees ds e u (FrameFor.none n a) out = ap (λ z. own u.lived.spot.station z) e ∙ own_none lens u.lived.spot ds a
   sees ds e u (FrameFor.one n d a b) out = absurd (let bad : true ≡ false = sym n ∙ out in cc)
 
-  none_completed : Returns (seen lens f.sent) (seen lens f.back) → (ds : List Raw.Datagram) → seen lens f.sent ≡ map (λ d. Rattle.frame_view.specs.View.datagram_seen lens d) ds → (as' : List Leads) (us : List Turn) → AllTurn lens number ds as' us → (js : List Joined) (k : ℕ) →
+  none_completed : Returns (seen lens f.sent) (seen lens f.back) → (ds : List Raw.Datagram) → seen lens f.sent ≡ map (λ d. Rattle.frame_view.specs.View.datagram_seen lens d) ds → (us : List Turn) → AllAsked lens ds us → (js : List Joined) (k : ℕ) →
       holds_at is_carried us k ≡ false → completed_at (seen lens f.back) us (unfinished_of js) k ≡ []
-  none_completed r ds e [] [] t js k out = refl
-  none_completed r ds e [] (u ∷ us) t js k out = absurd t
-  none_completed r ds e (a ∷ as') [] t js k out = absurd t
-  none_completed r ds e (a ∷ as') (u ∷ us) t [] k out = refl
-  none_completed r ds e (a ∷ as') (u ∷ us) t (j ∷ js) zero out =
-      ap (λ ms. packets_in j.unfinished ms) (none_accepted u (seen lens f.back) (returned_none u.lived.spot.station (seen lens f.sent) (seen lens f.back) r (sees ds e u t.0.asked.has out)) u.lived.life.stand)
-  none_completed r ds e (a ∷ as') (u ∷ us) t (j ∷ js) (suc k) out = none_completed r ds e as' us t.1 js k out
+  none_completed r ds e [] t js k out = refl
+  none_completed r ds e (u ∷ us) t [] k out = refl
+  none_completed r ds e (u ∷ us) t (j ∷ js) zero out =
+      ap (λ ms. packets_in j.unfinished ms) (none_accepted u (seen lens f.back) (returned_none u.lived.spot.station (seen lens f.sent) (seen lens f.back) r (sees ds e u t.0.has out)) u.lived.life.stand)
+  none_completed r ds e (u ∷ us) t (j ∷ js) (suc k) out = none_completed r ds e us t.1 js k out
 
 -- A FRAME CARRIES THE SLAVES OF ITS VISIT
-module _ (lens : ℕ → Lens) (recover retry : ℕ) (ports : List (Option ℕ)) (number : ℕ) (f : Exchanged) (as' : List Leads) (us : List Turn) (frame : IsLedFrame lens number f.sent as' us) (live : ℕ → Bool) (size : ℕ) (area : ℕ → ℕ) (t : Tour) (many : ℕ) (visit : List ℕ)
+module _ (lens : ℕ → Lens) (recover retry : ℕ) (ports : List (Option ℕ)) (f : Exchanged) (us : List Turn) (ds : List Raw.Datagram) (frame : IsFrame f.sent (chained ds)) (asked : AllAsked lens ds us) (live : ℕ → Bool) (size : ℕ) (area : ℕ → ℕ) (t : Tour) (many : ℕ) (visit : List ℕ)
     (of : IsOfTour (λ u. turn_share u) live size area t us many visit) (once : AreOnce visit) (back : f.fate ≡ Pass → Returns (seen lens f.sent) (seen lens f.back)) (js : List Joined) where
   all_in : (k : ℕ) → holds_at is_carried us k ≡ true → is_in k visit ≡ true
   all_in k h = subst (λ z. is_in k z ≡ true) (sym of.comes) (in_visit live (length us) t.again t.opened t.last of.places of.first.rest of.first.split k (of.carries.only k h))
@@ -97,7 +116,7 @@ module _ (lens : ℕ → Lens) (recover retry : ℕ) (ports : List (Option ℕ))
 
   none_by : (fate : Fate) → f.fate ≡ fate → (k : ℕ) → is_in k visit ≡ false → packets_by lens recover retry ports f fate us js k ≡ []
   none_by Pass e k out =
-      none_completed lens number f (back e) frame.datagrams (seen_is lens f.sent _ frame.frame ∙ seen_chained lens frame.datagrams) as' us frame.each js k (not_carried k out)
+      none_completed lens f (back e) ds (seen_is lens f.sent _ frame ∙ seen_chained lens ds) us asked js k (not_carried k out)
   none_by (Lost after) e k out = refl
 
   pub carries_all : CarriesAll visit us (λ k. packets_by lens recover retry ports f f.fate us js k)
@@ -108,18 +127,14 @@ pub events_making : (rows : List Happening) → AreOfMaking rows → All IsOfMak
 events_making [] a = All-nil IsOfMaking
 events_making (r ∷ rows) a = All-cons IsOfMaking r.event (events_of rows) (All-head (λ (q : Happening). IsOfMaking q.event) r rows a) (events_making rows (All-tail (λ (q : Happening). IsOfMaking q.event) r rows a))
 
-module _ (lens : ℕ → Lens) (recover retry : ℕ) (ports : List (Option ℕ)) (first : List Leads) (fs : List Exchanged) (missed : ℕ) (as' : List Leads) (led : IsLed lens recover retry first fs missed as') (f : Exchanged) (us : List Turn) (frame : IsLedFrame lens (length fs) f.sent as' us)
-    (m n : MasterNode) (same : m.lan.ports.items ≡ ports) (making : AreOfMaking m.lan.happened)
-    (arrives : f.fate ≡ Pass → ComeIn m (λ k. completed_at (seen lens f.back) us (unfinished_of (joined_in led)) k) n)
-    (downs : (after : ℕ) → f.fate ≡ Lost after → GoDown m us (map (led_behind lens recover retry (gives_up_at lens recover retry missed) (length fs) f) us) n)
-    (carries : CarriesAll m.tour.visit.items us (λ k. packets_by lens recover retry ports f f.fate us (joined_in led) k)) (es : List SwitchEvent) (before : Listed lens recover retry ports led es) where
-  listed : (fate : Fate) → f.fate ≡ fate → events_of n.lan.happened ≡ listed_behind lens recover retry ports missed (length fs) f fate us (joined_in led) m.tour.visit.items
-  listed Pass e = (arrives e).events ∙ (λ i. Rattle.master_node.specs.Arrivals.arrivals_in (same i) (λ k. completed_at (seen lens f.back) us (unfinished_of (joined_in led)) k) m.tour.visit.items)
-  listed (Lost after) e =
-      (downs after e).events
-      ∙ (λ i. Rattle.master_node.specs.Downs.downs_in (same i) (λ k. goes_down us (map (led_behind lens recover retry (gives_up_at lens recover retry missed) (length fs) f) us) k) m.tour.visit.items)
+module _ (lens : ℕ → Lens) (recover retry : ℕ) (ports : List (Option ℕ)) (old : List SwitchEvent → Type 0) (f : Exchanged) (us : List Turn) (leads : List Leads) (js : List Joined) (m n : MasterNode) (same : m.lan.ports.items ≡ ports) (making : AreOfMaking m.lan.happened)
+    (arrives : f.fate ≡ Pass → ComeIn m (λ k. completed_at (seen lens f.back) us (unfinished_of js) k) n) (downs : (after : ℕ) → f.fate ≡ Lost after → GoDown m us leads n)
+    (carries : CarriesAll m.tour.visit.items us (λ k. packets_by lens recover retry ports f f.fate us js k)) (es : List SwitchEvent) (before : old es) where
+  listed : (fate : Fate) → f.fate ≡ fate → events_of n.lan.happened ≡ listed_behind lens recover retry ports f fate us leads js m.tour.visit.items
+  listed Pass e = (arrives e).events ∙ (λ i. Rattle.master_node.specs.Arrivals.arrivals_in (same i) (λ k. completed_at (seen lens f.back) us (unfinished_of js) k) m.tour.visit.items)
+  listed (Lost after) e = (downs after e).events ∙ (λ i. Rattle.master_node.specs.Downs.downs_in (same i) (λ k. goes_down us leads k) m.tour.visit.items)
 
-  pub listed_on : Listed lens recover retry ports (IsLed.on fs missed as' f us led frame) (es ++ (events_of m.lan.happened ++ events_of n.lan.happened))
+  pub listed_on : ListedOn lens recover retry ports old f us leads js (es ++ (events_of m.lan.happened ++ events_of n.lan.happened))
   listed_on = record {
     old = es;
     was = before;

@@ -1,5 +1,5 @@
 -- The packets that begin at a slave's port over a run.
-use Rattle.std.proofs.Common.{◌≡◌, ◌≤◌, ◌<◌, ℕ, ◌+◌, Bool, true, false, Option, Some, None, List, [], ◌∷◌, ◌++◌, refl, sym, ap, subst, ◌∙◌, arith, length, append-nil}
+use Rattle.std.proofs.Common.{◌≡◌, ◌≤◌, ◌<◌, ℕ, ◌+◌, Bool, true, false, Option, Some, None, List, [], ◌∷◌, ◌++◌, map, refl, sym, ap, subst, ◌∙◌, arith, length, append-nil}
 use Rattle.std.specs.Prelude.{◌==◌, if◌then◌else◌, slice_get, All}
 use Rattle.std.proofs.lemmas.Bool.Decides.{nat_tests}
 use Rattle.std.proofs.lemmas.List.Elements.{All-nil, All-cons, All-head, All-tail}
@@ -18,14 +18,17 @@ use Rattle.master_node.specs.Begins.{PacketsBegin, begins_by, begins_in, begun_o
 use Rattle.master_node.specs.Downs.{down_by, downs_in}
 use Rattle.master_node.specs.Forwards.{port_by, waiting_by}
 use Rattle.master_node.specs.Happened.{events_of}
+use Rattle.master_node.specs.Serving.{run_turn}
 use Rattle.master_node.specs.declared.lan.Lan.{Lan}
 use Rattle.master_tour.specs.Made.{is_in}
 use Rattle.master_tour.specs.Orders.{AreOnce}
 use Rattle.packets_heard.specs.Over.{AreBegun, BegunOn, IsNoBegun, begun_at, begun_by_event, forwarded_to, packet_begun, packet_of, packets_begun}
 use Rattle.packets_heard.proofs.Follows.{all_append, all_at, closed_none, down_closed, first_taken, flow_switch, taken_append}
 use Rattle.packets_heard.specs.Listed.{IsOwn}
+use Rattle.packets_heard.specs.Servings.{AreServedBegun, served_packets}
 use Rattle.segment_ring.specs.declared.wire.Fate.{Fate}
 use Rattle.segment_ring.specs.declared.wire.Fate.TheVariants.{Pass, Lost}
+use Rattle.served_runs.specs.Served.{Serves, IsServedLed}
 
 -- ---- how many are taken at a port, whether one waits there or not
 abbrev one_for : ℕ → Option ℕ → ℕ
@@ -264,13 +267,22 @@ frame_takes ports many us before es x =
     ap (λ z. taken_in s0 z) x.whole ∙ taken_append s0 x.old (x.making ++ x.behind) ∙ ap (λ z. taken_in s0 x.old ++ z)
     (taken_append s1 x.making x.behind ∙ (λ i. (ap (λ z. taken_in z x.making) (sym is) ∙ x.taken) i ++ none_taken (switch_behind s1 x.making) x.behind x.none i) ∙ append-nil (begins_in ports (begun_of us) x.visited))
 
--- ---- OVER A RUN
+-- ---- OVER A RUN, and over a serving
 module _ {lens : ℕ → Lens} {recover retry : ℕ} (ports : List (Option ℕ)) (many k p : ℕ) (own : IsOwn ports k p) where
+  -- with one frame more
+  frame_more : (before : List SwitchEvent → Type 0) (us : List Turn) (es : List SwitchEvent) (x : BegunOn before ports many us es) (packets : List (ArrayVec ℕ)) → all_at p (taken_in (first_switch many) x.old) ≡ packets → all_at p (taken_in (first_switch many) es) ≡ packets ++ packet_begun (begun_of us k)
+  frame_more before us es x packets old =
+      ap (λ z. all_at p z) (frame_takes ports many us before es x) ∙ all_append p (taken_in (first_switch many) x.old) (begins_in ports (begun_of us) x.visited)
+      ∙ (λ i. old i ++ frame_all ports k p own (begun_of us) x.visited x.once x.others i)
+
   pub run_all : {first : List Leads} {fs : List Exchanged} {missed : ℕ} {as' : List Leads} (led : IsLed lens recover retry first fs missed as') (es : List SwitchEvent) → AreBegun ports many led es → all_at p (taken_in (first_switch many) es) ≡ packets_begun led k
   run_all IsLed.start es x = ap (λ z. all_at p (taken_in (first_switch many) z)) x
-  run_all (IsLed.on fs missed as' f us led frame) es x =
-      ap (λ z. all_at p z) (frame_takes ports many us (λ old. AreBegun ports many led old) es x) ∙ all_append p (taken_in (first_switch many) x.old) (begins_in ports (begun_of us) x.visited)
-      ∙ (λ i. run_all led x.old x.was i ++ frame_all ports k p own (begun_of us) x.visited x.once x.others i)
+  run_all (IsLed.on fs missed as' f us led frame) es x = frame_more (λ old. AreBegun ports many led old) us es x (packets_begun led k) (run_all led x.old x.was)
+
+  serving_all : {first : List Serves} {fs : List Exchanged} {missed : ℕ} {ws : List Serves} (led : IsServedLed lens recover retry first fs missed ws) (es : List SwitchEvent) → AreServedBegun ports many led es → all_at p (taken_in (first_switch many) es) ≡ served_packets led k
+  serving_all IsServedLed.start es x = ap (λ z. all_at p (taken_in (first_switch many) z)) x
+  serving_all (IsServedLed.asks fs missed ws place key led may) es x = serving_all led es x
+  serving_all (IsServedLed.on fs missed ws f vs led frame) es x = frame_more (λ old. AreServedBegun ports many led old) (map run_turn vs) es x (served_packets led k) (serving_all led x.old x.was)
 
   pub run_many : {first : List Leads} {fs : List Exchanged} {missed : ℕ} {as' : List Leads} (led : IsLed lens recover retry first fs missed as') (es : List SwitchEvent) → AreBegun ports many led es → many_at p (taken_in (first_switch many) es) ≡ length (packets_begun led k)
   run_many IsLed.start es x = ap (λ z. many_at p (taken_in (first_switch many) z)) x
@@ -286,6 +298,12 @@ module _ {lens : ℕ → Lens} {recover retry : ℕ} (ports : List (Option ℕ))
   run_first led es l x =
       let w = first_taken many p es own.behind l in
       (w.0, w.1 ∙ ap (λ z. z ++ w.0) (run_all led es x))
+
+  pub serving_first : {first : List Serves} {fs : List Exchanged} {missed : ℕ} {ws : List Serves} (led : IsServedLed lens recover retry first fs missed ws) (es : List SwitchEvent) → p < many → AreServedBegun ports many led es →
+      (left : List (ArrayVec ℕ)) × (forwarded_to p (switched many es).forwards ≡ served_packets led k ++ left)
+  serving_first led es l x =
+      let w = first_taken many p es own.behind l in
+      (w.0, w.1 ∙ ap (λ z. z ++ w.0) (serving_all led es x))
 
   -- none begins behind the port's going down
   pub run_last : {first : List Leads} {fs : List Exchanged} {missed : ℕ} {as' : List Leads} (led : IsLed lens recover retry first fs missed as') (es xs ys : List SwitchEvent) → AreBegun ports many led es → es ≡ xs ++ Down p ∷ ys → begun_at p ys ≡ 0

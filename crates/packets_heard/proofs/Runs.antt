@@ -9,13 +9,16 @@ use Rattle.master_hand.specs.Joins.{packets_in}
 use Rattle.master_node.specs.Arrivals.{completed_at}
 use Rattle.master_node.specs.Downs.{goes_down}
 use Rattle.master_node.specs.Happened.{arrivals_at}
+use Rattle.master_node.specs.Serving.{run_lead, run_turn}
 use Rattle.master_node.specs.Shows.{is_live_lead, is_live_turn}
 use Rattle.master_tour.specs.Goes.{holds_at}
 use Rattle.master_tour.specs.Made.{is_in}
 use Rattle.packets_heard.specs.Heard.{Joined, joined_in, joined_on, joined_none, mails_by}
 use Rattle.segment_ring.specs.declared.wire.Fate.{Fate}
 use Rattle.segment_ring.specs.declared.wire.Fate.TheVariants.{Pass, Lost}
-use Rattle.packets_heard.specs.Listed.{downs_at, long_ones, packets_at, unfinished_of, IsOwn, packets_by, listed_behind, Listed}
+use Rattle.packets_heard.specs.Listed.{downs_at, long_ones, packets_at, unfinished_of, IsOwn, packets_by, listed_behind, Listed, ListedOn}
+use Rattle.packets_heard.specs.Servings.{ServedListed, served_joined}
+use Rattle.served_runs.specs.Served.{Serves, IsServedLed, served_behind}
 use Rattle.packets_heard.proofs.Lives.{pass_lives, lost_carried, lost_gone, turn_lives}
 use Rattle.packets_heard.proofs.Ports.{once_if, downs_append, arrivals_append, long_append, making_downs, making_arrivals, downs_bring, arrivals_take, downs_visit, arrivals_visit}
 
@@ -79,7 +82,7 @@ module _ (lens : ℕ → Lens) (recover retry : ℕ) (ports : List (Option ℕ))
         leads = map (led_behind lens recover retry gives (length fs) f) us
 
         behind : Fate → List SwitchEvent
-        behind fate = listed_behind lens recover retry ports missed (length fs) f fate us (joined_in led) x.visit
+        behind fate = listed_behind lens recover retry ports f fate us leads (joined_in led) x.visit
 
         turn : holds_at is_live_turn us k ≡ holds_at is_live_lead as' k
         turn = turn_lives lens (length fs) frame.datagrams as' us frame.each k
@@ -94,22 +97,19 @@ module _ (lens : ℕ → Lens) (recover retry : ℕ) (ports : List (Option ℕ))
             ∙ count (is_in k x.visit) (holds_at is_live_turn us k) (holds_at is_live_lead leads k) (λ g. x.carries.all k (lost_carried lens recover retry gives (length fs) f after e us k g))
             (lost_gone lens recover retry gives (length fs) f after e frame.datagrams as' us frame.each k)
 
-    -- WHAT CAME IN THERE
-    pub run_arrivals : {first : List Leads} {fs : List Exchanged} {missed : ℕ} {as' : List Leads} (led : IsLed lens recover retry first fs missed as') (es : List SwitchEvent) → Listed lens recover retry ports led es → arrivals_at p es ≡ long_ones (packets_at (joined_in led) k)
-    run_arrivals {first = first} IsLed.start es x = ap (λ z. arrivals_at p z) x ∙ sym (ap long_ones (none_packets first k))
-    run_arrivals (IsLed.on fs missed as' f us led frame) es x =
-        ap (λ z. arrivals_at p z) x.whole ∙ arrivals_append p x.old (x.making ++ behind f.fate) ∙ (λ i. run_arrivals led x.old x.was i ++ arrivals_append p x.making (behind f.fate) i)
-        ∙ (λ i. long_ones old ++ (making_arrivals p x.making own.behind x.only i ++ arrivals_at p (behind f.fate))) ∙ ap (λ z. long_ones old ++ z) (by f.fate refl)
-        ∙ sym (long_append old (packets f.fate k)) ∙ ap long_ones (sym (packets_more f (joined_in led) us k))
+    -- WHAT CAME IN THERE, with one frame more
+    frame_arrivals : (before : List SwitchEvent → Type 0) (f : Exchanged) (us : List Turn) (leads : List Leads) (js : List Joined) (es : List SwitchEvent) → (x : ListedOn lens recover retry ports before f us leads js es) → arrivals_at p x.old ≡ long_ones (packets_at js k) →
+        arrivals_at p es ≡ long_ones (packets_at (joined_on lens f js us) k)
+    frame_arrivals before f us leads js es x old =
+        ap (λ z. arrivals_at p z) x.whole ∙ arrivals_append p x.old (x.making ++ behind f.fate) ∙ (λ i. old i ++ arrivals_append p x.making (behind f.fate) i)
+        ∙ (λ i. long_ones (packets_at js k) ++ (making_arrivals p x.making own.behind x.only i ++ arrivals_at p (behind f.fate))) ∙ ap (λ z. long_ones (packets_at js k) ++ z) (by f.fate refl)
+        ∙ sym (long_append (packets_at js k) (packets f.fate k)) ∙ ap long_ones (sym (packets_more f js us k))
       where
-        old : List (List ℕ)
-        old = packets_at (joined_in led) k
-
         packets : Fate → ℕ → List (List ℕ)
-        packets fate q = packets_by lens recover retry ports f fate us (joined_in led) q
+        packets fate q = packets_by lens recover retry ports f fate us js q
 
         behind : Fate → List SwitchEvent
-        behind fate = listed_behind lens recover retry ports missed (length fs) f fate us (joined_in led) x.visit
+        behind fate = listed_behind lens recover retry ports f fate us leads js x.visit
 
         inside : (b : Bool) → is_in k x.visit ≡ b → (if b then long_ones (packets f.fate k) else []) ≡ long_ones (packets f.fate k)
         inside true e = refl
@@ -118,6 +118,19 @@ module _ (lens : ℕ → Lens) (recover retry : ℕ) (ports : List (Option ℕ))
         by : (fate : Fate) → f.fate ≡ fate → arrivals_at p (behind fate) ≡ long_ones (packets fate k)
         by Pass e =
             let here : (if is_in k x.visit then long_ones (packets f.fate k) else []) ≡ long_ones (packets f.fate k) = inside (is_in k x.visit) refl in
-            arrivals_visit ports k p own (λ q. completed_at (seen lens f.back) us (unfinished_of (joined_in led)) q) x.visit x.carries.once
+            arrivals_visit ports k p own (λ q. completed_at (seen lens f.back) us (unfinished_of js) q) x.visit x.carries.once
             ∙ ap (λ (z : Fate). if is_in k x.visit then long_ones (packets z k) else []) (sym e) ∙ here ∙ ap (λ (z : Fate). long_ones (packets z k)) e
-        by (Lost after) e = downs_bring ports p (λ q. goes_down us (map (led_behind lens recover retry (gives_up_at lens recover retry missed) (length fs) f) us) q) x.visit
+        by (Lost after) e = downs_bring ports p (λ q. goes_down us leads q) x.visit
+
+    -- over a run
+    pub run_arrivals : {first : List Leads} {fs : List Exchanged} {missed : ℕ} {as' : List Leads} (led : IsLed lens recover retry first fs missed as') (es : List SwitchEvent) → Listed lens recover retry ports led es → arrivals_at p es ≡ long_ones (packets_at (joined_in led) k)
+    run_arrivals {first = first} IsLed.start es x = ap (λ z. arrivals_at p z) x ∙ sym (ap long_ones (none_packets first k))
+    run_arrivals (IsLed.on fs missed as' f us led frame) es x =
+        frame_arrivals (λ old. Listed lens recover retry ports led old) f us (map (led_behind lens recover retry (gives_up_at lens recover retry missed) (length fs) f) us) (joined_in led) es x (run_arrivals led x.old x.was)
+
+    -- and over a serving
+    pub serving_arrivals : {first : List Serves} {fs : List Exchanged} {missed : ℕ} {ws : List Serves} (led : IsServedLed lens recover retry first fs missed ws) (es : List SwitchEvent) → ServedListed ports led es → arrivals_at p es ≡ long_ones (packets_at (served_joined led) k)
+    serving_arrivals {first = first} IsServedLed.start es x = ap (λ z. arrivals_at p z) x ∙ sym (ap long_ones (none_packets (map run_lead first) k))
+    serving_arrivals (IsServedLed.asks fs missed ws place key led may) es x = serving_arrivals led es x
+    serving_arrivals (IsServedLed.on fs missed ws f vs led frame) es x =
+        frame_arrivals (λ old. ServedListed ports led old) f (map run_turn vs) (map run_lead (map (served_behind lens recover retry (gives_up_at lens recover retry missed) (length fs) f) vs)) (served_joined led) es x (serving_arrivals led x.old x.was)

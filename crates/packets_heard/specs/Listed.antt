@@ -68,22 +68,23 @@ module _ (lens : ℕ → Lens) (recover retry : ℕ) (ports : List (Option ℕ))
   packets_by f Pass us js k = completed_at (seen lens f.back) us (unfinished_of js) k
   packets_by f (Lost after) us js k = []
 
-  -- WHAT A FRAME'S RETURN OR LOSS LISTS, for the slaves of its visit: the packets that it completed, or the ports of those that it took from the ring
-  abbrev pub listed_behind : ℕ → ℕ → Exchanged → Fate → List Turn → List Joined → List ℕ → List SwitchEvent
-  listed_behind missed made f Pass us js visit = arrivals_in ports (λ k. completed_at (seen lens f.back) us (unfinished_of js) k) visit
-  listed_behind missed made f (Lost after) us js visit = downs_in ports (λ k. goes_down us (map (led_behind lens recover retry (gives_up_at lens recover retry missed) made f) us) k) visit
+  -- WHAT A FRAME'S RETURN OR LOSS LISTS, for the slaves of its visit, by the lives behind it: the packets that it completed, or the ports of those that it took
+  -- from the ring
+  abbrev pub listed_behind : Exchanged → Fate → List Turn → List Leads → List Joined → List ℕ → List SwitchEvent
+  listed_behind f Pass us leads js visit = arrivals_in ports (λ k. completed_at (seen lens f.back) us (unfinished_of js) k) visit
+  listed_behind f (Lost after) us leads js visit = downs_in ports (λ k. goes_down us leads k) visit
 
   -- ONE FRAME MORE: behind the events before it come those of its making, then those of its return or loss
-  pub record ListedOn (before : List SwitchEvent → Type 0) (missed made : ℕ) (f : Exchanged) (us : List Turn) (js : List Joined) (es : List SwitchEvent) : Type 0 where
+  pub record ListedOn (before : List SwitchEvent → Type 0) (f : Exchanged) (us : List Turn) (leads : List Leads) (js : List Joined) (es : List SwitchEvent) : Type 0 where
     pub old : List SwitchEvent
     pub was : before old
     pub making : List SwitchEvent
     pub only : All IsOfMaking making
     pub visit : List ℕ
     pub carries : CarriesAll visit us (λ k. packets_by f f.fate us js k)
-    pub whole : es ≡ old ++ (making ++ listed_behind missed made f f.fate us js visit)
+    pub whole : es ≡ old ++ (making ++ listed_behind f f.fate us leads js visit)
 
   -- THE EVENTS OF A RUN, frame by frame
   abbrev pub Listed : {first : List Leads} {fs : List Exchanged} {missed : ℕ} {as' : List Leads} → IsLed lens recover retry first fs missed as' → List SwitchEvent → Type 0
   Listed IsLed.start es = es ≡ []
-  Listed (IsLed.on fs missed as' f us led frame) es = ListedOn (λ old. Listed led old) missed (length fs) f us (joined_in led) es
+  Listed (IsLed.on fs missed as' f us led frame) es = ListedOn (λ old. Listed led old) f us (map (led_behind lens recover retry (gives_up_at lens recover retry missed) (length fs) f) us) (joined_in led) es

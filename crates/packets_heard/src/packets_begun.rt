@@ -13,12 +13,15 @@ ghost use Rattle.master_node.specs.Begins.{PacketsBegin};
 ghost use Rattle.master_node.specs.Downs.{GoDown};
 ghost use Rattle.master_node.specs.Happened.{events_of};
 ghost use Rattle.master_node.specs.Made.{AreOfMaking};
+ghost use Rattle.master_node.specs.Serving.{run_turn};
 ghost use Rattle.master_node.specs.Shows.{is_live_lead};
 ghost use Rattle.master_node.specs.declared.node.MasterNode.{MasterNode};
 ghost use Rattle.master_tour.specs.Goes.{holds_at};
 ghost use Rattle.packets_heard.specs.Numbers.{NoneWaits, Numbered, begins, comes_in, each_with, events_up_to, frames_begun, frames_heard, frames_other, given_up_at, goes, number_behind, numbers_where};
 ghost use Rattle.packets_heard.specs.Over.{AreBegun, begun_at, forwarded_to, packets_begun};
 ghost use Rattle.packets_heard.specs.Listed.{IsOwn, Listed};
+ghost use Rattle.packets_heard.specs.Servings.{AreServedBegun, served_packets};
+ghost use Rattle.served_runs.specs.Served.{Serves, ServedTurn, IsServedFrame, IsServedLed};
 ghost use Rattle.segment_ring.specs.declared.wire.Fate.{Fate};
 
 /// WHERE JUST THE PACKETS BEGIN THAT CAME INTO HAND, frame by frame, each the oldest at the port of its slave, over a run: at a port as many packets begin as came
@@ -34,6 +37,12 @@ pub fn begun_law()
     ensures goes_on { (lens : ℕ → Lens) (recover retry missed : ℕ) (ports : List (Option ℕ)) (many : ℕ) (first as' : List Leads) (fs : List Exchanged) (led : IsLed lens recover retry first fs missed as') (f : Exchanged) (us : List Turn) (frame : IsLedFrame lens (length fs) f.sent as' us) (m n : MasterNode) (packets : ℕ → List (List ℕ)) (leads : List Leads) (es : List SwitchEvent) →
         m.lan.ports.items ≡ ports → PacketsBegin (switched many es).switch us m.lan → (switched many (es ++ events_of m.lan.happened)).switch ≡ m.lan.switch → (f.fate ≡ Fate.Pass → ComeIn m packets n) → ((after : ℕ) → f.fate ≡ Fate.Lost after → GoDown m us leads n) →
         AreBegun ports many led es → AreBegun ports many (IsLed.on fs missed as' f us led frame) (es ++ (events_of m.lan.happened ++ events_of n.lan.happened)) }
+    // So it is over a serving.
+    ensures served_forwarded { (lens : ℕ → Lens) (recover retry missed : ℕ) (ports : List (Option ℕ)) (many : ℕ) (first ws : List Serves) (fs : List Exchanged) (led : IsServedLed lens recover retry first fs missed ws) (es : List SwitchEvent) (k port : ℕ) →
+        IsOwn ports k port → port < many → AreServedBegun ports many led es → (left : List (ArrayVec ℕ)) × (forwarded_to port (switched many es).forwards ≡ served_packets led k ++ left) }
+    ensures served_goes_on { (lens : ℕ → Lens) (recover retry missed : ℕ) (ports : List (Option ℕ)) (many : ℕ) (first ws : List Serves) (fs : List Exchanged) (led : IsServedLed lens recover retry first fs missed ws) (f : Exchanged) (vs : List ServedTurn) (frame : IsServedFrame lens (length fs) f.sent ws vs) (m n : MasterNode) (packets : ℕ → List (List ℕ)) (leads : List Leads) (es : List SwitchEvent) →
+        m.lan.ports.items ≡ ports → PacketsBegin (switched many es).switch (map run_turn vs) m.lan → (switched many (es ++ events_of m.lan.happened)).switch ≡ m.lan.switch → (f.fate ≡ Fate.Pass → ComeIn m packets n) → ((after : ℕ) → f.fate ≡ Fate.Lost after → GoDown m (map run_turn vs) leads n) →
+        AreServedBegun ports many led es → AreServedBegun ports many (IsServedLed.on fs missed ws f vs led frame) (es ++ (events_of m.lan.happened ++ events_of n.lan.happened)) }
 {}
 
 /// WHERE EACH EVENT HAS THE NUMBER OF ITS MOMENT, frame by frame (the frames sent before the one that is made, and one more behind its return or its loss), over

@@ -1,2 +1,3 @@
 pub mod Speakers
 pub mod Fair
+pub mod Any

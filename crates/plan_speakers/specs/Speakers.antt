@@ -35,6 +35,10 @@ naming_of p = record { speech = Spoken.hand_speech (areas_of p); name = named_wa
 abbrev pub speaker : Profile → Speaker (InState Server) Body OwnService Reply (Station Core) Spoken.Asked
 speaker p = record { exchange = product_whole parts p; core = λ v. v.inner.app; states = whole_states; calm = is_calm; fair = is_fair; naming = naming_of p }
 
+-- THE SAME WITH ANY MAILS passed on: of each is known what it says, of none with how many it is answered
+abbrev pub any_speaker : Profile → Speaker (InState Server) Body OwnService Reply (Station Core) Spoken.Asked
+any_speaker p = record (speaker p) { calm = λ v. true; fair = λ m. true }
+
 -- a service by the master's name for it
 abbrev pub wanted : Spoken.Asked → Wanted
 wanted (Spoken.sdo q) = Asked.Script (Protocol.CoE, q)

@@ -19,7 +19,7 @@ ghost use Rattle.slave_parts.specs.Parts.{Server};
 ghost use Rattle.state_exchange.specs.Families.{InState};
 ghost use Rattle.state_exchange.specs.Stated.{IsStated};
 ghost use Rattle.tagged_epochs.specs.Epochs.{IsSpeaker, IsRun};
-ghost use Rattle.plan_speakers.specs.Speakers.{speaker, spoken, spoken_states, table_of, processor_of, seer_of, cleared_whole};
+ghost use Rattle.plan_speakers.specs.Speakers.{any_speaker, speaker, spoken, spoken_states, table_of, processor_of, seer_of, cleared_whole};
 
 /// A SLAVE OF A PLAN AND ITS MASTER keep the laws of both: the server owes those of its services and of its AL state in whatever state it is, with fair mails
 /// among them, gives replies first, of which the last tells that it is; and the master speaks as the clients of the slave's protocols do.
@@ -27,8 +27,16 @@ pub fn speaker_law()
     ensures { (p : Profile) → IsProfile p → IsSpeaker (speaker p) }
 {
     slave_served::parts_served::parts_are_served();
-    few_replies::whole_counts::parts_tell();
+    few_replies::whole_counts::passed_law();
     last_told::parts_last_told();
+}
+
+/// SO THEY DO WITH ANY MAILS, fair or not; the node runs the same server then.
+pub fn any_law()
+    ensures speaks { (p : Profile) → IsProfile p → IsSpeaker (any_speaker p) }
+    ensures runs { (p : Profile) (boot : Bool) (station : ℕ) → IsRun (any_speaker p) (spoken p) (processor_of boot) (seer_of p boot) (table_of boot station) }
+{
+    speaker_law();
 }
 
 /// Its node runs that server, in each AL state by its own table, and a return to Init forgets all unfinished transfers.

@@ -15,7 +15,7 @@ ghost use Rattle.plan_ring.specs.Asked.{asked};
 ghost use Rattle.plan_ring.specs.Lives.{IsKnown};
 ghost use Rattle.plan_ring.specs.Round.{ring_of, AllRound};
 ghost use Rattle.run_frames.specs.Clocks.{Clocked};
-ghost use Rattle.run_frames.specs.Fates.{AreFated, gained_in};
+ghost use Rattle.run_frames.specs.Fates.{AreFated, gained_in, lost_of};
 ghost use Rattle.run_frames.specs.Led.{IsTallied};
 ghost use Rattle.run_frames.specs.Runs.{Progress};
 ghost use Rattle.run_work.specs.Bounds.{IsPlanRun, bound_with};
@@ -78,9 +78,10 @@ pub fn switched_law()
     script_runs::script_work::script_law();
 }
 
-/// FRAMES THAT WENT ROUND THE RING OF A PLAN have the fates of the plan's schedule.
+/// FRAMES THAT WENT ROUND THE RING OF A PLAN have the fates of the plan's schedule, and no more were lost than that has.
 pub fn fates_law()
-    ensures { (plan : Scenario) (fs : List Exchanged) → AllRound (ring_of plan) fs → AreFated plan.lose 0 fs }
+    ensures fated { (plan : Scenario) (fs : List Exchanged) → AllRound (ring_of plan) fs → AreFated plan.lose 0 fs }
+    ensures few { (plan : Scenario) (fs : List Exchanged) → AllRound (ring_of plan) fs → lost_of fs ≤ length plan.lose }
 {}
 
 /// WHAT CAME BACK OF A RUN'S FRAMES, which went round the ring of its plan, is the return of what was sent, and each slave answered by it what awaits a

@@ -45,7 +45,7 @@ pub fn served_law()
 {
     few_replies::whole_counts::passed_law();
     slave_served::parts_served::parts_are_served();
-    crate::served_work();
+    crate::served_work::served_work();
 }
 
 /// A worked row: a datagram that is no request is fair.

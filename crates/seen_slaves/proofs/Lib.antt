@@ -1,3 +1,3 @@
-mod Comes
-mod Links
-mod Left
+pub mod Comes
+pub mod Links
+pub mod Left

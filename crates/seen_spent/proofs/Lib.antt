@@ -1,3 +1,5 @@
-mod Spent
-mod Led
-mod Told
+pub mod Fits
+pub mod Led
+pub mod Speaks
+pub mod Spent
+pub mod Told

@@ -28,7 +28,7 @@ map_none : {X Y : Type 0} (f : X → Y) (xs : List X) → map f xs ≡ [] → xs
 map_none f [] e = refl
 map_none f (x ∷ xs) e = absurd (let no : f x ∷ map f xs ≡ [] = e in cc)
 
-of_row : {N Q R : Type 0} (K : Row N Q R → Type 0) (now : Option (Row N Q R)) (r : Row N Q R) → OfRow K now → now ≡ Some r → K r
+pub of_row : {N Q R : Type 0} (K : Row N Q R → Type 0) (now : Option (Row N Q R)) (r : Row N Q R) → OfRow K now → now ≡ Some r → K r
 of_row K now r k e = subst (λ z. OfRow K z) e k
 
 some_same : {X Y : Type 0} (f : X → Y) (a : Option X) → is_some (option_map f a) ≡ is_some a

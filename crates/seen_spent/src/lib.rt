@@ -2,7 +2,7 @@
 //! a reply. Definitions and laws, no running code: the functions here do nothing, and their contracts state the laws.
 #![tactic(auto)]
 
-ghost use Rattle.std.specs.Prelude.{◌≡◌, ℕ, Bool, true, false, Some, None, List, []};
+ghost use Rattle.std.specs.Prelude.{◌≡◌, ℕ, Bool, true, false, Option, Some, None, List, []};
 ghost use Rattle.never_waits.specs.Moments.{IsFree, NowAnswered, WasHeard};
 ghost use Rattle.exchange_model.specs.Exchange.{Exchange, Speech, IsLawful};
 ghost use Rattle.exchange_model.specs.Rows.{Row, left};
@@ -12,13 +12,16 @@ ghost use Rattle.never_waits.specs.Waits.{NeverWaits};
 ghost use Rattle.passed_whole.specs.Erased.{OfRow, PlanOne, side_seen};
 ghost use Rattle.passed_whole.specs.Led.{IsLed};
 ghost use Rattle.passed_whole.specs.Heard.{EraPasses};
+ghost use Rattle.seen_spent.specs.Fits.{FitsSo};
 ghost use Rattle.seen_spent.specs.Spent.{IsEndTold, NothingSeen, SpeakOne};
 ghost use Rattle.segment_model.specs.Ends.{Passing};
 ghost use Rattle.segment_model.specs.Record.{Frame};
 ghost use Rattle.segment_model.specs.Slaves.{Processor, Registers, Slave};
+ghost use Rattle.serving_model.specs.Tagged.{Rowed};
 ghost use Rattle.spent_rows.specs.Last.{LastPasses};
 ghost use Rattle.state_exchange.specs.Stated.{Stated, IsStated};
 ghost use Rattle.state_model.specs.States.{Table};
+ghost use Rattle.tagged_epochs.specs.Epochs.{IsRun, IsSeen, IsSpeaker, Speaker};
 ghost use Rattle.life_counts.specs.Seen.{era_seen};
 
 /// WHERE NOTHING IS LEFT of a slave as another sees it, its newest service is over for the other.
@@ -46,4 +49,11 @@ pub fn told_seen<N, M, P, Q, S, R, V, A>()
     ensures { (f : N → M) (g : P → Q) (h : S → R) (x : Exchange V A N P S) (s : Stated V A P) (y : Speech M Q R) (acknowledged : Q → Bool) (processor : Processor V) (table : ℕ → Table) (spot : Spot) (e : Era N P S) (opened last : ℕ) (fs : List (Frame N)) (v : V) (r : Registers) (n : Slave V N) →
         IsLawful x → IsStated x s → EraIs x s processor table spot e opened last fs v r n → OfRow (λ (t : Row N P S). PlanOne f g h x.speech y t.service t.heard) e.side.now → OfRow (λ (t : Row N P S). acknowledged (g t.service) ≡ s.acknowledged t.service) e.side.now →
         e.account.hand ≡ None → (z : Row M Q R) → (side_seen f g h e.side).now ≡ Some z → (answer : R × ℕ) → z.answer ≡ Some answer → acknowledged z.service ≡ false → (left y z ≡ []) × (e.side.fresh ≡ false) }
+{}
+
+/// SO AN OPEN SLAVE IS TO ITS MASTER, whose epoch of it is one that is seen with what is meant by its mails, by whatever exchange its node runs.
+pub fn fits_law<V, A, M, Q, R, C, T>()
+    ensures { (w : Speaker V M Q R C T) → IsSpeaker w → NeverWaits w.exchange → (u : Exchange V A M T (Option R)) (processor : Processor V) (seer : Processor (Rowed V M Q)) (table : ℕ → Table) (spot : Spot) → IsRun w u processor seer (table spot.station) →
+        (opened : ℕ) (v : V) (r : Registers) (fs : List (Frame M)) (counts : Bool) (e : Era M T (Option R)) (n : Slave V M) → IsSeen w seer table spot opened v r fs counts e n →
+        FitsSo u processor (table spot.station) w.naming.speech w.naming.acknowledged w.naming.more w.naming.passed e n }
 {}

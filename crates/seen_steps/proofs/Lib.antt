@@ -1,3 +1,3 @@
-mod Stands
-mod Alone
-mod Rows
+pub mod Stands
+pub mod Alone
+pub mod Rows

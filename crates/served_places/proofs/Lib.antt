@@ -9,7 +9,7 @@ pub mod News
 pub mod Next
 pub mod Places
 pub mod Runs
-mod Slaves
+pub mod Slaves
 pub mod Stay
 mod Toured
 pub mod Unread

@@ -34,7 +34,7 @@ use Rattle.served_rings.specs.Rings.{AllServedAt, AreServedLived, ServedMember, 
 use Rattle.served_rings.proofs.All as Every
 
 -- A MAIL THAT IS ASKED changes no life
-asked_members : (lens : ℕ → Lens) (at place : ℕ) (k : Keyed) (ss : List SlaveSpec) (ws : List Serves) (ns : List (Node Serving)) → served_members lens at ss (asked_at place k ws) ns ≡ served_members lens at ss ws ns
+pub asked_members : (lens : ℕ → Lens) (at place : ℕ) (k : Keyed) (ss : List SlaveSpec) (ws : List Serves) (ns : List (Node Serving)) → served_members lens at ss (asked_at place k ws) ns ≡ served_members lens at ss ws ns
 asked_members lens at place k [] ws ns = refl
 asked_members lens at place k (s ∷ ss) [] ns = refl
 asked_members lens at zero k (s ∷ ss) (w ∷ ws) [] = refl

@@ -58,17 +58,17 @@ module _ (plan : Scenario) (place : ℕ) (s : SlaveSpec) (w : Serves) (v : Serve
   abbrev pub turn : Turn Asked
   turn = record { pick = y.next.pick; share = v.turn.share; news = news_of s.station w.kept w.counts (frame_at (lens_of plan.slaves) ring f.sent) }
 
-  spot_is : v.turn.lived.spot ≡ spot_of place s
+  pub spot_is : v.turn.lived.spot ≡ spot_of place s
   spot_is = y.next.spot ∙ x.spot
 
   -- what is spoken with the slave
   spoken_at : (spot : Spot) → spot ≡ spot_of place s → m.services.exchange.speech ≡ speech_at lens spot
   spoken_at spot is = (λ j. hand_speech (record { out = sym out j; back = sym back j })) ∙ ap (speech_at lens) (sym is)
 
-  next_same : next_life is_followed is_passed made m.services m.life turn ≡ v.turn.lived.life
+  pub next_same : next_life is_followed is_passed made m.services m.life turn ≡ v.turn.lived.life
   next_same = (λ j. life_next (spoken_at w.lead.lived.spot x.spot j) acknowledged is_followed is_passed made w.lead.lived.life w.lead.lived.life.stand y.next.pick) ∙ sym y.next.life
 
-  stand_is : v.turn.lived.life.stand ≡ w.lead.lived.life.stand
+  pub stand_is : v.turn.lived.life.stand ≡ w.lead.lived.life.stand
   stand_is = ap (λ (l : Life Body Asked Reply). l.stand) (sym next_same) ∙ Ring.next_stand is_followed is_passed made m.services m.life turn
 
   pub turns_for : All (Boots s.boot) w.lead.script → TurnsFor is_followed is_passed lens made ds m turn

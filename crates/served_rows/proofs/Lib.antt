@@ -1,8 +1,8 @@
-mod Stands
-mod Heard
-mod Returned
-mod Sending
-mod Told
-mod Rows
-mod Said
-mod Turns
+pub mod Stands
+pub mod Heard
+pub mod Returned
+pub mod Sending
+pub mod Told
+pub mod Rows
+pub mod Said
+pub mod Turns

@@ -213,24 +213,24 @@ tells_same station last holding ds es s t =
 
 module _ (x : Speech Body Asked Reply) (acknowledged : Asked → Bool) (more : Body → Bool) (passed : Asked → Bool) (frame : ℕ) (kept : Kept) (lens : ℕ → Lens) (spot : Spot) (some : nat_le 1 spot.station ≡ true) (octets : List ℕ) (l : Life Body Asked Reply)
     (k : ToldAs kept l.era.passing l.era.side) (asks : AsksOpen spot.station l.era (seen lens octets)) where
-  abbrev d : Sides
-  d = l.era.side
+  abbrev mine : Sides
+  mine = l.era.side
 
   tells : Tells kept.told l.era.side.halves.out.holding (writes spot.station (grams (seen lens octets))) (all_told spot.station kept.told (grams (seen lens octets))) (told_behind spot.station kept.told (grams (seen lens octets)))
-  tells = tells_same spot.station kept.told d.halves.out.holding (own spot.station (seen lens octets)) (seen lens octets) (own_told spot.station kept.told (seen lens octets) (seen_aims lens octets spot.station some))
-      (frame_tells spot.station kept.told d.halves (grams (own spot.station (seen lens octets))) asks.halves)
+  tells = tells_same spot.station kept.told mine.halves.out.holding (own spot.station (seen lens octets)) (seen lens octets) (own_told spot.station kept.told (seen lens octets) (seen_aims lens octets spot.station some))
+      (frame_tells spot.station kept.told mine.halves (grams (own spot.station (seen lens octets))) asks.halves)
 
   -- BEHIND A LOST FRAME
   pub lost_told : (let e = era_lost x acknowledged more passed spot.station (news_lost spot.station kept (seen lens octets)) (seen lens octets) l.era in ToldAs (kept_after spot.station kept (lost_so (seen lens octets))) e.passing e.side)
   lost_told =
-      own_lost x (λ e. ToldAs (kept_after spot.station kept (lost_so (seen lens octets))) (passes x acknowledged more passed l.era.passing (news_lost spot.station kept (seen lens octets))) e) spot.station (seen lens octets) d
+      own_lost x (λ e. ToldAs (kept_after spot.station kept (lost_so (seen lens octets))) (passes x acknowledged more passed l.era.passing (news_lost spot.station kept (seen lens octets))) e) spot.station (seen lens octets) mine
       (seen_aims lens octets spot.station some) (lost_side x acknowledged more passed frame kept spot.station (seen lens octets) l k tells)
 
   -- AND BEHIND ONE THAT CAME BACK
   pub back_told : (came : List ℕ) (counts : Bool) → Returns (seen lens octets) (seen lens came) →
       (let e = era_back x acknowledged more passed spot.station frame (news_back spot.station kept counts (seen lens came)) (seen lens came) l.era in ToldAs (kept_after spot.station kept (came_so (seen lens came))) e.passing e.side)
   back_told came counts r =
-      own_back x (λ e a. ToldAs (kept_after spot.station kept (came_so (seen lens came))) (passes x acknowledged more passed l.era.passing (news_back spot.station kept counts (seen lens came))) e) frame spot.station (seen lens came) d new_account
+      own_back x (λ e a. ToldAs (kept_after spot.station kept (came_so (seen lens came))) (passes x acknowledged more passed l.era.passing (news_back spot.station kept counts (seen lens came))) e) frame spot.station (seen lens came) mine new_account
       (seen_aims lens came spot.station some)
       (back_side x acknowledged more passed frame kept spot.station (seen lens came) l k
-      (tells_same spot.station kept.told d.halves.out.holding (seen lens octets) (seen lens came) (returned_told spot.station kept.told (seen lens octets) (seen lens came) r) tells) counts)
+      (tells_same spot.station kept.told mine.halves.out.holding (seen lens octets) (seen lens came) (returned_told spot.station kept.told (seen lens octets) (seen lens came) r) tells) counts)

@@ -5,3 +5,7 @@ mod Counted
 mod Stays
 mod Walk
 mod Stations
+mod Seats
+mod Meets
+mod Clocks
+mod Answered

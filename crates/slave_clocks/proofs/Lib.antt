@@ -9,7 +9,7 @@ mod Open
 pub mod OpenEach
 pub mod Opened
 pub mod Opens
-mod Pairs
+pub mod Pairs
 pub mod Repairs
 mod Runs
 pub mod Turns

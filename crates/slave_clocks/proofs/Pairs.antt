@@ -24,6 +24,7 @@ use Rattle.segment_plan.specs.declared.slave.SlaveSpec.{SlaveSpec}
 use Rattle.slave_clocks.specs.Stands.{StandsTo}
 use Rattle.slave_clocks.proofs.Opened.{nothing_awaited}
 use Rattle.slave_clocks.proofs.Turns.{given}
+use Rattle.whole_ring.specs.Members.{Member}
 use Rattle.whole_ring.specs.Turning.{given_up}
 
 abbrev pub Slave : Type 0
@@ -92,14 +93,14 @@ pairs_on plan made place (spec ∷ ss) (c ∷ cs) (d ∷ ds) (m ∷ ms) (n ∷ n
     )
 
 -- a give-up answers for nothing
-pub given_all : (recover made : ℕ) (bs : List Bool) (ms ns : List PlanMember) (carried : List Bool) → AllStand (clocks_on made bs ms ns) ns → AllStand (clocks_on made bs ms (given_up recover made ns carried)) (given_up recover made ns carried)
+pub given_all : {S V A Q R : Type 0} (recover made : ℕ) (bs : List Bool) (ms ns : List (Member S V A Q R)) (carried : List Bool) → AllStand (clocks_on made bs ms ns) ns → AllStand (clocks_on made bs ms (given_up recover made ns carried)) (given_up recover made ns carried)
 given_all recover made bs ms [] carried k = k
 given_all recover made bs ms (n ∷ ns) [] k = k
 given_all recover made [] ms (n ∷ ns) (g ∷ gs) k = absurd k
 given_all recover made (b ∷ bs) [] (n ∷ ns) (g ∷ gs) k = absurd k
-given_all recover made (b ∷ bs) (m ∷ ms) (n ∷ ns) (g ∷ gs) k = (one g, given_all recover made bs ms ns gs k.1)
+given_all {S} {V} {A} {Q} {R} recover made (b ∷ bs) (m ∷ ms) (n ∷ ns) (g ∷ gs) k = (one g, given_all recover made bs ms ns gs k.1)
   where
-    one : (g : Bool) → (let o : PlanMember = if g then record n { life = gives_up recover n.spot made n.life } else n in StandsTo (stepped_behind m.pace made (is_same (way_of 1 1 m.life) (way_of 1 1 o.life)) b) o.life o.life.stand o.node.registers)
+    one : (g : Bool) → (let o : Member S V A Q R = if g then record n { life = gives_up recover n.spot made n.life } else n in StandsTo (stepped_behind m.pace made (is_same (way_of 1 1 m.life) (way_of 1 1 o.life)) b) o.life o.life.stand o.node.registers)
     one true = given recover made n.spot n.life _ n.node.registers
     one false = k.0
 

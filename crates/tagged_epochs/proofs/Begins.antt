@@ -124,6 +124,10 @@ module _ {V M Q R T : Type 0} (x : Exchange V V M Q R) (calm : V → Bool) (fair
   hands_of None k = tt
   hands_of (Some r) k = hands x calm fair s.acknowledged n speaks.emission r.service k.known
 
+  pub contents_of : (now : Option (Row (Tagged M Q) (Asked M Q) (Option R))) → NowKnown now → OfRow (λ (r : Row (Tagged M Q) (Asked M Q) (Option R)). ByContents x.speech.emission r.heard) now
+  contents_of None k = tt
+  contents_of (Some r) k = k.by
+
   abbrev pub LastsOf : Option (Row (Tagged M Q) (Asked M Q) (Option R)) → Type 0
   LastsOf now = OfRow (λ r. n.acknowledged (n.name r.service) ≡ asked_acknowledged s.acknowledged r.service) now
 

@@ -19,7 +19,7 @@ use Rattle.state_model.specs.States.{Table}
 use Rattle.task_model.specs.Accounts.{Account, Duty, Started, is_free, is_acknowledged, starts, state_begins, account_begins}
 use Rattle.task_model.specs.Tasks.{IsTaskPlan}
 use Rattle.tagged_epochs.specs.Epochs.{Speaker, IsSpeaker, IsRun, IsSeen, AllFair, between, newest_of, seeing, seeing_states}
-use Rattle.tagged_epochs.proofs.Begins.{NowKnown, hands_of, lasts_of, plans_of}
+use Rattle.tagged_epochs.proofs.Begins.{NowKnown, contents_of, hands_of, lasts_of, plans_of}
 use Rattle.tagged_epochs.proofs.Clients.{MarksSame, ends}
 use Rattle.tagged_epochs.proofs.Eras.{era_knows}
 use Rattle.tagged_epochs.proofs.Marks.{IsPassedNow, PassedNow}
@@ -141,5 +141,7 @@ module _ {V M Q R C T A : Type 0} (w : Speaker V M Q R C T) (k : IsSpeaker w) (l
           plans = plans_of w.exchange w.calm w.fair w.states w.naming k.speaks i.era.side i.era.side.now i.known;
           hands = hands_of w.exchange w.calm w.fair w.states w.naming k.speaks i.era.side.now i.known;
           lasts = lasts_of w.exchange w.calm w.fair w.states w.naming k.speaks i.era.side.now i.known;
+          contents = contents_of w.exchange w.calm w.fair w.states w.naming k.speaks i.era.side.now i.known;
+          answered = i.answered;
           ends = ends_seen fs counts e n i;
         }

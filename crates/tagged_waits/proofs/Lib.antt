@@ -1,1 +1,2 @@
-mod Never
+pub mod Never
+pub mod Served
