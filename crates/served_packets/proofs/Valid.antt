@@ -37,9 +37,9 @@ era_valid {V} {A} {M} {Q} {R} w =
     (λ t begun is fs seat a h. elim h.carried.rows [
       | inl u ↦ subst (λ ss. EachOf (λ q. service_valid w.exchange.speech q ≡ true) (services_in ss)) (sym u.started) tt
       | inr r ↦ (
-        let both = with_states w.exchange w.states t in
-        let past = r.front ++ r.last in
-        let all = valid_last both past r.now (settled_valid both _ past r.moment.fits.settled) r.moment.fits.valid in
-        subst (EachOf (λ q. service_valid w.exchange.speech q ≡ true)) (services_same (past ++ r.now ∷ []) ∙ ap services_in r.started) all
-      )
+          let both = with_states w.exchange w.states t in
+          let past = r.front ++ r.last in
+          let all = valid_last both past r.now (settled_valid both _ past r.moment.fits.settled) r.moment.fits.valid in
+          subst (EachOf (λ q. service_valid w.exchange.speech q ≡ true)) (services_same (past ++ r.now ∷ []) ∙ ap services_in r.started) all
+          )
     ]))
