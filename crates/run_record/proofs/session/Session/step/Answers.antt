@@ -136,6 +136,15 @@ returns-clause-ok c =
       },
       serving_on _ _ _ c.next.new.self f c.next.result c.self.view_is c.next.ensures.idle c.next.ensures.services (λ lens recover retry missed made vs under back. c.tell.ensures.served lens recover retry missed made vs (exchanged f) refl refl under back)
           (λ lens recover as' h. c.tell.ensures.toured lens recover as' h)
+          (record {
+            joins = c.next.ensures.joins;
+            making = c.next.ensures.made;
+            makes = c.next.ensures.happened;
+            tells = c.tell.ensures.happened;
+            joined = λ lens recover retry missed made vs js under back h. c.tell.ensures.joins lens recover retry missed made vs js (exchanged f) refl refl under back h;
+            arrivals = λ pass lens recover us js way back h. c.tell.ensures.arrivals pass lens recover c.next.new.into.items us js way back h;
+            leaves = λ after lost lens recover retry missed made vs under. c.tell.ensures.leaves after lost lens recover retry missed made vs (exchanged f) refl under;
+          })
           (c.tell.ensures.whole ∙ ap (λ (es : List Event). es ++ events_in c.tell.new.master) c.next.ensures.whole.1) (c.tell.ensures.told c.next.ensures.few)
           (record { fate = c.exchange-fate.ensures.fate; back = c.exchange-fate.ensures.back }) (let n = c.self.invariant.0 in let b = c.self.invariant.1 in let most = c.self.invariant.2 in omega (arith, n, b, most))
           (c.note_behind.ensures.slaves.asked ∙ c.note_before.ensures.slaves.asked) refl
