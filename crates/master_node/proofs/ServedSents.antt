@@ -99,6 +99,11 @@ passing_same lens recover made from ws left m n octets k f = record {
   numbered = subst (λ z. AllBoth (λ w p. IsNumbered (length w.asked) p) ws z.items) (sym k.posts) f.numbered;
   packets = subst (λ z. HasBegun from.switch left f.begun (map run_lead ws) z) (sym k.lan) f.packets;
   listing = listed_on (served_tells ws) from.forwards left f.begun (map run_lead ws) m n k.list k.posts f.listing;
+  starts = record {
+    visited = f.starts.visited;
+    each = subst (λ z. AllFrom (λ i w s. HasStarted lens z f.starts.visited i (begun_for f.begun (map run_lead ws) i) w.lead w.waits s) 0 ws n.tour.stops.items) (sym k.lan)
+        (subst (λ z. AllFrom (λ i w s. HasStarted lens m.lan f.starts.visited i (begun_for f.begun (map run_lead ws) i) w.lead w.waits s) 0 ws z.items) (sym k.stops) f.starts.each);
+  };
 }
 
 -- the master of a serving shows the same where its tour, its posts and the frame's number are the same

@@ -212,6 +212,12 @@ module _ {G : Ghosts InHand} (lens : ℕ → Lens) (recover made : ℕ) (coming 
   abbrev pub now : (ℕ → Option (Service Asked)) → ℕ → Option (Service Asked)
   now begun = begun_at begun here what
 
+  pub what_seen : (t : Stop InHand G) → slice_get s2 place ≡ Some t → wish_begun result (wish_of coming) (ready_of t.side.hand.laying) ≡ what
+  what_seen t e = ap came_of (sym e)
+
+  pub now_here : (begun : ℕ → Option (Service Asked)) (t u : Stop InHand G) (spot : ℕ) → slice_get s2 place ≡ Some t → u.place ≡ t.place → u.place ≡ spot → now begun spot ≡ wish_begun result (wish_of coming) (ready_of t.side.hand.laying)
+  now_here begun t u spot is p q = begun_here begun here what spot (sym q ∙ p ∙ ap place_of (sym is)) ∙ ap came_of is
+
   some_comes : (begun : ℕ → Option (Service Asked)) (o : Option (Stop InHand G)) → IfSome o (λ s. ComesAt begun (begun_at begun (place_of o) (came_of o)) s.place (wish_begun result (wish_of coming) (ready_of s.side.hand.laying)))
   some_comes begun None = tt
   some_comes begun (Some s) = begun_comes begun s.place (came_of (Some s))
@@ -240,14 +246,18 @@ module _ {G : Ghosts InHand} (lens : ℕ → Lens) (recover made : ℕ) (coming 
   pub frame : (index : ℕ) (begun : ℕ → Option (Service Asked)) (left next : List ℕ) (as' : List (Lived Asked Reply)) (octets octets' : List ℕ) (n n2 n3 : ℕ) → n2 ≡ n →
       FrameMade (λ ds i a s. StopFills lens recover made begun index left ds i a s) octets n as' s1 →
       (FrameMade (λ ds i a s. StopFills lens recover made begun index left ds i a s) octets n2 as' s2 → FrameMade (λ ds i a s. StopFills lens recover made (now begun) index next ds i a s) octets' n3 as' s3) →
-      FrameMade (λ ds i a s. StopFills lens recover made (now begun) index next ds i a s) octets' n3 as' s4
+      FrameMade (λ ds i a s. StopFills lens recover made (now begun) index next ds i a s) octets' n3 as' s3
   frame index begun left next as' octets octets' n n2 n3 e f v =
-      frame_each (λ ds i a s. StopFills lens recover made (now begun) index next ds i a s) (λ s t. SomeKept s t) (λ ds i a s. StopFills lens recover made (now begun) index next ds i a s)
-      (λ ds i a s t p k. fills_kept lens recover made (now begun) index k.number next ds i a s t k.kept p) octets' n3 as' s3 s4
-      (v (frame_each (λ ds i a s. StopFills lens recover made begun index left ds i a s) (λ s t. StopStays s t) (λ ds i a s. StopFills lens recover made begun index left ds i a s)
+      v (frame_each (λ ds i a s. StopFills lens recover made begun index left ds i a s) (λ s t. StopStays s t) (λ ds i a s. StopFills lens recover made begun index left ds i a s)
       (λ ds i a s t p k. fills_kept lens recover made begun index s.side.hand.laying.number left ds i a s t k p) octets n2 as' s1 s2 (subst (λ z. FrameMade (λ ds i a s. StopFills lens recover made begun index left ds i a s) octets z as' s1) (sym e) f)
-      (steps_each (λ s t. Readied coming got s t) (λ s t. StopStays s t) place s1 s2 (λ s. stop_same s) (λ s t k. k.stays) readied)))
-      kept
+      (steps_each (λ s t. Readied coming got s t) (λ s t. StopStays s t) place s1 s2 (λ s. stop_same s) (λ s t k. k.stays) readied))
+
+  -- and behind it what came into hand is passed by
+  pub frame_kept : (index : ℕ) (begun : ℕ → Option (Service Asked)) (next : List ℕ) (as' : List (Lived Asked Reply)) (octets : List ℕ) (n : ℕ) →
+      FrameMade (λ ds i a s. StopFills lens recover made (now begun) index next ds i a s) octets n as' s3 → FrameMade (λ ds i a s. StopFills lens recover made (now begun) index next ds i a s) octets n as' s4
+  frame_kept index begun next as' octets n f =
+      frame_each (λ ds i a s. StopFills lens recover made (now begun) index next ds i a s) (λ s t. SomeKept s t) (λ ds i a s. StopFills lens recover made (now begun) index next ds i a s)
+      (λ ds i a s t p k. fills_kept lens recover made (now begun) index k.number next ds i a s t k.kept p) octets n as' s3 s4 f kept
 
   -- THE SLAVE GOES ON
   pub all_go : StepsAt (λ s v. Goes lens recover made coming result got (slice_get s2 place) s v) place s1 s4

@@ -59,3 +59,4 @@ pub mod Entering
 pub mod Starts
 pub mod Recalled
 pub mod Backtold
+pub mod ServedEager

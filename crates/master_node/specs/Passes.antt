@@ -34,6 +34,7 @@ use Rattle.master_node.specs.Listing.{Before, HasListed}
 use Rattle.master_node.specs.Numbered.{IsNumbered}
 use Rattle.master_node.specs.Serving.{MayPass, mails_in, run_lead}
 use Rattle.master_node.specs.Shows.{ComeAgain, is_live_lead, lived_of}
+use Rattle.master_node.specs.Starts.{HaveStarted}
 use Rattle.master_node.specs.declared.coming.Coming.{Coming}
 use Rattle.master_node.specs.declared.node.MasterNode.{MasterNode}
 
@@ -52,6 +53,14 @@ MailWaits ks (Some Coming.Packet) = ⊤
 MailWaits ks (Some Coming.Mail) = ks ≡ [] → ⊥
 MailWaits ks (Some Coming.Script) = ⊤
 MailWaits ks (Some (Coming.State target)) = ⊤
+
+-- the script goes on only where none waits
+abbrev pub ScriptLast : List Keyed → Option Coming → Type 0
+ScriptLast ks None = ⊤
+ScriptLast ks (Some Coming.Packet) = ⊤
+ScriptLast ks (Some Coming.Mail) = ⊤
+ScriptLast ks (Some Coming.Script) = ks ≡ []
+ScriptLast ks (Some (Coming.State target)) = ks ≡ []
 
 -- the mails that wait for the slave at a place; none where nothing stands
 abbrev pub waits_in : List (List Keyed) → ℕ → List Keyed
@@ -127,6 +136,7 @@ module _ (lens : ℕ → Lens) where
       pub numbered : AllBoth (λ w p. IsNumbered (length w.asked) p) ws m.posts.items
       pub packets : HasBegun from.switch left begun (map run_lead ws) m.lan
       pub listing : HasListed (served_tells ws) from.forwards left begun (map run_lead ws) m
+      pub starts : HaveStarted run_lead (λ w. w.waits) lens m.lan begun (map run_lead ws) ws m.tour.stops.items
 
 -- BEFORE THE FIRST VISIT no datagram stands in the frame, some slave is live, and the first that is visited is
 pub record BeginsFrame (m : MasterNode) (octets : List ℕ) (as' : List Leads) : Type 0 where
