@@ -31,7 +31,7 @@ module _ {S V A Q R : Type 0} (w : Behind S V A Q R) (is : IsBehind w) (more : B
   -- the news by a fate, and the counters behind it
   pub record Tells (fate : RingFate) : Type 0 where
     pub news : news_as w.lens spot.station kept counts t fate ≡ news_in spot l.opened fs led (turn_of w more passed spot t pick)
-    pub counted : IsCounted spot l.opened (fs ++ frame_of w.lens t ∷ []) (counts_behind spot.station (steps_at (is_in_pace t.pace t.ring.number)) (own spot.station (seen w.lens (octets_back t))) led)
+    pub counters : IsCounted spot l.opened (fs ++ frame_of w.lens t ∷ []) (counts_behind spot.station (steps_at (is_in_pace t.pace t.ring.number)) (own spot.station (seen w.lens (octets_back t))) led)
         (kept_after spot.station kept (recorded_as w.lens t fate)) (Record.counts_behind spot.station t.pace t.ring.number (recorded_as w.lens t fate).back counts)
 
   tells_by : (fate : Fate) → fate_of t ≡ fate → Tells (fate_seen fate)
@@ -44,7 +44,7 @@ module _ {S V A Q R : Type 0} (w : Behind S V A Q R) (is : IsBehind w) (more : B
       let steps = steps_has (is_in_pace t.pace t.ring.number) in
       record {
         news = news_came spot l.opened fs led kept counts u counted l.before (node_seen w t.node) t.pace t.ring.number sent back came steps;
-        counted = counted_back spot l.opened fs led kept counts u counted l.before (node_seen w t.node) t.pace t.ring.number sent back came steps;
+        counters = counted_back spot l.opened fs led kept counts u counted l.before (node_seen w t.node) t.pace t.ring.number sent back came steps;
       }
   tells_by (Lost after) e_ =
       let u = turn_of w more passed spot t pick in
@@ -53,7 +53,7 @@ module _ {S V A Q R : Type 0} (w : Behind S V A Q R) (is : IsBehind w) (more : B
       let steps = steps_has (is_in_pace t.pace t.ring.number) in
       record {
         news = news_gone spot l.opened fs led kept counts u counted l.before t.pace t.ring.number sent none steps;
-        counted = counted_lost spot l.opened fs led kept counts u counted l.before t.pace t.ring.number sent none steps;
+        counters = counted_lost spot l.opened fs led kept counts u counted l.before t.pace t.ring.number sent none steps;
       }
 
   pub tells : Tells (frame_of w.lens t).fate

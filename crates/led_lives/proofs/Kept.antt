@@ -84,7 +84,7 @@ module _ {S V A Q R : Type 0} (w : Behind S V A Q R) (c : Clearing V A) (p : Pla
         (turn_after w.exchange w.states.acknowledged w.processor more passed spot l.era.opened fs l.led e u) gs (node_behind w.running t) = record {
           led = led;
           era = next;
-          counted = subst (λ k. IsCounted spot k gs led (kept_after spot.station kept rec) (Record.counts_behind spot.station t.pace t.ring.number rec.back counts)) (sym (Lives.on_opened w whole.behind more passed spot from l.led e fs t l.era pick f)) x.counted;
+          counted = subst (λ k. IsCounted spot k gs led (kept_after spot.station kept rec) (Record.counts_behind spot.station t.pace t.ring.number rec.back counts)) (sym (Lives.on_opened w whole.behind more passed spot from l.led e fs t l.era pick f)) x.counters;
         } in
         let same : turn_after w.exchange w.states.acknowledged w.processor more passed spot l.era.opened fs l.led e u ≡ era_behind w more passed spot fs t pick news (frame_of w.lens t).fate e =
         ap (λ (ns : List (News Body)). era_behind w more passed spot fs t pick ns (frame_of w.lens t).fate e) (sym x.news) in

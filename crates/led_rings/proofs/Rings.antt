@@ -24,9 +24,6 @@ use Rattle.led_lives.proofs.Lived as Lived
 use Rattle.led_rings.specs.Rings.{Counters, LedMember, AllLedMembers, AllTold, counters_next, all_counters}
 
 module _ {S V A Q R : Type 0} (lens : ℕ → Lens) (step : Node S → Node S) (fits : Spot → S → Type 0) (more : Body → Bool) (passed : Q → Bool) (fs : List (Frame Body)) (ring : RingState (Node S)) (octets : List ℕ) (gs : List Raw.Datagram) (is_frame : IsFrame octets (chained gs)) where
-  abbrev f : Frame Body
-  f = frame_at lens ring octets
-
   module _ (all : List (Member S V A Q R)) (r : IsRing lens step fits fs ring all) (meet : AllMeet (map seat_of all) (chained gs)) where
     -- ONE OF THEM
     module _ (bs : List (Member S V A Q R)) (m : Member S V A Q R) (cs : List (Member S V A Q R)) (a : Turn Q) (whole : bs ++ m ∷ cs ≡ all) (is : MemberIs lens step fits fs (length bs) m) (x : TurnsFor more passed lens (length fs) gs m a) (k : Counters)
@@ -42,10 +39,10 @@ module _ {S V A Q R : Type 0} (lens : ℕ → Lens) (step : Node S → Node S) (
       news_here : a.news ≡ news_of m.spot.station k.kept k.counts (frame_at m.services.lens ring octets)
       news_here = subst (λ (ls : ℕ → Lens). a.news ≡ news_of m.spot.station k.kept k.counts (frame_at ls ring octets)) (sym is.lens_is) told
 
-      led_on : LedMember more passed (fs ++ f ∷ []) (record m {
-        life = life_by more passed (length fs) f (fate_seen (fate_in ring)) m.services m.spot m.life a;
+      led_on : LedMember more passed (fs ++ frame_at lens ring octets ∷ []) (record m {
+        life = life_by more passed (length fs) (frame_at lens ring octets) (fate_seen (fate_in ring)) m.services m.spot m.life a;
         node = turned m.services.running m.pace (length fs) (met (is_met_at (length bs) (fate_in ring)) m.node (come_to (map node_in bs) (chained gs)));
-      }) (counters_next (length fs) f m k)
+      }) (counters_next (length fs) (frame_at lens ring octets) m k)
       led_on =
           let w = m.services in
           let near = Members.near lens step fits more passed fs ring octets gs is_frame all r meet bs m cs a whole is x in
@@ -60,27 +57,27 @@ module _ {S V A Q R : Type 0} (lens : ℕ → Lens) (step : Node S → Node S) (
           let life_is : Whole.life_by w more passed m.spot fs t a.pick (news_of m.spot.station k.kept k.counts (frame_at w.lens ring octets)) came fate m.life m.life.stand ≡ life_by more passed (length fs) (frame_at w.lens ring octets) fate w m.spot m.life a =
           ap (λ (ns : List (News Body)). Whole.life_by w more passed m.spot fs t a.pick ns came fate m.life m.life.stand) (sym news_here)
           ∙ One.same_life w m.clearing m.plan m.spot is.whole m.first fs t near few m.life is.lived step (fits m.spot) is.serves is.server is.room more passed a gs refl comes asked is.boots x.boots fate in
-          subst (λ (n : Node S). Shown lens (length fs) (life_by more passed (length fs) f (fate_seen (fate_in ring)) w m.spot m.life a) n) (Members.node_is lens step fits more passed fs ring octets gs is_frame all r meet bs m cs a whole is x)
-          (subst (λ (number : ℕ). Shown lens number (life_by more passed (length fs) f (fate_seen (fate_in ring)) w m.spot m.life a) (node_behind w.running t)) r.number
+          subst (λ (n : Node S). Shown lens (length fs) (life_by more passed (length fs) (frame_at lens ring octets) (fate_seen (fate_in ring)) w m.spot m.life a) n) (Members.node_is lens step fits more passed fs ring octets gs is_frame all r meet bs m cs a whole is x)
+          (subst (λ (number : ℕ). Shown lens number (life_by more passed (length fs) (frame_at lens ring octets) (fate_seen (fate_in ring)) w m.spot m.life a) (node_behind w.running t)) r.number
           (subst (λ (ls : ℕ → Lens). Shown ls ring.number (life_by more passed (length fs) (frame_at ls ring octets) (fate_seen (fate_in ring)) w m.spot m.life a) (node_behind w.running t)) is.lens_is
           (subst (λ (l : Life Body Q R). Shown w.lens ring.number l (node_behind w.running t)) life_is here)))
 
-    each_on : (bs cs : List (Member S V A Q R)) (ks : List Counters) (turns : List (Turn Q)) → bs ++ cs ≡ all → AllLived lens step fits fs (length bs) cs → AllTurn more passed lens (length fs) gs cs turns → AllLedMembers more passed fs cs ks → AllTold more passed f cs ks turns →
-        AllLedMembers more passed (fs ++ f ∷ []) (behind_frame more passed (length fs) f (fate_in ring) (length bs) cs turns (come_to (map node_in bs) (chained gs))) (all_counters (length fs) f cs ks)
+    each_on : (bs cs : List (Member S V A Q R)) (ks : List Counters) (turns : List (Turn Q)) → bs ++ cs ≡ all → AllLived lens step fits fs (length bs) cs → AllTurn more passed lens (length fs) gs cs turns → AllLedMembers more passed fs cs ks → AllTold more passed (frame_at lens ring octets) cs ks turns →
+        AllLedMembers more passed (fs ++ frame_at lens ring octets ∷ []) (behind_frame more passed (length fs) (frame_at lens ring octets) (fate_in ring) (length bs) cs turns (come_to (map node_in bs) (chained gs))) (all_counters (length fs) (frame_at lens ring octets) cs ks)
     each_on bs [] [] turns whole lived asks led told = tt
     each_on bs [] (k ∷ ks) turns whole lived asks led told = absurd led
     each_on bs (m ∷ cs) [] turns whole lived asks led told = absurd led
     each_on bs (m ∷ cs) (k ∷ ks) [] whole lived asks led told = absurd asks
     each_on bs (m ∷ cs) (k ∷ ks) (a ∷ turns) whole lived asks led told = (
       led_on bs m cs a whole lived.0 asks.0 k led.0 told.0,
-      subst (λ ds. AllLedMembers more passed (fs ++ f ∷ []) (behind_frame more passed (length fs) f (fate_in ring) (suc (length bs)) cs turns ds) (all_counters (length fs) f cs ks)) (comes_past bs m (chained gs))
-          (subst (λ (n : ℕ). AllLedMembers more passed (fs ++ f ∷ []) (behind_frame more passed (length fs) f (fate_in ring) n cs turns (come_to (map node_in (bs ++ m ∷ [])) (chained gs))) (all_counters (length fs) f cs ks)) (one_more bs m)
+      subst (λ ds. AllLedMembers more passed (fs ++ frame_at lens ring octets ∷ []) (behind_frame more passed (length fs) (frame_at lens ring octets) (fate_in ring) (suc (length bs)) cs turns ds) (all_counters (length fs) (frame_at lens ring octets) cs ks)) (comes_past bs m (chained gs))
+          (subst (λ (n : ℕ). AllLedMembers more passed (fs ++ frame_at lens ring octets ∷ []) (behind_frame more passed (length fs) (frame_at lens ring octets) (fate_in ring) n cs turns (come_to (map node_in (bs ++ m ∷ [])) (chained gs))) (all_counters (length fs) (frame_at lens ring octets) cs ks)) (one_more bs m)
           (each_on (bs ++ m ∷ []) cs ks turns (joined bs m cs ∙ whole) (subst (λ (n : ℕ). AllLived lens step fits fs n cs) (sym (one_more bs m)) lived.1) asks.1 led.1 told.1)),
     )
 
   -- BEHIND THE FRAME
-  pub led_turns : (ms : List (Member S V A Q R)) (ks : List Counters) (turns : List (Turn Q)) → IsRing lens step fits fs ring ms → AllTurn more passed lens (length fs) gs ms turns → AllLedMembers more passed fs ms ks → AllTold more passed f ms ks turns →
-      AllLedMembers more passed (fs ++ f ∷ []) (behind_frame more passed (length fs) f (fate_in ring) 0 ms turns (chained gs)) (all_counters (length fs) f ms ks)
+  pub led_turns : (ms : List (Member S V A Q R)) (ks : List Counters) (turns : List (Turn Q)) → IsRing lens step fits fs ring ms → AllTurn more passed lens (length fs) gs ms turns → AllLedMembers more passed fs ms ks → AllTold more passed (frame_at lens ring octets) ms ks turns →
+      AllLedMembers more passed (fs ++ frame_at lens ring octets ∷ []) (behind_frame more passed (length fs) (frame_at lens ring octets) (fate_in ring) 0 ms turns (chained gs)) (all_counters (length fs) (frame_at lens ring octets) ms ks)
   led_turns ms ks turns r asks led told =
       let meet = all_meet_first lens (map seat_of ms) (chained gs) (let e = many seat_of ms in let n = r.few in omega (arith, e, n)) (seats_distinct ms r.distinct)
       (seats_known lens step fits more passed fs ring octets gs is_frame 0 ms r.each) (all_come lens step fits more passed fs ring octets gs is_frame 0 ms turns (let n = r.few in omega (arith, n)) r.each asks) in

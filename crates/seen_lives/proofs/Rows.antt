@@ -35,7 +35,7 @@ both_true false b e = absurd (let no : false ≡ true = e in cc)
 cut_mails : {M : Type 0} (ts : List M) (p r : List (Act M)) → acts ts ≡ p ++ r → (us : List M) × (vs : List M) × (p ≡ acts us) × (ts ≡ us ++ vs)
 cut_mails ts [] r e = ([], ts, refl, refl)
 cut_mails [] (a ∷ p) r e = absurd (let no : [] ≡ a ∷ (p ++ r) = e in cc)
-cut_mails (t ∷ ts) (a ∷ p) r e =
+cut_mails {M} (t ∷ ts) (a ∷ p) r e =
     let head : Act.Mail t ≡ a = cc in
     let c = cut_mails ts p r (let tail : acts ts ≡ p ++ r = cc in tail) in
     (t ∷ c.0, c.1, ap₂ (λ (z : Act M) (l : List (Act M)). z ∷ l) (sym head) c.2, ap (λ l. t ∷ l) c.3)

@@ -4,38 +4,53 @@ use Rattle.std.specs.Prelude.{⊤}
 use Rattle.idle_slaves.specs.Going.{IsCome}
 use Rattle.idle_slaves.specs.Phases.{idle_states}
 use Rattle.link_model.specs.Link.{Fate, is_met}
+use Rattle.segment_model.specs.Ends.{Outcome}
 use Rattle.segment_model.specs.Record.{News}
 use Rattle.segment_model.specs.Slaves.{Registers}
 use Rattle.state_model.specs.States.{Event, Hand, Phase, States, Table, Turn, begins, carry, happens, looks, phase_behind, reads, returned, run, shown, turned, word_met, word_of, writes}
 
-module _ {N M S R : Type 0} where
-  -- both have a service in hand with this target and phase, or none
-  abbrev SameHand : Option (Hand N) → Option (Hand M) → Type 0
-  SameHand None None = ⊤
-  SameHand (Some a) (Some b) = (a.target ≡ b.target) × (a.phase ≡ b.phase)
-  SameHand _ _ = ⊥
+-- both have a service in hand with this target and phase, or none
+abbrev SameHand : {N M : Type 0} → Option (Hand N) → Option (Hand M) → Type 0
+SameHand None None = ⊤
+SameHand (Some a) (Some b) = (a.target ≡ b.target) × (a.phase ≡ b.phase)
+SameHand _ _ = ⊥
 
+-- it goes on alike, or ends
+abbrev SameTurn : {S R : Type 0} → Turn S → Turn R → Type 0
+SameTurn (Turn.Goes p) (Turn.Goes q) = p ≡ q
+SameTurn (Turn.Ends a) (Turn.Ends b) = ⊤
+SameTurn _ _ = ⊥
+
+shown_same : (S R : Type 0) (target : ℕ) (phase : Phase) (state : ℕ) (refused : Option ℕ) → SameTurn {S = S} {R = R} (shown target phase state refused) (shown target phase state refused)
+shown_same S R target Phase.Ask state refused = refl
+shown_same S R target Phase.Await state None = go (state == target)
+  where
+    go : (b : Bool) → SameTurn {S = S} {R = R} (if b then Turn.Ends Outcome.Reached else Turn.Goes Phase.Await) (if b then Turn.Ends Outcome.Reached else Turn.Goes Phase.Await)
+    go true = tt
+    go false = refl
+shown_same S R target Phase.Await state (Some code) = refl
+shown_same S R target (Phase.Acknowledge state first) now refused = refl
+shown_same S R target (Phase.Recover first) state None = tt
+shown_same S R target (Phase.Recover first) state (Some code) = refl
+
+-- what is in hand
+record InHand {N M : Type 0} (a : Hand N) (k : Option (Hand M)) : Type 0 where
+  hand : Hand M
+  is : k ≡ Some hand
+  target : hand.target ≡ a.target
+  phase : hand.phase ≡ a.phase
+
+in_hand : {N M : Type 0} (a : Hand N) (h : Option (Hand N)) (k : Option (Hand M)) → h ≡ Some a → SameHand h k → InHand a k
+in_hand {N} {M} a h k e s = by k (subst (λ (z : Option (Hand N)). SameHand z k) e s)
+  where
+    by : (k : Option (Hand M)) → SameHand (Some a) k → InHand a k
+    by None s = absurd s
+    by (Some b) s = record { hand = b; is = refl; target = sym s.0; phase = sym s.1 }
+
+module _ {N M S R : Type 0} where
   record Same (w : States N S) (z : States M R) : Type 0 where
     registers : w.registers ≡ z.registers
     hand : SameHand w.hand z.hand
-
-  -- it goes on alike, or ends
-  abbrev SameTurn : Turn S → Turn R → Type 0
-  SameTurn (Turn.Goes p) (Turn.Goes q) = p ≡ q
-  SameTurn (Turn.Ends a) (Turn.Ends b) = ⊤
-  SameTurn _ _ = ⊥
-
-  shown_same : (target : ℕ) (phase : Phase) (state : ℕ) (refused : Option ℕ) → SameTurn (shown target phase state refused) (shown target phase state refused)
-  shown_same target Phase.Ask state refused = refl
-  shown_same target Phase.Await state None = go (state == target)
-    where
-      go : (b : Bool) → SameTurn (if b then Turn.Ends _ else Turn.Goes Phase.Await) (if b then Turn.Ends _ else Turn.Goes Phase.Await)
-      go true = tt
-      go false = refl
-  shown_same target Phase.Await state (Some code) = refl
-  shown_same target (Phase.Acknowledge state first) now refused = refl
-  shown_same target (Phase.Recover first) state None = tt
-  shown_same target (Phase.Recover first) state (Some code) = refl
 
   turned_same : (w : States N S) (z : States M R) → w.registers ≡ z.registers → (target : ℕ) (as' : List (News N)) (bs : List (News M)) (t : Turn S) (u : Turn R) → SameTurn t u → Same (turned w target as' t) (turned z target bs u)
   turned_same w z e target as' bs (Turn.Goes p) (Turn.Goes q) k = record { registers = e; hand = (refl, k) }
@@ -53,7 +68,7 @@ module _ {N M S R : Type 0} where
       subst (λ (k : ℕ). Same left (turned z k bs (shown k b.phase z.registers.state z.registers.refused))) t
       (subst (λ (q : Phase). Same left (turned z a.target bs (shown a.target q z.registers.state z.registers.refused))) p
       (subst (λ (r : Registers). Same left (turned z a.target bs (shown a.target a.phase r.state r.refused))) s.registers
-      (turned_same w z s.registers a.target as' bs (shown a.target a.phase w.registers.state w.registers.refused) (shown a.target a.phase w.registers.state w.registers.refused) (shown_same a.target a.phase w.registers.state w.registers.refused))))
+      (turned_same w z s.registers a.target as' bs (shown a.target a.phase w.registers.state w.registers.refused) (shown a.target a.phase w.registers.state w.registers.refused) (shown_same S R a.target a.phase w.registers.state w.registers.refused))))
 
   begins_same : (w : States N S) (z : States M R) (s : Same w z) (target : ℕ) (h : Option (Hand N)) (k : Option (Hand M)) → SameHand h k → Same (begins w h target) (begins z k target)
   begins_same w z s target None None e = record { registers = s.registers; hand = (refl, refl) }
@@ -87,20 +102,6 @@ module _ {N M S R : Type 0} where
   run_same : (table : Table) (w : States N S) (z : States M R) → Same w z → (es : List Event) → Same (run table w es) (run table z es)
   run_same table w z s [] = s
   run_same table w z s (e ∷ es) = run_same table (happens table w e) (happens table z e) (happens_same table w z s e) es
-
-  -- what is in hand
-  record InHand (a : Hand N) (k : Option (Hand M)) : Type 0 where
-    hand : Hand M
-    is : k ≡ Some hand
-    target : hand.target ≡ a.target
-    phase : hand.phase ≡ a.phase
-
-  in_hand : (a : Hand N) (h : Option (Hand N)) (k : Option (Hand M)) → h ≡ Some a → SameHand h k → InHand a k
-  in_hand a h k e s = by k (subst (λ (z : Option (Hand N)). SameHand z k) e s)
-    where
-      by : (k : Option (Hand M)) → SameHand (Some a) k → InHand a k
-      by None s = absurd s
-      by (Some b) s = record { hand = b; is = refl; target = sym s.0; phase = sym s.1 }
 
   pub come : (table : Table) (target : ℕ) (phase : Phase) (r : Registers) → IsCome N S table target phase r → IsCome M R table target phase r
   come table target phase r k =

@@ -17,7 +17,7 @@ drop_as f (suc n) (x ∷ xs) = drop_as f n xs
 
 pub left_as : {N M P Q S R : Type 0} (f : N → M) (g : P → Q) (h : S → R) (y : Speech N P S) (x : Speech M Q R) (r : Row N P S) → PlanOne f g h y x r.service r.heard → left x (row_seen f g h r) ≡ map f (left y r)
 left_as f g h y x r same =
-    ap (λ (n : ℕ). drop n (x.planned (g r.service) (plain x.emission (map f r.heard)))) (length-map f r.told) ∙ ap (drop (length r.told)) (sym same)
+    ap (λ (n : ℕ). drop n (x.planned (g r.service) (plain x.emission (map f r.heard)))) (length-map r.told f) ∙ ap (drop (length r.told)) (sym same)
     ∙ drop_as f (length r.told) (y.planned r.service (plain y.emission r.heard))
 
 module _ {N M W V : Type 0} (f : N → M) (server : W → V) (n : Slave W N) where

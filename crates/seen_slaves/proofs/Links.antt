@@ -81,7 +81,7 @@ module _ {N M : Type 0} (f : N → M) where
             ∙ (λ i. (sym (news_as s.last_taken s.box)) i ++ (sym (news_as (seen s.last_taken s.box) h.holding)) i)
             ∙ ap (λ n. news s.last_taken (box_as f s.box) ++ news n (box_as f h.holding)) (sym seen_is));
         last = k.last ∙ sym (seen_as (seen s.last_taken s.box) h.holding) ∙ ap (λ n. seen n (box_as f h.holding)) (sym seen_is);
-        number = k.number ∙ ap (λ n. counter_of n) (sym (length-map f taken));
+        number = k.number ∙ ap (λ n. counter_of n) (sym (length-map taken f));
         boxed = follows_as s.last_taken taken s.box k.boxed;
         holding = subst (λ (n : ℕ). Follows n (map f taken ++ news s.last_taken (box_as f s.box)) (box_as f h.holding)) (sym seen_is)
             (subst (λ (l : List M). Follows (seen s.last_taken s.box) l (box_as f h.holding)) (map-append f taken (news s.last_taken s.box) ∙ ap (λ l. map f taken ++ l) (sym (news_as s.last_taken s.box)))
@@ -121,7 +121,7 @@ module _ {N M : Type 0} (f : N → M) where
         stream = ap (map f) k.stream ∙ map-append f accepted (news h.last (last_met_of s) ++ (bodies (unread s.again s.box) ++ bodies s.withdrawn))
             ∙ ap (λ l. map f accepted ++ l) (map-append f (news h.last (last_met_of s)) (bodies (unread s.again s.box) ++ bodies s.withdrawn)
             ∙ (λ i. (sym met) i ++ (map-append f (bodies (unread s.again s.box)) (bodies s.withdrawn) ∙ (λ j. (sym new) j ++ (sym (bodies_as s.withdrawn)) j)) i));
-        number = k.number ∙ ap (λ n. counter_of n) (sym (length-map f accepted));
+        number = k.number ∙ ap (λ n. counter_of n) (sym (length-map accepted f));
         read = subst (λ b. Follows h.last (map f accepted) b) (sym (met_of s)) (follows_as h.last accepted (last_met_of s) k.read);
         knows = knows_as h.state h s k.knows;
         never = λ e. k.never (was_none (last_met_of s) (sym (met_of s) ∙ e));

@@ -55,20 +55,20 @@ use Rattle.sent_packets.proofs.Times.{TracksShut, TracksAs, Tracks, ended_weigh,
 use Rattle.sent_packets.proofs.Turns.{turn_tracks}
 
 -- ---- the services of a plan's slave send so
+pub valid_sends : (s : Station Core) → station_valid parts s ≡ true → MaySend s
+valid_sends s e =
+    let core = left_of (core_valid parts s.app) (nat_lt s.frame 16) e in
+    record { table = left_of _ _ core; frame = ltb-true s.frame 16 (right_of (core_valid parts s.app) (nat_lt s.frame 16) e) }
+
 sends_so : (weigh : List ℕ → ℕ) (p : Profile) (boot : Bool) (lens : ℕ → Lens) → Emit weigh p → SendSo weigh p (asked p boot lens)
 sends_so weigh p boot lens law = record {
-  begins = λ v ready. valid v.inner.app (left_of (station_valid parts v.inner.app) _ ready);
+  begins = λ v ready. valid_sends v.inner.app (left_of (station_valid parts v.inner.app) _ ready);
   emits = λ a q may. one a q may;
   stays = λ a q may. law.stays a.state a.inner (service_of q).0 (service_of q).1 may;
   told = λ state a may. may;
   own = own_fragment;
 }
   where
-    valid : (s : Station Core) → station_valid parts s ≡ true → MaySend s
-    valid s e =
-        let core = left_of (core_valid parts s.app) (nat_lt s.frame 16) e in
-        record { table = left_of _ _ core; frame = ltb-true s.frame 16 (right_of (core_valid parts s.app) (nat_lt s.frame 16) e) }
-
     one : (a : InState (Station Core)) (q : Asked) → MaySend a.inner → Sends weigh p.back ((asked p boot lens).exchange.emits a q) (sum_by weigh (asked_sends p q))
     one a (sdo q) may = law.emits a.state a.inner Protocol.CoE q may
     one a (file q) may = law.emits a.state a.inner Protocol.FoE q may

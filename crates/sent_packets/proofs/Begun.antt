@@ -1,28 +1,44 @@
 -- THE PACKETS THAT CAME INTO HAND of a slave, by its life and by the frames; of one without a port none did.
 use Rattle.std.proofs.Common.{◌≡◌, ℕ, zero, suc, ◌+◌, ◌≤◌, ◌==◌, Bool, true, false, Option, Some, None, List, [], ◌∷◌, ◌++◌, map, length, filter, refl, sym, ap, ◌∙◌, arith, if◌then◌else◌}
-use Rattle.std.specs.Prelude.{sum_by, slice_get}
+use Rattle.std.specs.Prelude.{◌&&◌, sum_by, slice_get}
 use Rattle.std.proofs.lemmas.Bool.{eqb-true}
 use Rattle.std.proofs.lemmas.List.Elements.{filter-append}
 use Rattle.std.proofs.lemmas.List.Sums.{sum_by-cons, sum_by-append}
 use Rattle.arrayvec.specs.ArrayVec.{ArrayVec}
 use Rattle.book_model.specs.Script.{life_started}
+use Rattle.book_model.proofs.Scripts.{back_same, lost_same}
 use Rattle.datagrams.specs.Datagram as Raw
 use Rattle.eoe_model.specs.Client as EoeClient
 use Rattle.eoe_switch.specs.Switch.{Switched, switched}
 use Rattle.eoe_switch.specs.declared.switching.SwitchEvent.{SwitchEvent}
 use Rattle.eoe_switch.specs.declared.switching.SwitchEvent.TheVariants.{Arrive, Begun, Down}
+use Rattle.frame_view.specs.Seen.{seen}
 use Rattle.frame_view.specs.View.{Lens}
-use Rattle.life_runs.specs.Led.{Exchanged, Leads, Turn, AllTurn, IsLed, led_behind, gives_up_at}
-use Rattle.master_hand.specs.Spoken.{Asked, sdo, file, drive, net, passed}
+use Rattle.life_frames.specs.Shares.{came_at, given_where}
+use Rattle.life_model.specs.Lives.{Spot, Life, life_lost}
+use Rattle.life_runs.specs.First.{leads_from}
+use Rattle.life_runs.specs.Led.{Exchanged, Leads, Turn, AllTurn, IsLed, is_passed, led_behind, gives_up_at, speech_at}
+use Rattle.link_mails.specs.Body.{Body}
+use Rattle.master_duty.specs.Reply.{Reply}
+use Rattle.master_hand.specs.Spoken.{Asked, acknowledged, is_followed, sdo, file, drive, net, passed}
 use Rattle.master_node.specs.Begins.{Taken, switch_on, taken_by, taken_in, begins_by, begun_of, begins_in}
 use Rattle.master_node.specs.Forwards.{port_by}
+use Rattle.master_node.specs.Serving.{run_lead, run_turn}
+use Rattle.master_side.specs.Passing.{news_back, news_lost}
 use Rattle.master_tour.specs.Made.{is_in}
 use Rattle.run_work.specs.Packets.{waiting_work, queue_work}
-use Rattle.packets_heard.specs.Over.{AreBegun, packet_begun, packets_begun}
+use Rattle.packets_heard.specs.Over.{AreBegun, BegunOn, packet_begun, packets_begun}
+use Rattle.packets_heard.specs.Servings.{AreServedBegun, served_packets}
 use Rattle.script_runs.specs.Came.{is_packet}
 use Rattle.script_runs.proofs.Came.{listed, turn_started, behind_same}
+use Rattle.segment_plan.specs.declared.service.Service as Plan
+use Rattle.segment_plan.specs.declared.slave.SlaveSpec.{SlaveSpec}
+use Rattle.segment_ring.specs.declared.wire.Fate.{Fate}
+use Rattle.segment_ring.specs.declared.wire.Fate.TheVariants.{Pass, Lost}
+use Rattle.served_runs.specs.Served.{Keyed, Serves, ServedTurn, AllServedTurn, IsServedLed, all_serve, asked_at, served_behind, served_life}
 use Rattle.state_exchange.specs.Stated.{Service}
 use Rattle.sent_packets.proofs.Ports.{queue_append}
+use Rattle.sent_packets.proofs.Started.{next_started}
 
 -- what a packet comes to at a port of one of n slaves, if a service is one
 abbrev pub weight : ℕ → Service Asked → ℕ
@@ -75,6 +91,64 @@ module _ (lens : ℕ → Lens) (recover retry : ℕ) where
       ∙ (λ i. begun_weights n first none fs missed as' led k i + one_weight n (begun_of us k) i)
       ∙ sym (weights_append n (started_at as' k) (listed (begun_of us k)))
       ∙ ap (weights n) (sym (started_more (gives_up_at lens recover retry missed) (length fs) f frame.datagrams as' us frame.each k))
+
+-- nothing came into hand of a plan's slaves before the first frame
+pub nothing_first : (rows : List (ℕ × Plan.Service)) (place : ℕ) (ss : List SlaveSpec) (k : ℕ) → started_at (leads_from rows place ss) k ≡ []
+nothing_first rows place [] k = refl
+nothing_first rows place (s ∷ ss) zero = refl
+nothing_first rows place (s ∷ ss) (suc k) = nothing_first rows (suc place) ss k
+
+pub nothing_served : (rows : List (ℕ × Plan.Service)) (paces : List ℕ) (place : ℕ) (ss : List SlaveSpec) (k : ℕ) → started_at (map run_lead (all_serve paces (leads_from rows place ss))) k ≡ []
+nothing_served rows paces place [] k = none paces
+  where
+    none : (paces : List ℕ) → started_at (map run_lead (all_serve paces [])) k ≡ []
+    none [] = refl
+    none (p ∷ ps) = refl
+nothing_served rows [] place (s ∷ ss) zero = refl
+nothing_served rows (p ∷ paces) place (s ∷ ss) zero = refl
+nothing_served rows [] place (s ∷ ss) (suc k) = nothing_served rows [] (suc place) ss k
+nothing_served rows (p ∷ paces) place (s ∷ ss) (suc k) = nothing_served rows paces (suc place) ss k
+
+-- ---- over a serving
+-- a mail that is asked leaves what came into hand
+pub leads_asked : (place : ℕ) (k : Keyed) (ws : List Serves) → map run_lead (asked_at place k ws) ≡ map run_lead ws
+leads_asked place k [] = refl
+leads_asked zero k (w ∷ ws) = refl
+leads_asked (suc place) k (w ∷ ws) = ap (λ l. w.lead ∷ l) (leads_asked place k ws)
+
+module _ (lens : ℕ → Lens) (recover retry : ℕ) where
+  given_same : (b : Bool) (made : ℕ) (spot : Spot) (m : Life Body Asked Reply) → life_started (given_where b recover spot made m) ≡ life_started m
+  given_same true made spot m = refl
+  given_same false made spot m = refl
+
+  served_same : (gives : Bool) (made : ℕ) (f : Exchanged) (fate : Fate) (v : ServedTurn) → life_started (served_life lens recover retry gives made f fate v).life ≡ life_started v.turn.lived.life
+  served_same gives made f Pass v =
+      let l = v.turn.lived in
+      back_same (speech_at lens l.spot) acknowledged is_followed is_passed l.spot l.life made (news_back l.spot.station v.kept v.counts (seen lens f.back)) (seen lens f.back) (came_at v.turn.share.under v.turn.share.at (seen lens f.back)) l.life.stand
+  served_same gives made f (Lost after) v =
+      let l = v.turn.lived in
+      given_same (gives && v.turn.share.under) made l.spot (life_lost (speech_at lens l.spot) acknowledged is_followed is_passed l.spot (news_lost l.spot.station v.kept (seen lens f.sent)) (seen lens f.sent) l.life l.life.stand)
+      ∙ lost_same (speech_at lens l.spot) acknowledged is_followed is_passed l.spot l.life (news_lost l.spot.station v.kept (seen lens f.sent)) (seen lens f.sent) l.life.stand
+
+  served_more : (gives : Bool) (made : ℕ) (f : Exchanged) (ds : List Raw.Datagram) (ws : List Serves) (vs : List ServedTurn) → AllServedTurn lens made ds ws vs → (k : ℕ) →
+      started_at (map run_lead (map (served_behind lens recover retry gives made f) vs)) k ≡ started_at (map run_lead ws) k ++ listed (begun_of (map run_turn vs) k)
+  served_more gives made f ds [] [] y k = refl
+  served_more gives made f ds [] (v ∷ vs) y k = absurd y
+  served_more gives made f ds (w ∷ ws) [] y k = absurd y
+  served_more gives made f ds (w ∷ ws) (v ∷ vs) y zero =
+      served_same gives made f f.fate v ∙ next_started (speech_at lens w.lead.lived.spot) made w.lead.lived.life y.0.next.pick v.turn.lived.life v.turn.begun y.0.next.life y.0.begun y.0.took
+  served_more gives made f ds (w ∷ ws) (v ∷ vs) y (suc k) = served_more gives made f ds ws vs y.1 k
+
+  pub served_weights : (n : ℕ) (first : List Serves) → ((k : ℕ) → started_at (map run_lead first) k ≡ []) → (fs : List Exchanged) (missed : ℕ) (ws : List Serves) (led : IsServedLed lens recover retry first fs missed ws) (k : ℕ) →
+      queue_work n (served_packets led k) ≡ weights n (started_at (map run_lead ws) k)
+  served_weights n first none _ _ _ IsServedLed.start k = sym (ap (weights n) (none k))
+  served_weights n first none _ _ _ (IsServedLed.asks fs missed ws place key led may) k = served_weights n first none fs missed ws led k ∙ ap (λ l. weights n (started_at l k)) (sym (leads_asked place key ws))
+  served_weights n first none _ _ _ (IsServedLed.on fs missed ws f vs led frame) k =
+      let begun = begun_of (map run_turn vs) k in
+      queue_append n (served_packets led k) (packet_begun begun)
+      ∙ (λ i. served_weights n first none fs missed ws led k i + one_weight n begun i)
+      ∙ sym (weights_append n (started_at (map run_lead ws) k) (listed begun))
+      ∙ ap (weights n) (sym (served_more (gives_up_at lens recover retry missed) (length fs) f frame.datagrams ws vs frame.each k))
 
 -- ---- a slave without a port
 abbrev no_port : Option ℕ → ℕ
@@ -130,14 +204,23 @@ nothing : (xs : List (ArrayVec ℕ)) → length xs ≡ 0 → xs ≡ []
 nothing [] e = refl
 nothing (x ∷ xs) e = absurd (omega (arith, e))
 
-pub none_begun : {lens : ℕ → Lens} {recover retry : ℕ} {first : List Leads} (ports : List (Option ℕ)) (many k : ℕ) → port_by (slice_get ports k) ≡ None → (fs : List Exchanged) (missed : ℕ) (as' : List Leads) (led : IsLed lens recover retry first fs missed as') (es : List SwitchEvent) → AreBegun ports many led es → packets_begun led k ≡ []
-none_begun ports many k none _ _ _ IsLed.start es begun = refl
-none_begun ports many k none _ _ _ (IsLed.on fs missed as' f us led frame) es on =
-    (λ i. none_begun ports many k none fs missed as' led on.old on.was i ++ now (is_in k on.visited) refl i)
-  where
-    now : (b : Bool) → is_in k on.visited ≡ b → packet_begun (begun_of us k) ≡ []
-    now true e =
-        let few = of_visited ports (begun_of us) k none on.visited e in
-        let zero_ = taken_ported (switched many on.old).switch on.making in
-        nothing (packet_begun (begun_of us k)) (omega (arith, few, zero_, ap portless on.taken))
-    now false e = nothing (packet_begun (begun_of us k)) (sym (one_portless (begun_of us k)) ∙ ap portless (on.others k None e))
+-- no packet came into hand of it before a frame
+module _ (ports : List (Option ℕ)) (many k : ℕ) (none : port_by (slice_get ports k) ≡ None) where
+  none_now : (before : List SwitchEvent → Type 0) (us : List Turn) (es : List SwitchEvent) (on : BegunOn before ports many us es) → packet_begun (begun_of us k) ≡ []
+  none_now before us es on = now (is_in k on.visited) refl
+    where
+      now : (b : Bool) → is_in k on.visited ≡ b → packet_begun (begun_of us k) ≡ []
+      now true e =
+          let few = of_visited ports (begun_of us) k none on.visited e in
+          let zero_ = taken_ported (switched many on.old).switch on.making in
+          nothing (packet_begun (begun_of us k)) (omega (arith, few, zero_, ap portless on.taken))
+      now false e = nothing (packet_begun (begun_of us k)) (sym (one_portless (begun_of us k)) ∙ ap portless (on.others k None e))
+
+  pub none_begun : {lens : ℕ → Lens} {recover retry : ℕ} {first : List Leads} (fs : List Exchanged) (missed : ℕ) (as' : List Leads) (led : IsLed lens recover retry first fs missed as') (es : List SwitchEvent) → AreBegun ports many led es → packets_begun led k ≡ []
+  none_begun _ _ _ IsLed.start es begun = refl
+  none_begun _ _ _ (IsLed.on fs missed as' f us led frame) es on = (λ i. none_begun fs missed as' led on.old on.was i ++ none_now (λ old. AreBegun ports many led old) us es on i)
+
+  pub none_served : {lens : ℕ → Lens} {recover retry : ℕ} {first : List Serves} (fs : List Exchanged) (missed : ℕ) (ws : List Serves) (led : IsServedLed lens recover retry first fs missed ws) (es : List SwitchEvent) → AreServedBegun ports many led es → served_packets led k ≡ []
+  none_served _ _ _ IsServedLed.start es begun = refl
+  none_served _ _ _ (IsServedLed.asks fs missed ws place key led may) es begun = none_served fs missed ws led es begun
+  none_served _ _ _ (IsServedLed.on fs missed ws f vs led frame) es on = (λ i. none_served fs missed ws led on.old on.was i ++ none_now (λ old. AreServedBegun ports many led old) (map run_turn vs) es on i)

@@ -1,14 +1,16 @@
-mod All
-mod Begun
+pub mod All
+pub mod Begun
 mod Calm
 pub mod Cuts
 mod Emits
-mod Epochs
-mod Live
-mod Owns
+pub mod Epochs
+pub mod Live
+pub mod Owns
+mod Passed
 mod Ports
+mod Started
 mod Stays
-mod Switched
-mod Times
-mod Turns
-mod Weighed
+pub mod Switched
+pub mod Times
+pub mod Turns
+pub mod Weighed

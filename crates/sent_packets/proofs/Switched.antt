@@ -1,6 +1,6 @@
 -- ALL SLAVES: what came into hand is within what entered.
-use Rattle.std.proofs.Common.{◌≡◌, ℕ, zero, suc, ◌+◌, ◌-◌, ◌*◌, ◌<◌, ◌≤◌, Bool, true, false, All, Option, Some, None, List, [], ◌∷◌, ◌++◌, take, length, filter, refl, sym, ap, ◌∙◌, subst, arith, if◌then◌else◌}
-use Rattle.std.specs.Prelude.{count_by, slice_get, sum_by, nat_lt}
+use Rattle.std.proofs.Common.{◌≡◌, ℕ, zero, suc, ◌+◌, ◌-◌, ◌*◌, ◌<◌, ◌≤◌, Bool, true, false, All, Option, Some, None, List, [], ◌∷◌, ◌++◌, map, take, length, filter, refl, sym, ap, ◌∙◌, subst, arith, if◌then◌else◌}
+use Rattle.std.specs.Prelude.{count_by, slice_get, sum_by, nat_lt, ⊤}
 use Rattle.std.proofs.lemmas.Nat.{mul-le}
 use Rattle.std.proofs.lemmas.List.Elements.{All-head, All-tail}
 use Rattle.std.proofs.lemmas.List.Sums.{sum_by-cons, sum_by-append}
@@ -9,16 +9,17 @@ use Rattle.book_model.specs.Script.{life_started}
 use Rattle.eoe_switch.specs.Switch.{switched}
 use Rattle.eoe_switch.specs.declared.switching.SwitchEvent.{SwitchEvent}
 use Rattle.life_counts.specs.Begun.{begun_most}
-use Rattle.life_runs.specs.First.{lens_of, script_for, first_leads, leads_from}
-use Rattle.life_runs.specs.Led.{Exchanged, Leads, IsLed}
+use Rattle.frame_view.specs.View.{Lens}
+use Rattle.life_runs.specs.First.{lens_of, script_for}
+use Rattle.life_runs.specs.Led.{Leads}
 use Rattle.master_node.specs.Forwards.{port_by}
 use Rattle.master_node.specs.Happened.{arrivals_at}
 use Rattle.master_node.specs.Ports.{IsAtPort, port_where, last_where, ports_behind, ports_of}
+use Rattle.master_node.specs.Serving.{run_lead}
 use Rattle.run_work.specs.Flows.{slaves_work, entries_work, AllComeAt}
 use Rattle.run_work.specs.Packets.{cuts, waiting_work, queue_work}
-use Rattle.packets_heard.specs.Over.{AreBegun, forwarded_to}
-use Rattle.packets_heard.specs.Over as Over
-use Rattle.packets_heard.specs.Heard.{Joined, joined_in}
+use Rattle.packets_heard.specs.Over.{forwarded_to}
+use Rattle.packets_heard.specs.Heard.{Joined}
 use Rattle.plan_counts.specs.Asked.{asked_most}
 use Rattle.plan_counts.specs.Split.{entering}
 use Rattle.packets_heard.specs.Listed.{IsOwn, long_where, long_ones, packets_at}
@@ -29,12 +30,14 @@ use Rattle.script_runs.specs.Slaves.{HasCome, AllCome}
 use Rattle.segment_plan.specs.declared.plan.Scenario.{Scenario}
 use Rattle.segment_plan.specs.declared.slave.SlaveSpec.{SlaveSpec}
 use Rattle.sent_packets.specs.Sent.{AllSend}
+use Rattle.served_runs.specs.Came.{HasServed}
+use Rattle.served_runs.specs.Served.{Serves}
 use Rattle.few_replies.specs.Shapes.{shape_of}
 use Rattle.sent_packets.specs.Sends.{all_most}
 use Rattle.slave_server.specs.Spec.{core_of, profile_of}
-use Rattle.sent_packets.proofs.Begun.{weights, started_at, begun_weights, none_begun}
+use Rattle.sent_packets.proofs.Begun.{weights, started_at}
 use Rattle.sent_packets.proofs.Ports.{ports_sum, eoe_count, forwards_within, queue_append, entries_within, come_at, few_ports}
-use Rattle.sent_packets.proofs.Weighed.{Echoes, echoes, packets_weigh, all_send}
+use Rattle.sent_packets.proofs.Weighed.{Echoes, echoes, packets_weigh, all_send, served_send}
 
 -- packets that are too short are left out
 long_less : (n : ℕ) (ps : List (List ℕ)) → queue_work n (long_ones ps) ≤ sum_by (waiting_work n) ps
@@ -77,8 +80,8 @@ square_of m p e f a h d one two three =
     linear p (m * e) f (suc m * (h * (suc m + 1))) (m * a) (m * ((suc m + 1) * d)) h d (h * (suc m + 1)) (d * (suc m + 1)) ((h + d) * ((suc m + 1) * (suc m + 1)))
     one two (subst (λ z. m * a ≤ z) spread third) (whole_square m h d) (at_least h m) (at_least d m)
 
--- what the laws say of a run
-module _ (plan : Scenario) (fs : List Exchanged) (missed : ℕ) (leads : List Leads) (led : IsLed (lens_of plan.slaves) plan.recover plan.retry (first_leads plan) fs missed leads) (es : List SwitchEvent) (m : ℕ) where
+-- what the laws say of slaves that are led so, what was joined of each and which packets came into hand of it
+module _ (plan : Scenario) (leads : List Leads) (joined : List Joined) (hands : ℕ → List (ArrayVec ℕ)) (es : List SwitchEvent) (m : ℕ) where
   -- so many slaves
   abbrev pub n : ℕ
   n = suc m
@@ -91,9 +94,10 @@ module _ (plan : Scenario) (fs : List Exchanged) (missed : ℕ) (leads : List Le
 
   pub record Laws : Type 0 where
     pub own : (k port : ℕ) → port_by (slice_get ports k) ≡ Some port → IsOwn ports k port
-    pub arrivals : (k port : ℕ) → IsOwn ports k port → arrivals_at port es ≡ long_ones (packets_at (joined_in led) k)
-    pub forwarded : (k port : ℕ) → IsOwn ports k port → port < many → (left : List (ArrayVec ℕ)) × (forwarded_to port (switched many es).forwards ≡ Over.packets_begun led k ++ left)
-    pub begun : AreBegun ports many led es
+    pub arrivals : (k port : ℕ) → IsOwn ports k port → arrivals_at port es ≡ long_ones (packets_at joined k)
+    pub forwarded : (k port : ℕ) → IsOwn ports k port → port < many → (left : List (ArrayVec ℕ)) × (forwarded_to port (switched many es).forwards ≡ hands k ++ left)
+    pub weighed : (k : ℕ) → queue_work n (hands k) ≡ weights n (started_at leads k)
+    pub none : (k : ℕ) → port_by (slice_get ports k) ≡ None → hands k ≡ []
     pub within : many ≤ n + 1 → AllComeAt many es → slaves_work n (switched many es).forwards ≤ entries_work n es
     pub echo : (mac : List ℕ) → length mac ≡ 6 → Echoes mac
 
@@ -104,27 +108,26 @@ module _ (plan : Scenario) (fs : List Exchanged) (missed : ℕ) (leads : List Le
     abbrev pub come_in_at : ℕ → ℕ
     come_in_at p = queue_work n (arrivals_at p es)
 
-    nothing_first : (place : ℕ) (ss : List SlaveSpec) (k : ℕ) → started_at (leads_from plan.services place ss) k ≡ []
-    nothing_first place [] k = refl
-    nothing_first place (s ∷ ss) zero = refl
-    nothing_first place (s ∷ ss) (suc k) = nothing_first (suc place) ss k
-
-    -- what came into hand of the slave at a place
-    weighed : (k : ℕ) → queue_work n (Over.packets_begun led k) ≡ weights n (started_at leads k)
-    weighed k = begun_weights (lens_of plan.slaves) plan.recover plan.retry n (first_leads plan) (nothing_first 0 plan.slaves) fs missed leads led k
-
     -- a slave with a port
     pub record With (s : SlaveSpec) (a : Leads) (port : ℕ) (sent : ℕ) : Type 0 where
       pub begun : begun_most (asked_most (profile_of s) (shape_of (core_of s))) (filter is_packet (life_started a.lived.life)) + m * sent ≤ forwards_at port
       pub came : come_in_at port ≤ sent + (n + 1) * sum_by entering (take a.number a.script)
 
+    -- what was joined of it is of what came into hand
+    abbrev pub SentBy : SlaveSpec → Leads → Joined → Type 0
+    SentBy s a j = (six : length s.mac ≡ 6) → sum_by (waiting_work n) j.packets ≤ echoes n (profile_of s) (laws.echo s.mac six) (life_started a.lived.life) + (n + 1) * sum_by entering (take a.number a.script)
+
+    abbrev pub AllSentBy : List SlaveSpec → List Leads → List Joined → Type 0
+    AllSentBy [] [] [] = ⊤
+    AllSentBy (s ∷ ss) (a ∷ as') (j ∷ js) = SentBy s a j × AllSentBy ss as' js
+    AllSentBy _ _ _ = ⊥
+
     -- it has this place, its life and its packets
     pub record At (place : ℕ) (s : SlaveSpec) (a : Leads) (j : Joined) : Type 0 where
       pub mac : length s.mac ≡ 6
       pub started : started_at leads place ≡ life_started a.lived.life
-      pub joined : packets_at (joined_in led) place ≡ j.packets
-      pub come : HasCome plan place s a
-      pub sends : sum_by (waiting_work n) j.packets ≤ all_most (waiting_work n) (profile_of s) (life_started a.lived.life)
+      pub packets : packets_at joined place ≡ j.packets
+      pub sends : SentBy s a j
 
     module _ (place : ℕ) (s : SlaveSpec) (a : Leads) (j : Joined) (x : At place s a j) where
       abbrev law : Echoes (profile_of s).mac
@@ -136,39 +139,73 @@ module _ (plan : Scenario) (fs : List Exchanged) (missed : ℕ) (leads : List Le
       abbrev count : ℕ
       count = begun_most (asked_most (profile_of s) (shape_of (core_of s))) (filter is_packet (life_started a.lived.life))
 
-      weigh : count + m * sent_back ≤ queue_work n (Over.packets_begun led place)
+      weigh : count + m * sent_back ≤ queue_work n (hands place)
       weigh =
           let took = packets_weigh n (profile_of s) law (shape_of (core_of s)) m refl (life_started a.lived.life) in
-          subst (λ z. count + m * sent_back ≤ z) (sym (weighed place ∙ ap (weights n) x.started)) took
+          subst (λ z. count + m * sent_back ≤ z) (sym (laws.weighed place ∙ ap (weights n) x.started)) took
 
       with_port : (port : ℕ) → port_by (slice_get ports place) ≡ Some port → port < many → With s a port sent_back
       with_port port has near =
           let own = laws.own place port has in
           let first = laws.forwarded place port own near in
-          let front = ap (queue_work n) first.1 ∙ queue_append n (Over.packets_begun led place) first.0 in
-          let came = ap (queue_work n) (laws.arrivals place port own ∙ ap long_ones x.joined) in
-          let sends = all_send n (profile_of s) law (lens_of plan.slaves s.station).out (take a.number (script_for place plan.services)) (life_started a.lived.life) x.come.firsts.those in
-          let scripts : (n + 1) * sum_by entering (take a.number (script_for place plan.services)) ≡ (n + 1) * sum_by entering (take a.number a.script) = ap (λ ts. (n + 1) * sum_by entering (take a.number ts)) (sym x.come.script) in
+          let front = ap (queue_work n) first.1 ∙ queue_append n (hands place) first.0 in
+          let arrived = ap (queue_work n) (laws.arrivals place port own ∙ ap long_ones x.packets) in
           record {
-            begun = first_part (count + m * sent_back) (queue_work n (Over.packets_begun led place)) (queue_work n first.0) (forwards_at port) weigh front;
-            came = all_of (come_in_at port) (queue_work n (long_ones j.packets)) (sum_by (waiting_work n) j.packets) (all_most (waiting_work n) (profile_of s) (life_started a.lived.life)) sent_back
-                ((n + 1) * sum_by entering (take a.number (script_for place plan.services))) ((n + 1) * sum_by entering (take a.number a.script)) came (long_less n j.packets) x.sends sends scripts;
+            begun = first_part (count + m * sent_back) (queue_work n (hands place)) (queue_work n first.0) (forwards_at port) weigh front;
+            came = all_of (come_in_at port) (queue_work n (long_ones j.packets)) (sum_by (waiting_work n) j.packets) sent_back ((n + 1) * sum_by entering (take a.number a.script)) arrived (long_less n j.packets) (x.sends x.mac);
           }
         where
           first_part : (a b c d : ℕ) → a ≤ b → d ≡ b + c → a ≤ d
           first_part a b c d l e = omega (arith, l, e)
 
-          all_of : (a b c d s e f : ℕ) → a ≡ b → b ≤ c → c ≤ d → d ≤ s + e → e ≡ f → a ≤ s + f
-          all_of a b c d s e f g h i j k = omega (arith, g, h, i, j, k)
+          all_of : (a b c s f : ℕ) → a ≡ b → b ≤ c → c ≤ s + f → a ≤ s + f
+          all_of a b c s f e g h = omega (arith, e, g, h)
 
       -- one without a port: no packet came into hand
       without : port_by (slice_get ports place) ≡ None → count ≡ 0
       without none =
-          let nothing = none_begun ports many place none fs missed leads led es laws.begun in
-          none_of count (m * sent_back) (queue_work n (Over.packets_begun led place)) weigh (ap (queue_work n) nothing)
+          let nothing = laws.none place none in
+          none_of count (m * sent_back) (queue_work n (hands place)) weigh (ap (queue_work n) nothing)
         where
           none_of : (a b c : ℕ) → a + b ≤ c → c ≡ 0 → a ≡ 0
           none_of a b c l e = omega (arith, l, e)
+
+    -- ---- what was joined of a slave is of what came into hand, where it weighs no more than all that may be sent by that
+    through : (b c s e f : ℕ) → b ≤ c → c ≤ s + e → e ≡ f → b ≤ s + f
+    through b c s e f g h i = omega (arith, g, h, i)
+
+    abbrev bound : Leads → ℕ
+    bound a = (n + 1) * sum_by entering (take a.number a.script)
+
+    one_run : (place : ℕ) (s : SlaveSpec) (a : Leads) (j : Joined) → HasCome plan place s a → sum_by (waiting_work n) j.packets ≤ all_most (waiting_work n) (profile_of s) (life_started a.lived.life) → SentBy s a j
+    one_run place s a j come sends six =
+        let law = laws.echo s.mac six in
+        let most = all_send n (profile_of s) law (lens_of plan.slaves s.station).out (take a.number (script_for place plan.services)) (life_started a.lived.life) come.firsts.those in
+        let scripts : (n + 1) * sum_by entering (take a.number (script_for place plan.services)) ≡ bound a = ap (λ ts. (n + 1) * sum_by entering (take a.number ts)) (sym come.script) in
+        through (sum_by (waiting_work n) j.packets) (all_most (waiting_work n) (profile_of s) (life_started a.lived.life)) (echoes n (profile_of s) law (life_started a.lived.life))
+        ((n + 1) * sum_by entering (take a.number (script_for place plan.services))) (bound a) sends most scripts
+
+    pub run_sent : (place : ℕ) (ss : List SlaveSpec) (as' : List Leads) (js : List Joined) → AllCome plan place ss as' → AllSend (waiting_work n) ss as' js → AllSentBy ss as' js
+    run_sent place [] [] [] come sends = tt
+    run_sent place [] [] (j ∷ js) come sends = absurd sends
+    run_sent place [] (a ∷ as') js come sends = absurd come
+    run_sent place (s ∷ ss) [] js come sends = absurd come
+    run_sent place (s ∷ ss) (a ∷ as') [] come sends = absurd sends
+    run_sent place (s ∷ ss) (a ∷ as') (j ∷ js) come sends = ((λ six. one_run place s a j come.0 sends.0 six), run_sent (suc place) ss as' js come.1 sends.1)
+
+    one_served : (lens : ℕ → Lens) (s : SlaveSpec) (w : Serves) (j : Joined) → HasServed lens w → sum_by (waiting_work n) j.packets ≤ all_most (waiting_work n) (profile_of s) (life_started w.lead.lived.life) → SentBy s w.lead j
+    one_served lens s w j h sends six =
+        let law = laws.echo s.mac six in
+        through (sum_by (waiting_work n) j.packets) (all_most (waiting_work n) (profile_of s) (life_started w.lead.lived.life)) (echoes n (profile_of s) law (life_started w.lead.lived.life)) (bound w.lead) (bound w.lead) sends
+        (served_send n (profile_of s) law (lens w.lead.lived.spot.station).out w.lead.script w.lead.number h.mails (life_started w.lead.lived.life) h.came) refl
+
+    pub served_sent : (lens : ℕ → Lens) (ss : List SlaveSpec) (ws : List Serves) (js : List Joined) → All (HasServed lens) ws → AllSend (waiting_work n) ss (map run_lead ws) js → AllSentBy ss (map run_lead ws) js
+    served_sent lens [] [] [] h sends = tt
+    served_sent lens [] [] (j ∷ js) h sends = absurd sends
+    served_sent lens [] (w ∷ ws) js h sends = absurd sends
+    served_sent lens (s ∷ ss) [] js h sends = absurd sends
+    served_sent lens (s ∷ ss) (w ∷ ws) [] h sends = absurd sends
+    served_sent lens (s ∷ ss) (w ∷ ws) (j ∷ js) h sends = ((λ six. one_served lens s w j (All-head (HasServed lens) w ws h) sends.0 six), served_sent lens ss ws js (All-tail (HasServed lens) w ws h) sends.1)
 
     -- ---- ALL SLAVES, from a place on
     pub record Sums (last : ℕ) (ss : List SlaveSpec) (as' : List Leads) : Type 0 where
@@ -178,11 +215,11 @@ module _ (plan : Scenario) (fs : List Exchanged) (missed : ℕ) (leads : List Le
 
     abbrev Behind : ℕ → ℕ → List SlaveSpec → List Leads → List Joined → Type 0
     Behind place last ss as' js =
-        ((i : ℕ) → slice_get ports (place + i) ≡ slice_get (ports_behind last ss) i) × (((i : ℕ) → started_at leads (place + i) ≡ started_at as' i) × ((i : ℕ) → packets_at (joined_in led) (place + i) ≡ packets_at js i))
+        ((i : ℕ) → slice_get ports (place + i) ≡ slice_get (ports_behind last ss) i) × (((i : ℕ) → started_at leads (place + i) ≡ started_at as' i) × ((i : ℕ) → packets_at joined (place + i) ≡ packets_at js i))
 
     -- one slave more
     more : (place last : ℕ) (s : SlaveSpec) (ss : List SlaveSpec) (a : Leads) (as' : List Leads) (j : Joined) (js : List Joined) → Behind place last (s ∷ ss) (a ∷ as') (j ∷ js) → Behind (suc place) (last_where s.eoe last) ss as' js
-    more place last s ss a as' j js b = ((λ i. next i (λ m. slice_get ports m) ∙ b.0 (suc i)), ((λ i. next i (λ m. started_at leads m) ∙ b.1.0 (suc i)), (λ i. next i (λ m. packets_at (joined_in led) m) ∙ b.1.1 (suc i))))
+    more place last s ss a as' j js b = ((λ i. next i (λ m. slice_get ports m) ∙ b.0 (suc i)), ((λ i. next i (λ m. started_at leads m) ∙ b.1.0 (suc i)), (λ i. next i (λ m. packets_at joined m) ∙ b.1.1 (suc i))))
       where
         next : {X : Type 0} (i : ℕ) (f : ℕ → X) → f (suc place + i) ≡ f (place + suc i)
         next i f = let same : suc place + i ≡ place + suc i = omega arith in ap f same
@@ -214,14 +251,14 @@ module _ (plan : Scenario) (fs : List Exchanged) (missed : ℕ) (leads : List Le
     roomy_on : (last c d e many : ℕ) → last + 1 + d ≤ many → d ≡ e + c → e ≡ 0 → last + 1 + c ≤ many
     roomy_on last c d e many l f g = omega (arith, l, f, g)
 
-    sums : (place last : ℕ) (ss : List SlaveSpec) (as' : List Leads) (js : List Joined) → All (λ (s : SlaveSpec). length s.mac ≡ 6) ss → AllCome plan place ss as' → AllSend (waiting_work n) ss as' js → last + 1 + count_by (λ (s : SlaveSpec). s.eoe) ss ≤ many → Behind place last ss as' js → Sums last ss as'
-    sums place last [] [] [] macs come sends room b = record { sent = 0; begun = zeros m; came = omega arith }
-    sums place last [] [] (j ∷ js) macs come sends room b = absurd sends
-    sums place last [] (a ∷ as') js macs come sends room b = absurd come
-    sums place last (s ∷ ss) [] js macs come sends room b = absurd come
-    sums place last (s ∷ ss) (a ∷ as') [] macs come sends room b = absurd sends
-    sums place last (s ∷ ss) (a ∷ as') (j ∷ js) macs come sends room b =
-        go s.eoe refl (λ later less behind. sums (suc place) later ss as' js (All-tail (λ (s : SlaveSpec). length s.mac ≡ 6) s ss macs) come.1 sends.1 less behind)
+    sums : (place last : ℕ) (ss : List SlaveSpec) (as' : List Leads) (js : List Joined) → All (λ (s : SlaveSpec). length s.mac ≡ 6) ss → AllSentBy ss as' js → last + 1 + count_by (λ (s : SlaveSpec). s.eoe) ss ≤ many → Behind place last ss as' js → Sums last ss as'
+    sums place last [] [] [] macs sends room b = record { sent = 0; begun = zeros m; came = omega arith }
+    sums place last [] [] (j ∷ js) macs sends room b = absurd sends
+    sums place last [] (a ∷ as') js macs sends room b = absurd sends
+    sums place last (s ∷ ss) [] js macs sends room b = absurd sends
+    sums place last (s ∷ ss) (a ∷ as') [] macs sends room b = absurd sends
+    sums place last (s ∷ ss) (a ∷ as') (j ∷ js) macs sends room b =
+        go s.eoe refl (λ later less behind. sums (suc place) later ss as' js (All-tail (λ (s : SlaveSpec). length s.mac ≡ 6) s ss macs) sends.1 less behind)
       where
         here : {X : Type 0} (f : ℕ → X) → f place ≡ f (place + 0)
         here f = let same : place ≡ place + 0 = omega arith in ap f same
@@ -230,8 +267,7 @@ module _ (plan : Scenario) (fs : List Exchanged) (missed : ℕ) (leads : List Le
         x = record {
           mac = All-head (λ (s : SlaveSpec). length s.mac ≡ 6) s ss macs;
           started = here (λ m. started_at leads m) ∙ b.1.0 0;
-          joined = here (λ m. packets_at (joined_in led) m) ∙ b.1.1 0;
-          come = come.0;
+          packets = here (λ m. packets_at joined m) ∙ b.1.1 0;
           sends = sends.0;
         }
 
@@ -281,13 +317,13 @@ module _ (plan : Scenario) (fs : List Exchanged) (missed : ℕ) (leads : List Le
       pub within : entered ≤ host_cuts plan.host + cuts_begun plan.slaves leads
       pub most : entered + packets_begun plan.slaves leads ≤ entered * ((n + 1) * (n + 1))
 
-    pub switched_so : (rest : List (ArrayVec ℕ)) → All (λ (s : SlaveSpec). length s.mac ≡ 6) plan.slaves → AllCome plan 0 plan.slaves leads → AllSend (waiting_work n) plan.slaves leads (joined_in led) → All (IsAtPort many) es → arrivals_at 0 es ++ rest ≡ plan.host → Switches
-    switched_so rest macs come sends at host =
+    pub switched_so : (rest : List (ArrayVec ℕ)) → All (λ (s : SlaveSpec). length s.mac ≡ 6) plan.slaves → AllSentBy plan.slaves leads joined → All (IsAtPort many) es → arrivals_at 0 es ++ rest ≡ plan.host → Switches
+    switched_so rest macs sends at host =
         let few : many ≤ n + 1 = omega (arith, few_ports plan.slaves, least) in
         let within = laws.within few (come_at many es at) in
         let entries = entries_within n plan.slaves es at in
         let forwards = forwards_within n (switched many es).forwards plan.slaves in
-        let all = sums 0 0 plan.slaves leads (joined_in led) macs come sends same_many (front (λ m. slice_get ports m), (front (λ m. started_at leads m), front (λ m. packets_at (joined_in led) m))) in
+        let all = sums 0 0 plan.slaves leads joined macs sends same_many (front (λ m. slice_get ports m), (front (λ m. started_at leads m), front (λ m. packets_at joined m))) in
         let own = host_cuts (arrivals_at 0 es) in
         let most = host_least n (arrivals_at 0 es) in
         let times = mul-le n (queue_work n (arrivals_at 0 es)) n (own * (n + 1)) (omega arith) most in

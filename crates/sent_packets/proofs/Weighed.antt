@@ -1,13 +1,17 @@
 -- WHAT ONE SLAVE'S PACKETS COME TO: those that came into hand of it, those that it sent back, and those that its downloads emitted.
-use Rattle.std.proofs.Common.{◌≡◌, ℕ, suc, ◌+◌, ◌*◌, ◌/◌, ◌≤◌, ◌==◌, ◌&&◌, ◌||◌, not, Bool, true, false, cond, Option, Some, None, List, [], ◌∷◌, length, filter, refl, sym, ap, ◌∙◌, subst, arith, if◌then◌else◌}
-use Rattle.std.specs.Prelude.{sum_by, option_map, nat_lt}
-use Rattle.std.proofs.lemmas.List.Sums.{sum_by-cons}
+use Rattle.std.proofs.Common.{◌≡◌, ℕ, suc, ◌+◌, ◌*◌, ◌/◌, ◌≤◌, ◌==◌, ◌&&◌, ◌||◌, not, Bool, true, false, cond, Option, Some, None, List, [], ◌∷◌, ◌++◌, take, length, filter, refl, sym, ap, ◌∙◌, subst, arith, if◌then◌else◌}
+use Rattle.std.specs.Prelude.{◌%◌, sum_by, slice_get, option_map, nat_lt}
+use Rattle.std.proofs.lemmas.List.Elements.{filter-append}
+use Rattle.std.proofs.lemmas.List.Sums.{sum_by-cons, sum_by-append}
 use Rattle.std.proofs.lemmas.Nat.{mul-le}
+use Rattle.std.proofs.lemmas.Option.{slice_get_within, get_or_from_slice_get}
+use Rattle.std.proofs.Math.Seq.{take-suc}
 use Rattle.coe_client.specs.Talk.{service_view}
 use Rattle.coe_model.specs.Server.{emergency, packet, emission_of}
 use Rattle.eoe_model.specs.Client as EoeClient
 use Rattle.eoe_model.specs.Echo.{echo_of}
 use Rattle.life_counts.specs.Begun.{service_most, begun_most}
+use Rattle.life_runs.specs.Led.{Comes}
 use Rattle.master_hand.specs.Brings.{as_list}
 use Rattle.master_hand.specs.Spoken.{Asked, sdo, file, drive, net, passed}
 use Rattle.master_hand.specs.Talk.{asked_of}
@@ -16,8 +20,11 @@ use Rattle.run_work.specs.Packets.{cuts, may_echo, waiting_work}
 use Rattle.plan_counts.specs.Asked.{asked_most}
 use Rattle.plan_counts.specs.Split.{sdo_cuts, entering}
 use Rattle.script_runs.specs.Came.{handed_over, AreThose, is_packet}
+use Rattle.script_runs.proofs.Came.{listed}
 use Rattle.segment_plan.specs.declared.service.Service as Plan
 use Rattle.few_replies.specs.Shapes.{Shape, sdo_emission, echo_mails}
+use Rattle.served_runs.specs.Came.{ServedCame}
+use Rattle.served_runs.specs.Served.{Keyed}
 use Rattle.slave_model.specs.Profile.{Profile}
 use Rattle.sent_packets.specs.Sends.{of_emission, asked_sends, sends_most, all_most}
 use Rattle.state_exchange.specs.Stated.{Service}
@@ -206,3 +213,56 @@ module _ (n : ℕ) (p : Profile) (law : Echoes p.mac) where
   -- ALL THAT A SLAVE MAY SEND by the services that came into hand
   pub all_send : (room : ℕ) (ts : List Plan.Service) (qs : List (Service Asked)) → AreThose room ts (filter (λ q. not (is_packet q)) qs) → all_most (waiting_work n) p qs ≤ echoes qs + (n + 1) * sum_by entering ts
   all_send room ts qs those = summed (sum_by echo_cuts qs) (echoes qs) (sum_by echo_cuts (filter (λ q. not (is_packet q)) qs)) ((n + 1) * sum_by entering ts) (parted echo_cuts is_packet qs) (those_send room ts (filter (λ q. not (is_packet q)) qs) those)
+
+  -- ---- over a serving: a mail that is passed on sends nothing
+  abbrev over : Option Asked → Option (Service Asked)
+  over found = option_map (λ (a : Asked). Service.Mails a) found
+
+  mails_sent : (room : ℕ) (t : Plan.Service) (q : Asked) → asked_of room t ≡ Some q → echo_cuts (Service.Mails q) ≤ (n + 1) * entering t
+  mails_sent room (Plan.Service.Sdo service) q e = one_service room (Plan.Service.Sdo service) (Service.Mails q) (ap over e)
+  mails_sent room (Plan.Service.ReadFile name pass) q e = one_service room (Plan.Service.ReadFile name pass) (Service.Mails q) (ap over e)
+  mails_sent room (Plan.Service.WriteFile name pass bytes) q e = one_service room (Plan.Service.WriteFile name pass bytes) (Service.Mails q) (ap over e)
+  mails_sent room (Plan.Service.ReadIdn number idn elements) q e = one_service room (Plan.Service.ReadIdn number idn elements) (Service.Mails q) (ap over e)
+  mails_sent room (Plan.Service.WriteIdn number idn elements bytes) q e = one_service room (Plan.Service.WriteIdn number idn elements bytes) (Service.Mails q) (ap over e)
+  mails_sent room (Plan.Service.SetIp block) q e = one_service room (Plan.Service.SetIp block) (Service.Mails q) (ap over e)
+  mails_sent room Plan.Service.GetIp q e = one_service room Plan.Service.GetIp (Service.Mails q) (ap over e)
+  mails_sent room (Plan.Service.State target) q e = absurd (let bad : None ≡ Some q = e in cc)
+  mails_sent room (Plan.Service.Forward sent) q e = absurd (let bad : None ≡ Some q = e in cc)
+
+  take_more : (script : List Plan.Service) (i : ℕ) (t : Plan.Service) → slice_get script i ≡ Some t → sum_by entering (take (suc i) script) ≡ sum_by entering (take i script) + entering t
+  take_more script i t at =
+      let near = slice_get_within script i t at in
+      let taken : take (suc i) script ≡ take i script ++ t ∷ [] = take-suc script i t near ∙ ap (λ d. take i script ++ d ∷ []) (get_or_from_slice_get script i t t at) in
+      omega (arith, ap (sum_by entering) taken, sum_by-append entering (take i script) (t ∷ []), sum_by-cons entering t [])
+
+  grown : (k x s e t f : ℕ) → x ≤ k * e → t ≡ s + e → x + k * s ≤ f + k * t
+  grown k x s e t f l is =
+      let spread : k * (s + e) ≡ k * s + k * e = omega arith in
+      let turned : k * t ≡ k * (s + e) = ap (λ z. k * z) is in
+      omega (arith, l, spread, turned)
+
+  -- what one more of the script may send, or a packet
+  one_more : (room : ℕ) (script : List Plan.Service) (i m : ℕ) (b : Option (Service Asked)) → Comes room script i b m →
+      sum_by echo_cuts (listed b) + (n + 1) * sum_by entering (take i script) ≤ echoes (listed b) + (n + 1) * sum_by entering (take m script)
+  one_more room script i _ _ Comes.none = omega arith
+  one_more room script i _ _ (Comes.mails t q at asks) =
+      let sent = mails_sent room t q asks in
+      grown (n + 1) (sum_by echo_cuts (Service.Mails q ∷ [])) (sum_by entering (take i script)) (entering t) (sum_by entering (take (suc i) script)) (echoes (Service.Mails q ∷ [])) (omega (arith, sent, sum_by-cons echo_cuts (Service.Mails q) [])) (take_more script i t at)
+  one_more room script i _ _ (Comes.state target at) =
+      let q : Service Asked = Service.State (target % 16) in
+      grown (n + 1) (sum_by echo_cuts (q ∷ [])) (sum_by entering (take i script)) 0 (sum_by entering (take (suc i) script)) (echoes (q ∷ [])) (omega (arith, sum_by-cons echo_cuts q [])) (omega (arith, take_more script i (Plan.Service.State target) at))
+  one_more room script i _ _ (Comes.packet octets frame) =
+      let q : Service Asked = Service.Mails (net (EoeClient.packet octets frame)) in
+      let same : echoes (q ∷ []) ≡ sum_by echo_cuts (q ∷ []) = refl in
+      omega (arith, same)
+
+  echoes_last : (qs : List (Service Asked)) (q : Service Asked) → echoes (qs ++ q ∷ []) ≡ echoes qs + echoes (q ∷ [])
+  echoes_last qs q = ap (sum_by echo_cuts) (filter-append is_packet qs (q ∷ [])) ∙ sum_by-append echo_cuts (filter is_packet qs) (filter is_packet (q ∷ []))
+
+  pub served_send : (room : ℕ) (script : List Plan.Service) (i : ℕ) (ks : List Keyed) (qs : List (Service Asked)) → ServedCame room script i ks qs → all_most (waiting_work n) p qs ≤ echoes qs + (n + 1) * sum_by entering (take i script)
+  served_send room script _ _ _ ServedCame.none = omega arith
+  served_send room script _ _ _ (ServedCame.own i m ks qs q came comes) =
+      omega (arith, served_send room script i ks qs came, one_more room script i m (Some q) comes, sum_by-append echo_cuts qs (q ∷ []), echoes_last qs q)
+  served_send room script _ _ _ (ServedCame.mail i ks qs k came) =
+      let q : Service Asked = Service.Mails (passed k.mail) in
+      omega (arith, served_send room script i ks qs came, sum_by-append echo_cuts qs (q ∷ []), sum_by-cons echo_cuts q [], echoes_last qs q)

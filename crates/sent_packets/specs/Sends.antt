@@ -1,8 +1,9 @@
 -- THE PACKETS THAT A SLAVE MAY SEND by a service of its master.
-use Rattle.std.specs.Prelude.{◌≡◌, ℕ, ◌<◌, ◌≤◌, true, Option, Some, None, List, [], ◌∷◌, sum_by}
+use Rattle.std.specs.Prelude.{◌≡◌, ℕ, ◌<◌, ◌≤◌, Bool, true, false, Option, Some, None, List, [], ◌∷◌, sum_by, Ok, Err}
 use Rattle.coe_model.specs.Server.{Emission, emergency, packet}
 use Rattle.eoe_model.specs.Network.{Station}
 use Rattle.link_mails.specs.Body.{Body}
+use Rattle.mailbox_mail.specs.declared.mail.Kind.{Kind}
 use Rattle.master_hand.specs.Brings.{as_list}
 use Rattle.master_hand.specs.Joins.{fragment_in}
 use Rattle.master_hand.specs.Spoken.{Asked, sdo, file, drive, net, passed}
@@ -55,3 +56,12 @@ pub record Sends (weigh : List ℕ → ℕ) (room : ℕ) (mails : List Body) (mo
   pub cut : parts fragment_in mails ≡ all_fragments room packets
   pub are : ArePackets packets
   pub few : sum_by weigh (octets_of packets) ≤ most
+
+-- a mail of EoE, by which a packet may come to a slave
+abbrev pub of_network : Kind → Bool
+of_network Kind.EoE = true
+of_network kind = false
+
+abbrev pub is_network : Body → Bool
+is_network (Ok m) = of_network m.kind
+is_network (Err fault) = false

@@ -1,5 +1,5 @@
 -- ALL SLAVES OF A SERVING by a frame.
-use Rattle.std.proofs.Common.{◌≡◌, ℕ, suc, ◌&&◌, Bool, List, [], ◌∷◌, map, refl, ap₂, sym, ◌∙◌, subst, if◌then◌else◌}
+use Rattle.std.proofs.Common.{◌≡◌, ℕ, suc, ◌&&◌, Bool, true, false, List, [], ◌∷◌, map, refl, ap₂, sym, ◌∙◌, subst, if◌then◌else◌}
 use Rattle.std.specs.Prelude.{All}
 use Rattle.datagrams.specs.Datagram as Raw
 use Rattle.frame_pass.specs.Passing.{datagrams_after}
@@ -94,10 +94,7 @@ module _ (plan : Scenario) (made : ℕ) (ds : List Raw.Datagram) (ring : RingSta
         LivedFrom place ss ws ns → AllServedAt plan place ss ws ns →
         given_up recover made (behind_frame is_followed is_passed made seen_frame fate place (served_members lens place ss ws ns) (turns_of ss ws vs ys) es) (carried gives fate vs)
         ≡ served_members lens place ss (map (served_behind lens recover plan.retry gives made f) vs) (nodes_behind fate place ws ns ss es)
-    all_behind recover gives fate is same place [] [] [] vs ys es lived at = none fate vs
-      where
-        none : (fate : Fate) (vs : List ServedTurn) → given_up recover made [] (carried gives fate vs) ≡ []
-        none fate vs = refl
+    all_behind recover gives fate is same place [] [] [] vs ys es lived at = refl
     all_behind recover gives fate is same place [] [] (n ∷ ns) vs ys es lived at = absurd at
     all_behind recover gives fate is same place [] (w ∷ ws) ns vs ys es lived at = absurd at
     all_behind recover gives fate is same place (s ∷ ss) [] ns vs ys es lived at = absurd at

@@ -1,12 +1,11 @@
 -- THE LIVES OF A SERVING WITH FAIR MAILS are worked by its slaves in sessions of services and fair mails.
 use Rattle.std.proofs.Common.{ℕ, suc, Bool, List, [], ◌∷◌, map, refl}
 use Rattle.std.specs.Prelude.{All}
-use Rattle.std.proofs.lemmas.List.Elements.{All-head, All-tail, All-nil, All-cons}
+use Rattle.std.proofs.lemmas.List.Elements.{All-head, All-tail}
 use Rattle.frame_view.specs.View.{Lens}
 use Rattle.led_rings.specs.Rings.{AllLedMembers}
 use Rattle.life_model.specs.Lives.{Life, Spot}
-use Rattle.life_runs.specs.First.{leads_from, lens_of, spot_of, script_for}
-use Rattle.life_runs.specs.Led.{new_leads}
+use Rattle.life_runs.specs.First.{lens_of, spot_of}
 use Rattle.link_mails.specs.Body.{Body}
 use Rattle.master_duty.specs.Reply.{Reply}
 use Rattle.master_hand.specs.Spoken.{Asked, is_followed, is_passed}
@@ -17,12 +16,11 @@ use Rattle.seen_lives.specs.Led.{IsFairLife, IsLedLife}
 use Rattle.segment_model.specs.Record.{Frame}
 use Rattle.segment_plan.specs.Sound.{IsSlave}
 use Rattle.segment_plan.specs.declared.plan.Scenario.{Scenario}
-use Rattle.segment_plan.specs.declared.service.Service as Row
 use Rattle.segment_plan.specs.declared.slave.SlaveSpec.{SlaveSpec}
 use Rattle.run_work.specs.Fair.{AsksFair}
 use Rattle.run_work.specs.Lives.{AllServedLives, IsServedLife, first_server}
 use Rattle.served_lives.proofs.Leds.{life_led}
-use Rattle.served_runs.specs.Came.{HasServed, IsFresh}
+use Rattle.served_runs.specs.Came.{HasServed}
 use Rattle.served_runs.specs.Served.{Serves}
 use Rattle.slave_model.specs.Profile.{Profile, IsProfile}
 use Rattle.slave_parts.specs.Parts.{Server}
@@ -31,11 +29,6 @@ use Rattle.slave_server.specs.Spec.{profile_of}
 use Rattle.slave_steps.specs.Node.{Node}
 use Rattle.state_exchange.specs.Families.{InState}
 use Rattle.served_rings.specs.Rings.{AllServedAt, counters_of, served_members}
-
--- nothing has happened to a slave of a plan before its first frame
-pub all_fresh : (rows : List (ℕ × Row.Service)) (place : ℕ) (ss : List SlaveSpec) → All IsFresh (leads_from rows place ss)
-all_fresh rows place [] = All-nil IsFresh
-all_fresh rows place (s ∷ ss) = All-cons IsFresh (new_leads (script_for place rows) (spot_of place s)) (leads_from rows (suc place) ss) (record { number = refl; started = refl }) (all_fresh rows (suc place) ss)
 
 -- a life that the master of a plan's speaker leads, with fair mails, is worked so
 abbrev pub LifeLaw : Type 0

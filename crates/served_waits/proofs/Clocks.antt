@@ -21,7 +21,7 @@ use Rattle.plan_ring.specs.Round.{WentRound, all_seen, frame_seen, ring_after, r
 use Rattle.plan_ring.proofs.Known.{AllBoot, all_boot}
 use Rattle.plan_ring.proofs.Lives.{one_after}
 use Rattle.run_frames.specs.Answers.{AllAnswer, AllAsk, AsksFirst, EachAsks, StandAnswers}
-use Rattle.run_frames.specs.Goes.{Under, is_same, stepped_behind}
+use Rattle.run_frames.specs.Goes.{Under, all_back, all_lost, clocked_behind, is_same, stepped_behind}
 use Rattle.run_frames.specs.Led.{AreLed}
 use Rattle.segment_model.specs.Record.{Frame}
 use Rattle.segment_model.specs.Slaves.{Datagram}
@@ -44,13 +44,48 @@ use Rattle.slave_clocks.specs.Clocks.{AllAnswered, AllAsked, AllStand, AnswersAs
 use Rattle.slave_clocks.specs.Stands.{StandsTo}
 use Rattle.slave_clocks.proofs.Each.{each_answers, each_stand, meets}
 use Rattle.slave_clocks.proofs.Opened.{nothing_awaited}
-use Rattle.slave_clocks.proofs.Pairs.{RunOn, clocks, given_all}
+use Rattle.slave_clocks.proofs.Turns.{given}
 use Rattle.slave_server.specs.Serving.{Serving}
 use Rattle.slave_server.specs.Spec.{node_of}
 use Rattle.slave_steps.specs.Node.{Node, node_passed}
-use Rattle.whole_ring.specs.Members.{AllLived}
+use Rattle.whole_ring.specs.Members.{AllLived, Member}
 use Rattle.whole_ring.specs.Turning.{AllTurn, Turn, behind_frame, frame_at, given_up, next_life}
 use Rattle.whole_ring.proofs.Members as Members
+
+-- ---- THE CLOCKS of the slaves as they are counted
+abbrev pub clocks : List Slave → List Bool
+clocks cs = map (λ (c : Slave). c.stepped) cs
+
+-- behind a frame they run on
+abbrev pub RunOn : ℕ → List Slave → List Slave → Type 0
+RunOn number [] [] = ⊤
+RunOn number (c ∷ cs) (d ∷ ds) = (d ≡ clocked_behind number c d.life) × RunOn number cs ds
+RunOn number _ _ = ⊥
+
+module _ (x : Spot → Speech Body Asked Reply) (number : ℕ) where
+  pub run_back : (back : List (Datagram Body)) (cs : List Slave) (us : List (Under Body Asked Reply)) → length us ≡ length cs → RunOn number cs (all_back x acknowledged is_followed is_passed number back cs us)
+  run_back back [] [] e = tt
+  run_back back [] (u ∷ us) e = absurd (cc)
+  run_back back (c ∷ cs) [] e = absurd (cc)
+  run_back back (c ∷ cs) (u ∷ us) e = (refl, run_back back cs us (let f : length us ≡ length cs = cc in f))
+
+  pub run_lost : (gives : Bool) (recover : ℕ) (sent : List (Datagram Body)) (cs : List Slave) (us : List (Under Body Asked Reply)) → length us ≡ length cs → RunOn number cs (all_lost x acknowledged is_followed is_passed gives recover number sent cs us)
+  run_lost gives recover sent [] [] e = tt
+  run_lost gives recover sent [] (u ∷ us) e = absurd (cc)
+  run_lost gives recover sent (c ∷ cs) [] e = absurd (cc)
+  run_lost gives recover sent (c ∷ cs) (u ∷ us) e = (refl, run_lost gives recover sent cs us (let f : length us ≡ length cs = cc in f))
+
+-- a give-up answers for nothing
+given_all : {S V A Q R : Type 0} (recover made : ℕ) (bs : List Bool) (ms ns : List (Member S V A Q R)) (carried : List Bool) → AllStand (clocks_on made bs ms ns) ns → AllStand (clocks_on made bs ms (given_up recover made ns carried)) (given_up recover made ns carried)
+given_all recover made bs ms [] carried k = k
+given_all recover made bs ms (n ∷ ns) [] k = k
+given_all recover made [] ms (n ∷ ns) (g ∷ gs) k = absurd k
+given_all recover made (b ∷ bs) [] (n ∷ ns) (g ∷ gs) k = absurd k
+given_all {S} {V} {A} {Q} {R} recover made (b ∷ bs) (m ∷ ms) (n ∷ ns) (g ∷ gs) k = (one g, given_all recover made bs ms ns gs k.1)
+  where
+    one : (g : Bool) → (let o : Member S V A Q R = if g then record n { life = gives_up recover n.spot made n.life } else n in StandsTo (stepped_behind m.pace made (is_same (way_of 1 1 m.life) (way_of 1 1 o.life)) b) o.life o.life.stand o.node.registers)
+    one true = given recover made n.spot n.life _ n.node.registers
+    one false = k.0
 
 -- before the first frame nothing is awaited
 pub first_stand : (lens : ℕ → Lens) (rows : List (ℕ × Row.Service)) (place at : ℕ) (ss : List SlaveSpec) (paces : List ℕ) →
@@ -235,7 +270,7 @@ module _ (plan : Scenario) (is : Plan.IsPlan plan) (known : IsKnown plan) (fs : 
   pub answers : f.fate ≡ Pass → AllAsk (seen (lens_of plan.slaves) f.sent) (turns_of vs) → AllAnswer (seen (lens_of plan.slaves) f.back) cs (turns_of vs)
   answers pass asked =
       let given = each_answers (lens_of plan.slaves) step (FitsPlan plan.slaves) is_followed is_passed gs ring f.sent y.datagrams y.frame ms x.lives
-          (meets (lens_of plan.slaves) step (FitsPlan plan.slaves) is_followed is_passed gs ring f.sent y.datagrams y.frame ms turns x.lives asks) (sym went.fate ∙ pass) [] ms turns (clocks cs) refl x.lives.each asks stands
-          (all_asked 0 plan.slaves ws x.nodes vs each x.lives.each x.at asked) in
+      (meets (lens_of plan.slaves) step (FitsPlan plan.slaves) is_followed is_passed gs ring f.sent y.datagrams y.frame ms turns x.lives asks) (sym went.fate ∙ pass) [] ms turns (clocks cs) refl x.lives.each asks stands
+      (all_asked 0 plan.slaves ws x.nodes vs each x.lives.each x.at asked) in
       all_answer (seen (lens_of plan.slaves) f.back) 0 plan.slaves ws x.nodes vs cs each led x.lives.each x.at
       (subst (λ (octets : List ℕ). AllAnswered is_followed is_passed number (seen (lens_of plan.slaves) octets) (clocks cs) ms turns) (sym went.back) given)

@@ -1,5 +1,5 @@
 mod Tells
-pub mod Ready
+mod Ready
 mod Unread
 mod Counted
 mod Stays
@@ -7,3 +7,5 @@ mod Walk
 mod Stations
 mod Seats
 mod Meets
+mod Clocks
+mod Answered

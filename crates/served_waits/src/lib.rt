@@ -1,5 +1,5 @@
-//! While the frames of a serving gain nothing some slave waits yet. Definitions and a law, no running code: the function here does nothing, and its contract
-//! states the law.
+//! While the frames of a serving gain nothing some slave waits yet; and what its slaves answer. Definitions and laws, no running code: the functions here do
+//! nothing, and their contracts state the laws.
 #![tactic(auto)]
 
 ghost use Rattle.std.specs.Prelude.{ℕ, List, Option};
@@ -16,7 +16,7 @@ ghost use Rattle.run_frames.specs.Runs.{Progress};
 ghost use Rattle.segment_plan.specs.Bound.{slowest};
 ghost use Rattle.segment_plan.specs.Sound.{IsPlan};
 ghost use Rattle.segment_plan.specs.declared.plan.Scenario.{Scenario};
-ghost use Rattle.served_places.specs.Answered.{ServedWaits};
+ghost use Rattle.served_places.specs.Answered.{ServedAnswers, ServedAsks, ServedWaits};
 ghost use Rattle.served_places.specs.Toured.{IsServedToured};
 ghost use Rattle.served_runs.specs.Served.{Serves, all_serve};
 ghost use Rattle.served_waits.specs.Eager.{ServedEagerIn};
@@ -33,4 +33,14 @@ pub fn served_waits_law()
     served_rings::served_ring_law();
     plan_speakers::any_law();
     tagged_waits::parts_never();
+}
+
+/// EACH SLAVE OF A PLAN'S RING ANSWERS what awaits a step of its processor, by each frame of a serving that came back, where its frames went round the ring and
+/// ask by the inward half first: behind a step it shows the state that its opening awaits, and acknowledges the repeat request.
+pub fn served_answers_law()
+    ensures { (plan : Scenario) (fs : List Exchanged) (again : Option (List ℕ)) (missed : ℕ) (ws : List Serves) (p : Progress) (cs : List (Clocked Body Asked Reply)) → IsPlan plan → IsKnown plan →
+        (run : IsServedToured (lens_of plan.slaves) plan.recover plan.retry (slowest plan.paces) (all_serve plan.paces (first_leads plan)) fs again missed ws p cs) → AllRound (ring_of plan) fs → ServedAsks run → ServedAnswers run }
+{
+    frame_view::seen_is();
+    served_rings::served_ring_law();
 }

@@ -2,4 +2,4 @@ mod Lives
 pub mod Last
 pub mod Said
 mod Spent
-mod Told
+pub mod Told

@@ -1,7 +1,8 @@
 use Rattle.life_runs.specs.First.{first_leads, lens_of}
 use Rattle.plan_ring.specs.Round.{all_seen}
 use Rattle.plan_ring.proofs.Known.{macs_in}
-use Rattle.served_rings.proofs.Whole.{all_fresh, all_served}
+use Rattle.run_work.proofs.Placed.{all_fresh}
+use Rattle.served_rings.proofs.Whole.{all_served}
 use Rattle.served_rings.proofs.served_lives_law.Goals as goal
 
 pub returns : goal.returns
