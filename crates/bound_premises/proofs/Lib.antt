@@ -13,5 +13,5 @@ pub mod Scripts
 pub mod Settled
 pub mod Tours
 mod Uncut
-mod Unpassed
+pub mod Unpassed
 mod Walk
