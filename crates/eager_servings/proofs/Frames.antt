@@ -37,7 +37,7 @@ use Rattle.plan_met.specs.Dues.{AllDue}
 use Rattle.segment_model.specs.Slaves.{Datagram}
 use Rattle.segment_plan.specs.declared.plan.Scenario.{Scenario}
 use Rattle.segment_plan.specs.declared.service.Service as Plan
-use Rattle.served_runs.specs.Served.{Keyed, Serves, ServedTurn, ServedComes, IsServedTurn, AllServedTurn, served_behind}
+use Rattle.served_runs.specs.Served.{Keyed, Serves, ServedTurn, ServedComes, IsServedTurn, AllServedTurn, gives_it, served_behind}
 use Rattle.served_runs.specs.Told.{Passed}
 use Rattle.served_waits.specs.Eager.{AllStill, leads_of, turns_of}
 use Rattle.state_exchange.specs.Stated.{Service}
@@ -172,6 +172,6 @@ module _ (plan : Scenario) (recover retry : ℕ) (gives : Bool) (made : ℕ) (f 
   gets_none place (w ∷ ws) (v ∷ vs) [] ns back behind t r = absurd r
   gets_none place (w ∷ ws) (v ∷ vs) (m ∷ ms) [] back behind t r = absurd r
   gets_none place (w ∷ ws) (v ∷ vs) (m ∷ ms) (n ∷ ns) back behind t r = (
-    record { packet = gets_one plan (waiting_at plan es place) (waiting_at plan more place) (none place); asked = λ e. mails_before t.0.comes (mails_less _ v.waits e) },
+    record { packet = gets_one plan (waiting_at plan es place) (waiting_at plan more place) (none place); asked = λ e. mails_before t.0.comes (mails_less (gives_it (lens_of plan.slaves) recover retry gives f.fate v) v.waits e) },
     gets_none (suc place) ws vs ms ns back behind t.1 r.1,
   )
