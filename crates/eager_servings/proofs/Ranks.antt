@@ -1,5 +1,5 @@
 -- HOW MANY STEPS the mails that wait, and those that are passed on, may still come: none comes back, and where none came a step on all stand where they did.
-use Rattle.std.proofs.Common.{◌≡◌, ◌≤◌, ◌<◌, ℕ, zero, suc, ◌+◌, ◌*◌, ◌&&◌, ◌==◌, Bool, true, false, Option, Some, None, List, [], ◌∷◌, ◌++◌, map, length, refl, sym, ap, ◌∙◌, subst, arith, if◌then◌else◌, length-append}
+use Rattle.std.proofs.Common.{◌≡◌, ◌≤◌, ◌<◌, ℕ, zero, suc, ◌+◌, ◌*◌, ◌&&◌, ◌==◌, Bool, true, false, Option, Some, None, List, [], ◌∷◌, ◌++◌, map, length, refl, sym, ap, ◌∙◌, arith, if◌then◌else◌, length-append}
 use Rattle.std.specs.Prelude.{nat_lt}
 use Rattle.datagrams.specs.Datagram as Raw
 use Rattle.exchange_model.specs.Exchange.{Speech}
@@ -7,10 +7,10 @@ use Rattle.frame_view.specs.Seen.{seen}
 use Rattle.frame_view.specs.View.{Lens}
 use Rattle.life_frames.specs.Shares.{came_at, given_where}
 use Rattle.life_model.specs.Lives.{Life, Opening, Spot, Stand, clears, era_back, granted, is_shown, last_step, life_back, life_lost, life_next, opening_back, opens, opens_state, passes, passing_begins, reopening, reopens, reopens_at, returns_to_init, shows_clear, steps_on}
-use Rattle.life_runs.specs.Led.{Comes, Exchanged, speech_at}
+use Rattle.life_runs.specs.Led.{Exchanged, speech_at}
 use Rattle.link_mails.specs.Body.{Body}
 use Rattle.master_duty.specs.Reply.{Reply}
-use Rattle.master_hand.specs.Spoken.{Asked, acknowledged, is_followed, is_passed, passed}
+use Rattle.master_hand.specs.Spoken.{Asked, acknowledged, is_followed, is_passed}
 use Rattle.master_side.specs.Passing.{news_back, news_lost}
 use Rattle.bound_premises.proofs.Unpassed.{comes_own}
 use Rattle.run_work.specs.ServedGained.{asked_in}

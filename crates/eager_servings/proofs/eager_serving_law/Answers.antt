@@ -17,7 +17,7 @@ use Rattle.segment_plan.specs.Bound.{slowest}
 use Rattle.segment_plan.specs.declared.service.Service as Plan
 use Rattle.segment_plan.specs.declared.slave.SlaveSpec.{SlaveSpec}
 use Rattle.served_places.proofs.Slaves.{begins_so, first_leads_in}
-use Rattle.served_runs.specs.Served.{Serves, all_serve}
+use Rattle.served_runs.specs.Served.{all_serve}
 use Rattle.toured_servings.proofs.Tours.{bridged}
 use Rattle.eager_servings.proofs.eager_serving_law.Goals as goal
 
