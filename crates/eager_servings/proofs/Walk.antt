@@ -455,7 +455,7 @@ module _ (plan : Scenario) (laws : Laws plan) (slowest : ℕ) where
   pub frames : {fs : List Exchanged} {t : Tour} {ws : List Serves} (toured : Visits.IsTourServed (lens_of plan.slaves) plan.recover plan.retry (all_serve plan.paces (first_leads plan)) fs t ws) (s : State) → ServedRecalledIn plan toured s →
       FramesIn (lens_of plan.slaves) plan.recover plan.retry slowest (all_serve plan.paces (first_leads plan)) (λ (z : Known). IsFirst plan z.state × (z.missed ≡ 0)) Step Ask toured (record { state = s; missed = t.missed })
   frames Visits.IsTourServed.start s k = (k, refl)
-  frames (Visits.IsTourServed.asks fs t ws place key before may) s k = (record { state = s; missed = t.missed }, refl, frames before s k)
+  frames (Visits.IsTourServed.asks fs t ws place key before fits) s k = (record { state = s; missed = t.missed }, refl, frames before s k)
   frames (Visits.IsTourServed.on fs t ws f vs visit before led of) s k = (
     record { state = k.0; missed = t.missed },
     (k.1, missed_on f.fate t (serves_on (lens_of plan.slaves) plan.recover plan.retry slowest t.missed (length fs) f vs) visit),
