@@ -170,7 +170,7 @@ module _ {V M Q R C T A : Type 0} (w : Speaker V M Q R C T) (k : IsSpeaker w) (h
     all_replies row is none m e = go (row_behind row is m true e)
       where
         go : PassedNow w.exchange w.calm w.fair w.states w.naming.more k.last dn.account.started m true (row_heard y.speech (length i.frames) accepted row) → HasReplies w.exchange w.calm w.fair w.states w.naming.more k.last (replies (row.heard ++ accepted))
-        go (PassedNow.heard marks all no) = all refl
+        go (PassedNow.heard marks all state) = all refl
         go (PassedNow.rests target newest yes_ answered) =
             absurd (let has : HasAnswer w.exchange w.calm w.fair (seeing_states w).acknowledged sees_more row = subst Answers is (rests (target, newest)) in
             let no : false ≡ true = sym (ap is_some none) ∙ has m e in cc)
