@@ -25,6 +25,7 @@ use Rattle.tagged_epochs.specs.Spoken.{IsPassed}
 use Rattle.task_model.specs.Accounts.{Started}
 use Rattle.task_model.specs.Promise.{services_in}
 use Rattle.served_replies.specs.Served.{server_behind}
+use Rattle.served_replies.proofs.Newest.{AllValid}
 
 -- what is passed on is a mail
 abbrev pub is_mail : Body → Bool
@@ -79,8 +80,7 @@ module _ (p : Profile) where
   acts_named v (Asked.Passed (Err fault) answers) k = absurd (let no : false ≡ true = k in cc)
 
   abbrev pub AllNamed : List (Service Wanted) → Type 0
-  AllNamed [] = Unit {0}
-  AllNamed (q ∷ qs) = (valid q ≡ true) × AllNamed qs
+  AllNamed qs = AllValid (product_whole parts p) (λ v. true) is_mail qs
 
   module _ (boot : Bool) (station : ℕ) where
     -- THE SERVER BEHIND SERVICES is the one behind them by their names
