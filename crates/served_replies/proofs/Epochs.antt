@@ -5,7 +5,7 @@ use Rattle.exchange_model.specs.Exchange.{plain}
 use Rattle.exchange_model.specs.Rows.{Row}
 use Rattle.frame_view.specs.View.{Lens}
 use Rattle.led_eras.specs.Led.{LedEra}
-use Rattle.life_counts.specs.Seen.{started_seen}
+use Rattle.life_counts.specs.Seen.{service_seen}
 use Rattle.life_model.specs.Lives.{Spot, Era}
 use Rattle.link_mails.specs.Body.{Body}
 use Rattle.mailbox_mail.specs.declared.mail.Mail.{Mail}
@@ -37,7 +37,7 @@ use Rattle.tagged_epochs.proofs.Whole.{epoch_seen}
 use Rattle.task_model.specs.Accounts.{Started}
 use Rattle.task_model.specs.Promise.{services_in}
 use Rattle.served_replies.specs.Served.{IsHeardOf, IsHeardSo, IsServedEra, WasServed, replies_to, server_behind}
-use Rattle.served_replies.proofs.Mails.{AllNamed, IsNamedMail, Snoc, all_mails, behind_named, is_mail, mailer, mailer_runs, mailer_speaks, map_snoc, named_front, named_mail, named_mails, named_take, services_named}
+use Rattle.served_replies.proofs.Mails.{AllNamed, IsNamedMail, Snoc, all_mails, behind_named, is_mail, mailer, mailer_runs, mailer_speaks, map_snoc, named_front, named_mail, named_mails, named_take, services_named, start_named}
 use Rattle.served_replies.proofs.Newest as Newest
 use Rattle.served_replies.proofs.Newest.{exec_is}
 use Rattle.served_replies.proofs.Seen.{clears_so, heard, promised, valid}
@@ -86,10 +86,10 @@ module _ (p : Profile) (k : IsSpeaker (speaker p)) (forgets : Forgets (speaker p
     done = ideal (product_whole parts p) i.slave.node.server.server
 
     -- what came into hand, by its names
-    started_is : e.account.started ≡ map (λ s. started_seen (λ (t : Tagged Body OwnService). t.mail) named_wanted (λ r. r) s) i.era.account.started
+    started_is : e.account.started ≡ map start_named i.era.account.started
     started_is = ap (λ (d : Era Body Asked Reply). d.account.started) (sym i.named)
 
-    services_is : services_in e.account.started ≡ map (λ q. Rattle.life_counts.specs.Seen.service_seen named_wanted q) (services_in i.era.account.started)
+    services_is : services_in e.account.started ≡ map (λ q. service_seen named_wanted q) (services_in i.era.account.started)
     services_is = ap services_in started_is ∙ services_named p i.era.account.started
 
     all_valid : AllNamed p (services_in i.era.account.started)
@@ -101,13 +101,13 @@ module _ (p : Profile) (k : IsSpeaker (speaker p)) (forgets : Forgets (speaker p
 
     -- THE MAIL that is passed on
     module _ (before : List (Started Asked)) (m : Mail) (frame : ℕ) (r : Row Body Asked Reply) (started : e.account.started ≡ before ++ record { service = Service.Mails (passed m); frame = frame } ∷ []) (now : e.side.now ≡ Some r) (passes : r.service ≡ passed m) where
-      last_one : Snoc (λ s. started_seen (λ (t : Tagged Body OwnService). t.mail) named_wanted (λ r. r) s) before (record { service = Service.Mails (passed m); frame = frame }) i.era.account.started
-      last_one = map_snoc (λ s. started_seen (λ (t : Tagged Body OwnService). t.mail) named_wanted (λ r. r) s) i.era.account.started before (record { service = Service.Mails (passed m); frame = frame }) (sym started_is ∙ started)
+      last_one : Snoc start_named before (record { service = Service.Mails (passed m); frame = frame }) i.era.account.started
+      last_one = map_snoc start_named i.era.account.started before (record { service = Service.Mails (passed m); frame = frame }) (sym started_is ∙ started)
 
       row_here : SeenRow i.era.side.now r
       row_here = seen_row i.era.side.now r (ap (λ (d : Era Body Asked Reply). d.side.now) i.named ∙ now)
 
-      heard_of : (x : Snoc (λ s. started_seen (λ (t : Tagged Body OwnService). t.mail) named_wanted (λ r. r) s) before (record { service = Service.Mails (passed m); frame = frame }) i.era.account.started) → SeenRow i.era.side.now r →
+      heard_of : (x : Snoc start_named before (record { service = Service.Mails (passed m); frame = frame }) i.era.account.started) → SeenRow i.era.side.now r →
           IsHeardOf p boot spot.station (server_behind p boot spot.station l.server (services_in before)) m e.passing r
       heard_of x y =
           let q = named_mails p x.last.service (passed m) (ap (λ (s : Started Asked). s.service) x.last_is) in
@@ -141,7 +141,7 @@ module _ (p : Profile) (k : IsSpeaker (speaker p)) (forgets : Forgets (speaker p
     pub served_era : IsServedEra p boot spot.station l.server e left done
     served_era =
         let k = promised (mailer p) speaks (seer_of p boot) (table_of boot) spot l.opened l.server l.registers fs counts e seen_node i in
-        let long : length e.account.started ≡ length i.era.account.started = ap length started_is ∙ length-map i.era.account.started (λ s. started_seen (λ (t : Tagged Body OwnService). t.mail) named_wanted (λ r. r) s) in
+        let long : length e.account.started ≡ length i.era.account.started = ap length started_is ∙ length-map i.era.account.started start_named in
         record {
           count = k.count;
           prefix = omega (arith, long, k.prefix);
@@ -149,7 +149,7 @@ module _ (p : Profile) (k : IsSpeaker (speaker p)) (forgets : Forgets (speaker p
           done_is = k.app
               ∙ exec_is (product_whole parts p) (λ v. true) is_mail whole_states (table_of boot spot.station) l.server 0 (take k.count (services_in i.era.account.started))
               ∙ behind_named p boot spot.station l.server (take k.count (services_in i.era.account.started)) (named_take p k.count (services_in i.era.account.started) all_valid)
-              ∙ ap (server_behind p boot spot.station l.server) (sym (take-map (λ q. Rattle.life_counts.specs.Seen.service_seen named_wanted q) k.count (services_in i.era.account.started)) ∙ ap (take k.count) (sym services_is));
+              ∙ ap (server_behind p boot spot.station l.server) (sym (take-map (λ q. service_seen named_wanted q) k.count (services_in i.era.account.started)) ∙ ap (take k.count) (sym services_is));
           app = ap (λ (v : InState Server). v.inner.app.app) cleared_so;
           handled = ap (λ (v : InState Server). v.inner.handled) cleared_so;
           state = ap (λ (s : Slave (InState Server) Body). s.registers.state) (sym i.stands) ∙ k.state;
