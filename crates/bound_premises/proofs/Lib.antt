@@ -1,11 +1,11 @@
-mod Ahead
-mod Asks
+pub mod Ahead
+pub mod Asks
 mod Counts
 mod First
 mod Frames
 mod Maps
 pub mod News
-mod Places
+pub mod Places
 mod Ports
 mod Recalled
 mod Rests

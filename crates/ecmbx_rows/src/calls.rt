@@ -103,11 +103,12 @@ impl Stage {
         cut(row, octets);
     }
 
-    // A datagram that was sent, by the port of its peer.
+    // A datagram that was sent, by its peer.
     fn tell_sent(&self, row: &mut Row<'_>) {
         let at = row.count();
         match self.port.sent().as_slice().get(at) {
             Some(sent) => {
+                row.show(&sent.to.ip);
                 row.show(&sent.to.port);
                 row.digits(sent.bytes.bytes());
             }

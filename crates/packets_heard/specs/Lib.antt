@@ -5,4 +5,5 @@ pub mod Over
 pub mod Recalled
 pub mod Servings
 pub mod Toured
+pub mod Served
 pub mod Visits

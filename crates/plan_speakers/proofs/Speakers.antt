@@ -1,5 +1,5 @@
 -- A MASTER SPEAKS of each service as the client of its protocol does, and of a mail that is passed on by that mail alone.
-use Rattle.std.proofs.Common.{◌≡◌, Bool, true, false, List, [], ◌∷◌, ◌++◌, inl, inr, refl, ap, sym, ◌∙◌, Ok}
+use Rattle.std.proofs.Common.{◌≡◌, Bool, true, false, List, [], ◌++◌, inl, inr, refl, ap, sym, ◌∙◌, Ok}
 use Rattle.std.specs.Prelude.{Some, option_map}
 use Rattle.exchange_model.specs.Exchange.{Exchange, AnswersLast, given, plain}
 use Rattle.exchange_sum.specs.Refusing.{Refusal}

@@ -217,14 +217,16 @@ module _ (m0 m1 m2 : MasterNode) (f : Exchanged) (result : Next)
 
     module _ (tell : (number : ℕ) (us : List Turn) → IsLedFrame lens number f.sent l.leads us → MasterUnder lens plan.recover plan.retry m1 f.sent l.missed us →
         MasterShows lens plan.recover plan.retry m2 (missed_behind lens plan.recover plan.retry f.fate l.missed) (map (led_behind lens plan.recover plan.retry gives number f) us))
-        (goes : (number : ℕ) (us : List Turn) → IsLedFrame lens number f.sent l.leads us → MasterUnder lens plan.recover plan.retry m1 f.sent l.missed us →
-        tour_of m2 ≡ tour_behind plan.retry f.fate (lives_behind lens plan.recover plan.retry l.missed number f us) (tour_of m1) m1.tour.visit.items)
+        (goes : (as' : List Leads) → HasLives lens plan.recover m2 (map lived_of as') → tour_of m2 ≡ tour_behind m1.tour.retry f.fate as' (tour_of m1) m1.tour.visit.items)
         (frame : ℕ) (counts : length fs ≡ frame) (r r' : Log) (recover : r.recover ≡ plan.recover) (before : gaves_noted r.notes ≡ gaves_noted notes) (noted : GaveBy f.fate frame m2 r r')
         (told_before : TurnsAll frame m1 (ReportsOn notes r.notes)) (told_behind : ReportsBy f.fate frame m2 r r')
         (brings : f.fate ≡ Fates.Pass → (us : List Turn) → IsLedFrame lens (length fs) f.sent l.leads us → MasterUnder lens plan.recover plan.retry m1 f.sent l.missed us → HasBrought m2 us (seen lens f.back))
         (heard_before : emergencies_noted r.notes ≡ emergencies_noted notes) (heard_behind : HeardBy f.fate frame m2 r r') where
       shown : MasterShows lens plan.recover plan.retry m2 (missed_behind lens plan.recover plan.retry f.fate l.missed) (leads made.0)
       shown = tell (length fs) made.0 made.1 made.2
+
+      tour_on : tour_of m2 ≡ tour l.missed (tour_of m0)
+      tour_on = goes (leads made.0) (lead_lives lens plan.recover (leads made.0) m2.tour.stops.items shown.each) ∙ (λ i. tour_behind (made.2.retry_is i) f.fate (leads made.0) (visited.0 i) m1.tour.visit.items)
 
       all : AllCounted plan.recover (leads made.0)
       all = counted lens plan plan.retry (fs ++ f ∷ []) _ (leads made.0) (IsLed.on fs l.missed l.leads f made.0 l.lives made.1)
@@ -280,7 +282,7 @@ module _ (m0 m1 m2 : MasterNode) (f : Exchanged) (result : Next)
         gave = given;
         told = told_by f.fate refl;
         heard = heard_by f.fate refl;
-        toured = subst (λ (t : Tour). TouredTo plan (fs ++ f ∷ []) t (leads made.0)) (sym (goes (length fs) made.0 made.1 made.2 ∙ ap (tour l.missed) visited.0)) toured_on;
+        toured = subst (λ (t : Tour). TouredTo plan (fs ++ f ∷ []) t (leads made.0)) (sym tour_on) toured_on;
       }
 
       -- and so do the events of its switch
@@ -353,7 +355,7 @@ module _ (m0 m1 m2 : MasterNode) (f : Exchanged) (result : Next)
 
           remembered_on : On (tour_of m2) (leads made.0)
           remembered_on =
-              subst (λ (t : Tour). On t (leads made.0)) (sym (goes (length fs) made.0 made.1 made.2 ∙ ap (tour l.missed) visited.0))
+              subst (λ (t : Tour). On t (leads made.0)) (sym tour_on)
               (subst (λ (n : ℕ). On (tour n (tour_of m0)) (lives_behind lens plan.recover plan.retry n (length fs) f made.0)) l.shows.missed_is remembered_first)
 
           pub stands_on : RunStands plan m2 r'.notes (fs ++ f ∷ []) b' ring'

@@ -89,7 +89,7 @@ module _ {V M Q R C T : Type 0} (w : Speaker V M Q R C T) (k : IsSpeaker w) wher
       let words : List M = plain w.naming.speech.emission (map (λ (a : Tagged M Q). a.mail) t.heard) in
       let name : T = w.naming.name t.service in
       let p = passed_name name passes (k.speaks.names name) in
-      inr (ends_if (ends_told w.naming.more words) None (sym (p.1.ends words) ∙ sym ends ∙ ap (λ (o : Option (Option R)). option_map (λ (a : Option R). a) o) ended))
+      inr (ends_if {R = Option R} (ends_told w.naming.more words) None (sym (p.1.ends words) ∙ sym ends ∙ ap (λ (o : Option (Option R)). option_map (λ (a : Option R). a) o) ended))
 
   module _ (never : NeverWaits w.exchange) {A : Type 0} (u : Exchange V A M T (Option R)) (processor : Processor V) (seer : Processor (Rowed V M Q)) (table : ℕ → Table) (spot : Spot) (run : IsRun w u processor seer (table spot.station))
       (opened : ℕ) (v : V) (r : Registers) (fs : List (Frame M)) (counts : Bool) (e : Era M T (Option R)) (n : Slave V M) (is : IsSeen w seer table spot opened v r fs counts e n) where

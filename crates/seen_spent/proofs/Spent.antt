@@ -70,13 +70,13 @@ module _ {N M P Q S R : Type 0} (f : N → M) (g : P → Q) (h : S → R) where
     -- ---- a row that is over is over for the other, with no mail held
     over_by : (r : Row N P S) (holding : Option (LinkMail N)) (fresh : Bool) → holding ≡ None → left y (row_seen f g h r) ≡ [] → is_over z holding fresh r ≡ true → (z.handed r.service ≡ true → y.handed (g r.service) ≡ true) →
         (b c : Bool) → y.handed (g r.service) ≡ b → z.handed r.service ≡ c → is_over y (box_as f holding) fresh (row_seen f g h r) ≡ true
-    over_by r holding fresh held none over hands true c is was = (λ i. is_none_left (none i) && (if is i then is_none (box_as f (held i)) else is_some (option_map (λ (a : S × ℕ). (h a.0, a.1)) r.answer) && not fresh))
+    over_by r holding fresh held none over hands true c is was = (λ i. is_none_left (none i) && (if is i then is_none (box_as f (held i)) else is_some {T = R × ℕ} (option_map (λ (a : S × ℕ). (h a.0, a.1)) r.answer) && not fresh))
     over_by r holding fresh held none over hands false true is was = absurd (let no : true ≡ false = sym (hands was) ∙ is in cc)
     over_by r holding fresh held none over hands false false is was =
         let mine : (if z.handed r.service then is_none holding else is_some r.answer && not fresh) ≡ true = and_right (is_none_left (left z r)) (if z.handed r.service then is_none holding else is_some r.answer && not fresh) over in
         let said : (is_some r.answer && not fresh) ≡ true = sym (ap (λ (d : Bool). if d then is_none holding else is_some r.answer && not fresh) was) ∙ mine in
-        (λ i. is_none_left (none i) && (if is i then is_none (box_as f holding) else is_some (option_map (λ (a : S × ℕ). (h a.0, a.1)) r.answer) && not fresh))
-        ∙ ap (λ (d : Bool). d && not fresh) (some_same (λ (a : S × ℕ). (h a.0, a.1)) r.answer) ∙ said
+        (λ i. is_none_left (none i) && (if is i then is_none (box_as f holding) else is_some {T = R × ℕ} (option_map (λ (a : S × ℕ). (h a.0, a.1)) r.answer) && not fresh))
+        ∙ ap (λ (d : Bool). d && not fresh) (some_same {Y = R × ℕ} (λ (a : S × ℕ). (h a.0, a.1)) r.answer) ∙ said
 
     free_by : (d : Side N P S) (now : Option (Row N P S)) → d.halves.out.holding ≡ None → OfRow (λ (r : Row N P S). z.handed r.service ≡ true → y.handed (g r.service) ≡ true) now → OfRow (λ (r : Row N P S). left y (row_seen f g h r) ≡ []) now →
         is_free z d now ≡ true → is_free y (side_seen f g h d) (option_map (λ (r : Row N P S). row_seen f g h r) now) ≡ true

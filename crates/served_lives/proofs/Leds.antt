@@ -1,5 +1,5 @@
 -- A LIFE BY LED EPOCHS OF A SLAVE OF A SERVING is one that the master of its speaker led.
-use Rattle.std.proofs.Common.{false, ◌≡◌, ℕ, Bool, true, List, [], ◌∷◌, ◌++◌, refl, sym, subst}
+use Rattle.std.proofs.Common.{◌≡◌, ℕ, Bool, true, false, List, [], ◌∷◌, ◌++◌, refl, sym, subst}
 use Rattle.frame_view.specs.View.{Lens}
 use Rattle.frames_seen.specs.Slaves.{registers_seen}
 use Rattle.led_lives.specs.Lives.{LedKept, LedYet, LedLeft, AllLeds, IsLedLived}

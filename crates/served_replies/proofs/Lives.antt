@@ -82,7 +82,7 @@ module _ (p : Profile) (k : IsSpeaker (speaker p)) (forgets : Forgets (speaker p
   newest_served plan kept counts from at same e fs Stand.Open n now =
       let x = now.lives.epoch in
       let one = era_served p k forgets boot lens spot from x.led e fs n x.era at same in
-      IsServedNewest.lives _ one.done refl one.was
+      IsServedNewest.lives _ one.done refl refl one.was
   newest_served plan kept counts from at same e fs Stand.Gone n now = opens_served plan from at same e fs Stand.Gone n (opening_again spot.start false) now
 
   -- THE WHOLE LIFE

@@ -36,8 +36,8 @@ module _ {V M Q R C T : Type 0} (w : Speaker V M Q R C T) (k : IsSpeaker w) (see
   abbrev SlaveHere : Type 0
   SlaveHere = Slave (Rowed V M Q) (Tagged M Q)
 
-  abbrev open : OpenEra (Rowed V M Q) V (Tagged M Q) (Asked M Q) (Option R)
-  open = record {
+  abbrev epoch : OpenEra (Rowed V M Q) V (Tagged M Q) (Asked M Q) (Option R)
+  epoch = record {
     exchange = seeing w;
     states = seeing_states w;
     processor = seer;
@@ -58,8 +58,8 @@ module _ {V M Q R C T : Type 0} (w : Speaker V M Q R C T) (k : IsSpeaker w) (see
   -- CARRIED OUT are just the first of what came into hand
   pub promised : TasksPromised (seeing w) (seeing_states w) t (λ m. false) (era_frames spot opened (length i.frames) i.frames) spot.station (between v) i.era.side i.era.account i.slave
   promised =
-      let p = session_of open in
-      of_one open (λ station start d a m. TasksPromised (seeing w) (seeing_states w) (table station) (λ z. false) (frames_of open) station start d a m)
+      let p = session_of epoch in
+      of_one epoch (λ station start d a m. TasksPromised (seeing w) (seeing_states w) (table station) (λ z. false) (frames_of epoch) station start d a m)
       (tasks_promised p.exchange p.lawful p.states p.stated p.processor p.table (λ z. false) p.planned.tells p.plan p.planned p.sides p.accounts p.ring p.frames p.tasked)
 
   -- what its slave left, cleared, is what was carried out, cleared
@@ -73,10 +73,10 @@ module _ {V M Q R C T : Type 0} (w : Speaker V M Q R C T) (k : IsSpeaker w) (see
 
   pub valid : Valid (services_in i.era.account.started)
   valid =
-      let z = session_of open in
+      let z = session_of epoch in
       let P : Table → List (Frame (Tagged M Q)) → ℕ → Rowed V M Q → SideHere → AccountHere → SlaveHere → Type 0 =
       (λ u gs station start d a m. AllValid w.exchange w.core k.served w.calm w.fair w.states w.naming.more k.last u (seeing_lawful w k) (seeing_stated w k) (services_in a.started)) in
-      of_one open (λ station start d a m. P (table station) (era_frames spot opened (length i.frames) i.frames) station start d a m)
+      of_one epoch (λ station start d a m. P (table station) (era_frames spot opened (length i.frames) i.frames) station start d a m)
       (of_slaves z.exchange z.lawful z.states z.stated z.processor z.table (λ m. false) z.planned.tells z.plan z.planned z.sides z.accounts z.ring z.frames z.tasked P
       (λ u begun it gs seat a h. all_valid w.exchange w.core k.served w.calm w.fair w.states w.naming.more k.last u (seeing_lawful w k) (seeing_stated w k) (λ m. false) begun it gs seat a h))
 
@@ -84,12 +84,12 @@ module _ {V M Q R C T : Type 0} (w : Speaker V M Q R C T) (k : IsSpeaker w) (see
   pub heard : (before : List (Started (Asked M Q))) (q : Asked M Q) (f : ℕ) → i.era.account.started ≡ before ++ record { service = Service.Mails q; frame = f } ∷ [] → (m : M) (answers : Bool) (row : Row (Tagged M Q) (Asked M Q) (Option R)) → i.era.side.now ≡ Some row →
       row.service ≡ Asked.Passed m answers → IsHeard w.exchange w.naming.more (server_behind w.exchange w.states t v (services_in before)) m answers row
   heard =
-      let z = session_of open in
+      let z = session_of epoch in
       let P : Table → List (Frame (Tagged M Q)) → ℕ → Rowed V M Q → SideHere → AccountHere → SlaveHere → Type 0 =
       (λ u gs station start d a m. Between w.exchange start → AllRight w.exchange w.states u (ideal w.exchange start) (services_in a.started) →
       (before : List (Started (Asked M Q))) (q : Asked M Q) (f : ℕ) → a.started ≡ before ++ record { service = Service.Mails q; frame = f } ∷ [] → (m : M) (answers : Bool) (row : Row (Tagged M Q) (Asked M Q) (Option R)) → d.now ≡ Some row →
       row.service ≡ Asked.Passed m answers → IsHeard w.exchange w.naming.more (server_behind w.exchange w.states u (ideal w.exchange start) (services_in before)) m answers row) in
-      of_one open (λ station start d a m. P (table station) (era_frames spot opened (length i.frames) i.frames) station start d a m)
+      of_one epoch (λ station start d a m. P (table station) (era_frames spot opened (length i.frames) i.frames) station start d a m)
       (of_slaves z.exchange z.lawful z.states z.stated z.processor z.table (λ m. false) z.planned.tells z.plan z.planned z.sides z.accounts z.ring z.frames z.tasked P
       (λ u begun it gs seat a h. λ same all before q f started m answers row now passes.
       newest_heard w.exchange w.core k.served w.calm w.fair w.states w.naming.more k.last u (seeing_lawful w k) (seeing_stated w k) (λ m. false) begun it gs seat a h same all before q f started m answers row now passes))

@@ -58,8 +58,8 @@ module _ {V M Q R : Type 0} (x : Exchange V V M Q R) (more : M → Bool) (last :
       quiet false e = absurd (let no : false ≡ true = e in cc)
 
       by_none : answers ≡ false → hs ≡ all
-      by_none no =
-          let none : all ≡ [] = none_plain x.speech.emission (x.serve v m).1 (quiet (no_reply x.speech.emission (x.serve v m).1) (sym no ∙ k.right)) in
+      by_none unasked =
+          let none : all ≡ [] = none_plain x.speech.emission (x.serve v m).1 (quiet (no_reply x.speech.emission (x.serve v m).1) (sym unasked ∙ k.right)) in
           (append_none hs part.0 (part.1 ∙ none)).0 ∙ sym none
 
       go : (b : Bool) → answers ≡ b → hs ≡ all

@@ -1,5 +1,5 @@
 -- ALL SLAVES OF A SERVING by a frame.
-use Rattle.std.proofs.Common.{◌≡◌, ℕ, suc, ◌&&◌, Bool, List, [], ◌∷◌, map, refl, ap₂, sym, ◌∙◌, subst, if◌then◌else◌}
+use Rattle.std.proofs.Common.{◌≡◌, ℕ, suc, ◌&&◌, Bool, true, false, List, [], ◌∷◌, map, refl, ap₂, sym, ◌∙◌, subst, if◌then◌else◌}
 use Rattle.std.specs.Prelude.{All}
 use Rattle.datagrams.specs.Datagram as Raw
 use Rattle.frame_pass.specs.Passing.{datagrams_after}

@@ -113,7 +113,7 @@ module _ (laws : Laws) (lens : ℕ → Lens) (all : List SlaveSpec) (rows : List
     pub paces_are : map (λ (m : ServedMember). m.pace) (ms place ss paces) ≡ paces
     pub few : length (ms place ss paces) ≤ length ss
 
-  pub all_new : (place : ℕ) (ss : List SlaveSpec) (paces : List ℕ) → length paces ≡ length ss → All IsSlave ss → AllMacs ss → AllLived lens step (FitsPlan all) [] place (new_members lens place ss paces) → AllNew place ss paces
+  all_new : (place : ℕ) (ss : List SlaveSpec) (paces : List ℕ) → length paces ≡ length ss → All IsSlave ss → AllMacs ss → AllLived lens step (FitsPlan all) [] place (new_members lens place ss paces) → AllNew place ss paces
   all_new place [] [] e slaves macs lived = record { lived = tt; led = tt; nodes = refl; paces_are = refl; few = omega arith }
   all_new place [] (pace ∷ paces) e slaves macs lived = absurd (cc)
   all_new place (s ∷ ss) [] e slaves macs lived = absurd (cc)
@@ -135,7 +135,7 @@ module _ (laws : Laws) (lens : ℕ → Lens) (all : List SlaveSpec) (rows : List
   elsewhere_as station place (s ∷ ss) [] e other = absurd (cc)
   elsewhere_as station place (s ∷ ss) (pace ∷ paces) e other = (other.0, elsewhere_as station (suc place) ss paces (let f : length paces ≡ length ss = cc in f) other.1)
 
-  pub distinct_as : (place : ℕ) (ss : List SlaveSpec) (paces : List ℕ) → length paces ≡ length ss → AreDistinct (new_members lens place ss paces) → AreDistinct (ms place ss paces)
+  distinct_as : (place : ℕ) (ss : List SlaveSpec) (paces : List ℕ) → length paces ≡ length ss → AreDistinct (new_members lens place ss paces) → AreDistinct (ms place ss paces)
   distinct_as place [] [] e distinct = tt
   distinct_as place [] (pace ∷ paces) e distinct = tt
   distinct_as place (s ∷ ss) [] e distinct = absurd (cc)

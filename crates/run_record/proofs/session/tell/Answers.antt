@@ -26,16 +26,14 @@ returns-in-Lost-clause-leads c = λ lens recover retry missed number us f fate b
     c.lost.ensures.leads lens recover retry missed number c.in-Lost.after f.sent us f (fate ∙ c.in-Lost.is) refl under
 
 pub returns-in-Pass-clause-toured : goal.returns-in-Pass-clause-toured
-returns-in-Pass-clause-toured c = λ lens recover retry missed number us f fate back under returns.
-    let pass : f.fate ≡ Fates.Pass = fate ∙ c.in-Pass.is in
-    c.returned.ensures.toured lens recover retry missed number f.sent us f pass back under (returns c.in-Pass.is)
-    ∙ ap (λ (k : Fate). tour_behind retry k (lives_behind lens recover retry missed number f us) (tour_of c.args.master.now) c.args.master.now.tour.visit.items) (sym pass)
+returns-in-Pass-clause-toured c = λ lens recover as' h.
+    let m = c.args.master.now in
+    c.returned.ensures.toured lens recover as' h ∙ ap (λ (k : Fate). tour_behind m.tour.retry k as' (tour_of m) m.tour.visit.items) (sym c.in-Pass.is)
 
 pub returns-in-Lost-clause-toured : goal.returns-in-Lost-clause-toured
-returns-in-Lost-clause-toured c = λ lens recover retry missed number us f fate back under returns.
-    let lost : f.fate ≡ Fates.Lost c.in-Lost.after = fate ∙ c.in-Lost.is in
-    c.lost.ensures.toured lens recover retry missed number c.in-Lost.after f.sent us f lost refl under
-    ∙ ap (λ (k : Fate). tour_behind retry k (lives_behind lens recover retry missed number f us) (tour_of c.args.master.now) c.args.master.now.tour.visit.items) (sym lost)
+returns-in-Lost-clause-toured c = λ lens recover as' h.
+    let m = c.args.master.now in
+    c.lost.ensures.toured lens recover as' h ∙ ap (λ (k : Fate). tour_behind m.tour.retry k as' (tour_of m) m.tour.visit.items) (sym c.in-Lost.is)
 
 pub returns-in-Lost-clause-brought : goal.returns-in-Lost-clause-brought
 returns-in-Lost-clause-brought c = λ pass. absurd (let bad : Fates.Lost c.in-Lost.after ≡ Fates.Pass = sym c.in-Lost.is ∙ pass in cc)

@@ -1,0 +1,10 @@
+use Rattle.served_books.proofs.Asked.{course_asked, fair_asked, few_asked}
+use Rattle.served_books.proofs.asked_law.Goals as goal
+
+pub returns-clause-few : goal.returns-clause-few
+returns-clause-few c = λ plan count book ending a.
+    few_asked a.answers.serving.leading.serves a.session book.grams a.answers.serving.asked (course_asked plan count a.session book.frames book.grams a.requests a.owed a.course)
+
+pub returns-clause-fair : goal.returns-clause-fair
+returns-clause-fair c = λ plan count book ending a fair.
+    fair_asked a.answers.serving.leading.serves a.session book.grams a.answers.serving.asked (course_asked plan count a.session book.frames book.grams a.requests a.owed a.course) fair
