@@ -52,6 +52,16 @@ other_entry eoe t bytes octets free e = by t.all (t.sub == 1) (t.index == 0x2F00
     by false true false false false free e = cc
 
 -- ---- CoE
+informed_parts : (fuel opcode part : ℕ) (bytes : List ℕ) → parts fragment_in (map written (information_parts fuel opcode part bytes)) ≡ []
+informed_parts zero opcode part bytes = refl
+informed_parts (suc fuel) opcode part bytes = by (nat_le (length bytes) part) (informed_parts fuel opcode part (drop part bytes))
+  where
+    by : (last : Bool) → parts fragment_in (map written (information_parts fuel opcode part (drop part bytes))) ≡ [] → parts fragment_in (map written (
+        if last then mail (Information opcode false 0 (record { items = bytes })) ∷ []
+        else mail (Information opcode true (parts_of part (length bytes - part)) (record { items = take part bytes })) ∷ information_parts fuel opcode part (drop part bytes))) ≡ []
+    by true rest = refl
+    by false rest = rest
+
 module _ {S : Type 0} where
   choice : (b : Bool) (r s : Outcome S) → Quiet r → Quiet s → Quiet (if b then r else s)
   choice true r s p q = p
@@ -75,16 +85,6 @@ module _ {S : Type 0} where
   stores : (eoe : Bool) (app : S) (t : Target) (bytes : List ℕ) (c : Coe.Coe) → is_packet_entry t ≡ false → (r : Result S ℕ) → Quiet (stored eoe app t bytes (mail c) r)
   stores eoe app t bytes c free (Ok changed) = (refl, λ octets e. other_entry eoe t bytes octets free e)
   stores eoe app t bytes c free (Err code) = aborted app idle t code
-
-  informed_parts : (fuel opcode part : ℕ) (bytes : List ℕ) → parts fragment_in (map written (information_parts fuel opcode part bytes)) ≡ []
-  informed_parts zero opcode part bytes = refl
-  informed_parts (suc fuel) opcode part bytes = by (nat_le (length bytes) part) (informed_parts fuel opcode part (drop part bytes))
-    where
-      by : (last : Bool) → parts fragment_in (map written (information_parts fuel opcode part (drop part bytes))) ≡ [] → parts fragment_in (map written (
-          if last then mail (Information opcode false 0 (record { items = bytes })) ∷ []
-          else mail (Information opcode true (parts_of part (length bytes - part)) (record { items = take part bytes })) ∷ information_parts fuel opcode part (drop part bytes))) ≡ []
-      by true rest = refl
-      by false rest = rest
 
   module _ (o : Tables S) (eoe : Bool) (room : ℕ) (app : S) where
     whole : (t : Target) (bytes : List ℕ) (c : Coe.Coe) → is_packet_entry t ≡ false → Quiet (takes_whole o eoe app t bytes (mail c))

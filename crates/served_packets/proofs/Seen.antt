@@ -1,6 +1,7 @@
 -- OF AN EPOCH THAT IS SEEN as a session the packets that were heard are of the services that came into hand in it.
 use Rattle.std.proofs.Common.{◌≡◌, ℕ, zero, suc, ◌+◌, ◌≤◌, ◌<◌, Bool, true, false, cond, Option, None, List, [], ◌∷◌, ◌++◌, map, take, length, refl, sym, ap, ap₂, ◌∙◌, arith}
 use Rattle.std.specs.Prelude.{sum_by}
+use Rattle.std.proofs.lemmas.List.{map-append}
 use Rattle.std.proofs.lemmas.List.Sums.{sum_by-cons}
 use Rattle.exchange_model.specs.Exchange.{emitted}
 use Rattle.exchange_model.specs.Lifted.{EachOf}
@@ -48,13 +49,9 @@ use Rattle.task_model.proofs.Sessions.{tasks_promised}
 
 -- ---- what frames tell without what is meant by their mails
 module _ {N M : Type 0} (f : N → M) where
-  map_append : {X Y : Type 0} (g : X → Y) (xs ys : List X) → map g (xs ++ ys) ≡ map g xs ++ map g ys
-  map_append g [] ys = refl
-  map_append g (x ∷ xs) ys = ap (λ l. g x ∷ l) (map_append g xs ys)
-
   joined_as : (nss : List (List (News N))) → joined (map (λ ns. all_news_as f ns) nss) ≡ all_news_as f (joined nss)
   joined_as [] = refl
-  joined_as (ns ∷ nss) = ap (λ l. all_news_as f ns ++ l) (joined_as nss) ∙ sym (map_append (λ n. news_as f n) ns (joined nss))
+  joined_as (ns ∷ nss) = ap (λ l. all_news_as f ns ++ l) (joined_as nss) ∙ sym (map-append (λ n. news_as f n) ns (joined nss))
 
   mails_as : (ns : List (News N)) → mails_heard (all_news_as f ns) ≡ map f (mails_heard ns)
   mails_as [] = refl
@@ -76,7 +73,7 @@ module _ {N M : Type 0} (f : N → M) where
 -- the emissions among them
 emitted_untag : {M Q : Type 0} (e : M → Bool) (ts : List (Tagged M Q)) → ByContents e ts → untag (emitted (λ t. is_own t.meant) ts) ≡ emitted e (untag ts)
 emitted_untag e [] c = refl
-emitted_untag e (t ∷ ts) c = go (is_own t.meant) ∙ ap₂ (λ (b : Bool) (l : List _). cond b (t.mail ∷ l) l) c.0 (emitted_untag e ts c.1)
+emitted_untag e (t ∷ ts) c = go (is_own t.meant) ∙ ap₂ (λ (b : Bool) (l : List M). cond b (t.mail ∷ l) l) c.0 (emitted_untag e ts c.1)
   where
     go : (b : Bool) → untag (cond b (t ∷ emitted (λ k. is_own k.meant) ts) (emitted (λ k. is_own k.meant) ts)) ≡ cond b (t.mail ∷ untag (emitted (λ k. is_own k.meant) ts)) (untag (emitted (λ k. is_own k.meant) ts))
     go true = refl
