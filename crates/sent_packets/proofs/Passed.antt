@@ -11,6 +11,7 @@ use Rattle.few_replies.specs.Most.{is_packet_entry, brings_packet, begins_messag
 use Rattle.few_replies.specs.Packets.{is_calm, is_fair}
 use Rattle.few_replies.proofs.Few.{not_true}
 use Rattle.foe_model.specs.Mails as Foe
+use Rattle.foe_model.specs.Model.{foe_exchange}
 use Rattle.foe_model.specs.Octets as FoeOctets
 use Rattle.link_mails.specs.Body.{Body}
 use Rattle.mailbox_mail.specs.declared.mail.Kind.{Kind}
@@ -19,13 +20,14 @@ use Rattle.master_hand.specs.Joins.{fragment_in}
 use Rattle.packet_model.specs.Packets.{parts}
 use Rattle.sent_packets.specs.Sends.{of_network, is_network}
 use Rattle.sent_packets.proofs.Cuts.{parts_append}
-use Rattle.slave_model.specs.Application.{station_tables}
+use Rattle.slave_model.specs.Application.{station_elements, station_files, station_tables}
 use Rattle.slave_model.specs.Product.{served, refusal, side, serve, serve_by, protocol_of}
-use Rattle.slave_model.specs.Profile.{Protocol, Profile, serves}
+use Rattle.slave_model.specs.Profile.{Protocol, Profile, areas_of, serves}
 use Rattle.slave_model.specs.Server.{seat, told_by, heard_by, soe_quiet, refused_gives, failure}
 use Rattle.slave_parts.specs.Parts.{Core, Server, parts as real_parts}
 use Rattle.slave_served.specs.Served.{product_whole}
 use Rattle.soe_model.specs.Mails as Soe
+use Rattle.soe_model.specs.Model.{soe_exchange}
 use Rattle.soe_model.specs.Octets as SoeOctets
 use Rattle.state_exchange.specs.Families.{InState}
 
@@ -214,8 +216,8 @@ module _ (p : Profile) (al : ℕ) where
       let q = outcome (station_tables real_parts p.back al) p.has_eoe p.back j.app j.sdo m free fair in
       ap (parts fragment_in) (map_append written x.answers made) ∙ parts_append (map written x.answers) (map written made)
       ∙ (λ k. q.0 k ++ emits_none x.app x.emission q.1 k)
-  serves_none Protocol.FoE j b net free fair = foe_none _
-  serves_none Protocol.SoE j b net free fair = soe_none _
+  serves_none Protocol.FoE j b net free fair = foe_none ((foe_exchange (station_files real_parts al) (areas_of p)).serve (seat Protocol.FoE j) (heard_by FoeOctets.foe_mail_heard (Foe.other []) b)).1
+  serves_none Protocol.SoE j b net free fair = soe_none ((soe_exchange (station_elements real_parts) (areas_of p)).serve (seat Protocol.SoE j) (heard_by SoeOctets.soe_mail_heard (Soe.other []) b)).1
   serves_none Protocol.EoE j b net free fair = absurd (net refl)
 
   quiet_or : (b : Bool) → parts fragment_in (if b then [] else failure 2 ∷ []) ≡ []

@@ -73,7 +73,7 @@ module _ {N M : Type 0} (f : N → M) where
 -- the emissions among them
 emitted_untag : {M Q : Type 0} (e : M → Bool) (ts : List (Tagged M Q)) → ByContents e ts → untag (emitted (λ t. is_own t.meant) ts) ≡ emitted e (untag ts)
 emitted_untag e [] c = refl
-emitted_untag e (t ∷ ts) c = go (is_own t.meant) ∙ ap₂ (λ (b : Bool) (l : List M). cond b (t.mail ∷ l) l) c.0 (emitted_untag e ts c.1)
+emitted_untag {M = M} e (t ∷ ts) c = go (is_own t.meant) ∙ ap₂ (λ (b : Bool) (l : List M). cond b (t.mail ∷ l) l) c.0 (emitted_untag e ts c.1)
   where
     go : (b : Bool) → untag (cond b (t ∷ emitted (λ k. is_own k.meant) ts) (emitted (λ k. is_own k.meant) ts)) ≡ cond b (t.mail ∷ untag (emitted (λ k. is_own k.meant) ts)) (untag (emitted (λ k. is_own k.meant) ts))
     go true = refl
