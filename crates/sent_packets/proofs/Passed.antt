@@ -54,6 +54,7 @@ other_entry eoe t bytes octets free e = by t.all (t.sub == 1) (t.index == 0x2F00
     by false true false false false free e = cc
 
 -- ---- CoE
+-- the parts of information are no fragments
 informed_parts : (fuel opcode part : ℕ) (bytes : List ℕ) → parts fragment_in (map written (information_parts fuel opcode part bytes)) ≡ []
 informed_parts zero opcode part bytes = refl
 informed_parts (suc fuel) opcode part bytes = by (nat_le (length bytes) part) (informed_parts fuel opcode part (drop part bytes))
