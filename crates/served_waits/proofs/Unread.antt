@@ -18,7 +18,7 @@ use Rattle.link_model.specs.Frames.{Ask, all_accepted, counted, gram_meets, halv
 use Rattle.link_model.specs.Link.{Halves}
 use Rattle.link_model.specs.Mails.{LinkMail, counter_in, news}
 use Rattle.link_model.specs.Master.{InHalf, InState as HalfState}
-use Rattle.link_model.specs.Slave.{InSide, Node}
+use Rattle.link_model.specs.Slave.{InSide}
 use Rattle.master_duty.specs.Reply.{Reply}
 use Rattle.master_hand.specs.Spoken.{Asked, acknowledged, is_followed}
 use Rattle.master_tour.proofs.Unders.{SameAim}
@@ -77,9 +77,6 @@ module _ (lens : ℕ → Lens) (number : ℕ) (sent back : List (Datagram Body))
   o : IsFit lens s c.spot c.life n
   o = r.fits stands
 
-  abbrev node : Node Body _
-  node = (slave_at lens s n).node
-
   clear_in : IsStanding lens s (next_of a) c n m t → c.life.era.side.halves.inn.state ≡ HalfState.Clear
   clear_in (Standing.gone e) = absurd (let no : Stand.Gone ≡ Stand.Open = sym e ∙ stands in cc)
   clear_in (Standing.fresh w control) = ap (λ (h : Halves Body). h.inn.state) (sym w.shows.halves) ∙ w.clear
@@ -112,7 +109,7 @@ module _ (lens : ℕ → Lens) (number : ℕ) (sent back : List (Datagram Body))
   by_box z (Some b) box ask none = absurd (stands_new b box (
       let here = o.here ∙ sym r.station in
       let d = met c.spot.station (slave_at lens s n) here z.datagram z.sent_so in
-      let gram : d.gram ≡ read_done z.datagram.gram (Some b) = gram_is c.spot.station (slave_at lens s n) here z.datagram z.sent_so ∙ ap (λ (q : Ask Body). gram_meets node q z.datagram.gram) ask ∙ ap (read_done z.datagram.gram) box in
+      let gram : d.gram ≡ read_done z.datagram.gram (Some b) = gram_is c.spot.station (slave_at lens s n) here z.datagram z.sent_so ∙ ap (λ (q : Ask Body). gram_meets (slave_at lens s n).node q z.datagram.gram) ask ∙ ap (read_done z.datagram.gram) box in
       let back_is : mail_back d.gram ≡ Some b = ap mail_back gram ∙ ap (λ (i : ℕ). if counted i == 0 then None else Some b) z.sent_so.gram in
       sym (ap (λ (q : Ask Body). halves_accept v.life.era.side.halves q d.gram) (met_ask c.spot.station (slave_at lens s n) here z.datagram z.sent_so ∙ ask) ∙ ap (λ (q : Option (LinkMail Body)). news v.life.era.side.halves.inn.last q) back_is) ∙ none))
 
