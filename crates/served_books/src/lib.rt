@@ -13,12 +13,15 @@ ghost use Rattle.run_work.specs.Fair.{AreFairGrams, AsksFair};
 ghost use Rattle.run_work.specs.ServedGained.{asked_in};
 ghost use Rattle.segment_plan.specs.Sound.{IsPlan};
 ghost use Rattle.segment_plan.specs.declared.plan.Scenario.{Scenario};
+ghost use Rattle.served_packets.specs.Quiet.{AsksQuiet};
 ghost use Rattle.toured_servings.specs.Tours.{IsCounted};
 
 /// NO MORE MAILS WERE ASKED than datagrams were heard; and each of them begins no download to 2F01:01 where no datagram's mail does.
 pub fn asked_law()
     ensures few { (plan : Scenario) (count : ℕ) (book : Book) (ending : Ending) (a : HasAccount plan count book ending) → asked_in a.answers.serving.leading.serves ≤ length book.grams }
     ensures fair { (plan : Scenario) (count : ℕ) (book : Book) (ending : Ending) (a : HasAccount plan count book ending) → AreFairGrams (map (λ (g : GramIn). g.bytes) book.grams) → All AsksFair a.answers.serving.leading.serves }
+    // So they make their slaves send no packets: of EoE none is passed on.
+    ensures quiet { (plan : Scenario) (count : ℕ) (book : Book) (ending : Ending) (a : HasAccount plan count book ending) → AreFairGrams (map (λ (g : GramIn). g.bytes) book.grams) → All AsksQuiet a.answers.serving.leading.serves }
 {}
 
 /// ITS FRAMES ARE THE VISITS OF ONE TOUR, with the mails that were asked between them, as their count speaks of them; and each asks by the inward half first.
