@@ -268,21 +268,22 @@ frame_takes ports many us before es x =
     (taken_append s1 x.making x.behind ∙ (λ i. (ap (λ z. taken_in z x.making) (sym is) ∙ x.taken) i ++ none_taken (switch_behind s1 x.making) x.behind x.none i) ∙ append-nil (begins_in ports (begun_of us) x.visited))
 
 -- ---- OVER A RUN, and over a serving
-module _ {lens : ℕ → Lens} {recover retry : ℕ} (ports : List (Option ℕ)) (many k p : ℕ) (own : IsOwn ports k p) where
+module _ (ports : List (Option ℕ)) (many k p : ℕ) (own : IsOwn ports k p) where
   -- with one frame more
   frame_more : (before : List SwitchEvent → Type 0) (us : List Turn) (es : List SwitchEvent) (x : BegunOn before ports many us es) (packets : List (ArrayVec ℕ)) → all_at p (taken_in (first_switch many) x.old) ≡ packets → all_at p (taken_in (first_switch many) es) ≡ packets ++ packet_begun (begun_of us k)
   frame_more before us es x packets old =
       ap (λ z. all_at p z) (frame_takes ports many us before es x) ∙ all_append p (taken_in (first_switch many) x.old) (begins_in ports (begun_of us) x.visited)
       ∙ (λ i. old i ++ frame_all ports k p own (begun_of us) x.visited x.once x.others i)
 
+module _ {lens : ℕ → Lens} {recover retry : ℕ} (ports : List (Option ℕ)) (many k p : ℕ) (own : IsOwn ports k p) where
   pub run_all : {first : List Leads} {fs : List Exchanged} {missed : ℕ} {as' : List Leads} (led : IsLed lens recover retry first fs missed as') (es : List SwitchEvent) → AreBegun ports many led es → all_at p (taken_in (first_switch many) es) ≡ packets_begun led k
   run_all IsLed.start es x = ap (λ z. all_at p (taken_in (first_switch many) z)) x
-  run_all (IsLed.on fs missed as' f us led frame) es x = frame_more (λ old. AreBegun ports many led old) us es x (packets_begun led k) (run_all led x.old x.was)
+  run_all (IsLed.on fs missed as' f us led frame) es x = frame_more ports many k p own (λ old. AreBegun ports many led old) us es x (packets_begun led k) (run_all led x.old x.was)
 
   serving_all : {first : List Serves} {fs : List Exchanged} {missed : ℕ} {ws : List Serves} (led : IsServedLed lens recover retry first fs missed ws) (es : List SwitchEvent) → AreServedBegun ports many led es → all_at p (taken_in (first_switch many) es) ≡ served_packets led k
   serving_all IsServedLed.start es x = ap (λ z. all_at p (taken_in (first_switch many) z)) x
   serving_all (IsServedLed.asks fs missed ws place key led may) es x = serving_all led es x
-  serving_all (IsServedLed.on fs missed ws f vs led frame) es x = frame_more (λ old. AreServedBegun ports many led old) (map run_turn vs) es x (served_packets led k) (serving_all led x.old x.was)
+  serving_all (IsServedLed.on fs missed ws f vs led frame) es x = frame_more ports many k p own (λ old. AreServedBegun ports many led old) (map run_turn vs) es x (served_packets led k) (serving_all led x.old x.was)
 
   pub run_many : {first : List Leads} {fs : List Exchanged} {missed : ℕ} {as' : List Leads} (led : IsLed lens recover retry first fs missed as') (es : List SwitchEvent) → AreBegun ports many led es → many_at p (taken_in (first_switch many) es) ≡ length (packets_begun led k)
   run_many IsLed.start es x = ap (λ z. many_at p (taken_in (first_switch many) z)) x

@@ -11,6 +11,7 @@ use Rattle.few_replies.specs.Most.{is_packet_entry, brings_packet, begins_messag
 use Rattle.few_replies.specs.Packets.{is_calm, is_fair}
 use Rattle.few_replies.proofs.Few.{not_true}
 use Rattle.foe_model.specs.Mails as Foe
+use Rattle.foe_model.specs.Model.{foe_exchange}
 use Rattle.foe_model.specs.Octets as FoeOctets
 use Rattle.link_mails.specs.Body.{Body}
 use Rattle.mailbox_mail.specs.declared.mail.Kind.{Kind}
@@ -19,13 +20,14 @@ use Rattle.master_hand.specs.Joins.{fragment_in}
 use Rattle.packet_model.specs.Packets.{parts}
 use Rattle.sent_packets.specs.Sends.{of_network, is_network}
 use Rattle.sent_packets.proofs.Cuts.{parts_append}
-use Rattle.slave_model.specs.Application.{station_tables}
+use Rattle.slave_model.specs.Application.{station_elements, station_files, station_tables}
 use Rattle.slave_model.specs.Product.{served, refusal, side, serve, serve_by, protocol_of}
-use Rattle.slave_model.specs.Profile.{Protocol, Profile, serves}
+use Rattle.slave_model.specs.Profile.{Protocol, Profile, areas_of, serves}
 use Rattle.slave_model.specs.Server.{seat, told_by, heard_by, soe_quiet, refused_gives, failure}
 use Rattle.slave_parts.specs.Parts.{Core, Server, parts as real_parts}
 use Rattle.slave_served.specs.Served.{product_whole}
 use Rattle.soe_model.specs.Mails as Soe
+use Rattle.soe_model.specs.Model.{soe_exchange}
 use Rattle.soe_model.specs.Octets as SoeOctets
 use Rattle.state_exchange.specs.Families.{InState}
 
@@ -52,6 +54,17 @@ other_entry eoe t bytes octets free e = by t.all (t.sub == 1) (t.index == 0x2F00
     by false true false false false free e = cc
 
 -- ---- CoE
+-- the parts of information are no fragments
+informed_parts : (fuel opcode part : ℕ) (bytes : List ℕ) → parts fragment_in (map written (information_parts fuel opcode part bytes)) ≡ []
+informed_parts zero opcode part bytes = refl
+informed_parts (suc fuel) opcode part bytes = by (nat_le (length bytes) part) (informed_parts fuel opcode part (drop part bytes))
+  where
+    by : (last : Bool) → parts fragment_in (map written (information_parts fuel opcode part (drop part bytes))) ≡ [] → parts fragment_in (map written (
+        if last then mail (Information opcode false 0 (record { items = bytes })) ∷ []
+        else mail (Information opcode true (parts_of part (length bytes - part)) (record { items = take part bytes })) ∷ information_parts fuel opcode part (drop part bytes))) ≡ []
+    by true rest = refl
+    by false rest = rest
+
 module _ {S : Type 0} where
   choice : (b : Bool) (r s : Outcome S) → Quiet r → Quiet s → Quiet (if b then r else s)
   choice true r s p q = p
@@ -75,16 +88,6 @@ module _ {S : Type 0} where
   stores : (eoe : Bool) (app : S) (t : Target) (bytes : List ℕ) (c : Coe.Coe) → is_packet_entry t ≡ false → (r : Result S ℕ) → Quiet (stored eoe app t bytes (mail c) r)
   stores eoe app t bytes c free (Ok changed) = (refl, λ octets e. other_entry eoe t bytes octets free e)
   stores eoe app t bytes c free (Err code) = aborted app idle t code
-
-  informed_parts : (fuel opcode part : ℕ) (bytes : List ℕ) → parts fragment_in (map written (information_parts fuel opcode part bytes)) ≡ []
-  informed_parts zero opcode part bytes = refl
-  informed_parts (suc fuel) opcode part bytes = by (nat_le (length bytes) part) (informed_parts fuel opcode part (drop part bytes))
-    where
-      by : (last : Bool) → parts fragment_in (map written (information_parts fuel opcode part (drop part bytes))) ≡ [] → parts fragment_in (map written (
-          if last then mail (Information opcode false 0 (record { items = bytes })) ∷ []
-          else mail (Information opcode true (parts_of part (length bytes - part)) (record { items = take part bytes })) ∷ information_parts fuel opcode part (drop part bytes))) ≡ []
-      by true rest = refl
-      by false rest = rest
 
   module _ (o : Tables S) (eoe : Bool) (room : ℕ) (app : S) where
     whole : (t : Target) (bytes : List ℕ) (c : Coe.Coe) → is_packet_entry t ≡ false → Quiet (takes_whole o eoe app t bytes (mail c))
@@ -214,8 +217,8 @@ module _ (p : Profile) (al : ℕ) where
       let q = outcome (station_tables real_parts p.back al) p.has_eoe p.back j.app j.sdo m free fair in
       ap (parts fragment_in) (map_append written x.answers made) ∙ parts_append (map written x.answers) (map written made)
       ∙ (λ k. q.0 k ++ emits_none x.app x.emission q.1 k)
-  serves_none Protocol.FoE j b net free fair = foe_none _
-  serves_none Protocol.SoE j b net free fair = soe_none _
+  serves_none Protocol.FoE j b net free fair = foe_none ((foe_exchange (station_files real_parts al) (areas_of p)).serve (seat Protocol.FoE j) (heard_by FoeOctets.foe_mail_heard (Foe.other []) b)).1
+  serves_none Protocol.SoE j b net free fair = soe_none ((soe_exchange (station_elements real_parts) (areas_of p)).serve (seat Protocol.SoE j) (heard_by SoeOctets.soe_mail_heard (Soe.other []) b)).1
   serves_none Protocol.EoE j b net free fair = absurd (net refl)
 
   quiet_or : (b : Bool) → parts fragment_in (if b then [] else failure 2 ∷ []) ≡ []

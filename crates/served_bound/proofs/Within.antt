@@ -17,10 +17,10 @@ pub record Sums (n plan lose count gained lost : ℕ) : Type 0 where
   pub few : lost ≤ most
   pub whole : work + most + 2 * n ≡ plan + 128 * count + lose + 2 * n
 
-pub sums : (n plan own host lose count asked gained served lost counted : ℕ) → gained ≤ served → served ≤ n + own + 82 * asked → own + host ≤ plan → lost ≤ counted + host + 5 * asked → counted ≤ lose → asked ≤ count → Sums n plan lose count gained lost
+pub sums : (n plan own host lose count asked gained served lost counted : ℕ) → gained ≤ served → served ≤ n + own + 82 * asked → own + host ≤ plan → lost ≤ counted + host + 6 * asked → counted ≤ lose → asked ≤ count → Sums n plan lose count gained lost
 sums n plan own host lose count asked gained served lost counted less gains packets enters scheduled few = record {
-  work = plan + 128 * count - (host + 5 * count);
-  most = lose + host + 5 * count;
+  work = plan + 128 * count - (host + 6 * count);
+  most = lose + host + 6 * count;
   enough = omega (arith, less, gains, packets, few);
   few = omega (arith, enters, scheduled, few);
   whole = omega (arith, packets);

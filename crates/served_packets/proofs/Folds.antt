@@ -1,8 +1,7 @@
 -- ALL THAT A SLAVE SENDS OF ITSELF by services and quiet mails: the packets of its services.
-use Rattle.std.proofs.Common.{◌≡◌, ℕ, ◌+◌, ◌&&◌, not, Bool, true, false, Option, List, [], ◌∷◌, ◌++◌, map, Ok, Err, refl, sym, ap, ◌∙◌, subst, arith, if◌then◌else◌}
+use Rattle.std.proofs.Common.{◌≡◌, ℕ, ◌+◌, not, Bool, true, false, Option, List, [], ◌∷◌, ◌++◌, map, Ok, Err, refl, sym, ap, ◌∙◌, subst, arith, if◌then◌else◌}
 use Rattle.std.specs.Prelude.{sum_by}
 use Rattle.std.proofs.lemmas.List.Sums.{sum_by-cons}
-use Rattle.eoe_model.specs.Network.{Station}
 use Rattle.exchange_model.specs.Exchange.{Exchange, emitted}
 use Rattle.exchange_model.specs.Lifted.{EachOf}
 use Rattle.exchange_model.specs.Rows.{emits_all}
@@ -14,7 +13,6 @@ use Rattle.link_mails.specs.Body.{Body}
 use Rattle.master_hand.specs.Joins.{fragment_in}
 use Rattle.packet_model.specs.Packets.{parts}
 use Rattle.packet_model.proofs.Parts.{heard_own}
-use Rattle.plan_speakers.specs.Speakers.{whole_states}
 use Rattle.run_work.specs.Sessions.{OwnService, Wanted, Meant, InRow, named, named_mail, named_wanted}
 use Rattle.segment_model.specs.Ends.{Outcome}
 use Rattle.sent_packets.specs.Sends.{Sends, asked_sends, is_network, may_send, sends_most}
@@ -30,7 +28,7 @@ use Rattle.slave_model.specs.Product.{emission, refusal, served, side}
 use Rattle.slave_model.specs.Profile.{Protocol, Profile, serves}
 use Rattle.slave_model.specs.Server.{Reply, ServiceOf, seat}
 use Rattle.slave_model.proofs.Stations.{left_of, right_of}
-use Rattle.slave_parts.specs.Parts.{Core, Server, parts as real_parts}
+use Rattle.slave_parts.specs.Parts.{Server, parts as real_parts}
 use Rattle.slave_served.specs.Served.{product_whole, served_whole, side_whole}
 use Rattle.slave_served.specs.Whole.{gated_whole}
 use Rattle.state_exchange.specs.Families.{InState}
@@ -47,7 +45,7 @@ untag_own : {M : Type 0} (Q : Type 0) (ms : List M) → untag {Q = Q} (map (λ g
 untag_own Q [] = refl
 untag_own Q (m ∷ ms) = ap (λ l. m ∷ l) (untag_own Q ms)
 
-untag_append : {M Q : Type 0} (xs ys : List (Tagged M Q)) → untag (xs ++ ys) ≡ untag xs ++ untag ys
+pub untag_append : {M Q : Type 0} (xs ys : List (Tagged M Q)) → untag (xs ++ ys) ≡ untag xs ++ untag ys
 untag_append [] ys = refl
 untag_append (x ∷ xs) ys = ap (λ l. x.mail ∷ l) (untag_append xs ys)
 
@@ -62,6 +60,14 @@ sends_named p Protocol.EoE q = refl
 sends_passed : (p : Profile) (m : Body) → asked_sends p (named_mail m) ≡ []
 sends_passed p (Ok m) = refl
 sends_passed p (Err fault) = refl
+
+-- what one of them weighs
+abbrev pub wants_most : (List ℕ → ℕ) → Profile → Service Wanted → ℕ
+wants_most weigh p q = sends_most weigh p (service_seen named_wanted q)
+
+-- the session with its AL state
+abbrev pub both : Profile → Table → Exchange (Counting InRow) (InState Server × ℕ) (Act Meant) (Service Wanted) (Outcome (Option Reply))
+both p table = with_states (seeing (quiet_speaker p)) (seeing_states (quiet_speaker p)) table
 
 -- what a fair mail that isn't of EoE gives is no fragment
 abbrev pub PassedNone : Profile → Type 0
@@ -82,23 +88,22 @@ module _ (weigh : List ℕ → ℕ) (p : Profile) (emit : Emit weigh p) (passed 
       go Protocol.SoE q false = refl
       go Protocol.EoE q false = refl
 
-  -- what one of them weighs
-  abbrev pub wants_most : Service Wanted → ℕ
-  wants_most q = sends_most weigh p (service_seen named_wanted q)
+  abbrev most_of : Service Wanted → ℕ
+  most_of = wants_most weigh p
 
   abbrev x : Exchange (InState Server) (InState Server) Body OwnService Reply
   x = product_whole real_parts p
 
   -- BY ONE
-  script_sends : (v : InState Server) (i : Protocol) (q : ServiceOf i) → x.ready v ≡ true → Sends weigh p.back (untag (asked_emits x v (Asked.Script (i, q)))) (wants_most (Service.Mails (Asked.Script (i, q))))
+  script_sends : (v : InState Server) (i : Protocol) (q : ServiceOf i) → x.ready v ≡ true → Sends weigh p.back (untag (asked_emits x v (Asked.Script (i, q)))) (most_of (Service.Mails (Asked.Script (i, q))))
   script_sends v i q ready =
       let may = valid_sends v.inner.app (left_of (station_valid real_parts v.inner.app) _ ready) in
       let same : (side real_parts p v.state i).emits v.inner.app q ≡ untag (asked_emits x v (Asked.Script (i, q))) = sym (same_emits v.state v.inner i q) ∙ sym (untag_own OwnService (x.emits v (i, q))) in
-      subst (λ ms. Sends weigh p.back ms (wants_most (Service.Mails (Asked.Script (i, q))))) same
+      subst (λ ms. Sends weigh p.back ms (most_of (Service.Mails (Asked.Script (i, q))))) same
       (subst (λ ps. Sends weigh p.back ((side real_parts p v.state i).emits v.inner.app q) (sum_by weigh ps)) (sym (sends_named p i q)) (emit.emits v.state v.inner.app i q may))
 
-  passed_sends : (v : InState Server) (m : Body) (answers : Bool) → is_calm v ≡ true → is_quiet m ≡ true → Sends weigh p.back (untag (asked_emits x v (Asked.Passed m answers))) (wants_most (Service.Mails (Asked.Passed m answers)))
-  passed_sends v m answers still quiet = sends_none weigh p.back (untag (asked_emits x v (Asked.Passed m answers))) (wants_most (Service.Mails (Asked.Passed m answers))) (go answers)
+  passed_sends : (v : InState Server) (m : Body) (answers : Bool) → is_calm v ≡ true → is_quiet m ≡ true → Sends weigh p.back (untag (asked_emits x v (Asked.Passed m answers))) (most_of (Service.Mails (Asked.Passed m answers)))
+  passed_sends v m answers still quiet = sends_none weigh p.back (untag (asked_emits x v (Asked.Passed m answers))) (most_of (Service.Mails (Asked.Passed m answers))) (go answers)
     where
       gives : List Body
       gives = (x.serve v m).1
@@ -112,37 +117,34 @@ module _ (weigh : List ℕ → ℕ) (p : Profile) (emit : Emit weigh p) (passed 
 
   -- BY ALL, one behind the other
   module _ (table : Table) where
-    abbrev pub both : Exchange (Counting InRow) (InState Server × ℕ) (Act Meant) (Service Wanted) (Outcome (Option Reply))
-    both = with_states (seeing (quiet_speaker p)) (seeing_states (quiet_speaker p)) table
-
     -- the mails of what was emitted by one more
-    one_more : (v : InState Server) (k : ℕ) (q : Wanted) (qs : List (Service Wanted)) → untag (mails (emits_all both (v, k) (Service.Mails q ∷ qs))) ≡ untag (asked_emits x v q) ++ untag (mails (emits_all both (asked_exec x v q, k) qs))
+    one_more : (v : InState Server) (k : ℕ) (q : Wanted) (qs : List (Service Wanted)) → untag (mails (emits_all (both p table) (v, k) (Service.Mails q ∷ qs))) ≡ untag (asked_emits x v q) ++ untag (mails (emits_all (both p table) (asked_exec x v q, k) qs))
     one_more v k q qs =
         let now = asked_emits x v q in
-        let rest = emits_all both (asked_exec x v q, k) qs in
+        let rest = emits_all (both p table) (asked_exec x v q, k) qs in
         ap untag (mails_append (acts now) rest ∙ ap (λ l. l ++ mails rest) (mails_acts now)) ∙ untag_append now (mails rest)
 
     pub all_send : (v : InState Server) (k : ℕ) (qs : List (Service Wanted)) → x.ready v ≡ true → is_calm v ≡ true → EachOf (λ q. service_valid (seeing (quiet_speaker p)).speech q ≡ true) qs →
-        Sends weigh p.back (untag (mails (emits_all both (v, k) qs))) (sum_by wants_most qs)
+        Sends weigh p.back (untag (mails (emits_all (both p table) (v, k) qs))) (sum_by most_of qs)
     all_send v k [] ready still valid = sends_none weigh p.back [] 0 refl
     all_send v k (Service.Mails (Asked.Script q) ∷ qs) ready still valid =
         let next = x.exec v q in
         let rest = all_send next k qs (law.ready v q ready valid.0) (calm.serves v q ready valid.0 still) valid.1 in
         let now = script_sends v q.0 q.1 ready in
         let s : Service Wanted = Service.Mails (Asked.Script q) in
-        subst (λ n. Sends weigh p.back (untag (mails (emits_all both (v, k) (s ∷ qs)))) n) (sym (sum_by-cons wants_most s qs))
-        (subst (λ ms. Sends weigh p.back ms (wants_most s + sum_by wants_most qs)) (sym (one_more v k (Asked.Script q) qs))
-        (sends_both weigh p.back (untag (asked_emits x v (Asked.Script q))) (untag (mails (emits_all both (next, k) qs))) (wants_most s) (sum_by wants_most qs) now rest))
+        subst (λ n. Sends weigh p.back (untag (mails (emits_all (both p table) (v, k) (s ∷ qs)))) n) (sym (sum_by-cons most_of s qs))
+        (subst (λ ms. Sends weigh p.back ms (most_of s + sum_by most_of qs)) (sym (one_more v k (Asked.Script q) qs))
+        (sends_both weigh p.back (untag (asked_emits x v (Asked.Script q))) (untag (mails (emits_all (both p table) (next, k) qs))) (most_of s) (sum_by most_of qs) now rest))
     all_send v k (Service.Mails (Asked.Passed m answers) ∷ qs) ready still valid =
         let next = (x.serve v m).0 in
         let rest = all_send next k qs (law.passes v m ready) (calm.passes v m ready still (quiet_fair m valid.0)) valid.1 in
         let now = passed_sends v m answers still valid.0 in
         let s : Service Wanted = Service.Mails (Asked.Passed m answers) in
-        subst (λ n. Sends weigh p.back (untag (mails (emits_all both (v, k) (s ∷ qs)))) n) (sym (sum_by-cons wants_most s qs))
-        (subst (λ ms. Sends weigh p.back ms (wants_most s + sum_by wants_most qs)) (sym (one_more v k (Asked.Passed m answers) qs))
-        (sends_both weigh p.back (untag (asked_emits x v (Asked.Passed m answers))) (untag (mails (emits_all both (next, k) qs))) (wants_most s) (sum_by wants_most qs) now rest))
+        subst (λ n. Sends weigh p.back (untag (mails (emits_all (both p table) (v, k) (s ∷ qs)))) n) (sym (sum_by-cons most_of s qs))
+        (subst (λ ms. Sends weigh p.back ms (most_of s + sum_by most_of qs)) (sym (one_more v k (Asked.Passed m answers) qs))
+        (sends_both weigh p.back (untag (asked_emits x v (Asked.Passed m answers))) (untag (mails (emits_all (both p table) (next, k) qs))) (most_of s) (sum_by most_of qs) now rest))
     all_send v k (Service.State target ∷ qs) ready still valid =
-        let next = both.exec (v, k) (Service.State target) in
+        let next = (both p table).exec (v, k) (Service.State target) in
         let s : Service Wanted = Service.State target in
-        let same : sum_by wants_most qs ≡ sum_by wants_most (s ∷ qs) = omega (arith, sum_by-cons wants_most s qs) in
-        subst (λ n. Sends weigh p.back (untag (mails (emits_all both next qs))) n) same (all_send next.0 next.1 qs ready still valid.1)
+        let same : sum_by most_of qs ≡ sum_by most_of (s ∷ qs) = omega (arith, sum_by-cons most_of s qs) in
+        subst (λ n. Sends weigh p.back (untag (mails (emits_all (both p table) next qs))) n) same (all_send next.0 next.1 qs ready still valid.1)

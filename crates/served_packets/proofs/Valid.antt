@@ -1,6 +1,6 @@
 -- ALL SERVICES THAT CAME INTO HAND in a session are such as the laws speak of.
-use Rattle.std.proofs.Common.{◌≡◌, inl, inr, ℕ, Bool, true, false, List, [], ◌∷◌, ◌++◌, refl, sym, ap, ◌∙◌, subst}
-use Rattle.exchange_model.specs.Exchange.{Exchange, IsLawful}
+use Rattle.std.proofs.Common.{◌≡◌, inl, inr, ℕ, true, false, List, [], ◌∷◌, ◌++◌, sym, ap, ◌∙◌, subst}
+use Rattle.exchange_model.specs.Exchange.{Exchange}
 use Rattle.exchange_model.specs.Lifted.{EachOf}
 use Rattle.exchange_model.specs.Rows.{Row, Settled, services}
 use Rattle.exchange_model.specs.Exchange as Exchange
@@ -9,13 +9,11 @@ use Rattle.life_model.proofs.Eras.{session_of, of_one}
 use Rattle.segment_model.specs.Record.{Frame}
 use Rattle.segment_model.specs.Seats.{Side}
 use Rattle.segment_model.specs.Slaves.{Slave}
-use Rattle.state_exchange.specs.Stated.{Act, Service, Stated, service_valid, with_states}
+use Rattle.state_exchange.specs.Stated.{service_valid, with_states}
 use Rattle.state_model.specs.States.{Table}
-use Rattle.task_model.specs.Accounts.{Account, Started}
+use Rattle.task_model.specs.Accounts.{Account}
 use Rattle.task_model.specs.Promise.{services_in}
 use Rattle.task_model.proofs.Dones.{services_same}
-use Rattle.task_model.proofs.Ghosts.{GhostRow}
-use Rattle.task_model.proofs.Newest.{Holds}
 use Rattle.task_model.proofs.Sessions.{of_slaves}
 
 -- rows that are over, one behind the other

@@ -1,0 +1,6 @@
+mod All
+mod Folds
+mod Lives
+mod Seen
+mod Speaks
+mod Valid
