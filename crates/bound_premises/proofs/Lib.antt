@@ -1,17 +1,17 @@
 pub mod Ahead
 pub mod Asks
-mod Counts
+pub mod Counts
 mod First
-mod Frames
-mod Maps
+pub mod Frames
+pub mod Maps
 pub mod News
 pub mod Places
-mod Ports
+pub mod Ports
 mod Recalled
-mod Rests
-mod Scripts
-mod Settled
+pub mod Rests
+pub mod Scripts
+pub mod Settled
 pub mod Tours
 mod Uncut
-mod Unpassed
+pub mod Unpassed
 mod Walk

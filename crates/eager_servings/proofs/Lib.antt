@@ -1,0 +1,6 @@
+mod Frames
+mod Maps
+mod Ranks
+mod Rests
+mod Scripts
+mod Walk
