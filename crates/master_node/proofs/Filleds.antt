@@ -62,8 +62,8 @@ module _ (lens : ℕ → Lens) (recover made : ℕ) (from : Before) (as' : List 
     listing = listed_on (run_tells as') from.forwards left f.begun as' m n k.list k.posts f.listing;
     starts = record {
       visited = f.starts.visited;
-      each = subst (λ z. AllFrom (λ i a s. HasStarted lens z f.starts.visited i (begun_for f.begun as' i) a s) 0 as' n.tour.stops.items) (sym k.lan)
-          (subst (λ z. AllFrom (λ i a s. HasStarted lens m.lan f.starts.visited i (begun_for f.begun as' i) a s) 0 as' z.items) (sym k.stops) f.starts.each);
+      each = subst (λ z. AllFrom (λ i a s. HasStarted lens z f.starts.visited i (begun_for f.begun as' i) a [] s) 0 as' n.tour.stops.items) (sym k.lan)
+          (subst (λ z. AllFrom (λ i a s. HasStarted lens m.lan f.starts.visited i (begun_for f.begun as' i) a [] s) 0 as' z.items) (sym k.stops) f.starts.each);
     };
   }
 

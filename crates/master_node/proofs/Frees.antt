@@ -84,7 +84,7 @@ might_still x l k s m = record {
 
 -- ITS STOP IS OPEN, and its side shows that
 module _ {G : Ghosts InHand} (lens : ℕ → Lens) (recover : ℕ) (spot : Spot) where
-  frees_stand : (s : Stop InHand G) (stand : Stand) (l : Life Body Asked Reply) → s.stand ≡ stand → StandShows (side_shows lens recover s spot) spot s.stand l → knows s.side.hand.course ≡ true → s.side.passing ≡ None → MightBegin (speech_at lens spot) l → (s.stand ≡ Stand.Open) × SideFrees s.side
+  frees_stand : (s : Stop InHand G) (stand : Stand) (l : Life Body Asked Reply) → s.stand ≡ stand → StandShows (side_shows lens recover s spot) spot s.stand l → knows s.side.hand.course ≡ true → (s.stand ≡ Stand.Open → s.side.passing ≡ None) → MightBegin (speech_at lens spot) l → (s.stand ≡ Stand.Open) × SideFrees s.side
   frees_stand s (Stand.Opening up) l e w k p m =
       let stood = subst (λ (z : Stand). StandShows (side_shows lens recover s spot) spot z l) e w in
       absurd (let t = sym stood.stand ∙ m.stands in cc)
@@ -101,11 +101,11 @@ module _ {G : Ghosts InHand} (lens : ℕ → Lens) (recover : ℕ) (spot : Spot)
           shows = stood.1;
           known = k;
           hand = no_hand (in_hand s.side.duty) l.era.account.hand m.hand stood.1.state;
-          unpassed = p;
+          unpassed = p e;
           free = m.free;
           done = m.done;
         },
       )
 
-  pub frees : (s : Stop InHand G) (l : Life Body Asked Reply) → StopShows (side_shows lens recover s spot) recover spot s.stand s.spare l → knows s.side.hand.course ≡ true → s.side.passing ≡ None → MightBegin (speech_at lens spot) l → (s.stand ≡ Stand.Open) × SideFrees s.side
+  pub frees : (s : Stop InHand G) (l : Life Body Asked Reply) → StopShows (side_shows lens recover s spot) recover spot s.stand s.spare l → knows s.side.hand.course ≡ true → (s.stand ≡ Stand.Open → s.side.passing ≡ None) → MightBegin (speech_at lens spot) l → (s.stand ≡ Stand.Open) × SideFrees s.side
   frees s l w k p m = frees_stand s s.stand l refl w.stood k p m

@@ -7,8 +7,9 @@ use Rattle.master_hand.specs.declared.hand.InHand.{InHand}
 use Rattle.master_side.specs.declared.hand.Hand.{Ghosts}
 use Rattle.master_tour.specs.declared.stop.Stop.{Stop}
 use Rattle.served_runs.specs.Served.{ServedTurn}
-use Rattle.master_node.specs.Serving.{IsServedUnder, run_turn}
-use Rattle.master_node.specs.Shows.{IsOnFrame, IsUnder}
+use Rattle.master_node.specs.Serving.{IsServedUnder, ServedUnder, run_turn}
+use Rattle.master_node.specs.Shows.{IsOnFrame, IsUnder, IsUnderWay, MasterUnder}
+use Rattle.master_node.specs.declared.node.MasterNode.{MasterNode}
 use Rattle.master_node.specs.declared.post.Post.{Post}
 use Rattle.master_node.proofs.Serveds.{three_both}
 
@@ -22,3 +23,11 @@ module _ {G : Ghosts InHand} (lens : ℕ → Lens) (recover : ℕ) (octets : Lis
   pub all_served : (made : ℕ) (vs : List ServedTurn) (ps : List Post) (ss : List (Stop InHand G)) → AllThree (λ v p s. IsServedUnder lens recover octets made v p s) vs ps ss → AllBoth (λ u s. IsOnFrame lens recover octets u s) (map run_turn vs) ss
   all_served made vs ps ss e =
       three_both (λ v p s. IsServedUnder lens recover octets made v p s) (λ u s. IsOnFrame lens recover octets u s) run_turn (λ v p s i. record { lives = i.served.lives; under = i.under; at = i.at; way = i.way }) vs ps ss e
+
+-- so it is with the frame of a run, and of a serving
+module _ (lens : ℕ → Lens) (recover retry missed : ℕ) (octets : List ℕ) (m : MasterNode) where
+  pub run_way : (us : List Turn) → MasterUnder lens recover retry m octets missed us → IsUnderWay lens recover m octets us
+  run_way us u = record { each = all_run lens recover octets us m.tour.stops.items u.each; sent = u.sent; few = u.fits.few }
+
+  pub served_way : (made : ℕ) (vs : List ServedTurn) → ServedUnder lens recover retry m octets missed made vs → IsUnderWay lens recover m octets (map run_turn vs)
+  served_way made vs u = record { each = all_served lens recover octets made vs m.posts.items m.tour.stops.items u.each; sent = u.sent; few = u.fits.few }

@@ -39,7 +39,7 @@ use Rattle.master_tour.proofs.Unders.{SameAim, under_back}
 use Rattle.master_node.specs.Eager.{AllVisit, AsksVisit, EachSo, IsClear, VisitAsks, next_visit, recall_of, stage_visit, turn_visit}
 use Rattle.master_node.specs.Kept.{StopStays}
 use Rattle.master_node.specs.Recalled.{AllRecall, IsFull, RecallsBack, paused_behind, turn_behind}
-use Rattle.master_node.specs.Shows.{IsUnder, side_shows}
+use Rattle.master_node.specs.Shows.{IsOnFrame, side_shows}
 use Rattle.master_node.proofs.Eagers.{recall_kept}
 use Rattle.master_node.proofs.Restings.{no_hand}
 
@@ -157,12 +157,12 @@ one_sent s d e = cc
 
 module _ {G : Ghosts InHand} where
   -- a slave that is open
-  open_stop : (lens : ℕ → Lens) (recover : ℕ) (octets : List ℕ) (u : Turn) (s : Stop InHand G) (stand : Stand) → s.stand ≡ stand → IsUnder lens recover octets u s → u.lived.life.stand ≡ Lives.Stand.Open → s.stand ≡ Stand.Open
+  open_stop : (lens : ℕ → Lens) (recover : ℕ) (octets : List ℕ) (u : Turn) (s : Stop InHand G) (stand : Stand) → s.stand ≡ stand → IsOnFrame lens recover octets u s → u.lived.life.stand ≡ Lives.Stand.Open → s.stand ≡ Stand.Open
   open_stop lens recover octets u s (Stand.Opening up) e i o =
-      let stood = subst (λ (z : Stand). StandShows (λ d b. side_shows lens recover s u.lived.spot d b) u.lived.spot z u.lived.life) e i.lead.lives.shown.stood in
+      let stood = subst (λ (z : Stand). StandShows (λ d b. side_shows lens recover s u.lived.spot d b) u.lived.spot z u.lived.life) e i.lives.shown.stood in
       absurd (let t = sym stood.stand ∙ o in cc)
   open_stop lens recover octets u s Stand.Gone e i o =
-      let stood = subst (λ (z : Stand). StandShows (λ d b. side_shows lens recover s u.lived.spot d b) u.lived.spot z u.lived.life) e i.lead.lives.shown.stood in
+      let stood = subst (λ (z : Stand). StandShows (λ d b. side_shows lens recover s u.lived.spot d b) u.lived.spot z u.lived.life) e i.lives.shown.stood in
       absurd (let t = sym stood ∙ o in cc)
   open_stop lens recover octets u s Stand.Open e i o = e
 
@@ -170,7 +170,7 @@ module _ {G : Ghosts InHand} where
   recall_same s t p = λ i. recall_by (p.0 i) (p.2 i) (p.1 i) (p.3 i)
 
   -- A SLAVE THAT WAS VISITED
-  visited : (lens : ℕ → Lens) (recover : ℕ) (octets : List ℕ) (back : Grams) (u : Turn) (s t : Stop InHand G) → IsUnder lens recover octets u s → s.stand ≡ Stand.Open → Returns (seen lens octets) back → SameAim s.side.station back → VisitAsks (seen lens octets) (recall_of s) u →
+  visited : (lens : ℕ → Lens) (recover : ℕ) (octets : List ℕ) (back : Grams) (u : Turn) (s t : Stop InHand G) → IsOnFrame lens recover octets u s → s.stand ≡ Stand.Open → Returns (seen lens octets) back → SameAim s.side.station back → VisitAsks (seen lens octets) (recall_of s) u →
       IsClear u → s.under ≡ true → (v : Visit) → turn_visit u (recall_of s) ≡ Some v → (d : Datagram Body) → own u.lived.spot.station back ≡ one d → IsFull v d → (mine s.side.station back ≡ one d → VisitBack u.lived.life.era.account d s.side t.side) →
       ((recall_of t).paused ≡ paused_behind v d.gram.counter (recall_of s).paused) × ((recall_of t).turn ≡ turn_behind v (recall_of s).turn)
   visited lens recover octets back u s t i o r aims asks clear under v vis d is full met =
@@ -178,8 +178,8 @@ module _ {G : Ghosts InHand} where
       let h = e.side.halves in
       let due = duty_access e.account.hand in
       let sent = seen lens octets in
-      let at_spot = i.lead.lives.planned.stands.station_is in
-      let stood = subst (λ (z : Stand). StandShows (λ d b. side_shows lens recover s u.lived.spot d b) u.lived.spot z u.lived.life) o i.lead.lives.shown.stood in
+      let at_spot = i.lives.planned.stands.station_is in
+      let stood = subst (λ (z : Stand). StandShows (λ d b. side_shows lens recover s u.lived.spot d b) u.lived.spot z u.lived.life) o i.lives.shown.stood in
       let way = subst (λ (z : Stand). StandUnder lens s.side.station s.at s.under s.side.carried z u.lived.life sent) o i.way in
       let here : mine s.side.station back ≡ one d = sym (own_mine s.side.station back aims) ∙ ap (λ n. own n back) at_spot ∙ is in
       let state = (in_half_of s.side.inn).state in
@@ -206,7 +206,7 @@ module _ {G : Ghosts InHand} where
       meant_back (Under.has b k j n m) w e = subst (λ (z : Datagram Body). Meant s.side.station s.side.carried u.lived.life.era.side.halves (duty_access u.lived.life.era.account.hand) z) (one_sent b d (sym n ∙ e)) m
 
   -- ONE SLAVE BEHIND A FRAME THAT CAME BACK, with what happened told behind it
-  recalls_one : (lens : ℕ → Lens) (recover : ℕ) (octets : List ℕ) (back : Grams) (u : Turn) (s t z : Stop InHand G) → Returns (seen lens octets) back → SameAim s.side.station back → IsUnder lens recover octets u s → VisitAsks (seen lens octets) (recall_of s) u →
+  recalls_one : (lens : ℕ → Lens) (recover : ℕ) (octets : List ℕ) (back : Grams) (u : Turn) (s t z : Stop InHand G) → Returns (seen lens octets) back → SameAim s.side.station back → IsOnFrame lens recover octets u s → VisitAsks (seen lens octets) (recall_of s) u →
       StopBack (speech_at lens u.lived.spot) u.lived.spot u.lived.life back (knows s.side.hand.course) (knows t.side.hand.course) s t → StopStays t z → RecallsBack lens back u (recall_of s) (recall_of z)
   recalls_one lens recover octets back u s t z r aims i asks b k =
       let same : recall_of z ≡ recall_of t = recall_kept t.side.hand.laying.number t z k in
@@ -221,8 +221,8 @@ module _ {G : Ghosts InHand} where
       }
 
   -- all slaves
-  pub recalls_back : (lens : ℕ → Lens) (recover : ℕ) (octets : List ℕ) (back : Grams) (us : List Turn) (ss ts zs : List (Stop InHand G)) → Returns (seen lens octets) back → ((s : Stop InHand G) → SameAim s.side.station back) → AllBoth (λ u s. IsUnder lens recover octets u s) us ss →
-      AllVisit (seen lens octets) (map (λ s. recall_of s) ss) us → EachPair (λ s t. (u : Turn) → IsUnder lens recover octets u s → StopBack (speech_at lens u.lived.spot) u.lived.spot u.lived.life back (knows s.side.hand.course) (knows t.side.hand.course) s t) ss ts →
+  pub recalls_back : (lens : ℕ → Lens) (recover : ℕ) (octets : List ℕ) (back : Grams) (us : List Turn) (ss ts zs : List (Stop InHand G)) → Returns (seen lens octets) back → ((s : Stop InHand G) → SameAim s.side.station back) → AllBoth (λ u s. IsOnFrame lens recover octets u s) us ss →
+      AllVisit (seen lens octets) (map (λ s. recall_of s) ss) us → EachPair (λ s t. (u : Turn) → IsOnFrame lens recover octets u s → StopBack (speech_at lens u.lived.spot) u.lived.spot u.lived.life back (knows s.side.hand.course) (knows t.side.hand.course) s t) ss ts →
       EachPair (λ t z. StopStays t z) ts zs → AllRecall lens back us (map (λ s. recall_of s) ss) (map (λ s. recall_of s) zs)
   recalls_back lens recover octets back [] [] [] [] r aims w a b k = tt
   recalls_back lens recover octets back [] [] [] (z ∷ zs) r aims w a b k = absurd k
@@ -237,7 +237,7 @@ module _ {G : Ghosts InHand} where
   )
 
   -- ONE THAT WAS LOST
-  lost_one : (lens : ℕ → Lens) (recover : ℕ) (octets : List ℕ) (gives : Bool) (u : Turn) (s t z : Stop InHand G) → IsUnder lens recover octets u s → StopLost gives (knows s.side.hand.course) (knows t.side.hand.course) s t → StopStays t z → RecallsBack lens [] u (recall_of s) (recall_of z)
+  lost_one : (lens : ℕ → Lens) (recover : ℕ) (octets : List ℕ) (gives : Bool) (u : Turn) (s t z : Stop InHand G) → IsOnFrame lens recover octets u s → StopLost gives (knows s.side.hand.course) (knows t.side.hand.course) s t → StopStays t z → RecallsBack lens [] u (recall_of s) (recall_of z)
   lost_one lens recover octets gives u s t z i b k =
       let same : recall_of z ≡ recall_of t = recall_kept t.side.hand.laying.number t z k in
       record {
@@ -246,7 +246,7 @@ module _ {G : Ghosts InHand} where
         known = λ e due. ap (λ (q : Recall). q.knows) same ∙ b.1 e;
       }
 
-  pub recalls_lost : (lens : ℕ → Lens) (recover : ℕ) (octets : List ℕ) (gives : Bool) (us : List Turn) (ss ts zs : List (Stop InHand G)) → AllBoth (λ u s. IsUnder lens recover octets u s) us ss →
+  pub recalls_lost : (lens : ℕ → Lens) (recover : ℕ) (octets : List ℕ) (gives : Bool) (us : List Turn) (ss ts zs : List (Stop InHand G)) → AllBoth (λ u s. IsOnFrame lens recover octets u s) us ss →
       EachPair (λ s t. StopLost gives (knows s.side.hand.course) (knows t.side.hand.course) s t) ss ts → EachPair (λ t z. StopStays t z) ts zs → AllRecall lens [] us (map (λ s. recall_of s) ss) (map (λ s. recall_of s) zs)
   recalls_lost lens recover octets gives [] [] [] [] w b k = tt
   recalls_lost lens recover octets gives us [] (t ∷ ts) zs w b k = absurd b

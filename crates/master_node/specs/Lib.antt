@@ -60,3 +60,4 @@ pub mod Entering
 pub mod Starts
 pub mod Recalled
 pub mod Backtold
+pub mod ServedEager

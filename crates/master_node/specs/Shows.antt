@@ -125,6 +125,12 @@ module _ (lens : ℕ → Lens) (recover : ℕ) where
     pub at : u.share.at ≡ s.at
     pub way : StandUnder lens s.side.station s.at s.under s.side.carried s.stand u.lived.life (seen lens octets)
 
+  -- A FRAME IS UNDER WAY with these slaves, whatever is passed on to them
+  pub record IsUnderWay (m : MasterNode) (octets : List ℕ) (us : List Turn) : Type 0 where
+    pub each : AllBoth (λ u s. IsOnFrame octets u s) us m.tour.stops.items
+    pub sent : 1 ≤ length (seen lens octets)
+    pub few : length m.tour.visit.items ≤ 16
+
   module _ (retry : ℕ) where
     -- THE MASTER BEFORE A FRAME: it leads these slaves, behind so many lost frames in a row; no mail waits to be passed on
     pub record MasterShows (m : MasterNode) (missed : ℕ) (as' : List Leads) : Type 0 where

@@ -21,8 +21,9 @@ ghost use Rattle.master_node.specs.Listed.{listed};
 ghost use Rattle.master_node.specs.Listing.{events_in};
 ghost use Rattle.master_node.specs.Origins.{forwards_at};
 ghost use Rattle.master_node.specs.Recalled.{AllRecall};
-ghost use Rattle.master_node.specs.Serving.{ServedShows, ServedUnder};
-ghost use Rattle.master_node.specs.Shows.{MasterShows, MasterUnder, lived_of};
+ghost use Rattle.master_node.specs.Serving.{ServedShows, ServedUnder, run_lead, run_turn};
+ghost use Rattle.packets_heard.specs.Served.{serves_behind};
+ghost use Rattle.master_node.specs.Shows.{IsUnderWay, MasterShows, MasterUnder, lived_of};
 ghost use Rattle.master_node.specs.Told.{HasLives};
 ghost use Rattle.master_node.specs.Toured.{tour_of};
 ghost use Rattle.master_node.specs.of_segment_model.Returned.{Returns};
@@ -223,16 +224,21 @@ fn tell(master: &mut MasterNode, fate: Fate, back: &FrameBuf)
     ensures toured { (lens : ℕ → Lens) (recover : ℕ) (as' : List Leads) → HasLives lens recover master.new (map lived_of as') → tour_of master.new ≡ tour_behind master.old.tour.retry fate as' (tour_of master.old) master.old.tour.visit.items }
     ensures brought { fate ≡ Fates.Pass → (lens : ℕ → Lens) (recover retry missed : ℕ) (octets : List ℕ) (us : List Turn) → MasterUnder lens recover retry master.old octets missed us → Returns (seen lens octets) (seen lens back.now.items) →
         HasBrought master.new us (seen lens back.now.items) }
-    ensures recalls { fate ≡ Fates.Pass → (lens : ℕ → Lens) (recover retry missed : ℕ) (octets : List ℕ) (us : List Turn) → MasterUnder lens recover retry master.old octets missed us → Returns (seen lens octets) (seen lens back.now.items) →
+    ensures recalls { fate ≡ Fates.Pass → (lens : ℕ → Lens) (recover : ℕ) (octets : List ℕ) (us : List Turn) → IsUnderWay lens recover master.old octets us → Returns (seen lens octets) (seen lens back.now.items) →
         AllVisit (seen lens octets) (recalls master.old) us → AllRecall lens (seen lens back.now.items) us (recalls master.old) (recalls master.new) }
-    ensures kept { (after : ℕ) → fate ≡ Fates.Lost after → (lens : ℕ → Lens) (recover retry missed : ℕ) (octets : List ℕ) (us : List Turn) → MasterUnder lens recover retry master.old octets missed us →
+    ensures kept { (after : ℕ) → fate ≡ Fates.Lost after → (lens : ℕ → Lens) (recover : ℕ) (octets : List ℕ) (us : List Turn) → IsUnderWay lens recover master.old octets us →
         AllRecall lens [] us (recalls master.old) (recalls master.new) }
     ensures happened { HappensSo master.old.lan master.new.lan }
     ensures joined { (lens : ℕ → Lens) (recover retry missed number : ℕ) (us : List Turn) (js : List Joined) (f : Exchanged) → f.fate ≡ fate → f.back ≡ back.now.items → MasterUnder lens recover retry master.old f.sent missed us → (fate ≡ Fates.Pass → Returns (seen lens f.sent) (seen lens back.now.items)) →
         HasUnfinished master.old (map stand_under us) (unfinished_of js) → HasUnfinished master.new (map stand_before (lives_behind lens recover retry missed number f us)) (unfinished_after (λ u. mails_by lens f f.fate u) us (unfinished_of js)) }
-    ensures arrivals { fate ≡ Fates.Pass → (lens : ℕ → Lens) (recover retry missed : ℕ) (octets : List ℕ) (us : List Turn) (js : List Joined) → MasterUnder lens recover retry master.old octets missed us → Returns (seen lens octets) (seen lens back.now.items) →
+    ensures arrivals { fate ≡ Fates.Pass → (lens : ℕ → Lens) (recover : ℕ) (octets : List ℕ) (us : List Turn) (js : List Joined) → IsUnderWay lens recover master.old octets us → Returns (seen lens octets) (seen lens back.now.items) →
         HasUnfinished master.old (map stand_under us) (unfinished_of js) → ComeIn master.old (λ k. completed_at (seen lens back.now.items) us (unfinished_of js) k) master.new }
     ensures downs { (after : ℕ) → fate ≡ Fates.Lost after → (lens : ℕ → Lens) (recover retry missed number : ℕ) (us : List Turn) (f : Exchanged) → f.fate ≡ fate → MasterUnder lens recover retry master.old f.sent missed us → GoDown master.old us (lives_behind lens recover retry missed number f us) master.new }
+    ensures joins { (lens : ℕ → Lens) (recover retry missed made : ℕ) (vs : List ServedTurn) (js : List Joined) (f : Exchanged) → f.fate ≡ fate → f.back ≡ back.now.items → ServedUnder lens recover retry master.old f.sent missed made vs → (fate ≡ Fates.Pass → Returns (seen lens f.sent) (seen lens back.now.items)) →
+        HasUnfinished master.old (map stand_under (map run_turn vs)) (unfinished_of js) →
+        HasUnfinished master.new (map stand_before (map run_lead (serves_behind lens recover retry missed made f vs))) (unfinished_after (λ u. mails_by lens f f.fate u) (map run_turn vs) (unfinished_of js)) }
+    ensures leaves { (after : ℕ) → fate ≡ Fates.Lost after → (lens : ℕ → Lens) (recover retry missed made : ℕ) (vs : List ServedTurn) (f : Exchanged) → f.fate ≡ fate → ServedUnder lens recover retry master.old f.sent missed made vs →
+        GoDown master.old (map run_turn vs) (map run_lead (serves_behind lens recover retry missed made f vs)) master.new }
     ensures counts { (k : ℕ) → forwards_at master.new.posts.items k ≡ forwards_at master.old.posts.items k }
     ensures served { (lens : ℕ → Lens) (recover retry missed made : ℕ) (vs : List ServedTurn) (f : Exchanged) → f.fate ≡ fate → f.back ≡ back.now.items → ServedUnder lens recover retry master.old f.sent missed made vs → (fate ≡ Fates.Pass → Returns (seen lens f.sent) (seen lens back.now.items)) →
         ServedShows lens recover retry master.new (missed_behind lens recover retry f.fate missed) (suc made) (map (served_behind lens recover retry (gives_up_at lens recover retry missed) made f) vs) }

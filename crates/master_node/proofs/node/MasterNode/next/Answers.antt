@@ -96,12 +96,14 @@ returns-clause-visits c = λ h lens recover retry missed as' us x y.
 pub returns-clause-takes : goal.returns-clause-takes
 returns-clause-takes c = λ h lens recover retry missed as' us x y.
     let n = c.admit.new.self in
-    all_take lens recover c.make.new.into.items us n.tour.stops.items c.make.new.self.tour.stops.items (c.make.ensures.eager lens recover retry missed as' (shows_same lens recover retry missed as' _ n c.admit.ensures.same.1 c.admit.ensures.same.0 x)) y.each
+    let z = shows_same lens recover retry missed as' _ n c.admit.ensures.same.1 c.admit.ensures.same.0 x in
+    all_take lens recover c.make.new.into.items us n.tour.stops.items c.make.new.self.tour.stops.items (c.make.ensures.eager as' z.goes z.again) (all_run lens recover c.make.new.into.items us c.make.new.self.tour.stops.items y.each)
 
 pub returns-clause-recalled : goal.returns-clause-recalled
 returns-clause-recalled c = λ h lens recover retry missed as' x.
     let n = c.admit.new.self in
-    each_recalls n.tour.stops.items c.make.new.self.tour.stops.items (c.make.ensures.eager lens recover retry missed as' (shows_same lens recover retry missed as' _ n c.admit.ensures.same.1 c.admit.ensures.same.0 x))
+    let z = shows_same lens recover retry missed as' _ n c.admit.ensures.same.1 c.admit.ensures.same.0 x in
+    each_recalls n.tour.stops.items c.make.new.self.tour.stops.items (c.make.ensures.eager as' z.goes z.again)
     ∙ ap (λ z. map (λ s. recall_of s) z.stops.items) c.admit.ensures.same.1
 
 pub returns-clause-enters : goal.returns-clause-enters
@@ -124,7 +126,10 @@ returns-clause-services c = λ h lens recover retry missed made ws small x.
     let m = c.args.self.now in
     let live : c.has_live.result ≡ true = cc in
     let same = c.admit.ensures.same in
-    let w = c.make.ensures.serves lens recover retry missed made (λ k. forwards_at m.posts.items k) ws (subst (λ z. list_any (λ s. is_live s.stand) z.stops.items ≡ true) (sym same.1) (sym c.has_live.ensures ∙ live)) small
+    let none = ap length c.begins.ensures.none in
+    let admitted = c.admit.ensures.lan in
+    let w = c.make.ensures.serves lens recover retry missed made (record { switch = m.lan.switch; forwards = λ k. forwards_at m.posts.items k }) ws (subst (λ z. list_any (λ s. is_live s.stand) z.stops.items ≡ true) (sym same.1) (sym c.has_live.ensures ∙ live)) small
+    (omega (arith, admitted.few, none)) (c.admit.ensures.takes.takes _ [] (omega (arith, none)) (has_none _ _ c.begins.ensures.switch c.begins.ensures.none))
     (unlisted (record m { list = c.clear.new.self; lan = c.begins.new.self }) c.admit.new.self c.clear.ensures.none c.clear.ensures.last c.admit.ensures.list c.admit.ensures.same.0)
     (served_same lens recover retry missed made ws m c.admit.new.self same.1 same.0 c.admit.ensures.number x) in
     let u = w.2 in
@@ -142,11 +147,16 @@ returns-clause-services c = λ h lens recover retry missed made ws small x.
           let visit = c.make.new.self.tour.visit.items in
           let many = length (seen lens octets) in
           let each = all_served lens recover octets made w.0 c.make.new.self.posts.items stops u.each in
+          let stands = served_same lens recover retry missed made ws m c.admit.new.self same.1 same.0 c.admit.ensures.number x in
+          let eager = c.make.ensures.eager as' stands.goes stands.again in
           record {
             tour = w.5 ∙ toured;
             visits = turns_tour lens recover octets (λ k. holds_at is_live_lead as' k) (frame_size octets) (λ k. area_at lens as' k) (tour_of m) us stops many visit each
-                (subst (λ z. IsOfTour (λ s. stop_share s) (λ k. holds_at is_live_lead as' k) (frame_size octets) (λ k. area_at lens as' k) z stops many visit) toured w.6);
+                (subst (λ z. IsOfTour (λ s. stop_share s) (λ k. holds_at is_live_lead as' k) (frame_size octets) (λ k. area_at lens as' k) z stops many visit) toured w.7);
             asks = all_ask lens recover octets us stops each;
+            packets = w.6;
+            takes = all_take lens recover octets us c.admit.new.self.tour.stops.items stops eager each;
+            recalled = each_recalls c.admit.new.self.tour.stops.items stops eager ∙ ap (λ z. map (λ s. recall_of s) z.stops.items) same.1;
           }),
     )
 
