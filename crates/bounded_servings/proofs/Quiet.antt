@@ -1,5 +1,5 @@
 -- Mails that are quiet are fair.
-use Rattle.std.proofs.Common.{◌≡◌, ◌&&◌, Bool, true, Ok, List, All, refl}
+use Rattle.std.proofs.Common.{◌≡◌, ◌&&◌, Bool, true, false, Ok, List, All, refl}
 use Rattle.std.proofs.lemmas.List.Elements.{All-weaker}
 use Rattle.few_replies.specs.Packets.{is_fair}
 use Rattle.run_work.specs.Fair.{AsksFair}

@@ -37,8 +37,8 @@ pub fn bounded_serving_law()
     ensures serving { (plan : Scenario) (fs : List Exchanged) (again : Option (List ℕ)) (missed : ℕ) (ws : List Serves) (p : Progress) (cs : List (Clocked Body Asked Reply)) (ls ns : List Remembered) → IsPlan plan → IsKnown plan →
         (toured : IsServedToured (lens_of plan.slaves) plan.recover plan.retry (slowest plan.paces) (all_serve plan.paces (first_leads plan)) fs again missed ws p cs) → ServedAsks toured → ServedEagerIn plan toured ls ns →
         p.lost ≤ lost_of fs + length plan.host + 6 * asked_in ws → AllRound (ring_of plan) fs → IsPlanServing plan fs missed ws p cs }
-    ensures uncut { (plan : Scenario) (fs : List Exchanged) (missed : ℕ) (ws : List Serves) (p : Progress) (cs : List (Clocked Body Asked Reply)) (count budget : ℕ) → IsPlan plan → IsKnown plan → IsPlanServing plan fs missed ws p cs → All AsksQuiet ws → asked_in ws ≤ count →
-        (led : IsServedLed (lens_of plan.slaves) plan.recover plan.retry (all_serve plan.paces (first_leads plan)) fs missed ws) (es : List SwitchEvent) (rest : List (ArrayVec ℕ)) → All (IsAtPort (ports_of plan.slaves)) es → arrivals_at 0 es ++ rest ≡ plan.host →
+    ensures uncut { (plan : Scenario) (fs : List Exchanged) (missed lost : ℕ) (ws : List Serves) (p : Progress) (cs : List (Clocked Body Asked Reply)) (count budget : ℕ) → IsPlan plan → IsKnown plan → IsPlanServing plan fs missed ws p cs → All AsksQuiet ws → asked_in ws ≤ count →
+        (led : IsServedLed (lens_of plan.slaves) plan.recover plan.retry (all_serve plan.paces (first_leads plan)) fs lost ws) (es : List SwitchEvent) (rest : List (ArrayVec ℕ)) → All (IsAtPort (ports_of plan.slaves)) es → arrivals_at 0 es ++ rest ≡ plan.host →
         ServedListed (ports_behind 0 plan.slaves) led es → AreServedBegun (ports_behind 0 plan.slaves) (ports_of plan.slaves) led es → bound_of plan count ≤ budget → length fs ≢ budget }
 {
     served_waits::served_waits_law();

@@ -13,6 +13,6 @@ returns-clause-serving c = λ plan fs again missed ws p cs ls ns is known toured
 }
 
 pub returns-clause-uncut : goal.returns-clause-uncut
-returns-clause-uncut c = λ plan fs missed ws p cs count budget is known serving quiet few led es rest at host listed begun enough.
+returns-clause-uncut c = λ plan fs missed lost ws p cs count budget is known serving quiet few led es rest at host listed begun enough.
     c.served_bound.ensures.uncut plan fs missed ws p cs count budget is known serving (all_fair ws quiet)
-    (c.switched_serving_law.ensures plan is known fs missed ws led serving.round quiet es rest at host listed begun) few enough
+    (c.switched_serving_law.ensures plan is known fs lost ws led serving.round quiet es rest at host listed begun) few enough
