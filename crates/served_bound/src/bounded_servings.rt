@@ -1,6 +1,5 @@
 //! No budget of as many frames as the frame bound cuts a serving off. Definitions and a law, no running code: the function here does nothing, and its contract
 //! states the law.
-#![tactic(auto)]
 
 ghost use Rattle.arrayvec.specs.ArrayVec.{ArrayVec};
 ghost use Rattle.eoe_switch.specs.declared.switching.SwitchEvent.{SwitchEvent};
@@ -43,6 +42,6 @@ pub fn bounded_serving_law()
 {
     served_waits::served_waits_law();
     served_waits::served_answers_law();
-    served_bound::served_bound();
+    crate::served_bound();
     served_packets::switched_servings::switched_serving_law();
 }
