@@ -1,2 +1,1 @@
-mod Fair
 mod Within

@@ -19,8 +19,6 @@ ghost use Rattle.served_bound.specs.Servings.{IsPlanServing};
 ghost use Rattle.served_runs.specs.Served.{Serves};
 ghost use Rattle.std.specs.Prelude.{◌≢◌, ◌≤◌, ◌<◌, ℕ, All, List, length};
 
-pub mod bounded_servings;
-
 /// THE FRAMES OF A SERVING, of a plan that was read, that its master led by visits of one tour and that went round its ring, with fair mails asked between them,
 /// no more than so many, and with the packets of one switch, are fewer than the frame bound for so many datagrams: whatever frames are lost and whoever is
 /// given up.

@@ -1,5 +1,5 @@
-use Rattle.served_bound.proofs.Fair.{all_fair}
-use Rattle.served_bound.proofs.bounded_servings.bounded_serving_law.Goals as goal
+use Rattle.bounded_servings.proofs.Quiet.{all_fair}
+use Rattle.bounded_servings.proofs.bounded_serving_law.Goals as goal
 
 pub returns-clause-serving : goal.returns-clause-serving
 returns-clause-serving c = λ plan fs again missed ws p cs ls ns is known toured asks eager enters round. record {

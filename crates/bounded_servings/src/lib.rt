@@ -1,5 +1,6 @@
 //! No budget of as many frames as the frame bound cuts a serving off. Definitions and a law, no running code: the function here does nothing, and its contract
 //! states the law.
+#![tactic(auto)]
 
 ghost use Rattle.arrayvec.specs.ArrayVec.{ArrayVec};
 ghost use Rattle.eoe_switch.specs.declared.switching.SwitchEvent.{SwitchEvent};
@@ -42,6 +43,6 @@ pub fn bounded_serving_law()
 {
     served_waits::served_waits_law();
     served_waits::served_answers_law();
-    crate::served_bound();
+    served_bound::served_bound();
     served_packets::switched_servings::switched_serving_law();
 }
