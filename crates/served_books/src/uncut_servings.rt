@@ -28,6 +28,6 @@ pub fn uncut_law()
         bound_of plan count ≤ budget_of plan count → ending ≢ endings.BudgetSpent }
 {
     crate::asked_law();
-    served_bound::bounded_servings::bounded_serving_law();
+    bounded_servings::bounded_serving_law();
     eager_servings::eager_serving_law();
 }
