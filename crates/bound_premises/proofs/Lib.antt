@@ -7,7 +7,7 @@ pub mod Maps
 pub mod News
 pub mod Places
 pub mod Ports
-mod Recalled
+pub mod Recalled
 pub mod Rests
 pub mod Scripts
 pub mod Settled

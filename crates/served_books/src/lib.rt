@@ -16,6 +16,8 @@ ghost use Rattle.segment_plan.specs.declared.plan.Scenario.{Scenario};
 ghost use Rattle.served_packets.specs.Quiet.{AsksQuiet};
 ghost use Rattle.toured_servings.specs.Tours.{IsCounted};
 
+pub mod uncut_servings;
+
 /// NO MORE MAILS WERE ASKED than datagrams were heard; and each of them begins no download to 2F01:01 where no datagram's mail does.
 pub fn asked_law()
     ensures few { (plan : Scenario) (count : ℕ) (book : Book) (ending : Ending) (a : HasAccount plan count book ending) → asked_in a.answers.serving.leading.serves ≤ length book.grams }
