@@ -35,7 +35,7 @@ ghost use Rattle.run_record.specs.Recalling.{RunBegins};
 ghost use Rattle.run_notes.specs.Switched.{SameSwitch};
 ghost use Rattle.run_record.specs.Replay.{first_ring};
 ghost use Rattle.run_record.specs.Served.{ServingAsks, ServingBegins, ServingGoesOn, ServingLives, ServingRests, TellsBehind};
-ghost use Rattle.run_record.specs.Session.{budget_of, smaller_bound, rests_at, session_rows, first_session, are_at_rest, some_given_up, has_live, IsLeftBy, StillWants, Steps, Stops, Asks};
+ghost use Rattle.run_record.specs.Session.{budget_of, smaller_bound, rests_at, session_rows, first_session, are_at_rest, some_given_up, has_live, IsDone, IsLeftBy, StillWants, Steps, Stops, Asks};
 ghost use Rattle.run_notes.specs.Slaves.{slave_row, slave_rows, KeepsRest};
 
 use datagrams::FrameBuf;
@@ -279,6 +279,7 @@ impl Session {
         ensures left { OnTrue result (IsLeftBy self.now.master) }
         ensures wants { OnFalse result (StillWants self.now) }
         ensures lives { OnFalse result (ServingLives self.now) }
+        ensures done { OnFalse result (IsDone self.now → ⊥) }
         ensures served { OnTrue result (ServingRests self.now) }
         ensures busy { OnFalse result ((are_at_rest (session_rows self.now) ≡ false) ⊎ (has_live self.now.master ≡ true)) }
     {
@@ -352,6 +353,7 @@ impl Session {
         ensures full { OnOk result ((result ≡ Ok false) ↔ (slice_get self.old.waiting slave ≡ Some 64)) }
         ensures serves { IfOk result (ServingAsks slave key mail.now self.old self.new) }
         ensures live { has_live self.new.master ≡ has_live self.old.master }
+        ensures done { IfOk result (λ asked. IsDone self.new → IsDone self.old) }
         ensures err { OnErr result (self.new ≡ self.old) }
     {
         let body = Octets::copy_of(alloc, mail.body.as_slice())?;
