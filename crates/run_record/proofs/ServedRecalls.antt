@@ -16,11 +16,11 @@ use Rattle.master_node.specs.declared.node.MasterNode.{MasterNode}
 use Rattle.master_node.specs.of_frame_view.Seen.{seen}
 use Rattle.master_node.specs.of_frame_view.View.{Lens}
 use Rattle.master_node.specs.of_life_runs.First.{first_leads, lens_of}
-use Rattle.master_node.specs.of_life_runs.Led.{Exchanged, gives_up_at}
+use Rattle.master_node.specs.of_life_runs.Led.{Exchanged, Turn, gives_up_at}
 use Rattle.master_node.specs.of_master_tour.Toured.{Tour, new_tour}
 use Rattle.master_node.specs.of_segment_model.Returned.{Returns}
 use Rattle.packets_heard.proofs.RecalledQuiet.{quiet_served}
-use Rattle.packets_heard.specs.Recalled.{AllSettled, State, has_entered}
+use Rattle.packets_heard.specs.Recalled.{AllSettled, AtSwitch, IsLanOf, State, has_entered, stepped}
 use Rattle.packets_heard.specs.Served.{IsTourServed}
 use Rattle.packets_heard.specs.ServedRecalled.{IsServedRecalled, ServedRecalledIn}
 use Rattle.run_notes.specs.Slaves.{gaves_noted}
@@ -38,7 +38,6 @@ use Rattle.segment_ring.specs.declared.wire.Fate.TheVariants as Fates
 use Rattle.served_runs.specs.Served.{Keyed, Serves, ServedTurn, IsServedFrame, MayAsk, all_serve, asked_at, served_behind}
 use Rattle.slave_node.specs.of_slave_steps.Node.{Node, node_passed}
 use Rattle.slave_server.specs.declared.server.SlaveServer.{SlaveServer}
-use Rattle.packets_heard.specs.Recalled.{stepped}
 
 -- the visits of a tour, with what is remembered of them
 abbrev pub Recalled : Scenario → List Exchanged → Tour → List Serves → State → Type 0
@@ -64,7 +63,7 @@ module _ (plan : Scenario) (fs : List Exchanged) (missed : ℕ) (ws : List Serve
   abbrev lens : ℕ → Lens
   lens = lens_of plan.slaves
 
-  abbrev us : List _
+  abbrev us : List Turn
   us = map run_turn vs
 
   abbrev m0 : MasterNode
@@ -86,7 +85,7 @@ module _ (plan : Scenario) (fs : List Exchanged) (missed : ℕ) (ws : List Serve
         quiet = quiet_served plan fs missed ws lives (events_of rows) m0.lan (recalls m0) w.listed (lan_before plan fs missed ws lives f vs frame m0 m1 m2 under visit back x rows w) rests;
       }))
 
-  happened : _
+  happened : (at : AtSwitch plan f us (events_of rows) (events_of more)) × (at.making ≡ events_of m1.lan.happened)
   happened = happened_so plan fs missed ws lives f vs frame m0 m1 m2 under visit back x rows w
 
   recalled_frame : IsServedRecalled plan missed (length fs) ws f vs (state_of m0 (events_of rows) s.ring) (state_of m2 (events_of more) ring')

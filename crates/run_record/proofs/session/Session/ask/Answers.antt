@@ -45,12 +45,12 @@ returns-clause-full c =
 
 pub returns-then-ask-clause-serves : goal.returns-then-ask-clause-serves
 returns-then-ask-clause-serves c =
-    serving_asks _ _ _ c.args.slave c.args.key c.args.mail.now c.self.view_is c.if-ask.ensures.served (λ full. (let bad : true ≡ false = c.if-ask.ensures.full.1 full in cc)) c.if-ask.ensures.kept.0 c.if-ask.ensures.kept.1
+    serving_asks _ _ _ c.args.slave c.args.key c.args.mail.now c.self.view_is c.if-ask.ensures.served (λ full. (let bad : true ≡ false = c.if-ask.ensures.full.1 full in cc)) c.if-ask.ensures.kept.0 c.if-ask.ensures.kept.1 refl
     (ap (λ (s : SessionState). s.asked) (returns-then-ask-clause-asked c)) refl refl
 
 pub returns-clause-serves : goal.returns-clause-serves
 returns-clause-serves c =
-    serving_stays _ _ _ c.args.slave c.args.key c.args.mail.now c.self.view_is c.if-ask.ensures.kept.0 c.if-ask.ensures.kept.1 c.if-ask.ensures.kept.2 (c.if-ask.ensures.stays refl)
+    serving_stays _ _ _ c.args.slave c.args.key c.args.mail.now c.self.view_is c.if-ask.ensures.kept.0 c.if-ask.ensures.kept.1 refl c.if-ask.ensures.kept.2 (c.if-ask.ensures.stays refl)
     (ap (λ (s : SessionState). s.asked) (returns-clause-asked c)) refl refl
 
 pub returns-then-ask-clause-done : goal.returns-then-ask-clause-done
