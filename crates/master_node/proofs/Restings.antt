@@ -120,8 +120,8 @@ module _ {G : Ghosts InHand} (lens : ℕ → Lens) (recover : ℕ) (l : Lan) whe
   serve_rests : (made place : ℕ) (w : Serves) (p : Post) (s : Stop InHand G) → IsServed lens recover made w p s → ServedResting lens l place (recall_of s) w → StopRests l place s
   serve_rests made place w p s i (inl gone) = rests_by place w.lead s s.stand refl i.lives i.script i.number (inl gone)
   serve_rests made place w p s i (inr r) =
-      let open = open_lived lens recover w.lead.lived.spot s w.lead.lived.life s.stand refl i.lives.shown.stood r.0.free.stands in
-      let shown = (subst (λ z. StandPassing z (awaits_reply s.side.hand.course s.side.hand.which s.side.hand.clients) s.side.passing w.lead.lived.life) open i.passing).is in
+      let opened = open_lived lens recover w.lead.lived.spot s w.lead.lived.life s.stand refl i.lives.shown.stood r.0.free.stands in
+      let shown = (subst (λ z. StandPassing z (awaits_reply s.side.hand.course s.side.hand.which s.side.hand.clients) s.side.passing w.lead.lived.life) opened i.passing).is in
       rests_by place w.lead s s.stand refl i.lives i.script i.number (inr (r.0, none_unseen s.side.passing (sym shown ∙ r.1)))
 
   all_from : (place : ℕ) (as' : List Leads) (ss : List (Stop InHand G)) → AllBoth (λ a s. IsLead lens recover a s) as' ss → AllRest lens l place (map (λ s. recall_of s) ss) as' → (k : ℕ) → IfSome (slice_get ss k) (λ s. StopRests l (k + place) s)
@@ -181,9 +181,9 @@ module _ {G : Ghosts InHand} (lens : ℕ → Lens) (recover made : ℕ) where
   one_still : (w : Serves) (p : Post) (s : Stop InHand G) → IsServed lens recover made w p s → w.lead.lived.life.stand ≡ Lives.Stand.Open → w.lead.lived.life.era.account.hand ≡ None → w.lead.lived.life.era.passing ≡ None → (recall_of s).turn ≡ false
   one_still w p s i o hand unpassed =
       let a = w.lead.lived in
-      let open = open_lived lens recover a.spot s a.life s.stand refl i.lives.shown.stood o in
-      let stood = subst (λ (k : Stand). StandShows (λ d b. side_shows lens recover s a.spot d b) a.spot k a.life) open i.lives.shown.stood in
-      let shown = (subst (λ z. StandPassing z (awaits_reply s.side.hand.course s.side.hand.which s.side.hand.clients) s.side.passing a.life) open i.passing).is in
+      let opened = open_lived lens recover a.spot s a.life s.stand refl i.lives.shown.stood o in
+      let stood = subst (λ (k : Stand). StandShows (λ d b. side_shows lens recover s a.spot d b) a.spot k a.life) opened i.lives.shown.stood in
+      let shown = (subst (λ z. StandPassing z (awaits_reply s.side.hand.course s.side.hand.which s.side.hand.clients) s.side.passing a.life) opened i.passing).is in
       let none = none_unseen s.side.passing (sym shown ∙ unpassed) in
       let duty = no_hand (in_hand s.side.duty) a.life.era.account.hand hand stood.1.state in
       λ j. (is_some (duty j) || is_some (none j)) && s.side.turn
@@ -213,6 +213,10 @@ quiet_in [] q k = refl
 quiet_in (p ∷ ps) q zero = none_here p (All-head WaitsNone p ps q)
 quiet_in (p ∷ ps) q (suc k) = quiet_in ps (All-tail WaitsNone p ps q) k
 
+both_some : {S : Type 0} (P Q : S → Type 0) (o : Option S) → IfSome o P → IfSome o Q → IfSome o (λ s. P s × Q s)
+both_some P Q None p q = tt
+both_some P Q (Some s) p q = (p, q)
+
 -- where no mail waits at any post behind another mail that was asked, none did before
 pub none_before : (i : ℕ) (ps qs : List Post) → StepsAt (λ p q. q.mails.items ≡ [] → p.mails.items ≡ []) i ps qs → (k : ℕ) → waits_in (map waits_of qs) k ≡ [] → waits_in (map waits_of ps) k ≡ []
 none_before zero [] qs h k e = absurd h
@@ -240,10 +244,6 @@ module _ {G : Ghosts InHand} (lens : ℕ → Lens) (recover made : ℕ) (l : Lan
   serves_none place (w ∷ ws) (p ∷ ps) [] x r k = absurd x
   serves_none place (w ∷ ws) (p ∷ ps) (s ∷ ss) x r zero = λ o. serve_none place w p s x.0 r.0 o
   serves_none place (w ∷ ws) (p ∷ ps) (s ∷ ss) x r (suc k) = serves_none (suc place) ws ps ss x.1 r.1 k
-
-  both_some : {S : Type 0} (P Q : S → Type 0) (o : Option S) → IfSome o P → IfSome o Q → IfSome o (λ s. P s × Q s)
-  both_some P Q None p q = tt
-  both_some P Q (Some s) p q = (p, q)
 
   -- a serving of which all slaves rest is idle, once all packets of the host have come in
   pub serves_idle : (ws : List Serves) (ps : List Post) (ss : List (Stop InHand G)) → AllThree (λ w p s. IsServed lens recover made w p s) ws ps ss → AllServedRest lens l 0 (map (λ s. recall_of s) ss) ws → (k : ℕ) →

@@ -46,8 +46,8 @@ module _ (lens : ℕ → Lens) (recover retry : ℕ) (gives : Bool) (made : ℕ)
       let stands = life_open lens recover spot s l o i.lives.shown.stood in
       let on = stays_open (speech_at lens spot) made spot (news_back spot.station v.kept v.counts (seen lens items)) (seen lens items) (came_at s.under s.at (seen lens items)) l l.stand stands stands hand in
       let here = ap (λ (k : Life Body Asked Reply). k.stand) (sym (back_life lens recover retry gives made f octets items v s fate back i)) ∙ on.0 in
-      let open = open_lived lens recover w.spot z w.life z.stand refl new.lives.shown.stood here in
-      let shown = (subst (λ q. StandPassing q (awaits_reply z.side.hand.course z.side.hand.which z.side.hand.clients) z.side.passing w.life) open new.passing).is in
+      let opened = open_lived lens recover w.spot z w.life z.stand refl new.lives.shown.stood here in
+      let shown = (subst (λ q. StandPassing q (awaits_reply z.side.hand.course z.side.hand.which z.side.hand.clients) z.side.passing w.life) opened new.passing).is in
       sym (seen_some z.side.passing) ∙ ap (λ (q : Option Ends.Passing). is_some q) (sym shown ∙ still ∙ i.passing o) ∙ seen_some s.side.passing ∙ some
 
   pub all_pass : {G : Ghosts InHand} (vs : List ServedTurn) (ps : List Post) (ss zs : List (Stop InHand G)) → AllBoth (λ v s. IsOnFrame lens recover octets (run_turn v) s) vs ss → AllThree (λ w p z. IsServed lens recover n w p z) (map (served_behind lens recover retry gives made f) vs) ps zs →

@@ -104,20 +104,20 @@ pub serving_begins : (plan : Scenario) (s : SessionState) → s.notes ≡ first_
 serving_begins plan s notes shown none still tour ports joined happened knows ring =
     let r = recalled_first plan s.master s.ring tour knows ring in
     record {
-  leading = record {
-    missed = 0;
-    serves = all_serve plan.paces (first_leads plan);
-    lives = IsServedLed.start;
-    shows = shown;
-    toured = r.0;
-  };
-  gave = ap gaves_noted notes ∙ first_gaves plan.services 0 0 plan.slaves ∙ ap (map gave_of) (sym (serve_leads plan.paces (first_leads plan)));
-  asked = first_same mails_of [] (λ pace a. refl) plan.paces plan.services 0 plan.slaves ∙ sym none;
-  waiting = first_same left_of 0 (λ pace a. refl) plan.paces plan.services 0 plan.slaves ∙ sym still;
-  rows = [];
-  forwarded = served_first plan s.master ports joined happened;
-  remembers = r.1;
-}
+      leading = record {
+        missed = 0;
+        serves = all_serve plan.paces (first_leads plan);
+        lives = IsServedLed.start;
+        shows = shown;
+        toured = r.0;
+      };
+      gave = ap gaves_noted notes ∙ first_gaves plan.services 0 0 plan.slaves ∙ ap (map gave_of) (sym (serve_leads plan.paces (first_leads plan)));
+      asked = first_same mails_of [] (λ pace a. refl) plan.paces plan.services 0 plan.slaves ∙ sym none;
+      waiting = first_same left_of 0 (λ pace a. refl) plan.paces plan.services 0 plan.slaves ∙ sym still;
+      rows = [];
+      forwarded = served_first plan s.master ports joined happened;
+      remembers = r.1;
+    }
 
 -- OVER A FRAME the mails that were asked stay
 abbrev turn_mails : ServedTurn → List AskedMail
