@@ -1,5 +1,5 @@
 -- One frame of a serving, as its master made it and as the count of frames has it.
-use Rattle.std.proofs.Common.{◌≡◌, ℕ, suc, ◌+◌, Bool, true, false, Some, None, List, [], ◌∷◌, map, refl, sym, ap, ◌∙◌, subst, arith, if◌then◌else◌, is_some}
+use Rattle.std.proofs.Common.{◌≡◌, ℕ, suc, ◌+◌, Bool, true, false, None, List, [], ◌∷◌, map, sym, ap, ◌∙◌, subst, arith, if◌then◌else◌, is_some}
 use Rattle.std.specs.Prelude.{slice_get, Option}
 use Rattle.bound_premises.specs.Runs.{is_waiting, waiting_at}
 use Rattle.bound_premises.proofs.Frames.{gets_one, none_is}
@@ -12,14 +12,14 @@ use Rattle.eager_servings.proofs.Maps.{each_asks, hand_held, memory_same, visit_
 use Rattle.eoe_switch.specs.declared.switching.SwitchEvent.{SwitchEvent}
 use Rattle.frame_view.specs.View.{Lens}
 use Rattle.idle_slaves.specs.Eager as Eager
-use Rattle.idle_slaves.specs.Eager.{AllEager, AllGetNone, AllRemember, GetsNone, IsAtEnd, IsClear, IsDraining, IsEager, IsInVain, MayBegin, NoneLeft, Remembered, RemembersOn}
+use Rattle.idle_slaves.specs.Eager.{AllEager, AllGetNone, AllRemember, IsAtEnd, IsClear, IsDraining, IsEager, IsInVain, MayBegin, NoneLeft, Remembered, RemembersOn}
 use Rattle.idle_slaves.specs.Visited.{life_visit, memory_of}
 use Rattle.idle_slaves.specs.Waiting.{memory_behind}
 use Rattle.idle_slaves.proofs.Choices.{stand_next}
 use Rattle.life_model.specs.Lives.{Life, Spot, Stand}
 use Rattle.life_model.specs.Own.{own}
 use Rattle.life_runs.specs.First.{lens_of}
-use Rattle.life_runs.specs.Led.{Exchanged, Leads, Turn, speech_at}
+use Rattle.life_runs.specs.Led.{Exchanged, speech_at}
 use Rattle.link_mails.specs.Body.{Body}
 use Rattle.master_duty.specs.Reply.{Reply}
 use Rattle.master_hand.specs.Spoken.{Asked, acknowledged, is_followed, is_passed}
@@ -29,15 +29,13 @@ use Rattle.master_node.specs.Recalled.{AllKnow}
 use Rattle.master_node.specs.ServedEager.{AllServedAsk, AllServedBegin, AllServedRecall, AllServedStill, ServedBegins, ServedRecallsBack, ServedVisitAsks}
 use Rattle.master_node.specs.Starts as Starts
 use Rattle.master_node.specs.declared.lan.Lan.{Lan}
-use Rattle.master_side.specs.Due.{EachDue}
 use Rattle.master_side.specs.Recall.{Recall}
-use Rattle.master_tour.specs.Brings.{accepted_at}
 use Rattle.packets_heard.specs.Recalled.{IsLanOf}
 use Rattle.plan_met.specs.Dues.{AllDue}
 use Rattle.segment_model.specs.Slaves.{Datagram}
 use Rattle.segment_plan.specs.declared.plan.Scenario.{Scenario}
 use Rattle.segment_plan.specs.declared.service.Service as Plan
-use Rattle.served_runs.specs.Served.{Keyed, Serves, ServedTurn, ServedComes, IsServedTurn, AllServedTurn, served_behind}
+use Rattle.served_runs.specs.Served.{Keyed, Serves, ServedTurn, ServedComes, IsServedTurn, AllServedTurn, gives_it, served_behind}
 use Rattle.served_runs.specs.Told.{Passed}
 use Rattle.served_waits.specs.Eager.{AllStill, leads_of, turns_of}
 use Rattle.state_exchange.specs.Stated.{Service}
@@ -172,6 +170,6 @@ module _ (plan : Scenario) (recover retry : ℕ) (gives : Bool) (made : ℕ) (f 
   gets_none place (w ∷ ws) (v ∷ vs) [] ns back behind t r = absurd r
   gets_none place (w ∷ ws) (v ∷ vs) (m ∷ ms) [] back behind t r = absurd r
   gets_none place (w ∷ ws) (v ∷ vs) (m ∷ ms) (n ∷ ns) back behind t r = (
-    record { packet = gets_one plan (waiting_at plan es place) (waiting_at plan more place) (none place); asked = λ e. mails_before t.0.comes (mails_less _ v.waits e) },
+    record { packet = gets_one plan (waiting_at plan es place) (waiting_at plan more place) (none place); asked = λ e. mails_before t.0.comes (mails_less (gives_it (lens_of plan.slaves) recover retry gives f.fate v) v.waits e) },
     gets_none (suc place) ws vs ms ns back behind t.1 r.1,
   )

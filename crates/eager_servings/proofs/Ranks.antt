@@ -1,5 +1,5 @@
 -- HOW MANY STEPS the mails that wait, and those that are passed on, may still come: none comes back, and where none came a step on all stand where they did.
-use Rattle.std.proofs.Common.{◌≡◌, ◌≤◌, ◌<◌, ℕ, zero, suc, ◌+◌, ◌*◌, ◌&&◌, ◌==◌, Bool, true, false, Option, Some, None, List, [], ◌∷◌, ◌++◌, map, length, refl, sym, ap, ◌∙◌, subst, arith, if◌then◌else◌, length-append}
+use Rattle.std.proofs.Common.{◌≡◌, ◌≤◌, ◌<◌, ℕ, zero, suc, ◌+◌, ◌*◌, ◌&&◌, ◌==◌, Bool, true, false, Option, Some, None, List, [], ◌∷◌, ◌++◌, map, length, refl, sym, ap, ◌∙◌, arith, if◌then◌else◌, length-append}
 use Rattle.std.specs.Prelude.{nat_lt}
 use Rattle.datagrams.specs.Datagram as Raw
 use Rattle.exchange_model.specs.Exchange.{Speech}
@@ -7,10 +7,10 @@ use Rattle.frame_view.specs.Seen.{seen}
 use Rattle.frame_view.specs.View.{Lens}
 use Rattle.life_frames.specs.Shares.{came_at, given_where}
 use Rattle.life_model.specs.Lives.{Life, Opening, Spot, Stand, clears, era_back, granted, is_shown, last_step, life_back, life_lost, life_next, opening_back, opens, opens_state, passes, passing_begins, reopening, reopens, reopens_at, returns_to_init, shows_clear, steps_on}
-use Rattle.life_runs.specs.Led.{Comes, Exchanged, speech_at}
+use Rattle.life_runs.specs.Led.{Exchanged, speech_at}
 use Rattle.link_mails.specs.Body.{Body}
 use Rattle.master_duty.specs.Reply.{Reply}
-use Rattle.master_hand.specs.Spoken.{Asked, acknowledged, is_followed, is_passed, passed}
+use Rattle.master_hand.specs.Spoken.{Asked, acknowledged, is_followed, is_passed}
 use Rattle.master_side.specs.Passing.{news_back, news_lost}
 use Rattle.bound_premises.proofs.Unpassed.{comes_own}
 use Rattle.run_work.specs.ServedGained.{asked_in}
@@ -20,7 +20,7 @@ use Rattle.segment_model.specs.Slaves.{Datagram, Found}
 use Rattle.segment_plan.specs.declared.service.Service as Plan
 use Rattle.segment_ring.specs.declared.wire.Fate.{Fate}
 use Rattle.segment_ring.specs.declared.wire.Fate.TheVariants.{Pass, Lost}
-use Rattle.served_runs.specs.Served.{Keyed, MayAsk, Serves, ServedTurn, ServedComes, IsServedTurn, AllServedTurn, asked_at, served_behind, served_life}
+use Rattle.served_runs.specs.Served.{Keyed, MayAsk, Serves, ServedTurn, ServedComes, IsServedTurn, AllServedTurn, asked_at, gives_it, served_behind, served_life}
 use Rattle.served_runs.specs.Told.{Passed}
 use Rattle.served_waits.specs.Eager.{AllStill}
 use Rattle.state_exchange.specs.Stated.{Service}
@@ -208,63 +208,63 @@ turn_steps v = 5 * length v.waits + rank v.turn.lived.life.era.passing
 none_comes : (b : Option (Service Asked)) → b ≡ None → (q : Asked) → b ≡ Some (Service.Mails q) → is_passed q ≡ false
 none_comes b e q f = absurd (let no : None ≡ Some (Service.Mails q) = sym e ∙ f in cc)
 
-module _ (lens : ℕ → Lens) (made : ℕ) (ds : List Raw.Datagram) where
-  turn_less : (w : Serves) (v : ServedTurn) → IsServedTurn lens made ds w v → turn_steps v ≤ steps_of w
-  turn_less w v t = by v.turn.begun v.turn.number v.waits v.hand t.comes t.begun
-    where
-      abbrev x : Speech Body Asked Reply
-      x = speech_at lens w.lead.lived.spot
+-- before a frame
+module _ (lens : ℕ → Lens) (made : ℕ) (ds : List Raw.Datagram) (w : Serves) (v : ServedTurn) (t : IsServedTurn lens made ds w v) where
+  abbrev x : Speech Body Asked Reply
+  x = speech_at lens w.lead.lived.spot
 
-      abbrev old : MyLife
-      old = w.lead.lived.life
+  abbrev old : MyLife
+  old = w.lead.lived.life
 
-      abbrev room : ℕ
-      room = (lens w.lead.lived.spot.station).out
+  abbrev room : ℕ
+  room = (lens w.lead.lived.spot.station).out
 
-      life_rank : rank v.turn.lived.life.era.passing ≡ rank (life_next x acknowledged is_followed is_passed made old old.stand t.next.pick).era.passing
-      life_rank = ap (λ (l : MyLife). rank l.era.passing) t.next.life
+  life_rank : rank v.turn.lived.life.era.passing ≡ rank (life_next x acknowledged is_followed is_passed made old old.stand t.next.pick).era.passing
+  life_rank = ap (λ (l : MyLife). rank l.era.passing) t.next.life
 
-      same : ((q : Asked) → t.next.pick.begin ≡ Some (Service.Mails q) → is_passed q ≡ false) → rank v.turn.lived.life.era.passing ≡ rank old.era.passing
-      same h = life_rank ∙ ap rank (next_own x made old old.stand t.next.pick h)
+  same : ((q : Asked) → t.next.pick.begin ≡ Some (Service.Mails q) → is_passed q ≡ false) → rank v.turn.lived.life.era.passing ≡ rank old.era.passing
+  same h = life_rank ∙ ap rank (next_own x made old old.stand t.next.pick h)
 
-      by : (b : Option (Service Asked)) (n : ℕ) (waits : List Keyed) (hand : Option Passed) → ServedComes room w.lead.script w.waits w.hand w.lead.number b n waits hand → t.next.pick.begin ≡ b →
-          5 * length waits + rank v.turn.lived.life.era.passing ≤ 5 * length w.waits + rank old.era.passing
-      by _ n _ _ ServedComes.none is = let e = same (none_comes t.next.pick.begin is) in omega (arith, e)
-      by _ n _ _ (ServedComes.own s m c) is = let e = same (λ q f. comes_own room w.lead.script w.lead.number m (Some s) c q (sym is ∙ f)) in omega (arith, e)
-      by _ n _ _ (ServedComes.mail k rest here) is =
-          let less = next_less x made old old.stand t.next.pick in
-          let many : length w.waits ≡ suc (length rest) = ap length here in
-          omega (arith, life_rank, less, many)
+  by : (b : Option (Service Asked)) (n : ℕ) (waits : List Keyed) (hand : Option Passed) → ServedComes room w.lead.script w.waits w.hand w.lead.number b n waits hand → t.next.pick.begin ≡ b →
+      5 * length waits + rank v.turn.lived.life.era.passing ≤ 5 * length w.waits + rank old.era.passing
+  by _ _ _ _ ServedComes.none is = let e = same (none_comes t.next.pick.begin is) in omega (arith, e)
+  by _ _ _ _ (ServedComes.own s m c) is = let e = same (λ q f. comes_own room w.lead.script w.lead.number m (Some s) c q (sym is ∙ f)) in omega (arith, e)
+  by _ _ _ _ (ServedComes.mail k rest here) is =
+      let less = next_less x made old old.stand t.next.pick in
+      let many = ap length here in
+      let first = life_rank in
+      omega (arith, first, less, many)
 
-  module _ (recover retry : ℕ) (gives : Bool) (number : ℕ) (f : Exchanged) where
-    abbrev behind : ServedTurn → Serves
-    behind v = served_behind lens recover retry gives number f v
+  pub turn_less : turn_steps v ≤ steps_of w
+  turn_less = by v.turn.begun v.turn.number v.waits v.hand t.comes t.begun
 
-    life_less : (fate : Fate) (v : ServedTurn) → rank (served_life lens recover retry gives number f fate v).life.era.passing ≤ rank v.turn.lived.life.era.passing
-    life_less Pass v =
-        let u = v.turn in
-        back_less (speech_at lens u.lived.spot) number u.lived.spot (news_back u.lived.spot.station v.kept v.counts (seen lens f.back)) (seen lens f.back) (came_at u.share.under u.share.at (seen lens f.back)) u.lived.life u.lived.life.stand
-    life_less (Lost after) v =
-        let u = v.turn in
-        let x = speech_at lens u.lived.spot in
-        let ns = news_lost u.lived.spot.station v.kept (seen lens f.sent) in
-        let same = ap rank (given_same x (gives && u.share.under) recover u.lived.spot number (life_lost x acknowledged is_followed is_passed u.lived.spot ns (seen lens f.sent) u.lived.life u.lived.life.stand)) in
-        let less = lost_less x u.lived.spot ns (seen lens f.sent) u.lived.life u.lived.life.stand in
-        omega (arith, same, less)
+-- and behind it
+module _ (lens : ℕ → Lens) (recover retry : ℕ) (gives : Bool) (number : ℕ) (f : Exchanged) where
+  life_less : (fate : Fate) (v : ServedTurn) → rank (served_life lens recover retry gives number f fate v).life.era.passing ≤ rank v.turn.lived.life.era.passing
+  life_less Pass v =
+      let u = v.turn in
+      back_less (speech_at lens u.lived.spot) number u.lived.spot (news_back u.lived.spot.station v.kept v.counts (seen lens f.back)) (seen lens f.back) (came_at u.share.under u.share.at (seen lens f.back)) u.lived.life u.lived.life.stand
+  life_less (Lost after) v =
+      let u = v.turn in
+      let y = speech_at lens u.lived.spot in
+      let ns = news_lost u.lived.spot.station v.kept (seen lens f.sent) in
+      let given = ap rank (given_same y (gives && u.share.under) recover u.lived.spot number (life_lost y acknowledged is_followed is_passed u.lived.spot ns (seen lens f.sent) u.lived.life u.lived.life.stand)) in
+      let less = lost_less y u.lived.spot ns (seen lens f.sent) u.lived.life u.lived.life.stand in
+      omega (arith, given, less)
 
-    waits_less : (b : Bool) (ks : List Keyed) → length (if b then [] else ks) ≤ length ks
-    waits_less true ks = omega arith
-    waits_less false ks = omega arith
+  waits_less : (b : Bool) (ks : List Keyed) → length (if b then [] else ks) ≤ length ks
+  waits_less true ks = omega arith
+  waits_less false ks = omega arith
 
-    behind_less : (v : ServedTurn) → steps_of (served_behind lens recover retry gives number f v) ≤ turn_steps v
-    behind_less v = let life = life_less f.fate v in let waits = waits_less _ v.waits in omega (arith, life, waits)
+  behind_less : (v : ServedTurn) → steps_of (served_behind lens recover retry gives number f v) ≤ turn_steps v
+  behind_less v = let life = life_less f.fate v in let waits = waits_less (gives_it lens recover retry gives f.fate v) v.waits in omega (arith, life, waits)
 
-    -- where all steps are still to come it stands where it did
-    behind_still : (v : ServedTurn) → turn_steps v ≤ steps_of (served_behind lens recover retry gives number f v) → (served_behind lens recover retry gives number f v).lead.lived.life.era.passing ≡ v.turn.lived.life.era.passing
-    behind_still v whole =
-        let life = life_less f.fate v in
-        let waits = waits_less _ v.waits in
-        rank_same _ v.turn.lived.life.era.passing (omega (arith, whole, life, waits))
+  -- where all steps are still to come it stands where it did
+  behind_still : (v : ServedTurn) → turn_steps v ≤ steps_of (served_behind lens recover retry gives number f v) → (served_behind lens recover retry gives number f v).lead.lived.life.era.passing ≡ v.turn.lived.life.era.passing
+  behind_still v whole =
+      let life = life_less f.fate v in
+      let waits = waits_less (gives_it lens recover retry gives f.fate v) v.waits in
+      rank_same (served_behind lens recover retry gives number f v).lead.lived.life.era.passing v.turn.lived.life.era.passing (omega (arith, whole, life, waits))
 
 -- ---- ALL SLAVES
 abbrev pub steps_in : List Serves → ℕ
@@ -284,14 +284,14 @@ turns_less lens made ds (w ∷ ws) (v ∷ vs) t = let first = turn_less lens mad
 module _ (lens : ℕ → Lens) (recover retry : ℕ) (gives : Bool) (number : ℕ) (f : Exchanged) where
   pub behinds_less : (vs : List ServedTurn) → steps_in (map (served_behind lens recover retry gives number f) vs) ≤ turns_in vs
   behinds_less [] = omega arith
-  behinds_less (v ∷ vs) = let first = behind_less lens 0 [] recover retry gives number f v in let rest = behinds_less vs in omega (arith, first, rest)
+  behinds_less (v ∷ vs) = let first = behind_less lens recover retry gives number f v in let rest = behinds_less vs in omega (arith, first, rest)
 
   pub behinds_still : (vs : List ServedTurn) → turns_in vs ≤ steps_in (map (served_behind lens recover retry gives number f) vs) → AllStill (served_behind lens recover retry gives number f) vs
   behinds_still [] whole = tt
   behinds_still (v ∷ vs) whole =
-      let first = behind_less lens 0 [] recover retry gives number f v in
+      let first = behind_less lens recover retry gives number f v in
       let rest = behinds_less vs in
-      (behind_still lens 0 [] recover retry gives number f v (omega (arith, whole, first, rest)), behinds_still vs (omega (arith, whole, first, rest)))
+      (behind_still lens recover retry gives number f v (omega (arith, whole, first, rest)), behinds_still vs (omega (arith, whole, first, rest)))
 
   -- no mail is asked by a frame
   pub asked_behind : (made : ℕ) (ds : List Raw.Datagram) (ws : List Serves) (vs : List ServedTurn) → AllServedTurn lens made ds ws vs → asked_in (map (served_behind lens recover retry gives number f) vs) ≡ asked_in ws

@@ -1,6 +1,6 @@
 -- All slaves of a serving rest, as the count of frames has it and as their master does.
 use Rattle.std.proofs.Common.{◌≡◌, ℕ, suc, true, false, List, [], ◌∷◌, refl, ◌∙◌, inl, inr, length}
-use Rattle.std.specs.Prelude.{slice_get, ⊤}
+use Rattle.std.specs.Prelude.{⊤}
 use Rattle.bound_premises.specs.Runs.{is_waiting, waiting_at}
 use Rattle.bound_premises.proofs.Rests.{at_port, none_waiting}
 use Rattle.bound_premises.proofs.Settled.{settled_back}

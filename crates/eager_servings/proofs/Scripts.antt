@@ -1,5 +1,5 @@
 -- Each service of the script of a serving's slave may begin.
-use Rattle.std.proofs.Common.{◌≡◌, ℕ, suc, ◌+◌, Some, List, [], ◌∷◌, refl, ap, ◌∙◌, sym, subst, arith}
+use Rattle.std.proofs.Common.{◌≡◌, ℕ, suc, ◌+◌, Some, List, [], ◌∷◌, ap, ◌∙◌, sym, subst, arith}
 use Rattle.std.specs.Prelude.{slice_get}
 use Rattle.bound_premises.proofs.Scripts.{AllMay, MayAll, lens_at}
 use Rattle.life_runs.specs.First.{AreApart, lens_of, script_for}

@@ -14,7 +14,7 @@ use Rattle.eager_servings.proofs.Rests.{AllBehind, rests_so, settled_so}
 use Rattle.eager_servings.proofs.Scripts.{may_all}
 use Rattle.frame_view.specs.Seen.{seen}
 use Rattle.frame_view.specs.View.{Lens}
-use Rattle.idle_slaves.specs.Eager.{Remembered, AllGetNone}
+use Rattle.idle_slaves.specs.Eager.{Remembered}
 use Rattle.idle_slaves.specs.WaitEager.{AllRest}
 use Rattle.life_runs.specs.First.{AreApart, first_leads, lens_of}
 use Rattle.life_runs.specs.Led.{Exchanged, gives_up_at, missed_behind}
@@ -24,7 +24,8 @@ use Rattle.master_hand.specs.Spoken.{Asked}
 use Rattle.master_node.specs.Happened.{arrivals_at}
 use Rattle.master_node.specs.Recalled.{AllKnow}
 use Rattle.master_node.specs.Serving.{run_lead}
-use Rattle.master_node.specs.of_master_tour.Toured.{Tour}
+use Rattle.master_node.specs.Shows.{is_opening_lead}
+use Rattle.master_node.specs.of_master_tour.Toured.{Tour, goes_on}
 use Rattle.packets_heard.specs.Recalled.{AllSettled, IsFirst, State, has_entered}
 use Rattle.packets_heard.specs.Served as Visits
 use Rattle.packets_heard.specs.ServedRecalled.{IsServedRecalled, ServedRecalledIn}
@@ -33,8 +34,7 @@ use Rattle.plan_ring.specs.Round.{AllRound, behind, ring_after, ring_of}
 use Rattle.plan_ring.proofs.Lives.{front_round, one_after}
 use Rattle.run_frames.specs.Clocks.{Clocked}
 use Rattle.run_frames.specs.Fates.{lost_of}
-use Rattle.run_frames.specs.Led.{AreLed}
-use Rattle.run_frames.specs.Runs.{Progress}
+use Rattle.run_frames.specs.Runs.{Progress, nothing_sent}
 use Rattle.run_frames.specs.Tours.{IsVisited}
 use Rattle.run_frames.specs.Waits.{Waits, all_anew}
 use Rattle.run_work.specs.ServedGained.{asked_in}
@@ -43,7 +43,7 @@ use Rattle.segment_ring.specs.Ring.{RingState}
 use Rattle.segment_ring.specs.declared.wire.Fate.{Fate}
 use Rattle.segment_ring.specs.declared.wire.Fate.TheVariants.{Pass, Lost}
 use Rattle.served_places.specs.Answered.{ServedAsks}
-use Rattle.served_places.specs.Toured.{IsServedToured, back_under, lost_under, serves_on, still_served}
+use Rattle.served_places.specs.Toured.{IsServedToured, back_under, first_served, serves_on, still_served, waits_served}
 use Rattle.served_rings.specs.Rings.{AreServedLived}
 use Rattle.served_runs.specs.Served.{Keyed, MayAsk, Serves, ServedTurn, IsServedFrame, IsServedLed, all_serve, asked_at, served_behind}
 use Rattle.served_waits.specs.Eager.{AllStaySo, AllStill, IsServedEager, ServedEagerIn, leads_of, turns_of}
@@ -83,11 +83,11 @@ abbrev one_if : Bool → ℕ
 one_if b = if b then 1 else 0
 
 -- each that is so counts
-pays : (a b c : Bool) (ask : ℕ) (came : ℕ) (stepped : ℕ) → (a || (b || c)) ≡ true → one_if b ≤ came → (c ≡ true → 1 ≤ stepped) → 1 ≤ one_if a + came + stepped
-pays true b c ask came stepped e entered steps = omega arith
-pays false true c ask came stepped e entered steps = omega (arith, entered)
-pays false false true ask came stepped e entered steps = let some = steps refl in omega (arith, some)
-pays false false false ask came stepped e entered steps = absurd (cc)
+pays : (a b c : Bool) (came stepped : ℕ) → (a || (b || c)) ≡ true → one_if b ≤ came → (c ≡ true → 1 ≤ stepped) → 1 ≤ one_if a + came + stepped
+pays true b c came stepped e entered steps = omega arith
+pays false true c came stepped e entered steps = omega (arith, entered)
+pays false false true came stepped e entered steps = let some = steps refl in omega (arith, some)
+pays false false false came stepped e entered steps = absurd (cc)
 
 -- ---- whether two numbers are the same
 same_or : (m n : ℕ) → (m ≡ n) ⊎ (m ≡ n → ⊥)
@@ -99,13 +99,10 @@ same_or m n = go (nat_lt m n) refl (nat_lt n m) refl
     go false e false f = inl (let over = ltb-false m n e in let under = ltb-false n m f in omega (arith, over, under))
 
 module _ (plan : Scenario) (laws : Laws plan) (slowest : ℕ) where
-  abbrev first : List Serves
-  first = all_serve plan.paces (first_leads plan)
-
-  abbrev Run : List Exchanged → Option (List ℕ) → ℕ → List Serves → Progress → List Slave → Type 0
+  abbrev pub Run : List Exchanged → Option (List ℕ) → ℕ → List Serves → Progress → List Slave → Type 0
   Run fs again missed ws p cs = IsServedToured (lens_of plan.slaves) plan.recover plan.retry slowest (all_serve plan.paces (first_leads plan)) fs again missed ws p cs
 
-  abbrev Led : List Exchanged → ℕ → List Serves → Type 0
+  abbrev pub Led : List Exchanged → ℕ → List Serves → Type 0
   Led fs missed ws = IsServedLed (lens_of plan.slaves) plan.recover plan.retry (all_serve plan.paces (first_leads plan)) fs missed ws
 
   -- THE SAME SERVING, where the frames that are let go count as lost
@@ -198,11 +195,11 @@ module _ (plan : Scenario) (laws : Laws plan) (slowest : ℕ) where
     came : length (arrivals_at 0 r.events) + length (arrivals_at 0 one.events.making) ≤ length (arrivals_at 0 s.events)
     came = came_more r.events one.events.making one.events.behind s.events one.events.whole
 
-    entered : Bool
+    abbrev entered : Bool
     entered = has_entered one.events.making
 
     -- a mail that is passed on came a step on
-    stepped : Bool
+    abbrev stepped : Bool
     stepped = nat_lt (steps_in served) (turns_in vs)
 
     steps_less : steps_in served ≤ turns_in vs
@@ -218,11 +215,11 @@ module _ (plan : Scenario) (laws : Laws plan) (slowest : ℕ) where
     stepped_one e = let less = ltb-true (steps_in served) (turns_in vs) e in omega (arith, less)
 
     -- it is let go where a mail was asked before it, or a packet of the host came in with it, or such a mail came a step on by it
-    let_go : Bool
+    abbrev let_go : Bool
     let_go = h.counted.asked || (entered || stepped)
 
     paid : let_go ≡ true → 1 ≤ one_if h.counted.asked + length (arrivals_at 0 one.events.making) + (turns_in vs - steps_in served)
-    paid e = pays h.counted.asked entered stepped 0 (length (arrivals_at 0 one.events.making)) (turns_in vs - steps_in served) e (entered_few one.events.making) stepped_one
+    paid e = pays h.counted.asked entered stepped (length (arrivals_at 0 one.events.making)) (turns_in vs - steps_in served) e (entered_few one.events.making) stepped_one
 
     -- as many count as lost as before it
     few_on : h.counted.lost + 0 + steps_in served ≤ lost_of (fs ++ f ∷ []) + length (arrivals_at 0 s.events) + 6 * asked_in served
@@ -317,7 +314,7 @@ module _ (plan : Scenario) (laws : Laws plan) (slowest : ℕ) where
           counted = record {
             lost = h.counted.lost;
             still = many;
-            waits = _;
+            waits = waits_served (lens_of plan.slaves) plan.recover plan.retry slowest q f vs cs;
             toured = IsServedToured.round fs again missed ws q cs f vs ps h.counted.toured l fate over visit;
             asks = λ a. (a.0, h.counted.asks a.1);
             last = later;
@@ -434,13 +431,13 @@ module _ (plan : Scenario) (laws : Laws plan) (slowest : ℕ) where
       counted = record {
         lost = 0;
         still = 0;
-        waits = _;
+        waits = (nothing_sent None (first_served (all_serve plan.paces (first_leads plan)))).waits;
         toured = IsServedToured.start;
         asks = λ a. tt;
         last = remembers plan s.state.events 0 s.state.recalls (all_serve plan.paces (first_leads plan));
         eager = tt;
         asked = false;
-        stays = λ e. stays_same _;
+        stays = λ e. stays_same (remembers plan s.state.events 0 s.state.recalls (all_serve plan.paces (first_leads plan)));
       };
       few = omega (arith, none);
     },
@@ -451,17 +448,14 @@ module _ (plan : Scenario) (laws : Laws plan) (slowest : ℕ) where
   missed_on Pass t ws visit = refl
   missed_on (Lost after) t ws visit = go (nat_lt t.missed plan.retry)
     where
-      on_past : Tour
-      on_past = tour_behind plan.retry Pass (map run_lead ws) t visit
-
-      go : (b : Bool) → (if b then record t { again = Some visit; missed = t.missed + 1 } else on_past).missed ≡ (if b then t.missed + 1 else 0)
+      go : (b : Bool) → (if b then record t { again = Some visit; missed = t.missed + 1 } else goes_on is_opening_lead (map run_lead ws) t visit).missed ≡ (if b then t.missed + 1 else 0)
       go true = refl
       go false = refl
 
   pub frames : {fs : List Exchanged} {t : Tour} {ws : List Serves} (toured : Visits.IsTourServed (lens_of plan.slaves) plan.recover plan.retry (all_serve plan.paces (first_leads plan)) fs t ws) (s : State) → ServedRecalledIn plan toured s →
       FramesIn (lens_of plan.slaves) plan.recover plan.retry slowest (all_serve plan.paces (first_leads plan)) (λ (z : Known). IsFirst plan z.state × (z.missed ≡ 0)) Step Ask toured (record { state = s; missed = t.missed })
   frames Visits.IsTourServed.start s k = (k, refl)
-  frames (Visits.IsTourServed.asks fs t ws place key before may) s k = (record { state = s; missed = t.missed }, refl, frames before s k)
+  frames (Visits.IsTourServed.asks fs t ws place key before fits) s k = (record { state = s; missed = t.missed }, refl, frames before s k)
   frames (Visits.IsTourServed.on fs t ws f vs visit before led of) s k = (
     record { state = k.0; missed = t.missed },
     (k.1, missed_on f.fate t (serves_on (lens_of plan.slaves) plan.recover plan.retry slowest t.missed (length fs) f vs) visit),

@@ -46,7 +46,7 @@ shows_back s t x d a h k w = record {
 
 -- A SLAVE THAT IS KEPT
 pub recall_kept : {G : Ghosts InHand} (n : ℕ) (s t : Stop InHand G) → StopKept n s t → recall_of t ≡ recall_of s
-recall_kept n s t k = λ i. recall_by (k.side.paused i) (k.side.side.duty_is i) (k.side.turn i) (knows (k.side.hand.course_is i))
+recall_kept n s t k = λ i. recall_by (k.side.paused i) (k.side.side.duty_is i) (k.side.passing i) (k.side.turn i) (knows (k.side.hand.course_is i))
 
 pub goes_kept : {G : Ghosts InHand} (n : ℕ) (s t : Stop InHand G) → StopKept n s t → StopGoes s t
 goes_kept n s t k = (

@@ -39,6 +39,7 @@ pub mod Servings
 pub mod Serveds
 pub mod OnFrames
 pub mod ServedJoins
+pub mod ServedPasses
 pub mod Mailings
 pub mod Handeds
 pub mod Handings

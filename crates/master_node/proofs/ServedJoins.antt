@@ -21,6 +21,7 @@ use Rattle.served_runs.specs.Served.{ServedTurn, served_behind, served_life}
 use Rattle.master_node.specs.Joined.{stand_under, unfinished_after}
 use Rattle.master_node.specs.Serving.{IsServedUnder, run_turn}
 use Rattle.master_node.specs.Shows.{IsOnFrame}
+use Rattle.master_node.proofs.OnFrames.{served_on}
 use Rattle.master_node.specs.declared.post.Post.{Post}
 
 -- ---- lists
@@ -65,7 +66,7 @@ holds_map test f (a ∷ as') (suc k) = holds_map test f as' k
 module _ {G : Ghosts InHand} (lens : ℕ → Lens) (recover retry : ℕ) (gives : Bool) (made : ℕ) (f : Exchanged) (octets : List ℕ) where
   pub on_frame : (vs : List ServedTurn) (ps : List Post) (ss : List (Stop InHand G)) → AllThree (λ v p s. IsServedUnder lens recover octets made v p s) vs ps ss → AllBoth (λ v s. IsOnFrame lens recover octets (run_turn v) s) vs ss
   on_frame vs ps ss e =
-      three_drop (λ v p s. IsServedUnder lens recover octets made v p s) (λ v s. IsOnFrame lens recover octets (run_turn v) s) (λ v p s i. record { lives = i.served.lives; under = i.under; at = i.at; way = i.way }) vs ps ss e
+      three_drop (λ v p s. IsServedUnder lens recover octets made v p s) (λ v s. IsOnFrame lens recover octets (run_turn v) s) (λ v p s i. served_on lens recover octets made v p s i) vs ps ss e
 
   pub back_life : (items : List ℕ) (v : ServedTurn) (s : Stop InHand G) → f.fate ≡ Pass → f.back ≡ items → IsOnFrame lens recover octets (run_turn v) s →
       (let l = v.turn.lived.life in let spot = v.turn.lived.spot in

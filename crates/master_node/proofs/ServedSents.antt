@@ -7,7 +7,7 @@ use Rattle.counters_kept.specs.Lives.{LifeKept}
 use Rattle.counters_kept.proofs.Lives.{next_life}
 use Rattle.life_runs.specs.of_frame_view.View.{Lens}
 use Rattle.life_runs.specs.of_frame_view.Seen.{seen, datagrams_seen}
-use Rattle.life_runs.specs.of_life_frames.Shares.{Lived, AllBoth, AllThree, AreDistinct}
+use Rattle.life_runs.specs.of_life_frames.Shares.{AllFrom, Lived, AllBoth, AllThree, AreDistinct}
 use Rattle.life_runs.specs.Led.{Turn, speech_at}
 use Rattle.mailbox_master.specs.Any.{in_area_len}
 use Rattle.master_duty.specs.Reply.{Reply}
@@ -29,7 +29,7 @@ use Rattle.master_tour.specs.of_life_model.Lives.{Life, Spot}
 use Rattle.segment_plan.specs.declared.service.Service as Plan
 use Rattle.served_runs.specs.Served.{AllServedTurn, IsServedTurn, Keyed, Serves, ServedComes, ServedTurn}
 use Rattle.served_runs.specs.Told.{Passed}
-use Rattle.master_node.specs.Begins.{HasBegun, begun_of}
+use Rattle.master_node.specs.Begins.{HasBegun, begun_for, begun_of}
 use Rattle.master_node.specs.Listing.{Before}
 use Rattle.master_node.specs.Events.{served_tells}
 use Rattle.master_node.specs.Filling.{StopFills}
@@ -40,6 +40,7 @@ use Rattle.master_node.specs.Inhand.{HasInHand, WorkOf}
 use Rattle.master_node.specs.Passes.{BeginsFree, IsPassing, IsServing, ThreeFrom}
 use Rattle.master_node.specs.Serving.{IsServed, IsServedUnder, MayPass, ServedShows, mails_in, run_lead, run_turn, waits_of}
 use Rattle.master_node.specs.Rooms.{FitAgain}
+use Rattle.master_node.specs.Starts.{HasStarted}
 use Rattle.master_node.specs.Shows.{GoesOn, GoesUnder, lived_of, side_shows, turned_of}
 use Rattle.master_node.specs.declared.node.MasterNode.{MasterNode}
 use Rattle.master_node.specs.declared.post.Post.{Post}
@@ -121,7 +122,7 @@ served_same lens recover retry missed made ws m n e f g x = record {
 }
 
 -- a mail that is passed on is in hand where the life has it
-seen_some : (p : Option Passing) → is_some (passing_seen p) ≡ is_some p
+pub seen_some : (p : Option Passing) → is_some (passing_seen p) ≡ is_some p
 seen_some None = refl
 seen_some (Some Passing.Waiting) = refl
 seen_some (Some Passing.Sent) = refl

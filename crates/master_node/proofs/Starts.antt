@@ -48,6 +48,7 @@ use Rattle.master_node.proofs.Frees.{MightBegin, StillLife, frees, might_still, 
 use Rattle.master_node.proofs.Kepts.{shows_kept}
 use Rattle.master_node.proofs.Lefts.{in_here, in_tail, in_there}
 use Rattle.master_node.proofs.Mailed.{none_came}
+use Rattle.master_node.proofs.Restings.{none_unseen}
 
 -- ONE PLACE of two lists goes on, and at all others the one list stays
 from_apart : {A S : Type 0} (P Q : ℕ → A → S → Type 0) (m i : ℕ) (as' : List A) (ss : List S) → m < i → ((j : ℕ) (a : A) (s : S) → (j ≡ m → ⊥) → P j a s → Q j a s) → AllFrom P i as' ss → AllFrom Q i as' ss
@@ -236,15 +237,6 @@ module _ (lens : ℕ → Lens) (recover made : ℕ) where
     is = f.next;
     shown = f.lives.shown;
   }
-
--- no mail is in hand that is passed on where none is seen
-none_unseen : (o : Option Passing) → passing_seen o ≡ None → o ≡ None
-none_unseen None e = refl
-none_unseen (Some Passing.Waiting) e = absurd (cc)
-none_unseen (Some Passing.Sent) e = absurd (cc)
-none_unseen (Some Passing.Boxed) e = absurd (cc)
-none_unseen (Some Passing.Served) e = absurd (cc)
-none_unseen (Some Passing.Answered) e = absurd (cc)
 
 -- of the frame of a serving, where it still has all mails that waited
 module _ (lens : ℕ → Lens) (recover made : ℕ) where

@@ -60,4 +60,3 @@ pub mod Entering
 pub mod Starts
 pub mod Recalled
 pub mod Backtold
-pub mod ServedEager

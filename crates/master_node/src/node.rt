@@ -57,6 +57,7 @@ impl MasterNode {
     ghost use Rattle.master_node.specs.Serving.{FitsAt, IsAsked, ServedShows, ServedUnder, mails_in, run_lead, run_turn};
     ghost use Rattle.master_node.specs.Passes.{BeginsFrame, EndsFrame, IsPassing};
     ghost use Rattle.master_node.specs.Events.{ServedBegin};
+    ghost use Rattle.master_node.specs.ServedEager.{AllServedBegin};
     ghost use Rattle.master_node.specs.Touring.{IsServedVisit};
     ghost use Rattle.master_node.specs.Handed.{work_from};
     ghost use Rattle.served_runs.specs.Served.{Keyed, Serves, ServedTurn, IsServedFrame, MayAsk, asked_at};
@@ -306,6 +307,7 @@ impl MasterNode {
         ensures eager { (as' : List Leads) → GoesOn self.old.tour.again self.old.tour.visit.items self.old.tour.opened as' → (self.old.tour.again ≡ true → FitAgain self.old.tour.visit.items self.old.tour.stops.items) → EagerFrom self.old self.new }
         ensures serves { (lens : ℕ → Lens) (recover retry missed made : ℕ) (from : Before) (ws : List Serves) → list_any (λ s. is_live s.stand) self.old.tour.stops.items ≡ true → suc made < 2 ^ 32 → length self.old.lan.happened ≤ 1 → HasTaken from.switch [] self.old.lan → IsUnlisted from.forwards self.old → ServedShows lens recover retry self.old missed made ws →
             (vs : List ServedTurn) × IsServedFrame lens made into.new.items ws vs × ServedUnder lens recover retry (record self.new { made = suc made }) into.new.items missed made vs × (self.new.made ≡ made) × ServedBegin from.forwards ws vs self.new × (tour_of self.new ≡ tour_of self.old) × PacketsBegin from.switch (map run_turn vs) self.new.lan ×
+            AllServedBegin lens self.new.lan 0 (recalls self.new) ws (map run_turn vs) × AllUnvisited (map run_turn vs) ×
             IsOfTour (λ s. stop_share s) (λ k. holds_at is_live_lead (map run_lead ws) k) (frame_size into.new.items) (λ k. area_at lens (map run_lead ws) k) (tour_of self.old) self.new.tour.stops.items (length (seen lens into.new.items)) self.new.tour.visit.items }
         ensures events { self.new.list.count ≤ self.old.list.count + 16 }
         ensures head { events_before self.new ≡ events_before self.old }

@@ -61,6 +61,7 @@ impl MasterNode {
     ghost use Rattle.master_node.specs.Answered.{AnswersSo};
     ghost use Rattle.master_node.specs.Eager.{AllVisit, recalls};
     ghost use Rattle.master_node.specs.Recalled.{AllRecall};
+    ghost use Rattle.master_node.specs.ServedEager.{AllServedAsk, AllServedRecall};
 
     // The service in hand has its answer.
     fn answered(&mut self, place: usize, kind: ReplyKind)
@@ -356,8 +357,10 @@ impl MasterNode {
         ensures served { (lens : ℕ → Lens) (recover retry missed made : ℕ) (octets : List ℕ) (vs : List ServedTurn) (f : Exchanged) → f.fate ≡ Fate.Pass → f.back ≡ frame.now.items → ServedUnder lens recover retry self.old octets missed made vs → Returns (seen lens octets) (seen lens frame.now.items) →
             ServedShows lens recover retry self.new 0 (suc made) (map (served_behind lens recover retry (gives_up_at lens recover retry missed) made f) vs) }
         ensures counts { (k : ℕ) → forwards_at self.new.posts.items k ≡ forwards_at self.old.posts.items k }
-        ensures recalls { (lens : ℕ → Lens) (recover : ℕ) (octets : List ℕ) (us : List Turn) → IsUnderWay lens recover self.old octets us → Returns (seen lens octets) (seen lens frame.now.items) →
+        ensures recalls { (lens : ℕ → Lens) (recover retry missed : ℕ) (octets : List ℕ) (us : List Turn) → MasterUnder lens recover retry self.old octets missed us → Returns (seen lens octets) (seen lens frame.now.items) →
             AllVisit (seen lens octets) (recalls self.old) us → AllRecall lens (seen lens frame.now.items) us (recalls self.old) (recalls self.new) }
+        ensures remembers { (lens : ℕ → Lens) (recover retry missed made : ℕ) (octets : List ℕ) (vs : List ServedTurn) (f : Exchanged) → f.fate ≡ Fate.Pass → f.back ≡ frame.now.items → ServedUnder lens recover retry self.old octets missed made vs → Returns (seen lens octets) (seen lens frame.now.items) →
+            AllServedAsk (seen lens octets) (recalls self.old) (map run_turn vs) → AllServedRecall lens (seen lens frame.now.items) (λ v. served_behind lens recover retry (gives_up_at lens recover retry missed) made f v) vs (recalls self.old) (recalls self.new) }
         ensures gateway { (lens : ℕ → Lens) (recover retry missed made : ℕ) (octets : List ℕ) (vs : List ServedTurn) (f : Exchanged) → f.fate ≡ Fate.Pass → f.back ≡ frame.now.items → ServedUnder lens recover retry self.old octets missed made vs → Returns (seen lens octets) (seen lens frame.now.items) →
             TellsGateway (λ k. lives_told (seen lens frame.now.items) vs (map (served_behind lens recover retry (gives_up_at lens recover retry missed) made f) vs) k) self.old self.new }
         ensures told { (lens : ℕ → Lens) (recover retry missed made : ℕ) (octets : List ℕ) (vs : List ServedTurn) (f : Exchanged) → f.fate ≡ Fate.Pass → f.back ≡ frame.now.items → ServedUnder lens recover retry self.old octets missed made vs → Returns (seen lens octets) (seen lens frame.now.items) →
@@ -478,7 +481,9 @@ impl MasterNode {
         ensures served { (lens : ℕ → Lens) (recover retry missed made after : ℕ) (octets : List ℕ) (vs : List ServedTurn) (f : Exchanged) → f.fate ≡ Fate.Lost after → f.sent ≡ octets → ServedUnder lens recover retry self.old octets missed made vs →
             ServedShows lens recover retry self.new (missed_behind lens recover retry f.fate missed) (suc made) (map (served_behind lens recover retry (gives_up_at lens recover retry missed) made f) vs) }
         ensures counts { (k : ℕ) → forwards_at self.new.posts.items k ≡ forwards_at self.old.posts.items k }
-        ensures recalls { (lens : ℕ → Lens) (recover : ℕ) (octets : List ℕ) (us : List Turn) → IsUnderWay lens recover self.old octets us → AllRecall lens [] us (recalls self.old) (recalls self.new) }
+        ensures recalls { (lens : ℕ → Lens) (recover retry missed : ℕ) (octets : List ℕ) (us : List Turn) → MasterUnder lens recover retry self.old octets missed us → AllRecall lens [] us (recalls self.old) (recalls self.new) }
+        ensures remembers { (lens : ℕ → Lens) (recover retry missed made : ℕ) (octets : List ℕ) (vs : List ServedTurn) (f : Exchanged) → ServedUnder lens recover retry self.old octets missed made vs →
+            AllServedRecall lens [] (λ v. served_behind lens recover retry (gives_up_at lens recover retry missed) made f v) vs (recalls self.old) (recalls self.new) }
         ensures told { (lens : ℕ → Lens) (recover retry missed made after : ℕ) (octets : List ℕ) (vs : List ServedTurn) (f : Exchanged) → f.fate ≡ Fate.Lost after → f.sent ≡ octets → ServedUnder lens recover retry self.old octets missed made vs →
             TellsJust (λ k. lost_at vs (map (served_behind lens recover retry (gives_up_at lens recover retry missed) made f) vs) k) self.old self.new }
         ensures answers { self.old.list.before ≤ 16 → AnswersSo self.old self.new }

@@ -8,7 +8,6 @@ use Rattle.master_node.specs.Serving.{run_lead, run_turn}
 use Rattle.master_node.specs.Starts.{AllUnvisited}
 use Rattle.master_node.specs.declared.lan.Lan.{Lan}
 use Rattle.master_node.specs.of_frame_view.Seen.{seen}
-use Rattle.master_node.specs.of_frame_view.View.{Lens}
 use Rattle.master_node.specs.of_master_tour.Toured.{Tour}
 use Rattle.segment_plan.specs.declared.plan.Scenario.{Scenario}
 use Rattle.segment_ring.specs.Ring.{ring_behind}

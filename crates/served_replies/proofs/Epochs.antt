@@ -5,7 +5,7 @@ use Rattle.exchange_model.specs.Exchange.{plain}
 use Rattle.exchange_model.specs.Rows.{Row}
 use Rattle.frame_view.specs.View.{Lens}
 use Rattle.led_eras.specs.Led.{LedEra}
-use Rattle.life_counts.specs.Seen.{started_seen}
+use Rattle.life_counts.specs.Seen.{service_seen}
 use Rattle.life_model.specs.Lives.{Spot, Era}
 use Rattle.link_mails.specs.Body.{Body}
 use Rattle.mailbox_mail.specs.declared.mail.Mail.{Mail}
@@ -24,33 +24,39 @@ use Rattle.serving_model.specs.Tagged as Tagged
 use Rattle.serving_model.specs.Tagged.{Tagged, ideal, real, untag}
 use Rattle.slave_lives.specs.Lived.{node_seen}
 use Rattle.slave_model.specs.Profile.{Profile}
+use Rattle.slave_model.specs.Server as SlaveReply
 use Rattle.slave_parts.specs.Parts.{Server, parts}
 use Rattle.slave_served.specs.Served.{product_whole}
 use Rattle.slave_server.specs.Serving.{Serving}
 use Rattle.slave_steps.specs.Node.{Node}
 use Rattle.state_exchange.specs.Families.{InState}
 use Rattle.state_exchange.specs.Stated.{Service}
-use Rattle.tagged_epochs.specs.Epochs.{IsSpeaker, IsSeen}
+use Rattle.tagged_epochs.specs.Epochs.{IsSpeaker, IsSeen, seeing}
 use Rattle.tagged_epochs.specs.Foreseen as Foreseen
 use Rattle.tagged_epochs.proofs.Whole.{epoch_seen}
 use Rattle.task_model.specs.Accounts.{Started}
 use Rattle.task_model.specs.Promise.{services_in}
 use Rattle.served_replies.specs.Served.{IsHeardOf, IsHeardSo, IsServedEra, WasServed, replies_to, server_behind}
-use Rattle.served_replies.proofs.Mails.{AllNamed, IsNamedMail, Snoc, all_mails, behind_named, mailer, mailer_runs, mailer_speaks, map_snoc, named_front, named_mail, named_mails, named_take, services_named}
+use Rattle.served_replies.proofs.Mails.{AllNamed, IsNamedMail, Snoc, all_mails, behind_named, is_mail, mailer, mailer_runs, mailer_speaks, map_snoc, named_front, named_mail, named_mails, named_take, services_named, start_named}
 use Rattle.served_replies.proofs.Newest as Newest
 use Rattle.served_replies.proofs.Newest.{exec_is}
 use Rattle.served_replies.proofs.Seen.{clears_so, heard, promised, valid}
 use Rattle.served_replies.proofs.Told.{row_whole}
 
 -- what is there of a row that is seen otherwise
-record SeenRow (now : Option (Row (Tagged Body OwnService) Wanted (Option _))) (r : Row Body Asked Reply) : Type 0 where
-  row : Row (Tagged Body OwnService) Wanted (Option _)
+record SeenRow (now : Option (Row (Tagged Body OwnService) Wanted (Option SlaveReply.Reply))) (r : Row Body Asked Reply) : Type 0 where
+  row : Row (Tagged Body OwnService) Wanted (Option SlaveReply.Reply)
   is : now ≡ Some row
   named : row_seen (λ (t : Tagged Body OwnService). t.mail) named_wanted (λ a. a) row ≡ r
 
-seen_row : (now : Option (Row (Tagged Body OwnService) Wanted (Option _))) (r : Row Body Asked Reply) → option_map (λ z. row_seen (λ (t : Tagged Body OwnService). t.mail) named_wanted (λ a. a) z) now ≡ Some r → SeenRow now r
+seen_row : (now : Option (Row (Tagged Body OwnService) Wanted (Option SlaveReply.Reply))) (r : Row Body Asked Reply) → option_map (λ z. row_seen (λ (t : Tagged Body OwnService). t.mail) named_wanted (λ a. a) z) now ≡ Some r → SeenRow now r
 seen_row None r e = absurd (let no : None ≡ Some r = e in cc)
 seen_row (Some row) r e = record { row = row; is = refl; named = (let s : Some (row_seen (λ (t : Tagged Body OwnService). t.mail) named_wanted (λ a. a) row) ≡ Some r = e in cc) }
+
+-- a fact of the row in hand
+of_row : {N Q R : Type 0} (P : Row N Q R → Type 0) (now : Option (Row N Q R)) (row : Row N Q R) → now ≡ Some row → OfRow P now → P row
+of_row P None row e k = absurd (let no : None ≡ Some row = e in cc)
+of_row P (Some r) row e k = let same : r ≡ row = cc in subst P same k
 
 module _ (p : Profile) (k : IsSpeaker (speaker p)) (forgets : Forgets (speaker p).exchange (speaker p).core cleared_whole) (boot : Bool) (lens : ℕ → Lens) (spot : Spot) (from : InState Server) (counts : Bool) (e : Era Body Asked Reply) (fs : List (Frame Body)) (n : Node Serving)
     (l : LedEra (serves p boot lens) is_followed is_passed spot from counts e fs n) where
@@ -80,19 +86,14 @@ module _ (p : Profile) (k : IsSpeaker (speaker p)) (forgets : Forgets (speaker p
     done = ideal (product_whole parts p) i.slave.node.server.server
 
     -- what came into hand, by its names
-    started_is : e.account.started ≡ map (λ s. started_seen (λ (t : Tagged Body OwnService). t.mail) named_wanted (λ r. r) s) i.era.account.started
+    started_is : e.account.started ≡ map start_named i.era.account.started
     started_is = ap (λ (d : Era Body Asked Reply). d.account.started) (sym i.named)
 
-    services_is : services_in e.account.started ≡ map (λ q. Rattle.life_counts.specs.Seen.service_seen named_wanted q) (services_in i.era.account.started)
+    services_is : services_in e.account.started ≡ map (λ q. service_seen named_wanted q) (services_in i.era.account.started)
     services_is = ap services_in started_is ∙ services_named p i.era.account.started
 
     all_valid : AllNamed p (services_in i.era.account.started)
-    all_valid = go (services_in i.era.account.started) (valid (mailer p) speaks (seer_of p boot) (table_of boot) spot l.opened l.server l.registers fs counts e seen_node i)
-      where
-        go : (qs : List (Service Wanted)) → Newest.AllValid (product_whole parts p) (mailer p).core speaks.served (mailer p).calm (mailer p).fair (mailer p).states (mailer p).naming.more speaks.last (table_of boot spot.station)
-            (Rattle.tagged_epochs.proofs.Whole.seeing_lawful (mailer p) speaks) (Rattle.tagged_epochs.proofs.Whole.seeing_stated (mailer p) speaks) qs → AllNamed p qs
-        go [] all = tt
-        go (q ∷ qs) all = (all.0, go qs all.1)
+    all_valid = valid (mailer p) speaks (seer_of p boot) (table_of boot) spot l.opened l.server l.registers fs counts e seen_node i
 
     -- what its slave left, cleared, is what was carried out, cleared
     cleared_so : cleared_whole left ≡ cleared_whole done
@@ -100,26 +101,29 @@ module _ (p : Profile) (k : IsSpeaker (speaker p)) (forgets : Forgets (speaker p
 
     -- THE MAIL that is passed on
     module _ (before : List (Started Asked)) (m : Mail) (frame : ℕ) (r : Row Body Asked Reply) (started : e.account.started ≡ before ++ record { service = Service.Mails (passed m); frame = frame } ∷ []) (now : e.side.now ≡ Some r) (passes : r.service ≡ passed m) where
-      last_one : Snoc (λ s. started_seen (λ (t : Tagged Body OwnService). t.mail) named_wanted (λ r. r) s) before (record { service = Service.Mails (passed m); frame = frame }) i.era.account.started
-      last_one = map_snoc (λ s. started_seen (λ (t : Tagged Body OwnService). t.mail) named_wanted (λ r. r) s) i.era.account.started before (record { service = Service.Mails (passed m); frame = frame }) (sym started_is ∙ started)
+      last_one : Snoc start_named before (record { service = Service.Mails (passed m); frame = frame }) i.era.account.started
+      last_one = map_snoc start_named i.era.account.started before (record { service = Service.Mails (passed m); frame = frame }) (sym started_is ∙ started)
 
       row_here : SeenRow i.era.side.now r
       row_here = seen_row i.era.side.now r (ap (λ (d : Era Body Asked Reply). d.side.now) i.named ∙ now)
 
-      heard_of : (x : Snoc (λ s. started_seen (λ (t : Tagged Body OwnService). t.mail) named_wanted (λ r. r) s) before (record { service = Service.Mails (passed m); frame = frame }) i.era.account.started) → SeenRow i.era.side.now r →
+      heard_of : (x : Snoc start_named before (record { service = Service.Mails (passed m); frame = frame }) i.era.account.started) → SeenRow i.era.side.now r →
           IsHeardOf p boot spot.station (server_behind p boot spot.station l.server (services_in before)) m e.passing r
       heard_of x y =
           let q = named_mails p x.last.service (passed m) (ap (λ (s : Started Asked). s.service) x.last_is) in
           let name : named_wanted y.row.service ≡ passed m = ap (λ (z : Row Body Asked Reply). z.service) y.named ∙ passes in
-          let plans : OfRow (λ h. PlanOne (λ (t : Tagged Body OwnService). t.mail) named_wanted (λ a. a) _ _ h.service h.heard) (Some y.row) = subst (OfRow _) y.is i.plans in
-          let mail = named_mail p m y.row.service name (λ answers b is. ap (λ z. map (λ (t : Tagged Body OwnService). t.mail) (Tagged.asked_planned _ z _)) (sym is) ∙ plans ∙ ap (λ z. (naming_of p).speech.planned z _) name) in
+          let hs : List (Tagged Body OwnService) = plain (λ t. Tagged.is_own t.meant) y.row.heard in
+          let words_there : List Body = plain (naming_of p).speech.emission (map (λ (t : Tagged Body OwnService). t.mail) y.row.heard) in
+          let plans = of_row (λ h. PlanOne (λ (t : Tagged Body OwnService). t.mail) named_wanted (λ (a : Option SlaveReply.Reply). a) (seeing (mailer p)).speech (naming_of p).speech h.service h.heard) i.era.side.now y.row y.is i.plans in
+          let mail = named_mail p m y.row.service name (λ answers b is.
+          ap (λ z. map (λ (t : Tagged Body OwnService). t.mail) (Tagged.asked_planned (product_whole parts p).speech z hs)) (sym is) ∙ plans ∙ ap (λ z. (naming_of p).speech.planned z words_there) name) in
           let whole : i.era.account.started ≡ x.front ++ record { service = Service.Mails q.0; frame = x.last.frame } ∷ [] = x.is ∙ (λ j. x.front ++ record { service = q.1 j; frame = x.last.frame } ∷ []) in
           let h = heard (mailer p) speaks (seer_of p boot) (table_of boot) spot l.opened l.server l.registers fs counts e seen_node i x.front q.0 x.last.frame whole (Ok m) mail.answers y.row y.is mail.is in
           let split : services_in i.era.account.started ≡ services_in x.front ++ Service.Mails q.0 ∷ [] = ap services_in whole ∙ map-append (λ (s : Started Wanted). s.service) x.front (record { service = Service.Mails q.0; frame = x.last.frame } ∷ []) in
           let front : AllNamed p (services_in x.front) = named_front p (services_in x.front) (Service.Mails q.0 ∷ []) (subst (AllNamed p) split all_valid) in
           let at : Foreseen.server_behind (product_whole parts p) whole_states (table_of boot spot.station) l.server (services_in x.front) ≡ server_behind p boot spot.station l.server (services_in before) =
           behind_named p boot spot.station l.server (services_in x.front) front ∙ ap (server_behind p boot spot.station l.server) (sym (services_named p x.front) ∙ ap services_in x.front_is) in
-          let contents : OfRow (λ h. ByContents (product_whole parts p).speech.emission h.heard) (Some y.row) = subst (OfRow _) y.is i.contents in
+          let contents = of_row (λ (h : Row (Tagged Body OwnService) Wanted (Option SlaveReply.Reply)). ByContents (product_whole parts p).speech.emission h.heard) i.era.side.now y.row y.is i.contents in
           let words : untag (Newest.replies (product_whole parts p) is_followed y.row) ≡ plain emission r.heard =
           plain_untag (product_whole parts p).speech.emission y.row.heard contents ∙ ap (λ (z : Row Body Asked Reply). plain emission z.heard) y.named in
           record {
@@ -131,23 +135,21 @@ module _ (p : Profile) (k : IsSpeaker (speaker p)) (forgets : Forgets (speaker p
         where
           answered_by : i.era.passing ≡ None → (y : SeenRow i.era.side.now r) (mail : IsNamedMail p m y.row.service) → mail.answers ≡ true → is_some y.row.answer ≡ true
           answered_by over y mail yes_ =
-              let all : OfRow (λ h. (b : Body) → h.service ≡ Tagged.Asked.Passed b true → is_some h.answer ≡ true) (Some y.row) = subst (OfRow _) y.is (i.answered over) in
-              all (Ok m) (mail.is ∙ ap (λ c. Tagged.Asked.Passed (Ok m) c) yes_)
+              of_row (λ (h : Row (Tagged Body OwnService) Wanted (Option SlaveReply.Reply)). (b : Body) → h.service ≡ Tagged.Asked.Passed b true → is_some h.answer ≡ true) i.era.side.now y.row y.is (i.answered over) (Ok m) (mail.is ∙ ap (λ c. Tagged.Asked.Passed (Ok m) c) yes_)
 
     -- WHAT ITS SLAVE DID
     pub served_era : IsServedEra p boot spot.station l.server e left done
     served_era =
         let k = promised (mailer p) speaks (seer_of p boot) (table_of boot) spot l.opened l.server l.registers fs counts e seen_node i in
-        let long : length e.account.started ≡ length i.era.account.started = ap length started_is ∙ length-map i.era.account.started (λ s. started_seen (λ (t : Tagged Body OwnService). t.mail) named_wanted (λ r. r) s) in
+        let long : length e.account.started ≡ length i.era.account.started = ap length started_is ∙ length-map i.era.account.started start_named in
         record {
           count = k.count;
           prefix = omega (arith, long, k.prefix);
           behind = omega (arith, long, k.behind);
           done_is = k.app
-              ∙ exec_is (product_whole parts p) (mailer p).core speaks.served (mailer p).calm (mailer p).fair (mailer p).states (mailer p).naming.more speaks.last (table_of boot spot.station)
-              (Rattle.tagged_epochs.proofs.Whole.seeing_lawful (mailer p) speaks) (Rattle.tagged_epochs.proofs.Whole.seeing_stated (mailer p) speaks) l.server 0 (take k.count (services_in i.era.account.started))
+              ∙ exec_is (product_whole parts p) (λ v. true) is_mail whole_states (table_of boot spot.station) l.server 0 (take k.count (services_in i.era.account.started))
               ∙ behind_named p boot spot.station l.server (take k.count (services_in i.era.account.started)) (named_take p k.count (services_in i.era.account.started) all_valid)
-              ∙ ap (server_behind p boot spot.station l.server) (sym (take-map (λ q. Rattle.life_counts.specs.Seen.service_seen named_wanted q) k.count (services_in i.era.account.started)) ∙ ap (take k.count) (sym services_is));
+              ∙ ap (server_behind p boot spot.station l.server) (sym (take-map (λ q. service_seen named_wanted q) k.count (services_in i.era.account.started)) ∙ ap (take k.count) (sym services_is));
           app = ap (λ (v : InState Server). v.inner.app.app) cleared_so;
           handled = ap (λ (v : InState Server). v.inner.handled) cleared_so;
           state = ap (λ (s : Slave (InState Server) Body). s.registers.state) (sym i.stands) ∙ k.state;

@@ -46,7 +46,7 @@ module _ (p : Profile) (k : IsSpeaker (speaker p)) (forgets : Forgets (speaker p
     same : b.inner ≡ at.inner
 
   past_served : {a b : InState Server} {es : List (Era Body Asked Reply)} → AllLeds w is_followed is_passed spot serves_clearing.cleared a es b → Begun a es b
-  past_served (AllLeds.none a) = record { at = a; all = AreServedEras.none a; same = refl }
+  past_served (AllLeds.none a) = record { at = a; all = AreServedEras.none; same = refl }
   past_served (AllLeds.closed a es b e cleared before is_new) =
       let rest = past_served before in
       record {

@@ -2,7 +2,7 @@
 use Rattle.std.proofs.Common.{◌≡◌, ℕ, zero, suc, Bool, true, false, Option, None, Some, option_map, List, [], ◌∷◌, ◌++◌, map, take, refl, ap, ap₂, sym, ◌∙◌, Ok, Err}
 use Rattle.exchange_model.specs.Exchange.{IsLawful}
 use Rattle.few_replies.specs.Calm.{calm_tagged}
-use Rattle.life_counts.specs.Seen.{service_seen, started_seen}
+use Rattle.life_counts.specs.Seen.{service_seen}
 use Rattle.link_mails.specs.Body.{Body}
 use Rattle.mailbox_mail.specs.declared.mail.Mail.{Mail}
 use Rattle.mailbox_mail.specs.Mail.{error_of}
@@ -25,6 +25,7 @@ use Rattle.tagged_epochs.specs.Spoken.{IsPassed}
 use Rattle.task_model.specs.Accounts.{Started}
 use Rattle.task_model.specs.Promise.{services_in}
 use Rattle.served_replies.specs.Served.{server_behind}
+use Rattle.served_replies.proofs.Newest.{AllValid}
 
 -- what is passed on is a mail
 abbrev pub is_mail : Body → Bool
@@ -48,6 +49,10 @@ mailer_speaks p k = record {
 
 pub mailer_runs : (p : Profile) (boot : Bool) (station : ℕ) → IsRun (mailer p) (spoken p) (processor_of boot) (seer_of p boot) (table_of boot station)
 mailer_runs p boot station = record { serve = refl; speech = refl; tells = λ state v. refl; tells_seen = λ state v. refl; carries = λ r. refl; worded = λ r. refl }
+
+-- what came into hand, by its name
+abbrev pub start_named : Started Wanted → Started Spoken.Asked
+start_named s = record { service = service_seen named_wanted s.service; frame = s.frame }
 
 module _ (p : Profile) where
   -- what a master passes on is a mail
@@ -79,8 +84,7 @@ module _ (p : Profile) where
   acts_named v (Asked.Passed (Err fault) answers) k = absurd (let no : false ≡ true = k in cc)
 
   abbrev pub AllNamed : List (Service Wanted) → Type 0
-  AllNamed [] = Unit {0}
-  AllNamed (q ∷ qs) = (valid q ≡ true) × AllNamed qs
+  AllNamed qs = AllValid (product_whole parts p) (λ v. true) is_mail qs
 
   module _ (boot : Bool) (station : ℕ) where
     -- THE SERVER BEHIND SERVICES is the one behind them by their names
@@ -99,7 +103,7 @@ module _ (p : Profile) where
   named_take (suc n) [] k = tt
   named_take (suc n) (q ∷ qs) k = (k.0, named_take n qs k.1)
 
-  pub services_named : (ss : List (Started Wanted)) → services_in (map (λ s. started_seen {N = Body} {M = Body} {S = Option Reply} {R = Option Reply} (λ b. b) named_wanted (λ r. r) s) ss) ≡ map named (services_in ss)
+  pub services_named : (ss : List (Started Wanted)) → services_in (map start_named ss) ≡ map named (services_in ss)
   services_named [] = refl
   services_named (s ∷ ss) = ap (λ l. named s.service ∷ l) (services_named ss)
 

@@ -76,6 +76,22 @@ module _ {V M Q R : Type 0} (x : Exchange V V M Q R) (s : Stated V V Q) (t : Tab
   last_right v (Service.Mails q ∷ qs) m answers all = last_right (asked_exec x v q) qs m answers all.1
   last_right v (Service.State target ∷ qs) m answers all = last_right (s.tell (state_behind t (s.state v) target) v) qs m answers all
 
+module _ {V M Q R : Type 0} (x : Exchange V V M Q R) (calm : V → Bool) (fair : M → Bool) where
+  -- ALL SERVICES that came into hand are such as the laws speak of
+  abbrev pub AllValid : List (Service (Asked M Q)) → Type 0
+  AllValid [] = ⊤
+  AllValid (q ∷ qs) = (service_valid (calm_tagged x calm fair).speech q ≡ true) × AllValid qs
+
+  valid_append : (ps : List (Service (Asked M Q))) (q : Service (Asked M Q)) → AllValid ps → service_valid (calm_tagged x calm fair).speech q ≡ true → AllValid (ps ++ q ∷ [])
+  valid_append [] q all one = (one, tt)
+  valid_append (p ∷ ps) q all one = (all.0, valid_append ps q all.1 one)
+
+  -- what services make of the application is the server behind them
+  pub exec_is : (s : Stated V V Q) (t : Table) (v : V) (k : ℕ) (qs : List (Service (Asked M Q))) → (exec_all (with_states (calm_tagged x calm fair) (tagged_states x s) t) (v, k) qs).0 ≡ server_behind x s t v qs
+  exec_is s t v k [] = refl
+  exec_is s t v k (Service.Mails q ∷ qs) = exec_is s t (asked_exec x v q) k qs
+  exec_is s t v k (Service.State target ∷ qs) = exec_is s t (s.tell (state_behind t (s.state v) target) v) (suc k) qs
+
 module _ {V M Q R C : Type 0} (x : Exchange V V M Q R) (core : V → C) (law : IsServed x core) (calm : V → Bool) (fair : M → Bool) (s : Stated V V Q) (more : M → Bool) (last : LastTells x more)
     (t : Table) (lawful : IsLawful (calm_tagged x calm fair)) (stated : IsStated (calm_tagged x calm fair) (tagged_states x s)) where
   abbrev y : Exchange (Rowed V M Q) V (Tagged M Q) (Asked M Q) (Option R)
@@ -99,22 +115,7 @@ module _ {V M Q R C : Type 0} (x : Exchange V V M Q R) (core : V → C) (law : I
   both_lawful : IsLawful both
   both_lawful = stated_law y (tagged_states x s) t stated lawful
 
-  -- what services make of the application is the server behind them
-  pub exec_is : (v : V) (k : ℕ) (qs : List (Service (Asked M Q))) → (exec_all both (v, k) qs).0 ≡ server_behind x s t v qs
-  exec_is v k [] = refl
-  exec_is v k (Service.Mails q ∷ qs) = exec_is (asked_exec x v q) k qs
-  exec_is v k (Service.State target ∷ qs) = exec_is (s.tell (state_behind t (s.state v) target) v) (suc k) qs
-
-  -- ALL SERVICES that came into hand are such as the laws speak of
-  abbrev pub AllValid : List (Service (Asked M Q)) → Type 0
-  AllValid [] = ⊤
-  AllValid (q ∷ qs) = (service_valid y.speech q ≡ true) × AllValid qs
-
-  valid_append : (ps : List (Service (Asked M Q))) (q : Service (Asked M Q)) → AllValid ps → service_valid y.speech q ≡ true → AllValid (ps ++ q ∷ [])
-  valid_append [] q all one = (one, tt)
-  valid_append (p ∷ ps) q all one = (all.0, valid_append ps q all.1 one)
-
-  settled_valid : (c : Counting (Rowed V M Q)) (gs : List (Ghosts.GhostRow (Tagged M Q) (Asked M Q) (Option R))) → Settled both c gs → AllValid (services gs)
+  settled_valid : (c : Counting (Rowed V M Q)) (gs : List (Ghosts.GhostRow (Tagged M Q) (Asked M Q) (Option R))) → Settled both c gs → AllValid x calm fair (services gs)
   settled_valid c [] k = tt
   settled_valid c (g ∷ gs) k = (k.0.valid, settled_valid (after both.serve c g.told) gs k.1)
 
@@ -129,10 +130,10 @@ module _ {V M Q R C : Type 0} (x : Exchange V V M Q R) (core : V → C) (law : I
     split_services : (g : RowsHere) → services_in a.started ≡ services (g.front ++ g.last) ++ g.now.service ∷ []
     split_services g = ap services_in (split g) ∙ map-append (λ (k : Started (Asked M Q)). k.service) (starts_of (g.front ++ g.last)) (start_of g.now ∷ []) ∙ ap (λ l. l ++ g.now.service ∷ []) (started_services (g.front ++ g.last))
 
-    pub all_valid : AllValid (services_in a.started)
+    pub all_valid : AllValid x calm fair (services_in a.started)
     all_valid = elim h.carried.rows [
-      | inl u ↦ subst (λ (l : List (Started (Asked M Q))). AllValid (services_in l)) (sym u.started) tt
-      | inr g ↦ subst AllValid (sym (split_services g)) (valid_append (services (g.front ++ g.last)) g.now.service (settled_valid (counting seat.start) (g.front ++ g.last) g.moment.fits.settled) g.moment.fits.valid)
+      | inl u ↦ subst (λ (l : List (Started (Asked M Q))). AllValid x calm fair (services_in l)) (sym u.started) tt
+      | inr g ↦ subst (AllValid x calm fair) (sym (split_services g)) (valid_append x calm fair (services (g.front ++ g.last)) g.now.service (settled_valid (counting seat.start) (g.front ++ g.last) g.moment.fits.settled) g.moment.fits.valid)
     ]
 
     module _ (between : Between x seat.start) (right : AllRight x s t (ideal x seat.start) (services_in a.started)) (before : List (Started (Asked M Q))) (q : Asked M Q) (f : ℕ) (started : a.started ≡ before ++ record { service = Service.Mails q; frame = f } ∷ [])
@@ -180,7 +181,7 @@ module _ {V M Q R C : Type 0} (x : Exchange V V M Q R) (core : V → C) (law : I
           let right_here : IsForeseenRight x at m answers = last_right x s t (ideal x seat.start) (services_in before) m answers
           (subst (AllRight x s t (ideal x seat.start)) (ap services_in started ∙ map-append (λ (k : Started (Asked M Q)). k.service) before (newest ∷ []) ∙ ap (λ z. services_in before ++ z ∷ []) asked) right) in
           let same : services past ≡ services_in before = sym (started_services past) ∙ ap services_in (last_same g).0 in
-          let app : ideal x u.server ≡ at = ap (λ k. k.0) (settled_app both both_lawful c past h.ready fits.settled) ∙ exec_is (ideal x seat.start) 0 (services past) ∙ ap (server_behind x s t (ideal x seat.start)) same in
+          let app : ideal x u.server ≡ at = ap (λ k. k.0) (settled_app both both_lawful c past h.ready fits.settled) ∙ exec_is x calm fair s t (ideal x seat.start) 0 (services past) ∙ ap (server_behind x s t (ideal x seat.start)) same in
           let stands : Between x u.server = rows_between x core law calm fair s t lawful stated c between h.ready past fits.settled in
           let ready : x.ready (ideal x u.server) ≡ true = left_of (x.ready (ideal x u.server)) (calm (ideal x u.server)) (settled_ready both both_lawful c past h.ready fits.settled) in
           let right_there : IsForeseenRight x (ideal x u.server) m answers = subst (λ v. IsForeseenRight x v m answers) (sym app) right_here in

@@ -68,14 +68,11 @@ module _ {V M Q R C T : Type 0} (w : Speaker V M Q R C T) (k : IsSpeaker w) (see
       (era_in w.exchange w.calm w.fair w.states (seeing_lawful w k) (seeing_stated w k) seer table spot i.era opened (length i.frames) i.frames (between v) r i.slave i.is refl)
 
   -- ALL THAT CAME INTO HAND are such as the laws speak of
-  abbrev Valid : List (Service (Asked M Q)) → Type 0
-  Valid qs = AllValid w.exchange w.core k.served w.calm w.fair w.states w.naming.more k.last t (seeing_lawful w k) (seeing_stated w k) qs
-
-  pub valid : Valid (services_in i.era.account.started)
+  pub valid : AllValid w.exchange w.calm w.fair (services_in i.era.account.started)
   valid =
       let z = session_of epoch in
       let P : Table → List (Frame (Tagged M Q)) → ℕ → Rowed V M Q → SideHere → AccountHere → SlaveHere → Type 0 =
-      (λ u gs station start d a m. AllValid w.exchange w.core k.served w.calm w.fair w.states w.naming.more k.last u (seeing_lawful w k) (seeing_stated w k) (services_in a.started)) in
+      (λ u gs station start d a m. AllValid w.exchange w.calm w.fair (services_in a.started)) in
       of_one epoch (λ station start d a m. P (table station) (era_frames spot opened (length i.frames) i.frames) station start d a m)
       (of_slaves z.exchange z.lawful z.states z.stated z.processor z.table (λ m. false) z.planned.tells z.plan z.planned z.sides z.accounts z.ring z.frames z.tasked P
       (λ u begun it gs seat a h. all_valid w.exchange w.core k.served w.calm w.fair w.states w.naming.more k.last u (seeing_lawful w k) (seeing_stated w k) (λ m. false) begun it gs seat a h))

@@ -9,3 +9,4 @@ mod Seats
 mod Meets
 mod Clocks
 mod Answered
+mod Dues

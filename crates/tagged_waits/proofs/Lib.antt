@@ -1,2 +1,4 @@
+pub mod Hears
 pub mod Never
 pub mod Served
+pub mod WholeHears

@@ -1,6 +1,7 @@
 use Rattle.std.proofs.Common.{◌≡◌, ◌+◌, ℕ, suc, List, [], ◌∷◌, ◌++◌, refl, ap, arith, length, length-append, sym, subst, ◌∙◌}
 use Rattle.std.specs.Prelude.{◌<◌, true}
 use Rattle.bound_premises.proofs.News.{all_news}
+use Rattle.eager_servings.specs.Eager.{remembers}
 use Rattle.eager_servings.proofs.Ranks.{steps_in}
 use Rattle.eager_servings.proofs.Rests.{all_behind}
 use Rattle.eager_servings.proofs.Walk.{Holds, Known, Laws, Step, Ask, frames, starts, stays}
@@ -16,14 +17,13 @@ use Rattle.segment_plan.specs.Bound.{slowest}
 use Rattle.segment_plan.specs.declared.service.Service as Plan
 use Rattle.segment_plan.specs.declared.slave.SlaveSpec.{SlaveSpec}
 use Rattle.served_places.proofs.Slaves.{begins_so, first_leads_in}
-use Rattle.served_runs.specs.Served.{Serves, all_serve}
+use Rattle.served_runs.specs.Served.{all_serve}
 use Rattle.toured_servings.proofs.Tours.{bridged}
 use Rattle.eager_servings.proofs.eager_serving_law.Goals as goal
 
 -- before the first frame no mail waits, and none is in hand
 none_first : (rows : List (ℕ × Plan.Service)) (paces : List ℕ) (place : ℕ) (ss : List SlaveSpec) → steps_in (all_serve paces (leads_from rows place ss)) ≡ 0
-none_first rows [] place [] = refl
-none_first rows (pace ∷ paces) place [] = refl
+none_first rows paces place [] = refl
 none_first rows [] place (s ∷ ss) = let rest = none_first rows [] (suc place) ss in omega (arith, rest)
 none_first rows (pace ∷ paces) place (s ∷ ss) = let rest = none_first rows paces (suc place) ss in omega (arith, rest)
 
@@ -53,7 +53,7 @@ returns c = λ plan fs t ws s is known room due toured recalled went rest host.
       toured = k.toured;
       asks = k.asks b.asked.1;
       last = k.last;
-      now = _;
+      now = remembers plan s.events 0 s.recalls ws;
       eager = k.eager;
       enters = (let few = h.few in omega (arith, few, many));
     }

@@ -32,7 +32,9 @@ use Rattle.master_node.specs.Downs.{downs_in, gives_at, goes_down, is_given_up}
 use Rattle.master_node.specs.Shows.{is_led, is_live_turn, is_live_lead, side_shows}
 use Rattle.master_tour.specs.Goes.{is_live}
 use Rattle.master_node.proofs.Downs.{lists_all, lists_as, downs_few, downs_same, goes_at, gone_is, live_is, under_live, both_true}
-use Rattle.master_node.proofs.Recalled.{recalls_lost}
+use Rattle.master_node.proofs.OnFrames.{all_run}
+use Rattle.master_node.proofs.Recalled.{recalls_lost, recalls_run}
+use Rattle.master_node.specs.Eager.{recalls}
 use Rattle.std.proofs.Common.{suc}
 use Rattle.counters_kept.proofs.Lives.{stands_kept}
 use Rattle.life_runs.specs.of_life_frames.Shares.{AllThree}
@@ -203,9 +205,18 @@ returns-clause-downs c = λ lens recover retry missed number after octets us f p
     }
 
 pub returns-clause-recalls : goal.returns-clause-recalls
-returns-clause-recalls c = λ lens recover octets us u.
+returns-clause-recalls c = λ lens recover retry missed octets us u.
     let m = c.args.self.now in
-    recalls_lost lens recover octets (not (nat_lt m.tour.missed m.tour.retry)) us m.tour.stops.items c.lost.new.self.stops.items c.all_given_up.new.self.tour.stops.items u.each c.lost.ensures.recalled c.all_given_up.ensures.kept.each
+    let gives = not (nat_lt m.tour.missed m.tour.retry) in
+    recalls_run lens recover octets [] us m.tour.stops.items (recalls m) (recalls c.all_given_up.new.self) u.each
+    (recalls_lost (λ v. v) (λ v. None) lens recover octets gives us m.tour.stops.items c.lost.new.self.stops.items c.all_given_up.new.self.tour.stops.items (all_run lens recover octets us m.tour.stops.items u.each) c.lost.ensures.recalled c.all_given_up.ensures.kept.each)
+
+pub returns-clause-remembers : goal.returns-clause-remembers
+returns-clause-remembers c = λ lens recover retry missed made octets vs f u.
+    let m = c.args.self.now in
+    let gives = gives_up_at lens recover retry missed in
+    recalls_lost run_turn (λ v. (served_behind lens recover retry gives made f v).lead.lived.life.era.passing) lens recover octets (not (nat_lt m.tour.missed m.tour.retry)) vs m.tour.stops.items c.lost.new.self.stops.items c.all_given_up.new.self.tour.stops.items
+    (on_frame lens recover retry gives made f octets vs m.posts.items m.tour.stops.items u.each) c.lost.ensures.recalled c.all_given_up.ensures.kept.each
 
 pub returns-clause-served : goal.returns-clause-served
 returns-clause-served c = λ lens recover retry missed made after octets vs f p b u.

@@ -156,7 +156,7 @@ returns-clause-eager c = λ as' stands fits.
           let was = sym e.tour.0 ∙ a in
           subst (λ z. FitAgain z ts) (sym (ap (λ z. z.items) (e.again was))) (again_on _ (λ s t p. side_sends s t p.0 p.1) ss ts m.tour.visit.items e.each (fits was));
     }) e.empty in
-    each_comp _ _ (λ s t. (recall_of t ≡ recall_of s) × StopTakesUp t) (λ s t u p q. (q.0 ∙ ap (λ z. recall_by z.paused z.duty z.turn (knows z.hand.course)) p.0, q.1 (λ v. absurd (true_false t.under v p.5)))) ss ts c.fill.new.self.tour.stops.items e.each on
+    each_comp _ _ (λ s t. (recall_of t ≡ recall_of s) × StopTakesUp t) (λ s t u p q. (q.0 ∙ ap (λ z. recall_by z.paused z.duty z.passing z.turn (knows z.hand.course)) p.0, q.1 (λ v. absurd (true_false t.under v p.5)))) ss ts c.fill.new.self.tour.stops.items e.each on
 
 pub returns-clause-serves : goal.returns-clause-serves
 returns-clause-serves c = λ lens recover retry missed made from ws some small room taken unlisted x.

@@ -33,7 +33,9 @@ use Rattle.master_node.proofs.Arrivals.{arrivals_few, arrivals_same, heard_few, 
 use Rattle.master_node.proofs.Downs.{lists_all, lists_as}
 use Rattle.master_tour.proofs.Backs.{seen_aims}
 use Rattle.master_tour.proofs.Walks.{each_map}
-use Rattle.master_node.proofs.Recalled.{recalls_back}
+use Rattle.master_node.proofs.Recalled.{came_so, recalls_back, recalls_run, runs_came}
+use Rattle.master_node.proofs.ServedPasses.{all_pass}
+use Rattle.master_node.proofs.Visitings.{visit_asks}
 use Rattle.std.proofs.Common.{◌+◌, ◌-◌, ◌%◌, ◌^◌, suc}
 use Rattle.counters_kept.proofs.Lives.{stands_kept}
 use Rattle.life_runs.specs.of_life_frames.Shares.{AllThree}
@@ -64,7 +66,7 @@ use Rattle.master_node.proofs.Filtered.{filter_told, gateway_by, place_asked}
 use Rattle.master_node.proofs.Gateways.{all_told}
 use Rattle.master_node.proofs.Backtolds.{back_all}
 use Rattle.master_node.specs.Backtold.{returned_at}
-use Rattle.master_node.specs.Eager.{recall_of}
+use Rattle.master_node.specs.Eager.{recall_of, recalls}
 use Rattle.master_node.proofs.Listing.{listed_whole, told_same}
 use Rattle.master_node.specs.Answered.{answer_at, answer_behind}
 use Rattle.master_node.proofs.node.MasterNode.returned.Goals as goal
@@ -159,12 +161,32 @@ returns-clause-arrivals c = λ lens recover octets us befores u r h.
     }
 
 pub returns-clause-recalls : goal.returns-clause-recalls
-returns-clause-recalls c = λ lens recover octets us u r a.
+returns-clause-recalls c = λ lens recover retry missed octets us u r a.
     let back = seen lens c.args.frame.now.items in
     let ss = c.args.self.now.tour.stops.items in
     let ts = c.returned.new.self.stops.items in
-    recalls_back lens recover octets back us ss ts c.all_back.new.self.tour.stops.items r (λ s. seen_aims lens c.args.frame.now.items s.side.station s.named) u.each a
-    (each_map _ _ ss ts (λ s t p v i. p (speech_at lens v.lived.spot) recover v.lived.spot v.lived.life i.lives.planned.stands i.way i.lives.shown) (c.returned.ensures.recalls lens (seen lens octets) r u.sent)) c.all_back.ensures.kept.each
+    let zs = c.all_back.new.self.tour.stops.items in
+    let came = each_map _ _ ss ts (λ s t p v i. p (speech_at lens v.lived.spot) recover v.lived.spot v.lived.life i.lives.planned.stands i.way i.lives.shown) (c.returned.ensures.recalls lens (seen lens octets) r u.sent) in
+    let asks = visit_asks lens recover octets (seen lens octets) us ss (recalls c.args.self.now) u.each a in
+    recalls_run lens recover octets back us ss (recalls c.args.self.now) (recalls c.all_back.new.self) u.each
+    (recalls_back (λ v. v) (λ v. None) lens recover octets back us ss zs r (λ s. seen_aims lens c.args.frame.now.items s.side.station s.named)
+    (runs_came lens recover octets back us ss ts zs u.each asks came c.all_back.ensures.kept.each))
+
+pub returns-clause-remembers : goal.returns-clause-remembers
+returns-clause-remembers c = λ lens recover retry missed made octets vs f p b u r a.
+    let m = c.args.self.now in
+    let n = c.all_back.new.self in
+    let back = seen lens c.args.frame.now.items in
+    let ss = m.tour.stops.items in
+    let ts = c.returned.new.self.stops.items in
+    let zs = n.tour.stops.items in
+    let gives = gives_up_at lens recover retry missed in
+    let on = on_frame lens recover retry gives made f octets vs m.posts.items ss u.each in
+    let came = each_map _ _ ss ts (λ s t p v i. p (speech_at lens v.lived.spot) recover v.lived.spot v.lived.life i.lives.planned.stands i.way i.lives.shown) (c.returned.ensures.recalls lens (seen lens octets) r u.sent) in
+    let served = returns-clause-served c lens recover retry missed made octets vs f p b u r in
+    recalls_back run_turn (λ v. (served_behind lens recover retry gives made f v).lead.lived.life.era.passing) lens recover octets back vs ss zs r (λ s. seen_aims lens c.args.frame.now.items s.side.station s.named)
+    (came_so run_turn (λ v. (served_behind lens recover retry gives made f v).lead.lived.life.era.passing) lens recover octets back vs ss ts zs on a came c.all_back.ensures.kept.each
+    (all_pass lens recover retry gives made f octets c.args.frame.now.items p b (suc made) vs n.posts.items ss zs on served.each))
 
 pub returns-clause-joins : goal.returns-clause-joins
 returns-clause-joins c = λ lens recover retry missed made octets vs befores f p b u r h.

@@ -49,7 +49,7 @@ use Rattle.master_node.specs.Begins.{begun_for}
 use Rattle.master_node.specs.Starts.{HasStarted}
 use Rattle.master_node.proofs.Begins.{at_other, at_place}
 use Rattle.master_node.proofs.Fills.{from_each, from_map}
-use Rattle.master_node.proofs.Lists.{steps_got, steps_some}
+use Rattle.master_node.proofs.Lists.{steps_got, steps_mid, steps_some}
 use Rattle.master_node.proofs.Starts.{Asks, ComesSo, LeavesNone, Readies, from_both, from_steps, leaves_none, mail_none, readies, serves_known, serves_yet, some_so, started_here, started_same, started_there, waits_yet}
 use Rattle.std.specs.Prelude.{None}
 use Rattle.master_tour.specs.First.{FitsFirst}

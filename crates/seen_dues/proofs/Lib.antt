@@ -1,0 +1,4 @@
+mod Accepted
+mod Known
+mod Ties
+pub mod Seen
