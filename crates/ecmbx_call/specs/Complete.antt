@@ -39,7 +39,7 @@ CompletesTo words table plan book status =
 -- and the port doesn't fail, all is done
 pub record IsServedComplete (plan : Scenario) (count : ℕ) (first last : Told) (book : Book) (status : Status) : Type 0 where
   pub did : HasServed plan count first last book
-  pub ends : (status ≡ statuses.Done) ⊎ (status ≡ statuses.GivenUp) ⊎ ((status ≡ statuses.PortFault) × Rose first.faults last.faults)
+  pub ends : (status ≡ statuses.Done) ⊎ ((status ≡ statuses.GivenUp) ⊎ ((status ≡ statuses.PortFault) × Rose first.faults last.faults))
   pub few : AreFewLost plan.lose plan.retry → ¬ Rose first.faults last.faults → status ≡ statuses.Done
 
 -- the serving of a scenario that is found is complete, with a budget of as many frames as the bound for so many datagrams, where none that was heard asks for a
