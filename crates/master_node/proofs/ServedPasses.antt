@@ -34,11 +34,11 @@ use Rattle.master_node.proofs.ServedSents.{seen_some}
 life_open : {G : Ghosts InHand} (lens : ℕ → Lens) (recover : ℕ) (spot : Spot) (s : Stop InHand G) (l : Life Body Asked Reply) → s.stand ≡ Stand.Open → StandShows (side_shows lens recover s spot) spot s.stand l → l.stand ≡ Lives.Stand.Open
 life_open lens recover spot s l o w = (subst (λ (z : Stand). StandShows (side_shows lens recover s spot) spot z l) o w).0
 
-module _ {G : Ghosts InHand} (lens : ℕ → Lens) (recover retry : ℕ) (gives : Bool) (made : ℕ) (f : Exchanged) (octets items : List ℕ) (fate : f.fate ≡ Pass) (back : f.back ≡ items) (n : ℕ) where
+module _ (lens : ℕ → Lens) (recover retry : ℕ) (gives : Bool) (made : ℕ) (f : Exchanged) (octets items : List ℕ) (fate : f.fate ≡ Pass) (back : f.back ≡ items) (n : ℕ) where
   abbrev behind : ServedTurn → Option Ends.Passing
   behind v = (served_behind lens recover retry gives made f v).lead.lived.life.era.passing
 
-  one_passes : (v : ServedTurn) (p : Post) (s z : Stop InHand G) → IsOnFrame lens recover octets (run_turn v) s → IsServed lens recover n (served_behind lens recover retry gives made f v) p z → PassesOn (run_turn v) (behind v) s z
+  one_passes : {G : Ghosts InHand} (v : ServedTurn) (p : Post) (s z : Stop InHand G) → IsOnFrame lens recover octets (run_turn v) s → IsServed lens recover n (served_behind lens recover retry gives made f v) p z → PassesOn (run_turn v) (behind v) s z
   one_passes v p s z i new = λ still o hand some.
       let l = v.turn.lived.life in
       let spot = v.turn.lived.spot in
@@ -46,11 +46,11 @@ module _ {G : Ghosts InHand} (lens : ℕ → Lens) (recover retry : ℕ) (gives 
       let stands = life_open lens recover spot s l o i.lives.shown.stood in
       let on = stays_open (speech_at lens spot) made spot (news_back spot.station v.kept v.counts (seen lens items)) (seen lens items) (came_at s.under s.at (seen lens items)) l l.stand stands stands hand in
       let here = ap (λ (k : Life Body Asked Reply). k.stand) (sym (back_life lens recover retry gives made f octets items v s fate back i)) ∙ on.0 in
-      let open = open_lived lens recover w.spot z w.life z.stand refl new.lives.shown.stood here in
-      let shown = (subst (λ q. StandPassing q (awaits_reply z.side.hand.course z.side.hand.which z.side.hand.clients) z.side.passing w.life) open new.passing).is in
+      let opened = open_lived lens recover w.spot z w.life z.stand refl new.lives.shown.stood here in
+      let shown = (subst (λ q. StandPassing q (awaits_reply z.side.hand.course z.side.hand.which z.side.hand.clients) z.side.passing w.life) opened new.passing).is in
       sym (seen_some z.side.passing) ∙ ap (λ (q : Option Ends.Passing). is_some q) (sym shown ∙ still ∙ i.passing o) ∙ seen_some s.side.passing ∙ some
 
-  pub all_pass : (vs : List ServedTurn) (ps : List Post) (ss zs : List (Stop InHand G)) → AllBoth (λ v s. IsOnFrame lens recover octets (run_turn v) s) vs ss → AllThree (λ w p z. IsServed lens recover n w p z) (map (served_behind lens recover retry gives made f) vs) ps zs →
+  pub all_pass : {G : Ghosts InHand} (vs : List ServedTurn) (ps : List Post) (ss zs : List (Stop InHand G)) → AllBoth (λ v s. IsOnFrame lens recover octets (run_turn v) s) vs ss → AllThree (λ w p z. IsServed lens recover n w p z) (map (served_behind lens recover retry gives made f) vs) ps zs →
       AllThree (λ v s z. PassesOn (run_turn v) (behind v) s z) vs ss zs
   all_pass [] [] [] [] i new = tt
   all_pass [] ps (s ∷ ss) zs i new = absurd i

@@ -186,8 +186,8 @@ module _ (lens : ℕ → Lens) (recover made : ℕ) where
               let still = still_life x acknowledged is_followed is_passed made w.life n w.life.stand (record { begin = None; hold = h.hold }) m.stands refl m.free refl in
               let here = subst (λ f. StopShows f recover spot t.stand t.spare n) (sym (shows_kept lens recover t.side.hand.laying.number spot t u k)) h.shown in
               let there : StopShows (side_shows lens recover u spot) recover spot u.stand u.spare n = subst (λ z. StopShows (side_shows lens recover u spot) recover spot z u.spare n) (sym k.stand) (subst (λ z. StopShows (side_shows lens recover u spot) recover spot t.stand z n) (sym k.spare) here) in
-              let open = (yet_frees a s w (sym known ∙ e) b p).0 in
-              frees lens recover spot u n there e (λ o. k.side.passing ∙ q.1 ∙ w.unpassed p open) (might_still x w.life n still m);
+              let opened = (yet_frees a s w (sym known ∙ e) b p).0 in
+              frees lens recover spot u n there e (λ o. k.side.passing ∙ q.1 ∙ w.unpassed p opened) (might_still x w.life n still m);
         }
 
     -- nothing came into hand by what was wished

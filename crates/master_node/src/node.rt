@@ -41,6 +41,7 @@ pub struct MasterNode {
 }
 
 impl MasterNode {
+    ghost use Rattle.master_node.specs.Entering.{IsIdle};
     ghost use Rattle.std.specs.Prelude.{◌≡◌, ◌<◌, ◌≤◌, ◌^◌, suc, ℕ, List, true, false, vec_len, length};
     ghost use Rattle.datagrams.specs.Datagram as Raw;
     ghost use Rattle.datagrams.specs.Frame.{IsBegun};
@@ -402,6 +403,7 @@ impl MasterNode {
         ensures stays { result ≡ false → StepsAt (λ p q. q ≡ p) slave self.old.posts.items self.new.posts.items }
         ensures works { StepsAt (λ p q. q.work ≡ p.work) slave self.old.posts.items self.new.posts.items }
         ensures kept { (self.new.tour ≡ self.old.tour) × (self.new.lan ≡ self.old.lan) × (self.new.made ≡ self.old.made) × (self.new.list ≡ self.old.list) }
+        ensures idle { IsIdle self.new → IsIdle self.old }
         ensures counts { (k : ℕ) → forwards_at self.new.posts.items k ≡ forwards_at self.old.posts.items k }
         ensures answers { (k : ℕ) → answer_at self.new.posts.items k ≡ answer_at self.old.posts.items k }
         ensures served { (lens : ℕ → Lens) (recover retry missed made : ℕ) (ws : List Serves) → waiting_at self.old.posts.items slave < 64 → FitsAt lens slave (length mail.now.body.items) ws → ServedShows lens recover retry self.old missed made ws →

@@ -22,6 +22,7 @@ pub mod Replays
 pub mod Rows
 pub mod ServedForwards
 pub mod ServedGaves
+pub mod ServedRecalls
 pub mod ServedTold
 pub mod Servings
 pub mod Steps

@@ -8,11 +8,13 @@ use Rattle.master_node.proofs.OnFrames.{served_way}
 use Rattle.master_node.specs.Arrivals.{completed_at, ComeIn}
 use Rattle.master_node.specs.Begins.{PacketsBegin}
 use Rattle.master_node.specs.Downs.{GoDown}
+use Rattle.master_node.specs.Eager.{recalls}
 use Rattle.master_node.specs.Happened.{HappensSo, HasHappened, events_of}
 use Rattle.master_node.specs.Joined.{HasUnfinished, JoinsKept, stand_before, stand_under, unfinished_after}
 use Rattle.master_node.specs.Made.{AreOfMaking}
 use Rattle.master_node.specs.Ports.{ports_behind, ports_of}
 use Rattle.master_node.specs.Rooms.{area_at}
+use Rattle.master_node.specs.ServedEager.{AllServedAsk, AllServedRecall}
 use Rattle.master_node.specs.Serving.{ServedUnder, run_lead, run_turn}
 use Rattle.master_node.specs.Shows.{IsUnderWay, is_live_lead}
 use Rattle.master_node.specs.Toured.{tour_of}
@@ -22,14 +24,16 @@ use Rattle.master_node.specs.declared.node.MasterNode.{MasterNode}
 use Rattle.master_node.specs.of_frame_view.Seen.{seen}
 use Rattle.master_node.specs.of_frame_view.View.{Lens}
 use Rattle.master_node.specs.of_life_runs.First.{first_leads, lens_of}
-use Rattle.master_node.specs.of_life_runs.Led.{Exchanged, Leads, Turn}
+use Rattle.master_node.specs.of_life_runs.Led.{Exchanged, Leads, Turn, gives_up_at}
 use Rattle.master_node.specs.of_master_tour.Goes.{holds_at}
 use Rattle.master_node.specs.of_master_tour.Sizes.{frame_size}
 use Rattle.master_node.specs.of_segment_model.Returned.{Returns}
 use Rattle.packets_heard.proofs.Carries.{carries_all, serves_asked}
+use Rattle.packets_heard.proofs.Steps.{at_switch, before_is, made_is}
 use Rattle.packets_heard.proofs.Unfinished.{joined_so, served_under_way}
 use Rattle.packets_heard.specs.Heard.{Joined, joined_none, mails_by}
 use Rattle.packets_heard.specs.Listed.{CarriesAll, packets_by, unfinished_of}
+use Rattle.packets_heard.specs.Recalled.{AtSwitch, IsLanOf}
 use Rattle.packets_heard.specs.Served.{serves_behind}
 use Rattle.packets_heard.specs.Servings.{AreServedBegun, ServedListed, served_joined}
 use Rattle.run_record.proofs.Forwards.{as_many}
@@ -39,7 +43,7 @@ use Rattle.run_record.proofs.ServedGaves.{serve_leads}
 use Rattle.run_record.specs.Served.{IsServedForwarded, ServeTo}
 use Rattle.segment_plan.specs.declared.plan.Scenario.{Scenario}
 use Rattle.segment_ring.specs.declared.wire.Fate.TheVariants as Fates
-use Rattle.served_runs.specs.Served.{Keyed, Serves, ServedTurn, IsServedFrame, IsServedLed, MayAsk, all_serve, asked_at}
+use Rattle.served_runs.specs.Served.{Keyed, Serves, ServedTurn, IsServedFrame, IsServedLed, MayAsk, all_serve, asked_at, served_behind}
 
 -- BEFORE THE FIRST FRAME nothing happened
 pub served_first : (plan : Scenario) (m : MasterNode) → m.lan.ports.items ≡ ports_behind 0 plan.slaves → HasUnfinished m (map stand_before (first_leads plan)) (map (λ spec. None) plan.slaves) → HasHappened (ports_of plan.slaves) plan.host [] m.lan →
@@ -83,6 +87,10 @@ pub record FrameTells (m0 m1 m2 : MasterNode) (f : Exchanged) : Type 0 where
       HasUnfinished m1 (map stand_under (map run_turn vs)) (unfinished_of js) → HasUnfinished m2 (map stand_before (map run_lead (serves_behind lens recover retry missed made f vs))) (unfinished_after (λ u. mails_by lens f f.fate u) (map run_turn vs) (unfinished_of js))
   pub arrivals : f.fate ≡ Fates.Pass → (lens : ℕ → Lens) (recover : ℕ) (us : List Turn) (js : List Joined) → IsUnderWay lens recover m1 f.sent us → Returns (seen lens f.sent) (seen lens f.back) → HasUnfinished m1 (map stand_under us) (unfinished_of js) →
       ComeIn m1 (λ k. completed_at (seen lens f.back) us (unfinished_of js) k) m2
+  pub remembers : f.fate ≡ Fates.Pass → (lens : ℕ → Lens) (recover retry missed made : ℕ) (vs : List ServedTurn) → ServedUnder lens recover retry m1 f.sent missed made vs → Returns (seen lens f.sent) (seen lens f.back) → AllServedAsk (seen lens f.sent) (recalls m1) (map run_turn vs) →
+      AllServedRecall lens (seen lens f.back) (λ v. served_behind lens recover retry (gives_up_at lens recover retry missed) made f v) vs (recalls m1) (recalls m2)
+  pub stays : (after : ℕ) → f.fate ≡ Fates.Lost after → (lens : ℕ → Lens) (recover retry missed made : ℕ) (vs : List ServedTurn) → ServedUnder lens recover retry m1 f.sent missed made vs →
+      AllServedRecall lens [] (λ v. served_behind lens recover retry (gives_up_at lens recover retry missed) made f v) vs (recalls m1) (recalls m2)
   pub leaves : (after : ℕ) → f.fate ≡ Fates.Lost after → (lens : ℕ → Lens) (recover retry missed made : ℕ) (vs : List ServedTurn) → ServedUnder lens recover retry m1 f.sent missed made vs →
       GoDown m1 (map run_turn vs) (map run_lead (serves_behind lens recover retry missed made f vs)) m2
 
@@ -151,3 +159,14 @@ module _ (plan : Scenario) (fs : List Exchanged) (missed : ℕ) (ws : List Serve
         (frame_begins plan f us behind js m1 m2 lists (λ old. AreServedBegun ports many lives old) (events_of rows) w.begun begins_so stands);
     happened = subst (λ z. HasHappened many plan.host z m2.lan) (append_assoc rows m1.lan.happened m2.lan.happened) (x.tells many plan.host (rows ++ m1.lan.happened) made);
   }
+
+  -- WHAT HAPPENED AT THE SWITCH while the frame was made, and behind it
+  pub happened_so : (at : AtSwitch plan f us (events_of rows) (events_of more)) × (at.making ≡ events_of m1.lan.happened)
+  happened_so =
+      at_switch plan m0 m1 m2 f us (unfinished_of js) (events_of rows) (events_of more) w.ports x.making w.happened.switch stands visit.packets (λ pass. x.arrivals pass lens plan.recover us js (served_way lens plan.recover plan.retry missed f.sent m1 (length fs) vs under) (back pass) half) events
+
+  pub lan_before : IsLanOf plan m0.lan (events_of rows)
+  lan_before = before_is plan m0 m1 m2 f us (unfinished_of js) (events_of rows) (events_of more) w.ports x.making w.happened.switch stands
+
+  pub lan_made : IsLanOf plan m1.lan (events_of rows ++ events_of m1.lan.happened)
+  lan_made = made_is plan m0 m1 m2 f us (unfinished_of js) (events_of rows) (events_of more) w.ports x.making w.happened.switch stands

@@ -30,12 +30,14 @@ use Rattle.master_node.specs.Toured.{tour_of}
 use Rattle.packets_heard.specs.Listed.{unfinished_of}
 use Rattle.packets_heard.specs.Served.{IsTourServed}
 use Rattle.master_node.specs.of_segment_model.Returned.{Returns}
+use Rattle.packets_heard.specs.ServedRecalled.{ServedRecalledIn}
 use Rattle.packets_heard.specs.Servings.{AreServedBegun, ServedListed, served_joined}
 use Rattle.run_book.specs.declared.book.SentFrame.{SentFrame}
 use Rattle.run_notes.specs.declared.standing.AskedMail.{AskedMail}
 use Rattle.run_notes.specs.Slaves.{gaves_noted, home_of}
 use Rattle.run_record.specs.Led.{exchanged}
-use Rattle.run_record.specs.Session.{SessionState, has_live}
+use Rattle.run_record.specs.Recalling.{state_of}
+use Rattle.run_record.specs.Session.{IsDone, SessionState, has_live}
 use Rattle.segment_plan.specs.Sound.{IsPlan}
 use Rattle.segment_plan.specs.declared.plan.Scenario.{Scenario}
 use Rattle.segment_ring.specs.declared.wire.Fate.{Fate}
@@ -72,7 +74,8 @@ abbrev pub as_asked : Keyed → AskedMail
 as_asked k = record { key = k.key; kind = k.mail.kind; body = k.mail.body.items }
 
 -- HOW A SERVING STANDS behind these frames: its master leads; so often each slave was given up as is noted; the mails that were asked of each are just those
--- that the session has, in order, and so many of them still wait; and what happened at its switch is by their lives
+-- that the session has, in order, and so many of them still wait; and what happened at its switch is by their lives. None of
+-- its master's visits was in vain, by what it remembers
 pub record Serving (plan : Scenario) (s : SessionState) (fs : List Exchanged) : Type 0 where
   pub leading : ServedLeading plan s.master fs
   pub gave : gaves_noted s.notes ≡ map gave_of (map run_lead leading.serves)
@@ -80,6 +83,7 @@ pub record Serving (plan : Scenario) (s : SessionState) (fs : List Exchanged) : 
   pub waiting : map (λ w. length w.waits) leading.serves ≡ s.waiting
   pub rows : List Happening
   pub forwarded : IsServedForwarded plan s.master leading.lives rows
+  pub remembers : ServedRecalledIn plan leading.toured (state_of s.master (events_of rows) s.ring)
 
 -- before its first frame
 abbrev pub ServingBegins : Scenario → SessionState → Type 0
@@ -119,9 +123,9 @@ pub record ServesOn (plan : Scenario) (s s' : SessionState) (fs : List Exchanged
   pub serves : new.leading.serves ≡ map (served_behind (lens_of plan.slaves) plan.recover plan.retry (gives_up_at (lens_of plan.slaves) plan.recover plan.retry old.leading.missed) (length fs) f) turns
   pub tells : TellsFrame (lens_of plan.slaves) (λ k. forwards_at s.master.posts.items k) old.leading.serves f turns new.leading.serves s'.master
 
--- so a step goes, where some slave is live: a serving that is led goes on
+-- so a step goes, where some slave is live and not all is done: a serving that is led goes on
 abbrev pub ServingGoesOn : SessionState → SessionState → SentFrame → Type 0
-ServingGoesOn s s' f = (plan : Scenario) (fs : List Exchanged) → s.recover ≡ plan.recover → length fs ≡ s.ring.number → has_live s.master ≡ true → (old : Serving plan s fs) → ServesOn plan s s' fs (exchanged f) old
+ServingGoesOn s s' f = (plan : Scenario) (fs : List Exchanged) → s.recover ≡ plan.recover → length fs ≡ s.ring.number → has_live s.master ≡ true → (IsDone s → ⊥) → (old : Serving plan s fs) → ServesOn plan s s' fs (exchanged f) old
 
 -- SOME SLAVE IS LIVE, where a serving is led
 abbrev pub ServingLives : SessionState → Type 0

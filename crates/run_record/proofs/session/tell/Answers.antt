@@ -100,7 +100,7 @@ pub returns-in-Lost-clause-counts : goal.returns-in-Lost-clause-counts
 returns-in-Lost-clause-counts c = c.lost.ensures.counts
 
 pub returns-in-Pass-clause-recalls : goal.returns-in-Pass-clause-recalls
-returns-in-Pass-clause-recalls c = λ pass lens recover octets us under back visits. c.returned.ensures.recalls lens recover octets us under back visits
+returns-in-Pass-clause-recalls c = λ pass lens recover retry missed octets us under back visits. c.returned.ensures.recalls lens recover retry missed octets us under back visits
 
 pub returns-in-Lost-clause-recalls : goal.returns-in-Lost-clause-recalls
 returns-in-Lost-clause-recalls c = λ pass. absurd (let bad : Fates.Lost c.in-Lost.after ≡ Fates.Pass = sym c.in-Lost.is ∙ pass in cc)
@@ -109,7 +109,7 @@ pub returns-in-Pass-clause-kept : goal.returns-in-Pass-clause-kept
 returns-in-Pass-clause-kept c = λ after lost. absurd (let bad : Fates.Pass ≡ Fates.Lost after = sym c.in-Pass.is ∙ lost in cc)
 
 pub returns-in-Lost-clause-kept : goal.returns-in-Lost-clause-kept
-returns-in-Lost-clause-kept c = λ after lost lens recover octets us under. c.lost.ensures.recalls lens recover octets us under
+returns-in-Lost-clause-kept c = λ after lost lens recover retry missed octets us under. c.lost.ensures.recalls lens recover retry missed octets us under
 
 pub returns-in-Pass-clause-served : goal.returns-in-Pass-clause-served
 returns-in-Pass-clause-served c = λ lens recover retry missed made vs f fate back under returns.
@@ -138,3 +138,15 @@ returns-in-Pass-clause-whole c = c.returned.ensures.whole
 
 pub returns-in-Lost-clause-whole : goal.returns-in-Lost-clause-whole
 returns-in-Lost-clause-whole c = c.lost.ensures.whole
+
+pub returns-in-Pass-clause-remembers : goal.returns-in-Pass-clause-remembers
+returns-in-Pass-clause-remembers c = λ pass lens recover retry missed made vs f fate back under returns asks. c.returned.ensures.remembers lens recover retry missed made f.sent vs f (fate ∙ c.in-Pass.is) back under returns asks
+
+pub returns-in-Lost-clause-remembers : goal.returns-in-Lost-clause-remembers
+returns-in-Lost-clause-remembers c = λ pass. absurd (let bad : Fates.Lost c.in-Lost.after ≡ Fates.Pass = sym c.in-Lost.is ∙ pass in cc)
+
+pub returns-in-Pass-clause-stays : goal.returns-in-Pass-clause-stays
+returns-in-Pass-clause-stays c = λ after lost. absurd (let bad : Fates.Pass ≡ Fates.Lost after = sym c.in-Pass.is ∙ lost in cc)
+
+pub returns-in-Lost-clause-stays : goal.returns-in-Lost-clause-stays
+returns-in-Lost-clause-stays c = λ after lost lens recover retry missed made vs f under. c.lost.ensures.remembers lens recover retry missed made f.sent vs f under

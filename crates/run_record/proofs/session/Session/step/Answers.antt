@@ -127,9 +127,9 @@ returns-clause-ok c =
             (switch_stands ports host c.self.inside.number c.self.inside.master.lan c.next.new.self.lan c.args.book.now c.next.ensures.happened now))
             mine.packets c.tell.ensures.counts (let a = c.self.invariant.1 in let b = c.self.invariant.2 in omega (arith, a, b)) c.note_before.ensures.slaves.notes c.in_ok-note_before.ensures.begun both.1.1.1.1
             c.self.inside.ring c.exchange-fate.new.self view.remembers c.exchange-fate.ensures.wire c.next.ensures.visits c.next.ensures.takes c.next.ensures.recalled
-            (λ pass us frame under visits. c.tell.ensures.recalls pass (lens_of plan.slaves) plan.recover c.next.new.into.items us (run_way (lens_of plan.slaves) plan.recover plan.retry l.missed c.next.new.into.items c.next.new.self us under)
+            (λ pass us frame under visits. c.tell.ensures.recalls pass (lens_of plan.slaves) plan.recover plan.retry l.missed c.next.new.into.items us under
             (returned (lens_of plan.slaves) c.self.inside.ring (exchanged f) (length fs) l.leads us c.exchange-fate.ensures.fate c.exchange-fate.ensures.back frame pass) visits)
-            (λ after lost us under. c.tell.ensures.kept after lost (lens_of plan.slaves) plan.recover c.next.new.into.items us (run_way (lens_of plan.slaves) plan.recover plan.retry l.missed c.next.new.into.items c.next.new.self us under))
+            (λ after lost us under. c.tell.ensures.kept after lost (lens_of plan.slaves) plan.recover plan.retry l.missed c.next.new.into.items us under)
             (rests_enter plan c.self.inside.master c.self.inside.ring c.self.inside.log.notes c.self.inside.log.recover fs l c.args.book.now.switch c.args.book.now.switched mine.forwarded stood (subst StillWants (sym c.self.view_is) wants)
             (subst (λ (n : ℕ). AllCounted n l.leads) (sym (ap (λ (s : SessionState). s.recover) c.self.view_is ∙ recover)) (counted (lens_of plan.slaves) plan plan.retry fs l.missed l.leads l.lives)) c.next.new.self.lan.happened
             (λ rests may. c.next.ensures.enters (next_frame c.self.inside.master c.next.result c.next.ensures.idle live) (lens_of plan.slaves) plan.recover plan.retry l.missed l.leads l.shows rests may));
@@ -143,13 +143,15 @@ returns-clause-ok c =
             tells = c.tell.ensures.happened;
             joined = λ lens recover retry missed made vs js under back h. c.tell.ensures.joins lens recover retry missed made vs js (exchanged f) refl refl under back h;
             arrivals = λ pass lens recover us js way back h. c.tell.ensures.arrivals pass lens recover c.next.new.into.items us js way back h;
+            remembers = λ pass lens recover retry missed made vs under back asks. c.tell.ensures.remembers pass lens recover retry missed made vs (exchanged f) refl refl under back asks;
+            stays = λ after lost lens recover retry missed made vs under. c.tell.ensures.stays after lost lens recover retry missed made vs (exchanged f) under;
             leaves = λ after lost lens recover retry missed made vs under. c.tell.ensures.leaves after lost lens recover retry missed made vs (exchanged f) refl under;
           })
           (c.tell.ensures.whole ∙ ap (λ (es : List Event). es ++ events_in c.tell.new.master) c.next.ensures.whole.1) (c.tell.ensures.told c.next.ensures.few)
           (record { fate = c.exchange-fate.ensures.fate; back = c.exchange-fate.ensures.back }) (let n = c.self.invariant.0 in let b = c.self.invariant.1 in let most = c.self.invariant.2 in omega (arith, n, b, most))
           (c.note_behind.ensures.slaves.asked ∙ c.note_before.ensures.slaves.asked) refl
           c.note_before.new.self c.note_behind.new.self c.note_before.ensures.slaves.recover c.in_ok-note_before.ensures.gave refl
-          (subst (λ (n : ℕ). GaveBy f.fate n c.tell.new.master c.note_before.new.self c.note_behind.new.self) c.self.invariant.0 both.0),
+          (subst (λ (n : ℕ). GaveBy f.fate n c.tell.new.master c.note_before.new.self c.note_behind.new.self) c.self.invariant.0 both.0) c.exchange-fate.ensures.wire,
     ))
     (on_ok_both _ _ c.note_behind.result c.note_behind.ensures.gave (on_ok_both _ _ c.note_behind.result c.note_behind.ensures.told (on_ok_both _ _ c.note_behind.result c.note_behind.ensures.heard (on_ok_both _ _ c.note_behind.result c.note_behind.ensures.switch c.note_behind.ensures.rows))))
 
