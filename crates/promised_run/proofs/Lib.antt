@@ -1,11 +1,11 @@
 mod Unopened
 mod Reported
-mod Rounds
+pub mod Rounds
 mod Unsent
 mod Epochs
 mod Emergencies
 mod Visits
-mod Few
+pub mod Few
 mod Ports
 mod Rows
 mod Numbers

@@ -1,3 +1,3 @@
 mod Asked
-mod Kinds
+mod AskedKinds
 mod Uncut

@@ -1,5 +1,5 @@
 use Rattle.served_books.proofs.Asked.{course_asked, fair_asked, few_asked}
-use Rattle.served_books.proofs.Kinds.{course_passed, quiet_asked}
+use Rattle.served_books.proofs.AskedKinds.{course_passed, quiet_asked}
 use Rattle.served_books.proofs.asked_law.Goals as goal
 
 pub returns-clause-few : goal.returns-clause-few

@@ -13,6 +13,7 @@ use Rattle.run_book.specs.declared.book.GramIn.{GramIn}
 use Rattle.run_book.specs.declared.book.SentFrame.{SentFrame}
 use Rattle.run_notes.specs.declared.standing.AskedMail.{AskedMail}
 use Rattle.run_record.specs.Served.{as_asked}
+use Rattle.run_record.specs.of_run_notes.Notes.{stations_of}
 use Rattle.run_record.specs.Session.{SessionState, asked_mail, asked_more}
 use Rattle.run_work.specs.Fair.{AsksFair}
 use Rattle.segment_plan.specs.declared.plan.Scenario.{Scenario}
@@ -53,7 +54,7 @@ judged_passed s s' number g rs rs' more (is_ignored j) h = same_rows s s' (ap (�
 judged_passed s s' number g rs rs' more (is_refused j) h = same_rows s s' (ap (λ (z : SessionState). z.asked) j.session) h
 judged_passed s s' number g rs rs' more (too_many j) h = same_rows s s' (ap (λ (z : SessionState). z.asked) j.asks) h
 judged_passed s s' number g rs rs' more (queues j) h =
-    subst (All ArePassedOn) (sym (ap (λ (z : SessionState). z.asked) j.asks)) (passed_more s.asked j.slave (asked_mail j.key j.mail) (judged_kind j.unfinished j.mail _ j.slave j.place) h)
+    subst (All ArePassedOn) (sym (ap (λ (z : SessionState). z.asked) j.asks)) (passed_more s.asked j.slave (asked_mail j.key j.mail) (judged_kind j.unfinished j.mail (stations_of s.recover s.homes s.notes) j.slave j.place) h)
 
 pub course_passed : (plan : Scenario) (count : ℕ) (s : SessionState) (fs : List SentFrame) (gs : List GramIn) (rs : List Request) (os : List Owing) → Course plan count s fs gs rs os → All ArePassedOn s.asked
 course_passed plan count _ _ _ _ _ (begins s first serves) =
