@@ -16,7 +16,7 @@ use plan_ring::plan_rooms::room_law;
 use run_book::{Book, Ending};
 use segment_plan::Scenario;
 use served_books::uncut_servings::uncut_law;
-use served_replies::served_replies_law;
+use served_rings::served_replies::served_replies_law;
 use served_runs::{asked_law, told_law};
 use std::alloc::Global;
 

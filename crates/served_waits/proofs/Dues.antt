@@ -6,10 +6,10 @@ use Rattle.datagrams.specs.Datagram as Raw
 use Rattle.exchange_model.specs.Exchange.{Speech}
 use Rattle.frame_view.specs.Seen.{datagrams_seen, seen}
 use Rattle.frame_view.specs.View.{Lens}
-use Rattle.led_eras.specs.Led.{LedEra}
-use Rattle.led_eras.proofs.Singles.{seen_single}
-use Rattle.led_lives.specs.Lives.{LedKept}
-use Rattle.led_rings.specs.Rings.{AllLedMembers, LedMember}
+use Rattle.served_rings.specs.Led.{LedEra}
+use Rattle.served_rings.proofs.Singles.{seen_single}
+use Rattle.served_rings.specs.Lives.{LedKept}
+use Rattle.served_rings.specs.LedRings.{AllLedMembers, LedMember}
 use Rattle.life_model.specs.Lives.{AsksOpen, Era, Life, Spot, Stand, era_next, life_next}
 use Rattle.life_model.specs.Own.{own}
 use Rattle.life_runs.specs.First.{lens_of, spot_of}
@@ -24,7 +24,7 @@ use Rattle.never_waits.specs.Hears.{HearsFirst}
 use Rattle.plan_met.specs.Dues.{AllDue, IsDueOf}
 use Rattle.plan_met.specs.Met.{AllMet, IsMet, slave_at}
 use Rattle.plan_ring.specs.Plan.{AllMacs, FitsPlan, step}
-use Rattle.plan_speakers.specs.Speakers.{any_speaker, processor_of, seer_of, spoken, table_of}
+use Rattle.served_rings.specs.Speakers.{any_speaker, processor_of, seer_of, spoken, table_of}
 use Rattle.seen_dues.specs.Brings.{SeenBringsDue}
 use Rattle.seen_dues.proofs.Seen.{seen_due}
 use Rattle.segment_model.specs.Record.{Frame}
@@ -32,7 +32,7 @@ use Rattle.segment_model.specs.Slaves.{Datagram, frame_after, grams}
 use Rattle.segment_plan.specs.Sound.{IsSlave}
 use Rattle.segment_plan.specs.declared.plan.Scenario.{Scenario}
 use Rattle.segment_plan.specs.declared.slave.SlaveSpec.{SlaveSpec}
-use Rattle.served_eras.specs.Serves.{serves}
+use Rattle.served_rings.specs.Serves.{serves}
 use Rattle.served_rings.specs.Rings.{AllServedAt, IsServedAt, counters_of, served_member, served_members}
 use Rattle.served_runs.specs.Served.{AllServedTurn, IsServedTurn, Serves, ServedTurn}
 use Rattle.served_waits.specs.Eager.{leads_of}

@@ -32,7 +32,7 @@ pub fn served_waits_law()
     frame_view::seen_is();
     run_work::served_work::served_returned();
     served_rings::served_ring_law();
-    plan_speakers::any_law();
+    served_rings::plan_speakers::any_law();
     tagged_waits::parts_never();
 }
 
@@ -53,7 +53,7 @@ pub fn served_due_law()
 {
     frame_view::seen_is();
     served_rings::served_ring_law();
-    plan_speakers::any_law();
+    served_rings::plan_speakers::any_law();
     tagged_waits::parts_never();
     tagged_waits::parts_hear();
 }
