@@ -37,7 +37,7 @@ use Rattle.segment_plan.specs.declared.plan.Scenario.{Scenario}
 use Rattle.segment_plan.specs.declared.service.Service as Plan
 use Rattle.served_runs.specs.Served.{Keyed, Serves, ServedTurn, ServedComes, IsServedTurn, AllServedTurn, gives_it, served_behind}
 use Rattle.served_runs.specs.Told.{Passed}
-use Rattle.served_waits.specs.Eager.{AllStill, leads_of, turns_of}
+use Rattle.seen_slaves.specs.Eager.{AllStill, leads_of, turns_of}
 use Rattle.state_exchange.specs.Stated.{Service}
 
 module _ (plan : Scenario) where

@@ -22,7 +22,7 @@ use Rattle.segment_ring.specs.declared.wire.Fate.{Fate}
 use Rattle.segment_ring.specs.declared.wire.Fate.TheVariants.{Pass, Lost}
 use Rattle.served_runs.specs.Served.{Keyed, MayAsk, Serves, ServedTurn, ServedComes, IsServedTurn, AllServedTurn, asked_at, gives_it, served_behind, served_life}
 use Rattle.served_runs.specs.Told.{Passed}
-use Rattle.served_waits.specs.Eager.{AllStill}
+use Rattle.seen_slaves.specs.Eager.{AllStill}
 use Rattle.state_exchange.specs.Stated.{Service}
 use Rattle.task_model.specs.Accounts.{Account, Duty, Pick, Stage, account_next}
 

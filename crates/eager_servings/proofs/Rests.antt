@@ -20,7 +20,7 @@ use Rattle.plan_ring.specs.Plan.{FitsPlan, new_members, step}
 use Rattle.segment_plan.specs.declared.plan.Scenario.{Scenario}
 use Rattle.segment_plan.specs.declared.slave.SlaveSpec.{SlaveSpec}
 use Rattle.served_runs.specs.Served.{Keyed, Serves}
-use Rattle.served_waits.specs.Eager.{leads_of}
+use Rattle.seen_slaves.specs.Eager.{leads_of}
 use Rattle.slave_lives.specs.Lived.{IsBehind}
 use Rattle.slave_server.specs.Serving.{Serving, next_mail}
 use Rattle.slave_server.specs.Spec.{profile_of}

@@ -10,7 +10,7 @@ use Rattle.segment_plan.specs.declared.service.Service as Plan
 use Rattle.segment_plan.specs.declared.slave.SlaveSpec.{SlaveSpec}
 use Rattle.served_rings.specs.Rings.{AllServedAt, IsServedAt}
 use Rattle.served_runs.specs.Served.{Serves}
-use Rattle.served_waits.specs.Eager.{leads_of}
+use Rattle.seen_slaves.specs.Eager.{leads_of}
 use Rattle.slave_server.specs.Serving.{Serving}
 use Rattle.slave_steps.specs.Node.{Node}
 

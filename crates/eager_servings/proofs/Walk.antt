@@ -46,7 +46,7 @@ use Rattle.served_places.specs.Answered.{ServedAsks}
 use Rattle.served_places.specs.Toured.{IsServedToured, back_under, first_served, serves_on, still_served, waits_served}
 use Rattle.served_rings.specs.Rings.{AreServedLived}
 use Rattle.served_runs.specs.Served.{Keyed, MayAsk, Serves, ServedTurn, IsServedFrame, IsServedLed, all_serve, asked_at, served_behind}
-use Rattle.served_waits.specs.Eager.{AllStaySo, AllStill, IsServedEager, ServedEagerIn, leads_of, turns_of}
+use Rattle.seen_slaves.specs.Eager.{AllStaySo, AllStill, IsServedEager, ServedEagerIn, leads_of, turns_of}
 use Rattle.slave_server.specs.Serving.{Serving}
 use Rattle.slave_steps.specs.Node.{Node}
 use Rattle.toured_servings.proofs.Tours.{FramesIn, Stays}

@@ -18,8 +18,8 @@ use Rattle.segment_plan.specs.declared.plan.Scenario.{Scenario}
 use Rattle.served_places.specs.Answered.{ServedAsks}
 use Rattle.served_places.specs.Toured.{IsServedToured}
 use Rattle.served_runs.specs.Served.{Keyed, Serves, all_serve}
-pub use Rattle.served_waits.specs.Dues.{ServedMailsAreDue}
-use Rattle.served_waits.specs.Eager.{ServedEagerIn}
+pub use Rattle.seen_slaves.specs.Dues.{ServedMailsAreDue}
+use Rattle.seen_slaves.specs.Eager.{ServedEagerIn}
 
 -- some mail waits to be passed on
 abbrev pub has_mail : List Keyed → Bool

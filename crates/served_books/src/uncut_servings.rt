@@ -29,5 +29,5 @@ pub fn uncut_law()
     crate::asked_law();
     bounded_servings::bounded_serving_law();
     eager_servings::eager_serving_law();
-    served_waits::served_due_law();
+    seen_slaves::served_waits::served_due_law();
 }

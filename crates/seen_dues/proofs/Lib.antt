@@ -1,4 +1,0 @@
-mod Accepted
-mod Known
-mod Ties
-pub mod Seen

@@ -1,4 +1,0 @@
-pub mod Hears
-pub mod Never
-pub mod Served
-pub mod WholeHears

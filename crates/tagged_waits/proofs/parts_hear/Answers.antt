@@ -1,6 +1,0 @@
-use Rattle.slave_parts.specs.Parts.{parts}
-use Rattle.tagged_waits.proofs.WholeHears.{whole_hears}
-use Rattle.tagged_waits.proofs.parts_hear.Goals as goal
-
-pub returns : goal.returns
-returns c = λ p is. whole_hears parts c.parts_are_lawful.ensures c.files_are_served.ensures p is
