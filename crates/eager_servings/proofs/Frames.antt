@@ -31,7 +31,7 @@ use Rattle.master_node.specs.Starts as Starts
 use Rattle.master_node.specs.declared.lan.Lan.{Lan}
 use Rattle.master_side.specs.Recall.{Recall}
 use Rattle.packets_heard.specs.Recalled.{IsLanOf}
-use Rattle.plan_met.specs.Dues.{AllDue}
+use Rattle.plan_ring.specs.Dues.{AllDue}
 use Rattle.segment_model.specs.Slaves.{Datagram}
 use Rattle.segment_plan.specs.declared.plan.Scenario.{Scenario}
 use Rattle.segment_plan.specs.declared.service.Service as Plan

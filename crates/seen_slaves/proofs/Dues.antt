@@ -21,8 +21,8 @@ use Rattle.master_hand.specs.Spoken.{Asked, acknowledged, hand_speech, is_follow
 use Rattle.master_side.specs.Due.{EachDue}
 use Rattle.master_tour.specs.Brings.{accepted_at}
 use Rattle.never_waits.specs.Hears.{HearsFirst}
-use Rattle.plan_met.specs.Dues.{AllDue, IsDueOf}
-use Rattle.plan_met.specs.Met.{AllMet, IsMet, slave_at}
+use Rattle.plan_ring.specs.Dues.{AllDue, IsDueOf}
+use Rattle.plan_ring.specs.PlanMet.{AllMet, IsMet, slave_at}
 use Rattle.plan_ring.specs.Plan.{AllMacs, FitsPlan, step}
 use Rattle.served_rings.specs.Speakers.{any_speaker, processor_of, seer_of, spoken, table_of}
 use Rattle.seen_slaves.specs.Brings.{SeenBringsDue}

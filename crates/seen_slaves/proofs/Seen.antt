@@ -15,7 +15,7 @@ use Rattle.passed_whole.specs.Client.{ByContents}
 use Rattle.passed_whole.specs.Erased.{OfRow}
 use Rattle.passed_whole.specs.Led.{AreSingle, EraTurn, IsLed, MayTurn}
 use Rattle.passed_whole.specs.Silent.{is_passed}
-use Rattle.plan_met.proofs.Eras.{era_due}
+use Rattle.plan_ring.proofs.Eras.{era_due}
 use Rattle.segment_model.specs.Record.{Frame}
 use Rattle.segment_model.specs.Slaves.{Datagram, Processor, Registers, Slave, frame_after, grams, slave_after}
 use Rattle.seen_slaves.specs.Brings.{AllAreFair, SeenBringsDue}

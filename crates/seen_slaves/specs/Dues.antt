@@ -3,7 +3,7 @@ use Rattle.std.specs.Prelude.{◌≡◌, ℕ, List, [], ◌∷◌, ◌++◌, len
 use Rattle.frame_view.specs.Seen.{seen}
 use Rattle.life_runs.specs.First.{first_leads, lens_of}
 use Rattle.life_runs.specs.Led.{Exchanged}
-use Rattle.plan_met.specs.Dues.{AllDue}
+use Rattle.plan_ring.specs.Dues.{AllDue}
 use Rattle.plan_ring.specs.Round.{AllRound, ring_of}
 use Rattle.segment_plan.specs.declared.plan.Scenario.{Scenario}
 use Rattle.segment_ring.specs.declared.wire.Fate.TheVariants.{Pass}

@@ -4,7 +4,7 @@ use Rattle.datagrams.specs.Frame.{chained}
 use Rattle.frame_view.specs.Seen.{seen}
 use Rattle.frame_view.proofs.Octets.{seen_chained}
 use Rattle.life_runs.specs.First.{lens_of}
-use Rattle.plan_met.specs.Met.{AllMet}
+use Rattle.plan_ring.specs.PlanMet.{AllMet}
 use Rattle.plan_ring.specs.Round.{all_seen, frame_seen, ring_after, ring_of}
 use Rattle.plan_ring.proofs.Known.{macs_in}
 use Rattle.plan_ring.proofs.Lives.{front_round, last_round}
