@@ -12,9 +12,9 @@ use Rattle.seen_slaves.proofs.Left.{left_as}
 use Rattle.serving_model.specs.Passing.{ends_told}
 use Rattle.serving_model.specs.Tagged.{Asked, Tagged, ends_marked, is_own, untag}
 use Rattle.state_exchange.specs.Stated.{Stated}
-use Rattle.tagged_epochs.specs.Spoken.{Naming, Speaks}
-use Rattle.tagged_epochs.proofs.Begins.{NowKnown, RowKnown}
-use Rattle.tagged_epochs.proofs.Clients.{IsKnown, plans}
+use Rattle.life_counts.specs.Spoken.{Naming, Speaks}
+use Rattle.life_counts.proofs.Begins.{NowKnown, RowKnown}
+use Rattle.life_counts.proofs.Clients.{IsKnown, plans}
 
 module _ {V M Q R T : Type 0} (x : Exchange V V M Q R) (calm : V → Bool) (fair : M → Bool) (s : Stated V V Q) (n : Naming M Q T R) (speaks : Speaks n x.speech s.acknowledged) where
   abbrev Meant : Type 0

@@ -27,18 +27,18 @@ use Rattle.serving_model.specs.Passing.{ends_told}
 use Rattle.serving_model.specs.Tagged.{Asked, Rowed, Tagged, is_own, real, untag}
 use Rattle.serving_model.proofs.Erasing.{frame_after-as}
 use Rattle.state_model.specs.States.{Table}
-use Rattle.tagged_epochs.specs.Epochs.{IsRun, IsSpeaker, Speaker, between, era_named, seeing, seeing_states}
-use Rattle.tagged_epochs.specs.Foreseen.{AllRight}
-use Rattle.tagged_epochs.proofs.Answered.{AllAnswered, HasAnswer, StateLast, next_rests}
-use Rattle.tagged_epochs.proofs.Begins.{Next}
-use Rattle.tagged_epochs.proofs.Eras.{Knows, era_knows}
-use Rattle.tagged_epochs.proofs.Frames.{frame_to, own_to, to_own}
-use Rattle.tagged_epochs.proofs.Led as Led
-use Rattle.tagged_epochs.proofs.Marks.{HasReplies, IsPassedNow, PassedNow}
-use Rattle.tagged_epochs.proofs.Opened.{after_started}
-use Rattle.tagged_epochs.proofs.Turns as Turns
-use Rattle.tagged_epochs.proofs.Ways.{met}
-use Rattle.tagged_epochs.proofs.Whole.{seeing_lawful, seeing_stated}
+use Rattle.life_counts.specs.Epochs.{IsRun, IsSpeaker, Speaker, between, era_named, seeing, seeing_states}
+use Rattle.life_counts.specs.Foreseen.{AllRight}
+use Rattle.life_counts.proofs.Answered.{AllAnswered, HasAnswer, StateLast, next_rests}
+use Rattle.life_counts.proofs.Begins.{Next}
+use Rattle.life_counts.proofs.Eras.{Knows, era_knows}
+use Rattle.life_counts.proofs.Frames.{frame_to, own_to, to_own}
+use Rattle.life_counts.proofs.Led as Led
+use Rattle.life_counts.proofs.Marks.{HasReplies, IsPassedNow, PassedNow}
+use Rattle.life_counts.proofs.Opened.{after_started}
+use Rattle.life_counts.proofs.Turns as Turns
+use Rattle.life_counts.proofs.Ways.{met}
+use Rattle.life_counts.proofs.TaggedWhole.{seeing_lawful, seeing_stated}
 use Rattle.seen_slaves.proofs.Hears.{hears_calm}
 use Rattle.task_model.specs.Accounts.{Pick, Started}
 use Rattle.task_model.specs.Promise.{services_in}

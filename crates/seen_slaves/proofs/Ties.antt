@@ -18,10 +18,10 @@ use Rattle.seen_slaves.specs.Brings.{AllAreFair}
 use Rattle.serving_model.specs.Tagged.{Asked, Rowed, Tagged}
 use Rattle.state_exchange.specs.Stated.{IsStated}
 use Rattle.state_model.specs.States.{Table}
-use Rattle.tagged_epochs.specs.Epochs.{IsRun, IsSpeaker, Speaker, between, seeing, seeing_states}
-use Rattle.tagged_epochs.proofs.Led as Led
-use Rattle.tagged_epochs.proofs.Opened.{blank_frames, blanks_seen, replicated}
-use Rattle.tagged_epochs.proofs.Whole.{seeing_lawful, seeing_stated}
+use Rattle.life_counts.specs.Epochs.{IsRun, IsSpeaker, Speaker, between, seeing, seeing_states}
+use Rattle.life_counts.proofs.Led as Led
+use Rattle.life_counts.proofs.Opened.{blank_frames, blanks_seen, replicated}
+use Rattle.life_counts.proofs.TaggedWhole.{seeing_lawful, seeing_stated}
 use Rattle.task_model.specs.Tasks.{IsTaskPlan}
 
 module _ {V M Q R C T A : Type 0} (w : Speaker V M Q R C T) (k : IsSpeaker w) (fair : AllAreFair w) (u : Exchange V A M T (Option R)) (processor : Processor V) (seer : Processor (Rowed V M Q)) (tables : ℕ → Table) (spot : Spot)
