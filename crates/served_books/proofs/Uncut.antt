@@ -25,7 +25,7 @@ use Rattle.run_record.specs.Session.{budget_of}
 use Rattle.run_work.specs.ServedGained.{asked_in}
 use Rattle.segment_plan.specs.Bound.{bound_of}
 use Rattle.segment_plan.specs.declared.plan.Scenario.{Scenario}
-use Rattle.served_packets.specs.Quiet.{AsksQuiet}
+use Rattle.sent_packets.specs.Quiet.{AsksQuiet}
 use Rattle.served_runs.specs.Served.{Serves}
 
 -- what the laws say

@@ -15,7 +15,7 @@ ghost use Rattle.run_work.specs.ServedGained.{leads_of};
 ghost use Rattle.run_work.specs.Switched.{AreSwitched};
 ghost use Rattle.segment_plan.specs.Sound.{IsPlan};
 ghost use Rattle.segment_plan.specs.declared.plan.Scenario.{Scenario};
-ghost use Rattle.served_packets.specs.Quiet.{AsksQuiet};
+ghost use Rattle.sent_packets.specs.Quiet.{AsksQuiet};
 ghost use Rattle.served_runs.specs.Served.{IsServedLed, Serves, all_serve};
 
 /// THE PACKETS OF A SERVING ARE THOSE OF ONE SWITCH, where its events are just those that the frames list, at the ports of the plan, as over a run: whatever mails
@@ -25,7 +25,7 @@ pub fn switched_serving_law()
         (es : List SwitchEvent) (rest : List (ArrayVec ℕ)) → All (IsAtPort (ports_of plan.slaves)) es → arrivals_at 0 es ++ rest ≡ plan.host →
         ServedListed (ports_behind 0 plan.slaves) led es → AreServedBegun (ports_behind 0 plan.slaves) (ports_of plan.slaves) led es → AreSwitched plan (leads_of ws) }
 {
-    crate::served_sent_law();
+    crate::served_packets::served_sent_law();
     packets_heard::port_events::port_law();
     packets_heard::packets_begun::begun_law();
     run_work::packet_work::packet_law();
