@@ -13,7 +13,7 @@ use Rattle.promised_run.specs.Promised.{LeavesNothing}
 use Rattle.promised_run.specs.Ran.{EndsAs}
 use Rattle.promised_run.specs.Few.{AreFewLost}
 use Rattle.promised_run.specs.Session.{budget_of}
-use Rattle.promised_serving.specs.ServedBounded.{HearsFair}
+use Rattle.promised_run.specs.ServedBounded.{HearsFair}
 use Rattle.ecmbx_words.specs.declared.status.Status.{Status}
 use Rattle.ecmbx_words.specs.declared.status.Status.TheVariants as statuses
 use Rattle.run_report.specs.Report.{report_lines}

@@ -11,7 +11,7 @@ use Rattle.run_book.specs.declared.book.Ending.TheVariants as endings
 use Rattle.promised_run.specs.Few.{AreFewLost}
 use Rattle.promised_run.specs.Promised.{IsPromised, LeavesNothing}
 use Rattle.promised_run.specs.Session.{budget_of}
-use Rattle.promised_serving.specs.ServedBounded.{HearsFair}
+use Rattle.promised_run.specs.ServedBounded.{HearsFair}
 use Rattle.ecmbx_words.specs.declared.form.Form.TheVariants as forms
 use Rattle.ecmbx_words.specs.declared.status.Status.{Status}
 use Rattle.ecmbx_words.specs.declared.status.Status.TheVariants as statuses

@@ -1,13 +1,44 @@
-mod Unopened
-mod Reported
-pub mod Rounds
-mod Unsent
-mod Epochs
+pub mod Ahead
+mod Asked
+mod AskedKinds
+pub mod Asks
+pub mod BoundPorts
+mod Bounded
+pub mod Counts
+mod EagerFrames
+mod EagerMaps
+mod EagerRests
+mod EagerScripts
+mod EagerWalk
 mod Emergencies
-mod Visits
+mod Epochs
 pub mod Few
-mod Ports
-mod Rows
+mod First
+pub mod Frames
+pub mod Maps
+pub mod News
 mod Numbers
 mod Overs
-mod Bounded
+pub mod Places
+mod Ports
+mod Quiet
+mod Ranks
+pub mod Recalled
+mod Reported
+pub mod Rests
+pub mod Rounds
+mod Rows
+pub mod Scripts
+pub mod ServedBounded
+mod ServedUncut
+pub mod Settled
+pub mod Through
+mod TouredAhead
+pub mod TouredTours
+pub mod Tours
+mod Uncut
+mod Unopened
+pub mod Unpassed
+mod Unsent
+mod Visits
+mod Walk

@@ -1,6 +1,0 @@
-mod Frames
-mod Maps
-mod Ranks
-mod Rests
-mod Scripts
-mod Walk
