@@ -104,7 +104,7 @@ none_at (z ∷ ws) (suc place) w n at = none_at ws place w n.1 at
 -- so each datagram that was queued at one is done
 one_done : (ws : List Serves) (dones : List ℕ) (number : ℕ) (queued : Option ℕ) → NoneGave (map run_lead ws) → IsDone ws dones number queued → is_some queued ≡ true → is_in number dones ≡ true
 one_done ws dones number None n d some = absurd (let no : false ≡ true = some in cc)
-one_done ws dones number (Some slave) n d some = elim d.2 [ | inl all ↦ all | inr given ↦ absurd (given (none_at ws slave d.0 n d.1)) ]
+one_done ws dones number (Some slave) n d some = elim d.2 [ inl all ↦ all | inr given ↦ absurd (given (none_at ws slave d.0 n d.1)) ]
 
 all_done : (ws : List Serves) (dones : List ℕ) (number : ℕ) (gs : List GramIn) → NoneGave (map run_lead ws) → AllDone ws dones number gs → AreDone dones number gs
 all_done ws dones number [] n d = tt

@@ -18,6 +18,7 @@ pub mod promised_serving;
 pub mod served_books;
 pub mod toured_servings;
 pub mod uncut_servings;
+
 use crate::bounded_runs::uncut_law;
 use life_runs::epochs_law;
 use plan_ring::plan_rooms::room_law;

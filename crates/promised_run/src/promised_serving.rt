@@ -10,11 +10,11 @@ ghost use Rattle.gateway_run.specs.Served.{IsServed};
 ghost use Rattle.promised_run.specs.ServedBounded.{IsServedBounded};
 ghost use Rattle.promised_run.specs.Through.{IsServedThrough};
 
+use crate::uncut_servings::uncut_law;
 use ec_outside::Port;
 use plan_ring::plan_rooms::room_law;
 use run_book::{Book, Ending};
 use segment_plan::Scenario;
-use crate::uncut_servings::uncut_law;
 use served_rings::served_replies::served_replies_law;
 use served_runs::{asked_law, told_law};
 use std::alloc::Global;
