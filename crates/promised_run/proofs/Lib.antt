@@ -42,3 +42,4 @@ pub mod Unpassed
 mod Unsent
 mod Visits
 mod Walk
+mod Whole

@@ -3,6 +3,7 @@ use Rattle.gateway_run.specs.Serving.{told}
 use Rattle.life_runs.specs.First.{first_leads, lens_of}
 use Rattle.promised_run.proofs.ServedBounded.{bounded}
 use Rattle.promised_run.proofs.Through.{through}
+use Rattle.promised_run.proofs.Whole.{whole}
 use Rattle.promised_run.proofs.promised_serving.serve.Goals as goal
 use Rattle.run_book.specs.of_master_node.Happened.{events_of}
 use Rattle.run_promises.proofs.Known.{known}
@@ -23,3 +24,6 @@ returns-clause-bounded g c =
     c.uncut_law.ensures plan c.args.count c.serve.new.book ending c.requires.plan (known plan c.requires.told) (c.room_law.ensures.told plan c.requires.plan c.requires.told) c.serve.ensures.frames stops a
     (state_of a.session.master (events_of v.rows) a.session.ring) v.remembers refl fair heard enough)
     c.serve.ensures.frames c.serve.ensures.served c.serve.ensures.ending
+
+pub returns-clause-whole : goal.returns-clause-whole
+returns-clause-whole g c = whole c.args.plan.now c.serve.new.book
