@@ -1,4 +1,4 @@
-use Rattle.std.proofs.Common.{◌≤◌, length, arith}
+use Rattle.std.proofs.Common.{arith}
 use Rattle.promised_run.proofs.ServedUncut.{never_cut}
 use Rattle.promised_run.proofs.uncut_servings.uncut_law.Goals as goal
 
