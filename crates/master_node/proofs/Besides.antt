@@ -15,6 +15,7 @@ use Rattle.master_tour.specs.Walks.{StepsAt}
 use Rattle.master_tour.specs.declared.stop.Stop.{Stop}
 use Rattle.master_tour.specs.declared.stop.Turned.{Turned}
 use Rattle.master_node.specs.Besides.{Does, DoesAt, DoesSo, TellsAll, answers, back_does, back_told, by_stop, does_at, given_told, is_state, passed_where, stays, then_does}
+use Rattle.master_node.specs.Answered.{answer_at, answer_behind, answer_on}
 use Rattle.master_node.specs.Downs.{is_given_up}
 use Rattle.master_node.specs.Handed.{work_at}
 use Rattle.master_node.specs.Listing.{events_before, events_in}
@@ -23,20 +24,22 @@ use Rattle.master_node.specs.declared.event.Event.{Event}
 use Rattle.master_node.specs.declared.event.EventList.{EventList}
 use Rattle.master_node.specs.declared.node.MasterNode.{MasterNode}
 use Rattle.master_node.specs.declared.post.Work.{Work}
+use Rattle.master_node.proofs.Answereds.{answer_more}
 use Rattle.master_node.proofs.Endings.{apart_by, step_here, step_there}
 use Rattle.master_node.proofs.Listing.{before_of_list, events_by}
 
 -- NOTHING
-pub besides_none : (m n : MasterNode) → n.list ≡ m.list → TellsAll [] m n
-besides_none m n e = record {
+pub besides_none : (m n : MasterNode) → n.list ≡ m.list → n.posts ≡ m.posts → TellsAll [] m n
+besides_none m n e p = record {
   told = λ r. events_by m n e ∙ sym (append-nil (events_in m));
   few = (let f = ap (λ z. z.count) e in omega (arith, f));
   head = before_of_list m.list n.list e;
+  answers = λ k. ap (λ z. answer_at z.items k) p;
 }
 
 -- ONE EVENT
-pub besides_one : (m n : MasterNode) (e : Event) → (m.list.count < 97 → events_in n ≡ events_in m ++ e ∷ []) → n.list.count ≤ m.list.count + 1 → events_before n ≡ events_before m → TellsAll (e ∷ []) m n
-besides_one m n e t f h = record { told = λ r. t (omega (arith, r)); few = f; head = h }
+pub besides_one : (m n : MasterNode) (e : Event) → (m.list.count < 97 → events_in n ≡ events_in m ++ e ∷ []) → n.list.count ≤ m.list.count + 1 → events_before n ≡ events_before m → ((k : ℕ) → answer_at n.posts.items k ≡ answer_on k e (answer_at m.posts.items k)) → TellsAll (e ∷ []) m n
+besides_one m n e t f h a = record { told = λ r. t (omega (arith, r)); few = f; head = h; answers = a }
 
 -- one step after the other
 pub besides_then : (es fs : List Event) (m n o : MasterNode) → TellsAll es m n → TellsAll fs n o → TellsAll (es ++ fs) m o
@@ -46,6 +49,7 @@ besides_then es fs m n o x y =
       told = λ r. y.told (omega (arith, r, many, x.few)) ∙ ap (λ z. z ++ fs) (x.told (omega (arith, r, many))) ∙ append_assoc (events_in m) es fs;
       few = omega (arith, many, x.few, y.few);
       head = y.head ∙ x.head;
+      answers = λ k. y.answers k ∙ ap (answer_behind k fs) (x.answers k) ∙ sym (answer_more k es fs (answer_at m.posts.items k));
     }
 
 pub besides_as : (es fs : List Event) (m n : MasterNode) → es ≡ fs → TellsAll es m n → TellsAll fs m n
@@ -86,7 +90,7 @@ pub does_told : (place : ℕ) (es : List Event) (m n : MasterNode) → TellsAll 
 does_told place es m n t p = record { tells = t; here = ap (λ z. work_at z.items place) p; others = λ k e. ap (λ z. work_at z.items k) p }
 
 pub does_none : (place : ℕ) (m n : MasterNode) → n.list ≡ m.list → n.posts ≡ m.posts → DoesAt place (stays (work_at m.posts.items place)) m n
-does_none place m n e p = does_told place [] m n (besides_none m n e) p
+does_none place m n e p = does_told place [] m n (besides_none m n e p) p
 
 pub does_answered : (place : ℕ) (kind : ReplyKind) (m n : MasterNode) → TellsAll (Event.Answered place kind ∷ []) m n → StepsAt (λ p q. q.work ≡ Work.Nothing) place m.posts.items n.posts.items → DoesAt place (answers place kind) m n
 does_answered place kind m n t s = record {
@@ -152,7 +156,7 @@ once_fresh (x ∷ v) (suc k) d l o = go (get_or v k d == x) refl (got_in v k d (
 -- what neither lists nor changes a post does no more
 pub so_on : (f : Stop InHand Impl.ghosts → Work → Does) (place : ℕ) (m n o : MasterNode) → o.list ≡ n.list → o.posts ≡ n.posts → DoesSo f place m n → DoesSo f place m o
 so_on f place m n o e p x = record {
-  tells = record { told = λ r. events_by n o e ∙ x.tells.told r; few = (let c = ap (λ z. z.count) e in let few = x.tells.few in omega (arith, c, few)); head = before_of_list n.list o.list e ∙ x.tells.head };
+  tells = record { told = λ r. events_by n o e ∙ x.tells.told r; few = (let c = ap (λ z. z.count) e in let few = x.tells.few in omega (arith, c, few)); head = before_of_list n.list o.list e ∙ x.tells.head; answers = λ k. ap (λ z. answer_at z.items k) p ∙ x.tells.answers k };
   here = ap (λ z. work_at z.items place) p ∙ x.here;
   others = λ k q. ap (λ z. work_at z.items k) p ∙ x.others k q;
 }
@@ -215,14 +219,16 @@ not_in_one k p e = go (k == p) e
     go false f = refl
 
 -- one event behind a step that lists none, and before another
-pub besides_put : (m n o : MasterNode) (l : EventList) (e : Event) → n.list ≡ m.list → o.list ≡ l → (n.list.count < 97 → listed_last l.rows.items l.first l.count ≡ events_in n ++ e ∷ []) → l.count ≤ n.list.count + 1 → listed_before l.rows.items l.first l.count ≡ events_before n → TellsAll (e ∷ []) m o
-besides_put m n o l e a b t f h =
+pub besides_put : (m n o : MasterNode) (l : EventList) (e : Event) → n.list ≡ m.list → o.list ≡ l → (n.list.count < 97 → listed_last l.rows.items l.first l.count ≡ events_in n ++ e ∷ []) → l.count ≤ n.list.count + 1 → listed_before l.rows.items l.first l.count ≡ events_before n →
+    ((k : ℕ) → answer_at o.posts.items k ≡ answer_on k e (answer_at m.posts.items k)) → TellsAll (e ∷ []) m o
+besides_put m n o l e a b t f h w =
     let ca = ap (λ z. z.count) a in
     let cb = ap (λ z. z.count) b in
     record {
       told = λ r. ap (λ z. listed_last z.rows.items z.first z.count) b ∙ t (omega (arith, ca, r)) ∙ ap (λ z. z ++ e ∷ []) (events_by m n a);
       few = omega (arith, ca, cb, f);
       head = ap (λ z. listed_before z.rows.items z.first z.count) b ∙ h ∙ before_of_list m.list n.list a;
+      answers = w;
     }
 
 -- a slave was given up

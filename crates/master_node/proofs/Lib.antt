@@ -41,6 +41,7 @@ pub mod Mailings
 pub mod Handeds
 pub mod Handings
 pub mod Endings
+pub mod Answereds
 mod Besides
 mod ToldFew
 mod Filtered

@@ -16,17 +16,20 @@ use Rattle.master_tour.specs.declared.stop.Stand.{Stand}
 use Rattle.master_tour.specs.declared.stop.Stop.{Stop}
 use Rattle.master_tour.specs.declared.stop.Turned.{Turned}
 use Rattle.master_hand.specs.Hears.{answer_kept}
+use Rattle.master_node.specs.Answered.{answer_at, answer_behind}
 use Rattle.master_node.specs.Handed.{work_at}
 use Rattle.master_node.specs.Listing.{events_before, events_in}
 use Rattle.master_node.specs.declared.event.Event.{Event}
 use Rattle.master_node.specs.declared.node.MasterNode.{MasterNode}
 use Rattle.master_node.specs.declared.post.Work.{Work}
 
--- JUST THESE EVENTS ARE LISTED BESIDES, in this order, where the list has room for them; what was listed before the step stays
+-- JUST THESE EVENTS ARE LISTED BESIDES, in this order, where the list has room for them; what was listed before the step stays, and the last answers go with
+-- them
 pub record TellsAll (es : List Event) (m n : MasterNode) : Type 0 where
   pub told : m.list.count + length es ≤ 97 → events_in n ≡ events_in m ++ es
   pub few : n.list.count ≤ m.list.count + length es
   pub head : events_before n ≡ events_before m
+  pub answers : (k : ℕ) → answer_at n.posts.items k ≡ answer_behind k es (answer_at m.posts.items k)
 
 -- what is told of a slave, and what its post has in hand then
 pub record Does : Type 0 where

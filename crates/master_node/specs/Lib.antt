@@ -40,6 +40,7 @@ pub mod Made
 pub mod Begins
 pub mod Origins
 pub mod Listing
+pub mod Answered
 pub mod Besides
 pub mod Gateways
 pub mod Lifetold

@@ -2,6 +2,7 @@
 use Rattle.std.specs.Prelude.{◌≡◌, ◌<◌, ℕ, zero, suc, Bool, true, false, if◌then◌else◌, Option, Some, None, List, [], ◌∷◌, ◌++◌}
 use Rattle.eoe_switch.specs.Switch.{Switched}
 use Rattle.life_runs.specs.Led.{Leads, Turn}
+use Rattle.mailbox_mail.specs.declared.outcome.ReplyKind.{ReplyKind}
 use Rattle.master_duty.specs.of_state_exchange.Stated.{Service}
 use Rattle.master_hand.specs.Spoken.{Asked}
 use Rattle.master_tour.specs.Made.{is_in}
@@ -44,11 +45,17 @@ abbrev pub counted_from : Option Coming → Origin → ℕ → ℕ
 counted_from None origin n = n
 counted_from (Some what) origin n = counted_by origin n
 
+-- it has no answer yet
+abbrev pub answer_from : Option Coming → Option ReplyKind → Option ReplyKind
+answer_from None a = a
+answer_from (Some what) a = None
+
 -- AS IT COMES INTO HAND of the slave at a place it is listed, where the list has room, and counted at the slave's post
 pub record ListsOne (place : ℕ) (coming : Option Coming) (m n : MasterNode) (p q : Post) : Type 0 where
   pub listed : m.list.count < 97 → events_in n ≡ events_in m ++ began_from place coming p.origin
   pub counts : q.forwards ≡ counted_from coming p.origin p.forwards
   pub numbered : StaysNumbered p q
+  pub answer : q.answer ≡ answer_from coming p.answer
 
 -- where a service comes from, by the number of the script's next, and how many packets came into hand before: of its port where it is a packet, and else of
 -- its script

@@ -41,9 +41,10 @@ IsGateway (Some Coming.Mail) oldest origin = origin ≡ Origin.Gateway oldest
 IsGateway (Some Coming.Script) oldest origin = ⊤
 IsGateway (Some (Coming.State target)) oldest origin = ⊤
 
--- IT IS LAID READY at a slave's post with where it comes from, and nothing came into hand by that
+-- IT IS LAID READY at a slave's post with where it comes from, and nothing came into hand or was answered by that
 pub record LaysFrom (coming : Option Coming) (number : ℕ) (p q : Post) : Type 0 where
   pub counts : q.forwards ≡ p.forwards
   pub origin : IsFrom coming number p.forwards q.origin
   pub gateway : IsGateway coming p.oldest q.origin
   pub numbered : StaysNumbered p q
+  pub answer : q.answer ≡ p.answer

@@ -1,5 +1,5 @@
 -- WHAT A MASTER SAYS OF THE NEWEST SERVICE of a slave, by what it has of it.
-use Rattle.std.specs.Prelude.{◌≡◌, ℕ, zero, suc, Bool, true, false, Option, Some, None, List, [], ◌∷◌, ◌++◌, IfSome, slice_get}
+use Rattle.std.specs.Prelude.{◌≡◌, ℕ, Bool, true, false, Option, Some, None, List, [], ◌∷◌, ◌++◌, IfSome, slice_get}
 use Rattle.master_duty.specs.of_exchange_model.Rows.{Row}
 use Rattle.life_runs.specs.of_frame_view.View.{Lens}
 use Rattle.life_runs.specs.of_life_frames.Shares.{AllBoth, Lived}
@@ -9,9 +9,9 @@ use Rattle.master_side.specs.of_link_mails.Body.{Body}
 use Rattle.master_duty.specs.Reply.{Reply}
 use Rattle.master_hand.specs.Spoken.{Asked, is_passed}
 use Rattle.mailbox_mail.specs.declared.outcome.ReplyKind.{ReplyKind}
+pub use Rattle.master_node.specs.Answered.{answer_at}
 use Rattle.master_node.specs.Shows.{IsLead, IsLived}
 use Rattle.master_node.specs.declared.node.MasterNode.{MasterNode}
-use Rattle.master_node.specs.declared.post.Post.{Post}
 use Rattle.master_node.specs.declared.told.Told.{Told}
 
 -- a master has just these lives of its slaves
@@ -51,12 +51,6 @@ abbrev pub has_value : Option ReplyKind → Bool
 has_value None = false
 has_value (Some ReplyKind.Value) = true
 has_value (Some _) = false
-
--- the kind of the last answer of the slave at a place, until its next service comes into hand
-abbrev pub answer_at : List Post → ℕ → Option ReplyKind
-answer_at [] k = None
-answer_at (p ∷ ps) zero = p.answer
-answer_at (p ∷ ps) (suc k) = answer_at ps k
 
 -- THE VALUE OF THE LAST ANSWER of the slave at a place, where that has one, stands behind these octets: by the slave's life, while it is open
 abbrev pub AppendsValue : ℕ → MasterNode → List ℕ → List ℕ → Type 0

@@ -103,6 +103,7 @@ impl EventList {
         ensures all { listed self.new.rows.items self.new.count ≡ take self.old.before self.old.rows.items }
         ensures last { listed_last self.new.rows.items self.new.first self.new.count ≡ [] }
         ensures few { self.new.count ≡ self.old.before }
+        ensures before { self.new.before ≡ self.old.before }
         ensures head { listed_before self.new.rows.items self.new.first self.new.count ≡ take self.old.before self.old.rows.items }
     {
         self.count = self.before;

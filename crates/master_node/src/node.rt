@@ -89,6 +89,7 @@ impl MasterNode {
     ghost use Rattle.master_node.specs.Resting.{AllRest, StopRests};
     ghost use Rattle.master_node.specs.Listing.{Before, IsUnlisted, ListsOne, ServicesBegin, events_before, events_in, where_began};
     ghost use Rattle.master_node.specs.Origins.{forwards_at};
+    ghost use Rattle.master_node.specs.Answered.{AnswersOn, answer_at, answer_behind};
     ghost use Rattle.master_node.specs.Begins.{HasTaken, NoneMore, PacketsBegin, TakesOn, taken_for, taken_where};
 
     // Whether a slave is live.
@@ -245,6 +246,7 @@ impl MasterNode {
         ensures head { events_before self.new ≡ events_before self.old }
         ensures serves { (lens : ℕ → Lens) (recover made : ℕ) (forwards : ℕ → ℕ) (left next : List ℕ) (ws : List Serves) → self.old.list.count < 97 → AreDistinct (map (λ w. lived_of (run_lead w)) ws) → is_in place left ≡ true → is_in place next ≡ false → ((k : ℕ) → is_in k next ≡ true → is_in k left ≡ true) →
             IsPassing lens recover made forwards left self.old into.old.items ws → IsPassing lens recover made forwards (if result then next else left) self.new into.new.items ws }
+        ensures answers { self.old.list.count < 97 → AnswersOn self.old self.new }
     {
         let index = (self.made % 256) as u8;
         let coming = self.coming(place);
@@ -274,6 +276,7 @@ impl MasterNode {
             (left : List ℕ) × IsPassing lens recover made forwards left self.new into.new.items ws × EndsFrame left self.new (map run_lead ws) }
         ensures events { self.new.list.count ≤ self.old.list.count + 16 }
         ensures head { events_before self.new ≡ events_before self.old }
+        ensures answers { self.old.list.count ≤ 81 → AnswersOn self.old self.new }
     {
         for _ in 0..SLAVES {
             let Some(place) = self.tour.due() else {
@@ -304,6 +307,7 @@ impl MasterNode {
             (vs : List ServedTurn) × IsServedFrame lens made into.new.items ws vs × ServedUnder lens recover retry (record self.new { made = suc made }) into.new.items missed made vs × (self.new.made ≡ made) × ServedBegin forwards ws vs self.new }
         ensures events { self.new.list.count ≤ self.old.list.count + 16 }
         ensures head { events_before self.new ≡ events_before self.old }
+        ensures answers { self.old.list.count ≤ 81 → AnswersOn self.old self.new }
     {
         self.tour.begin(into);
         self.fill(into);
@@ -342,6 +346,7 @@ impl MasterNode {
         ensures services { result ≡ Next.Frame → (lens : ℕ → Lens) (recover retry missed made : ℕ) (ws : List Serves) → suc made < 2 ^ 32 → ServedShows lens recover retry self.old missed made ws →
             (vs : List ServedTurn) × IsServedFrame lens made into.new.items ws vs × ServedUnder lens recover retry self.new into.new.items missed made vs × ServedBegin (λ k. forwards_at self.old.posts.items k) ws vs self.new }
         ensures few { self.new.list.before ≤ 16 }
+        ensures answers { (k : ℕ) → answer_at self.new.posts.items k ≡ answer_behind k (events_in self.new) (answer_at self.old.posts.items k) }
         ensures whole { (listed self.new.list.rows.items self.new.list.count ≡ events_in self.new) × (take self.new.list.before self.new.list.rows.items ≡ events_in self.new) }
     {
         self.list.clear();
@@ -394,7 +399,9 @@ impl MasterNode {
         ensures waits { waiting_at self.old.posts.items slave < 64 → StepsAt (λ p q. AppendsMail key mail.now p.mails.items q.mails.items) slave self.old.posts.items self.new.posts.items }
         ensures stays { result ≡ false → StepsAt (λ p q. q ≡ p) slave self.old.posts.items self.new.posts.items }
         ensures works { StepsAt (λ p q. q.work ≡ p.work) slave self.old.posts.items self.new.posts.items }
-        ensures kept { (self.new.tour ≡ self.old.tour) × (self.new.lan ≡ self.old.lan) × (self.new.made ≡ self.old.made) }
+        ensures kept { (self.new.tour ≡ self.old.tour) × (self.new.lan ≡ self.old.lan) × (self.new.made ≡ self.old.made) × (self.new.list ≡ self.old.list) }
+        ensures counts { (k : ℕ) → forwards_at self.new.posts.items k ≡ forwards_at self.old.posts.items k }
+        ensures answers { (k : ℕ) → answer_at self.new.posts.items k ≡ answer_at self.old.posts.items k }
         ensures served { (lens : ℕ → Lens) (recover retry missed made : ℕ) (ws : List Serves) → waiting_at self.old.posts.items slave < 64 → FitsAt lens slave (length mail.now.body.items) ws → ServedShows lens recover retry self.old missed made ws →
             (k : Keyed) × IsAsked key mail.now k × MayAsk lens slave k ws × ServedShows lens recover retry self.new missed made (asked_at slave k ws) }
     {

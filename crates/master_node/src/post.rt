@@ -71,7 +71,7 @@ impl Post {
 
     /// Nothing is in hand and no mail waits. The memory for 64 mails is taken here.
     pub fn new(alloc: Global) -> Result<Post, NoMemory>
-        ensures { IfOk result (λ p. (p.mails.items ≡ []) × (p.work ≡ Work.Nothing) × (p.forwards ≡ 0) × (p.oldest ≡ 0)) }
+        ensures { IfOk result (λ p. (p.mails.items ≡ []) × (p.work ≡ Work.Nothing) × (p.forwards ≡ 0) × (p.oldest ≡ 0) × (p.answer ≡ None)) }
     {
         let mails = HeapCircularBuffer::with_capacity(alloc, WAITING)?;
         Ok(Post {
@@ -99,6 +99,8 @@ impl Post {
         ensures appends { length self.old.mails.items < 64 → AppendsMail key mail.now self.old.mails.items self.new.mails.items }
         ensures work { self.new.work ≡ self.old.work }
         ensures oldest { self.new.oldest ≡ self.old.oldest }
+        ensures forwards { self.new.forwards ≡ self.old.forwards }
+        ensures answer { self.new.answer ≡ self.old.answer }
     {
         if self.mails.is_full() {
             return false;
@@ -125,6 +127,7 @@ impl Post {
         ensures work { self.new.work ≡ self.old.work }
         ensures forwards { self.new.forwards ≡ self.old.forwards }
         ensures origin { self.new.origin ≡ self.old.origin }
+        ensures answer { self.new.answer ≡ self.old.answer }
         ensures numbered { StaysNumbered self.old self.new }
     {
         let asked = self.mails.pop_front()?;
@@ -139,6 +142,7 @@ impl Post {
         ensures mails { self.new.mails ≡ self.old.mails }
         ensures work { self.new.work ≡ self.old.next }
         ensures oldest { self.new.oldest ≡ self.old.oldest }
+        ensures answer { self.new.answer ≡ None }
     {
         self.work = self.next;
         self.answer = None;

@@ -150,7 +150,7 @@ impl MasterNode {
         ensures quiet { All WaitsNone self.old.posts.items → All WaitsNone self.new.posts.items }
         ensures lan { self.new.lan ≡ self.old.lan }
         ensures list { self.new.list ≡ self.old.list }
-        ensures origins { StepsAt (λ s t. StepsAt (λ p q. (q.forwards ≡ p.forwards) × (q.origin ≡ Origin.Script s.side.hand.laying.number) × StaysNumbered p q) place self.old.posts.items self.new.posts.items) place self.old.tour.stops.items self.new.tour.stops.items }
+        ensures origins { StepsAt (λ s t. StepsAt (λ p q. (q.forwards ≡ p.forwards) × (q.origin ≡ Origin.Script s.side.hand.laying.number) × StaysNumbered p q × (q.answer ≡ p.answer)) place self.old.posts.items self.new.posts.items) place self.old.tour.stops.items self.new.tour.stops.items }
         ensures mails { mails_in self.new ≡ mails_in self.old }
         ensures works { (target : Target) → StepsAt (λ p q. LaysWork (Some (Coming.State target)) p q) place self.old.posts.items self.new.posts.items }
     {

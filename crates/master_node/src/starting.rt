@@ -96,6 +96,7 @@ fn posts_of(alloc: Global, count: usize) -> Result<Vec<Post>, NoMemory>
     ensures counts { IfOk result (λ posts. All CountsNone posts.items) }
     ensures works { IfOk result (λ posts. All (λ p. p.work ≡ Work.Nothing) posts.items) }
     ensures oldest { IfOk result (λ posts. All (λ p. p.oldest ≡ 0) posts.items) }
+    ensures answers { IfOk result (λ posts. All (λ p. p.answer ≡ None) posts.items) }
 {
     let mut posts = Vec::new(alloc);
     for _ in 0..count {
@@ -132,6 +133,7 @@ impl MasterNode {
     ghost use Rattle.std.specs.Prelude.{ℕ};
     ghost use Rattle.master_node.specs.Lives.{waiting_of};
     ghost use Rattle.master_node.specs.Origins.{forwards_at};
+    ghost use Rattle.master_node.specs.Answered.{answer_at};
     ghost use Rattle.segment_plan.specs.Sound.{IsPlan};
     ghost use Rattle.life_runs.specs.First.{lens_of, first_leads};
     ghost use Rattle.master_node.specs.Shows.{MasterShows};
@@ -155,6 +157,7 @@ impl MasterNode {
         ensures waiting { IfOk result (λ master. map waiting_of master.posts.items ≡ replicate (length plan.now.slaves) 0) }
         ensures tour { IfOk result (λ master. tour_of master ≡ new_tour) }
         ensures counts { IfOk result (λ master. (k : ℕ) → forwards_at master.posts.items k ≡ 0) }
+        ensures answers { IfOk result (λ master. (k : ℕ) → answer_at master.posts.items k ≡ None) }
         ensures switch { IfOk result (λ master. master.lan.switch ≡ first_switch (length master.lan.switch.ports)) }
         ensures begins { IfOk result (λ master. HasHappened (ports_of plan.now.slaves) plan.now.host [] master.lan) }
         ensures ports { IfOk result (λ master. master.lan.ports.items ≡ ports_behind 0 plan.now.slaves) }

@@ -56,7 +56,8 @@ impl MasterNode {
     ghost use Rattle.master_tour.specs.Toured.{goes_on, lost_on};
     ghost use Rattle.master_node.specs.Shows.{is_opening_lead};
     ghost use Rattle.master_node.specs.Toured.{tour_of};
-    ghost use Rattle.std.specs.Prelude.{[], ◌++◌, take, true};
+    ghost use Rattle.std.specs.Prelude.{[], ◌++◌, take, true, Some, None};
+    ghost use Rattle.master_node.specs.Answered.{answer_at, answer_behind};
     ghost use Rattle.master_node.specs.Eager.{AllVisit, recalls};
     ghost use Rattle.master_node.specs.Recalled.{AllRecall};
 
@@ -68,6 +69,7 @@ impl MasterNode {
         ensures lan { self.new.lan ≡ self.old.lan }
         ensures tells { TellsOnly self.old self.new }
         ensures works { StepsAt (λ p q. q.work ≡ Work.Nothing) place self.old.posts.items self.new.posts.items }
+        ensures answers { StepsAt (λ p q. q.answer ≡ Some kind) place self.old.posts.items self.new.posts.items }
         ensures told { DoesAt place (answers place kind) self.old self.new }
     {
         let post = &mut self.posts[place];
@@ -327,6 +329,7 @@ impl MasterNode {
         ensures head { events_before self.new ≡ events_before self.old }
         ensures told { AreOnce self.old.tour.visit.items → TellsAll (told_in (back_told self.old) self.old.tour.visit.items) self.old self.new }
         ensures has { AreOnce self.old.tour.visit.items → HasBack self.old self.new }
+        ensures few { length self.old.tour.visit.items ≤ 16 }
     {
         for k in 0..self.tour.visit.len() {
             let place = self.tour.visit.as_slice()[k];
@@ -356,6 +359,7 @@ impl MasterNode {
             TellsGateway (λ k. lives_told (seen lens frame.now.items) vs (map (served_behind lens recover retry (gives_up_at lens recover retry missed) made f) vs) k) self.old self.new }
         ensures told { (lens : ℕ → Lens) (recover retry missed made : ℕ) (octets : List ℕ) (vs : List ServedTurn) (f : Exchanged) → f.fate ≡ Fate.Pass → f.back ≡ frame.now.items → ServedUnder lens recover retry self.old octets missed made vs → Returns (seen lens octets) (seen lens frame.now.items) →
             TellsJust (λ k. returned_at lens (seen lens frame.now.items) (recalls self.new) vs (map (served_behind lens recover retry (gives_up_at lens recover retry missed) made f) vs) k) self.old self.new }
+        ensures answers { AreOnce self.old.tour.visit.items → self.old.list.before ≤ 16 → (k : ℕ) → answer_at self.new.posts.items k ≡ answer_behind k (events_in self.new) (answer_at self.old.posts.items k) }
         ensures whole { listed self.new.list.rows.items self.new.list.count ≡ take self.old.list.before self.old.list.rows.items ++ events_in self.new }
     {
         self.list.ends();
@@ -373,6 +377,7 @@ impl MasterNode {
         ensures tour { self.new.tour ≡ self.old.tour }
         ensures mails { StepsAt (λ ks ls. ls ≡ []) place (mails_in self.old) (mails_in self.new) }
         ensures works { StepsAt (λ p q. q.work ≡ Work.Nothing) place self.old.posts.items self.new.posts.items }
+        ensures answers { StepsAt (λ p q. q.answer ≡ None) place self.old.posts.items self.new.posts.items }
         ensures list { self.new.list ≡ self.old.list }
     {
         self.posts[place].drop_all();
@@ -469,6 +474,7 @@ impl MasterNode {
         ensures recalls { (lens : ℕ → Lens) (recover retry missed : ℕ) (octets : List ℕ) (us : List Turn) → MasterUnder lens recover retry self.old octets missed us → AllRecall lens [] us (recalls self.old) (recalls self.new) }
         ensures told { (lens : ℕ → Lens) (recover retry missed made after : ℕ) (octets : List ℕ) (vs : List ServedTurn) (f : Exchanged) → f.fate ≡ Fate.Lost after → f.sent ≡ octets → ServedUnder lens recover retry self.old octets missed made vs →
             TellsJust (λ k. lost_at vs (map (served_behind lens recover retry (gives_up_at lens recover retry missed) made f) vs) k) self.old self.new }
+        ensures answers { self.old.list.before ≤ 16 → (k : ℕ) → answer_at self.new.posts.items k ≡ answer_behind k (events_in self.new) (answer_at self.old.posts.items k) }
         ensures whole { listed self.new.list.rows.items self.new.list.count ≡ take self.old.list.before self.old.list.rows.items ++ events_in self.new }
     {
         self.list.ends();

@@ -15,7 +15,7 @@ returns-in-Some-clause-told c =
     (does_told place (emergency_told place (emergency_kept s.side.hand.found)) m _
     (besides_as (_ ∷ []) (emergency_told place (emergency_kept s.side.hand.found)) m _
     (ap (λ z. Event.Emergency place z ∷ []) (λ i. record { items = (c.buffer_of-octets.ensures ∙ c.as_slice.ensures.value) i }) ∙ ap (emergency_told place) c.in-Some.ensures)
-    (besides_one m _ _ c.put.ensures.last c.put.ensures.few c.put.ensures.head))
+    (besides_one m _ _ c.put.ensures.last c.put.ensures.few c.put.ensures.head (λ k. refl)))
     refl)
 
 pub returns-in_default-clause-told : goal.returns-in_default-clause-told
@@ -26,4 +26,4 @@ returns-in_default-clause-told c =
     let l : place < length m.tour.stops.items = omega (arith, c.requires, m.paired, m.tour.stops.ok.0) in
     so_here (λ t w. emitted_does place t w) place m m s l c.index.ensures
     (does_told place (emergency_told place (emergency_kept s.side.hand.found)) m m
-    (besides_as [] (emergency_told place (emergency_kept s.side.hand.found)) m m (ap (emergency_told place) c.in_default.ensures) (besides_none m m refl)) refl)
+    (besides_as [] (emergency_told place (emergency_kept s.side.hand.found)) m m (ap (emergency_told place) c.in_default.ensures) (besides_none m m refl refl)) refl)

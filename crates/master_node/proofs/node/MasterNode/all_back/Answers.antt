@@ -37,7 +37,7 @@ by_place P p q before e here there = go (p == q) refl e
         or_true false h = h
 
 pub loop-k-init : goal.loop-k-init
-loop-k-init c = record { posts = refl; kept = node_refl c.args.self.now; tells = tells_refl c.args.self.now; works = ends_same _ c.args.self.now.posts.items; head = refl; told = λ once. besides_none c.args.self.now c.args.self.now refl; has = λ once p e. absurd (let bad : false ≡ true = e in cc); others = λ p e. refl; lan = happens_none 0 _ _ refl; listed = lists_none _ _ _ refl refl }
+loop-k-init c = record { posts = refl; kept = node_refl c.args.self.now; tells = tells_refl c.args.self.now; works = ends_same _ c.args.self.now.posts.items; head = refl; told = λ once. besides_none c.args.self.now c.args.self.now refl refl; has = λ once p e. absurd (let bad : false ≡ true = e in cc); others = λ p e. refl; lan = happens_none 0 _ _ refl; listed = lists_none _ _ _ refl refl }
 
 pub loop-k-preserved : goal.loop-k-preserved
 loop-k-preserved c =
@@ -119,3 +119,6 @@ returns-clause-has c = λ once k.
     both : {A : Type 0} {x y z : A} (b : Bool) → (b ≡ true → x ≡ y) → (b ≡ false → x ≡ z) → x ≡ (if not b then z else y)
     both true f g = f refl
     both false f g = g refl
+
+pub returns-clause-few : goal.returns-clause-few
+returns-clause-few c = omega (arith, c.len-k-end.ensures.value, c.len-k-end.ensures.fits)

@@ -9,6 +9,8 @@ use Rattle.std.proofs.Common.{◌≡◌, ◌<◌, length, arith, refl}
 use Rattle.master_tour.proofs.Walks.{steps_set}
 use Rattle.master_node.specs.declared.post.Work.{Work}
 use Rattle.master_node.proofs.Besides.{besides_one, does_answered}
+use Rattle.std.proofs.Common.{Some}
+use Rattle.master_node.proofs.Answereds.{answered_answers}
 use Rattle.master_node.proofs.node.MasterNode.answered.Goals as goal
 
 pub returns-clause-kept : goal.returns-clause-kept
@@ -32,5 +34,14 @@ returns-clause-works c =
     let l : c.args.place < length m.posts.items = omega (arith, c.requires, m.posts.ok.0) in
     steps_set (λ p q. q.work ≡ Work.Nothing) c.args.place m.posts.items c.index_mut-post.result.now _ l c.index_mut-post.ensures.value refl
 
+pub returns-clause-answers : goal.returns-clause-answers
+returns-clause-answers c =
+    let m = c.args.self.now in
+    let l : c.args.place < length m.posts.items = omega (arith, c.requires, m.posts.ok.0) in
+    steps_set (λ p q. q.answer ≡ Some c.args.kind) c.args.place m.posts.items c.index_mut-post.result.now _ l c.index_mut-post.ensures.value refl
+
 pub returns-clause-told : goal.returns-clause-told
-returns-clause-told c = does_answered c.args.place c.args.kind c.args.self.now _ (besides_one c.args.self.now _ _ c.put.ensures.last c.put.ensures.few c.put.ensures.head) (returns-clause-works c)
+returns-clause-told c =
+    let m = c.args.self.now in
+    does_answered c.args.place c.args.kind m _
+    (besides_one m _ _ c.put.ensures.last c.put.ensures.few c.put.ensures.head (answered_answers c.args.kind c.args.place m.posts.items _ (returns-clause-answers c))) (returns-clause-works c)

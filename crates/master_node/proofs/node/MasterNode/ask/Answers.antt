@@ -7,6 +7,8 @@ use Rattle.life_runs.specs.of_life_frames.Shares.{AreDistinct}
 use Rattle.master_node.specs.Shows.{GoesOn, lived_of}
 use Rattle.master_node.proofs.Servings.{asked_so, leads_same}
 use Rattle.master_node.proofs.Numbereds.{numbers_asked}
+use Rattle.master_node.proofs.Answereds.{same_answers}
+use Rattle.master_node.proofs.Listing.{forwards_set}
 use Rattle.master_node.proofs.node.MasterNode.ask.Goals as goal
 
 pub returns-clause-full : goal.returns-clause-full
@@ -51,3 +53,15 @@ returns-clause-served c = λ lens recover retry missed made ws r f h.
         numbered = numbers_asked c.args.key c.args.mail.now a.asks c.args.slave ws m.posts.items _ (steps_both _ _ c.args.slave m.posts.items _ (returns-clause-waits c r) stays) h.numbered;
       },
     )
+
+pub returns-clause-counts : goal.returns-clause-counts
+returns-clause-counts c =
+    let m = c.args.self.now in
+    let l : c.args.slave < length m.posts.items = omega (arith, c.requires, m.posts.ok.0) in
+    forwards_set m.posts.items c.args.slave c.index_mut.result.now c.ask.new.self l c.index_mut.ensures.value c.ask.ensures.forwards
+
+pub returns-clause-answers : goal.returns-clause-answers
+returns-clause-answers c =
+    let m = c.args.self.now in
+    let l : c.args.slave < length m.posts.items = omega (arith, c.requires, m.posts.ok.0) in
+    same_answers (λ p q. q.answer ≡ p.answer) (λ p q e. e) c.args.slave m.posts.items _ (steps_set (λ p q. q.answer ≡ p.answer) c.args.slave m.posts.items c.index_mut.result.now c.ask.new.self l c.index_mut.ensures.value c.ask.ensures.answer)

@@ -75,7 +75,7 @@ returns-in-None-clause-lists c =
     let m = c.args.self.now in
     let k : c.args.place < length m.posts.items = omega (arith, c.requires, m.posts.ok.0) in
     subst (λ z. StepsAt (λ p q. ListsOne c.args.place z m m p q) c.args.place m.posts.items m.posts.items) (sym c.in-None.is)
-    (steps_same _ c.args.place m.posts.items k (λ p. record { listed = λ few. sym (append-nil (events_in m)); counts = refl; numbered = λ asked h. h }))
+    (steps_same _ c.args.place m.posts.items k (λ p. record { listed = λ few. sym (append-nil (events_in m)); counts = refl; numbered = λ asked h. h; answer = refl }))
 
 pub returns-in-Some-clause-lists : goal.returns-in-Some-clause-lists
 returns-in-Some-clause-lists c =
@@ -90,6 +90,7 @@ returns-in-Some-clause-lists c =
           events_of_list c.put.new.self n.list c.pass_by.ensures.list ∙ c.put.ensures.last few ∙ ap (λ z. events_in m ++ Event.Began c.args.place z ∷ []) c.begin-origin.ensures.origin;
       counts = c.begin-origin.ensures.forwards;
       numbered = numbers_same c.index_mut.result.now _ c.begin-origin.ensures.oldest (ap (λ z. z.items) c.begin-origin.ensures.mails);
+      answer = c.begin-origin.ensures.answer;
     })))
 
 pub returns-in-None-clause-events : goal.returns-in-None-clause-events

@@ -74,7 +74,7 @@ returns-else-began-clause-lists c =
     let m = c.args.self.now in
     let k : c.args.place < length m.posts.items = omega (arith, c.requires, m.posts.ok.0) in
     subst (λ z. StepsAt (λ p q. ListsOne c.args.place (where_began z c.args.coming) m m p q) c.args.place m.posts.items m.posts.items) (sym c.if-began.false)
-    (steps_same _ c.args.place m.posts.items k (λ p. record { listed = λ few. sym (append-nil (events_in m)); counts = refl; numbered = λ asked h. h }))
+    (steps_same _ c.args.place m.posts.items k (λ p. record { listed = λ few. sym (append-nil (events_in m)); counts = refl; numbered = λ asked h. h; answer = refl }))
 
 pub returns-then-began-clause-events : goal.returns-then-began-clause-events
 returns-then-began-clause-events c = c.begun.ensures.events

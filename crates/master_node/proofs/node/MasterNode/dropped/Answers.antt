@@ -8,6 +8,7 @@ use Rattle.master_node.proofs.Droppeds.{drops_set}
 use Rattle.std.proofs.Common.{◌≡◌, ◌<◌, length, arith}
 use Rattle.master_tour.proofs.Walks.{steps_set}
 use Rattle.master_node.specs.declared.post.Work.{Work}
+use Rattle.std.proofs.Common.{None}
 use Rattle.master_node.proofs.node.MasterNode.dropped.Goals as goal
 
 pub returns-clause-kept : goal.returns-clause-kept
@@ -30,3 +31,9 @@ returns-clause-works c =
     let m = c.args.self.now in
     let l : c.args.place < length m.posts.items = omega (arith, c.requires, m.posts.ok.0) in
     steps_set (λ p q. q.work ≡ Work.Nothing) c.args.place m.posts.items c.index_mut.result.now _ l c.index_mut.ensures.value c.drop_all.ensures.work
+
+pub returns-clause-answers : goal.returns-clause-answers
+returns-clause-answers c =
+    let m = c.args.self.now in
+    let l : c.args.place < length m.posts.items = omega (arith, c.requires, m.posts.ok.0) in
+    steps_set (λ p q. q.answer ≡ None) c.args.place m.posts.items c.index_mut.result.now _ l c.index_mut.ensures.value c.drop_all.ensures.answer

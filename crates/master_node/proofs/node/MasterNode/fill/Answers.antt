@@ -75,6 +75,7 @@ loop-init c = (
   omega arith,
   (λ lens recover made forwards ws d f b. rounds_first (map run_lead ws) (λ left m octets. IsPassing lens recover made forwards left m octets ws) (λ left m octets g. many_serve lens recover made forwards ws left m octets g) (λ left m n octets k g. passing_same lens recover made forwards ws left m n octets k g) c.args.self.now c.args.into.now.items f b),
   refl,
+  (λ few base x. x),
 )
 
 pub loop-preserved : goal.loop-preserved
@@ -138,6 +139,7 @@ loop-preserved c = (
       (c.in-Some.ensures.few) v.on.0 v.on.1 v.visits v.counts (λ a b. (v.first a b).1)
       (λ left other a o s g. subst (λ (z : Bool). IsPassing lens recover made forwards (if z then other else left) c.visit.new.self c.visit.new.into.items ws) yes (v.serves lens recover made forwards left other ws (let u = c.loop.invariant.9 in let e = b.listed in let t = c.loop-test.true in omega (arith, u, e, t)) d a o s g))),
   c.visit.ensures.head ∙ c.loop.invariant.11,
+  (λ few base x. c.visit.ensures.answers (let h = c.loop.invariant.9 in let t = c.loop-test.true in omega (arith, few, h, t)) base (c.loop.invariant.12 few base x)),
 )
 
 pub returns-in_default-clause-joins : goal.returns-in_default-clause-joins
@@ -323,3 +325,15 @@ returns-then-self-count-clause-head c = c.visit.ensures.head ∙ c.loop.invarian
 
 pub returns-clause-head : goal.returns-clause-head
 returns-clause-head c = c.loop.invariant.11
+
+pub returns-in_default-clause-answers : goal.returns-in_default-clause-answers
+returns-in_default-clause-answers c = c.loop.invariant.12
+
+pub returns-then-not-visit-clause-answers : goal.returns-then-not-visit-clause-answers
+returns-then-not-visit-clause-answers c = λ few base x. c.visit.ensures.answers (let h = c.loop.invariant.9 in let t = c.loop-test.true in omega (arith, few, h, t)) base (c.loop.invariant.12 few base x)
+
+pub returns-then-self-count-clause-answers : goal.returns-then-self-count-clause-answers
+returns-then-self-count-clause-answers c = λ few base x. c.visit.ensures.answers (let h = c.loop.invariant.9 in let t = c.loop-test.true in omega (arith, few, h, t)) base (c.loop.invariant.12 few base x)
+
+pub returns-clause-answers : goal.returns-clause-answers
+returns-clause-answers c = c.loop.invariant.12

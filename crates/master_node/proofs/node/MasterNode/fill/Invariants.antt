@@ -14,6 +14,7 @@ use Rattle.master_node.specs.Shows.{WaitsNone, lived_of}
 use Rattle.master_node.proofs.Filleds.{Fills}
 use Rattle.master_node.specs.Toured.{IsBare}
 use Rattle.master_node.proofs.Toureds.{Visiting}
+use Rattle.master_node.specs.Answered.{AnswersOn}
 use Rattle.master_node.specs.Listing.{Before, events_before}
 use Rattle.master_node.specs.Made.{Makes}
 use Rattle.served_runs.specs.Served.{Serves}
@@ -34,3 +35,4 @@ invariant-loop l =
     × ((lens : ℕ → Lens) (recover made : ℕ) (forwards : ℕ → ℕ) (ws : List Serves) → AreDistinct (map (λ w. lived_of (run_lead w)) ws) → ((left : List ℕ) → IsPassing lens recover made forwards left l.initial.self l.initial.into.items ws) → BeginsFrame l.initial.self l.initial.into.items (map run_lead ws) →
     Rounds (map run_lead ws) (λ left m octets. IsPassing lens recover made forwards left m octets ws) l.counter l.self l.into.items)
     × (events_before l.self ≡ events_before l.initial.self)
+    × (l.initial.self.list.count ≤ 81 → AnswersOn l.initial.self l.self)

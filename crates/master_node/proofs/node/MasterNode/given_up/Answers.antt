@@ -15,6 +15,8 @@ use Rattle.master_node.proofs.Endings.{drop_none, drop_one}
 use Rattle.master_node.specs.Besides.{given_at, given_told}
 use Rattle.master_node.specs.declared.event.Event.{Event}
 use Rattle.master_node.proofs.Besides.{besides_as, besides_none, besides_put, given_is, given_not, stop_here}
+use Rattle.master_node.specs.Answered.{answer_at}
+use Rattle.master_node.proofs.Answereds.{given_answers}
 use Rattle.master_node.proofs.node.MasterNode.given_up.Goals as goal
 
 pub returns-clause-kept : goal.returns-clause-kept
@@ -90,7 +92,8 @@ returns-clause-told c =
     let l : place < length m.tour.stops.items = omega (arith, c.requires, m.paired, m.tour.stops.ok.0) in
     besides_as (Event.GivenUp place ∷ []) (given_at m.tour.stops.items place) m c.down_where.new.self
     (given_is place s.news (sym c.is_given_up.ensures ∙ c.if-not-is_given_up.false) ∙ sym (stop_here [] (λ t. given_told place t.news) m.tour.stops.items place s l c.index.ensures))
-    (besides_put m c.dropped.new.self c.down_where.new.self c.put.new.self (Event.GivenUp place) c.dropped.ensures.list c.down_where.ensures.list c.put.ensures.last c.put.ensures.few c.put.ensures.head)
+    (besides_put m c.dropped.new.self c.down_where.new.self c.put.new.self (Event.GivenUp place) c.dropped.ensures.list c.down_where.ensures.list c.put.ensures.last c.put.ensures.few c.put.ensures.head
+    (λ k. ap (λ z. answer_at z.items k) c.down_where.ensures.works ∙ given_answers place m.posts.items c.dropped.new.self.posts.items c.dropped.ensures.answers k))
 
 pub returns-then-not-is_given_up-clause-told : goal.returns-then-not-is_given_up-clause-told
 returns-then-not-is_given_up-clause-told c =
@@ -99,4 +102,4 @@ returns-then-not-is_given_up-clause-told c =
     let s = c.index.result.now in
     let l : place < length m.tour.stops.items = omega (arith, c.requires, m.paired, m.tour.stops.ok.0) in
     besides_as [] (given_at m.tour.stops.items place) m m
-    (given_not place s.news (sym c.is_given_up.ensures ∙ c.if-not-is_given_up.true) ∙ sym (stop_here [] (λ t. given_told place t.news) m.tour.stops.items place s l c.index.ensures)) (besides_none m m refl)
+    (given_not place s.news (sym c.is_given_up.ensures ∙ c.if-not-is_given_up.true) ∙ sym (stop_here [] (λ t. given_told place t.news) m.tour.stops.items place s l c.index.ensures)) (besides_none m m refl refl)

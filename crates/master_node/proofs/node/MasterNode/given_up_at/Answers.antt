@@ -45,4 +45,4 @@ returns-else-place-len-clause-told c =
     let m = c.args.self.now in
     let place = c.args.place in
     let l : length m.tour.stops.items ≤ place = omega (arith, c.if-place-len.false, c.len.ensures, m.paired, m.tour.stops.ok.0) in
-    besides_as [] (given_at m.tour.stops.items place) m m (sym (stop_beyond [] (λ t. given_told place t.news) m.tour.stops.items place l)) (besides_none m m refl)
+    besides_as [] (given_at m.tour.stops.items place) m m (sym (stop_beyond [] (λ t. given_told place t.news) m.tour.stops.items place l)) (besides_none m m refl refl)

@@ -51,7 +51,7 @@ returns-in-None-clause-origins c =
     let l : c.args.place < length m.tour.stops.items = omega (arith, c.requires, m.paired, m.tour.stops.ok.0) in
     let k : c.args.place < length m.posts.items = omega (arith, c.requires, m.posts.ok.0) in
     subst (λ z. StepsAt (λ s t. StepsAt (λ p q. LaysFrom z s.side.hand.laying.number p q) c.args.place m.posts.items m.posts.items) c.args.place m.tour.stops.items m.tour.stops.items) (sym c.in-None.is)
-    (steps_same _ c.args.place m.tour.stops.items l (λ s. steps_same _ c.args.place m.posts.items k (λ p. record { counts = refl; origin = tt; gateway = tt; numbered = λ asked h. h })))
+    (steps_same _ c.args.place m.tour.stops.items l (λ s. steps_same _ c.args.place m.posts.items k (λ p. record { counts = refl; origin = tt; gateway = tt; numbered = λ asked h. h; answer = refl })))
 
 pub returns-in-Some-clause-origins : goal.returns-in-Some-clause-origins
 returns-in-Some-clause-origins c =

@@ -93,7 +93,7 @@ returns-in-State-clause-origins c =
     let m = c.args.self.now in
     let n = c.lay_state.new.self in
     subst (λ z. StepsAt (λ s t. StepsAt (λ p q. LaysFrom (Some z) s.side.hand.laying.number p q) c.args.place m.posts.items n.posts.items) c.args.place m.tour.stops.items n.tour.stops.items) (sym c.in-State.is)
-    (steps_map _ _ c.args.place m.tour.stops.items n.tour.stops.items (λ s t h. steps_map _ (λ p q. LaysFrom (Some (Coming.State c.in-State.field-0)) s.side.hand.laying.number p q) c.args.place m.posts.items n.posts.items (λ p q e. record { counts = e.0; origin = e.1; gateway = tt; numbered = e.2 }) h) c.lay_state.ensures.origins)
+    (steps_map _ _ c.args.place m.tour.stops.items n.tour.stops.items (λ s t h. steps_map _ (λ p q. LaysFrom (Some (Coming.State c.in-State.field-0)) s.side.hand.laying.number p q) c.args.place m.posts.items n.posts.items (λ p q e. record { counts = e.0; origin = e.1; gateway = tt; numbered = e.2; answer = e.3 }) h) c.lay_state.ensures.origins)
 
 pub returns-in-Packet-clause-sure : goal.returns-in-Packet-clause-sure
 returns-in-Packet-clause-sure c = λ w.

@@ -30,7 +30,7 @@ returns-in-Some-clause-origins c =
     let l : c.args.place < length m.tour.stops.items = omega (arith, c.requires, m.paired, m.tour.stops.ok.0) in
     let k : c.args.place < length m.posts.items = omega (arith, c.requires, m.posts.ok.0) in
     steps_set _ c.args.place m.tour.stops.items c.index_mut.result.now _ l c.index_mut.ensures.value
-    (steps_set _ c.args.place m.posts.items c.index_mut-post.result.now _ k c.index_mut-post.ensures.value (record { counts = c.take.ensures.forwards; origin = tt; gateway = c.take.ensures.origin ∙ ap (λ z. Origin.Gateway z) c.oldest.ensures; numbered = λ asked h. numbers_same c.take.new.self _ refl refl asked (c.take.ensures.numbered asked (numbers_same c.index_mut-post.result.now _ refl refl asked h)) }))
+    (steps_set _ c.args.place m.posts.items c.index_mut-post.result.now _ k c.index_mut-post.ensures.value (record { counts = c.take.ensures.forwards; origin = tt; gateway = c.take.ensures.origin ∙ ap (λ z. Origin.Gateway z) c.oldest.ensures; numbered = λ asked h. numbers_same c.take.new.self _ refl refl asked (c.take.ensures.numbered asked (numbers_same c.index_mut-post.result.now _ refl refl asked h)); answer = c.take.ensures.answer }))
 
 pub returns-in_default-clause-origins : goal.returns-in_default-clause-origins
 returns-in_default-clause-origins c =
@@ -38,7 +38,7 @@ returns-in_default-clause-origins c =
     let l : c.args.place < length m.tour.stops.items = omega (arith, c.requires, m.paired, m.tour.stops.ok.0) in
     let k : c.args.place < length m.posts.items = omega (arith, c.requires, m.posts.ok.0) in
     steps_same _ c.args.place m.tour.stops.items l
-    (λ s. steps_set _ c.args.place m.posts.items c.index_mut-post.result.now _ k c.index_mut-post.ensures.value (record { counts = c.take.ensures.forwards; origin = tt; gateway = c.take.ensures.origin ∙ ap (λ z. Origin.Gateway z) c.oldest.ensures; numbered = λ asked h. numbers_same c.take.new.self _ refl refl asked (c.take.ensures.numbered asked (numbers_same c.index_mut-post.result.now _ refl refl asked h)) }))
+    (λ s. steps_set _ c.args.place m.posts.items c.index_mut-post.result.now _ k c.index_mut-post.ensures.value (record { counts = c.take.ensures.forwards; origin = tt; gateway = c.take.ensures.origin ∙ ap (λ z. Origin.Gateway z) c.oldest.ensures; numbered = λ asked h. numbers_same c.take.new.self _ refl refl asked (c.take.ensures.numbered asked (numbers_same c.index_mut-post.result.now _ refl refl asked h)); answer = c.take.ensures.answer }))
 
 pub returns-in-Some-clause-mails : goal.returns-in-Some-clause-mails
 returns-in-Some-clause-mails c =

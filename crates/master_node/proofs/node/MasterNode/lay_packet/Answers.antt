@@ -40,14 +40,14 @@ returns-in-Some-clause-origins c =
     let m = c.args.self.now in
     let l : c.args.place < length m.tour.stops.items = omega (arith, c.requires, m.paired, m.tour.stops.ok.0) in
     let k : c.args.place < length m.posts.items = omega (arith, c.requires, m.posts.ok.0) in
-    steps_set _ c.args.place m.tour.stops.items c.index_mut.result.now _ l c.index_mut.ensures.value (steps_set _ c.args.place m.posts.items c.index_mut-post.result.now _ k c.index_mut-post.ensures.value (record { counts = refl; origin = refl; gateway = tt; numbered = numbers_same c.index_mut-post.result.now _ refl refl }))
+    steps_set _ c.args.place m.tour.stops.items c.index_mut.result.now _ l c.index_mut.ensures.value (steps_set _ c.args.place m.posts.items c.index_mut-post.result.now _ k c.index_mut-post.ensures.value (record { counts = refl; origin = refl; gateway = tt; numbered = numbers_same c.index_mut-post.result.now _ refl refl; answer = refl }))
 
 pub returns-in-None-clause-origins : goal.returns-in-None-clause-origins
 returns-in-None-clause-origins c =
     let m = c.args.self.now in
     let l : c.args.place < length m.tour.stops.items = omega (arith, c.requires, m.paired, m.tour.stops.ok.0) in
     let k : c.args.place < length m.posts.items = omega (arith, c.requires, m.posts.ok.0) in
-    steps_set _ c.args.place m.tour.stops.items c.index_mut-in-None.result.now _ l c.index_mut-in-None.ensures.value (steps_set _ c.args.place m.posts.items c.index_mut-post.result.now _ k c.index_mut-post.ensures.value (record { counts = refl; origin = refl; gateway = tt; numbered = numbers_same c.index_mut-post.result.now _ refl refl }))
+    steps_set _ c.args.place m.tour.stops.items c.index_mut-in-None.result.now _ l c.index_mut-in-None.ensures.value (steps_set _ c.args.place m.posts.items c.index_mut-post.result.now _ k c.index_mut-post.ensures.value (record { counts = refl; origin = refl; gateway = tt; numbered = numbers_same c.index_mut-post.result.now _ refl refl; answer = refl }))
 
 pub returns-in-Some-clause-sure : goal.returns-in-Some-clause-sure
 returns-in-Some-clause-sure c = λ n.

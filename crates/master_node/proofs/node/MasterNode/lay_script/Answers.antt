@@ -22,7 +22,7 @@ returns-clause-origins c =
     let l : c.args.place < length m.tour.stops.items = omega (arith, c.requires, m.paired, m.tour.stops.ok.0) in
     let k : c.args.place < length m.posts.items = omega (arith, c.requires, m.posts.ok.0) in
     steps_set _ c.args.place m.tour.stops.items c.index_mut.result.now _ l c.index_mut.ensures.value
-    (steps_set _ c.args.place m.posts.items c.index_mut-post.result.now _ k c.index_mut-post.ensures.value (record { counts = refl; origin = ap (λ z. Origin.Script z) c.number-number.ensures; gateway = tt; numbered = numbers_same c.index_mut-post.result.now _ refl refl }))
+    (steps_set _ c.args.place m.posts.items c.index_mut-post.result.now _ k c.index_mut-post.ensures.value (record { counts = refl; origin = ap (λ z. Origin.Script z) c.number-number.ensures; gateway = tt; numbered = numbers_same c.index_mut-post.result.now _ refl refl; answer = refl }))
 
 pub returns-clause-mails : goal.returns-clause-mails
 returns-clause-mails c =

@@ -15,7 +15,7 @@ returns-clause-origins c =
     let l : c.args.place < length m.tour.stops.items = omega (arith, c.requires, m.paired, m.tour.stops.ok.0) in
     let k : c.args.place < length m.posts.items = omega (arith, c.requires, m.posts.ok.0) in
     steps_stay _ c.args.place m.tour.stops.items c.index.result.now l c.index.ensures
-    (steps_set _ c.args.place m.posts.items c.index_mut-post.result.now _ k c.index_mut-post.ensures.value (refl, ap (λ z. Origin.Script z) c.number-number.ensures, numbers_same c.index_mut-post.result.now _ refl refl))
+    (steps_set _ c.args.place m.posts.items c.index_mut-post.result.now _ k c.index_mut-post.ensures.value (refl, ap (λ z. Origin.Script z) c.number-number.ensures, numbers_same c.index_mut-post.result.now _ refl refl, refl))
 
 pub returns-clause-mails : goal.returns-clause-mails
 returns-clause-mails c =

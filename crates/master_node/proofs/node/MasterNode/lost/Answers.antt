@@ -54,6 +54,7 @@ use Rattle.master_node.proofs.Listing.{listed_whole, told_same}
 use Rattle.master_node.proofs.Turneds.{lost_turned, turned_all}
 use Rattle.master_node.specs.Listing.{events_in, told_in}
 use Rattle.master_node.proofs.ToldFew.{just_told, given_few, told_one}
+use Rattle.master_node.specs.Answered.{answer_at, answer_behind}
 use Rattle.master_node.proofs.node.MasterNode.lost.Goals as goal
 
 pub returns-clause-leads : goal.returns-clause-leads
@@ -219,3 +220,12 @@ returns-clause-told c = λ lens recover retry missed made after octets vs f p b 
 
 pub returns-clause-whole : goal.returns-clause-whole
 returns-clause-whole c = listed_whole c.all_given_up.new.self ∙ ap (λ z. z ++ events_in c.all_given_up.new.self) (c.all_given_up.ensures.told.head ∙ c.ends.ensures.head)
+
+pub returns-clause-answers : goal.returns-clause-answers
+returns-clause-answers c = λ few k.
+    let m = c.args.self.now in
+    let ts = c.lost.new.self.stops.items in
+    let visit = c.lost.new.self.visit.items in
+    let most : length visit ≤ 16 = c.all_given_up.ensures.few in
+    let told = c.all_given_up.ensures.told in
+    told.answers k ∙ ap (λ z. answer_behind k z (answer_at m.posts.items k)) (sym (just_told (told_in (λ j. given_at ts j) visit) m.list.before told few c.ends.ensures.few c.ends.ensures.last (omega (arith, told_one (λ j. given_at ts j) (λ j. given_few ts j) visit, most))))

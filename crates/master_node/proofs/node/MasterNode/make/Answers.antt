@@ -254,3 +254,6 @@ returns-clause-serves c = λ lens recover retry missed made forwards ws some sma
 
 pub returns-clause-head : goal.returns-clause-head
 returns-clause-head c = c.fill.ensures.head
+
+pub returns-clause-answers : goal.returns-clause-answers
+returns-clause-answers c = c.fill.ensures.answers

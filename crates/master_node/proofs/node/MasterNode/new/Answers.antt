@@ -10,6 +10,7 @@ use Rattle.master_node.proofs.Servings.{firsts_served, leads_kept, lives_all, ru
 use Rattle.master_node.specs.Serving.{IsServed}
 use Rattle.master_node.proofs.Listing.{none_counted}
 use Rattle.master_node.proofs.Numbereds.{numbers_first}
+use Rattle.master_node.proofs.Answereds.{none_answered}
 use Rattle.master_node.proofs.node.MasterNode.new.Goals as goal
 
 pub returns-clause-leads : goal.returns-clause-leads
@@ -55,3 +56,6 @@ returns-clause-served c =
       early = omega arith;
       numbered = numbers_first (λ w p s. IsServed (lens_of plan.slaves) plan.recover 0 w p s) plan.paces leads c.in_ok-posts.posts.items t.stops.items each c.in_ok-posts.ensures.quiet c.in_ok-posts.ensures.oldest;
     }
+
+pub returns-clause-answers : goal.returns-clause-answers
+returns-clause-answers c = λ k. none_answered c.in_ok-posts.posts.items c.in_ok-posts.ensures.answers k

@@ -33,6 +33,7 @@ use Rattle.master_node.proofs.ServedTells.{served_made}
 use Rattle.std.proofs.Common.{ℕ, ◌++◌, take}
 use Rattle.master_node.specs.Listed.{listed, listed_last}
 use Rattle.master_node.specs.Listing.{events_before, events_in}
+use Rattle.master_node.specs.Answered.{AnswersBy, answer_at, answer_behind}
 use Rattle.master_node.proofs.node.MasterNode.next.Goals as goal
 
 pub returns-clause-led : goal.returns-clause-led
@@ -158,3 +159,16 @@ returns-clause-whole c =
     let all : listed n.list.rows.items n.list.count ≡ events_in n = listed_whole n ∙ ap (λ z. z ++ events_in n) none in
     let same : listed l.rows.items l.count ≡ listed_last l.rows.items l.first l.count = c.made.ensures.all ∙ all ∙ sym c.made.ensures.last in
     (same, ap (λ (k : ℕ). take k l.rows.items) (c.made.ensures.before ∙ sym c.made.ensures.rows.1) ∙ same)
+
+pub returns-then-not-has_live-clause-answers : goal.returns-then-not-has_live-clause-answers
+returns-then-not-has_live-clause-answers c = λ k. ap (λ z. answer_behind k z (answer_at c.args.self.now.posts.items k)) (sym c.clear.ensures.last)
+
+pub returns-clause-answers : goal.returns-clause-answers
+returns-clause-answers c = λ k.
+    let m = c.args.self.now in
+    let n = c.admit.new.self in
+    let base = λ (j : ℕ). answer_at m.posts.items j in
+    let u = unlisted (record m { list = c.clear.new.self; lan = c.begins.new.self }) n c.clear.ensures.none c.clear.ensures.last c.admit.ensures.list c.admit.ensures.same.0 in
+    let none = u.few in
+    let first : AnswersBy base n = λ j. ap (λ z. answer_at z.items j) c.admit.ensures.same.0 ∙ ap (λ z. answer_behind j z (base j)) (sym u.none) in
+    c.make.ensures.answers (omega (arith, none)) base first k ∙ ap (λ z. answer_behind k z (base k)) (sym c.made.ensures.last)

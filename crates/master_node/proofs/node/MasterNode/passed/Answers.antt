@@ -41,7 +41,7 @@ returns-then-is_none-clause-told c =
     let l : place < length m.tour.stops.items = omega (arith, c.requires, m.paired, m.tour.stops.ok.0) in
     so_here (λ t v. passed_does place key t v) place m _ s l c.index.ensures
     (does_as place _ (passed_does place key s w) m _ (passed_none place key s.side.passing w (c.is_none.ensures ∙ ap not c.if-is_none.true))
-    (does_then place (answers place ReplyKind.Handed) (λ v. record { told = Event.GatewayDone key ∷ []; work = v }) m n _ c.answered.ensures.told (does_told place (Event.GatewayDone key ∷ []) n _ (besides_one n _ _ c.put.ensures.last c.put.ensures.few c.put.ensures.head) refl)))
+    (does_then place (answers place ReplyKind.Handed) (λ v. record { told = Event.GatewayDone key ∷ []; work = v }) m n _ c.answered.ensures.told (does_told place (Event.GatewayDone key ∷ []) n _ (besides_one n _ _ c.put.ensures.last c.put.ensures.few c.put.ensures.head (λ k. refl)) refl)))
 
 pub returns-else-is_none-clause-told : goal.returns-else-is_none-clause-told
 returns-else-is_none-clause-told c =

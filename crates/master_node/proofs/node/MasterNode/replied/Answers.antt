@@ -38,7 +38,7 @@ returns-in-Some-clause-told c =
     so_here (λ t w. replied_does key t w) place m _ s l c.index.ensures
     (does_told place (reply_told key (reply_kept s.side.hand.found)) m _
     (besides_as (_ ∷ []) (reply_told key (reply_kept s.side.hand.found)) m _
-    (ap (λ z. Event.GatewayReply key z ∷ []) (bare_is c.in-Some.mail.now _ b.local.0 b.local.1 b.same.0 b.same.1) ∙ ap (reply_told key) c.in-Some.ensures) (besides_one m _ _ c.put.ensures.last c.put.ensures.few c.put.ensures.head))
+    (ap (λ z. Event.GatewayReply key z ∷ []) (bare_is c.in-Some.mail.now _ b.local.0 b.local.1 b.same.0 b.same.1) ∙ ap (reply_told key) c.in-Some.ensures) (besides_one m _ _ c.put.ensures.last c.put.ensures.few c.put.ensures.head (λ k. refl)))
     refl)
 
 pub returns-in_default-clause-told : goal.returns-in_default-clause-told
@@ -49,4 +49,4 @@ returns-in_default-clause-told c =
     let s = c.index.result.now in
     let l : place < length m.tour.stops.items = omega (arith, c.requires, m.paired, m.tour.stops.ok.0) in
     so_here (λ t w. replied_does key t w) place m m s l c.index.ensures
-    (does_told place (reply_told key (reply_kept s.side.hand.found)) m m (besides_as [] (reply_told key (reply_kept s.side.hand.found)) m m (ap (reply_told key) c.in_default.ensures) (besides_none m m refl)) refl)
+    (does_told place (reply_told key (reply_kept s.side.hand.found)) m m (besides_as [] (reply_told key (reply_kept s.side.hand.found)) m m (ap (reply_told key) c.in_default.ensures) (besides_none m m refl refl)) refl)

@@ -62,6 +62,7 @@ use Rattle.master_node.proofs.Backtolds.{back_all}
 use Rattle.master_node.specs.Backtold.{returned_at}
 use Rattle.master_node.specs.Eager.{recall_of}
 use Rattle.master_node.proofs.Listing.{listed_whole, told_same}
+use Rattle.master_node.specs.Answered.{answer_at, answer_behind}
 use Rattle.master_node.proofs.node.MasterNode.returned.Goals as goal
 
 pub returns-clause-leads : goal.returns-clause-leads
@@ -277,3 +278,13 @@ returns-clause-told c = λ lens recover retry missed made octets vs f p b u r fe
 
 pub returns-clause-whole : goal.returns-clause-whole
 returns-clause-whole c = listed_whole c.all_back.new.self ∙ ap (λ z. z ++ events_in c.all_back.new.self) (c.all_back.ensures.head ∙ c.ends.ensures.head)
+
+pub returns-clause-answers : goal.returns-clause-answers
+returns-clause-answers c = λ once few k.
+    let m = c.args.self.now in
+    let ts = c.returned.new.self.stops.items in
+    let visit = c.returned.new.self.visit.items in
+    let tells = λ (j : ℕ). (by_stop (stays (work_at m.posts.items j)) (λ t. back_does j t (work_at m.posts.items j)) ts j).told in
+    let most = c.all_back.ensures.few in
+    let told = c.all_back.ensures.told (subst (λ z. AreOnce z.items) (sym c.returned.ensures.tour.0) once) in
+    told.answers k ∙ ap (λ z. answer_behind k z (answer_at m.posts.items k)) (sym (just_told (told_in tells visit) m.list.before told few c.ends.ensures.few c.ends.ensures.last (omega (arith, told_five tells (λ j. back_few m.posts.items ts j) visit, most))))

@@ -60,7 +60,7 @@ returns-in-Some-Cleared-clause-told c =
     let l : place < length m.tour.stops.items = omega (arith, c.requires, m.paired, m.tour.stops.ok.0) in
     so_here (λ t v. turned_does place t v) place m _ s l c.index.ensures
     (does_as place _ (turned_does place s w) m _ ((λ i. record { told = Event.Cleared place (c.has_state-own.ensures i) ∷ []; work = w }) ∙ ap (λ z. turned_where place z w) (sym (c.in-Some-Cleared.is ∙ ap Some (rw c.in-Some-Cleared.is at c.in-Some-Cleared.field-0-is))))
-    (does_told place (Event.Cleared place c.has_state-own.result ∷ []) m _ (besides_one m _ _ c.put.ensures.last c.put.ensures.few c.put.ensures.head) refl))
+    (does_told place (Event.Cleared place c.has_state-own.result ∷ []) m _ (besides_one m _ _ c.put.ensures.last c.put.ensures.few c.put.ensures.head (λ k. refl)) refl))
 
 pub returns-else-own-clause-told : goal.returns-else-own-clause-told
 returns-else-own-clause-told c =
@@ -71,7 +71,7 @@ returns-else-own-clause-told c =
     let l : place < length m.tour.stops.items = omega (arith, c.requires, m.paired, m.tour.stops.ok.0) in
     so_here (λ t v. turned_does place t v) place m _ s l c.index.ensures
     (does_as place _ (turned_does place s w) m _ (ap (λ z. opened_where place z w) (sym (sym c.has_state-own.ensures ∙ c.if-own.false)) ∙ ap (λ z. turned_where place z w) (sym (c.in-Some-Opened.is ∙ ap Some (rw c.in-Some-Opened.is at c.in-Some-Opened.field-0-is))))
-    (does_told place (Event.Opened place ∷ []) m _ (besides_one m _ _ c.put-in-Some-Opened.ensures.last c.put-in-Some-Opened.ensures.few c.put-in-Some-Opened.ensures.head) refl))
+    (does_told place (Event.Opened place ∷ []) m _ (besides_one m _ _ c.put-in-Some-Opened.ensures.last c.put-in-Some-Opened.ensures.few c.put-in-Some-Opened.ensures.head (λ k. refl)) refl))
 
 pub returns-then-own-clause-told : goal.returns-then-own-clause-told
 returns-then-own-clause-told c =
@@ -82,7 +82,7 @@ returns-then-own-clause-told c =
     let l : place < length m.tour.stops.items = omega (arith, c.requires, m.paired, m.tour.stops.ok.0) in
     so_here (λ t v. turned_does place t v) place m _ s l c.index.ensures
     (does_as place _ (turned_does place s w) m _ (ap (λ z. opened_where place z w) (sym (sym c.has_state-own.ensures ∙ c.if-own.true)) ∙ ap (λ z. turned_where place z w) (sym (c.in-Some-Opened.is ∙ ap Some (rw c.in-Some-Opened.is at c.in-Some-Opened.field-0-is))))
-    (does_then place (record { told = Event.Opened place ∷ []; work = w }) (λ v. answers place ReplyKind.Done) m _ _ (does_told place (Event.Opened place ∷ []) m _ (besides_one m _ _ c.put-in-Some-Opened.ensures.last c.put-in-Some-Opened.ensures.few c.put-in-Some-Opened.ensures.head) refl) c.answered.ensures.told))
+    (does_then place (record { told = Event.Opened place ∷ []; work = w }) (λ v. answers place ReplyKind.Done) m _ _ (does_told place (Event.Opened place ∷ []) m _ (besides_one m _ _ c.put-in-Some-Opened.ensures.last c.put-in-Some-Opened.ensures.few c.put-in-Some-Opened.ensures.head (λ k. refl)) refl) c.answered.ensures.told))
 
 pub returns-in-Some-GivenUp-clause-told : goal.returns-in-Some-GivenUp-clause-told
 returns-in-Some-GivenUp-clause-told c =

@@ -73,6 +73,7 @@ use Rattle.master_node.specs.Numbered.{IsNumbered, StaysNumbered}
 use Rattle.master_node.proofs.Lists.{both_each}
 use Rattle.master_node.proofs.ServedSents.{map_map}
 use Rattle.master_node.proofs.ServedTells.{told_visit}
+use Rattle.master_node.proofs.Answereds.{laid_answers, visit_answers}
 use Rattle.master_node.proofs.node.MasterNode.visit.Goals as goal
 
 pub returns-then-not-fits-clause-led : goal.returns-then-not-fits-clause-led
@@ -451,3 +452,12 @@ returns-then-not-fits-clause-head c = refl
 
 pub returns-clause-head : goal.returns-clause-head
 returns-clause-head c = c.came.ensures.head ∙ before_of_list _ _ c.lay.ensures.list
+
+pub returns-then-not-fits-clause-answers : goal.returns-then-not-fits-clause-answers
+returns-then-not-fits-clause-answers c = λ few base x. x
+
+pub returns-clause-answers : goal.returns-clause-answers
+returns-clause-answers c = λ few.
+    let m = c.args.self.now in
+    visit_answers c.args.place (where_began c.visit-began.result c.coming-coming.result) m _ c.came.new.self c.lay.ensures.list few
+    (laid_answers c.coming-coming.result c.args.place m.posts.items c.lay.new.self.posts.items c.fits.new.self.stops.items c.lay.new.self.tour.stops.items c.lay.ensures.origins) c.came.ensures.lists
