@@ -1,5 +1,5 @@
 -- THE LAST ANSWERS of the slaves, event by event.
-use Rattle.std.proofs.Common.{◌≡◌, ◌==◌, ◌<◌, ℕ, zero, suc, Bool, true, false, Option, Some, None, List, [], ◌∷◌, ◌++◌, refl, sym, ap, subst, ◌∙◌, arith, length, get_or, set}
+use Rattle.std.proofs.Common.{◌≡◌, ◌==◌, ◌<◌, ℕ, zero, suc, Bool, true, false, Option, Some, None, List, [], ◌∷◌, ◌++◌, refl, sym, ap, subst, ◌∙◌, arith}
 use Rattle.std.specs.Prelude.{All, if◌then◌else◌}
 use Rattle.std.proofs.lemmas.Bool.{eq-eqb, eqb-true}
 use Rattle.std.proofs.lemmas.List.Elements.{All-head, All-tail}
@@ -112,12 +112,11 @@ pub visit_answers : (place : ℕ) (what : Option Coming) (m l n : MasterNode) �
 visit_answers place what m l n same few laid s = λ base x k.
     let ps = l.posts.items in
     let qs = n.posts.items in
-    let P = λ (p q : Post). ListsOne place what l n p q in
     let came = came_listed what place l n place ps qs s in
     let es = began_from place what came.0 in
     let listed : events_in n ≡ events_in m ++ es = came.1 (subst (λ w. w.count < 97) (sym same) few) ∙ ap (λ z. z ++ es) (events_by m l same) in
     let goes : answer_at qs k ≡ answer_behind k es (answer_at ps k) =
     by_place (λ j. answer_at qs j ≡ answer_behind j es (answer_at ps j)) k place
-    (first_answer (answer_from what) P (λ p q y. y.answer) place ps qs s ∙ sym (began_here place what came.0 (answer_at ps place)))
-    (λ e. other_answers P place ps qs s k (apart_by k place e) ∙ sym (began_there k place what came.0 (answer_at ps k) e)) in
+    (first_answer (answer_from what) (λ p q. ListsOne place what l n p q) (λ p q y. y.answer) place ps qs s ∙ sym (began_here place what came.0 (answer_at ps place)))
+    (λ e. other_answers (λ p q. ListsOne place what l n p q) place ps qs s k (apart_by k place e) ∙ sym (began_there k place what came.0 (answer_at ps k) e)) in
     goes ∙ ap (answer_behind k es) (laid k ∙ x k) ∙ sym (answer_more k (events_in m) es (base k)) ∙ ap (λ z. answer_behind k z (base k)) (sym listed)

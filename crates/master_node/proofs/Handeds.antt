@@ -29,7 +29,7 @@ use Rattle.master_node.specs.Handed.{HasBegun, IsDuty, IsHanded, StaysNamed, han
 use Rattle.master_node.specs.Passes.{BeginsFree}
 use Rattle.master_node.specs.declared.post.Work.{Work}
 use Rattle.master_node.proofs.Changes.{none_back}
-use Rattle.master_node.proofs.Mailed.{next_passing}
+use Rattle.master_node.proofs.Mailed.{next_passing, next_stands}
 
 -- no script passes a mail on
 abbrev pub passed_in : Option Asked → Bool
@@ -232,11 +232,6 @@ no_grow (y ∷ ys) x e = no_grow ys x (ap tail e)
     tail (z ∷ zs) = zs
 
 module _ (x : Speech Body Asked Reply) (made : ℕ) (l : Life Body Asked Reply) where
-  next_stands : (stand : Lives.Stand) (pick : Pick Asked) → l.stand ≡ stand → (life_next x acknowledged is_followed is_passed made l stand pick).stand ≡ stand
-  next_stands (Lives.Stand.Opens o) pick e = e
-  next_stands Lives.Stand.Open pick e = e
-  next_stands Lives.Stand.Gone pick e = e
-
   abbrev begins_so : Option Accounts.Duty → Option (Service Asked) → Account Asked Reply
   begins_so hand b = Accounts.account_begins x acknowledged made l.era.side l.era.account hand b
 
@@ -272,7 +267,7 @@ module _ (x : Speech Body Asked Reply) (made : ℕ) (l : Life Body Asked Reply) 
 
   pub begun_is : (n : Life Body Asked Reply) (b : Option (Service Asked)) (pick : Pick Asked) → n ≡ life_next x acknowledged is_followed is_passed made l l.stand pick → pick.begin ≡ b → Counts made pick.begin l n → BeginsFree l b → HasBegun l b n
   begun_is n b pick is e counts free = record {
-    stand = ap (λ z. z.stand) is ∙ next_stands l.stand pick refl;
+    stand = ap (λ z. z.stand) is ∙ next_stands x made l l.stand pick refl;
     passing = next_passing x made l n b pick is e counts free;
     duty = subst (λ z. IsDuty l.era.account.hand b z.era.account.hand) (sym is) (next_duty l.stand b pick refl e (subst (λ z. Counts made pick.begin l z) is counts) free);
   }

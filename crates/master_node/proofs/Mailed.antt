@@ -32,6 +32,12 @@ use Rattle.master_node.specs.Serving.{MayPass}
 use Rattle.master_node.specs.declared.coming.Coming.{Coming}
 use Rattle.master_node.proofs.Cames.{NumberBehind, came_by}
 
+-- how it stands to its slave stays
+pub next_stands : (x : Speech Body Asked Reply) (made : ℕ) (l : Life Body Asked Reply) (stand : Lives.Stand) (pick : Pick Asked) → l.stand ≡ stand → (life_next x acknowledged is_followed is_passed made l stand pick).stand ≡ stand
+next_stands x made l (Lives.Stand.Opens o) pick e = e
+next_stands x made l Lives.Stand.Open pick e = e
+next_stands x made l Lives.Stand.Gone pick e = e
+
 -- where nothing came into hand all is as it was
 pub record NoneCame (n m : ℕ) (waits left : List Keyed) (hand behind : Option Passed) : Type 0 where
   pub number_is : m ≡ n

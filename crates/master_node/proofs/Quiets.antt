@@ -95,13 +95,23 @@ live_some test (s ∷ ss) (suc k) e = or_true (test s) (list_any test ss) (live_
     or_true true b e = refl
     or_true false b e = e
 
--- one more place of which nothing is wanted
-pub quiet_more : {S : Type 0} (P : S → Type 0) (ss : List S) (n : ℕ) → ((k : ℕ) → k < n → IfSome (slice_get ss k) P) → IfSome (slice_get ss n) P → (k : ℕ) → k < n + 1 → IfSome (slice_get ss k) P
-quiet_more P ss n h here k l = by (nat_lt k n) refl
+-- a place where the test holds is one of them
+pub held_inside : {S : Type 0} (test : S → Bool) (ss : List S) (k : ℕ) → holds_at test ss k ≡ true → k < length ss
+held_inside test [] k e = absurd (let bad : false ≡ true = e in cc)
+held_inside test (s ∷ ss) zero e = omega arith
+held_inside test (s ∷ ss) (suc k) e = let l = held_inside test ss k e in omega (arith, l)
+
+-- one more place
+pub below_more : (P : ℕ → Type 0) (n : ℕ) → ((k : ℕ) → k < n → P k) → P n → (k : ℕ) → k < n + 1 → P k
+below_more P n h here k l = by (nat_lt k n) refl
   where
-    by : (b : Bool) → nat_lt k n ≡ b → IfSome (slice_get ss k) P
+    by : (b : Bool) → nat_lt k n ≡ b → P k
     by true lt = h k (ltb-true k n lt)
-    by false ge = let over = ltb-false k n ge in let same : n ≡ k = omega (arith, over, l) in subst (λ (i : ℕ). IfSome (slice_get ss i) P) same here
+    by false ge = let over = ltb-false k n ge in let same : n ≡ k = omega (arith, over, l) in subst P same here
+
+-- of which nothing is wanted
+pub quiet_more : {S : Type 0} (P : S → Type 0) (ss : List S) (n : ℕ) → ((k : ℕ) → k < n → IfSome (slice_get ss k) P) → IfSome (slice_get ss n) P → (k : ℕ) → k < n + 1 → IfSome (slice_get ss k) P
+quiet_more P ss n h here = below_more (λ (i : ℕ). IfSome (slice_get ss i) P) n h here
 
 -- HOW OFTEN a slave was given up, by its stop: while it is live
 gave_open : (recover times n spare : ℕ) → spare ≡ recover - n → n ≤ recover → nat_lt times (recover - spare) ≡ nat_lt times n

@@ -40,6 +40,7 @@ use Rattle.master_node.specs.Shows.{MasterShows, WaitsNone, is_led, lived_of, tu
 use Rattle.master_tour.specs.Stands.{is_opening}
 use Rattle.master_node.proofs.Cames.{asked_unpassed}
 use Rattle.master_node.proofs.Lists.{both_holds, both_length}
+use Rattle.master_node.proofs.Mailed.{next_stands}
 
 -- a slave is live where its life is
 pub stand_lives : {G : Ghosts InHand} (lens : ℕ → Lens) (recover : ℕ) (a : Lived Asked Reply) (t : Stop InHand G) → IsLived lens recover a t → is_live t.stand ≡ is_led a.life.stand
@@ -109,11 +110,6 @@ comes_own room script n m b Comes.none q e = absurd (cc)
 comes_own room script n m b (Comes.mails s p g a) q e = let f : p ≡ q = cc in ap is_passed (sym f) ∙ asked_unpassed room s p a
 comes_own room script n m b (Comes.state target g) q e = absurd (cc)
 comes_own room script n m b (Comes.packet octets frame) q e = let f : net (EoeClient.packet octets frame) ≡ q = cc in ap is_passed (sym f)
-
-next_stands : (x : Speech Body Asked Reply) (made : ℕ) (l : Life Body Asked Reply) (stand : Lives.Stand) (pick : Pick Asked) → l.stand ≡ stand → (life_next x acknowledged is_followed is_passed made l stand pick).stand ≡ stand
-next_stands x made l (Lives.Stand.Opens o) pick e = e
-next_stands x made l Lives.Stand.Open pick e = e
-next_stands x made l Lives.Stand.Gone pick e = e
 
 pub took_of : (made : ℕ) (old new : Account Asked Reply) (p b : Option (Service Asked)) → p ≡ b → new.started ≡ old.started ++ started_by made p → Took made old new b
 took_of made old new p None e s = tt

@@ -53,7 +53,7 @@ use Rattle.master_node.proofs.Fills.{begun_at, begun_comes, begun_here, fills_ke
 use Rattle.master_node.proofs.Handings.{handing_on}
 use Rattle.master_node.proofs.Kepts.{lives_kept, stop_same}
 use Rattle.master_node.proofs.Lists.{no_end, no_step, steps_each, steps_got, steps_map, steps_mid, steps_trans}
-use Rattle.master_node.proofs.Mailed.{next_passing, none_begun, none_came, served_came, stand_awaits, stand_same}
+use Rattle.master_node.proofs.Mailed.{next_passing, next_stands, none_begun, none_came, served_came, stand_awaits, stand_same}
 use Rattle.master_node.proofs.Threes.{three_with}
 use Rattle.master_node.proofs.Visits.{Began, SomeKept}
 
@@ -164,11 +164,6 @@ script_stays b s t e = ap (λ w. w.script) e ∙ go b
     go : (z : Bool) → (if z then scripted_behind s.side.hand.laying else scripted s.side.hand.laying).script ≡ s.side.hand.laying.script
     go true = refl
     go false = refl
-
-next_stands : (x : Speech Body Asked Reply) (made : ℕ) (l : Life Body Asked Reply) (stand : Lives.Stand) (pick : Pick Asked) → l.stand ≡ stand → (life_next x acknowledged is_followed is_passed made l stand pick).stand ≡ stand
-next_stands x made l (Lives.Stand.Opens o) pick e = e
-next_stands x made l Lives.Stand.Open pick e = e
-next_stands x made l Lives.Stand.Gone pick e = e
 
 -- where it is open its life is
 open_life : (shows : Seats.Side Body Asked Reply → Account Asked Reply → Type 0) (spot : Spot) (stand : Stand) (l : Life Body Asked Reply) → stand ≡ Stand.Open → StandShows shows spot stand l → l.stand ≡ Lives.Stand.Open

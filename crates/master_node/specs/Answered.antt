@@ -32,6 +32,10 @@ answer_behind k (e ∷ es) a = answer_behind k es (answer_on k e a)
 abbrev pub AnswersBy : (ℕ → Option ReplyKind) → MasterNode → Type 0
 AnswersBy base m = (k : ℕ) → answer_at m.posts.items k ≡ answer_behind k (events_in m) (base k)
 
--- a step goes on so
+-- a part of a step goes on so
 abbrev pub AnswersOn : MasterNode → MasterNode → Type 0
 AnswersOn m n = (base : ℕ → Option ReplyKind) → AnswersBy base m → AnswersBy base n
+
+-- a whole step
+abbrev pub AnswersSo : MasterNode → MasterNode → Type 0
+AnswersSo m n = AnswersBy (λ k. answer_at m.posts.items k) n

@@ -1,5 +1,6 @@
 -- WHAT A MASTER STILL WANTS of the slaves that it leads, and how often each was given up.
-use Rattle.std.specs.Prelude.{◌≡◌, ◌⊎◌, ◌≤◌, ℕ, suc, ◌-◌, Bool, true, nat_lt, nat_le, None, List, [], ◌∷◌, length, slice_get, ⊤}
+use Rattle.std.specs.Prelude.{◌≡◌, ◌⊎◌, ◌≤◌, ℕ, suc, ◌-◌, Bool, true, false, nat_lt, nat_le, None, List, [], ◌∷◌, length, slice_get, ⊤}
+use Rattle.std.specs.List.{list_any}
 use Rattle.master_duty.specs.of_exchange_model.Exchange.{Speech}
 use Rattle.life_runs.specs.of_frame_view.View.{Lens}
 use Rattle.master_tour.specs.of_life_model.Lives
@@ -15,10 +16,14 @@ use Rattle.master_side.specs.Carried.{in_hand}
 use Rattle.master_side.specs.Shown.{SideShows}
 use Rattle.master_side.specs.declared.hand.Hand.{Ghosts}
 use Rattle.master_side.specs.declared.side.Side as Sides
+use Rattle.master_tour.specs.Goes.{holds_at, is_live}
 use Rattle.master_tour.specs.declared.stop.Stand.{Stand}
 use Rattle.master_duty.specs.of_segment_model.Laws.{WantsNothing}
 use Rattle.master_duty.specs.of_segment_model.Seats
 use Rattle.master_duty.specs.of_task_model.Accounts.{Account, is_free}
+use Rattle.master_node.specs.Forwards.{forwarded}
+use Rattle.master_node.specs.Lives.{waiting_at}
+use Rattle.master_node.specs.declared.node.MasterNode.{MasterNode}
 
 -- the frames at which a slave was given up
 abbrev pub gave_of : Leads → List ℕ
@@ -75,3 +80,12 @@ abbrev pub IsQuietBy : {G : Ghosts InHand} → Stand → Sides.Side InHand G →
 IsQuietBy (Stand.Opening up) s = ⊥
 IsQuietBy Stand.Open s = IsQuiet s
 IsQuietBy Stand.Gone s = ⊤
+
+-- nothing waits for the slave at a place: no packet at its port, and no mail that is passed on
+abbrev pub NoneWaiting : MasterNode → ℕ → Type 0
+NoneWaiting m k = (forwarded m.lan.switch m.lan.ports.items k ≡ []) × (waiting_at m.posts.items k ≡ 0)
+
+-- NOTHING IS STILL TO COME: nothing waits for a slave that is live, and while one is all packets of the host have come in
+pub record NoneToCome (m : MasterNode) : Type 0 where
+  pub slaves : (k : ℕ) → holds_at (λ s. is_live s.stand) m.tour.stops.items k ≡ true → NoneWaiting m k
+  pub host : list_any (λ s. is_live s.stand) m.tour.stops.items ≡ true → nat_lt m.lan.entered (length m.lan.host) ≡ false

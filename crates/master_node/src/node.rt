@@ -89,7 +89,7 @@ impl MasterNode {
     ghost use Rattle.master_node.specs.Resting.{AllRest, StopRests};
     ghost use Rattle.master_node.specs.Listing.{Before, IsUnlisted, ListsOne, ServicesBegin, events_before, events_in, where_began};
     ghost use Rattle.master_node.specs.Origins.{forwards_at};
-    ghost use Rattle.master_node.specs.Answered.{AnswersOn, answer_at, answer_behind};
+    ghost use Rattle.master_node.specs.Answered.{AnswersOn, AnswersSo, answer_at};
     ghost use Rattle.master_node.specs.Begins.{HasTaken, NoneMore, PacketsBegin, TakesOn, taken_for, taken_where};
 
     // Whether a slave is live.
@@ -320,7 +320,7 @@ impl MasterNode {
     /// one by which that read is repeated; with nothing in doubt it has the write of the mail held, the read of mailbox 1 or that of the status of mailbox 0, by
     /// what is remembered of its visits; and behind its visit no mail is left that could be held. Where each slave was given up for good or rests and no packet
     /// waits at any port, a packet of the host comes in, if one is left. The packets that came into hand are just those that leave their ports of the switch, each the oldest there.
-    /// Just the services that came into hand are listed as begun, each with where it comes from and its number there.
+    /// Just the services that came into hand are listed as begun, each with where it comes from and its number there; no such one has its answer yet.
     /// The events of the frame are then those of its making, and just these stand before those of its return or loss.
     /// Of a slave that has no datagram in the frame nothing came into hand. While mails are passed on the frame is just so that of a serving, and a mail that
     /// came into hand is listed by its number among all that were asked of its slave.
@@ -341,12 +341,10 @@ impl MasterNode {
         ensures joins { JoinsKept self.old self.new }
         ensures happened { HappensSo self.old.lan self.new.lan }
         ensures made { (self.new.lan.ports ≡ self.old.lan.ports) × AreOfMaking self.new.lan.happened }
-        ensures serves { result ≡ Next.Frame → (lens : ℕ → Lens) (recover retry missed made : ℕ) (ws : List Serves) → suc made < 2 ^ 32 → ServedShows lens recover retry self.old missed made ws →
-            (vs : List ServedTurn) × IsServedFrame lens made into.new.items ws vs × ServedUnder lens recover retry self.new into.new.items missed made vs }
         ensures services { result ≡ Next.Frame → (lens : ℕ → Lens) (recover retry missed made : ℕ) (ws : List Serves) → suc made < 2 ^ 32 → ServedShows lens recover retry self.old missed made ws →
             (vs : List ServedTurn) × IsServedFrame lens made into.new.items ws vs × ServedUnder lens recover retry self.new into.new.items missed made vs × ServedBegin (λ k. forwards_at self.old.posts.items k) ws vs self.new }
         ensures few { self.new.list.before ≤ 16 }
-        ensures answers { (k : ℕ) → answer_at self.new.posts.items k ≡ answer_behind k (events_in self.new) (answer_at self.old.posts.items k) }
+        ensures answers { AnswersSo self.old self.new }
         ensures whole { (listed self.new.list.rows.items self.new.list.count ≡ events_in self.new) × (take self.new.list.before self.new.list.rows.items ≡ events_in self.new) }
     {
         self.list.clear();
@@ -391,7 +389,7 @@ impl MasterNode {
     }
 
     /// A mail waits to be passed on to a slave, behind those that do; `false` exactly where 64 do already, and then nothing changed. `key` names its asker. So
-    /// it does in the lives of a serving, where it fits the slave's mailbox.
+    /// it does in the lives of a serving, where it fits the slave's mailbox. What the last step told stays, with all that is counted and answered.
     pub fn ask(&mut self, slave: u32, key: usize, mail: &Mail) -> bool
         requires { slave < vec_len self.old.posts }
         ensures full { (result ≡ false) ↔ (waiting_at self.old.posts.items slave ≡ 64) }

@@ -57,7 +57,7 @@ impl MasterNode {
     ghost use Rattle.master_node.specs.Shows.{is_opening_lead};
     ghost use Rattle.master_node.specs.Toured.{tour_of};
     ghost use Rattle.std.specs.Prelude.{[], ◌++◌, take, true, Some, None};
-    ghost use Rattle.master_node.specs.Answered.{answer_at, answer_behind};
+    ghost use Rattle.master_node.specs.Answered.{AnswersSo};
     ghost use Rattle.master_node.specs.Eager.{AllVisit, recalls};
     ghost use Rattle.master_node.specs.Recalled.{AllRecall};
 
@@ -359,7 +359,7 @@ impl MasterNode {
             TellsGateway (λ k. lives_told (seen lens frame.now.items) vs (map (served_behind lens recover retry (gives_up_at lens recover retry missed) made f) vs) k) self.old self.new }
         ensures told { (lens : ℕ → Lens) (recover retry missed made : ℕ) (octets : List ℕ) (vs : List ServedTurn) (f : Exchanged) → f.fate ≡ Fate.Pass → f.back ≡ frame.now.items → ServedUnder lens recover retry self.old octets missed made vs → Returns (seen lens octets) (seen lens frame.now.items) →
             TellsJust (λ k. returned_at lens (seen lens frame.now.items) (recalls self.new) vs (map (served_behind lens recover retry (gives_up_at lens recover retry missed) made f) vs) k) self.old self.new }
-        ensures answers { AreOnce self.old.tour.visit.items → self.old.list.before ≤ 16 → (k : ℕ) → answer_at self.new.posts.items k ≡ answer_behind k (events_in self.new) (answer_at self.old.posts.items k) }
+        ensures answers { AreOnce self.old.tour.visit.items → self.old.list.before ≤ 16 → AnswersSo self.old self.new }
         ensures whole { listed self.new.list.rows.items self.new.list.count ≡ take self.old.list.before self.old.list.rows.items ++ events_in self.new }
     {
         self.list.ends();
@@ -474,7 +474,7 @@ impl MasterNode {
         ensures recalls { (lens : ℕ → Lens) (recover retry missed : ℕ) (octets : List ℕ) (us : List Turn) → MasterUnder lens recover retry self.old octets missed us → AllRecall lens [] us (recalls self.old) (recalls self.new) }
         ensures told { (lens : ℕ → Lens) (recover retry missed made after : ℕ) (octets : List ℕ) (vs : List ServedTurn) (f : Exchanged) → f.fate ≡ Fate.Lost after → f.sent ≡ octets → ServedUnder lens recover retry self.old octets missed made vs →
             TellsJust (λ k. lost_at vs (map (served_behind lens recover retry (gives_up_at lens recover retry missed) made f) vs) k) self.old self.new }
-        ensures answers { self.old.list.before ≤ 16 → (k : ℕ) → answer_at self.new.posts.items k ≡ answer_behind k (events_in self.new) (answer_at self.old.posts.items k) }
+        ensures answers { self.old.list.before ≤ 16 → AnswersSo self.old self.new }
         ensures whole { listed self.new.list.rows.items self.new.list.count ≡ take self.old.list.before self.old.list.rows.items ++ events_in self.new }
     {
         self.list.ends();

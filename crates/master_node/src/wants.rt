@@ -56,19 +56,23 @@ impl MasterNode {
     ghost use Rattle.master_tour.specs.Goes.{is_live, holds_at};
     ghost use Rattle.master_node.specs.Shows.{MasterShows, lived_of};
     ghost use Rattle.master_node.specs.Told.{HasLives};
-    ghost use Rattle.std.specs.Prelude.{[], false};
+    ghost use Rattle.std.specs.Prelude.{[], false, ◌&&◌};
     ghost use Rattle.master_node.specs.Eager.{recalls};
     ghost use Rattle.master_node.specs.Forwards.{forwarded};
     ghost use Rattle.master_node.specs.Resting.{AllRest, StopRests};
     ghost use Rattle.master_node.specs.Shows.{WaitsNone};
-    ghost use Rattle.master_node.specs.Wants.{gave_of, IsCounted, AllPlaced, AllLeft, IsQuietBy};
+    ghost use Rattle.master_node.specs.Wants.{gave_of, IsCounted, AllPlaced, AllLeft, IsQuietBy, NoneToCome, NoneWaiting};
 
     // Whether a packet or a mail waits for a slave.
     fn has_waiting(&self, place: usize) -> bool
         requires { place < vec_len self.now.posts }
-        ensures { All WaitsNone self.now.posts.items → forwarded self.now.lan.switch self.now.lan.ports.items place ≡ [] → result ≡ false }
+        ensures rests { All WaitsNone self.now.posts.items → forwarded self.now.lan.switch self.now.lan.ports.items place ≡ [] → result ≡ false }
+        ensures none { OnFalse result (NoneWaiting self.now place) }
     {
-        self.lan.waits(place) || self.posts[place].has_mail()
+        if self.lan.waits(place) {
+            return true;
+        }
+        self.posts[place].has_mail()
     }
 
     // Whether a slave wants frames.
@@ -77,6 +81,7 @@ impl MasterNode {
         ensures live { OnTrue result (holds_at (λ s. is_live s.stand) self.now.tour.stops.items place ≡ true) }
         ensures quiet { OnFalse result (IfSome (slice_get self.now.tour.stops.items place) (λ s. IsQuietBy s.stand s.side)) }
         ensures rests { All WaitsNone self.now.posts.items → IfSome (slice_get self.now.tour.stops.items place) (λ s. StopRests self.now.lan place s) → result ≡ false }
+        ensures waits { OnFalse result (holds_at (λ s. is_live s.stand) self.now.tour.stops.items place ≡ true → NoneWaiting self.now place) }
     {
         let stop = &self.tour.stops[place];
         match stop.stand {
@@ -96,6 +101,7 @@ impl MasterNode {
         ensures live { OnTrue result (list_any (λ s. is_live s.stand) self.now.tour.stops.items ≡ true) }
         ensures quiet { OnFalse result (All (λ s. IsQuietBy s.stand s.side) self.now.tour.stops.items) }
         ensures rests { All WaitsNone self.now.posts.items → ((k : ℕ) → IfSome (slice_get self.now.tour.stops.items k) (λ s. StopRests self.now.lan k s)) → result ≡ false }
+        ensures waits { OnFalse result ((k : ℕ) → holds_at (λ s. is_live s.stand) self.now.tour.stops.items k ≡ true → NoneWaiting self.now k) }
     {
         for place in 0..self.posts.len() {
             if self.wants_at(place) {
@@ -109,6 +115,7 @@ impl MasterNode {
     fn has_coming(&self) -> bool
         ensures live { OnTrue result (list_any (λ s. is_live s.stand) self.now.tour.stops.items ≡ true) }
         ensures none { nat_lt self.now.lan.entered (length self.now.lan.host) ≡ false → result ≡ false }
+        ensures is { result ≡ (nat_lt self.now.lan.entered (length self.now.lan.host) && list_any (λ s. is_live s.stand) self.now.tour.stops.items) }
     {
         self.lan.has_host() && self.has_live()
     }
@@ -119,6 +126,7 @@ impl MasterNode {
     pub fn wants(&self) -> bool
         ensures live { OnTrue result (list_any (λ s. is_live s.stand) self.now.tour.stops.items ≡ true) }
         ensures left { OnFalse result ((lens : ℕ → Lens) (recover retry missed : ℕ) (as' : List Leads) → MasterShows lens recover retry self.now missed as' → AllPlaced as' → AllLeft lens as') }
+        ensures come { OnFalse result (NoneToCome self.now) }
         ensures rests { (lens : ℕ → Lens) (recover retry missed : ℕ) (as' : List Leads) → MasterShows lens recover retry self.now missed as' → AllRest lens self.now.lan 0 (recalls self.now) as' → nat_lt self.now.lan.entered (length self.now.lan.host) ≡ false → result ≡ false }
     {
         if self.has_wanting() {

@@ -36,14 +36,6 @@ use Rattle.master_node.specs.Listing.{events_before, events_in}
 use Rattle.master_node.specs.Answered.{AnswersBy, answer_at, answer_behind}
 use Rattle.master_node.proofs.node.MasterNode.next.Goals as goal
 
-pub returns-clause-led : goal.returns-clause-led
-returns-clause-led c = λ h lens recover retry missed number as' x.
-    let live : c.has_live.result ≡ true = cc in
-    let none = ap length c.begins.ensures.none in
-    let admitted = c.admit.ensures.lan in
-    let w = c.make.ensures.led lens recover retry missed number (record { switch = c.args.self.now.lan.switch; forwards = λ k. forwards_at c.args.self.now.posts.items k }) as' (omega (arith, admitted.few, none)) (c.admit.ensures.takes.takes _ [] (omega (arith, none)) (has_none _ _ c.begins.ensures.switch c.begins.ensures.none)) (unlisted (record c.args.self.now { list = c.clear.new.self; lan = c.begins.new.self }) c.admit.new.self c.clear.ensures.none c.clear.ensures.last c.admit.ensures.list c.admit.ensures.same.0) (subst (λ z. list_any (λ s. is_live s.stand) z.stops.items ≡ true) (sym c.admit.ensures.same.1) (sym c.has_live.ensures ∙ live)) (shows_same lens recover retry missed as' _ c.admit.new.self c.admit.ensures.same.1 c.admit.ensures.same.0 x) in
-    (w.0, w.1, record { each = w.2.each; distinct = w.2.distinct; quiet = w.2.quiet; goes = w.2.goes; missed_is = w.2.missed_is; retry_is = w.2.retry_is; sent = w.2.sent; fits = w.2.fits })
-
 pub returns-clause-begun : goal.returns-clause-begun
 returns-clause-begun c = λ h lens recover retry missed number as' x.
     let live : c.has_live.result ≡ true = cc in
@@ -51,6 +43,9 @@ returns-clause-begun c = λ h lens recover retry missed number as' x.
     let admitted = c.admit.ensures.lan in
     let w = c.make.ensures.led lens recover retry missed number (record { switch = c.args.self.now.lan.switch; forwards = λ k. forwards_at c.args.self.now.posts.items k }) as' (omega (arith, admitted.few, none)) (c.admit.ensures.takes.takes _ [] (omega (arith, none)) (has_none _ _ c.begins.ensures.switch c.begins.ensures.none)) (unlisted (record c.args.self.now { list = c.clear.new.self; lan = c.begins.new.self }) c.admit.new.self c.clear.ensures.none c.clear.ensures.last c.admit.ensures.list c.admit.ensures.same.0) (subst (λ z. list_any (λ s. is_live s.stand) z.stops.items ≡ true) (sym c.admit.ensures.same.1) (sym c.has_live.ensures ∙ live)) (shows_same lens recover retry missed as' _ c.admit.new.self c.admit.ensures.same.1 c.admit.ensures.same.0 x) in
     (w.0, w.1, record { each = w.2.each; distinct = w.2.distinct; quiet = w.2.quiet; goes = w.2.goes; missed_is = w.2.missed_is; retry_is = w.2.retry_is; sent = w.2.sent; fits = w.2.fits }, w.3, services_made _ _ _ c.make.new.self _ c.made.ensures.last refl w.6, w.7, w.8)
+
+pub returns-clause-led : goal.returns-clause-led
+returns-clause-led c = λ h lens recover retry missed number as' x. (let w = returns-clause-begun c h lens recover retry missed number as' x in (w.0, w.1, w.2))
 
 pub returns-then-not-has_live-clause-joins : goal.returns-then-not-has_live-clause-joins
 returns-then-not-has_live-clause-joins c = each_same _ c.args.self.now.tour.stops.items (λ s. refl)
@@ -138,11 +133,6 @@ returns-clause-services c = λ h lens recover retry missed made ws small x.
       record { each = u.each; distinct = u.distinct; goes = u.goes; missed_is = u.missed_is; retry_is = u.retry_is; sent = u.sent; fits = u.fits; carried = u.carried; made_is = more; early = u.early; numbered = u.numbered },
       served_made _ _ _ c.make.new.self _ c.made.ensures.last refl w.4,
     )
-
-pub returns-clause-serves : goal.returns-clause-serves
-returns-clause-serves c = λ h lens recover retry missed made ws small x.
-    let w = returns-clause-services c h lens recover retry missed made ws small x in
-    (w.0, w.1, w.2)
 
 pub returns-then-not-has_live-clause-whole : goal.returns-then-not-has_live-clause-whole
 returns-then-not-has_live-clause-whole c =

@@ -1,4 +1,5 @@
-use Rattle.std.proofs.Common.{◌≡◌, ◌∙◌, sym, true, false, rules}
+use Rattle.std.proofs.Common.{◌≡◌, ◌∙◌, Bool, sym, true, false, rules}
+use Rattle.std.specs.Prelude.{◌&&◌}
 use Rattle.master_node.proofs.Restings.{never, all_rest}
 use Rattle.std.proofs.lemmas.Bool.{OnFalse_at, OnFalse_from}
 use Rattle.master_node.proofs.Quiets.{all_left}
@@ -17,3 +18,13 @@ returns-then-has_wanting-clause-rests c = λ lens recover retry missed as' shown
 
 pub returns-clause-rests : goal.returns-clause-rests
 returns-clause-rests c = λ lens recover retry missed as' shown rests come. c.has_coming.ensures.none come
+
+-- while a slave is live no packet of the host is left
+no_left : (left live : Bool) → (left && live) ≡ false → live ≡ true → left ≡ false
+no_left false live e f = refl
+no_left true live e f = absurd (never (sym e ∙ f))
+
+pub returns-clause-come : goal.returns-clause-come
+returns-clause-come c =
+    let no : c.has_wanting.result ≡ false = search rules in
+    OnFalse_from c.has_coming.result _ (λ none. record { slaves = OnFalse_at no c.has_wanting.ensures.waits; host = λ live. no_left _ _ (sym c.has_coming.ensures.is ∙ none) live })

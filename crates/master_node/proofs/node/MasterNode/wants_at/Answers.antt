@@ -59,4 +59,13 @@ returns-else-is_wanting-clause-rests c = λ w p.
     let m = c.args.self.now in
     let l : c.args.place < length m.tour.stops.items = omega (arith, c.requires, m.paired, m.tour.stops.ok.0) in
     let r = if_here (λ s. StopRests m.lan c.args.place s) m.tour.stops.items c.args.place c.index-stop.result.now l c.index-stop.ensures p in
-    c.has_waiting.ensures w (subst (λ (k : Stand). StandRests m.lan c.args.place k c.index-stop.result.now.side) c.in-Open.is r).1
+    c.has_waiting.ensures.rests w (subst (λ (k : Stand). StandRests m.lan c.args.place k c.index-stop.result.now.side) c.in-Open.is r).1
+
+pub returns-in-Gone-clause-waits : goal.returns-in-Gone-clause-waits
+returns-in-Gone-clause-waits c = λ live.
+    let m = c.args.self.now in
+    let l : c.args.place < length m.tour.stops.items = omega (arith, c.requires, m.paired, m.tour.stops.ok.0) in
+    absurd (never (tested_here (λ s. is_live s.stand) m.tour.stops.items c.args.place c.index-stop.result.now false l c.index-stop.ensures (sym (ap is_live c.in-Gone.is)) ∙ live))
+
+pub returns-else-is_wanting-clause-waits : goal.returns-else-is_wanting-clause-waits
+returns-else-is_wanting-clause-waits c = OnFalse_from c.has_waiting.result _ (λ no live. OnFalse_at no c.has_waiting.ensures.none)
