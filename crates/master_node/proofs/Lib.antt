@@ -73,3 +73,4 @@ pub mod Reopeneds
 pub mod Backinhand
 pub mod Backtolds
 pub mod Unread
+pub mod Mailless

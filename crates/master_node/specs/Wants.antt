@@ -1,5 +1,5 @@
 -- WHAT A MASTER STILL WANTS of the slaves that it leads, and how often each was given up.
-use Rattle.std.specs.Prelude.{◌≡◌, ◌⊎◌, ◌≤◌, ℕ, suc, ◌-◌, Bool, true, false, nat_lt, nat_le, None, List, [], ◌∷◌, length, slice_get, ⊤}
+use Rattle.std.specs.Prelude.{◌≡◌, ◌⊎◌, ◌≤◌, ℕ, suc, ◌-◌, Bool, true, false, nat_lt, nat_le, Option, None, IfSome, List, [], ◌∷◌, length, slice_get, ⊤}
 use Rattle.std.specs.List.{list_any}
 use Rattle.master_duty.specs.of_exchange_model.Exchange.{Speech}
 use Rattle.life_runs.specs.of_frame_view.View.{Lens}
@@ -15,15 +15,19 @@ use Rattle.master_hand.specs.declared.hand.InHand.{InHand}
 use Rattle.master_side.specs.Carried.{in_hand}
 use Rattle.master_side.specs.Shown.{SideShows}
 use Rattle.master_side.specs.declared.hand.Hand.{Ghosts}
+use Rattle.master_side.specs.declared.passing.Passing.{Passing}
 use Rattle.master_side.specs.declared.side.Side as Sides
 use Rattle.master_tour.specs.Goes.{holds_at, is_live}
 use Rattle.master_tour.specs.declared.stop.Stand.{Stand}
 use Rattle.master_duty.specs.of_segment_model.Laws.{WantsNothing}
 use Rattle.master_duty.specs.of_segment_model.Seats
 use Rattle.master_duty.specs.of_task_model.Accounts.{Account, is_free}
+use Rattle.served_runs.specs.Served.{Serves}
 use Rattle.master_node.specs.Forwards.{forwarded}
 use Rattle.master_node.specs.Lives.{waiting_at}
+use Rattle.master_node.specs.Shows.{WaitsNone}
 use Rattle.master_node.specs.declared.node.MasterNode.{MasterNode}
+use Rattle.master_node.specs.declared.post.Post.{Post}
 
 -- the frames at which a slave was given up
 abbrev pub gave_of : Leads → List ℕ
@@ -89,3 +93,23 @@ NoneWaiting m k = (forwarded m.lan.switch m.lan.ports.items k ≡ []) × (waitin
 pub record NoneToCome (m : MasterNode) : Type 0 where
   pub slaves : (k : ℕ) → holds_at (λ s. is_live s.stand) m.tour.stops.items k ≡ true → NoneWaiting m k
   pub host : list_any (λ s. is_live s.stand) m.tour.stops.items ≡ true → nat_lt m.lan.entered (length m.lan.host) ≡ false
+
+-- A SLAVE OF A SERVING TO WHICH NO MAIL IS PASSED ON ANY MORE: it is open, none waits for it, and none that is passed on is in hand
+pub record IsMailless (w : Serves) : Type 0 where
+  pub stand : w.lead.lived.life.stand ≡ Lives.Stand.Open
+  pub waits : w.waits ≡ []
+  pub over : w.lead.lived.life.era.passing ≡ None
+
+-- or it was given up for good
+abbrev pub IsServedOut : Serves → Type 0
+IsServedOut w = (w.lead.lived.life.stand ≡ Lives.Stand.Gone) ⊎ IsMailless w
+
+-- by what the master has of it: it was given up for good, or it is open, with none in hand and none that waits
+abbrev pub IsMaillessBy : Stand → Option Passing → Post → Type 0
+IsMaillessBy (Stand.Opening up) passing p = ⊥
+IsMaillessBy Stand.Open passing p = (passing ≡ None) × WaitsNone p
+IsMaillessBy Stand.Gone passing p = ⊤
+
+-- of the slave at a place
+abbrev pub MaillessAt : MasterNode → ℕ → Type 0
+MaillessAt m place = IfSome (slice_get m.posts.items place) (λ p. IfSome (slice_get m.tour.stops.items place) (λ s. IsMaillessBy s.stand s.side.passing p))

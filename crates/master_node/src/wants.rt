@@ -25,6 +25,7 @@ fn is_at_rest(side: &Side<InHand>) -> bool
 // Whether a slave that is open still wants frames for what it has in hand or for its script.
 fn is_wanting(side: &Side<InHand>) -> bool
     ensures quiet { OnFalse result (IsQuiet side.now) }
+    ensures unpassed { OnFalse result (side.now.passing ≡ None) }
     ensures rests { SideRests side.now → result ≡ false }
 {
     if !side.is_free() {
@@ -60,14 +61,17 @@ impl MasterNode {
     ghost use Rattle.master_node.specs.Eager.{recalls};
     ghost use Rattle.master_node.specs.Forwards.{forwarded};
     ghost use Rattle.master_node.specs.Resting.{AllRest, StopRests};
+    ghost use Rattle.master_node.specs.Serving.{ServedShows};
     ghost use Rattle.master_node.specs.Shows.{WaitsNone};
-    ghost use Rattle.master_node.specs.Wants.{gave_of, IsCounted, AllPlaced, AllLeft, IsQuietBy, NoneToCome, NoneWaiting};
+    ghost use Rattle.master_node.specs.Wants.{gave_of, IsCounted, AllPlaced, AllLeft, IsQuietBy, IsServedOut, MaillessAt, NoneToCome, NoneWaiting};
+    ghost use Rattle.served_runs.specs.Served.{Serves};
 
     // Whether a packet or a mail waits for a slave.
     fn has_waiting(&self, place: usize) -> bool
         requires { place < vec_len self.now.posts }
         ensures rests { All WaitsNone self.now.posts.items → forwarded self.now.lan.switch self.now.lan.ports.items place ≡ [] → result ≡ false }
         ensures none { OnFalse result (NoneWaiting self.now place) }
+        ensures mails { OnFalse result (IfSome (slice_get self.now.posts.items place) WaitsNone) }
     {
         if self.lan.waits(place) {
             return true;
@@ -80,6 +84,7 @@ impl MasterNode {
         requires { place < vec_len self.now.posts }
         ensures live { OnTrue result (holds_at (λ s. is_live s.stand) self.now.tour.stops.items place ≡ true) }
         ensures quiet { OnFalse result (IfSome (slice_get self.now.tour.stops.items place) (λ s. IsQuietBy s.stand s.side)) }
+        ensures mails { OnFalse result (MaillessAt self.now place) }
         ensures rests { All WaitsNone self.now.posts.items → IfSome (slice_get self.now.tour.stops.items place) (λ s. StopRests self.now.lan place s) → result ≡ false }
         ensures waits { OnFalse result (holds_at (λ s. is_live s.stand) self.now.tour.stops.items place ≡ true → NoneWaiting self.now place) }
     {
@@ -100,6 +105,7 @@ impl MasterNode {
     fn has_wanting(&self) -> bool
         ensures live { OnTrue result (list_any (λ s. is_live s.stand) self.now.tour.stops.items ≡ true) }
         ensures quiet { OnFalse result (All (λ s. IsQuietBy s.stand s.side) self.now.tour.stops.items) }
+        ensures mails { OnFalse result ((k : ℕ) → k < vec_len self.now.posts → MaillessAt self.now k) }
         ensures rests { All WaitsNone self.now.posts.items → ((k : ℕ) → IfSome (slice_get self.now.tour.stops.items k) (λ s. StopRests self.now.lan k s)) → result ≡ false }
         ensures waits { OnFalse result ((k : ℕ) → holds_at (λ s. is_live s.stand) self.now.tour.stops.items k ≡ true → NoneWaiting self.now k) }
     {
@@ -127,6 +133,7 @@ impl MasterNode {
         ensures live { OnTrue result (list_any (λ s. is_live s.stand) self.now.tour.stops.items ≡ true) }
         ensures left { OnFalse result ((lens : ℕ → Lens) (recover retry missed : ℕ) (as' : List Leads) → MasterShows lens recover retry self.now missed as' → AllPlaced as' → AllLeft lens as') }
         ensures come { OnFalse result (NoneToCome self.now) }
+        ensures served { OnFalse result ((lens : ℕ → Lens) (recover retry missed made : ℕ) (ws : List Serves) → ServedShows lens recover retry self.now missed made ws → All IsServedOut ws) }
         ensures rests { (lens : ℕ → Lens) (recover retry missed : ℕ) (as' : List Leads) → MasterShows lens recover retry self.now missed as' → AllRest lens self.now.lan 0 (recalls self.now) as' → nat_lt self.now.lan.entered (length self.now.lan.host) ≡ false → result ≡ false }
     {
         if self.has_wanting() {

@@ -17,6 +17,11 @@ returns-clause-quiet c =
       script = sym c.scripted.ensures ∙ ap option_copied (not_some c.scripted.result (sym c.is_some.ensures ∙ none));
     })
 
+pub returns-clause-unpassed : goal.returns-clause-unpassed
+returns-clause-unpassed c =
+    let free : c.is_free.result ≡ true = search rules in
+    OnFalse_from c.is_some.result _ (λ none. (c.is_free.ensures.bare free).1)
+
 pub returns-then-not-is_free-clause-rests : goal.returns-then-not-is_free-clause-rests
 returns-then-not-is_free-clause-rests c = λ r.
     let free : c.is_free.result ≡ false = search rules in

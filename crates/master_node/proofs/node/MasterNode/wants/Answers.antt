@@ -2,6 +2,7 @@ use Rattle.std.proofs.Common.{◌≡◌, ◌∙◌, Bool, sym, true, false, rule
 use Rattle.std.specs.Prelude.{◌&&◌}
 use Rattle.master_node.proofs.Restings.{never, all_rest}
 use Rattle.std.proofs.lemmas.Bool.{OnFalse_at, OnFalse_from}
+use Rattle.master_node.proofs.Mailless.{all_out}
 use Rattle.master_node.proofs.Quiets.{all_left}
 use Rattle.master_node.proofs.node.MasterNode.wants.Goals as goal
 
@@ -10,6 +11,12 @@ returns-clause-left c =
     let no : c.has_wanting.result ≡ false = search rules in
     OnFalse_from c.has_coming.result _
     (λ none lens recover retry missed as' shown placed. all_left lens recover as' c.args.self.now.tour.stops.items shown.each placed (OnFalse_at no c.has_wanting.ensures.quiet))
+
+pub returns-clause-served : goal.returns-clause-served
+returns-clause-served c =
+    let no : c.has_wanting.result ≡ false = search rules in
+    OnFalse_from c.has_coming.result _
+    (λ none lens recover retry missed made ws shown. all_out lens recover made ws c.args.self.now.posts.items c.args.self.now.tour.stops.items shown.each (OnFalse_at no c.has_wanting.ensures.mails))
 
 pub returns-then-has_wanting-clause-rests : goal.returns-then-has_wanting-clause-rests
 returns-then-has_wanting-clause-rests c = λ lens recover retry missed as' shown rests come.

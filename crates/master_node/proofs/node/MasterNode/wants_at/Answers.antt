@@ -1,8 +1,10 @@
 use Rattle.std.proofs.Common.{◌≡◌, ◌<◌, ◌∙◌, true, false, sym, ap, subst, length, rules, arith}
+use Rattle.std.specs.Prelude.{slice_get}
 use Rattle.std.proofs.lemmas.Bool.{OnTrue_from, OnFalse_from, OnFalse_at}
 use Rattle.master_tour.specs.Goes.{is_live}
 use Rattle.master_tour.specs.declared.stop.Stand.{Stand}
-use Rattle.master_node.specs.Wants.{IsQuietBy}
+use Rattle.master_node.specs.Wants.{IsMaillessBy, IsQuietBy}
+use Rattle.master_node.proofs.Mailless.{gone_mailless, open_mailless, within}
 use Rattle.master_node.proofs.Places.{tested_here}
 use Rattle.master_node.proofs.Quiets.{quiet_here}
 use Rattle.master_node.proofs.Restings.{if_here, never}
@@ -38,6 +40,23 @@ returns-else-is_wanting-clause-quiet c =
     OnFalse_from c.has_waiting.result _
     (λ e. quiet_here (λ s. IsQuietBy s.stand s.side) c.args.self.now.tour.stops.items c.args.place c.index-stop.result.now c.index-stop.ensures
     (subst (λ (k : Stand). IsQuietBy k c.index-stop.result.now.side) (sym c.in-Open.is) (OnFalse_at no c.is_wanting.ensures.quiet)))
+
+pub returns-in-Gone-clause-mails : goal.returns-in-Gone-clause-mails
+returns-in-Gone-clause-mails c =
+    let m = c.args.self.now in
+    let s = c.index-stop.result.now in
+    let post = slice_get m.posts.items c.args.place in
+    within (λ p z. IsMaillessBy z.stand z.side.passing p) post m.tour.stops.items c.args.place s c.index-stop.ensures (gone_mailless post s.stand s.side.passing c.in-Gone.is)
+
+pub returns-else-is_wanting-clause-mails : goal.returns-else-is_wanting-clause-mails
+returns-else-is_wanting-clause-mails c =
+    let m = c.args.self.now in
+    let s = c.index-stop.result.now in
+    let post = slice_get m.posts.items c.args.place in
+    let no : c.is_wanting.result ≡ false = search rules in
+    OnFalse_from c.has_waiting.result _
+    (λ e. within (λ p z. IsMaillessBy z.stand z.side.passing p) post m.tour.stops.items c.args.place s c.index-stop.ensures
+    (open_mailless post s.stand s.side.passing c.in-Open.is (OnFalse_at no c.is_wanting.ensures.unpassed) (OnFalse_at e c.has_waiting.ensures.mails)))
 
 pub returns-in-Opening-clause-rests : goal.returns-in-Opening-clause-rests
 returns-in-Opening-clause-rests c = λ w p.
