@@ -1,4 +1,4 @@
-use Rattle.std.proofs.Common.{◌≡◌, ◌∙◌, Bool, sym, true, false, rules}
+use Rattle.std.proofs.Common.{◌≡◌, ◌∙◌, Bool, refl, sym, true, false, rules, arith}
 use Rattle.std.specs.Prelude.{◌&&◌}
 use Rattle.master_node.proofs.Restings.{never, all_rest}
 use Rattle.std.proofs.lemmas.Bool.{OnFalse_at, OnFalse_from}
@@ -16,7 +16,9 @@ pub returns-clause-served : goal.returns-clause-served
 returns-clause-served c =
     let no : c.has_wanting.result ≡ false = search rules in
     OnFalse_from c.has_coming.result _
-    (λ none lens recover retry missed made ws shown. all_out lens recover made ws c.args.self.now.posts.items c.args.self.now.tour.stops.items shown.each (OnFalse_at no c.has_wanting.ensures.mails))
+    (λ none lens recover retry missed made ws shown.
+    let m = c.args.self.now in
+    all_out lens recover made ws m.posts.items m.tour.stops.items shown.each (λ k l. OnFalse_at no c.has_wanting.ensures.mails k (omega (arith, l, m.posts.ok.0))))
 
 pub returns-then-has_wanting-clause-rests : goal.returns-then-has_wanting-clause-rests
 returns-then-has_wanting-clause-rests c = λ lens recover retry missed as' shown rests come.
