@@ -19,7 +19,7 @@ module _ {V A M Q R : Type 0} (x : Exchange V A M Q R) (law : IsLawful x) (v : V
   abbrev past : List (Row M Q R)
   past = front ++ last
 
-  abbrev before : V
+  abbrev pub before : V
   before = after x.serve v (told_all past)
 
   abbrev all : List M
@@ -28,7 +28,7 @@ module _ {V A M Q R : Type 0} (x : Exchange V A M Q R) (law : IsLawful x) (v : V
   abbrev plainly : List M → List M
   plainly = plain x.speech.emission
 
-  on : x.ready before ≡ true
+  pub on : x.ready before ≡ true
   on = settled_ready x law v past ready at.fits.settled
 
   -- ALL WAS TOLD AND TAKEN, and nothing is left
@@ -67,8 +67,12 @@ module _ {V A M Q R : Type 0} (x : Exchange V A M Q R) (law : IsLawful x) (v : V
         (ap (λ l. drop (length now.told) (x.speech.planned now.service l)) (sym replies) ∙ none) in
         sym at.fits.mine.1 ∙ ap (λ l. now.told ++ l) rest ∙ append-nil now.told
 
+    -- all of them were heard
+    pub whole_heard : plainly now.heard ≡ plainly (given x.serve before all)
+    whole_heard = replies ∙ ap (λ l. plainly (given x.serve before l)) (sym whole)
+
     pub replied : x.speech.handed now.service ≡ false → x.speech.ends now.service (plainly now.heard) ≡ Some (x.reply (x.app before) now.service)
-    replied waits = ap (x.speech.ends now.service) (replies ∙ ap (λ l. plainly (given x.serve before l)) (sym whole)) ∙ law.replied before now.service on at.fits.valid waits
+    replied waits = ap (x.speech.ends now.service) whole_heard ∙ law.replied before now.service on at.fits.valid waits
 
 -- with state services beside
 abbrev pub acknowledges : {Q : Type 0} → (Q → Bool) → Service Q → Bool

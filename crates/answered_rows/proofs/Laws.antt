@@ -13,10 +13,10 @@ use Rattle.segment_model.specs.Slaves.{Datagram, Processor, Registers, Slave}
 use Rattle.state_exchange.specs.Stated.{Stated, IsStated, Service}
 use Rattle.state_model.specs.States.{Table}
 use Rattle.task_model.specs.Accounts.{Account, Pick, account_begins, mails_begin, starts}
-use Rattle.answered_rows.specs.Moments.{IsFree, HasNothing, HeldStill, NowAnswered, NoneLeft}
+use Rattle.answered_rows.specs.Moments.{IsFree, HasNothing, HeldStill, IsMailsLast, NowAnswered, NoneLeft, WasHeard}
 use Rattle.answered_rows.proofs.Eras.{of_era}
 use Rattle.answered_rows.proofs.Ready.{ready, begun_none, state_free}
-use Rattle.answered_rows.proofs.Seats.{answered_known, free}
+use Rattle.answered_rows.proofs.Seats.{answered_known, free, heard_whole}
 
 module _ {V A M Q R : Type 0} (x : Exchange V A M Q R) (s : Stated V A Q) (processor : Processor V) (table : ℕ → Table) (spot : Spot) (e : Era M Q R) (opened last : ℕ) (fs : List (Frame M)) (v : V) (r : Registers) (slave : Slave V M)
     (law : IsLawful x) (stated : IsStated x s) (is : EraIs x s processor table spot e opened last fs v r slave) where
@@ -37,6 +37,14 @@ module _ {V A M Q R : Type 0} (x : Exchange V A M Q R) (s : Stated V A Q) (proce
       (let f = free x law s stated t (λ m. false) begun sits gs seat a h unsent hand never settled held (clear ∙ k.clear) (λ row now. (none row now, said row now)) in
       record { free = f.0; done = f.1 }))
       spot e opened last fs v r slave is k.settled k.held refl k.hand k.left k.answered
+
+  abbrev Heard : Side M Q R → Account Q R → Slave V M → Type 0
+  Heard d a n = IsSettled n → d.halves.out.holding ≡ None → d.halves.inn.state ≡ e.side.halves.inn.state → a.hand ≡ None → NoneLeft x.speech d → IsMailsLast a.started → (row : Row M Q R) → d.now ≡ Some row → WasHeard x row
+
+  pub heard : NeverWaits x → HasNothing x.speech e slave → IsMailsLast e.account.started → (row : Row M Q R) → e.side.now ≡ Some row → WasHeard x row
+  heard never k mails row now = of_era x law s stated processor table Heard
+      (λ t begun sits gs seat a h unsent. λ settled held clear hand none last r is. heard_whole x law s stated t (λ m. false) begun sits gs seat a h unsent hand never settled held (clear ∙ k.clear) last r is (none r is))
+      spot e opened last fs v r slave is k.settled k.held refl k.hand k.left mails row now
 
   granted_none : (passing : Option Passing) (pick : Pick Q) → pick.begin ≡ None → (granted passing pick).begin ≡ None
   granted_none None pick none = none

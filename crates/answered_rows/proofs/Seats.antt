@@ -1,5 +1,5 @@
 -- The newest row of a slave with no state service in hand.
-use Rattle.std.proofs.Common.{◌≡◌, inl, inr, ℕ, ◌&&◌, Bool, true, false, not, is_none, is_some, Option, Some, None, option_map, List, [], ◌∷◌, ◌++◌, refl, sym, ap, ◌∙◌, subst, append-nil, if◌then◌else◌}
+use Rattle.std.proofs.Common.{◌≡◌, inl, inr, ℕ, ◌&&◌, Bool, true, false, not, is_none, is_some, Option, Some, None, option_map, List, [], ◌∷◌, ◌++◌, length, refl, sym, ap, ◌∙◌, subst, append-nil, arith, if◌then◌else◌}
 use Rattle.exchange_model.specs.Exchange.{Exchange, IsLawful, given, plain}
 use Rattle.exchange_model.specs.Rows.{Row, answer_after, left}
 use Rattle.exchange_model.proofs.Lists.{append_cancel, append_none}
@@ -13,15 +13,16 @@ use Rattle.segment_model.specs.Record.{Frame}
 use Rattle.segment_model.specs.Seats.{Seat, is_over, is_none_left, link_of}
 use Rattle.segment_model.proofs.Rests.{all_taken, all_offered}
 use Rattle.state_exchange.specs.Stated.{Stated, IsStated, Act, Service, Counting, acts, all_mails, ends_by, with_states, service_handed}
-use Rattle.state_exchange.proofs.Acts.{acts_same, all_acts, left_mails, plain_acts}
+use Rattle.state_exchange.proofs.Acts.{acts_same, all_acts, left_mails, plain_acts, plain_given_acts}
 use Rattle.state_exchange.proofs.StatedLaw.{stated_law}
 use Rattle.state_model.specs.Promises.{IsTable}
 use Rattle.state_model.specs.States.{Table}
-use Rattle.task_model.specs.Accounts.{Account, is_free, is_acknowledged}
-use Rattle.task_model.proofs.Ghosts.{MailsNow, Rested, RestedRow, Rowed, Staged, StateNow, counting}
+use Rattle.task_model.specs.Accounts.{Account, Started, is_free, is_acknowledged}
+use Rattle.task_model.proofs.Ghosts.{MailsNow, Rested, RestedRow, Rowed, Staged, StateNow, counting, starts_append, starts_of}
 use Rattle.task_model.proofs.Newest.{Holds}
 use Rattle.task_model.proofs.Stately.{state_over}
-use Rattle.answered_rows.proofs.Answers.{acknowledges, answered_all, replied, states_last}
+use Rattle.answered_rows.specs.Moments.{IsMailsLast, WasHeard}
+use Rattle.answered_rows.proofs.Answers.{acknowledges, answered_all, before, on, replied, states_last, whole_heard}
 use Rattle.answered_rows.proofs.Unsent.{Unsent}
 
 module _ {V A M Q R : Type 0} (x : Exchange V A M Q R) (law : IsLawful x) (s : Stated V A Q) (stated : IsStated x s) (table : Table) (more : M → Bool) (start : ℕ) (is : IsTable table start)
@@ -129,6 +130,42 @@ module _ {V A M Q R : Type 0} (x : Exchange V A M Q R) (law : IsLawful x) (s : S
         sym (ap (λ z. both.speech.ends z (plain both.speech.emission g.now.heard)) shows ∙ ap (λ l. ends_by x.speech r.service (all_mails (plain both.speech.emission l))) words
         ∙ ap (λ l. ends_by x.speech r.service (all_mails l)) (plain_acts x.speech.emission r.heard) ∙ ap (ends_by x.speech r.service) (all_acts (plain x.speech.emission r.heard))) in
         some_answer r.answer (x.speech.ends r.service (plain x.speech.emission r.heard)) (mapped_some (x.speech.ends r.service (plain x.speech.emission r.heard)) _ (ends ∙ found)) (stays 0)
+
+    -- ALL REPLIES of a newest service by mails were heard
+    mails_heard_whole : (g : Rows) → MailsNow seat.side a.hand (g.front ++ g.last) g.now → (r : Row M Q R) → seat.side.now ≡ Some r → left x.speech r ≡ [] → WasHeard x r
+    mails_heard_whole g m r now none =
+        let same : m.row ≡ r = (let some : Some m.row ≡ Some r = sym m.is ∙ now in cc) in
+        let shows = subst (λ z. g.now.service ≡ Service.Mails z.service) same m.shows.service in
+        let words : g.now.heard ≡ acts r.heard = m.shows.heard ∙ ap (λ (z : Row M Q R). acts z.heard) same in
+        let mine : left both.speech g.now ≡ [] = left_mails x s table g.now r shows (m.shows.told ∙ ap (λ (z : Row M Q R). acts z.told) same) words ∙ ap acts none in
+        let took : h.carried.taken ≡ held = sym (append-nil h.carried.taken) ∙ ap (λ l. h.carried.taken ++ acts l) (sym nothing_held) in
+        let c = before both (stated_law x s table stated law) (counting seat.start) h.ready g.front g.last g.now held h.carried.taken (acts seat.accepted) g.moment in
+        let whole = whole_heard both (stated_law x s table stated law) (counting seat.start) h.ready g.front g.last g.now held h.carried.taken (acts seat.accepted) g.moment (states_never x s table never) took heard mine in
+        record {
+          server = c.server;
+          ready = on both (stated_law x s table stated law) (counting seat.start) h.ready g.front g.last g.now held h.carried.taken (acts seat.accepted) g.moment;
+          heard = acts_same (plain x.speech.emission r.heard) (plain x.speech.emission (given x.serve c.server (x.full c.server r.service)))
+              (sym (ap (plain both.speech.emission) words ∙ plain_acts x.speech.emission r.heard) ∙ whole ∙ ap (λ q. plain both.speech.emission (given both.serve c (both.full c q))) shows ∙ plain_given_acts x s table c (x.full c.server r.service));
+        }
+
+    -- where the newest of all services is by mails
+    last_other : (fs : List (Started Q)) (q : Q) (frame at target : ℕ) → (gs : List (Started Q)) → fs ++ record { service = Service.Mails q; frame = frame } ∷ [] ≡ gs ++ record { service = Service.State target; frame = at } ∷ [] → ⊥
+    last_other [] q frame at target [] e = (let no : record { service = Service.Mails q; frame = frame } ≡ record { service = Service.State target; frame = at } = cc in absurd (let kind : Service.Mails q ≡ Service.State target = ap (λ (z : Started Q). z.service) no in cc))
+    last_other [] q frame at target (g ∷ []) e = absurd (let long = ap length e in omega (arith, long))
+    last_other [] q frame at target (g ∷ (k ∷ gs)) e = absurd (let long = ap length e in omega (arith, long))
+    last_other (f ∷ []) q frame at target [] e = absurd (let long = ap length e in omega (arith, long))
+    last_other (f ∷ (k ∷ fs)) q frame at target [] e = absurd (let long = ap length e in omega (arith, long))
+    last_other (f ∷ fs) q frame at target (g ∷ gs) e = last_other fs q frame at target gs (let tail : fs ++ record { service = Service.Mails q; frame = frame } ∷ [] ≡ gs ++ record { service = Service.State target; frame = at } ∷ [] = cc in tail)
+
+    pub heard_whole : IsMailsLast a.started → (r : Row M Q R) → seat.side.now ≡ Some r → left x.speech r ≡ [] → WasHeard x r
+    heard_whole mails r now none = elim h.carried.rows [
+      | inl u ↦ absurd (let no : Some r ≡ None = sym now ∙ u.now in cc)
+      | inr g ↦ elim g.place [
+        | inl m ↦ mails_heard_whole g m r now none
+        | inr n ↦ absurd (last_other mails.front mails.service mails.frame g.now.frame n.target (starts_of (g.front ++ g.last))
+            (sym mails.is ∙ sym g.started ∙ starts_append (g.front ++ g.last) (g.now ∷ []) ∙ ap (λ z. starts_of (g.front ++ g.last) ++ record { service = z; frame = g.now.frame } ∷ []) n.service))
+      ]
+    ]
 
     rested_answered : (r : Row M Q R) → RestedRow x law r → x.speech.handed r.service ≡ false → is_some r.answer ≡ true
     rested_answered r k waits = elim k.done [

@@ -11,7 +11,7 @@ use Rattle.segment_model.specs.Slaves.{Datagram, Processor, Registers, Slave}
 use Rattle.state_exchange.specs.Stated.{Stated, IsStated, Service}
 use Rattle.state_model.specs.States.{Table}
 use Rattle.task_model.specs.Accounts.{Pick, starts}
-use Rattle.answered_rows.specs.Moments.{IsFree, HasNothing, HeldStill, NowAnswered}
+use Rattle.answered_rows.specs.Moments.{IsFree, IsMailsLast, HasNothing, HeldStill, NowAnswered, WasHeard}
 
 -- the newest service has its answer, and ends with no acknowledgement: it was told whole, and each of its mails was sent
 abbrev pub ToldWhole : {V A M Q R : Type 0} → Exchange V A M Q R → Stated V A Q → Era M Q R → Type 0
@@ -62,3 +62,10 @@ StateWasFree M Q R =
     e.passing ≡ None → pick.begin ≡ Some (Service.State target) →
     (era_next x acknowledged more passed frame e pick).account.started ≡ starts e.account (Service.State target) frame →
     (e.account.hand ≡ None) × IsFree x acknowledged e.side
+
+-- of every epoch of a slave whose newest service is by mails, if no client waits in vain: where nothing is left of the slave, all replies of it were heard
+abbrev pub NothingUnheard : (V A M Q R : Type 0) → Type 0
+NothingUnheard V A M Q R =
+    (x : Exchange V A M Q R) (s : Stated V A Q) (processor : Processor V) (table : ℕ → Table) (spot : Spot) (e : Era M Q R) (opened last : ℕ)
+    (fs : List (Frame M)) (v : V) (r : Registers) (slave : Slave V M) → IsLawful x → IsStated x s → NeverWaits x →
+    EraIs x s processor table spot e opened last fs v r slave → HasNothing x.speech e slave → IsMailsLast e.account.started → (row : Row M Q R) → e.side.now ≡ Some row → WasHeard x row

@@ -2,7 +2,7 @@
 //! functions here do nothing, and their contracts state the laws.
 #![tactic(auto)]
 
-ghost use Rattle.answered_rows.specs.Answered.{AnsweredIsTold, NothingIsFree, NothingFrees, BegunIsHeld, StateWasFree};
+ghost use Rattle.answered_rows.specs.Answered.{AnsweredIsTold, NothingIsFree, NothingUnheard, NothingFrees, BegunIsHeld, StateWasFree};
 
 /// A SERVICE BY MAILS THAT HAS ITS ANSWER, but for one that ends with an acknowledgement, was told whole, and each of its mails was sent.
 pub fn answered_law<V, A, M, Q, R>()
@@ -12,6 +12,11 @@ pub fn answered_law<V, A, M, Q, R>()
 /// WHERE NOTHING IS LEFT of a slave, its newest service is over, if no client waits in vain.
 pub fn free_law<V, A, M, Q, R>()
     ensures { NothingIsFree V A M Q R }
+{}
+
+/// AND WHERE THAT IS BY MAILS, and the newest of all, all its replies were heard.
+pub fn heard_law<V, A, M, Q, R>()
+    ensures { NothingUnheard V A M Q R }
 {}
 
 /// NO SERVICE BECOMES OVER BY A VISIT THAT BROUGHT NOTHING, with its mail still held: where a state service might begin behind it, it might have begun before;
