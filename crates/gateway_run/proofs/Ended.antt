@@ -13,23 +13,26 @@ use Rattle.run_book.specs.declared.book.Ending.{Ending}
 use Rattle.run_book.specs.declared.book.Ending.TheVariants as endings
 use Rattle.run_book.specs.declared.book.GramIn.{GramIn}
 use Rattle.run_book.specs.declared.book.GramOut.{GramOut}
+use Rattle.run_book.specs.declared.book.SentFrame.{SentFrame}
+use Rattle.run_record.specs.Served.{ServingBegins}
 use Rattle.run_record.specs.Session.{first_session, session_rows}
 use Rattle.run_record.specs.of_run_notes.Slaves.{home_of}
 use Rattle.run_record.specs.Ran.{HasSent, EndsSo, StopsSo, StopsAs}
 use Rattle.gateway_run.proofs.Room.{small_budget}
 use Rattle.run_record.proofs.Underway.{begun, has_frames, ended}
 use Rattle.gateway_run.specs.Heard.{heard_as, AreHeard, AreSent, AreSentBut, IsOwed, IsRightly}
-use Rattle.gateway_run.specs.Account.{Course.begins}
+use Rattle.gateway_run.specs.Account.{Course, Course.begins}
 use Rattle.gateway_run.specs.Desk.{IsOpen, AreApart}
 use Rattle.gateway_run.specs.Serving.{Told, IsOn, IsServing, IsFaulted, Goes, can_hear}
 use Rattle.gateway_run.specs.Served.{HasGrams, HasAccount, IsBroken, IsServed}
 use Rattle.gateway_run.specs.declared.turn.Serving.{Serving}
+use Rattle.gateway_run.proofs.Answering.{course_answers}
 use Rattle.gateway_run.proofs.Turns.{heard_none, sent_none, course_same, spelled_same}
 
 -- before the first turn
-pub first_serving : (plan : Scenario) (count : ℕ) (now : Told) (v : Serving) (b : Book) → v.session ≡ first_session plan count v.session.master → v.desk.requests.items ≡ [] → v.desk.outbox.items ≡ [] → v.count ≡ count → v.over ≡ false → IsNew b → count < 4294967296 → IsPlan plan →
+pub first_serving : (plan : Scenario) (count : ℕ) (now : Told) (v : Serving) (b : Book) → v.session ≡ first_session plan count v.session.master → ServingBegins plan v.session → v.desk.requests.items ≡ [] → v.desk.outbox.items ≡ [] → v.count ≡ count → v.over ≡ false → IsNew b → count < 4294967296 → IsPlan plan →
     IsServing plan count now now v b
-first_serving plan count now v b session requests outbox counts over new fits sound = record {
+first_serving plan count now v b session serves requests outbox counts over new fits sound = record {
   on = record {
     underway = begun plan count v.session b session new;
     counts = counts;
@@ -44,7 +47,7 @@ first_serving plan count now v b session requests outbox counts over new fits so
     answered = subst (All (IsOwed (map heard_as b.grams))) (sym new.replies) (All-nil (IsOwed (map heard_as b.grams)));
     judged = subst (All (IsRightly (map home_of plan.slaves))) (sym new.grams) (All-nil (IsRightly (map home_of plan.slaves)));
     owed = [];
-    course = course_same plan count v.session v.session [] b.frames [] b.grams [] v.desk.requests.items [] refl new.frames new.grams requests (begins v.session session);
+    course = course_same plan count v.session v.session [] b.frames [] b.grams [] v.desk.requests.items [] refl new.frames new.grams requests (begins v.session session serves);
     spelled = spelled_same (map heard_as b.grams) (map heard_as b.grams) [] [] (b.replies ++ v.desk.outbox.items) refl (ap (λ (l : List GramOut). l ++ v.desk.outbox.items) new.replies ∙ outbox) tt;
   };
   heard = subst (AreHeard now.heard now.heard) (sym new.grams) (heard_none now.heard);
@@ -62,7 +65,7 @@ over_so : (heard count : ℕ) (over over' : Bool) → (over ≡ true → over' �
 over_so heard count over over' told (inl all) = inl all
 over_so heard count over over' told (inr is) = inr (told is)
 
-module _ (plan : Scenario) (count : ℕ) (first now : Told) (v : Serving) (b b' : Book) (some : 0 < count) (on : IsOn plan count v b) (heard : AreHeard first.heard now.heard b.grams)
+module _ (plan : Scenario) (count : ℕ) (first now : Told) (v : Serving) (b b' : Book) (is_plan : IsPlan plan) (some : 0 < count) (on : IsOn plan count v b) (heard : AreHeard first.heard now.heard b.grams)
     (frames : b'.frames ≡ b.frames) (switch : b'.switch ≡ b.switch) (grams : b'.grams ≡ b.grams) (replies : b'.replies ≡ b.replies) (serving : b'.serving ≡ v.session.serving) (many : length v.session.notes ≡ length v.session.ring.nodes) where
   pub sent_frames : HasSent plan count b'
   sent_frames = has_frames plan count v.session b b' on.underway frames switch
@@ -85,11 +88,15 @@ module _ (plan : Scenario) (count : ℕ) (first now : Told) (v : Serving) (b b' 
     requests = v.desk.requests.items;
     owed = on.owed;
     later = v.desk.outbox.items;
-    course = course_same plan count v.session v.session b.frames b'.frames b.grams b'.grams v.desk.requests.items v.desk.requests.items on.owed refl frames grams refl on.course;
+    course = course';
     spelled = spelled_same (map heard_as b.grams) (map heard_as b'.grams) on.owed (b.replies ++ v.desk.outbox.items) (b'.replies ++ v.desk.outbox.items) (ap (map heard_as) grams) (ap (λ (l : List GramOut). l ++ v.desk.outbox.items) replies) on.spelled;
+    answers = course_answers plan count is_plan v.session b'.frames b'.grams v.desk.requests.items on.owed course';
     rows = rows;
     all = all;
   }
+    where
+      course' : Course plan count v.session b'.frames b'.grams v.desk.requests.items on.owed
+      course' = course_same plan count v.session v.session b.frames b'.frames b.grams b'.grams v.desk.requests.items v.desk.requests.items on.owed refl frames grams refl on.course
 
   -- a serving whose port failed
   faulted_so : (result : Ending) → (result ≢ endings.NoMemory → b'.slaves ≡ session_rows v.session) → (result ≡ endings.PortFault) ⊎ (result ≡ endings.NoMemory) → IsBroken first now b' → IsServed plan count first now b' result
@@ -116,11 +123,11 @@ module _ (plan : Scenario) (count : ℕ) (first now : Told) (v : Serving) (b b' 
   through_so endings.Unfinished result rows (inl is) so over empty sent = absurd so
 
 -- what a serving that ended leaves
-pub served : (plan : Scenario) (count : ℕ) (first now : Told) (v : Serving) (b b' : Book) (ending result : Ending) → 0 < count → IsServing plan count first now v b → b'.frames ≡ b.frames → b'.switch ≡ b.switch → b'.grams ≡ b.grams → b'.replies ≡ b.replies →
+pub served : (plan : Scenario) (count : ℕ) (first now : Told) (v : Serving) (b b' : Book) (ending result : Ending) → IsPlan plan → 0 < count → IsServing plan count first now v b → b'.frames ≡ b.frames → b'.switch ≡ b.switch → b'.grams ≡ b.grams → b'.replies ≡ b.replies →
     b'.serving ≡ v.session.serving → length v.session.notes ≡ length v.session.ring.nodes → (result ≢ endings.NoMemory → b'.slaves ≡ session_rows v.session) → (result ≡ ending) ⊎ (result ≡ endings.NoMemory) → EndsSo v.session ending →
     (ending ≢ endings.BudgetSpent → can_hear v b ≡ false) → v.desk.outbox.items ≡ [] → IsServed plan count first now b' result
-served plan count first now v b b' ending result some h frames switch grams replies serving many rows is so whole empty =
-    through_so plan count first now v b b' some h.on h.heard frames switch grams replies serving many ending result rows is so
+served plan count first now v b b' ending result is_plan some h frames switch grams replies serving many rows is so whole empty =
+    through_so plan count first now v b b' is_plan some h.on h.heard frames switch grams replies serving many ending result rows is so
     (λ apart.
     let counts = h.on.counts in
     let few = h.on.few in
@@ -131,10 +138,10 @@ served plan count first now v b b' ending result some h frames switch grams repl
     (subst (AreSent first.sent now.sent) (sym replies) h.sent)
 
 -- what one leaves whose port failed
-pub faulted : (plan : Scenario) (count : ℕ) (first now : Told) (v : Serving) (b b' : Book) (result : Ending) → 0 < count → IsFaulted plan count first now v b → b'.frames ≡ b.frames → b'.switch ≡ b.switch → b'.grams ≡ b.grams → b'.replies ≡ b.replies →
+pub faulted : (plan : Scenario) (count : ℕ) (first now : Told) (v : Serving) (b b' : Book) (result : Ending) → IsPlan plan → 0 < count → IsFaulted plan count first now v b → b'.frames ≡ b.frames → b'.switch ≡ b.switch → b'.grams ≡ b.grams → b'.replies ≡ b.replies →
     b'.serving ≡ v.session.serving → length v.session.notes ≡ length v.session.ring.nodes → (result ≢ endings.NoMemory → b'.slaves ≡ session_rows v.session) → (result ≡ endings.PortFault) ⊎ (result ≡ endings.NoMemory) → IsServed plan count first now b' result
-faulted plan count first now v b b' result some h frames switch grams replies serving many rows is =
-    faulted_so plan count first now v b b' some h.on h.heard frames switch grams replies serving many result rows is
+faulted plan count first now v b b' result is_plan some h frames switch grams replies serving many rows is =
+    faulted_so plan count first now v b b' is_plan some h.on h.heard frames switch grams replies serving many result rows is
     (record { rose = h.rose; sent = subst (AreSentBut first.sent now.sent) (sym replies) h.sent })
 
 -- the port failed, or memory ran out

@@ -43,15 +43,16 @@ opening_same frame l o done found = go (shows_clear o) (done && is_shown 1 found
     go false b true false = refl
     go false b false d = refl
 
-reopens_same : (l : Life Body Asked Reply) (hand : Option Duty) → SameRows l (reopens l hand)
-reopens_same l None = refl
-reopens_same l (Some duty) = go duty.stage
+-- where a state service is in hand nothing but its stand may change
+pub reopens_keeps : {T : Type 0} (g : Life Body Asked Reply → T) → ((l : Life Body Asked Reply) (stand : Stand) → g (record l { stand = stand }) ≡ g l) → (l : Life Body Asked Reply) (hand : Option Duty) → g (reopens l hand) ≡ g l
+reopens_keeps g same l None = refl
+reopens_keeps g same l (Some duty) = go duty.stage
   where
-    by : (b : Bool) → SameRows l (if b then record l { stand = reopening (opens_state duty.target) true } else l)
-    by true = refl
+    by : (b : Bool) → g (if b then record l { stand = reopening (opens_state duty.target) true } else l) ≡ g l
+    by true = same l (reopening (opens_state duty.target) true)
     by false = refl
 
-    go : (s : Accounts.Stage) → SameRows l (reopens_at l duty.target s)
+    go : (s : Accounts.Stage) → g (reopens_at l duty.target s) ≡ g l
     go Accounts.Stage.Drains = refl
     go (Accounts.Stage.Goes phase) = by (returns_to_init duty.target)
 
@@ -61,7 +62,7 @@ module _ (x : Speech Body Asked Reply) (frame : ℕ) (spot : Spot) (l : Life Bod
   back_stays ns back (Some came) (Stand.Opens o) = all_same (life_rows l) (life_rows (opening_back frame l o came.0 came.1)) (sym (opening_same frame l o came.0 came.1))
   back_stays ns back came Stand.Gone = all_itself (life_rows l)
   back_stays ns back came Stand.Open =
-      subst (λ z. AllBoth Stays (life_rows l) z) (sym (reopens_same (record l { era = era }) era.account.hand))
+      subst (λ z. AllBoth Stays (life_rows l) z) (sym (reopens_keeps life_rows (λ l stand. refl) (record l { era = era }) era.account.hand))
       (all_append (eras_rows l.past) (eras_rows l.past) (rows_of l.era.side) (rows_of era.side) (all_itself (eras_rows l.past))
       (all_append l.era.side.past l.era.side.past (newest l.era.side.now) (newest era.side.now) (all_itself l.era.side.past) (newest_heard x frame (all_accepted spot.station l.era.side.halves (grams (own spot.station back))) l.era.side.now)))
     where

@@ -185,8 +185,14 @@ module _ (lens : ℕ → Lens) (made : ℕ) (ds : List Raw.Datagram) (w : Serves
   pub next_stays : AllBoth Stays (passed_rows before ++ row_begun made v.turn.begun) (passed_rows v.turn.lived.life)
   next_stays = subst (λ rs. AllBoth Stays (passed_rows before ++ rs) (passed_rows v.turn.lived.life)) (passed_row made v.turn.begun) (lives_more before v.turn.lived.life (row_of made v.turn.begun) (rows_by v.turn.begun refl t.took))
 
+  begun_free : (s : Service Asked) → v.turn.begun ≡ Some s → IsFreeFor before
+  begun_free s e = free_for x made before t.next.pick.hold s before.stand refl (counted_is s e (subst (λ b. Took made before.era.account v.turn.lived.life.era.account b) e t.took))
+
   pub next_free : (s : Service Asked) → v.turn.begun ≡ Some s → before.era.passing ≡ None
-  next_free s e = (free_for x made before t.next.pick.hold s before.stand refl (counted_is s e (subst (λ b. Took made before.era.account v.turn.lived.life.era.account b) e t.took))).free
+  next_free s e = (begun_free s e).free
+
+  pub next_open : (s : Service Asked) → v.turn.begun ≡ Some s → before.stand ≡ Stand.Open
+  next_open s e = (begun_free s e).opened
 
   passing_by : (b : Option (Service Asked)) → v.turn.begun ≡ b → Took made before.era.account v.turn.lived.life.era.account b → v.turn.lived.life.era.passing ≡ passing_behind is_passed before.era.passing b
   passing_by None e took = ap (λ (l : Life Body Asked Reply). l.era.passing) (life_is None e) ∙ none_passing x made before t.next.pick.hold before.stand

@@ -1,7 +1,8 @@
 -- THE ROWS OF THE MAILS THAT ARE PASSED ON to a slave, in the order in which they came into its hand, all along its life.
-use Rattle.std.specs.Prelude.{◌≡◌, ◌⊎◌, ℕ, Bool, true, Option, Some, None, List, [], ◌∷◌, ◌++◌, filter, if◌then◌else◌}
+use Rattle.std.specs.Prelude.{◌≡◌, ◌⊎◌, ℕ, Bool, true, Option, Some, None, List, [], ◌∷◌, ◌++◌, filter, if◌then◌else◌, All}
 use Rattle.life_frames.specs.of_exchange_model.Rows.{Row, begun}
 use Rattle.life_frames.specs.of_life_model.Lives.{Era, Life, Stand}
+use Rattle.life_frames.specs.of_segment_model.Ends.{Passing}
 use Rattle.life_frames.specs.of_segment_model.Seats.{rows_of}
 use Rattle.life_frames.specs.of_state_exchange.Stated.{Service}
 use Rattle.life_runs.specs.of_link_mails.Body.{Body}
@@ -48,3 +49,16 @@ IsHeld w = (p : Passed) → w.hand ≡ Some p → w.lead.lived.life.stand ≡ St
 -- THESE ARE ALL REPLIES to a mail that was passed on: the last of them tells that no other follows; or its server took the mail, and there is none
 abbrev pub AreAll : List Body → Type 0
 AreAll told = (told ≡ []) ⊎ (ends_told is_followed told ≡ true)
+
+-- WHAT WAS TOLD of a mail that was passed on, by how far it has come: no reply before the first; then replies that others follow; and all where it is over
+abbrev pub StandsTold : Option Passing → List Body → Type 0
+StandsTold None told = AreAll told
+StandsTold (Some Passing.Waiting) told = told ≡ []
+StandsTold (Some Passing.Sent) told = told ≡ []
+StandsTold (Some Passing.Boxed) told = told ≡ []
+StandsTold (Some Passing.Served) told = told ≡ []
+StandsTold (Some Passing.Answered) told = All (λ (m : Body). is_followed m ≡ true) told
+
+-- of the one that was passed on last to a slave
+abbrev pub ToldAll : Serves → Type 0
+ToldAll w = (p : Passed) → w.hand ≡ Some p → StandsTold w.lead.lived.life.era.passing p.told
