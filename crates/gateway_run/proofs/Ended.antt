@@ -27,6 +27,7 @@ use Rattle.gateway_run.specs.Serving.{Told, IsOn, IsServing, IsFaulted, Goes, ca
 use Rattle.gateway_run.specs.Served.{HasGrams, HasAccount, IsBroken, IsServed}
 use Rattle.gateway_run.specs.declared.turn.Serving.{Serving}
 use Rattle.gateway_run.proofs.Answering.{course_answers}
+use Rattle.gateway_run.proofs.Leds.{on_led}
 use Rattle.gateway_run.proofs.Turns.{heard_none, sent_none, course_same, spelled_same}
 
 -- before the first turn
@@ -39,6 +40,7 @@ first_serving plan count now v b session serves requests outbox counts over new 
     few = let none = ap length new.grams in omega (arith, none);
     fits = fits;
     bounded = small_budget (bound_of plan count) plan.budget sound.laid.budget;
+    is_plan = sound;
     sound = record {
       requests = subst (All (IsOpen v.desk.gateway (map heard_as b.grams))) (sym requests) (All-nil (IsOpen v.desk.gateway (map heard_as b.grams)));
       apart = subst AreApart (sym requests) tt;
@@ -65,7 +67,7 @@ over_so : (heard count : ℕ) (over over' : Bool) → (over ≡ true → over' �
 over_so heard count over over' told (inl all) = inl all
 over_so heard count over over' told (inr is) = inr (told is)
 
-module _ (plan : Scenario) (count : ℕ) (first now : Told) (v : Serving) (b b' : Book) (is_plan : IsPlan plan) (some : 0 < count) (on : IsOn plan count v b) (heard : AreHeard first.heard now.heard b.grams)
+module _ (plan : Scenario) (count : ℕ) (first now : Told) (v : Serving) (b b' : Book) (some : 0 < count) (on : IsOn plan count v b) (heard : AreHeard first.heard now.heard b.grams)
     (frames : b'.frames ≡ b.frames) (switch : b'.switch ≡ b.switch) (grams : b'.grams ≡ b.grams) (replies : b'.replies ≡ b.replies) (serving : b'.serving ≡ v.session.serving) (many : length v.session.notes ≡ length v.session.ring.nodes) where
   pub sent_frames : HasSent plan count b'
   sent_frames = has_frames plan count v.session b b' on.underway frames switch
@@ -91,6 +93,7 @@ module _ (plan : Scenario) (count : ℕ) (first now : Told) (v : Serving) (b b' 
     course = course';
     spelled = spelled_same (map heard_as b.grams) (map heard_as b'.grams) on.owed (b.replies ++ v.desk.outbox.items) (b'.replies ++ v.desk.outbox.items) (ap (map heard_as) grams) (ap (λ (l : List GramOut). l ++ v.desk.outbox.items) replies) on.spelled;
     answers = course_answers plan count is_plan v.session b'.frames b'.grams v.desk.requests.items on.owed course';
+    led = subst (λ (fs : List SentFrame). Led.Serving plan v.session (map exchanged fs)) (sym frames) (on_led plan count v b on).serving;
     rows = rows;
     all = all;
   }
@@ -123,11 +126,11 @@ module _ (plan : Scenario) (count : ℕ) (first now : Told) (v : Serving) (b b' 
   through_so endings.Unfinished result rows (inl is) so over empty sent = absurd so
 
 -- what a serving that ended leaves
-pub served : (plan : Scenario) (count : ℕ) (first now : Told) (v : Serving) (b b' : Book) (ending result : Ending) → IsPlan plan → 0 < count → IsServing plan count first now v b → b'.frames ≡ b.frames → b'.switch ≡ b.switch → b'.grams ≡ b.grams → b'.replies ≡ b.replies →
+pub served : (plan : Scenario) (count : ℕ) (first now : Told) (v : Serving) (b b' : Book) (ending result : Ending) → 0 < count → IsServing plan count first now v b → b'.frames ≡ b.frames → b'.switch ≡ b.switch → b'.grams ≡ b.grams → b'.replies ≡ b.replies →
     b'.serving ≡ v.session.serving → length v.session.notes ≡ length v.session.ring.nodes → (result ≢ endings.NoMemory → b'.slaves ≡ session_rows v.session) → (result ≡ ending) ⊎ (result ≡ endings.NoMemory) → EndsSo v.session ending →
     (ending ≢ endings.BudgetSpent → can_hear v b ≡ false) → v.desk.outbox.items ≡ [] → IsServed plan count first now b' result
-served plan count first now v b b' ending result is_plan some h frames switch grams replies serving many rows is so whole empty =
-    through_so plan count first now v b b' is_plan some h.on h.heard frames switch grams replies serving many ending result rows is so
+served plan count first now v b b' ending result some h frames switch grams replies serving many rows is so whole empty =
+    through_so plan count first now v b b' some h.on h.heard frames switch grams replies serving many ending result rows is so
     (λ apart.
     let counts = h.on.counts in
     let few = h.on.few in
@@ -138,10 +141,10 @@ served plan count first now v b b' ending result is_plan some h frames switch gr
     (subst (AreSent first.sent now.sent) (sym replies) h.sent)
 
 -- what one leaves whose port failed
-pub faulted : (plan : Scenario) (count : ℕ) (first now : Told) (v : Serving) (b b' : Book) (result : Ending) → IsPlan plan → 0 < count → IsFaulted plan count first now v b → b'.frames ≡ b.frames → b'.switch ≡ b.switch → b'.grams ≡ b.grams → b'.replies ≡ b.replies →
+pub faulted : (plan : Scenario) (count : ℕ) (first now : Told) (v : Serving) (b b' : Book) (result : Ending) → 0 < count → IsFaulted plan count first now v b → b'.frames ≡ b.frames → b'.switch ≡ b.switch → b'.grams ≡ b.grams → b'.replies ≡ b.replies →
     b'.serving ≡ v.session.serving → length v.session.notes ≡ length v.session.ring.nodes → (result ≢ endings.NoMemory → b'.slaves ≡ session_rows v.session) → (result ≡ endings.PortFault) ⊎ (result ≡ endings.NoMemory) → IsServed plan count first now b' result
-faulted plan count first now v b b' result is_plan some h frames switch grams replies serving many rows is =
-    faulted_so plan count first now v b b' is_plan some h.on h.heard frames switch grams replies serving many result rows is
+faulted plan count first now v b b' result some h frames switch grams replies serving many rows is =
+    faulted_so plan count first now v b b' some h.on h.heard frames switch grams replies serving many result rows is
     (record { rose = h.rose; sent = subst (AreSentBut first.sent now.sent) (sym replies) h.sent })
 
 -- the port failed, or memory ran out

@@ -156,6 +156,7 @@ module _ (plan : Scenario) (count : ℕ) (first : Told) where
       few = h.on.few;
       fits = h.on.fits;
       bounded = h.on.bounded;
+      is_plan = h.on.is_plan;
       sound = subst (IsSound (map heard_as b.grams)) (sym desk) h.on.sound;
       answered = h.on.answered;
       judged = h.on.judged;
@@ -196,6 +197,7 @@ module _ (plan : Scenario) (count : ℕ) (first : Told) where
             few = let n = ap length t.put ∙ length-append b.grams (g ∷ []) in let c = h.on.counts in omega (arith, n, c, room);
             fits = h.on.fits;
             bounded = h.on.bounded;
+            is_plan = h.on.is_plan;
             sound = sound h.on.sound;
             answered = subst (λ (rs : List GramOut). All (IsOwed (map heard_as b'.grams)) rs) (sym (ap (λ (x : Book). x.replies) same))
                 (subst (λ (l : List HeardGram). All (IsOwed l) b.replies) (sym grams) (all_owed_more (map heard_as b.grams) (heard_as g ∷ []) b.replies h.on.answered));
@@ -235,6 +237,7 @@ module _ (plan : Scenario) (count : ℕ) (first : Told) where
       few = h.on.few;
       fits = h.on.fits;
       bounded = h.on.bounded;
+      is_plan = h.on.is_plan;
       sound = subst (IsSound (map heard_as b.grams)) (sym desk) h.on.sound;
       answered = h.on.answered;
       judged = h.on.judged;
@@ -275,6 +278,7 @@ module _ (plan : Scenario) (count : ℕ) (first : Told) where
           few = subst (λ (l : List GramIn). length l ≤ count) (sym grams) h.on.few;
           fits = h.on.fits;
           bounded = h.on.bounded;
+          is_plan = h.on.is_plan;
           sound = subst (λ (l : List GramIn). IsSound (map heard_as l) v'.desk) (sym grams) sound;
           answered = subst (λ (l : List GramIn). All (IsOwed (map heard_as l)) b'.replies) (sym grams) (subst (All (IsOwed (map heard_as b.grams))) (sym replies) h.on.answered);
           judged = subst (All (IsRightly (map home_of plan.slaves))) (sym grams) h.on.judged;
@@ -307,6 +311,7 @@ module _ (plan : Scenario) (count : ℕ) (first : Told) where
         few = subst (λ (l : List GramIn). length l ≤ count) (sym grams) h.few;
         fits = h.fits;
         bounded = h.bounded;
+        is_plan = h.is_plan;
         owed = h.owed;
         course = course_same plan count v.session v'.session b.frames b'.frames b.grams b'.grams v.desk.requests.items v'.desk.requests.items h.owed session (ap (λ (x : Book). x.frames) put) grams requests h.course;
         spelled = spelled_same (map heard_as b.grams) (map heard_as b'.grams) h.owed (b.replies ++ v.desk.outbox.items) (b'.replies ++ v'.desk.outbox.items) (ap (map heard_as) grams)
@@ -355,6 +360,7 @@ module _ (plan : Scenario) (count : ℕ) (first : Told) where
       few = h.on.few;
       fits = h.on.fits;
       bounded = h.on.bounded;
+      is_plan = h.on.is_plan;
       owed = h.on.owed;
       course = course_same plan count v.session v'.session b.frames b.frames b.grams b.grams v.desk.requests.items v'.desk.requests.items h.on.owed session refl refl requests h.on.course;
       spelled = spelled_same (map heard_as b.grams) (map heard_as b.grams) h.on.owed (b.replies ++ v.desk.outbox.items) (b.replies ++ v'.desk.outbox.items) refl (ap (λ (l : List GramOut). b.replies ++ l) outbox) h.on.spelled;

@@ -4,9 +4,9 @@ ghost use Rattle.ec_outside.specs.declared.port.Heard.TheVariants as heards;
 ghost use Rattle.segment_plan.specs.Sound.{IsPlan};
 ghost use Rattle.segment_plan.specs.declared.plan.Scenario.{Scenario as Plan};
 ghost use Rattle.run_record.specs.Served.{ServingBegins};
-ghost use Rattle.run_record.specs.Session.{first_session, has_live};
+ghost use Rattle.run_record.specs.Session.{first_session};
 ghost use Rattle.gateway_run.specs.Desk.{SameLive};
-ghost use Rattle.gateway_run.specs.Serving.{Told, told, Listens, SendsOne, Goes, IsServing, left, can_hear};
+ghost use Rattle.gateway_run.specs.Serving.{Told, told, Listens, SendsOne, Goes, IsServing, LivesUnless, left, can_hear};
 
 use crate::desk::Desk;
 use crate::stop::Stop;
@@ -139,7 +139,7 @@ impl Serving {
 
     // Sends a frame, unless the segment rests; `false` where the budget of frames is spent.
     fn frame(&mut self, alloc: Global, rests: bool, book: &mut Book) -> Result<bool, Stop>
-        ensures goes { (plan : Plan) (count : ℕ) (first now : Told) → OnFalse rests (has_live self.old.session.master ≡ true) → IsServing plan count first now self.old book.old → Goes plan count first now self.new book.new result }
+        ensures goes { (plan : Plan) (count : ℕ) (first now : Told) → LivesUnless rests self.old.session → IsServing plan count first now self.old book.old → Goes plan count first now self.new book.new result }
         ensures less { IfOk result (λ on. OnTrue on (OnFalse rests (left self.new book.new < left self.old book.old))) }
         ensures most { OnOk result (left self.new book.new ≤ left self.old book.old) }
         ensures spent { IfOk result (λ on. OnFalse on (self.new.session.ring.number ≡ self.new.session.budget)) }
@@ -179,7 +179,7 @@ impl Serving {
         book: &mut Book,
     ) -> Result<bool, Stop>
         requires { OnTrue settled (can_hear self.old book.old ≡ true) }
-        ensures goes { (plan : Plan) (count : ℕ) (first : Told) → OnFalse settled (has_live self.old.session.master ≡ true) → IsServing plan count first (told P.heard P.sent P.over P.port_faults port.old) self.old book.old → Goes plan count first (told P.heard P.sent P.over P.port_faults port.new) self.new book.new result }
+        ensures goes { (plan : Plan) (count : ℕ) (first : Told) → LivesUnless settled self.old.session → IsServing plan count first (told P.heard P.sent P.over P.port_faults port.old) self.old book.old → Goes plan count first (told P.heard P.sent P.over P.port_faults port.new) self.new book.new result }
         ensures less { IfOk result (λ on. OnTrue on (left self.new book.new < left self.old book.old)) }
         ensures spent { IfOk result (λ on. OnFalse on (self.new.session.ring.number ≡ self.new.session.budget)) }
         ensures empty { OnOk result (self.new.desk.outbox.items ≡ []) }

@@ -36,7 +36,7 @@ returns-in-Ok-clause-frames g c =
 
 pub returns-in-Ok-clause-served : goal.returns-in-Ok-clause-served
 returns-in-Ok-clause-served g c =
-    served c.args.plan.now c.args.count (told g.P.Port.heard g.P.Port.sent g.P.Port.over g.P.Port.port_faults c.args.port.now) (told g.P.Port.heard g.P.Port.sent g.P.Port.over g.P.Port.port_faults c.turns.new.port) c.turns.new.serving c.turns.new.book c.finish.new.book c.in-Ok.ending c.finish.result c.requires.plan c.requires.some
+    served c.args.plan.now c.args.count (told g.P.Port.heard g.P.Port.sent g.P.Port.over g.P.Port.port_faults c.args.port.now) (told g.P.Port.heard g.P.Port.sent g.P.Port.over g.P.Port.port_faults c.turns.new.port) c.turns.new.serving c.turns.new.book c.finish.new.book c.in-Ok.ending c.finish.result c.requires.some
     (c.in-Ok.ensures.goes c.args.plan.now c.args.count (told g.P.Port.heard g.P.Port.sent g.P.Port.over g.P.Port.port_faults c.args.port.now)
     (first_serving c.args.plan.now c.args.count (told g.P.Port.heard g.P.Port.sent g.P.Port.over g.P.Port.port_faults c.args.port.now) c.in_ok-serving.serving c.args.book.now c.in_ok-serving.ensures.session c.in_ok-serving.ensures.serves c.in_ok-serving.ensures.requests c.in_ok-serving.ensures.outbox c.in_ok-serving.ensures.count c.in_ok-serving.ensures.over c.requires.new c.ranges.count.fits c.requires.plan))
     c.finish.ensures.frames c.finish.ensures.switch c.finish.ensures.grams c.finish.ensures.replies c.finish.ensures.serving c.finish.ensures.many c.finish.ensures.rows c.finish.ensures.answers c.in-Ok.ensures.ends c.in-Ok.ensures.whole c.in-Ok.ensures.empty
@@ -58,6 +58,6 @@ returns-in-Err-PortFault-clause-served g c =
     let e : c.turns.result ≡ Err stops.PortFault = cc in
     let h = fault_of c.args.plan.now c.args.count (told g.P.Port.heard g.P.Port.sent g.P.Port.over g.P.Port.port_faults c.args.port.now) (told g.P.Port.heard g.P.Port.sent g.P.Port.over g.P.Port.port_faults c.turns.new.port) c.turns.new.serving c.turns.new.book c.turns.result e (c.turns.ensures.goes c.args.plan.now c.args.count (told g.P.Port.heard g.P.Port.sent g.P.Port.over g.P.Port.port_faults c.args.port.now)
     (first_serving c.args.plan.now c.args.count (told g.P.Port.heard g.P.Port.sent g.P.Port.over g.P.Port.port_faults c.args.port.now) c.in_ok-serving.serving c.args.book.now c.in_ok-serving.ensures.session c.in_ok-serving.ensures.serves c.in_ok-serving.ensures.requests c.in_ok-serving.ensures.outbox c.in_ok-serving.ensures.count c.in_ok-serving.ensures.over c.requires.new c.ranges.count.fits c.requires.plan)) in
-    faulted c.args.plan.now c.args.count (told g.P.Port.heard g.P.Port.sent g.P.Port.over g.P.Port.port_faults c.args.port.now) (told g.P.Port.heard g.P.Port.sent g.P.Port.over g.P.Port.port_faults c.turns.new.port) c.turns.new.serving c.turns.new.book c.finish-in-Err-PortFault.new.book c.finish-in-Err-PortFault.result c.requires.plan c.requires.some
+    faulted c.args.plan.now c.args.count (told g.P.Port.heard g.P.Port.sent g.P.Port.over g.P.Port.port_faults c.args.port.now) (told g.P.Port.heard g.P.Port.sent g.P.Port.over g.P.Port.port_faults c.turns.new.port) c.turns.new.serving c.turns.new.book c.finish-in-Err-PortFault.new.book c.finish-in-Err-PortFault.result c.requires.some
     h
     c.finish-in-Err-PortFault.ensures.frames c.finish-in-Err-PortFault.ensures.switch c.finish-in-Err-PortFault.ensures.grams c.finish-in-Err-PortFault.ensures.replies c.finish-in-Err-PortFault.ensures.serving c.finish-in-Err-PortFault.ensures.many c.finish-in-Err-PortFault.ensures.rows c.finish-in-Err-PortFault.ensures.answers
