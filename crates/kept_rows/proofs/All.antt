@@ -8,20 +8,19 @@ use Rattle.counters_kept.specs.Lives.{LifeKept, StandsKept}
 use Rattle.life_frames.proofs.Frames.{own_behind, own_none}
 use Rattle.life_frames.proofs.Twice.{still_stands}
 use Rattle.life_frames.specs.of_exchange_model.Exchange.{Speech, plain}
-use Rattle.life_frames.specs.of_life_model.Lives.{Era, Life, Stand, era_back, life_back, life_lost, life_next, passes, reopens}
+use Rattle.life_frames.specs.of_life_model.Lives.{Era, Life, Spot, Stand, era_back, life_back, life_lost, passes}
 use Rattle.life_frames.specs.of_life_model.Own.{own}
 use Rattle.life_frames.specs.of_segment_model.Ends.{Passing, passing_after}
-use Rattle.life_frames.specs.of_segment_model.Record.{Kept, News, all_told, is_for, mails_heard}
+use Rattle.life_frames.specs.of_segment_model.Record.{News, all_told, is_for, mails_heard}
 use Rattle.life_frames.specs.of_segment_model.Returned.{Returns}
 use Rattle.life_frames.specs.of_segment_model.Slaves.{Datagram, Found, grams}
 use Rattle.life_frames.specs.of_state_exchange.Stated.{Service}
-use Rattle.life_frames.specs.Frames.{FrameFor, FrameFor.none, FrameFor.one, HasOne, Share}
+use Rattle.life_frames.specs.Frames.{FrameFor, Share}
 use Rattle.life_runs.specs.of_datagrams.Datagram as Raw
 use Rattle.life_runs.specs.of_datagrams.Frame.{IsFrame, chained}
 use Rattle.life_runs.specs.of_frame_view.Seen.{datagrams_seen, seen}
 use Rattle.life_runs.specs.of_frame_view.View.{Lens, datagram_seen}
 use Rattle.life_runs.specs.of_life_frames.Shares.{came_at, given_where}
-use Rattle.life_runs.specs.of_life_model.Lives.{Spot}
 use Rattle.life_runs.specs.of_link_mails.Body.{Body}
 use Rattle.life_runs.specs.of_master_duty.Reply.{Reply}
 use Rattle.life_runs.specs.of_master_hand.Spoken.{Asked, acknowledged, emission, is_followed, is_passed, passed}
@@ -36,7 +35,7 @@ use Rattle.master_tour.specs.Brings.{accepted_at}
 use Rattle.serving_model.specs.Passing.{ends_told}
 use Rattle.served_runs.specs.Served.{Keyed, Serves, ServedTurn, ServedComes, IsServedTurn, accepted_by, gives_it, served_behind, served_life}
 use Rattle.served_runs.specs.Told.{Passed, replies_in, told_on}
-use Rattle.kept_rows.specs.Rows.{AreAll, IsHeld, StandsTold, ToldAll}
+use Rattle.kept_rows.specs.Rows.{IsHeld, StandsTold, ToldAll}
 use Rattle.kept_rows.proofs.Behind.{reopens_keeps}
 use Rattle.kept_rows.proofs.Next.{next_open, next_passing}
 use Rattle.kept_rows.proofs.News.{Brings, IsBrief, IsStill, frame_brings, still_heard, told_brings}
@@ -125,43 +124,47 @@ module _ (lens : ℕ → Lens) (spot : Spot) where
   abbrev by : Option Passing → List (News Body) → Option Passing
   by o ns = passes (speech_at lens spot) acknowledged is_followed is_passed o ns
 
+  -- where it isn't over behind one news it goes on by those behind that
+  on_goes : (o : Option Passing) (told out : List Body) (ns : List (News Body)) → ((p : Passing) → StandsTold (Some p) told → StandsTold (by (Some p) ns) out) → GoesOn o told → StandsTold (by o ns) out
+  on_goes o told out ns f g = subst (λ z. StandsTold (by z ns) out) (sym g.is) (f g.passing g.stands)
+
   -- ALL NEWS OF A FRAME, where none is of mails
+  still_some : (ns : List (News Body)) (p : Passing) (told : List Body) → IsStill ns → StandsTold (Some p) told → StandsTold (by (Some p) ns) told
+  still_some [] p told s t = t
+  still_some (News.Told m ∷ ns) p told s t = on_goes (passing_after emission is_followed p (News.Told m)) told told ns (λ q h. still_some ns q told s h) (sent_goes p told m t)
+  still_some (News.Written ∷ ns) p told s t = on_goes (passing_after emission is_followed p News.Written) told told ns (λ q h. still_some ns q told s h) (written_goes p told t)
+  still_some (News.Heard m ∷ ns) p told s t = absurd s
+  still_some (News.NothingRead ∷ ns) p told s t = absurd s
+  still_some (News.BoxFull full ∷ ns) p told s t = on_goes (passing_after emission is_followed p (News.BoxFull full)) told told ns (λ q h. still_some ns q told s h) (box_goes p told full t)
+  still_some (News.Status state refused ∷ ns) p told s t =
+      on_goes (passing_after emission is_followed p (News.Status state refused)) told told ns (λ q h. still_some ns q told s h) (status_goes p told state refused t)
+
   still_told : (o : Option Passing) (told : List Body) (ns : List (News Body)) → IsStill ns → StandsTold o told → StandsTold (by o ns) told
-  still_on : (o : Option Passing) (told : List Body) (ns : List (News Body)) → IsStill ns → GoesOn o told → StandsTold (by o ns) told
-
   still_told None told ns s t = t
-  still_told (Some p) told [] s t = t
-  still_told (Some p) told (News.Told m ∷ ns) s t = still_on (passing_after emission is_followed p (News.Told m)) told ns s (sent_goes p told m t)
-  still_told (Some p) told (News.Written ∷ ns) s t = still_on (passing_after emission is_followed p News.Written) told ns s (written_goes p told t)
-  still_told (Some p) told (News.Heard m ∷ ns) s t = absurd s
-  still_told (Some p) told (News.NothingRead ∷ ns) s t = absurd s
-  still_told (Some p) told (News.BoxFull full ∷ ns) s t = still_on (passing_after emission is_followed p (News.BoxFull full)) told ns s (box_goes p told full t)
-  still_told (Some p) told (News.Status state refused ∷ ns) s t = still_on (passing_after emission is_followed p (News.Status state refused)) told ns s (status_goes p told state refused t)
-
-  still_on o told ns s g = subst (λ z. StandsTold (by z ns) told) (sym g.is) (still_told (Some g.passing) told ns s g.stands)
+  still_told (Some p) told ns s t = still_some ns p told s t
 
   -- where one is at most
-  brief_told : (p : Passing) (told : List Body) (ns : List (News Body)) → IsBrief ns → StandsTold (Some p) told → StandsTold (by (Some p) ns) (told ++ plain emission (mails_heard ns))
-  brief_on : (o : Option Passing) (told : List Body) (ns : List (News Body)) → IsBrief ns → GoesOn o told → StandsTold (by o ns) (told ++ plain emission (mails_heard ns))
-
-  brief_told p told [] b t = same_told (Some p) told [] refl t
-  brief_told p told (News.Told m ∷ ns) b t = brief_on (passing_after emission is_followed p (News.Told m)) told ns b (sent_goes p told m t)
-  brief_told p told (News.Written ∷ ns) b t = brief_on (passing_after emission is_followed p News.Written) told ns b (written_goes p told t)
-  brief_told p told (News.BoxFull full ∷ ns) b t = brief_on (passing_after emission is_followed p (News.BoxFull full)) told ns b (box_goes p told full t)
-  brief_told p told (News.Status state refused ∷ ns) b t = brief_on (passing_after emission is_followed p (News.Status state refused)) told ns b (status_goes p told state refused t)
-  brief_told p told (News.NothingRead ∷ ns) b t =
+  brief_told : (ns : List (News Body)) (p : Passing) (told : List Body) → IsBrief ns → StandsTold (Some p) told → StandsTold (by (Some p) ns) (told ++ plain emission (mails_heard ns))
+  brief_told [] p told b t = same_told (Some p) told [] refl t
+  brief_told (News.Told m ∷ ns) p told b t =
+      on_goes (passing_after emission is_followed p (News.Told m)) told (told ++ plain emission (mails_heard ns)) ns (λ q h. brief_told ns q told b h) (sent_goes p told m t)
+  brief_told (News.Written ∷ ns) p told b t =
+      on_goes (passing_after emission is_followed p News.Written) told (told ++ plain emission (mails_heard ns)) ns (λ q h. brief_told ns q told b h) (written_goes p told t)
+  brief_told (News.BoxFull full ∷ ns) p told b t =
+      on_goes (passing_after emission is_followed p (News.BoxFull full)) told (told ++ plain emission (mails_heard ns)) ns (λ q h. brief_told ns q told b h) (box_goes p told full t)
+  brief_told (News.Status state refused ∷ ns) p told b t =
+      on_goes (passing_after emission is_followed p (News.Status state refused)) told (told ++ plain emission (mails_heard ns)) ns (λ q h. brief_told ns q told b h) (status_goes p told state refused t)
+  brief_told (News.NothingRead ∷ ns) p told b t =
       same_told (by (passing_after emission is_followed p News.NothingRead) ns) told (plain emission (mails_heard ns)) (ap (plain emission) (still_heard ns b))
       (still_told (passing_after emission is_followed p News.NothingRead) told ns b (nothing_told p told t))
-  brief_told p told (News.Heard m ∷ ns) b t =
+  brief_told (News.Heard m ∷ ns) p told b t =
       subst (λ ms. StandsTold (by (passing_after emission is_followed p (News.Heard m)) ns) (told ++ plain emission (m ∷ ms))) (sym (still_heard ns b))
       (still_told (passing_after emission is_followed p (News.Heard m)) (told ++ plain emission (m ∷ [])) ns b (heard_told p told m t))
-
-  brief_on o told ns b g = subst (λ z. StandsTold (by z ns) (told ++ plain emission (mails_heard ns))) (sym g.is) (brief_told g.passing told ns b g.stands)
 
   -- by what was accepted
   pub brings_told : (o : Option Passing) (told : List Body) (ns : List (News Body)) (ms : List Body) → Brings ns ms → StandsTold o told → StandsTold (by o ns) (told ++ replies_in o ms)
   brings_told None told ns ms b t = same_told None told [] refl t
-  brings_told (Some p) told ns ms b t = subst (λ l. StandsTold (by (Some p) ns) (told ++ plain emission l)) b.1 (brief_told p told ns b.0 t)
+  brings_told (Some p) told ns ms b t = subst (λ l. StandsTold (by (Some p) ns) (told ++ plain emission l)) b.1 (brief_told ns p told b.0 t)
 
 -- A FRAME HAS AT MOST ONE DATAGRAM OF AN OPEN SLAVE
 few_sent : (lens : ℕ → Lens) (spot : Spot) (stand : Stand) (share : Share) (ds : List Raw.Datagram) → FrameFor lens spot stand share ds → length (own spot.station (datagrams_seen lens ds)) ≤ 1
@@ -226,7 +229,10 @@ module _ (lens : ℕ → Lens) (recover retry : ℕ) (gives : Bool) (made : ℕ)
   -- of the mail that was passed on last by these mails
   behind_one : (bs : List Body) (o : Option Passing) → ((p : Passed) → v.hand ≡ Some p → StandsTold o (p.told ++ replies_in life.era.passing bs)) → (hand : Option Passed) → v.hand ≡ hand → (q : Passed) → told_on life.era.passing bs hand ≡ Some q → StandsTold o q.told
   behind_one bs o h None k q e = absurd (let bad : None ≡ Some q = e in cc)
-  behind_one bs o h (Some p) k q e = subst (λ (z : Passed). StandsTold o z.told) (let all : Some (record p { told = p.told ++ replies_in life.era.passing bs }) ≡ Some q = e in cc) (h p k)
+  behind_one bs o h (Some p) k q e =
+      let all : Some (record p { told = p.told ++ replies_in life.era.passing bs }) ≡ Some q = e in
+      let same : record p { told = p.told ++ replies_in life.era.passing bs } ≡ q = cc in
+      subst (λ (z : Passed). StandsTold o z.told) same (h p k)
 
   module _ (brings : life.stand ≡ Stand.Open → Brings (news_back station v.kept v.counts (seen lens f.back)) (accepted_by lens recover retry f Pass v)) where
     back_told : (p : Passed) → v.hand ≡ Some p → StandsTold (served_life lens recover retry gives made f Pass v).life.era.passing (p.told ++ replies_in life.era.passing (accepted_by lens recover retry f Pass v))
@@ -274,7 +280,7 @@ module _ (lens : ℕ → Lens) (recover retry : ℕ) (gives : Bool) (made : ℕ)
       station_some = subst (λ (s : Spot). 1 ≤ s.station) (sym t.next.spot) some
 
       life_kept : LifeKept v.kept v.turn.lived.life
-      life_kept = subst (λ k. LifeKept k v.turn.lived.life) (sym t.kept) (subst (LifeKept w.kept) (sym t.next.life) (next_life (speech_at lens w.lead.lived.spot) acknowledged is_followed is_passed made w.kept w.lead.lived.life t.next.pick kept))
+      life_kept = subst (λ k. LifeKept k v.turn.lived.life) (sym t.kept) (subst (λ (l : Life Body Asked Reply). LifeKept w.kept l) (sym t.next.life) (next_life (speech_at lens w.lead.lived.spot) acknowledged is_followed is_passed made w.kept w.lead.lived.life t.next.pick kept))
 
       last : IsKept v.kept v.turn.lived.life.era.side
       last = subst (λ s. StandsKept s v.kept v.turn.lived.life.era.side) o life_kept

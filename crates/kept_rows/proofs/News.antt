@@ -1,13 +1,13 @@
 -- WHAT A FRAME TELLS OF A SLAVE OF WHICH IT HAS AT MOST ONE DATAGRAM: the mails that its halves accept, and at most one read of mailbox 1.
-use Rattle.std.proofs.Common.{◌≡◌, ◌≤◌, ℕ, suc, ◌==◌, Bool, true, false, Option, Some, None, List, [], ◌∷◌, ◌++◌, length, map, refl, sym, ap, ◌∙◌, subst, append-nil, arith}
+use Rattle.std.proofs.Common.{◌≡◌, ◌≤◌, ℕ, ◌==◌, Bool, true, false, Option, Some, None, List, [], ◌∷◌, ◌++◌, length, map, refl, sym, ap, ◌∙◌, subst, append-nil, arith}
 use Rattle.std.specs.Prelude.{if◌then◌else◌, ⊤}
 use Rattle.life_frames.specs.of_life_model.Own.{own}
 use Rattle.life_frames.specs.of_link_mails.Body.{Body}
-use Rattle.life_frames.specs.of_link_model.Frames.{Ask, Gram, all_accepted, halves_accept, halves_answered, mail_back}
+use Rattle.life_frames.specs.of_link_model.Frames.{Ask, Gram, all_accepted, halves_accept, halves_answered}
 use Rattle.life_frames.specs.of_link_model.Link.{Halves}
 use Rattle.life_frames.specs.of_link_model.Mails.{LinkMail, is_repeat, news}
 use Rattle.life_frames.specs.of_link_model.Segment.{RingFate}
-use Rattle.life_frames.specs.of_segment_model.Record.{Kept, News, all_told, back_news, datagram_news, found_news, frame_news, gram_news, is_for, last_heard, mails_heard, without_empty}
+use Rattle.life_frames.specs.of_segment_model.Record.{Kept, News, all_told, back_news, found_news, frame_news, gram_news, is_for, last_heard, mails_heard, without_empty}
 use Rattle.life_frames.specs.of_segment_model.Slaves.{Datagram, Found, grams}
 use Rattle.master_side.specs.Passing.{news_back}
 use Rattle.master_tour.proofs.Unders.{SameAim}

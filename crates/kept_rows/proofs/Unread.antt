@@ -1,10 +1,10 @@
 -- A SLAVE OF WHICH A FRAME THAT CAME BACK HAD NO DATAGRAM: no mail of it was accepted, and the mail in hand that is passed on is where it was.
-use Rattle.std.proofs.Common.{◌≡◌, ◌≤◌, ℕ, Bool, true, false, Option, Some, None, List, [], ◌∷◌, ◌++◌, length, map, refl, sym, ap, ◌∙◌, subst}
-use Rattle.std.specs.Prelude.{◌==◌, if◌then◌else◌}
+use Rattle.std.proofs.Common.{◌≡◌, ◌≤◌, ℕ, Bool, true, false, Option, Some, None, List, [], ◌∷◌, ◌++◌, length, map, refl, sym, ap, ◌∙◌, subst, arith}
+use Rattle.std.specs.Prelude.{if◌then◌else◌}
 use Rattle.std.proofs.lemmas.Bool.{le-leb}
 use Rattle.life_frames.proofs.Frames.{own_none}
 use Rattle.life_frames.proofs.of_frame_view.Octets.{seen_chained, seen_is}
-use Rattle.life_frames.specs.Frames.{FrameFor, FrameFor.none, FrameFor.one}
+use Rattle.life_frames.specs.Frames.{FrameFor}
 use Rattle.life_frames.specs.of_exchange_model.Exchange.{Speech}
 use Rattle.life_frames.specs.of_life_model.Lives.{Era, Life, Spot, Stand, era_back, life_back, passes}
 use Rattle.life_frames.specs.of_life_model.Own.{own}
@@ -55,7 +55,7 @@ module _ (station : ℕ) where
 
 none_of : {T : Type 0} (xs : List T) → length xs ≡ 0 → xs ≡ []
 none_of [] e = refl
-none_of (x ∷ xs) e = absurd (cc)
+none_of (x ∷ xs) e = absurd (omega (arith, e))
 
 module _ (lens : ℕ → Lens) (recover retry : ℕ) (gives : Bool) (made : ℕ) (ds : List Raw.Datagram) (f : Exchanged) (w : Serves) (v : ServedTurn) (is : IsFrame f.sent (chained ds)) (t : IsServedTurn lens made ds w v)
     (returns : Returns (seen lens f.sent) (seen lens f.back)) (some : 1 ≤ w.lead.lived.spot.station) (still : v.turn.share.under ≡ false) where

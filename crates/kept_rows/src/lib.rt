@@ -39,7 +39,7 @@ pub fn held_law()
 {}
 
 /// WHEN A MAIL THAT WAS PASSED ON IS OVER, what was told of it are all its replies: over a frame, of which an answer comes back with just the datagrams that were
-/// sent, of a slave whose counters the record has; and so before the first frame, and where a mail is asked.
+/// sent, of a slave whose counters the record has; and so before the first frame.
 pub fn all_law()
     ensures begins { (pace : ℕ) (a : Leads) → ToldAll (new_serves pace a) }
     ensures goes { (lens : ℕ → Lens) (recover retry : ℕ) (gives : Bool) (made : ℕ) (ds : List Raw.Datagram) (f : Exchanged) (w : Serves) (v : ServedTurn) → IsFrame f.sent (chained ds) → IsServedTurn lens made ds w v →
