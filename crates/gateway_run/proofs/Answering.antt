@@ -1,5 +1,5 @@
 -- ALL ALONG A COURSE each desk is what the lives have, and each datagram got what is its own.
-use Rattle.std.proofs.Common.{◌≡◌, ◌<◌, ℕ, zero, suc, Option, Some, None, List, [], ◌∷◌, ◌++◌, length, map, refl, sym, ap, ◌∙◌, subst}
+use Rattle.std.proofs.Common.{◌≡◌, ◌<◌, ℕ, zero, suc, Option, Some, None, List, [], ◌∷◌, ◌++◌, length, map, refl, sym, ap, ◌∙◌, subst, arith}
 use Rattle.std.specs.Prelude.{replicate, All}
 use Rattle.std.proofs.lemmas.List.{map-append}
 use Rattle.std.proofs.lemmas.List.Elements.{All-nil, All-cons, All-head, All-tail}
@@ -61,15 +61,16 @@ first_born plan _ _ _ (IsServedLed.on fs missed ws f vs led frame) e = absurd (s
 -- nor does one wait
 none_wait : (ws : List Serves) (n : ℕ) → map (λ (w : Serves). length w.waits) ws ≡ replicate n 0 → All (λ (w : Serves). w.waits ≡ []) ws
 none_wait [] n e = All-nil (λ (w : Serves). w.waits ≡ [])
-none_wait (w ∷ ws) zero e = absurd (cc)
+none_wait (w ∷ ws) zero e = absurd (let bad : length w.waits ∷ map (λ (w : Serves). length w.waits) ws ≡ [] = e in cc)
 none_wait (w ∷ ws) (suc n) e =
+    let all : length w.waits ∷ map (λ (w : Serves). length w.waits) ws ≡ 0 ∷ replicate n 0 = e in
     let none : length w.waits ≡ 0 = cc in
     let rest : map (λ (w : Serves). length w.waits) ws ≡ replicate n 0 = cc in
     All-cons (λ (w : Serves). w.waits ≡ []) w ws (empty w.waits none) (none_wait ws n rest)
   where
     empty : (ks : List Keyed) → length ks ≡ 0 → ks ≡ []
     empty [] f = refl
-    empty (k ∷ ks) f = absurd (cc)
+    empty (k ∷ ks) f = absurd (omega (arith, f))
 
 first_desk : (i : ℕ) (w : Serves) → IsNewborn w → w.waits ≡ [] → IsDesk [] [] i w [] [] []
 first_desk i w b e = record {

@@ -13,7 +13,6 @@ use Rattle.run_book.specs.declared.book.Ending.{Ending}
 use Rattle.run_book.specs.declared.book.Ending.TheVariants as endings
 use Rattle.run_book.specs.declared.book.GramIn.{GramIn}
 use Rattle.run_book.specs.declared.book.GramOut.{GramOut}
-use Rattle.run_book.specs.declared.book.SentFrame.{SentFrame}
 use Rattle.run_record.specs.Served.{ServingBegins}
 use Rattle.run_record.specs.Session.{first_session, session_rows}
 use Rattle.run_record.specs.of_run_notes.Slaves.{home_of}
@@ -27,7 +26,6 @@ use Rattle.gateway_run.specs.Serving.{Told, IsOn, IsServing, IsFaulted, Goes, ca
 use Rattle.gateway_run.specs.Served.{HasGrams, HasAccount, IsBroken, IsServed}
 use Rattle.gateway_run.specs.declared.turn.Serving.{Serving}
 use Rattle.gateway_run.proofs.Answering.{course_answers}
-use Rattle.gateway_run.proofs.Leds.{on_led}
 use Rattle.gateway_run.proofs.Turns.{heard_none, sent_none, course_same, spelled_same}
 
 -- before the first turn
@@ -92,8 +90,7 @@ module _ (plan : Scenario) (count : ℕ) (first now : Told) (v : Serving) (b b' 
     later = v.desk.outbox.items;
     course = course';
     spelled = spelled_same (map heard_as b.grams) (map heard_as b'.grams) on.owed (b.replies ++ v.desk.outbox.items) (b'.replies ++ v.desk.outbox.items) (ap (map heard_as) grams) (ap (λ (l : List GramOut). l ++ v.desk.outbox.items) replies) on.spelled;
-    answers = course_answers plan count is_plan v.session b'.frames b'.grams v.desk.requests.items on.owed course';
-    led = subst (λ (fs : List SentFrame). Led.Serving plan v.session (map exchanged fs)) (sym frames) (on_led plan count v b on).serving;
+    answers = course_answers plan count on.is_plan v.session b'.frames b'.grams v.desk.requests.items on.owed course';
     rows = rows;
     all = all;
   }

@@ -13,7 +13,7 @@ use Rattle.master_node.specs.of_master_tour.Made.{is_in}
 use Rattle.run_book.specs.declared.book.GramIn.{GramIn}
 use Rattle.gateway_run.specs.Account.{Owing, waits_at}
 use Rattle.gateway_run.specs.Rooms.{AreRising, begun_of, grams_of, has_begun, owed_for, waiting_of}
-use Rattle.gateway_run.specs.Replies.{AllDesk, Fares, Fares.dropped, Fares.replies, Fares.waits, HasRow, IsDesk, IsFor, IsHeard, IsNew, IsNewest, StandsSo}
+use Rattle.gateway_run.specs.Replies.{AllDesk, Fares, Fares.dropped, Fares.replies, Fares.waits, HasRow, IsDesk, IsFor, IsHeard, IsNew, IsNewest, StandsSo, keyed_in}
 use Rattle.gateway_run.specs.declared.desk.Request.{Request}
 use Rattle.gateway_run.proofs.Accounts.{get_on}
 use Rattle.gateway_run.proofs.Comes.{known_at}
@@ -102,7 +102,13 @@ module _ (gs : List GramIn) (g : GramIn) (os more : List Owing) (quiet : (n : �
   heard_more r h = record { gram = h.gram; there = get_on gs (g ∷ []) r.gram h.gram h.there; queued = h.queued }
 
   for_more : (r : Request) (k : Keyed) → IsFor gs r k → IsFor all r k
-  for_more r k f = record { key = f.key; of_gram = heard_more r f.of_gram; asked = f.asked; request = f.request; same = f.same }
+  for_more r k f = record {
+    key = f.key;
+    of_gram = record { gram = f.of_gram.gram; there = get_on gs (g ∷ []) r.gram f.of_gram.gram f.of_gram.there; queued = f.of_gram.queued };
+    asked = f.asked;
+    request = f.request;
+    same = f.same;
+  }
 
   newest_more : (slave : ℕ) (came : List ℕ) (p : Passed) → IsNewest gs slave came os p → IsNewest all slave came now p
   newest_more slave came p n = record {
@@ -125,7 +131,7 @@ module _ (gs : List GramIn) (g : GramIn) (os more : List Owing) (quiet : (n : �
   desk_more : (slave : ℕ) (w : Serves) (came : List ℕ) (waiting begun : List Request) → IsDesk gs os slave w came waiting begun → IsDesk all now slave w came waiting begun
   desk_more slave w came waiting begun d = record {
     waits = both_weaker (IsFor gs) (IsFor all) for_more waiting w.waits d.waits;
-    in_hand = both_weaker (IsFor gs) (IsFor all) for_more begun _ d.in_hand;
+    in_hand = both_weaker (IsFor gs) (IsFor all) for_more begun (keyed_in w.hand w.lead.lived.life.era.passing) d.in_hand;
     its = d.its;
     newest = λ p e. newest_more slave came p (d.newest p e);
     new = λ k r less. quiet (slice_index_or waiting k r).gram (known_waiting waiting w.waits d.waits k r less) ∙ d.new k r less;
@@ -171,10 +177,7 @@ module _ (gs : List GramIn) (g : GramIn) (os more : List Owing) (quiet : (n : �
     pub desks_asked : (i place : ℕ) (ws : List Serves) (nss : List (List ℕ)) → r.slave ≡ i + place → AllDesk gs rs os i ws nss → AllDesk all (rs ++ r ∷ []) now i (asked_at place k ws) nss
     desks_asked i place [] [] s d = tt
     desks_asked i place [] (ns ∷ nss) s d = absurd d
-    desks_asked i place (w ∷ ws) [] s d = absurd_at place d
-      where
-        absurd_at : (place : ℕ) → ⊥ → AllDesk all (rs ++ r ∷ []) now i (asked_at place k (w ∷ ws)) []
-        absurd_at place bad = absurd bad
+    desks_asked i place (w ∷ ws) [] s d = absurd d
     desks_asked i zero (w ∷ ws) (ns ∷ nss) s d =
         let here : r.slave ≡ i = omega (arith, s) in (
           subst (λ bs. IsDesk all now i (record w { asked = w.asked ++ k ∷ []; waits = w.waits ++ k ∷ [] }) ns (waiting_of i (rs ++ r ∷ [])) bs) (sym (begun_same i rs r new))

@@ -28,11 +28,10 @@ use Rattle.gateway_run.proofs.Hearing.{asked_lookup, asked_told, below_out, desk
 use Rattle.gateway_run.proofs.Rooms.{owed_append, owed_one, owed_other}
 
 -- one datagram more that got what it got
-got_push : (serves : List Serves) (came : List (List ℕ)) (rs : List Request) (dones : List ℕ) (os : List Owing) (n : ℕ) (gs : List GramIn) (g : GramIn) → AllGot serves came rs dones os n gs → Got serves came rs dones (n + length gs) g (owed_for (n + length gs) os) →
+got_push : (serves : List Serves) (came : List (List ℕ)) (rs : List Request) (dones : List ℕ) (os : List Owing) (n m : ℕ) (gs : List GramIn) (g : GramIn) → m ≡ n + length gs → AllGot serves came rs dones os n gs → Got serves came rs dones m g (owed_for m os) →
     AllGot serves came rs dones os n (gs ++ g ∷ [])
-got_push serves came rs dones os n [] g a b = (subst (λ m. Got serves came rs dones m g (owed_for m os)) (let same : n + 0 ≡ n = omega arith in same) b, tt)
-got_push serves came rs dones os n (h ∷ gs) g a b =
-    (a.0, got_push serves came rs dones os (suc n) gs g a.1 (subst (λ m. Got serves came rs dones m g (owed_for m os)) (let same : n + suc (length gs) ≡ suc n + length gs = omega arith in same) b))
+got_push serves came rs dones os n m [] g e a b = (subst (λ k. Got serves came rs dones k g (owed_for k os)) (let same : m ≡ n = omega (arith, e) in same) b, tt)
+got_push serves came rs dones os n m (h ∷ gs) g e a b = (a.0, got_push serves came rs dones os (suc n) m gs g (omega (arith, e)) a.1 b)
 
 -- each of the earlier ones, by what it got
 got_each : (serves new : List Serves) (came : List (List ℕ)) (rs rs' : List Request) (dones : List ℕ) (os now : List Owing) (n : ℕ) (gs : List GramIn) →
@@ -88,7 +87,7 @@ module _ (plan : Scenario) (s s' : SessionState) (fs : List Exchanged) (gs : Lis
       ended = All-weaker (λ (m : ℕ). m < length gs) (λ (m : ℕ). m < length (gs ++ g ∷ [])) (longer gs g os more quiet) dones old.ended;
       owed = All-append (λ (o : Owing). o.gram < length (gs ++ g ∷ [])) os more (All-weaker (λ (o : Owing). o.gram < length gs) (λ (o : Owing). o.gram < length (gs ++ g ∷ [])) (λ o less. longer gs g os more quiet o.gram less) os old.owed) few;
       got = subst (λ z. AllGot z old.came rs dones (os ++ more) 0 (gs ++ g ∷ [])) (sym same)
-          (got_push ws old.came rs dones (os ++ more) 0 gs g
+          (got_push ws old.came rs dones (os ++ more) 0 n gs g (omega arith)
           (got_each ws ws old.came rs rs dones os (os ++ more) 0 gs (λ j m h e at b. subst (Got ws old.came rs dones m h) (sym (quiet m (let less = known_at gs j h at in omega (arith, less, e)))) b) old.got) got);
     }
 
@@ -111,7 +110,7 @@ module _ (plan : Scenario) (s s' : SessionState) (fs : List Exchanged) (gs : Lis
     quiet : (m : ℕ) → m < length gs → owed_for m (os ++ []) ≡ owed_for m os
     quiet m less = nothing_quiet m os
 
-    is_heard : IsHeard (gs ++ g ∷ []) r
+    abbrev is_heard : IsHeard (gs ++ g ∷ []) r
     is_heard = record { gram = g; there = at_last gs g; queued = there }
 
     is_for : IsFor (gs ++ g ∷ []) r k
@@ -146,7 +145,7 @@ module _ (plan : Scenario) (s s' : SessionState) (fs : List Exchanged) (gs : Lis
     passed = record {
       serving = on.new;
       came = old.came;
-      desk = subst (λ z. AllDesk (gs ++ g ∷ []) (rs ++ r ∷ []) (os ++ []) 0 z old.came) (sym on.serves) (desks_asked gs g os [] quiet rs r k refl is_for refl none 0 slave ws old.came refl old.desk);
+      desk = subst (λ z. AllDesk (gs ++ g ∷ []) (rs ++ r ∷ []) (os ++ []) 0 z old.came) (sym on.serves) (desks_asked gs g os [] quiet rs r k refl is_for refl none 0 slave ws old.came (omega arith) old.desk);
       told = subst (All ToldAll) (sym on.serves) (asked_told slave k ws old.told);
       apart = apart_push rs r old.apart free;
       filed = unlike_push (λ (q : Request). q.gram) (λ q. refl) rs r old.filed (All-weaker (λ (q : Request). q.gram < length gs) (λ (q : Request). q.gram ≢ n) (λ q less e. omega (arith, less, e)) rs known);
@@ -155,7 +154,7 @@ module _ (plan : Scenario) (s s' : SessionState) (fs : List Exchanged) (gs : Lis
       ended = All-weaker (λ (m : ℕ). m < length gs) (λ (m : ℕ). m < length (gs ++ g ∷ [])) (longer gs g os [] quiet) dones old.ended;
       owed = All-append (λ (o : Owing). o.gram < length (gs ++ g ∷ [])) os [] (All-weaker (λ (o : Owing). o.gram < length gs) (λ (o : Owing). o.gram < length (gs ++ g ∷ [])) (λ o less. longer gs g os [] quiet o.gram less) os old.owed) (All-nil (λ (o : Owing). o.gram < length (gs ++ g ∷ [])));
       got = subst (λ z. AllGot z old.came (rs ++ r ∷ []) dones (os ++ []) 0 (gs ++ g ∷ [])) (sym on.serves)
-          (got_push (asked_at slave k ws) old.came (rs ++ r ∷ []) dones (os ++ []) 0 gs g (got_each ws (asked_at slave k ws) old.came rs (rs ++ r ∷ []) dones os (os ++ []) 0 gs got_old old.got) got_new);
+          (got_push (asked_at slave k ws) old.came (rs ++ r ∷ []) dones (os ++ []) 0 n gs g (omega arith) (got_each ws (asked_at slave k ws) old.came rs (rs ++ r ∷ []) dones os (os ++ []) 0 gs got_old old.got) got_new);
     }
 
   -- WHATEVER BECOMES OF IT

@@ -28,10 +28,10 @@ module _ (gs : List GramIn) (slave : ℕ) (w : Serves) (os : List Owing) (came :
     where
       stands : (told : List Body) (z : Bool) → StandsSo w [] number told z → (z ≡ true) ⊎ WasGivenUp w
       stands told true s = inl refl
-      stands told false (inl e) = absurd (cc)
+      stands told false (inl e) = absurd (let bad : false ≡ true = e in cc)
       stands told false (inr given) = inr given
 
       by : (z : Bool) → Fares w came [] [] z number asked mails → (z ≡ true) ⊎ WasGivenUp w
-      by z (waits a b c) = absurd (cc)
+      by z (waits a b c) = absurd (let bad : false ≡ true = a in cc)
       by z (dropped a b c e given m) = inr given
       by z (replies told row s m) = stands told z s

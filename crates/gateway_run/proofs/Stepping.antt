@@ -218,7 +218,7 @@ module _ (plan : Scenario) (s s' : SessionState) (fs : List Exchanged) (f : Exch
   abbrev ended : List ℕ
   ended = done_by_all (told_in shows second) rs1
 
-  known : Turnings.IsKnown lens plan.recover plan.retry gives (length fs) f.sent f.back f.fate gs rs os dones ws on.turns forwards first second
+  abbrev known : Turnings.IsKnown lens plan.recover plan.retry gives (length fs) f.sent f.back f.fate gs rs os dones ws on.turns forwards first second
   known = record {
     datagrams = on.frame.datagrams;
     is = on.frame.frame;

@@ -59,7 +59,7 @@ key_apart : (p : Request → Bool) (rs : List Request) (r : Request) (rest : Lis
 key_apart p [] r rest a e = All-nil (λ (q : Request). p q ≡ false → q.key ≢ r.key)
 key_apart p (q ∷ rs) r rest a e = go (p q) refl (λ less. key_apart p rs r rest a.1 less)
   where
-    abbrev Apart : Request → Type 0
+    Apart : Request → Type 0
     Apart z = p z ≡ false → z.key ≢ r.key
 
     go : (b : Bool) → p q ≡ b → (filter p rs ≡ r ∷ rest → All Apart rs) → All Apart (q ∷ rs)
@@ -260,10 +260,10 @@ module _ (lens : ℕ → Lens) (recover retry : ℕ) (gives : Bool) (made : ℕ)
         gone : (z : Fate) → WasGivenUp (serves_of v) → WasGivenUp (goes_so lens recover retry gives made sent back z v)
         gone Pass h e =
             h (sym (pass_gives lens recover gives made (frame_so lens recover retry gives made sent back Pass) v.turn.lived v.turn.share (news_back v.turn.lived.spot.station v.kept v.counts (seen lens back)) v.turn.lived.life.gave refl) ∙ e)
-        gone (Lost after) h = lost_is (news_lost v.turn.lived.spot.station v.kept (seen lens sent)) (gives && v.turn.share.under) h
+        gone (Lost after) h e = lost_is (news_lost v.turn.lived.spot.station v.kept (seen lens sent)) (gives && v.turn.share.under) h e
 
         given_so : (z : Fate) (after : ℕ) → z ≡ Lost after → gives_it lens recover retry gives (Lost after) v ≡ true → WasGivenUp (goes_so lens recover retry gives made sent back z v)
-        given_so Pass after s g = absurd (cc)
+        given_so Pass after s g e = absurd (cc)
         given_so (Lost other) after s g e =
             some_last lost.gave made (sym (ap (λ b. (given_where b recover v.turn.lived.spot made lost).gave) g) ∙ e)
           where

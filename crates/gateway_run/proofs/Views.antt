@@ -234,7 +234,7 @@ module _ (number : Request → ℕ) (stays : (r : Request) → number (record r 
   came_unlike j (origins.Forward n) rs u = u
   came_unlike j (origins.Gateway n) rs u = unlike_begun number stays j rs u
 
-  event_unlike : (e : Event) (rs : List Request) → AreUnlike number rs → AreUnlike number (left_by e rs)
+  pub event_unlike : (e : Event) (rs : List Request) → AreUnlike number rs → AreUnlike number (left_by e rs)
   event_unlike (events.Began slave origin) rs u = came_unlike slave origin rs u
   event_unlike (events.GivenUp slave) rs u = unlike_filter number stays (is_elsewhere slave) rs u
   event_unlike (events.GatewayReply key mail) rs u = u

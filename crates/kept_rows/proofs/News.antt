@@ -134,10 +134,10 @@ module _ (station : ℕ) where
   few_bring h (d ∷ ds) a l = go (is_for station d.address) refl l
     where
       -- with these answers
-      abbrev told : Bool → Bool → List (News Body)
+      told : Bool → Bool → List (News Body)
       told b z = ((if b then gram_news h.inn.last d.gram.ask d.gram else []) ++ (if z then (if d.counter == 0 then [] else found_news d.found) else [])) ++ back_news station (if b then last_heard h.inn.last d.gram.ask d.gram else h.inn.last) ds
 
-      abbrev heard : Bool → Grams → List Body
+      heard : Bool → Grams → List Body
       heard b es = (if b then halves_accept h d.gram.ask d.gram else []) ++ all_accepted station (if b then halves_answered h d.gram.ask d.gram else h) (grams es)
 
       go : (z : Bool) → is_for station d.address ≡ z → length (if z then d ∷ own station ds else own station ds) ≤ 1 → Brings (back_news station h.inn.last (d ∷ ds)) (all_accepted station h (grams (own station (d ∷ ds))))
