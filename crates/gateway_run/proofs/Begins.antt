@@ -2,7 +2,7 @@
 use Rattle.std.proofs.Common.{◌≡◌, ℕ, Bool, true, false, Option, Some, None, List, [], ◌∷◌, ◌++◌, refl, sym, ap, ◌∙◌, subst, append-nil, eqb-true}
 use Rattle.std.specs.Prelude.{◌==◌, if◌then◌else◌, not, slice_get, All, Ok}
 use Rattle.std.proofs.lemmas.List.Elements.{All-head, filter_passes}
-use Rattle.master_node.specs.of_life_frames.of_exchange_model.Rows.{Row, begun}
+use Rattle.master_node.specs.of_life_frames.of_exchange_model.Rows.{begun}
 use Rattle.gateway_core.specs.Framing.{request_in}
 use Rattle.kept_rows.specs.Rows.{Stays, passed_rows, row_begun}
 use Rattle.kept_rows.proofs.Next.{next_free, next_passing, next_stays}
@@ -11,7 +11,7 @@ use Rattle.kept_rows.specs.of_served_runs.Told.{Passed}
 use Rattle.mailbox_mail.specs.declared.mail.Mail.{Mail}
 use Rattle.master_node.proofs.Handeds.{comes_own}
 use Rattle.master_node.specs.Begins.{is_other}
-use Rattle.master_node.specs.Events.{begun_told, origin_for}
+use Rattle.master_node.specs.Events.{begun_told}
 use Rattle.master_node.specs.Listing.{origin_of}
 use Rattle.master_node.specs.Serving.{serves_of}
 use Rattle.master_node.specs.declared.event.Event.TheVariants as events
@@ -19,14 +19,10 @@ use Rattle.master_node.specs.declared.event.Origin.{Origin}
 use Rattle.master_node.specs.of_datagrams.Datagram as Raw
 use Rattle.master_node.specs.of_frame_view.View.{Lens}
 use Rattle.master_node.specs.of_life_frames.Shares.{AllBoth}
-use Rattle.master_node.specs.of_life_runs.of_link_mails.Body.{Body}
-use Rattle.master_node.specs.of_life_runs.Led.{Comes}
 use Rattle.master_node.specs.of_life_runs.of_segment_plan.declared.service.Service as Plan
-use Rattle.master_node.specs.of_master_duty.Reply.{Reply}
 use Rattle.master_node.specs.of_master_duty.of_state_exchange.Stated.{Service}
 use Rattle.master_node.specs.of_master_hand.Spoken.{Asked, is_passed, passed}
 use Rattle.master_node.specs.of_master_side.Passing.{passing_behind}
-use Rattle.master_node.specs.of_segment_model.Ends.{Passing}
 use Rattle.run_book.specs.declared.book.GramIn.{GramIn}
 use Rattle.gateway_run.specs.Account.{Owing, begun_first, left_by, left_by_all, waits_at}
 use Rattle.gateway_run.specs.Rooms.{begun_of, owed_for, waiting_of}
@@ -35,7 +31,7 @@ use Rattle.gateway_run.specs.declared.desk.Request.{Request}
 use Rattle.gateway_run.proofs.Rooms.{both_left}
 use Rattle.gateway_run.proofs.Desking.{comes_here}
 use Rattle.gateway_run.proofs.Hands.{desk_same, fares_same, keyed_none}
-use Rattle.gateway_run.proofs.Comes.{MailComes, Oldest, desk_mail, fares_mail, none_begun, oldest, with_mail}
+use Rattle.gateway_run.proofs.Comes.{MailComes, desk_mail, fares_mail, none_begun, oldest}
 
 -- a service of its own changes no request
 own_left : (slave number forwards oldest : ℕ) (s : Service Asked) (rs : List Request) → ((q : Asked) → s ≡ Service.Mails q → is_passed q ≡ false) → left_by_all (begun_told slave number forwards oldest (Some s)) rs ≡ rs

@@ -1,32 +1,24 @@
 -- BEHIND A FRAME what is told of a slave is what its desk owes: one slave's requests behind what is listed of it.
-use Rattle.std.proofs.Common.{◌≡◌, ℕ, Bool, true, false, inl, inr, Option, Some, None, List, [], ◌∷◌, ◌++◌, map, refl, sym, ap, ◌∙◌, subst, append-nil, append_assoc, eq-eqb, eqb-true}
-use Rattle.std.specs.Prelude.{◌≢◌, ◌==◌, ◌&&◌, if◌then◌else◌, is_some, cond, find, filter, slice_get, All, Ok, Err}
-use Rattle.std.proofs.lemmas.List.Elements.{All-nil, All-cons, All-head, All-tail}
-use Rattle.gateway_core.specs.Framing.{request_in}
-use Rattle.kept_rows.proofs.Behind.{behind_stays}
-use Rattle.kept_rows.specs.Rows.{AreAll, Stays, passed_rows}
-use Rattle.kept_rows.specs.of_served_runs.Served.{Keyed, Serves, ServedTurn, served_behind}
-use Rattle.kept_rows.specs.of_served_runs.Told.{Passed, TellsOwn, replies_in}
-use Rattle.mailbox_mail.specs.Mail.{error_of}
-use Rattle.mailbox_mail.specs.declared.mail.Mail.{Mail}
+use Rattle.std.proofs.Common.{◌≡◌, ℕ, Bool, true, false, Some, List, [], ◌∷◌, ◌++◌, map, refl, sym, ap, ◌∙◌, subst, append-nil, eqb-true}
+use Rattle.std.specs.Prelude.{◌≢◌, cond, find, filter, Ok, Err}
+use Rattle.std.proofs.lemmas.List.Elements.{All-head, All-tail}
+use Rattle.kept_rows.specs.of_served_runs.Served.{Serves}
+use Rattle.kept_rows.specs.of_served_runs.Told.{Passed}
 use Rattle.master_node.specs.Gateways.{done_told, replies_told}
-use Rattle.master_node.specs.Serving.{serves_of}
 use Rattle.master_node.specs.declared.event.Event.{Event}
 use Rattle.master_node.specs.of_life_frames.Shares.{AllBoth}
 use Rattle.master_node.specs.of_life_runs.of_link_mails.Body.{Body}
 use Rattle.master_node.specs.of_master_tour.Made.{is_in}
 use Rattle.master_node.specs.of_segment_model.Ends.{Passing}
 use Rattle.run_book.specs.declared.book.GramIn.{GramIn}
-use Rattle.gateway_run.specs.Account.{IsFree, Owing, owing, has_key, left_by, left_by_all, others, owed_by_all, waits_at}
+use Rattle.gateway_run.specs.Account.{IsFree, Owing, owing, has_key, left_by_all, others, owed_by_all, waits_at}
 use Rattle.gateway_run.specs.Desk.{AreApart}
-use Rattle.gateway_run.specs.Rooms.{begun_of, done_by, done_by_all, grams_of, has_begun, owed_for, waiting_of}
-use Rattle.gateway_run.specs.Replies.{Fares, IsDesk, IsFor, IsNew, IsNewest, StandsSo, WasGivenUp, keyed_in, mails_told}
+use Rattle.gateway_run.specs.Rooms.{begun_of, done_by, done_by_all, grams_of, has_begun, waiting_of}
+use Rattle.gateway_run.specs.Replies.{IsDesk, IsFor, keyed_in, mails_told}
 use Rattle.gateway_run.specs.declared.desk.Request.{Request}
-use Rattle.gateway_run.proofs.Rooms.{not_same, owed_append}
+use Rattle.gateway_run.proofs.Rooms.{not_same}
 use Rattle.gateway_run.proofs.Views.{given_both, left_append, owed_both}
-use Rattle.gateway_run.proofs.Desking.{begun_waits, done_here, found_kept, owed_its, owed_not, replies_here}
-use Rattle.gateway_run.proofs.Hands.{rises_apart}
-use Rattle.gateway_run.proofs.Given.{IsTold, desk_told, fares_told}
+use Rattle.gateway_run.proofs.Desking.{begun_waits, done_here, found_kept, replies_here}
 
 -- of a key that none has there is no request
 none_kept : (key : ℕ) (qs : List Request) → IsFree key qs → filter (has_key key) qs ≡ []

@@ -1,11 +1,11 @@
 -- A MAIL COMES INTO HAND of a slave: the oldest of its requests that wait is the one whose mail is in hand.
-use Rattle.std.proofs.Common.{◌≡◌, ℕ, zero, suc, ◌+◌, ◌<◌, Bool, true, false, inl, inr, Option, Some, None, List, [], ◌∷◌, ◌++◌, length, map, refl, sym, ap, ◌∙◌, subst, eq-eqb, eqb-true, append-nil, append_assoc, length-append, arith}
-use Rattle.std.specs.Prelude.{◌==◌, if◌then◌else◌, slice_get, All, Ok}
-use Rattle.std.proofs.lemmas.List.Elements.{All-nil, All-head, All-tail, All-cons, All-push}
+use Rattle.std.proofs.Common.{◌≡◌, ℕ, zero, suc, ◌+◌, ◌<◌, Bool, true, false, inl, inr, Option, Some, None, List, [], ◌∷◌, ◌++◌, length, refl, sym, ap, ◌∙◌, subst, eqb-true, append_assoc, length-append, arith}
+use Rattle.std.specs.Prelude.{◌==◌, slice_get, Ok}
+use Rattle.std.proofs.lemmas.List.Elements.{All-head, All-tail, All-push}
 use Rattle.master_node.specs.of_life_frames.of_exchange_model.Exchange.{plain}
 use Rattle.master_node.specs.of_life_frames.of_exchange_model.Rows.{Row, begun}
 use Rattle.gateway_core.specs.Framing.{request_in}
-use Rattle.kept_rows.specs.Rows.{AreAll, Stays, passed_rows}
+use Rattle.kept_rows.specs.Rows.{Stays, passed_rows}
 use Rattle.kept_rows.specs.of_served_runs.Served.{Keyed, Serves}
 use Rattle.kept_rows.specs.of_served_runs.Told.{Passed}
 use Rattle.mailbox_mail.specs.declared.mail.Mail.{Mail}
@@ -17,10 +17,10 @@ use Rattle.master_node.specs.of_master_tour.Made.{is_in}
 use Rattle.master_node.specs.of_segment_model.Ends.{Passing}
 use Rattle.run_book.specs.declared.book.GramIn.{GramIn}
 use Rattle.gateway_run.specs.Account.{Owing}
-use Rattle.gateway_run.specs.Rooms.{AreRising, grams_of, owed_for}
-use Rattle.gateway_run.specs.Replies.{Fares, Fares.dropped, Fares.replies, Fares.waits, HasRow, IsDesk, IsFor, IsHeard, IsNew, IsNewest, IsSame, StandsSo, WasGivenUp, keyed_in, mails_told}
+use Rattle.gateway_run.specs.Rooms.{AreRising, grams_of}
+use Rattle.gateway_run.specs.Replies.{Fares, Fares.dropped, Fares.replies, Fares.waits, HasRow, IsDesk, IsFor, IsNew, IsNewest, StandsSo, WasGivenUp, keyed_in}
 use Rattle.gateway_run.specs.declared.desk.Request.{Request}
-use Rattle.gateway_run.proofs.Hands.{at_last, both_at, both_many, in_append, in_head, rises_apart, row_stays}
+use Rattle.gateway_run.proofs.Hands.{at_last, both_at, both_many, in_append, in_head, row_stays}
 
 -- the oldest that waits
 pub record Oldest (waiting : List Request) : Type 0 where

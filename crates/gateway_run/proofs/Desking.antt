@@ -1,7 +1,7 @@
 -- WHAT THE EVENTS OF ONE SLAVE leave of its requests, and what they make owed by each datagram.
 use Rattle.std.proofs.Common.{◌≡◌, ℕ, List, [], ◌∷◌, ◌++◌, map, Bool, true, false, refl, sym, ap, ◌∙◌, subst, eq-eqb, eqb-true}
 use Rattle.std.specs.Prelude.{◌≢◌, ◌==◌, ◌&&◌, not, cond, if◌then◌else◌, filter, find, Some, All, Ok, Err}
-use Rattle.std.proofs.lemmas.List.Elements.{All-nil, All-cons, All-head, All-tail, All-filter}
+use Rattle.std.proofs.lemmas.List.Elements.{All-nil, All-cons, All-head, All-filter}
 use Rattle.gateway_run.specs.Replies.{mails_told}
 use Rattle.mailbox_mail.specs.Mail.{error_of}
 use Rattle.master_node.specs.of_master_tour.Made.{is_in}

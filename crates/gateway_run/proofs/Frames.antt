@@ -1,15 +1,11 @@
 -- BEHIND A FRAME OF EITHER FATE one slave's desk is what its life has.
-use Rattle.std.proofs.Common.{◌≡◌, ℕ, suc, ◌+◌, Bool, true, false, Option, Some, None, List, [], ◌∷◌, ◌++◌, length, map, refl, sym, ap, ◌∙◌, subst, append-nil, append_assoc, length-append, arith}
-use Rattle.std.specs.Prelude.{◌≢◌, ◌&&◌, nat_lt, if◌then◌else◌, is_some, slice_get, All, Ok}
-use Rattle.std.proofs.lemmas.Bool.Decides.{nat_tests}
-use Rattle.std.proofs.lemmas.List.Elements.{All-nil, All-weaker, All-filter}
-use Rattle.gateway_core.specs.Framing.{request_in}
+use Rattle.std.proofs.Common.{◌≡◌, ℕ, Bool, true, false, Option, Some, None, List, [], ◌++◌, refl, sym, ap, ◌∙◌, subst, append-nil}
+use Rattle.std.specs.Prelude.{if◌then◌else◌, is_some, All}
+use Rattle.std.proofs.lemmas.List.Elements.{All-filter}
 use Rattle.kept_rows.proofs.Behind.{behind_stays, unpassed_behind}
 use Rattle.kept_rows.specs.Rows.{AreAll, Stays, passed_rows}
 use Rattle.kept_rows.specs.of_served_runs.Served.{Serves, ServedTurn, TellsSo, served_behind}
-use Rattle.kept_rows.specs.of_served_runs.Told.{Passed, TellsOwn, replies_in, told_on}
-use Rattle.mailbox_mail.specs.Mail.{error_of}
-use Rattle.mailbox_mail.specs.declared.mail.Mail.{Mail}
+use Rattle.kept_rows.specs.of_served_runs.Told.{Passed, replies_in, told_on}
 use Rattle.master_node.specs.Gateways.{done_told, life_told, replies_told}
 use Rattle.master_node.specs.Named.{is_left}
 use Rattle.master_node.specs.Serving.{serves_of}
@@ -17,21 +13,17 @@ use Rattle.master_node.specs.declared.event.Event.{Event}
 use Rattle.master_node.specs.of_frame_view.Seen.{seen}
 use Rattle.master_node.specs.of_frame_view.View.{Lens}
 use Rattle.master_node.specs.of_life_frames.Shares.{AllBoth}
-use Rattle.master_node.specs.of_life_model.Lives.{Life, Stand}
-use Rattle.master_node.specs.of_life_runs.Led.{speech_at}
+use Rattle.master_node.specs.of_life_model.Lives.{Stand}
 use Rattle.master_node.specs.of_life_runs.of_link_mails.Body.{Body}
-use Rattle.master_node.specs.of_master_duty.Reply.{Reply}
-use Rattle.master_node.specs.of_master_hand.Spoken.{Asked, acknowledged, is_followed, is_passed}
-use Rattle.master_node.specs.of_master_side.Passing.{news_back}
 use Rattle.master_node.specs.of_master_tour.Brings.{accepted_in}
 use Rattle.master_node.specs.of_segment_model.Ends.{Passing}
 use Rattle.master_node.specs.of_segment_ring.declared.wire.Fate.{Fate}
-use Rattle.master_node.specs.of_segment_ring.declared.wire.Fate.TheVariants.{Pass, Lost}
+use Rattle.master_node.specs.of_segment_ring.declared.wire.Fate.TheVariants.{Pass}
 use Rattle.run_book.specs.declared.book.GramIn.{GramIn}
-use Rattle.gateway_run.specs.Account.{Owing, left_by_all, owed_by_all}
+use Rattle.gateway_run.specs.Account.{Owing, left_by_all}
 use Rattle.gateway_run.specs.Desk.{AreApart}
-use Rattle.gateway_run.specs.Rooms.{begun_of, done_by_all, owed_for, waiting_of}
-use Rattle.gateway_run.specs.Replies.{Fares, IsDesk, IsFor, IsNew, WasGivenUp, keyed_in}
+use Rattle.gateway_run.specs.Rooms.{begun_of, owed_for, waiting_of}
+use Rattle.gateway_run.specs.Replies.{Fares, IsDesk, IsFor, WasGivenUp, keyed_in}
 use Rattle.gateway_run.specs.declared.desk.Request.{Request}
 use Rattle.gateway_run.proofs.Behind.{ends, stays, in_hand, told_of}
 use Rattle.gateway_run.proofs.Hands.{desk_same, fares_same, keyed_none}

@@ -1,11 +1,10 @@
 -- WHAT IS TOLD OF THE MAIL IN HAND OF A SLAVE, and a give-up of that slave, as its desk has it.
-use Rattle.std.proofs.Common.{◌≡◌, ℕ, zero, suc, ◌+◌, ◌<◌, Bool, true, false, inl, inr, Option, Some, None, List, [], ◌∷◌, ◌++◌, length, map, refl, sym, ap, ◌∙◌, subst, eq-eqb, eqb-true, append-nil, append_assoc, length-append, arith}
-use Rattle.std.specs.Prelude.{◌==◌, ◌≢◌, if◌then◌else◌, cond, filter, slice_get, All, Ok, Err}
-use Rattle.std.proofs.lemmas.List.Elements.{All-nil, All-head, All-tail, All-cons, All-push, filter-append}
-use Rattle.master_node.specs.of_life_frames.of_exchange_model.Exchange.{plain}
+use Rattle.std.proofs.Common.{◌≡◌, ℕ, suc, Bool, true, false, inl, inr, Option, Some, None, List, [], ◌∷◌, ◌++◌, length, refl, sym, ap, ◌∙◌, subst, append-nil, append_assoc, length-append, arith}
+use Rattle.std.specs.Prelude.{cond, filter, slice_get, All, Ok, Err}
+use Rattle.std.proofs.lemmas.List.Elements.{All-nil, All-cons, filter-append}
 use Rattle.master_node.specs.of_life_frames.of_exchange_model.Rows.{Row}
 use Rattle.gateway_core.specs.Framing.{request_in}
-use Rattle.kept_rows.specs.Rows.{AreAll, Stays, eras_rows, is_passed_row, passed_rows}
+use Rattle.kept_rows.specs.Rows.{Stays, eras_rows, is_passed_row, passed_rows}
 use Rattle.kept_rows.specs.of_served_runs.Served.{Keyed, Serves}
 use Rattle.kept_rows.specs.of_served_runs.Told.{Passed, TellsOwn}
 use Rattle.mailbox_mail.specs.Mail.{error_of}
@@ -13,7 +12,7 @@ use Rattle.mailbox_mail.specs.declared.mail.Mail.{Mail}
 use Rattle.master_node.specs.of_life_frames.Shares.{AllBoth}
 use Rattle.master_node.specs.of_life_runs.of_link_mails.Body.{Body}
 use Rattle.master_node.specs.of_master_duty.Reply.{Reply}
-use Rattle.master_node.specs.of_master_hand.Spoken.{Asked, emission, is_passed, passed}
+use Rattle.master_node.specs.of_master_hand.Spoken.{Asked, is_passed}
 use Rattle.master_node.specs.of_master_tour.Made.{is_in}
 use Rattle.master_node.specs.of_life_model.Lives.{Life}
 use Rattle.master_node.specs.of_segment_model.Ends.{Passing}
@@ -21,9 +20,9 @@ use Rattle.master_node.specs.of_segment_model.Seats.{newest}
 use Rattle.run_book.specs.declared.book.GramIn.{GramIn}
 use Rattle.gateway_run.specs.Account.{Owing}
 use Rattle.gateway_run.specs.Rooms.{AreRising, grams_of, owed_for}
-use Rattle.gateway_run.specs.Replies.{Fares, Fares.dropped, Fares.replies, Fares.waits, HasRow, IsDesk, IsFor, IsHeard, IsNew, IsNewest, IsSame, StandsSo, WasGivenUp, keyed_in, mails_told}
+use Rattle.gateway_run.specs.Replies.{Fares, Fares.dropped, Fares.replies, Fares.waits, HasRow, IsDesk, IsFor, IsNew, IsNewest, IsSame, StandsSo, WasGivenUp, keyed_in, mails_told}
 use Rattle.gateway_run.specs.declared.desk.Request.{Request}
-use Rattle.gateway_run.proofs.Hands.{all_in, among_at, at_last, both_many, in_append, in_head, rises_apart, rises_first, row_stays}
+use Rattle.gateway_run.proofs.Hands.{all_in, among_at, at_last, both_many, rises_apart, rises_first, row_stays}
 
 told_append : (as' bs : List Body) → mails_told (as' ++ bs) ≡ mails_told as' ++ mails_told bs
 told_append [] bs = refl

@@ -1,33 +1,23 @@
 -- BEHIND A LOST FRAME one slave's desk is what its life has: nothing is told, or the slave was given up.
-use Rattle.std.proofs.Common.{◌≡◌, ℕ, Bool, true, false, Option, Some, None, List, [], ◌∷◌, ◌++◌, map, refl, sym, ap, ◌∙◌, subst, append-nil, eq-eqb, eqb-true}
-use Rattle.std.specs.Prelude.{◌≢◌, ◌==◌, ◌&&◌, if◌then◌else◌, slice_get, All, Ok}
-use Rattle.std.proofs.lemmas.List.Elements.{All-nil, All-cons, All-head, All-tail}
-use Rattle.master_node.specs.of_life_frames.of_exchange_model.Exchange.{Speech}
+use Rattle.std.proofs.Common.{◌≡◌, ℕ, Bool, true, false, Option, Some, None, List, [], ◌∷◌, ◌++◌, map, refl, sym, ap, ◌∙◌, subst, append-nil}
+use Rattle.std.specs.Prelude.{if◌then◌else◌, All}
 use Rattle.kept_rows.proofs.Behind.{Goes, behind_stays, lost_goes, unpassed_behind}
 use Rattle.kept_rows.specs.Rows.{Stays, passed_rows}
-use Rattle.kept_rows.specs.of_served_runs.Served.{Keyed, Serves, ServedTurn, TellsSo, gives_it, served_behind}
-use Rattle.kept_rows.specs.of_served_runs.Told.{Passed, TellsOwn, replies_in, told_on}
+use Rattle.kept_rows.specs.of_served_runs.Served.{Serves, ServedTurn, TellsSo, gives_it, served_behind}
+use Rattle.kept_rows.specs.of_served_runs.Told.{Passed, replies_in, told_on}
 use Rattle.mailbox_mail.specs.Mail.{error_of}
-use Rattle.mailbox_mail.specs.declared.mail.Mail.{Mail}
 use Rattle.master_node.specs.Serving.{serves_of}
 use Rattle.master_node.specs.declared.event.Event.{Event}
 use Rattle.master_node.specs.declared.event.Event.TheVariants as events
-use Rattle.master_node.specs.of_frame_view.Seen.{seen}
 use Rattle.master_node.specs.of_frame_view.View.{Lens}
-use Rattle.master_node.specs.of_life_frames.Shares.{AllBoth, given_where}
-use Rattle.master_node.specs.of_life_model.Lives.{Life, Stand, life_lost, passes}
-use Rattle.master_node.specs.of_life_runs.Led.{speech_at}
+use Rattle.master_node.specs.of_life_frames.Shares.{AllBoth}
+use Rattle.master_node.specs.of_life_model.Lives.{Stand}
 use Rattle.master_node.specs.of_life_runs.of_link_mails.Body.{Body}
-use Rattle.master_node.specs.of_master_duty.Reply.{Reply}
-use Rattle.master_node.specs.of_master_hand.Spoken.{Asked, acknowledged, is_followed, is_passed}
-use Rattle.master_node.specs.of_master_side.Passing.{news_lost}
-use Rattle.master_node.specs.of_segment_model.Ends.{Passing, passing_after}
-use Rattle.master_node.specs.of_segment_model.Record.{News}
-use Rattle.master_node.specs.of_segment_ring.declared.wire.Fate.{Fate}
-use Rattle.master_node.specs.of_segment_ring.declared.wire.Fate.TheVariants.{Pass, Lost}
+use Rattle.master_node.specs.of_segment_model.Ends.{Passing}
+use Rattle.master_node.specs.of_segment_ring.declared.wire.Fate.TheVariants.{Lost}
 use Rattle.run_book.specs.declared.book.GramIn.{GramIn}
-use Rattle.gateway_run.specs.Account.{Owing, elsewhere, left_by_all, owed_by_all, owing}
-use Rattle.gateway_run.specs.Rooms.{AreFiled, begun_of, grams_of, owed_for, waiting_of}
+use Rattle.gateway_run.specs.Account.{Owing, elsewhere, left_by_all, owing}
+use Rattle.gateway_run.specs.Rooms.{AreFiled, begun_of, owed_for, waiting_of}
 use Rattle.gateway_run.specs.Replies.{Fares, IsDesk, IsFor, WasGivenUp, keyed_in}
 use Rattle.gateway_run.specs.declared.desk.Request.{Request}
 use Rattle.gateway_run.proofs.Desking.{cut_among, gone_begun, gone_waits, none_in}

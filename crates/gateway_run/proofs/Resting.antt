@@ -1,5 +1,5 @@
 -- A SLAVE AT WHICH NO MAIL WAITS OR IS IN HAND has no request at the desk: each of its datagrams is done, or it was given up.
-use Rattle.std.proofs.Common.{◌≡◌, ℕ, Bool, true, false, inl, inr, Option, Some, None, List, [], ◌∷◌, refl, sym, ap, ◌∙◌, subst}
+use Rattle.std.proofs.Common.{◌≡◌, ℕ, Bool, true, false, inl, inr, None, List, [], ◌∷◌, refl, subst}
 use Rattle.std.specs.Prelude.{◌⊎◌}
 use Rattle.kept_rows.specs.of_served_runs.Served.{Serves}
 use Rattle.mailbox_mail.specs.declared.mail.Mail.{Mail}

@@ -1,7 +1,7 @@
 -- ONE FRAME OF A SERVING, of the slave at each place: its desk and its datagrams go on by what is listed of it alone.
-use Rattle.std.proofs.Common.{◌≡◌, ℕ, Bool, true, false, Option, Some, None, List, [], ◌∷◌, ◌++◌, map, refl, sym, ap, ◌∙◌, subst, append-nil, eqb-true}
-use Rattle.std.specs.Prelude.{◌≢◌, ◌==◌, cond, if◌then◌else◌, filter, slice_get, slice_index_or, All, Ok}
-use Rattle.std.proofs.lemmas.List.Elements.{All-nil, All-cons, All-head, All-tail, All-filter, All-weaker, filter-append, filter_passes}
+use Rattle.std.proofs.Common.{◌≡◌, ℕ, Bool, true, false, Some, None, List, [], ◌∷◌, ◌++◌, refl, sym, ap, ◌∙◌, subst, eqb-true}
+use Rattle.std.specs.Prelude.{◌==◌, cond, if◌then◌else◌, slice_get, slice_index_or, All, Ok}
+use Rattle.std.proofs.lemmas.List.Elements.{All-filter, filter-append, filter_passes}
 use Rattle.gateway_core.specs.Framing.{request_in}
 use Rattle.kept_rows.specs.Rows.{AreAll}
 use Rattle.kept_rows.specs.of_served_runs.Served.{Serves, ServedTurn, IsServedTurn, TellsSo, gives_it, served_behind}
@@ -21,17 +21,17 @@ use Rattle.master_node.specs.of_segment_ring.declared.wire.Fate.{Fate}
 use Rattle.master_node.specs.of_segment_ring.declared.wire.Fate.TheVariants.{Pass, Lost}
 use Rattle.run_book.specs.declared.book.GramIn.{GramIn}
 use Rattle.gateway_run.specs.Account.{Owing, is_of, left_by_all, owed_by, owed_by_all, waits_at}
-use Rattle.gateway_run.specs.Desk.{AreApart, AreUnlike}
-use Rattle.gateway_run.specs.Rooms.{AreFiled, begun_of, done_by, done_by_all, given_by, only, owed_for, requests_of, waiting_of}
+use Rattle.gateway_run.specs.Desk.{AreApart}
+use Rattle.gateway_run.specs.Rooms.{AreFiled, begun_of, done_by, done_by_all, only, owed_for, requests_of, waiting_of}
 use Rattle.gateway_run.specs.Replies.{Fares, IsDesk, IsHeard, IsUndone, WasGivenUp}
 use Rattle.gateway_run.specs.declared.desk.Request.{Request}
 use Rattle.gateway_run.proofs.Accounts.{unlike_filter}
-use Rattle.gateway_run.proofs.Rooms.{begun_here, not_same, owed_append, waits_here}
+use Rattle.gateway_run.proofs.Rooms.{begun_here, owed_append, waits_here}
 use Rattle.gateway_run.proofs.Views.{AreOf, done_is_here, done_none, events_keep, events_unlike, owed_is, owed_is_here, owed_none}
 use Rattle.gateway_run.proofs.Places.{IsAlone, places_give, places_leave, told_where}
 use Rattle.gateway_run.proofs.Begins.{HasBegun, slave_begins}
 use Rattle.gateway_run.proofs.Telling.{HasTold, IsOurs, OwesBesides}
-use Rattle.gateway_run.proofs.Frames.{accepted, behind, slave_back, tells}
+use Rattle.gateway_run.proofs.Frames.{accepted, slave_back, tells}
 use Rattle.gateway_run.proofs.Losts.{given, slave_lost, tells_lost}
 
 -- A NUMBER AMONG THESE is known by itself alone

@@ -1,12 +1,11 @@
 -- BEHIND A FRAME the desk of a slave is what its life has, and each of its datagrams got what is its own.
-use Rattle.std.proofs.Common.{◌≡◌, ℕ, Bool, true, false, inl, inr, Option, Some, None, List, [], ◌∷◌, ◌++◌, map, refl, sym, ap, ◌∙◌, subst, append-nil, eq-eqb, eqb-true}
-use Rattle.std.specs.Prelude.{◌≢◌, ◌==◌, ◌&&◌, if◌then◌else◌, cond, filter, length, slice_get, slice_index_or, All, Ok}
-use Rattle.std.proofs.lemmas.List.Elements.{All-nil, All-cons, All-head, All-tail, All-filter, All-map, All-weaker}
+use Rattle.std.proofs.Common.{◌≡◌, ℕ, Bool, true, false, inl, Some, None, List, [], ◌∷◌, ◌++◌, map, refl, sym, ap, ◌∙◌, subst, append-nil, eq-eqb}
+use Rattle.std.specs.Prelude.{◌≢◌, if◌then◌else◌, length, slice_get, slice_index_or, All, Ok}
+use Rattle.std.proofs.lemmas.List.Elements.{All-filter, All-map, All-weaker}
 use Rattle.gateway_core.specs.Framing.{request_in}
 use Rattle.kept_rows.specs.Rows.{AreAll, Stays, passed_rows}
 use Rattle.kept_rows.specs.of_served_runs.Served.{Serves}
 use Rattle.kept_rows.specs.of_served_runs.Told.{Passed, TellsOwn}
-use Rattle.mailbox_mail.specs.Mail.{error_of}
 use Rattle.mailbox_mail.specs.declared.mail.Mail.{Mail}
 use Rattle.master_node.specs.declared.event.Event.{Event}
 use Rattle.master_node.specs.of_life_frames.Shares.{AllBoth}
@@ -14,14 +13,14 @@ use Rattle.master_node.specs.of_life_runs.of_link_mails.Body.{Body}
 use Rattle.master_node.specs.of_master_tour.Made.{is_in}
 use Rattle.master_node.specs.of_segment_model.Ends.{Passing}
 use Rattle.run_book.specs.declared.book.GramIn.{GramIn}
-use Rattle.gateway_run.specs.Account.{Owing, owing, has_key, left_by_all, others, owed_by_all, waits_at}
+use Rattle.gateway_run.specs.Account.{Owing, owing, others, owed_by_all, waits_at}
 use Rattle.gateway_run.specs.Desk.{AreApart}
 use Rattle.gateway_run.specs.Rooms.{begun_of, done_by_all, grams_of, has_begun, owed_for, waiting_of}
-use Rattle.gateway_run.specs.Replies.{Fares, IsDesk, IsFor, IsNew, IsNewest, StandsSo, WasGivenUp, keyed_in, mails_told}
+use Rattle.gateway_run.specs.Replies.{Fares, IsDesk, IsFor, IsNewest, StandsSo, WasGivenUp, keyed_in, mails_told}
 use Rattle.gateway_run.specs.declared.desk.Request.{Request}
 use Rattle.gateway_run.proofs.Desking.{owed_its, owed_not}
 use Rattle.gateway_run.proofs.Hands.{all_among, all_in, among_at, at_last, in_head, rises_apart}
-use Rattle.gateway_run.proofs.Behind.{InHand, done_none, done_one, ends, finished, in_hand, owes, stays, told_of}
+use Rattle.gateway_run.proofs.Behind.{InHand, done_none, done_one, finished, in_hand, owes, told_of}
 use Rattle.gateway_run.proofs.Given.{IsTold, desk_told, fares_told, last_same}
 
 -- A DATAGRAM OF THIS SLAVE

@@ -1,5 +1,5 @@
 -- WHAT A FRAME TELLS TO WHO ASKED, of the slave at a place: by its life alone, and nothing where the frame left it out.
-use Rattle.std.proofs.Common.{◌≡◌, ◌≤◌, ℕ, zero, suc, Bool, true, false, Option, Some, None, List, [], ◌∷◌, ◌++◌, length, map, refl, sym, ap, ◌∙◌, subst, append-nil, length-append, arith}
+use Rattle.std.proofs.Common.{◌≡◌, ◌≤◌, ℕ, zero, suc, Bool, true, false, Option, Some, None, List, [], ◌∷◌, ◌++◌, length, map, refl, sym, ap, ◌∙◌, append-nil, length-append, arith}
 use Rattle.std.specs.Prelude.{◌&&◌, cond, nat_lt, if◌then◌else◌, is_some, filter, slice_get, Ok, Err}
 use Rattle.std.proofs.lemmas.Bool.{le-ltb, lt-ltb}
 use Rattle.kept_rows.proofs.Unread.{unread_accepted, unread_passing}
@@ -40,7 +40,7 @@ use Rattle.master_node.specs.of_segment_model.Slaves.{Datagram}
 use Rattle.master_node.specs.of_segment_ring.declared.wire.Fate.{Fate}
 use Rattle.master_node.specs.of_segment_ring.declared.wire.Fate.TheVariants.{Pass, Lost}
 use Rattle.run_record.specs.Served.{told_behind}
-use Rattle.gateway_run.specs.Account.{Owing, left_by, left_by_all, owed_by, owed_by_all}
+use Rattle.gateway_run.specs.Account.{left_by, left_by_all, owed_by, owed_by_all}
 use Rattle.gateway_run.specs.Rooms.{done_by, done_by_all, given_by}
 use Rattle.gateway_run.specs.declared.desk.Request.{Request}
 use Rattle.gateway_run.proofs.Places.{told_where}

@@ -1,6 +1,6 @@
 -- ALL SLAVES OVER A FRAME: behind it each desk is what the lives have, and each datagram that was passed on got what is its own.
-use Rattle.std.proofs.Common.{◌≡◌, ◌≤◌, ℕ, zero, suc, ◌+◌, Bool, true, false, Option, Some, None, List, [], ◌∷◌, ◌++◌, length, map, refl, sym, ap, ◌∙◌, subst, arith}
-use Rattle.std.specs.Prelude.{◌≢◌, ◌==◌, ◌&&◌, cond, filter, if◌then◌else◌, slice_get, All, Ok}
+use Rattle.std.proofs.Common.{◌≡◌, ◌≤◌, ℕ, zero, suc, ◌+◌, Bool, true, false, Option, Some, None, List, [], ◌∷◌, ◌++◌, map, refl, sym, ap, ◌∙◌, subst, arith}
+use Rattle.std.specs.Prelude.{◌≢◌, ◌&&◌, cond, filter, if◌then◌else◌, slice_get, All, Ok}
 use Rattle.std.proofs.lemmas.List.Elements.{All-nil, All-cons, All-head, All-tail, All-filter, All-weaker}
 use Rattle.gateway_core.specs.Framing.{request_in}
 use Rattle.kept_rows.proofs.All.{goes_told, turn_held}
@@ -52,7 +52,7 @@ use Rattle.gateway_run.proofs.Rooms.{IsOwnKey, begun_here, not_same, waits_here}
 use Rattle.gateway_run.proofs.Rounds.{AllKnown, HasStepped, SlaveSteps, slave_first, slave_steps, tells_by}
 use Rattle.gateway_run.proofs.Telling.{IsOurs}
 use Rattle.gateway_run.proofs.Tolds.{begun_at, begun_own, frame_so, goes_so, shown, shown_none, shown_own, shows, shows_at, shows_beyond, where_all}
-use Rattle.gateway_run.proofs.Views.{AreOf, events_keep, events_unlike}
+use Rattle.gateway_run.proofs.Views.{AreOf, events_unlike}
 
 -- A KEY IS OF ONE SLAVE ALONE that the one request has which a test keeps
 key_apart : (p : Request → Bool) (rs : List Request) (r : Request) (rest : List Request) → AreApart rs → filter p rs ≡ r ∷ rest → All (λ (q : Request). p q ≡ false → q.key ≢ r.key) rs
