@@ -27,3 +27,4 @@ pub mod Tolds
 pub mod Turnings
 pub mod Turns
 pub mod Views
+pub mod Worked
