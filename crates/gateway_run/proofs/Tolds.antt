@@ -81,20 +81,20 @@ quiet_done (events.Opened slave) rs n = refl
 -- so of all events only those count
 pub known_left : (es : List Event) (rs : List Request) → left_by_all es rs ≡ left_by_all (filter is_gateway es) rs
 known_left [] rs = refl
-known_left (e ∷ es) rs = go (is_gateway e) refl
+known_left (e ∷ es) rs = go (is_gateway e) refl (λ qs. known_left es qs)
   where
-    go : (b : Bool) → is_gateway e ≡ b → left_by_all es (left_by e rs) ≡ left_by_all (cond b (e ∷ filter is_gateway es) (filter is_gateway es)) rs
-    go true k = known_left es (left_by e rs)
-    go false k = ap (left_by_all es) (quiet_left e rs k) ∙ known_left es rs
+    go : (b : Bool) → is_gateway e ≡ b → ((qs : List Request) → left_by_all es qs ≡ left_by_all (filter is_gateway es) qs) → left_by_all es (left_by e rs) ≡ left_by_all (cond b (e ∷ filter is_gateway es) (filter is_gateway es)) rs
+    go true k on = on (left_by e rs)
+    go false k on = ap (left_by_all es) (quiet_left e rs k) ∙ on rs
 
 module _ {X : Type 0} (gives : Event → List Request → List X) (quiet : (e : Event) (rs : List Request) → is_gateway e ≡ false → gives e rs ≡ []) where
   known_given : (es : List Event) (rs : List Request) → given_by gives es rs ≡ given_by gives (filter is_gateway es) rs
   known_given [] rs = refl
-  known_given (e ∷ es) rs = go (is_gateway e) refl
+  known_given (e ∷ es) rs = go (is_gateway e) refl (λ qs. known_given es qs)
     where
-      go : (b : Bool) → is_gateway e ≡ b → gives e rs ++ given_by gives es (left_by e rs) ≡ given_by gives (cond b (e ∷ filter is_gateway es) (filter is_gateway es)) rs
-      go true k = ap (λ (l : List X). gives e rs ++ l) (known_given es (left_by e rs))
-      go false k = (λ i. quiet e rs k i ++ given_by gives es (quiet_left e rs k i)) ∙ known_given es rs
+      go : (b : Bool) → is_gateway e ≡ b → ((qs : List Request) → given_by gives es qs ≡ given_by gives (filter is_gateway es) qs) → gives e rs ++ given_by gives es (left_by e rs) ≡ given_by gives (cond b (e ∷ filter is_gateway es) (filter is_gateway es)) rs
+      go true k on = ap (λ (l : List X). gives e rs ++ l) (on (left_by e rs))
+      go false k on = (λ i. quiet e rs k i ++ given_by gives es (quiet_left e rs k i)) ∙ on rs
 
 pub known_owed : (es : List Event) (rs : List Request) → owed_by_all es rs ≡ owed_by_all (filter is_gateway es) rs
 known_owed es rs = owed_is es rs ∙ known_given owed_by quiet_owed es rs ∙ sym (owed_is (filter is_gateway es) rs)

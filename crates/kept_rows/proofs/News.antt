@@ -121,17 +121,17 @@ gram_brings h Ask.Other g ns s = still_brings ns s
 module _ (station : ℕ) where
   pub none_news : (last : ℕ) (ds : Grams) → SameAim station ds → own station ds ≡ [] → back_news station last ds ≡ []
   none_news last [] a e = refl
-  none_news last (d ∷ ds) a e = go (is_for station d.address) refl e
+  none_news last (d ∷ ds) a e = go (is_for station d.address) refl e (λ k. none_news last ds a.1 k)
     where
-      go : (z : Bool) → is_for station d.address ≡ z → (if z then d ∷ own station ds else own station ds) ≡ [] → back_news station last (d ∷ ds) ≡ []
-      go true f k = absurd (let bad : d ∷ own station ds ≡ [] = k in cc)
-      go false f k =
+      go : (z : Bool) → is_for station d.address ≡ z → (if z then d ∷ own station ds else own station ds) ≡ [] → (own station ds ≡ [] → back_news station last ds ≡ []) → back_news station last (d ∷ ds) ≡ []
+      go true f k on = absurd (let bad : d ∷ own station ds ≡ [] = k in cc)
+      go false f k on =
           (λ i. ((if (sym a.0 ∙ f) i then gram_news last d.gram.ask d.gram else []) ++ (if f i then (if d.counter == 0 then [] else found_news d.found) else [])) ++ back_news station (if (sym a.0 ∙ f) i then last_heard last d.gram.ask d.gram else last) ds)
-          ∙ none_news last ds a.1 k
+          ∙ on k
 
   few_bring : (h : Halves Body) (ds : Grams) → SameAim station ds → length (own station ds) ≤ 1 → Brings (back_news station h.inn.last ds) (all_accepted station h (grams (own station ds)))
   few_bring h [] a l = (tt, refl)
-  few_bring h (d ∷ ds) a l = go (is_for station d.address) refl l
+  few_bring h (d ∷ ds) a l = go (is_for station d.address) refl l (λ k. few_bring h ds a.1 k)
     where
       -- with these answers
       told : Bool → Bool → List (News Body)
@@ -140,8 +140,9 @@ module _ (station : ℕ) where
       heard : Bool → Grams → List Body
       heard b es = (if b then halves_accept h d.gram.ask d.gram else []) ++ all_accepted station (if b then halves_answered h d.gram.ask d.gram else h) (grams es)
 
-      go : (z : Bool) → is_for station d.address ≡ z → length (if z then d ∷ own station ds else own station ds) ≤ 1 → Brings (back_news station h.inn.last (d ∷ ds)) (all_accepted station h (grams (own station (d ∷ ds))))
-      go true f k =
+      go : (z : Bool) → is_for station d.address ≡ z → length (if z then d ∷ own station ds else own station ds) ≤ 1 → (length (own station ds) ≤ 1 → Brings (back_news station h.inn.last ds) (all_accepted station h (grams (own station ds)))) →
+          Brings (back_news station h.inn.last (d ∷ ds)) (all_accepted station h (grams (own station (d ∷ ds))))
+      go true f k on =
           let none : own station ds ≡ [] = empty (own station ds) (omega (arith, k)) in
           let rest = none_news (last_heard h.inn.last d.gram.ask d.gram) ds a.1 none in
           let one : Brings (told true true) (heard true (own station ds)) =
@@ -150,9 +151,9 @@ module _ (station : ℕ) where
           (gram_brings h d.gram.ask d.gram (if d.counter == 0 then [] else found_news d.found) (still_found true (d.counter == 0) d.found))) in
           subst (Brings (told (d.gram.station == station) (is_for station d.address))) (sym (ap (λ (z : Bool). all_accepted station h (grams (if z then d ∷ own station ds else own station ds))) f ∙ ap (λ b. heard b (own station ds)) (sym a.0 ∙ f)))
           (subst (λ ns. Brings ns (heard true (own station ds))) (λ i. told (sym (sym a.0 ∙ f) i) (sym f i)) one)
-      go false f k =
+      go false f k on =
           subst (Brings (told (d.gram.station == station) (is_for station d.address))) (sym (ap (λ (z : Bool). all_accepted station h (grams (if z then d ∷ own station ds else own station ds))) f))
-          (subst (λ ns. Brings ns (all_accepted station h (grams (own station ds)))) (λ i. told (sym (sym a.0 ∙ f) i) (sym f i)) (few_bring h ds a.1 k))
+          (subst (λ ns. Brings ns (all_accepted station h (grams (own station ds)))) (λ i. told (sym (sym a.0 ∙ f) i) (sym f i)) (on k))
 
       empty : (es : Grams) → length es ≤ 0 → es ≡ []
       empty [] m = refl

@@ -37,13 +37,13 @@ use Rattle.kept_rows.proofs.News.{none_news}
 module _ (station : ℕ) where
   none_told : (last : ℕ) (ds : List (Datagram Body)) → SameAim station ds → own station ds ≡ [] → all_told station last (grams ds) ≡ []
   none_told last [] a e = refl
-  none_told last (d ∷ ds) a e = go (is_for station d.address) refl e
+  none_told last (d ∷ ds) a e = go (is_for station d.address) refl e (λ k. none_told last ds a.1 k)
     where
-      go : (z : Bool) → is_for station d.address ≡ z → (if z then d ∷ own station ds else own station ds) ≡ [] → all_told station last (grams (d ∷ ds)) ≡ []
-      go true f k = absurd (let bad : d ∷ own station ds ≡ [] = k in cc)
-      go false f k =
+      go : (z : Bool) → is_for station d.address ≡ z → (if z then d ∷ own station ds else own station ds) ≡ [] → (own station ds ≡ [] → all_told station last (grams ds) ≡ []) → all_told station last (grams (d ∷ ds)) ≡ []
+      go true f k on = absurd (let bad : d ∷ own station ds ≡ [] = k in cc)
+      go false f k on =
           (λ i. (if (sym a.0 ∙ f) i then mail_told last d.gram.ask else []) ++ all_told station (if (sym a.0 ∙ f) i then last_told last d.gram.ask else last) (grams ds))
-          ∙ none_told last ds a.1 k
+          ∙ on k
 
   none_back : (kept : Kept) (counts : Bool) (ds : List (Datagram Body)) → SameAim station ds → own station ds ≡ [] → news_back station kept counts ds ≡ []
   none_back kept counts ds a e =
