@@ -133,6 +133,10 @@ module _ (station : ℕ) where
   few_bring h [] a l = (tt, refl)
   few_bring h (d ∷ ds) a l = go (is_for station d.address) refl l (λ k. few_bring h ds a.1 k)
     where
+      empty : (es : Grams) → length es ≤ 0 → es ≡ []
+      empty [] m = refl
+      empty (e ∷ es) m = absurd (omega (arith, m))
+
       -- with these answers
       told : Bool → Bool → List (News Body)
       told b z = ((if b then gram_news h.inn.last d.gram.ask d.gram else []) ++ (if z then (if d.counter == 0 then [] else found_news d.found) else [])) ++ back_news station (if b then last_heard h.inn.last d.gram.ask d.gram else h.inn.last) ds
@@ -154,10 +158,6 @@ module _ (station : ℕ) where
       go false f k on =
           subst (Brings (told (d.gram.station == station) (is_for station d.address))) (sym (ap (λ (z : Bool). all_accepted station h (grams (if z then d ∷ own station ds else own station ds))) f))
           (subst (λ ns. Brings ns (all_accepted station h (grams (own station ds)))) (λ i. told (sym (sym a.0 ∙ f) i) (sym f i)) (on k))
-
-      empty : (es : Grams) → length es ≤ 0 → es ≡ []
-      empty [] m = refl
-      empty (e ∷ es) m = absurd (omega (arith, m))
 
   pub frame_brings : (kept : Kept) (counts : Bool) (h : Halves Body) (ds : Grams) → h.inn.last ≡ kept.heard → SameAim station ds → length (own station ds) ≤ 1 → Brings (news_back station kept counts ds) (all_accepted station h (grams (own station ds)))
   frame_brings kept counts h ds e a l =
