@@ -16,7 +16,6 @@ pub mod Judging
 pub mod Leds
 pub mod Losts
 pub mod Places
-pub mod Resting
 pub mod Room
 pub mod Rooms
 pub mod Rounds
