@@ -1,5 +1,4 @@
 use Rattle.std.specs.Prelude.{◌≡◌, Some, None}
-use Rattle.served_runs.specs.Told.{Passed}
 use Rattle.kept_rows.proofs.All.{goes_told}
 use Rattle.kept_rows.proofs.all_law.Goals as goal
 
