@@ -1,7 +1,7 @@
 -- ALL ALONG A COURSE each desk is what the lives have, and each datagram got what is its own.
-use Rattle.std.proofs.Common.{◌≡◌, ◌<◌, ℕ, zero, suc, Some, None, List, [], ◌∷◌, ◌++◌, length, map, refl, sym, ap, ◌∙◌, subst, arith}
+use Rattle.std.proofs.Common.{◌≡◌, ◌<◌, ◌≤◌, ℕ, zero, suc, Some, None, List, [], ◌∷◌, ◌++◌, length, map, refl, sym, ap, ◌∙◌, subst, arith}
 use Rattle.std.specs.Prelude.{replicate, All}
-use Rattle.std.proofs.lemmas.List.{map-append}
+use Rattle.std.proofs.lemmas.List.{length-map, map-append}
 use Rattle.std.proofs.lemmas.List.Elements.{All-nil, All-cons, All-head, All-tail}
 use Rattle.kept_rows.specs.Rows.{ToldAll, passed_rows}
 use Rattle.kept_rows.specs.of_served_runs.Served.{IsServedLed, Keyed, Serves, all_serve, asked_at, new_serves}
@@ -20,7 +20,7 @@ use Rattle.segment_plan.specs.declared.slave.SlaveSpec.{SlaveSpec}
 use Rattle.gateway_run.specs.Account.{Course, Course.begins, Course.hears, Course.steps, Owing, left_by_all, owed_by_all}
 use Rattle.gateway_run.specs.Events.{events_of}
 use Rattle.gateway_run.specs.Rooms.{done_by_all}
-use Rattle.gateway_run.specs.Replies.{AllDesk, Answers, IsDesk, IsFor, IsHeard, IsNew, IsUndone, dones_of, keyed_in}
+use Rattle.gateway_run.specs.Replies.{AllDesk, Answers, IsDesk, IsFor, IsHeard, IsLate, IsNew, IsUndone, dones_of, keyed_in}
 use Rattle.gateway_run.specs.declared.desk.Request.{Request}
 use Rattle.gateway_run.proofs.Judging.{answers_heard}
 use Rattle.gateway_run.proofs.Leds.{course_led}
@@ -82,6 +82,7 @@ first_desk i w b e = record {
   many = sym (ap length b.rows);
   known = All-nil (λ (n : ℕ). n < 0);
   rising = tt;
+  late = subst (λ rows. AllBoth (IsLate []) [] rows) (sym b.rows) tt;
 }
 
 first_desks : (i : ℕ) (ws : List Serves) → All IsNewborn ws → All (λ (w : Serves). w.waits ≡ []) ws → AllDesk [] [] [] i ws (map (λ (w : Serves). []) ws)
@@ -105,6 +106,7 @@ first_answers plan count s first serving =
       apart = tt;
       filed = tt;
       heard = All-nil (IsHeard []);
+      early = All-nil (λ (g : GramIn). g.frame ≤ 0);
       undone = All-nil (IsUndone []);
       ended = All-nil (λ (n : ℕ). n < 0);
       owed = All-nil (λ (o : Owing). o.gram < 0);
@@ -116,7 +118,7 @@ pub course_answers : (plan : Scenario) (count : ℕ) → IsPlan plan → (s : Se
 course_answers plan count is _ _ _ _ _ (begins s first serves) = first_answers plan count s first serves
 course_answers plan count is _ _ _ _ _ (hears s s' fs gs g rs rs' os more c at judges) =
     let l = course_led plan count is s fs gs rs os c in
-    answers_heard plan s s' (map exchanged fs) gs g rs os (dones_of plan count s fs gs rs os c) (course_answers plan count is s fs gs rs os c) is l.homes rs' more judges
+    answers_heard plan s s' (map exchanged fs) gs g rs os (dones_of plan count s fs gs rs os c) (course_answers plan count is s fs gs rs os c) (let many = length-map fs exchanged in omega (arith, at, many)) is l.homes rs' more judges
 course_answers plan count is _ _ _ _ _ (steps s s' fs f gs rs os c m) =
     let l = course_led plan count is s fs gs rs os c in
     let old = course_answers plan count is s fs gs rs os c in

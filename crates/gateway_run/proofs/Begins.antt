@@ -1,5 +1,5 @@
 -- BEFORE A FRAME what comes into hand of a slave is what its desk has: one slave's requests behind what is listed of it.
-use Rattle.std.proofs.Common.{◌≡◌, ℕ, Bool, true, false, Option, Some, None, List, [], ◌∷◌, ◌++◌, refl, sym, ap, ◌∙◌, subst, append-nil, eqb-true}
+use Rattle.std.proofs.Common.{◌≡◌, ℕ, ◌≤◌, Bool, true, false, Option, Some, None, List, [], ◌∷◌, ◌++◌, refl, sym, ap, ◌∙◌, subst, append-nil, eqb-true}
 use Rattle.std.specs.Prelude.{◌==◌, if◌then◌else◌, not, slice_get, All, Ok}
 use Rattle.std.proofs.lemmas.List.Elements.{All-head, filter_passes}
 use Rattle.master_node.specs.of_life_frames.of_exchange_model.Rows.{begun}
@@ -55,7 +55,7 @@ module _ (lens : ℕ → Lens) (made : ℕ) (ds : List Raw.Datagram) (w : Serves
     pub fares : (done : Bool) (number : ℕ) (asked : Mail) (gram : GramIn) → slice_get gs number ≡ Some gram → request_in gram.bytes ≡ Ok asked →
         Fares w came (waiting_of slave rs) (begun_of slave rs) done number asked (owed_for number os) → Fares (serves_of v) comes (waiting_of slave qs) (begun_of slave qs) done number asked (owed_for number os)
 
-  module _ (given : WasGivenUp w → WasGivenUp (serves_of v)) (d : IsDesk gs os slave w came (waiting_of slave rs) (begun_of slave rs)) where
+  module _ (given : WasGivenUp w → WasGivenUp (serves_of v)) (early : All (λ (g : GramIn). g.frame ≤ made) gs) (d : IsDesk gs os slave w came (waiting_of slave rs) (begun_of slave rs)) where
     stays : row_begun made v.turn.begun ≡ [] → AllBoth Stays (passed_rows w.lead.lived.life) (passed_rows v.turn.lived.life)
     stays e = subst (λ z. AllBoth Stays z (passed_rows v.turn.lived.life)) (append-nil (passed_rows w.lead.lived.life)) (subst (λ z. AllBoth Stays (passed_rows w.lead.lived.life ++ z) (passed_rows v.turn.lived.life)) e (next_stays lens made ds w v t))
 
@@ -82,6 +82,7 @@ module _ (lens : ℕ → Lens) (made : ℕ) (ds : List Raw.Datagram) (w : Serves
           passing = next_passing lens made ds w v t ∙ (λ i. passing_behind is_passed (free i) (e i));
           its = refl;
           stay = subst (λ b. AllBoth Stays (passed_rows w.lead.lived.life ++ row_begun made b) (passed_rows v.turn.lived.life)) e (next_stays lens made ds w v t);
+          early = early;
         } in
         let here : o.request.slave ≡ slave = eqb-true o.request.slave slave (both_left (o.request.slave == slave) (not o.request.begun) (All-head (λ r. waits_at slave r ≡ true) o.request o.rest (subst (All (λ r. waits_at slave r ≡ true)) o.is (filter_passes (waits_at slave) rs)))) in
         let old = subst (λ z. IsDesk gs os slave w came z (begun_of slave rs)) o.is d in

@@ -1,6 +1,6 @@
 -- A MAIL COMES INTO HAND of a slave: the oldest of its requests that wait is the one whose mail is in hand.
-use Rattle.std.proofs.Common.{◌≡◌, ℕ, zero, suc, ◌+◌, ◌<◌, Bool, true, false, inl, inr, Option, Some, None, List, [], ◌∷◌, ◌++◌, length, refl, sym, ap, ◌∙◌, subst, eqb-true, append_assoc, length-append, arith}
-use Rattle.std.specs.Prelude.{◌==◌, slice_get, Ok}
+use Rattle.std.proofs.Common.{◌≡◌, ℕ, zero, suc, ◌+◌, ◌<◌, ◌≤◌, Bool, true, false, inl, inr, Option, Some, None, List, [], ◌∷◌, ◌++◌, length, refl, sym, ap, ◌∙◌, subst, eqb-true, append_assoc, length-append, arith}
+use Rattle.std.specs.Prelude.{◌==◌, slice_get, All, Ok}
 use Rattle.std.proofs.lemmas.List.Elements.{All-head, All-tail, All-push}
 use Rattle.master_node.specs.of_life_frames.of_exchange_model.Exchange.{plain}
 use Rattle.master_node.specs.of_life_frames.of_exchange_model.Rows.{Row, begun}
@@ -18,9 +18,9 @@ use Rattle.master_node.specs.of_segment_model.Ends.{Passing}
 use Rattle.run_book.specs.declared.book.GramIn.{GramIn}
 use Rattle.gateway_run.specs.Account.{Owing}
 use Rattle.gateway_run.specs.Rooms.{AreRising, grams_of}
-use Rattle.gateway_run.specs.Replies.{Fares, Fares.dropped, Fares.replies, Fares.waits, HasRow, IsDesk, IsFor, IsNew, IsNewest, StandsSo, WasGivenUp, keyed_in}
+use Rattle.gateway_run.specs.Replies.{Fares, Fares.dropped, Fares.replies, Fares.waits, HasRow, IsDesk, IsFor, IsLate, IsNew, IsNewest, StandsSo, WasGivenUp, keyed_in}
 use Rattle.gateway_run.specs.declared.desk.Request.{Request}
-use Rattle.gateway_run.proofs.Hands.{at_last, both_at, both_many, in_append, in_head, row_stays}
+use Rattle.gateway_run.proofs.Hands.{all_got, at_last, both_at, both_many, both_push, in_append, in_head, late_stays, row_stays}
 
 -- the oldest that waits
 pub record Oldest (waiting : List Request) : Type 0 where
@@ -73,6 +73,8 @@ module _ (gs : List GramIn) (slave : ℕ) (w v : Serves) (came : List ℕ) (k : 
     pub passing : v.lead.lived.life.era.passing ≡ Some Passing.Waiting
     pub its : row.service ≡ passed k.mail
     pub stay : AllBoth Stays (passed_rows w.lead.lived.life ++ row ∷ []) (passed_rows v.lead.lived.life)
+    -- all datagrams so far were heard by then
+    pub early : All (λ (g : GramIn). g.frame ≤ row.frame) gs
 
   module _ (c : MailComes) (r : Request) (more begun : List Request) (d : IsDesk gs os slave w came (r ∷ more) begun) where
     pub is_for : IsFor gs r k
@@ -103,6 +105,8 @@ module _ (gs : List GramIn) (slave : ℕ) (w v : Serves) (came : List ℕ) (k : 
       many = many;
       known = All-push (λ n. n < length gs) came r.gram d.known (known_at gs r.gram is_for.of_gram.gram is_for.of_gram.there);
       rising = subst AreRising (sym (append_assoc came (r.gram ∷ []) (grams_of more))) d.rising;
+      late = late_stays gs (came ++ r.gram ∷ []) (passed_rows w.lead.lived.life ++ row ∷ []) (passed_rows v.lead.lived.life)
+          (both_push (IsLate gs) came (passed_rows w.lead.lived.life) r.gram row d.late (λ g e. all_got (λ (g : GramIn). g.frame ≤ row.frame) gs r.gram g c.early e)) c.stay;
     }
 
     -- its row is the last of those that were passed on

@@ -43,6 +43,7 @@ module _ (gs : List GramIn) (slave : ℕ) (w v : Serves) (os more : List Owing) 
       many = kept.many;
       known = kept.known;
       rising = kept.rising;
+      late = kept.late;
     };
     fares = λ number asked o request f.
         subst (λ z. Fares v came (waiting_of slave rs) (begun_of slave rs) z number asked (owed_for number (os ++ more))) (sym (besides.ended number o))

@@ -22,7 +22,7 @@ use Rattle.gateway_run.specs.Account.{Owing}
 use Rattle.gateway_run.specs.Rooms.{AreRising, grams_of, owed_for}
 use Rattle.gateway_run.specs.Replies.{Fares, Fares.dropped, Fares.replies, Fares.waits, HasRow, IsDesk, IsFor, IsNew, IsNewest, IsSame, StandsSo, WasGivenUp, keyed_in, mails_told}
 use Rattle.gateway_run.specs.declared.desk.Request.{Request}
-use Rattle.gateway_run.proofs.Hands.{all_in, among_at, at_last, both_many, rises_apart, rises_first, row_stays}
+use Rattle.gateway_run.proofs.Hands.{all_in, among_at, at_last, both_many, late_stays, rises_apart, rises_first, row_stays}
 
 told_append : (as' bs : List Body) → mails_told (as' ++ bs) ≡ mails_told as' ++ mails_told bs
 told_append [] bs = refl
@@ -65,6 +65,7 @@ module _ (gs : List GramIn) (slave : ℕ) (w v : Serves) (came : List ℕ) (wait
     many = d.many ∙ both_many Stays (passed_rows w.lead.lived.life) (passed_rows v.lead.lived.life) t.stay;
     known = d.known;
     rising = d.rising;
+    late = late_stays gs came (passed_rows w.lead.lived.life) (passed_rows v.lead.lived.life) d.late t.stay;
   }
 
 -- A SLAVE IS GIVEN UP: no request of it is left
@@ -79,6 +80,7 @@ module _ (gs : List GramIn) (slave : ℕ) (w v : Serves) (came : List ℕ) (wait
     many = d.many ∙ both_many Stays (passed_rows w.lead.lived.life) (passed_rows v.lead.lived.life) stay;
     known = d.known;
     rising = subst AreRising (sym (append-nil came)) (rises_first came (grams_of waiting) d.rising);
+    late = late_stays gs came (passed_rows w.lead.lived.life) (passed_rows v.lead.lived.life) d.late stay;
   }
 
   pub fares_gone : (done : Bool) (number : ℕ) (asked : Mail) (mails mails' : List Mail) → WasGivenUp v → AllBoth Stays (passed_rows w.lead.lived.life) (passed_rows v.lead.lived.life) → IsDesk gs os slave w came waiting begun →

@@ -1,5 +1,5 @@
 -- WHAT COMES INTO HAND OF A SLAVE, AND WHAT IS TOLD OF IT, as its desk has it.
-use Rattle.std.proofs.Common.{◌≡◌, ℕ, zero, suc, ◌<◌, Bool, true, false, inl, inr, Option, Some, None, List, [], ◌∷◌, ◌++◌, length, refl, sym, ap, ◌∙◌, subst, eq-eqb, eqb-true, append-nil, append_assoc, arith}
+use Rattle.std.proofs.Common.{◌≡◌, ℕ, zero, suc, ◌<◌, ◌≤◌, Bool, true, false, inl, inr, Option, Some, None, List, [], ◌∷◌, ◌++◌, length, refl, sym, ap, ◌∙◌, subst, eq-eqb, eqb-true, append-nil, append_assoc, arith}
 use Rattle.std.specs.Prelude.{◌==◌, if◌then◌else◌, slice_get, All}
 use Rattle.std.proofs.lemmas.List.Elements.{All-nil, All-head, All-tail, All-cons, All-push, All-weaker}
 use Rattle.master_node.specs.of_life_frames.of_exchange_model.Exchange.{plain}
@@ -17,7 +17,7 @@ use Rattle.master_node.specs.of_master_tour.Made.{is_in}
 use Rattle.run_book.specs.declared.book.GramIn.{GramIn}
 use Rattle.gateway_run.specs.Account.{Owing}
 use Rattle.gateway_run.specs.Rooms.{AreRising, grams_of}
-use Rattle.gateway_run.specs.Replies.{Fares, Fares.dropped, Fares.replies, Fares.waits, HasRow, IsDesk, IsFor, StandsSo, WasGivenUp, keyed_in}
+use Rattle.gateway_run.specs.Replies.{Fares, Fares.dropped, Fares.replies, Fares.waits, HasRow, IsDesk, IsFor, IsLate, StandsSo, WasGivenUp, keyed_in}
 use Rattle.gateway_run.specs.declared.desk.Request.{Request}
 use Rattle.gateway_run.proofs.Accounts.{get_on}
 
@@ -34,6 +34,29 @@ both_at P [] ys k x a e = absurd (cc)
 both_at P (x' ∷ xs) [] k x a e = absurd a
 both_at P (x' ∷ xs) (y ∷ ys) zero x a e = (y, refl, subst (λ z. P z y) (let same : x' ≡ x = cc in same) a.0)
 both_at P (x' ∷ xs) (y ∷ ys) (suc k) x a e = both_at P xs ys k x a.1 e
+
+pub both_along : {S T U : Type 0} (P : S → T → Type 0) (Q : T → U → Type 0) (R : S → U → Type 0) → ((x : S) (y : T) (z : U) → P x y → Q y z → R x z) → (xs : List S) (ys : List T) (zs : List U) → AllBoth P xs ys → AllBoth Q ys zs → AllBoth R xs zs
+both_along P Q R h [] [] [] a b = tt
+both_along P Q R h [] [] (z ∷ zs) a b = absurd b
+both_along P Q R h [] (y ∷ ys) zs a b = absurd a
+both_along P Q R h (x ∷ xs) [] zs a b = absurd a
+both_along P Q R h (x ∷ xs) (y ∷ ys) [] a b = absurd b
+both_along P Q R h (x ∷ xs) (y ∷ ys) (z ∷ zs) a b = (h x y z a.0 b.0, both_along P Q R h xs ys zs a.1 b.1)
+
+pub both_push : {S T : Type 0} (P : S → T → Type 0) (xs : List S) (ys : List T) (x : S) (y : T) → AllBoth P xs ys → P x y → AllBoth P (xs ++ x ∷ []) (ys ++ y ∷ [])
+both_push P [] [] x y a p = (p, tt)
+both_push P [] (z ∷ ys) x y a p = absurd a
+both_push P (z ∷ xs) [] x y a p = absurd a
+both_push P (z ∷ xs) (u ∷ ys) x y a p = (a.0, both_push P xs ys x y a.1 p)
+
+-- rows that stay began when they did
+pub late_stays : (gs : List GramIn) (came : List ℕ) (rows rows' : List (Row Body Asked Reply)) → AllBoth (IsLate gs) came rows → AllBoth Stays rows rows' → AllBoth (IsLate gs) came rows'
+late_stays gs came rows rows' late stay = both_along (IsLate gs) Stays (IsLate gs) (λ n r s l k g e. subst (λ m. g.frame ≤ m) (sym k.frame) (l g e)) came rows rows' late stay
+
+pub all_got : {T : Type 0} (P : T → Type 0) (xs : List T) (k : ℕ) (x : T) → All P xs → slice_get xs k ≡ Some x → P x
+all_got P [] k x a e = absurd (cc)
+all_got P (y ∷ xs) zero x a e = subst P (let same : y ≡ x = cc in same) (All-head P y xs a)
+all_got P (y ∷ xs) (suc k) x a e = all_got P xs k x (All-tail P y xs a) e
 
 -- NUMBERS THAT RISE
 pub rises_on : (ns : List ℕ) (n : ℕ) → AreRising ns → All (λ m. m < n) ns → AreRising (ns ++ n ∷ [])
@@ -146,6 +169,7 @@ module _ (gs : List GramIn) (slave : ℕ) (w v : Serves) (came : List ℕ) (wait
     many = d.many ∙ both_many Stays (passed_rows w.lead.lived.life) (passed_rows v.lead.lived.life) stay;
     known = d.known;
     rising = d.rising;
+    late = late_stays gs came (passed_rows w.lead.lived.life) (passed_rows v.lead.lived.life) d.late stay;
   }
 
   pub fares_same : (done : Bool) (number : ℕ) (asked : Mail) (mails : List Mail) → (WasGivenUp w → WasGivenUp v) → AllBoth Stays (passed_rows w.lead.lived.life) (passed_rows v.lead.lived.life) →

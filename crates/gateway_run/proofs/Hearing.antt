@@ -8,16 +8,19 @@ use Rattle.kept_rows.specs.of_served_runs.Served.{Keyed, Serves, asked_at}
 use Rattle.kept_rows.specs.of_served_runs.Told.{Passed}
 use Rattle.mailbox_mail.specs.declared.mail.Mail.{Mail}
 use Rattle.master_node.specs.of_life_frames.Shares.{AllBoth}
+use Rattle.master_node.specs.of_life_frames.of_exchange_model.Rows.{Row}
 use Rattle.master_node.specs.of_life_runs.of_link_mails.Body.{Body}
+use Rattle.master_node.specs.of_master_duty.Reply.{Reply}
+use Rattle.master_node.specs.of_master_hand.Spoken.{Asked}
 use Rattle.master_node.specs.of_master_tour.Made.{is_in}
 use Rattle.run_book.specs.declared.book.GramIn.{GramIn}
 use Rattle.gateway_run.specs.Account.{Owing, waits_at}
 use Rattle.gateway_run.specs.Rooms.{AreRising, begun_of, grams_of, has_begun, owed_for, waiting_of}
-use Rattle.gateway_run.specs.Replies.{AllDesk, Fares, Fares.dropped, Fares.replies, Fares.waits, HasRow, IsDesk, IsFor, IsHeard, IsNew, IsNewest, StandsSo, keyed_in}
+use Rattle.gateway_run.specs.Replies.{AllDesk, Fares, Fares.dropped, Fares.replies, Fares.waits, HasRow, IsDesk, IsFor, IsHeard, IsLate, IsNew, IsNewest, StandsSo, keyed_in}
 use Rattle.gateway_run.specs.declared.desk.Request.{Request}
 use Rattle.gateway_run.proofs.Accounts.{get_on}
 use Rattle.gateway_run.proofs.Comes.{known_at}
-use Rattle.gateway_run.proofs.Hands.{in_head, rises_on}
+use Rattle.gateway_run.proofs.Hands.{both_push, in_head, rises_on}
 use Rattle.gateway_run.proofs.Rooms.{not_same}
 
 -- NUMBERS BELOW
@@ -46,11 +49,20 @@ both_weaker P Q h [] (y ∷ ys) a = absurd a
 both_weaker P Q h (x ∷ xs) [] a = absurd a
 both_weaker P Q h (x ∷ xs) (y ∷ ys) a = (h x y a.0, both_weaker P Q h xs ys a.1)
 
-both_push : {S T : Type 0} (P : S → T → Type 0) (xs : List S) (ys : List T) (x : S) (y : T) → AllBoth P xs ys → P x y → AllBoth P (xs ++ x ∷ []) (ys ++ y ∷ [])
-both_push P [] [] x y a p = (p, tt)
-both_push P [] (z ∷ ys) x y a p = absurd a
-both_push P (z ∷ xs) [] x y a p = absurd a
-both_push P (z ∷ xs) (u ∷ ys) x y a p = (a.0, both_push P xs ys x y a.1 p)
+-- what stands among the first of these stands there
+get_back : {T : Type 0} (xs ys : List T) (k : ℕ) (x : T) → k < length xs → slice_get (xs ++ ys) k ≡ Some x → slice_get xs k ≡ Some x
+get_back [] ys k x less e = absurd (omega (arith, less))
+get_back (z ∷ xs) ys zero x less e = e
+get_back (z ∷ xs) ys (suc k) x less e = get_back xs ys k x (omega (arith, less)) e
+
+late_more : (gs : List GramIn) (g : GramIn) (came : List ℕ) (rows : List (Row Body Asked Reply)) → All (λ (n : ℕ). n < length gs) came → AllBoth (IsLate gs) came rows → AllBoth (IsLate (gs ++ g ∷ [])) came rows
+late_more gs g [] [] known a = tt
+late_more gs g [] (r ∷ rows) known a = absurd a
+late_more gs g (n ∷ came) [] known a = absurd a
+late_more gs g (n ∷ came) (r ∷ rows) known a = (
+  λ h e. a.0 h (get_back gs (g ∷ []) n h (All-head (λ (n : ℕ). n < length gs) n came known) e),
+  late_more gs g came rows (All-tail (λ (n : ℕ). n < length gs) n came known) a.1,
+)
 
 both_first : {S T : Type 0} (P : S → T → Type 0) (Q : S → Type 0) → ((x : S) (y : T) → P x y → Q x) → (xs : List S) (ys : List T) → AllBoth P xs ys → All Q xs
 both_first P Q h [] ys a = All-nil Q
@@ -138,6 +150,7 @@ module _ (gs : List GramIn) (g : GramIn) (os more : List Owing) (quiet : (n : �
     many = d.many;
     known = All-weaker (λ (n : ℕ). n < length gs) (λ (n : ℕ). n < length all) longer came d.known;
     rising = d.rising;
+    late = late_more gs g came (passed_rows w.lead.lived.life) d.known d.late;
   }
 
   -- one at which a mail more waits
@@ -156,6 +169,7 @@ module _ (gs : List GramIn) (g : GramIn) (os more : List Owing) (quiet : (n : �
         rising = subst AreRising (append_assoc came (grams_of waiting) (r.gram ∷ []) ∙ ap (λ l. came ++ l) (sym (grams_push waiting r)))
             (rises_on (came ++ grams_of waiting) r.gram d.rising (subst (λ n. All (λ (m : ℕ). m < n) (came ++ grams_of waiting)) (sym at)
             (All-append (λ (m : ℕ). m < length gs) came (grams_of waiting) d.known (All-map (λ (m : ℕ). m < length gs) (λ (q : Request). q.gram) waiting (known_waiting waiting w.waits d.waits)))));
+        late = old.late;
       }
 
   -- of all from a place on, where none of theirs is asked

@@ -1,5 +1,5 @@
 -- WHAT BECOMES OF A DATAGRAM, by the lives of the slaves: it has one place more among those that were heard, and what it got stands there.
-use Rattle.std.proofs.Common.{◌≡◌, ◌<◌, ℕ, zero, suc, ◌+◌, true, false, Some, None, List, [], ◌∷◌, ◌++◌, length, map, refl, sym, ap, ◌∙◌, subst, append-nil, length-append, arith}
+use Rattle.std.proofs.Common.{◌≡◌, ◌<◌, ◌≤◌, ℕ, zero, suc, ◌+◌, true, false, Some, None, List, [], ◌∷◌, ◌++◌, length, map, refl, sym, ap, ◌∙◌, subst, append-nil, length-append, arith}
 use Rattle.std.specs.Prelude.{◌≢◌, slice_get, All, Ok}
 use Rattle.std.proofs.lemmas.List.Elements.{All-nil, All-append, All-cons, All-push, All-weaker}
 use Rattle.gateway_core.specs.Framing.{request_in}
@@ -62,7 +62,7 @@ error_quiet n m detail os less =
 nothing_quiet : (m : ℕ) (os : List Owing) → owed_for m (os ++ []) ≡ owed_for m os
 nothing_quiet m os = ap (owed_for m) (append-nil os)
 
-module _ (plan : Scenario) (s s' : SessionState) (fs : List Exchanged) (gs : List GramIn) (g : GramIn) (rs : List Request) (os : List Owing) (dones : List ℕ) (old : Answers plan s fs gs rs os dones) where
+module _ (plan : Scenario) (s s' : SessionState) (fs : List Exchanged) (gs : List GramIn) (g : GramIn) (rs : List Request) (os : List Owing) (dones : List ℕ) (old : Answers plan s fs gs rs os dones) (due : g.frame ≤ length fs) where
   abbrev n : ℕ
   n = length gs
 
@@ -71,6 +71,9 @@ module _ (plan : Scenario) (s s' : SessionState) (fs : List Exchanged) (gs : Lis
 
   known : All (λ (r : Request). r.gram < length gs) rs
   known = All-weaker (IsHeard gs) (λ (r : Request). r.gram < length gs) (λ r h. known_at gs r.gram h.gram h.there) rs old.heard
+
+  all_early : All (λ (h : GramIn). h.frame ≤ length fs) (gs ++ g ∷ [])
+  all_early = All-push (λ (h : GramIn). h.frame ≤ length fs) gs g old.early due
 
   -- IT ISN'T PASSED ON: the lives stay, and this is owed at once
   module _ (more : List Owing) (quiet : (m : ℕ) → m < length gs → owed_for m (os ++ more) ≡ owed_for m os) (few : All (λ (o : Owing). o.gram < length (gs ++ g ∷ [])) more) where
@@ -84,6 +87,7 @@ module _ (plan : Scenario) (s s' : SessionState) (fs : List Exchanged) (gs : Lis
       filed = old.filed;
       heard = All-weaker (IsHeard gs) (IsHeard (gs ++ g ∷ [])) (heard_more gs g os more quiet) rs old.heard;
       undone = old.undone;
+      early = all_early;
       ended = All-weaker (λ (m : ℕ). m < length gs) (λ (m : ℕ). m < length (gs ++ g ∷ [])) (longer gs g os more quiet) dones old.ended;
       owed = All-append (λ (o : Owing). o.gram < length (gs ++ g ∷ [])) os more (All-weaker (λ (o : Owing). o.gram < length gs) (λ (o : Owing). o.gram < length (gs ++ g ∷ [])) (λ o less. longer gs g os more quiet o.gram less) os old.owed) few;
       got = subst (λ z. AllGot z old.came rs dones (os ++ more) 0 (gs ++ g ∷ [])) (sym same)
@@ -151,6 +155,7 @@ module _ (plan : Scenario) (s s' : SessionState) (fs : List Exchanged) (gs : Lis
       filed = unlike_push (λ (q : Request). q.gram) (λ q. refl) rs r old.filed (All-weaker (λ (q : Request). q.gram < length gs) (λ (q : Request). q.gram ≢ n) (λ q less e. omega (arith, less, e)) rs known);
       heard = All-push (IsHeard (gs ++ g ∷ [])) rs r (All-weaker (IsHeard gs) (IsHeard (gs ++ g ∷ [])) (heard_more gs g os [] quiet) rs old.heard) is_heard;
       undone = All-push (IsUndone dones) rs r old.undone undone_new;
+      early = all_early;
       ended = All-weaker (λ (m : ℕ). m < length gs) (λ (m : ℕ). m < length (gs ++ g ∷ [])) (longer gs g os [] quiet) dones old.ended;
       owed = All-append (λ (o : Owing). o.gram < length (gs ++ g ∷ [])) os [] (All-weaker (λ (o : Owing). o.gram < length gs) (λ (o : Owing). o.gram < length (gs ++ g ∷ [])) (λ o less. longer gs g os [] quiet o.gram less) os old.owed) (All-nil (λ (o : Owing). o.gram < length (gs ++ g ∷ [])));
       got = subst (λ z. AllGot z old.came (rs ++ r ∷ []) dones (os ++ []) 0 (gs ++ g ∷ [])) (sym on.serves)

@@ -1,5 +1,5 @@
 -- ONE FRAME OF A SERVING, of the slave at each place: its desk and its datagrams go on by what is listed of it alone.
-use Rattle.std.proofs.Common.{◌≡◌, ℕ, Bool, true, false, Some, None, List, [], ◌∷◌, ◌++◌, refl, sym, ap, ◌∙◌, subst, eqb-true}
+use Rattle.std.proofs.Common.{◌≡◌, ℕ, ◌≤◌, Bool, true, false, Some, None, List, [], ◌∷◌, ◌++◌, refl, sym, ap, ◌∙◌, subst, eqb-true}
 use Rattle.std.specs.Prelude.{◌==◌, cond, if◌then◌else◌, slice_get, slice_index_or, All, Ok}
 use Rattle.std.proofs.lemmas.List.Elements.{All-filter, filter-append, filter_passes}
 use Rattle.gateway_core.specs.Framing.{request_in}
@@ -84,6 +84,7 @@ module _ (lens : ℕ → Lens) (recover retry : ℕ) (gives : Bool) (made : ℕ)
     pub filed : AreFiled rs
     pub heard : All (IsHeard gs) rs
     pub undone : All (IsUndone dones) rs
+    pub early : All (λ (g : GramIn). g.frame ≤ made) gs
 
   module _ (i : ℕ) (w : Serves) (v : ServedTurn) (came : List ℕ) where
     -- what a frame of this fate tells of the slave
@@ -126,11 +127,11 @@ module _ (lens : ℕ → Lens) (recover retry : ℕ) (gives : Bool) (made : ℕ)
     to_own P all p = subst (λ bs. P (waiting_of i (requests_of i all)) bs) (sym (begun_here i all)) (subst (λ ws. P ws (begun_of i all)) (sym (waits_here i all)) p)
 
     -- ITS DESK BEFORE THE FRAME, and what each of its datagrams got
-    module _ (once : AreOnce first) (own : (k : ℕ) → AreOf k rs (begins k)) (datagrams : List Raw.Datagram) (turn : IsServedTurn lens made datagrams w v) (number forwards oldest : ℕ) (is : told_where begins i first ≡ begun_told i number forwards oldest v.turn.begun) (gone : WasGivenUp w → WasGivenUp (serves_of v)) where
+    module _ (once : AreOnce first) (own : (k : ℕ) → AreOf k rs (begins k)) (datagrams : List Raw.Datagram) (turn : IsServedTurn lens made datagrams w v) (number forwards oldest : ℕ) (is : told_where begins i first ≡ begun_told i number forwards oldest v.turn.begun) (gone : WasGivenUp w → WasGivenUp (serves_of v)) (early : All (λ (g : GramIn). g.frame ≤ made) gs) where
       pub slave_first : IsDesk gs os i w came (waiting_of i rs) (begun_of i rs) → HasBegun lens made datagrams w v turn gs i os came (requests_of i rs) (requests_of i rs1)
       slave_first d = subst (HasBegun lens made datagrams w v turn gs i os came (requests_of i rs))
           (sym (places_leave i 0 begins first rs once own ∙ ap (λ es. left_by_all es (requests_of i rs)) is))
-          (slave_begins lens made datagrams w v turn gs i os came (requests_of i rs) gone (to_own (IsDesk gs os i w came) rs d) number forwards oldest)
+          (slave_begins lens made datagrams w v turn gs i os came (requests_of i rs) gone early (to_own (IsDesk gs os i w came) rs d) number forwards oldest)
 
     module _ (a : AllKnown) where
       heard1 : All (IsHeard gs) rs1
@@ -174,7 +175,7 @@ module _ (lens : ℕ → Lens) (recover retry : ℕ) (gives : Bool) (made : ℕ)
 
       module _ (fate : Fate) (s : SlaveSteps fate) (d : IsDesk gs os i w came (waiting_of i rs) (begun_of i rs)) where
         begun1 : HasBegun lens made s.datagrams w v s.turn gs i os came (requests_of i rs) (requests_of i rs1)
-        begun1 = slave_first a.once1 a.own1 s.datagrams s.turn s.number s.forwards s.oldest s.begins_is s.gone_next d
+        begun1 = slave_first a.once1 a.own1 s.datagrams s.turn s.number s.forwards s.oldest s.begins_is s.gone_next a.early d
 
         -- behind the frame
         stepped : HasTold gs i (serves_of v) (slave_by fate) os more begun1.comes (requests_of i rs1) (λ n. is_in n dones) (λ n. is_in n (dones ++ ended)) (left_by_all (tells_by fate) (requests_of i rs1)) → HasStepped fate

@@ -1,5 +1,5 @@
 -- ONE FRAME MORE OF A SERVING: its desks and its datagrams behind that.
-use Rattle.std.proofs.Common.{◌≡◌, ◌<◌, ℕ, suc, ◌+◌, Bool, true, false, Some, None, List, [], ◌∷◌, ◌++◌, length, map, refl, sym, ap, ◌∙◌, subst, append-nil, eqb-true, arith}
+use Rattle.std.proofs.Common.{◌≡◌, ◌<◌, ◌≤◌, ℕ, suc, ◌+◌, Bool, true, false, Some, None, List, [], ◌∷◌, ◌++◌, length, map, refl, sym, ap, ◌∙◌, subst, append-nil, length-append, eqb-true, arith}
 use Rattle.std.specs.Prelude.{◌≢◌, ◌==◌, cond, filter, find, if◌then◌else◌, nat_le, not, slice_get, slice_index_or, All}
 use Rattle.std.proofs.lemmas.Bool.{leb-true}
 use Rattle.std.proofs.lemmas.List.Elements.{All-nil, All-append, All-cons, All-filter, All-head, All-map, All-tail, All-weaker}
@@ -232,6 +232,7 @@ module _ (plan : Scenario) (s s' : SessionState) (fs : List Exchanged) (f : Exch
     filed = old.filed;
     heard = old.heard;
     undone = old.undone;
+    early = old.early;
   }
 
   all_lively : All IsLively ws
@@ -280,6 +281,7 @@ module _ (plan : Scenario) (s s' : SessionState) (fs : List Exchanged) (f : Exch
     undone = both_off dones ended rs2
         (events_keep (IsUndone dones) (λ r u. u) (told_in shows second) rs1 (events_keep (IsUndone dones) (λ r u. u) (told_in begins first) rs old.undone))
         (events_off (told_in shows second) rs1 filed1);
+    early = All-weaker (λ (g : GramIn). g.frame ≤ length fs) (λ (g : GramIn). g.frame ≤ length (fs ++ f ∷ [])) (λ g less. (let long = length-append fs (f ∷ []) in omega (arith, long, less))) gs old.early;
     ended = All-append (λ (n : ℕ). n < length gs) dones ended old.ended (events_end (λ n. n < length gs) (told_in shows second) rs1 known1);
     owed = All-append (λ (o : Owing). o.gram < length gs) os more old.owed (events_owe (λ n. n < length gs) (told_in shows second) rs1 known1);
     got = subst (λ z. AllGot z turned.comes rs2 (dones ++ ended) (os ++ more) 0 gs) (sym on.serves)

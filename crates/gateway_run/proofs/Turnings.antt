@@ -141,6 +141,7 @@ module _ (lens : ℕ → Lens) (recover retry : ℕ) (gives : Bool) (made : ℕ)
     pub filed : AreFiled rs
     pub heard : All (IsHeard gs) rs
     pub undone : All (IsUndone dones) rs
+    pub early : All (λ (g : GramIn). g.frame ≤ made) gs
 
   module _ (k : IsKnown) where
     begins_own : (j : ℕ) → AreOf j rs (begins j)
@@ -172,7 +173,7 @@ module _ (lens : ℕ → Lens) (recover retry : ℕ) (gives : Bool) (made : ℕ)
 
       first_desk : IsDesk gs os i w came (waiting_of i rs) (begun_of i rs) → HasBegun lens made k.datagrams w v turn gs i os came (requests_of i rs) (requests_of i after_begins)
       first_desk d =
-          slave_first lens recover retry gives made sent back gs rs os dones begins turned_shows first second i w v came k.once1 begins_own k.datagrams turn (number_at (map run_lead ws) i) (forwards i) (oldest_in ws i) begins_is gone_next d
+          slave_first lens recover retry gives made sent back gs rs os dones begins turned_shows first second i w v came k.once1 begins_own k.datagrams turn (number_at (map run_lead ws) i) (forwards i) (oldest_in ws i) begins_is gone_next k.early d
 
       -- what is told of it behind the frame is told under its own keys
       shows_own : IsDesk gs os i w came (waiting_of i rs) (begun_of i rs) → AreOf i after_begins (turned_shows i)
@@ -225,6 +226,7 @@ module _ (lens : ℕ → Lens) (recover retry : ℕ) (gives : Bool) (made : ℕ)
         filed = k.filed;
         heard = k.heard;
         undone = k.undone;
+        early = k.early;
       }
 
       -- ONE SLAVE over the frame

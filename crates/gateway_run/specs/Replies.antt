@@ -1,6 +1,6 @@
 -- WHAT EACH DATAGRAM OF A SERVING GOT, by the lives of the slaves: nothing, one error, or the first of the replies of its own row, and all of them where that is
 -- done.
-use Rattle.std.specs.Prelude.{◌≡◌, ◌≢◌, ◌<◌, ◌⊎◌, ℕ, suc, Bool, true, false, Option, Some, None, List, [], ◌∷◌, ◌++◌, length, map, slice_get, All, Ok, Err, ⊤}
+use Rattle.std.specs.Prelude.{◌≡◌, ◌≢◌, ◌<◌, ◌≤◌, ◌⊎◌, ℕ, suc, Bool, true, false, Option, Some, None, List, [], ◌∷◌, ◌++◌, length, map, slice_get, All, Ok, Err, ⊤}
 use Rattle.master_node.specs.of_life_frames.of_exchange_model.Exchange.{plain}
 use Rattle.master_node.specs.of_life_frames.of_exchange_model.Rows.{Row}
 use Rattle.gateway_core.specs.Framing.{request_in}
@@ -121,8 +121,13 @@ pub record IsNewest (gs : List GramIn) (slave : ℕ) (came : List ℕ) (os : Lis
 abbrev pub IsNew : List Owing → Request → Type 0
 IsNew os r = owed_for r.gram os ≡ []
 
+-- A ROW OF A DATAGRAM that was passed on began no earlier than that was heard: no fewer frames had been sent
+abbrev pub IsLate : List GramIn → ℕ → Row Body Asked Reply → Type 0
+IsLate gs number row = (g : GramIn) → slice_get gs number ≡ Some g → g.frame ≤ row.frame
+
 -- WHAT A DESK OWES AT ONE SLAVE IS WHAT THE SLAVE'S LIFE HAS: just its mails that wait have requests that didn't begin, in order; just the mail in hand has one
--- that did, while it isn't over, and that is of the last datagram whose mail came into hand; so many mails were passed on, in the order of their datagrams
+-- that did, while it isn't over, and that is of the last datagram whose mail came into hand; so many mails were passed on, in the order of their datagrams, none
+-- before its datagram was heard
 pub record IsDesk (gs : List GramIn) (os : List Owing) (slave : ℕ) (w : Serves) (came : List ℕ) (waiting begun : List Request) : Type 0 where
   pub waits : AllBoth (IsFor gs) waiting w.waits
   pub in_hand : AllBoth (IsFor gs) begun (keyed_in w.hand w.lead.lived.life.era.passing)
@@ -132,6 +137,7 @@ pub record IsDesk (gs : List GramIn) (os : List Owing) (slave : ℕ) (w : Serves
   pub many : length came ≡ length (passed_rows w.lead.lived.life)
   pub known : All (λ (n : ℕ). n < length gs) came
   pub rising : AreRising (came ++ grams_of waiting)
+  pub late : AllBoth (IsLate gs) came (passed_rows w.lead.lived.life)
 
 -- of all slaves, counted on from a number
 abbrev pub AllDesk : List GramIn → List Request → List Owing → ℕ → List Serves → List (List ℕ) → Type 0
@@ -155,7 +161,8 @@ pub record Answers (plan : Scenario) (s : SessionState) (fs : List Exchanged) (g
   pub filed : AreFiled rs
   pub heard : All (IsHeard gs) rs
   pub undone : All (IsUndone dones) rs
-  -- nothing is owed by a datagram that wasn't heard, and no row of one is done
+  -- each was heard behind no more frames than these; nothing is owed by one that wasn't heard, and no row of one is done
+  pub early : All (λ (g : GramIn). g.frame ≤ length fs) gs
   pub ended : All (λ (n : ℕ). n < length gs) dones
   pub owed : All (λ (o : Owing). o.gram < length gs) os
   pub got : AllGot serving.leading.serves came rs dones os 0 gs
