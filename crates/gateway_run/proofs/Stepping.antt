@@ -49,7 +49,6 @@ lively lens recover made [] [] [] h a b = All-nil IsLively
 lively lens recover made [] [] (s ∷ ss) h a b = absurd h
 lively lens recover made [] (p ∷ ps) [] h a b = absurd h
 lively lens recover made [] (p ∷ ps) (s ∷ ss) h a b = absurd h
-lively lens recover made [] (p ∷ ps) (s ∷ ss) h a b = absurd h
 lively lens recover made (w ∷ ws) [] [] h a b = absurd h
 lively lens recover made (w ∷ ws) [] (s ∷ ss) h a b = absurd h
 lively lens recover made (w ∷ ws) (p ∷ ps) [] h a b = absurd h

@@ -38,7 +38,7 @@ part3 = 2 ∷ 64 ∷ 1 ∷ 0 ∷ 67 ∷ []
 
 -- THE DATAGRAM of that mail, with this about where it was passed on; and one that is too short
 abbrev heard_at : Option ℕ → GramIn
-heard_at queued = record { peer = record { ip = 2130706433; port = 34980 }; bytes = 10 ∷ 80 ∷ 4 ∷ 0 ∷ 233 ∷ 3 ∷ 0 ∷ 21 ∷ asking; queued = queued; frame = 0 }
+heard_at slave = record { peer = record { ip = 2130706433; port = 34980 }; bytes = 10 ∷ 80 ∷ 4 ∷ 0 ∷ 233 ∷ 3 ∷ 0 ∷ 21 ∷ asking; queued = slave; frame = 0 }
 
 abbrev short : GramIn
 short = record { peer = record { ip = 2130706433; port = 34980 }; bytes = 2 ∷ 80 ∷ 4 ∷ 0 ∷ 233 ∷ 3 ∷ 0 ∷ []; queued = None; frame = 0 }
