@@ -8,7 +8,7 @@ use Rattle.mailbox_mail.specs.Mail.{error_of}
 use Rattle.gateway_core.specs.declared.asker.Asker.{Asker}
 use Rattle.run_book.specs.declared.book.GramOut.{GramOut}
 use Rattle.gateway_run.specs.Account.{Owing, owing, is_other, is_of, waits_at, begun_first, others, elsewhere, cut_off, IsFree, Spells, AreSpelled}
-use Rattle.gateway_run.specs.Desk.{IsOpen, AreApart, Owes, cut_one}
+use Rattle.gateway_run.specs.Desk.{IsOpen, AreApart, AreUnlike, Owes, cut_one}
 use Rattle.gateway_run.specs.declared.desk.Request.{Request}
 
 -- the same number
@@ -85,41 +85,54 @@ others_push r rs free =
     filter-append (is_other r.key) rs (r ∷ []) ∙ ap (λ (l : List Request). l ++ filter (is_other r.key) (r ∷ [])) (others_free r.key rs free)
     ∙ ap (λ (b : Bool). rs ++ cond (not b) (r ∷ []) []) (eq-eqb r.key r.key refl) ∙ append-nil rs
 
-apart_step : (p : Request → Bool) (r : Request) (rs : List Request) (keep : Bool) → IsFree r.key rs → AreApart (filter p rs) → AreApart (cond keep (r ∷ filter p rs) (filter p rs))
-apart_step p r rs true free rest = (All-filter p (λ (q : Request). q.key ≢ r.key) rs free, rest)
-apart_step p r rs false free rest = rest
+-- A FACT OF EACH REQUEST that doesn't look whether its mail came into hand stays where one comes
+module _ (P : Request → Type 0) (stays : (r : Request) → P r → P (record r { begun = true })) where
+  begun_step : (slave : ℕ) (r : Request) (rs : List Request) (here : Bool) → P r → All P rs → All P (begun_first slave rs) → All P (cond here ((record r { begun = true }) ∷ rs) (r ∷ begun_first slave rs))
+  begun_step slave r rs true fact all rest = All-cons P (record r { begun = true }) rs (stays r fact) all
+  begun_step slave r rs false fact all rest = All-cons P r (begun_first slave rs) fact rest
 
--- keys stay apart
+  pub begun_keeps : (slave : ℕ) (rs : List Request) → All P rs → All P (begun_first slave rs)
+  begun_keeps slave [] all = all
+  begun_keeps slave (r ∷ rs) all = begun_step slave r rs (waits_at slave r) (All-head P r rs all) (All-tail P r rs all) (begun_keeps slave rs (All-tail P r rs all))
+
+-- numbers that don't look whether a mail came into hand stay apart
+module _ (number : Request → ℕ) (stays : (r : Request) → number (record r { begun = true }) ≡ number r) where
+  unlike_step : (p : Request → Bool) (r : Request) (rs : List Request) (keep : Bool) → All (λ (q : Request). number q ≢ number r) rs → AreUnlike number (filter p rs) → AreUnlike number (cond keep (r ∷ filter p rs) (filter p rs))
+  unlike_step p r rs true off rest = (All-filter p (λ (q : Request). number q ≢ number r) rs off, rest)
+  unlike_step p r rs false off rest = rest
+
+  pub unlike_filter : (p : Request → Bool) (rs : List Request) → AreUnlike number rs → AreUnlike number (filter p rs)
+  unlike_filter p [] apart = tt
+  unlike_filter p (r ∷ rs) apart = unlike_step p r rs (p r) apart.0 (unlike_filter p rs apart.1)
+
+  pub unlike_push : (rs : List Request) (r : Request) → AreUnlike number rs → All (λ (q : Request). number q ≢ number r) rs → AreUnlike number (rs ++ r ∷ [])
+  unlike_push [] r apart off = (All-nil (λ (q : Request). number q ≢ number r), tt)
+  unlike_push (q ∷ rs) r apart off = (
+    All-push (λ (p : Request). number p ≢ number q) rs r apart.0 (λ same. All-head (λ (p : Request). number p ≢ number r) q rs off (sym same)),
+    unlike_push rs r apart.1 (All-tail (λ (p : Request). number p ≢ number r) q rs off),
+  )
+
+  off_begun : (n slave : ℕ) (rs : List Request) → All (λ (q : Request). number q ≢ n) rs → All (λ (q : Request). number q ≢ n) (begun_first slave rs)
+  off_begun n slave rs off = begun_keeps (λ (q : Request). number q ≢ n) (λ r apart same. apart (sym (stays r) ∙ same)) slave rs off
+
+  unlike_begun_step : (slave : ℕ) (r : Request) (rs : List Request) (here : Bool) → All (λ (q : Request). number q ≢ number r) rs → AreUnlike number rs → AreUnlike number (begun_first slave rs) →
+      AreUnlike number (cond here ((record r { begun = true }) ∷ rs) (r ∷ begun_first slave rs))
+  unlike_begun_step slave r rs true off apart rest = (subst (λ n. All (λ (q : Request). number q ≢ n) rs) (sym (stays r)) off, apart)
+  unlike_begun_step slave r rs false off apart rest = (off_begun (number r) slave rs off, rest)
+
+  pub unlike_begun : (slave : ℕ) (rs : List Request) → AreUnlike number rs → AreUnlike number (begun_first slave rs)
+  unlike_begun slave [] apart = tt
+  unlike_begun slave (r ∷ rs) apart = unlike_begun_step slave r rs (waits_at slave r) apart.0 apart.1 (unlike_begun slave rs apart.1)
+
+-- so keys do
 pub apart_filter : (p : Request → Bool) (rs : List Request) → AreApart rs → AreApart (filter p rs)
-apart_filter p [] apart = tt
-apart_filter p (r ∷ rs) apart = apart_step p r rs (p r) apart.0 (apart_filter p rs apart.1)
+apart_filter p rs apart = unlike_filter (λ (r : Request). r.key) (λ r. refl) p rs apart
 
 pub apart_push : (rs : List Request) (r : Request) → AreApart rs → IsFree r.key rs → AreApart (rs ++ r ∷ [])
-apart_push [] r apart free = (All-nil (λ (q : Request). q.key ≢ r.key), tt)
-apart_push (q ∷ rs) r apart free = (
-  All-push (λ (p : Request). p.key ≢ q.key) rs r apart.0 (λ same. All-head (λ (p : Request). p.key ≢ r.key) q rs free (sym same)),
-  apart_push rs r apart.1 (All-tail (λ (p : Request). p.key ≢ r.key) q rs free),
-)
-
-free_begun_step : (key : ℕ) (slave : ℕ) (r : Request) (rs : List Request) (here : Bool) → r.key ≢ key → IsFree key rs → IsFree key (begun_first slave rs) →
-    IsFree key (cond here ((record r { begun = true }) ∷ rs) (r ∷ begun_first slave rs))
-free_begun_step key slave r rs true apart free rest = All-cons (λ (q : Request). q.key ≢ key) (record r { begun = true }) rs apart free
-free_begun_step key slave r rs false apart free rest = All-cons (λ (q : Request). q.key ≢ key) r (begun_first slave rs) apart rest
-
-free_begun : (key slave : ℕ) (rs : List Request) → IsFree key rs → IsFree key (begun_first slave rs)
-free_begun key slave [] free = free
-free_begun key slave (r ∷ rs) free =
-    let rest = All-tail (λ (q : Request). q.key ≢ key) r rs free in
-    free_begun_step key slave r rs (waits_at slave r) (All-head (λ (q : Request). q.key ≢ key) r rs free) rest (free_begun key slave rs rest)
-
-apart_begun_step : (slave : ℕ) (r : Request) (rs : List Request) (here : Bool) → IsFree r.key rs → AreApart rs → AreApart (begun_first slave rs) →
-    AreApart (cond here ((record r { begun = true }) ∷ rs) (r ∷ begun_first slave rs))
-apart_begun_step slave r rs true free apart rest = (free, apart)
-apart_begun_step slave r rs false free apart rest = (free_begun r.key slave rs free, rest)
+apart_push rs r apart free = unlike_push (λ (r : Request). r.key) (λ r. refl) rs r apart free
 
 pub apart_begun : (slave : ℕ) (rs : List Request) → AreApart rs → AreApart (begun_first slave rs)
-apart_begun slave [] apart = tt
-apart_begun slave (r ∷ rs) apart = apart_begun_step slave r rs (waits_at slave r) apart.0 apart.1 (apart_begun slave rs apart.1)
+apart_begun slave rs apart = unlike_begun (λ (r : Request). r.key) (λ r. refl) slave rs apart
 
 -- what a request that is dropped leaves of those of its slave
 pub record IsDropped (slave : ℕ) (rs : List Request) (r : Request) : Type 0 where
@@ -153,7 +166,7 @@ cut_kept : (slave : ℕ) (r : Request) (rs : List Request) → (r.slave == slave
 cut_kept slave r rs there =
     ap (λ (b : Bool). map (owing (error_of 5)) (cond (b && not r.begun) (r ∷ filter (waits_at slave) rs) (filter (waits_at slave) rs))) there
 
-others_kept : (key : ℕ) (q : Request) (rs : List Request) → q.key ≢ key → others key (q ∷ rs) ≡ q ∷ others key rs
+pub others_kept : (key : ℕ) (q : Request) (rs : List Request) → q.key ≢ key → others key (q ∷ rs) ≡ q ∷ others key rs
 others_kept key q rs apart = ap (λ (b : Bool). cond b (q ∷ others key rs) (others key rs)) (other_of q.key key (q.key == key) refl apart)
 
 dropped_first : (slave : ℕ) (r : Request) (rs : List Request) → (r.slave == slave) ≡ true → IsFree r.key rs → IsDropped slave (r ∷ rs) r

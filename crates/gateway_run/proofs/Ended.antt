@@ -13,29 +13,32 @@ use Rattle.run_book.specs.declared.book.Ending.{Ending}
 use Rattle.run_book.specs.declared.book.Ending.TheVariants as endings
 use Rattle.run_book.specs.declared.book.GramIn.{GramIn}
 use Rattle.run_book.specs.declared.book.GramOut.{GramOut}
+use Rattle.run_record.specs.Served.{ServingBegins}
 use Rattle.run_record.specs.Session.{first_session, session_rows}
 use Rattle.run_record.specs.of_run_notes.Slaves.{home_of}
 use Rattle.run_record.specs.Ran.{HasSent, EndsSo, StopsSo, StopsAs}
 use Rattle.gateway_run.proofs.Room.{small_budget}
 use Rattle.run_record.proofs.Underway.{begun, has_frames, ended}
 use Rattle.gateway_run.specs.Heard.{heard_as, AreHeard, AreSent, AreSentBut, IsOwed, IsRightly}
-use Rattle.gateway_run.specs.Account.{Course.begins}
+use Rattle.gateway_run.specs.Account.{Course, Course.begins}
 use Rattle.gateway_run.specs.Desk.{IsOpen, AreApart}
 use Rattle.gateway_run.specs.Serving.{Told, IsOn, IsServing, IsFaulted, Goes, can_hear}
 use Rattle.gateway_run.specs.Served.{HasGrams, HasAccount, IsBroken, IsServed}
 use Rattle.gateway_run.specs.declared.turn.Serving.{Serving}
+use Rattle.gateway_run.proofs.Answering.{course_answers}
 use Rattle.gateway_run.proofs.Turns.{heard_none, sent_none, course_same, spelled_same}
 
 -- before the first turn
-pub first_serving : (plan : Scenario) (count : ℕ) (now : Told) (v : Serving) (b : Book) → v.session ≡ first_session plan count v.session.master → v.desk.requests.items ≡ [] → v.desk.outbox.items ≡ [] → v.count ≡ count → v.over ≡ false → IsNew b → count < 4294967296 → IsPlan plan →
+pub first_serving : (plan : Scenario) (count : ℕ) (now : Told) (v : Serving) (b : Book) → v.session ≡ first_session plan count v.session.master → ServingBegins plan v.session → v.desk.requests.items ≡ [] → v.desk.outbox.items ≡ [] → v.count ≡ count → v.over ≡ false → IsNew b → count < 4294967296 → IsPlan plan →
     IsServing plan count now now v b
-first_serving plan count now v b session requests outbox counts over new fits sound = record {
+first_serving plan count now v b session serves requests outbox counts over new fits sound = record {
   on = record {
     underway = begun plan count v.session b session new;
     counts = counts;
     few = let none = ap length new.grams in omega (arith, none);
     fits = fits;
     bounded = small_budget (bound_of plan count) plan.budget sound.laid.budget;
+    is_plan = sound;
     sound = record {
       requests = subst (All (IsOpen v.desk.gateway (map heard_as b.grams))) (sym requests) (All-nil (IsOpen v.desk.gateway (map heard_as b.grams)));
       apart = subst AreApart (sym requests) tt;
@@ -44,7 +47,7 @@ first_serving plan count now v b session requests outbox counts over new fits so
     answered = subst (All (IsOwed (map heard_as b.grams))) (sym new.replies) (All-nil (IsOwed (map heard_as b.grams)));
     judged = subst (All (IsRightly (map home_of plan.slaves))) (sym new.grams) (All-nil (IsRightly (map home_of plan.slaves)));
     owed = [];
-    course = course_same plan count v.session v.session [] b.frames [] b.grams [] v.desk.requests.items [] refl new.frames new.grams requests (begins v.session session);
+    course = course_same plan count v.session v.session [] b.frames [] b.grams [] v.desk.requests.items [] refl new.frames new.grams requests (begins v.session session serves);
     spelled = spelled_same (map heard_as b.grams) (map heard_as b.grams) [] [] (b.replies ++ v.desk.outbox.items) refl (ap (λ (l : List GramOut). l ++ v.desk.outbox.items) new.replies ∙ outbox) tt;
   };
   heard = subst (AreHeard now.heard now.heard) (sym new.grams) (heard_none now.heard);
@@ -85,11 +88,15 @@ module _ (plan : Scenario) (count : ℕ) (first now : Told) (v : Serving) (b b' 
     requests = v.desk.requests.items;
     owed = on.owed;
     later = v.desk.outbox.items;
-    course = course_same plan count v.session v.session b.frames b'.frames b.grams b'.grams v.desk.requests.items v.desk.requests.items on.owed refl frames grams refl on.course;
+    course = course';
     spelled = spelled_same (map heard_as b.grams) (map heard_as b'.grams) on.owed (b.replies ++ v.desk.outbox.items) (b'.replies ++ v.desk.outbox.items) (ap (map heard_as) grams) (ap (λ (l : List GramOut). l ++ v.desk.outbox.items) replies) on.spelled;
+    answers = course_answers plan count on.is_plan v.session b'.frames b'.grams v.desk.requests.items on.owed course';
     rows = rows;
     all = all;
   }
+    where
+      course' : Course plan count v.session b'.frames b'.grams v.desk.requests.items on.owed
+      course' = course_same plan count v.session v.session b.frames b'.frames b.grams b'.grams v.desk.requests.items v.desk.requests.items on.owed refl frames grams refl on.course
 
   -- a serving whose port failed
   faulted_so : (result : Ending) → (result ≢ endings.NoMemory → b'.slaves ≡ session_rows v.session) → (result ≡ endings.PortFault) ⊎ (result ≡ endings.NoMemory) → IsBroken first now b' → IsServed plan count first now b' result

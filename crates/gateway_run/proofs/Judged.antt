@@ -183,21 +183,25 @@ passes : (g : Slab Asker) (mail : Mail) (slave : ℕ) (place : Option (ℕ × �
 passes g mail slave None is = absurd (cc)
 passes g mail slave (Some place) is = passes_with g mail slave place (is_passed mail.kind) (nat_lt place.1 (6 + length mail.body.items)) (nat_le 64 (unfinished_at place.0 g)) refl refl is
 
+-- a mail that is to be passed on fits the home of its slave
+pub at_home : (g : Slab Asker) (s : SessionState) (stations : List (Option (ℕ × ℕ))) (mail : Mail) (slave : ℕ) → stations ≡ stations_of s.recover s.homes s.notes → judged g mail stations ≡ Ok slave →
+    (len : ℕ) × (slice_get s.homes slave ≡ Some (mail.address, len)) × (6 + length mail.body.items ≤ len)
+at_home g s stations mail slave are is =
+    let p = passes g mail slave (place_from 0 mail.address stations) is in
+    let at = place_at 0 mail.address stations (slave, p.0) p.1 in
+    let k : slave ≡ at.0 = (let e = at.1 in omega (arith, e)) in (
+      p.0,
+      subst (λ (n : ℕ). slice_get s.homes n ≡ Some (mail.address, p.0)) (sym k)
+          (stands_at_home s.recover s.homes s.notes at.0 (mail.address, p.0) (subst (λ (rows : List (Option (ℕ × ℕ))). slice_get rows at.0 ≡ Some (Some (mail.address, p.0))) are at.2)),
+      p.3,
+    )
+
 pub passed_on : (g : Slab Asker) (s : SessionState) (stations : List (Option (ℕ × ℕ))) (octets : List ℕ) (mail : Mail) (slave : ℕ) → stations ≡ stations_of s.recover s.homes s.notes →
     request_in octets ≡ Ok mail → judged g mail stations ≡ Ok slave → IsPassedOn s.homes octets slave
 passed_on g s stations octets mail slave are request is =
     let p = passes g mail slave (place_from 0 mail.address stations) is in
-    let at = place_at 0 mail.address stations (slave, p.0) p.1 in
-    let k : slave ≡ at.0 = (let e = at.1 in omega (arith, e)) in
-    record {
-      mail = mail;
-      len = p.0;
-      request = request;
-      home = subst (λ (n : ℕ). slice_get s.homes n ≡ Some (mail.address, p.0)) (sym k)
-          (stands_at_home s.recover s.homes s.notes at.0 (mail.address, p.0) (subst (λ (rows : List (Option (ℕ × ℕ))). slice_get rows at.0 ≡ Some (Some (mail.address, p.0))) are at.2));
-      passed = p.2;
-      fits = p.3;
-    }
+    let home = at_home g s stations mail slave are is in
+    record { mail = mail; len = home.0; request = request; home = home.1; passed = p.2; fits = home.2 }
 
 -- what is said of a datagram whose mail may have gone to a slave
 pub judged_so : (homes : List (ℕ × ℕ)) (octets : List ℕ) (slave : ℕ) → IsPassedOn homes octets slave → (queued : Option ℕ) → IfSome queued (λ n. n ≡ slave) → IsJudged homes octets queued
@@ -236,7 +240,7 @@ module _ (s : SessionState) (stations : List (Option (ℕ × ℕ))) (are : stati
   -- one whose mail was passed on, or found no room
   pub taken_passed : (s' : SessionState) (gateway : Slab Asker) (d' : Desk) (mail : Mail) (key slave : ℕ) → request_in octets ≡ Ok mail → judged d.gateway mail stations ≡ Ok slave → IsFree key d.requests.items → (queued : Option ℕ) →
       Passes s s' (heard ++ g ∷ []) (record { key = key; slave = slave; gram = number; begun = false }) mail (record d { gateway = gateway }) d' queued → IsTaken s s' number (heard ++ g ∷ []) octets d d' queued
-  taken_passed s' gateway d' mail key slave request place free (Some n) p = record {
+  taken_passed s' gateway d' mail key slave request place free (Some n) p = let home = at_home d.gateway s stations mail slave are place in record {
     more = [];
     judges = queues (record {
       mail = mail;
@@ -246,7 +250,11 @@ module _ (s : SessionState) (stations : List (Option (ℕ × ℕ))) (are : stati
       request = request;
       place = subst (λ (l : List (Option (ℕ × ℕ))). judged d.gateway mail l ≡ Ok slave) are place;
       free = free;
+      home = (mail.address, home.0);
+      at_home = home.1;
+      fits = home.2;
       asks = p.1;
+      led = p.4;
       there = ap Some p.0;
       requests = p.2;
       nothing = refl;
@@ -262,6 +270,7 @@ module _ (s : SessionState) (stations : List (Option (ℕ × ℕ))) (are : stati
       request = request;
       full = p.0;
       asks = p.1;
+      led = p.4;
       nowhere = refl;
       requests = p.2;
       error = refl;

@@ -16,7 +16,8 @@ use Rattle.run_book.specs.declared.book.GramIn.{GramIn}
 use Rattle.run_book.specs.declared.book.GramOut.{GramOut}
 use Rattle.run_book.specs.declared.book.SentFrame.{SentFrame}
 use Rattle.gateway_run.specs.Events.{events_of}
-use Rattle.run_record.specs.Session.{SessionState, Steps, Stops}
+use Rattle.run_record.specs.Served.{ServingGoesOn}
+use Rattle.run_record.specs.Session.{SessionState, Steps, Stops, has_live}
 use Rattle.run_record.specs.of_run_notes.Slaves.{home_of}
 use Rattle.run_record.specs.Ran.{HasSent, IsUnderway}
 use Rattle.run_record.proofs.Underway.{same_on, has_frames, stepped_on, stopped}
@@ -155,6 +156,7 @@ module _ (plan : Scenario) (count : ℕ) (first : Told) where
       few = h.on.few;
       fits = h.on.fits;
       bounded = h.on.bounded;
+      is_plan = h.on.is_plan;
       sound = subst (IsSound (map heard_as b.grams)) (sym desk) h.on.sound;
       answered = h.on.answered;
       judged = h.on.judged;
@@ -195,6 +197,7 @@ module _ (plan : Scenario) (count : ℕ) (first : Told) where
             few = let n = ap length t.put ∙ length-append b.grams (g ∷ []) in let c = h.on.counts in omega (arith, n, c, room);
             fits = h.on.fits;
             bounded = h.on.bounded;
+            is_plan = h.on.is_plan;
             sound = sound h.on.sound;
             answered = subst (λ (rs : List GramOut). All (IsOwed (map heard_as b'.grams)) rs) (sym (ap (λ (x : Book). x.replies) same))
                 (subst (λ (l : List HeardGram). All (IsOwed l) b.replies) (sym grams) (all_owed_more (map heard_as b.grams) (heard_as g ∷ []) b.replies h.on.answered));
@@ -234,6 +237,7 @@ module _ (plan : Scenario) (count : ℕ) (first : Told) where
       few = h.on.few;
       fits = h.on.fits;
       bounded = h.on.bounded;
+      is_plan = h.on.is_plan;
       sound = subst (IsSound (map heard_as b.grams)) (sym desk) h.on.sound;
       answered = h.on.answered;
       judged = h.on.judged;
@@ -258,9 +262,9 @@ module _ (plan : Scenario) (count : ℕ) (first : Told) where
   }
 
   -- a frame was sent
-  pub stepped : (now : Told) (v v' : Serving) (b b' : Book) (f : SentFrame) → IsServing plan count first now v b → v.session.ring.number < v.session.budget → Steps v.session b v'.session b' f →
+  pub stepped : (now : Told) (v v' : Serving) (b b' : Book) (f : SentFrame) → IsServing plan count first now v b → v.session.ring.number < v.session.budget → Steps v.session b v'.session b' f → ServingGoesOn v.session v'.session f → has_live v.session.master ≡ true →
       NotesAll (events_of v'.session.master) v.desk v'.desk → v'.count ≡ v.count → v'.over ≡ v.over → IsServing plan count first now v' b'
-  stepped now v v' b b' f h left step notes counts over =
+  stepped now v v' b b' f h left step led live notes counts over =
       let told = notes (map heard_as b.grams) h.on.sound in
       let sound = told.sound in
       let more = owed_by_all (events_of v'.session.master) v.desk.requests.items in
@@ -274,13 +278,14 @@ module _ (plan : Scenario) (count : ℕ) (first : Told) where
           few = subst (λ (l : List GramIn). length l ≤ count) (sym grams) h.on.few;
           fits = h.on.fits;
           bounded = h.on.bounded;
+          is_plan = h.on.is_plan;
           sound = subst (λ (l : List GramIn). IsSound (map heard_as l) v'.desk) (sym grams) sound;
           answered = subst (λ (l : List GramIn). All (IsOwed (map heard_as l)) b'.replies) (sym grams) (subst (All (IsOwed (map heard_as b.grams))) (sym replies) h.on.answered);
           judged = subst (All (IsRightly (map home_of plan.slaves))) (sym grams) h.on.judged;
           owed = h.on.owed ++ more;
           course = course_same plan count v'.session v'.session (b.frames ++ f ∷ []) b'.frames b.grams b'.grams left_now v'.desk.requests.items (h.on.owed ++ more) refl step.put grams told.requests
               (steps v.session v'.session b.frames f b.grams v.desk.requests.items h.on.owed h.on.course
-              (record { recorded = step.recorded; ring = step.ring; homes = step.homes; asked = step.asked; recover = step.recover }));
+              (record { recorded = step.recorded; ring = step.ring; homes = step.homes; asked = step.asked; recover = step.recover; live = live; led = led }));
           spelled = subst (λ (l : List GramIn). AreSpelled (map heard_as l) (h.on.owed ++ more) (b'.replies ++ v'.desk.outbox.items)) (sym grams)
               (spelled_on (map heard_as b.grams) h.on.owed more b.replies b'.replies v.desk.outbox.items v'.desk.outbox.items replies h.on.spelled told.owes);
         };
@@ -306,6 +311,7 @@ module _ (plan : Scenario) (count : ℕ) (first : Told) where
         few = subst (λ (l : List GramIn). length l ≤ count) (sym grams) h.few;
         fits = h.fits;
         bounded = h.bounded;
+        is_plan = h.is_plan;
         owed = h.owed;
         course = course_same plan count v.session v'.session b.frames b'.frames b.grams b'.grams v.desk.requests.items v'.desk.requests.items h.owed session (ap (λ (x : Book). x.frames) put) grams requests h.course;
         spelled = spelled_same (map heard_as b.grams) (map heard_as b'.grams) h.owed (b.replies ++ v.desk.outbox.items) (b'.replies ++ v'.desk.outbox.items) (ap (map heard_as) grams)
@@ -354,6 +360,7 @@ module _ (plan : Scenario) (count : ℕ) (first : Told) where
       few = h.on.few;
       fits = h.on.fits;
       bounded = h.on.bounded;
+      is_plan = h.on.is_plan;
       owed = h.on.owed;
       course = course_same plan count v.session v'.session b.frames b.frames b.grams b.grams v.desk.requests.items v'.desk.requests.items h.on.owed session refl refl requests h.on.course;
       spelled = spelled_same (map heard_as b.grams) (map heard_as b.grams) h.on.owed (b.replies ++ v.desk.outbox.items) (b.replies ++ v'.desk.outbox.items) refl (ap (λ (l : List GramOut). b.replies ++ l) outbox) h.on.spelled;

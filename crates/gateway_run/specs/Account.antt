@@ -1,5 +1,5 @@
 -- What a serving owes its peers, by what it hears and what its session tells.
-use Rattle.std.specs.Prelude.{◌≡◌, ◌≢◌, ℕ, ◌==◌, ◌&&◌, Bool, true, false, not, if◌then◌else◌, List, [], ◌∷◌, ◌++◌, length, map, filter, find, slice_get, All, Option, Some, None, Ok, Err}
+use Rattle.std.specs.Prelude.{◌≡◌, ◌≢◌, ◌≤◌, ◌+◌, ℕ, ◌==◌, ◌&&◌, Bool, true, false, not, if◌then◌else◌, List, [], ◌∷◌, ◌++◌, length, map, filter, find, slice_get, All, Option, Some, None, Ok, Err}
 use Rattle.slab.specs.Slab.{Slab}
 use Rattle.ec_outside.specs.Port.{HeardGram}
 use Rattle.mailbox_mail.specs.Mail.{error_of}
@@ -18,7 +18,8 @@ use Rattle.run_book.specs.declared.book.SentFrame.{SentFrame}
 use Rattle.run_record.specs.of_run_notes.Notes.{stations_of}
 use Rattle.run_record.specs.Replay.{behind, IsRecorded}
 use Rattle.gateway_run.specs.Events.{events_of}
-use Rattle.run_record.specs.Session.{SessionState, Asks, first_session}
+use Rattle.run_record.specs.Served.{ServingAsks, ServingBegins, ServingGoesOn}
+use Rattle.run_record.specs.Session.{SessionState, Asks, first_session, has_live}
 use Rattle.gateway_run.specs.declared.desk.Request.{Request}
 
 -- a mail that is owed to who asked by the datagram of that number
@@ -124,7 +125,7 @@ pub record IsRefused (s s' : SessionState) (rs rs' : List Request) (number : ℕ
   pub requests : rs' ≡ rs
   pub error : more ≡ record { gram = number; mail = error_of detail } ∷ []
 
--- one whose mail is for a slave at which as many mails wait as may: one error
+-- one whose mail is for a slave at which as many mails wait as may: one error, and the session is led as before
 pub record IsTooMany (s s' : SessionState) (rs rs' : List Request) (number : ℕ) (octets : List ℕ) (queued : Option ℕ) (more : List Owing) : Type 0 where
   pub mail : Mail
   pub key : ℕ
@@ -132,11 +133,13 @@ pub record IsTooMany (s s' : SessionState) (rs rs' : List Request) (number : ℕ
   pub request : request_in octets ≡ Ok mail
   pub full : slice_get s.waiting slave ≡ Some 64
   pub asks : Asks slave key mail s s' false
+  pub led : ServingAsks slave key mail s s' false
   pub nowhere : queued ≡ None
   pub requests : rs' ≡ rs
   pub error : more ≡ record { gram = number; mail = error_of 7 } ∷ []
 
--- one whose mail is asked of the session, for the slave with its station, under a key that no other request has
+-- one whose mail is asked of the session, for the slave with its station, under a key that no other request has; it fits its slave's mailbox, and the session is
+-- led on with it
 pub record IsQueued (s s' : SessionState) (rs rs' : List Request) (number : ℕ) (octets : List ℕ) (queued : Option ℕ) (more : List Owing) : Type 0 where
   pub mail : Mail
   pub key : ℕ
@@ -145,7 +148,11 @@ pub record IsQueued (s s' : SessionState) (rs rs' : List Request) (number : ℕ)
   pub request : request_in octets ≡ Ok mail
   pub place : judged unfinished mail (stations_of s.recover s.homes s.notes) ≡ Ok slave
   pub free : IsFree key rs
+  pub home : ℕ × ℕ
+  pub at_home : slice_get s.homes slave ≡ Some home
+  pub fits : 6 + length mail.body.items ≤ home.1
   pub asks : Asks slave key mail s s' true
+  pub led : ServingAsks slave key mail s s' true
   pub there : queued ≡ Some slave
   pub requests : rs' ≡ rs ++ record { key = key; slave = slave; gram = number; begun = false } ∷ []
   pub nothing : more ≡ []
@@ -157,18 +164,20 @@ pub data Judges (s s' : SessionState) (rs rs' : List Request) (number : ℕ) (oc
   too_many : IsTooMany s s' rs rs' number octets queued more → Judges s s' rs rs' number octets queued more
   queues : IsQueued s s' rs rs' number octets queued more → Judges s s' rs rs' number octets queued more
 
--- a session behind one frame more
+-- a session behind one frame more, before which some slave was live: it is led on by that frame
 pub record Moves (s s' : SessionState) (f : SentFrame) : Type 0 where
   pub recorded : IsRecorded s.ring f
   pub ring : s'.ring ≡ behind s.ring f.sent
   pub homes : s'.homes ≡ s.homes
   pub asked : s'.asked ≡ s.asked
   pub recover : s'.recover ≡ s.recover
+  pub live : has_live s.master ≡ true
+  pub led : ServingGoesOn s s' f
 
 -- THE COURSE OF A SERVING: its session, the frames sent and the datagrams heard until then, the requests that aren't finished, and all that was
 -- ever owed, in order
 pub data Course (plan : Scenario) (count : ℕ) : SessionState → List SentFrame → List GramIn → List Request → List Owing → Type 0 where
-  begins : (s : SessionState) → s ≡ first_session plan count s.master → Course plan count s [] [] [] []
+  begins : (s : SessionState) → s ≡ first_session plan count s.master → ServingBegins plan s → Course plan count s [] [] [] []
   hears :
       (s s' : SessionState) (fs : List SentFrame) (gs : List GramIn) (g : GramIn) (rs rs' : List Request) (os more : List Owing) → Course plan count s fs gs rs os → g.frame ≡ length fs
       → Judges s s' rs rs' (length gs) g.bytes g.queued more → Course plan count s' fs (gs ++ g ∷ []) rs' (os ++ more)

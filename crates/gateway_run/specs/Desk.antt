@@ -1,5 +1,5 @@
 -- What a serving still owes its peers.
-use Rattle.std.specs.Prelude.{◌≡◌, ◌<◌, ℕ, true, false, if◌then◌else◌, List, [], ◌∷◌, ◌++◌, length, map, slice_get, Option, Some, None, Ok, All}
+use Rattle.std.specs.Prelude.{◌≡◌, ◌≢◌, ◌<◌, ℕ, true, false, if◌then◌else◌, List, [], ◌∷◌, ◌++◌, length, map, slice_get, Option, Some, None, Ok, All}
 use Rattle.slab.specs.Slab.{Slab, get}
 use Rattle.ec_outside.specs.Port.{HeardGram}
 use Rattle.mailbox_mail.specs.Mail.{error_of}
@@ -7,7 +7,8 @@ use Rattle.mailbox_mail.specs.declared.mail.Mail.{Mail}
 use Rattle.gateway_core.specs.Framing.{request_in}
 use Rattle.gateway_core.specs.declared.asker.Asker.{Asker}
 use Rattle.master_node.specs.declared.event.Event.{Event}
-use Rattle.run_record.specs.Session.{SessionState, Asks}
+use Rattle.run_record.specs.Served.{ServingAsks}
+use Rattle.run_record.specs.Session.{SessionState, Asks, has_live}
 use Rattle.ec_outside.specs.declared.port.Peer.{Peer}
 use Rattle.run_book.specs.declared.book.Book.{Book}
 use Rattle.run_book.specs.declared.book.GramIn.{GramIn}
@@ -29,10 +30,14 @@ pub record IsOpen (requests : Slab Asker) (heard : List HeardGram) (r : Request)
   pub station : asker.station ≡ mail.address
   pub counter : asker.counter ≡ mail.counter
 
--- no two requests have one key
+-- no two requests have one number
+abbrev pub AreUnlike : (Request → ℕ) → List Request → Type 0
+AreUnlike number [] = Unit {0}
+AreUnlike number (r ∷ rs) = All (λ (q : Request). number q ≢ number r) rs × AreUnlike number rs
+
+-- no two have one key
 abbrev pub AreApart : List Request → Type 0
-AreApart [] = Unit {0}
-AreApart (r ∷ rs) = IsFree r.key rs × AreApart rs
+AreApart rs = AreUnlike (λ (r : Request). r.key) rs
 
 -- each request and each datagram that is to be sent answers one of those heard
 pub record IsSound (heard : List HeardGram) (d : Desk) : Type 0 where
@@ -43,6 +48,10 @@ pub record IsSound (heard : List HeardGram) (d : Desk) : Type 0 where
 -- a session in which mails were passed on: all else stays
 abbrev pub AsksMails : SessionState → SessionState → Type 0
 AsksMails s s' = s' ≡ record s { asked = s'.asked; waiting = s'.waiting; master = s'.master }
+
+-- some slave is live just where one was before
+abbrev pub SameLive : SessionState → SessionState → Type 0
+SameLive s s' = has_live s'.master ≡ has_live s.master
 
 -- behind the datagrams that are to be sent stand those for what is owed besides
 abbrev pub Owes : List HeardGram → List Owing → List GramOut → List GramOut → Type 0
@@ -76,9 +85,9 @@ Answers r mail d d' = (heard : List HeardGram) → IsOpen d.gateway heard r → 
 
 -- a mail was asked of the session, or an error is owed
 abbrev pub Passes : SessionState → SessionState → List HeardGram → Request → Mail → Desk → Desk → Option ℕ → Type 0
-Passes s s' heard r mail d d' (Some slave) = (slave ≡ r.slave) × Asks r.slave r.key mail s s' true × (d'.requests.items ≡ d.requests.items ++ r ∷ []) × (d'.outbox.items ≡ d.outbox.items)
+Passes s s' heard r mail d d' (Some slave) = (slave ≡ r.slave) × Asks r.slave r.key mail s s' true × (d'.requests.items ≡ d.requests.items ++ r ∷ []) × (d'.outbox.items ≡ d.outbox.items) × ServingAsks r.slave r.key mail s s' true
 Passes s s' heard r mail d d' None =
-    (slice_get s.waiting r.slave ≡ Some 64) × Asks r.slave r.key mail s s' false × (d'.requests.items ≡ d.requests.items) × Owes heard (owing (error_of 7) r ∷ []) d.outbox.items d'.outbox.items
+    (slice_get s.waiting r.slave ≡ Some 64) × Asks r.slave r.key mail s s' false × (d'.requests.items ≡ d.requests.items) × Owes heard (owing (error_of 7) r ∷ []) d.outbox.items d'.outbox.items × ServingAsks r.slave r.key mail s s' false
 
 -- the same of a request under a key of its own
 abbrev pub PassesSo : SessionState → SessionState → Request → Mail → Desk → Desk → Option ℕ → Type 0

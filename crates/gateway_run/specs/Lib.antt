@@ -3,5 +3,7 @@ pub mod Events
 pub mod Heard
 pub mod Account
 pub mod Desk
+pub mod Rooms
 pub mod Serving
+pub mod Replies
 pub mod Served

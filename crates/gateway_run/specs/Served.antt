@@ -6,12 +6,14 @@ use Rattle.run_book.specs.declared.book.Book.{Book}
 use Rattle.run_book.specs.declared.book.Ending.{Ending}
 use Rattle.run_book.specs.declared.book.Ending.TheVariants as endings
 use Rattle.run_book.specs.declared.book.GramOut.{GramOut}
+use Rattle.run_record.specs.Led.{exchanged}
 use Rattle.run_record.specs.Session.{SessionState, session_rows}
 use Rattle.run_record.specs.of_run_notes.Slaves.{home_of}
 use Rattle.run_record.specs.Ran.{StopsAs}
 use Rattle.gateway_run.specs.declared.desk.Request.{Request}
 use Rattle.gateway_run.specs.Account.{Owing, Course, AreSpelled}
 use Rattle.gateway_run.specs.Heard.{heard_as, AreHeard, AreSent, AreSentBut, IsOwed, IsRightly}
+use Rattle.gateway_run.specs.Replies.{Answers, dones_of}
 use Rattle.gateway_run.specs.Serving.{Told}
 
 -- the datagrams of a serving: they are those that the port heard, and no more than so many; each that was sent goes to who asked, and each
@@ -34,7 +36,7 @@ pub record IsBroken (first last : Told) (book : Book) : Type 0 where
   pub sent : AreSentBut first.sent last.sent book.replies
 
 -- WHAT WAS SENT IS WHAT WAS OWED, in order: the datagrams of the book, and behind them those that are still owed, which are none unless the port
--- failed, are those of a course of the plan's session over the frames and the datagrams heard of the book
+-- failed, are those of a course of the plan's session over the frames and the datagrams heard of the book; and these frames lead that session
 pub record HasAccount (plan : Scenario) (count : ℕ) (book : Book) (ending : Ending) : Type 0 where
   pub session : SessionState
   pub requests : List Request
@@ -42,6 +44,8 @@ pub record HasAccount (plan : Scenario) (count : ℕ) (book : Book) (ending : En
   pub later : List GramOut
   pub course : Course plan count session book.frames book.grams requests owed
   pub spelled : AreSpelled (map heard_as book.grams) owed (book.replies ++ later)
+  -- by the lives that these frames lead each datagram got what is its own
+  pub answers : Answers plan session (map exchanged book.frames) book.grams requests owed (dones_of plan count session book.frames book.grams requests owed course)
   pub rows : book.slaves ≡ session_rows session
   pub all : ending ≢ endings.PortFault → later ≡ []
 

@@ -1,13 +1,15 @@
 -- A serving between its turns.
+use Rattle.std.specs.Bool.{OnFalse}
 use Rattle.std.specs.Prelude.{◌≡◌, ℕ, ◌+◌, ◌-◌, ◌<◌, ◌≤◌, ◌&&◌, ◌||◌, Bool, true, not, nat_lt, if◌then◌else◌, List, [], ◌∷◌, ◌++◌, length, map, All, Option, Result, Ok, Err}
 use Rattle.ec_outside.specs.Faults.{Rose}
 use Rattle.ec_outside.specs.Port.{HeardGram, Hears, has_ended}
 use Rattle.ec_outside.specs.declared.port.Heard.{Heard}
 use Rattle.run_book.specs.declared.book.GramOut.{GramOut}
 use Rattle.ec_outside.specs.declared.port.SentGram.{SentGram}
+use Rattle.segment_plan.specs.Sound.{IsPlan}
 use Rattle.segment_plan.specs.declared.plan.Scenario.{Scenario}
 use Rattle.run_book.specs.declared.book.Book.{Book}
-use Rattle.run_record.specs.Session.{budget_of}
+use Rattle.run_record.specs.Session.{SessionState, budget_of, has_live}
 use Rattle.run_record.specs.of_run_notes.Slaves.{home_of}
 use Rattle.run_record.specs.Ran.{HasSent, IsUnderway}
 use Rattle.gateway_run.specs.Heard.{heard_as, AreHeard, AreSent, AreSentBut, IsOwed, IsRightly}
@@ -28,9 +30,14 @@ pub record Told : Type 0 where
 abbrev pub told : {Q : Type 0} → (Q → Option (List HeardGram)) → (Q → Option (List SentGram)) → (Q → Bool) → (Q → ℕ) → Q → Told
 told heard sent over faults port = record { heard = heard port; sent = sent port; over = over port; faults = faults port }
 
--- a serving and its book: the session is under way, each reply goes to its own asker, what was passed on was rightly so, and what was sent and
--- is still to be sent is what was owed
+-- some slave is live, unless the segment rests
+abbrev pub LivesUnless : Bool → SessionState → Type 0
+LivesUnless rests s = OnFalse rests (has_live s.master ≡ true)
+
+-- a serving of a sound plan and its book: the session is under way, each reply goes to its own asker, what was passed on was rightly so, and what was
+-- sent and is still to be sent is what was owed
 pub record IsOn (plan : Scenario) (count : ℕ) (v : Serving) (b : Book) : Type 0 where
+  pub is_plan : IsPlan plan
   pub underway : IsUnderway plan count v.session b
   pub counts : v.count ≡ count
   pub few : length b.grams ≤ count

@@ -3,8 +3,10 @@ ghost use Rattle.std.specs.Bool.{OnTrue, OnFalse};
 ghost use Rattle.ec_outside.specs.declared.port.Heard.TheVariants as heards;
 ghost use Rattle.segment_plan.specs.Sound.{IsPlan};
 ghost use Rattle.segment_plan.specs.declared.plan.Scenario.{Scenario as Plan};
+ghost use Rattle.run_record.specs.Served.{ServingBegins};
 ghost use Rattle.run_record.specs.Session.{first_session};
-ghost use Rattle.gateway_run.specs.Serving.{Told, told, Listens, SendsOne, Goes, IsServing, left, can_hear};
+ghost use Rattle.gateway_run.specs.Desk.{SameLive};
+ghost use Rattle.gateway_run.specs.Serving.{Told, told, Listens, SendsOne, Goes, IsServing, LivesUnless, left, can_hear};
 
 use crate::desk::Desk;
 use crate::stop::Stop;
@@ -43,6 +45,7 @@ impl Serving {
     pub fn begin(alloc: Global, plan: &Scenario, count: u32) -> Result<Serving, NoMemory>
         requires { IsPlan plan.now }
         ensures session { IfOk result (λ v. v.session ≡ first_session plan.now count v.session.master) }
+        ensures serves { IfOk result (λ v. ServingBegins plan.now v.session) }
         ensures requests { IfOk result (λ v. v.desk.requests.items ≡ []) }
         ensures outbox { IfOk result (λ v. v.desk.outbox.items ≡ []) }
         ensures count { IfOk result (λ v. v.count ≡ count) }
@@ -68,6 +71,7 @@ impl Serving {
     fn take(&mut self, alloc: Global, heard: Heard, book: &mut Book) -> Result<bool, Stop>
         requires { can_hear self.old book.old ≡ true }
         ensures goes { (plan : Plan) (count : ℕ) (first now next : Told) → IsServing plan count first now self.old book.old → Listens now next heard self.old.gram.items → Goes plan count first next self.new book.new result }
+        ensures live { SameLive self.old.session self.new.session }
         ensures some { IfOk result (λ some. OnTrue some (left self.new book.new < left self.old book.old)) }
         ensures loud { OnOk result (heard ≢ heards.Quiet → left self.new book.new < left self.old book.old) }
         ensures most { OnOk result (left self.new book.new ≤ left self.old book.old) }
@@ -90,6 +94,7 @@ impl Serving {
     fn wait<P: Port>(&mut self, alloc: Global, port: &mut P, book: &mut Book) -> Result<(), Stop>
         requires { can_hear self.old book.old ≡ true }
         ensures goes { (plan : Plan) (count : ℕ) (first : Told) → IsServing plan count first (told P.heard P.sent P.over P.port_faults port.old) self.old book.old → Goes plan count first (told P.heard P.sent P.over P.port_faults port.new) self.new book.new result }
+        ensures live { SameLive self.old.session self.new.session }
         ensures less { OnOk result (left self.new book.new < left self.old book.old) }
     {
         let heard = port.wait(&mut self.gram)?;
@@ -100,6 +105,7 @@ impl Serving {
     // Takes the datagrams that are there, while more can be heard and one more request may be unfinished.
     fn poll<P: Port>(&mut self, alloc: Global, port: &mut P, book: &mut Book) -> Result<(), Stop>
         ensures goes { (plan : Plan) (count : ℕ) (first : Told) → IsServing plan count first (told P.heard P.sent P.over P.port_faults port.old) self.old book.old → Goes plan count first (told P.heard P.sent P.over P.port_faults port.new) self.new book.new result }
+        ensures live { SameLive self.old.session self.new.session }
         ensures most { OnOk result (left self.new book.new ≤ left self.old book.old) }
     {
         while self.can_hear(book) && !self.desk.is_full() {
@@ -121,6 +127,7 @@ impl Serving {
     ) -> Result<(), Stop>
         requires { OnTrue settled (can_hear self.old book.old ≡ true) }
         ensures goes { (plan : Plan) (count : ℕ) (first : Told) → IsServing plan count first (told P.heard P.sent P.over P.port_faults port.old) self.old book.old → Goes plan count first (told P.heard P.sent P.over P.port_faults port.new) self.new book.new result }
+        ensures live { SameLive self.old.session self.new.session }
         ensures less { OnOk result (OnTrue settled (left self.new book.new < left self.old book.old)) }
         ensures most { OnOk result (left self.new book.new ≤ left self.old book.old) }
     {
@@ -132,7 +139,7 @@ impl Serving {
 
     // Sends a frame, unless the segment rests; `false` where the budget of frames is spent.
     fn frame(&mut self, alloc: Global, rests: bool, book: &mut Book) -> Result<bool, Stop>
-        ensures goes { (plan : Plan) (count : ℕ) (first now : Told) → IsServing plan count first now self.old book.old → Goes plan count first now self.new book.new result }
+        ensures goes { (plan : Plan) (count : ℕ) (first now : Told) → LivesUnless rests self.old.session → IsServing plan count first now self.old book.old → Goes plan count first now self.new book.new result }
         ensures less { IfOk result (λ on. OnTrue on (OnFalse rests (left self.new book.new < left self.old book.old))) }
         ensures most { OnOk result (left self.new book.new ≤ left self.old book.old) }
         ensures spent { IfOk result (λ on. OnFalse on (self.new.session.ring.number ≡ self.new.session.budget)) }
@@ -172,7 +179,7 @@ impl Serving {
         book: &mut Book,
     ) -> Result<bool, Stop>
         requires { OnTrue settled (can_hear self.old book.old ≡ true) }
-        ensures goes { (plan : Plan) (count : ℕ) (first : Told) → IsServing plan count first (told P.heard P.sent P.over P.port_faults port.old) self.old book.old → Goes plan count first (told P.heard P.sent P.over P.port_faults port.new) self.new book.new result }
+        ensures goes { (plan : Plan) (count : ℕ) (first : Told) → LivesUnless settled self.old.session → IsServing plan count first (told P.heard P.sent P.over P.port_faults port.old) self.old book.old → Goes plan count first (told P.heard P.sent P.over P.port_faults port.new) self.new book.new result }
         ensures less { IfOk result (λ on. OnTrue on (left self.new book.new < left self.old book.old)) }
         ensures spent { IfOk result (λ on. OnFalse on (self.new.session.ring.number ≡ self.new.session.budget)) }
         ensures empty { OnOk result (self.new.desk.outbox.items ≡ []) }

@@ -259,6 +259,7 @@ module _ (s s' : SessionState) (m : MasterNode) (f : Exchanged) (result : Next) 
   on_frame = record {
     turns = made.0;
     frame = made.1;
+    returns = returned;
     new = goes;
     missed = refl;
     serves = refl;

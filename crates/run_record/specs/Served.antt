@@ -87,6 +87,8 @@ TellsBehind fate back m n =
 pub record ServesOn (plan : Scenario) (s s' : SessionState) (fs : List Exchanged) (f : Exchanged) (old : Serving plan s fs) : Type 0 where
   pub turns : List ServedTurn
   pub frame : IsServedFrame (lens_of plan.slaves) (length fs) f.sent old.leading.serves turns
+  -- an answer has just the datagrams that were sent
+  pub returns : f.fate ≡ Fates.Pass → Returns (seen (lens_of plan.slaves) f.sent) (seen (lens_of plan.slaves) f.back)
   pub new : Serving plan s' (fs ++ f ∷ [])
   pub missed : new.leading.missed ≡ missed_behind (lens_of plan.slaves) plan.recover plan.retry f.fate old.leading.missed
   pub serves : new.leading.serves ≡ map (served_behind (lens_of plan.slaves) plan.recover plan.retry (gives_up_at (lens_of plan.slaves) plan.recover plan.retry old.leading.missed) (length fs) f) turns

@@ -4,6 +4,7 @@ use Rattle.std.proofs.lemmas.List.Elements.{All-push}
 use Rattle.mailbox_mail.specs.Mail.{error_of}
 use Rattle.mailbox_mail.specs.declared.mail.Mail.{Mail}
 use Rattle.run_book.specs.declared.book.GramOut.{GramOut}
+use Rattle.run_record.specs.Served.{ServingAsks}
 use Rattle.run_record.specs.Session.{Asks}
 use Rattle.gateway_run.specs.Account.{owing, others}
 use Rattle.gateway_run.specs.Desk.{IsOpen, AreApart, Owes}
@@ -36,4 +37,16 @@ returns-clause-passes c = λ heard o free.
       c.finish.ensures.requests ∙ ap (others r.key) (c.in_ok-answer.ensures.requests ∙ c.in_ok-push.ensures.items) ∙ others_push r d.requests.items free,
       subst (λ (out : List GramOut). Owes heard (owing (error_of 7) r ∷ []) d.outbox.items out) (sym c.finish.ensures.outbox)
           (subst (λ (m : Mail). Owes heard (owing m r ∷ []) d.outbox.items c.answer.new.self.outbox.items) c.error_mail.ensures (c.in_ok-answer.ensures.owes heard o)),
+      subst (λ (b : Bool). ServingAsks r.slave r.key c.args.mail.now c.args.session.now c.ask.new.self b) none c.in_ok-ask.ensures.serves,
+    )
+
+pub returns-then-branch-clause-passes : goal.returns-then-branch-clause-passes
+returns-then-branch-clause-passes c = λ heard o free.
+    let r = c.args.request in
+    let some = c.if-branch.true in (
+      refl,
+      subst (λ (b : Bool). Asks r.slave r.key c.args.mail.now c.args.session.now c.ask.new.self b) some c.in_ok-ask.ensures.asked,
+      c.in_ok-push.ensures.items,
+      refl,
+      subst (λ (b : Bool). ServingAsks r.slave r.key c.args.mail.now c.args.session.now c.ask.new.self b) some c.in_ok-ask.ensures.serves,
     )

@@ -32,5 +32,6 @@ loop-self-preserved g c = record {
   goes = λ plan count first h.
       c.in_ok-take.ensures.goes plan count first _ _ (same_gram plan count first _ c.loop-self.self _ c.loop-self.book refl refl refl refl (c.loop-self.invariant.goes plan count first h))
       (record { hears = c.in_ok-heard.ensures.hears; sent = c.in_ok-heard.ensures.sends; over = c.in_ok-heard.ensures.ended; later = c.in_ok-heard.ensures.later });
+  live = c.in_ok-take.ensures.live ∙ c.loop-self.invariant.live;
   most = let a = c.in_ok-take.ensures.most in let b = c.loop-self.invariant.most in omega (arith, a, b);
 }

@@ -1,0 +1,126 @@
+-- ALL ALONG A COURSE each desk is what the lives have, and each datagram got what is its own.
+use Rattle.std.proofs.Common.{◌≡◌, ◌<◌, ◌≤◌, ℕ, zero, suc, Some, None, List, [], ◌∷◌, ◌++◌, length, map, refl, sym, ap, ◌∙◌, subst, arith}
+use Rattle.std.specs.Prelude.{replicate, All}
+use Rattle.std.proofs.lemmas.List.{length-map, map-append}
+use Rattle.std.proofs.lemmas.List.Elements.{All-nil, All-cons, All-head, All-tail}
+use Rattle.kept_rows.specs.Rows.{ToldAll, passed_rows}
+use Rattle.kept_rows.specs.of_served_runs.Served.{IsServedLed, Keyed, Serves, all_serve, asked_at, new_serves}
+use Rattle.master_node.specs.of_life_frames.Shares.{AllBoth}
+use Rattle.master_node.specs.of_life_runs.First.{first_leads, leads_from, lens_of}
+use Rattle.master_node.specs.of_life_runs.Led.{Exchanged, Leads}
+use Rattle.master_node.specs.of_life_runs.of_segment_plan.declared.service.Service as Plan
+use Rattle.run_book.specs.declared.book.GramIn.{GramIn}
+use Rattle.run_book.specs.declared.book.SentFrame.{SentFrame}
+use Rattle.run_record.specs.Led.{exchanged}
+use Rattle.run_record.specs.Served.{ServingBegins}
+use Rattle.run_record.specs.Session.{SessionState, first_session}
+use Rattle.segment_plan.specs.Sound.{IsPlan}
+use Rattle.segment_plan.specs.declared.plan.Scenario.{Scenario}
+use Rattle.segment_plan.specs.declared.slave.SlaveSpec.{SlaveSpec}
+use Rattle.gateway_run.specs.Account.{Course, Course.begins, Course.hears, Course.steps, Owing, left_by_all, owed_by_all}
+use Rattle.gateway_run.specs.Events.{events_of}
+use Rattle.gateway_run.specs.Rooms.{done_by_all}
+use Rattle.gateway_run.specs.Replies.{AllDesk, Answers, IsDesk, IsFor, IsHeard, IsLate, IsNew, IsUndone, dones_of, keyed_in}
+use Rattle.gateway_run.specs.declared.desk.Request.{Request}
+use Rattle.gateway_run.proofs.Judging.{answers_heard}
+use Rattle.gateway_run.proofs.Leds.{course_led}
+use Rattle.gateway_run.proofs.Stepping.{answers_on}
+
+-- BEFORE THE FIRST FRAME no mail is in hand, and none was passed on
+record IsNewborn (w : Serves) : Type 0 where
+  hand : w.hand ≡ None
+  rows : passed_rows w.lead.lived.life ≡ []
+
+born : (rows : List (ℕ × Plan.Service)) (place : ℕ) (ss : List SlaveSpec) → All (λ (a : Leads). passed_rows a.lived.life ≡ []) (leads_from rows place ss)
+born rows place [] = All-nil (λ (a : Leads). passed_rows a.lived.life ≡ [])
+born rows place (s ∷ ss) = All-cons (λ (a : Leads). passed_rows a.lived.life ≡ []) _ (leads_from rows (suc place) ss) refl (born rows (suc place) ss)
+
+all_born : (paces : List ℕ) (as' : List Leads) → All (λ (a : Leads). passed_rows a.lived.life ≡ []) as' → All IsNewborn (all_serve paces as')
+all_born paces [] h = All-nil IsNewborn
+all_born [] (a ∷ as') h =
+    All-cons IsNewborn (new_serves 1 a) (all_serve [] as') (record { hand = refl; rows = All-head (λ (a : Leads). passed_rows a.lived.life ≡ []) a as' h }) (all_born [] as' (All-tail (λ (a : Leads). passed_rows a.lived.life ≡ []) a as' h))
+all_born (pace ∷ paces) (a ∷ as') h =
+    All-cons IsNewborn (new_serves pace a) (all_serve paces as') (record { hand = refl; rows = All-head (λ (a : Leads). passed_rows a.lived.life ≡ []) a as' h }) (all_born paces as' (All-tail (λ (a : Leads). passed_rows a.lived.life ≡ []) a as' h))
+
+-- so it stays where mails are asked
+asked_born : (place : ℕ) (k : Keyed) (ws : List Serves) → All IsNewborn ws → All IsNewborn (asked_at place k ws)
+asked_born place k [] h = All-nil IsNewborn
+asked_born zero k (w ∷ ws) h =
+    (let b = All-head IsNewborn w ws h in All-cons IsNewborn (record w { asked = w.asked ++ k ∷ []; waits = w.waits ++ k ∷ [] }) ws (record { hand = b.hand; rows = b.rows }) (All-tail IsNewborn w ws h))
+asked_born (suc place) k (w ∷ ws) h = All-cons IsNewborn w (asked_at place k ws) (All-head IsNewborn w ws h) (asked_born place k ws (All-tail IsNewborn w ws h))
+
+some_last : (fs : List Exchanged) (f : Exchanged) → fs ++ f ∷ [] ≡ [] → ⊥
+some_last [] f e = cc
+some_last (g ∷ fs) f e = cc
+
+first_born : (plan : Scenario) (fs : List Exchanged) (missed : ℕ) (ws : List Serves) → IsServedLed (lens_of plan.slaves) plan.recover plan.retry (all_serve plan.paces (first_leads plan)) fs missed ws → fs ≡ [] → All IsNewborn ws
+first_born plan _ _ _ IsServedLed.start e = all_born plan.paces (first_leads plan) (born plan.services 0 plan.slaves)
+first_born plan _ _ _ (IsServedLed.asks fs missed ws place k led may) e = asked_born place k ws (first_born plan fs missed ws led e)
+first_born plan _ _ _ (IsServedLed.on fs missed ws f vs led frame) e = absurd (some_last fs f e)
+
+-- nor does one wait
+none_wait : (ws : List Serves) (n : ℕ) → map (λ (w : Serves). length w.waits) ws ≡ replicate n 0 → All (λ (w : Serves). w.waits ≡ []) ws
+none_wait [] n e = All-nil (λ (w : Serves). w.waits ≡ [])
+none_wait (w ∷ ws) zero e = absurd (let bad : length w.waits ∷ map (λ (w : Serves). length w.waits) ws ≡ [] = e in cc)
+none_wait (w ∷ ws) (suc n) e =
+    let all : length w.waits ∷ map (λ (w : Serves). length w.waits) ws ≡ 0 ∷ replicate n 0 = e in
+    let none : length w.waits ≡ 0 = cc in
+    let rest : map (λ (w : Serves). length w.waits) ws ≡ replicate n 0 = cc in
+    All-cons (λ (w : Serves). w.waits ≡ []) w ws (empty w.waits none) (none_wait ws n rest)
+  where
+    empty : (ks : List Keyed) → length ks ≡ 0 → ks ≡ []
+    empty [] f = refl
+    empty (k ∷ ks) f = absurd (omega (arith, f))
+
+first_desk : (i : ℕ) (w : Serves) → IsNewborn w → w.waits ≡ [] → IsDesk [] [] i w [] [] []
+first_desk i w b e = record {
+  waits = subst (λ ks. AllBoth (IsFor []) [] ks) (sym e) tt;
+  in_hand = subst (λ h. AllBoth (IsFor []) [] (keyed_in h w.lead.lived.life.era.passing)) (sym b.hand) tt;
+  its = λ r f. absurd (cc);
+  newest = λ p f. absurd (let bad : None ≡ Some p = sym b.hand ∙ f in cc);
+  new = All-nil (IsNew []);
+  many = sym (ap length b.rows);
+  known = All-nil (λ (n : ℕ). n < 0);
+  rising = tt;
+  late = subst (λ rows. AllBoth (IsLate []) [] rows) (sym b.rows) tt;
+}
+
+first_desks : (i : ℕ) (ws : List Serves) → All IsNewborn ws → All (λ (w : Serves). w.waits ≡ []) ws → AllDesk [] [] [] i ws (map (λ (w : Serves). []) ws)
+first_desks i [] b e = tt
+first_desks i (w ∷ ws) b e = (first_desk i w (All-head IsNewborn w ws b) (All-head (λ (w : Serves). w.waits ≡ []) w ws e), first_desks (suc i) ws (All-tail IsNewborn w ws b) (All-tail (λ (w : Serves). w.waits ≡ []) w ws e))
+
+first_told : (ws : List Serves) → All IsNewborn ws → All ToldAll ws
+first_told [] b = All-nil ToldAll
+first_told (w ∷ ws) b = All-cons ToldAll w ws (λ p f. absurd (let bad : None ≡ Some p = sym (All-head IsNewborn w ws b).hand ∙ f in cc)) (first_told ws (All-tail IsNewborn w ws b))
+
+first_answers : (plan : Scenario) (count : ℕ) (s : SessionState) → s ≡ first_session plan count s.master → (serving : ServingBegins plan s) → Answers plan s [] [] [] [] []
+first_answers plan count s first serving =
+    let ws = serving.leading.serves in
+    let b = first_born plan [] serving.leading.missed ws serving.leading.lives refl in
+    let e = none_wait ws (length plan.slaves) (serving.waiting ∙ ap (λ (z : SessionState). z.waiting) first) in
+    record {
+      serving = serving;
+      came = map (λ (w : Serves). []) ws;
+      desk = first_desks 0 ws b e;
+      told = first_told ws b;
+      apart = tt;
+      filed = tt;
+      heard = All-nil (IsHeard []);
+      early = All-nil (λ (g : GramIn). g.frame ≤ 0);
+      undone = All-nil (IsUndone []);
+      ended = All-nil (λ (n : ℕ). n < 0);
+      owed = All-nil (λ (o : Owing). o.gram < 0);
+      got = tt;
+    }
+
+-- ALL ALONG
+pub course_answers : (plan : Scenario) (count : ℕ) → IsPlan plan → (s : SessionState) (fs : List SentFrame) (gs : List GramIn) (rs : List Request) (os : List Owing) (c : Course plan count s fs gs rs os) → Answers plan s (map exchanged fs) gs rs os (dones_of plan count s fs gs rs os c)
+course_answers plan count is _ _ _ _ _ (begins s first serves) = first_answers plan count s first serves
+course_answers plan count is _ _ _ _ _ (hears s s' fs gs g rs rs' os more c at judges) =
+    let l = course_led plan count is s fs gs rs os c in
+    answers_heard plan s s' (map exchanged fs) gs g rs os (dones_of plan count s fs gs rs os c) (course_answers plan count is s fs gs rs os c) (let many = length-map fs exchanged in omega (arith, at, many)) is l.homes rs' more judges
+course_answers plan count is _ _ _ _ _ (steps s s' fs f gs rs os c m) =
+    let l = course_led plan count is s fs gs rs os c in
+    let old = course_answers plan count is s fs gs rs os c in
+    subst (λ z. Answers plan s' z gs (left_by_all (events_of s'.master) rs) (os ++ owed_by_all (events_of s'.master) rs) (dones_of plan count s fs gs rs os c ++ done_by_all (events_of s'.master) rs)) (sym (map-append exchanged fs (f ∷ [])))
+    (answers_on plan s s' (map exchanged fs) (exchanged f) gs rs os (dones_of plan count s fs gs rs os c) old (m.led plan (map exchanged fs) l.recover l.many m.live old.serving))

@@ -1,0 +1,159 @@
+-- A MAIL COMES INTO HAND of a slave: the oldest of its requests that wait is the one whose mail is in hand.
+use Rattle.std.proofs.Common.{◌≡◌, ℕ, zero, suc, ◌+◌, ◌<◌, ◌≤◌, Bool, true, false, inl, inr, Option, Some, None, List, [], ◌∷◌, ◌++◌, length, refl, sym, ap, ◌∙◌, subst, eqb-true, append_assoc, length-append, arith}
+use Rattle.std.specs.Prelude.{◌==◌, slice_get, All, Ok}
+use Rattle.std.proofs.lemmas.List.Elements.{All-head, All-tail, All-push}
+use Rattle.master_node.specs.of_life_frames.of_exchange_model.Exchange.{plain}
+use Rattle.master_node.specs.of_life_frames.of_exchange_model.Rows.{Row, begun}
+use Rattle.gateway_core.specs.Framing.{request_in}
+use Rattle.kept_rows.specs.Rows.{Stays, passed_rows}
+use Rattle.kept_rows.specs.of_served_runs.Served.{Keyed, Serves}
+use Rattle.kept_rows.specs.of_served_runs.Told.{Passed}
+use Rattle.mailbox_mail.specs.declared.mail.Mail.{Mail}
+use Rattle.master_node.specs.of_life_frames.Shares.{AllBoth}
+use Rattle.master_node.specs.of_life_runs.of_link_mails.Body.{Body}
+use Rattle.master_node.specs.of_master_duty.Reply.{Reply}
+use Rattle.master_node.specs.of_master_hand.Spoken.{Asked, emission, passed}
+use Rattle.master_node.specs.of_master_tour.Made.{is_in}
+use Rattle.master_node.specs.of_segment_model.Ends.{Passing}
+use Rattle.run_book.specs.declared.book.GramIn.{GramIn}
+use Rattle.gateway_run.specs.Account.{Owing}
+use Rattle.gateway_run.specs.Rooms.{AreRising, grams_of}
+use Rattle.gateway_run.specs.Replies.{Fares, Fares.dropped, Fares.replies, Fares.waits, HasRow, IsDesk, IsFor, IsLate, IsNew, IsNewest, StandsSo, WasGivenUp, keyed_in}
+use Rattle.gateway_run.specs.declared.desk.Request.{Request}
+use Rattle.gateway_run.proofs.Hands.{all_got, at_last, both_at, both_many, both_push, in_append, in_head, late_stays, row_stays}
+
+-- the oldest that waits
+pub record Oldest (waiting : List Request) : Type 0 where
+  pub request : Request
+  pub rest : List Request
+  pub is : waiting ≡ request ∷ rest
+
+pub oldest : {T : Type 0} (P : Request → T → Type 0) (waiting : List Request) (ks : List T) (k : T) (more : List T) → ks ≡ k ∷ more → AllBoth P waiting ks → Oldest waiting
+oldest P [] [] k more e a = absurd (cc)
+oldest P [] (l ∷ ks) k more e a = absurd a
+oldest P (r ∷ rs) [] k more e a = absurd a
+oldest P (r ∷ rs) (l ∷ ks) k more e a = record { request = r; rest = rs; is = refl }
+
+-- the same request, whose mail came into hand
+abbrev pub with_mail : Request → Request
+with_mail r = record r { begun = true }
+
+for_begun : (gs : List GramIn) (r : Request) (k : Keyed) → IsFor gs r k → IsFor gs (with_mail r) (record { key = k.key; mail = k.mail })
+for_begun gs r k f = record {
+  key = f.key;
+  of_gram = record { gram = f.of_gram.gram; there = f.of_gram.there; queued = f.of_gram.queued };
+  asked = f.asked;
+  request = f.request;
+  same = f.same;
+}
+
+pub known_at : (gs : List GramIn) (n : ℕ) (g : GramIn) → slice_get gs n ≡ Some g → n < length gs
+known_at [] n g e = absurd (cc)
+known_at (h ∷ gs) zero g e = omega arith
+known_at (h ∷ gs) (suc n) g e = (let l = known_at gs n g e in omega (arith, l))
+
+pub none_begun : (gs : List GramIn) (w : Serves) (begun : List Request) → w.lead.lived.life.era.passing ≡ None → AllBoth (IsFor gs) begun (keyed_in w.hand w.lead.lived.life.era.passing) → begun ≡ []
+none_begun gs w begun free a = by w.hand (subst (λ p. AllBoth (IsFor gs) begun (keyed_in w.hand p)) free a)
+  where
+    none : (rs : List Request) → AllBoth (IsFor gs) rs [] → rs ≡ []
+    none [] a = refl
+    none (r ∷ rs) a = absurd a
+
+    by : (hand : Option Passed) → AllBoth (IsFor gs) begun (keyed_in hand None) → begun ≡ []
+    by None a = none begun a
+    by (Some p) a = none begun a
+
+module _ (gs : List GramIn) (slave : ℕ) (w v : Serves) (came : List ℕ) (k : Keyed) (rest : List Keyed) (row : Row Body Asked Reply) (os : List Owing) where
+  -- WHAT COMES INTO HAND, by the lives
+  pub record MailComes : Type 0 where
+    pub waits : w.waits ≡ k ∷ rest
+    pub left : v.waits ≡ rest
+    pub free : w.lead.lived.life.era.passing ≡ None
+    pub hand : v.hand ≡ Some (record { key = k.key; mail = k.mail; told = [] })
+    pub passing : v.lead.lived.life.era.passing ≡ Some Passing.Waiting
+    pub its : row.service ≡ passed k.mail
+    pub stay : AllBoth Stays (passed_rows w.lead.lived.life ++ row ∷ []) (passed_rows v.lead.lived.life)
+    -- all datagrams so far were heard by then
+    pub early : All (λ (g : GramIn). g.frame ≤ row.frame) gs
+
+  module _ (c : MailComes) (r : Request) (more begun : List Request) (d : IsDesk gs os slave w came (r ∷ more) begun) where
+    pub is_for : IsFor gs r k
+    is_for = (subst (AllBoth (IsFor gs) (r ∷ more)) c.waits d.waits).0
+
+    many : length (came ++ r.gram ∷ []) ≡ length (passed_rows v.lead.lived.life)
+    many = length-append came (r.gram ∷ []) ∙ ap (λ n. n + 1) d.many ∙ sym (length-append (passed_rows w.lead.lived.life) (row ∷ [])) ∙ both_many Stays (passed_rows w.lead.lived.life ++ row ∷ []) (passed_rows v.lead.lived.life) c.stay
+
+    pub desk_mail : r.slave ≡ slave → IsDesk gs os slave v (came ++ r.gram ∷ []) more (with_mail r ∷ [])
+    desk_mail here = record {
+      waits = subst (AllBoth (IsFor gs) more) (sym c.left) (subst (AllBoth (IsFor gs) (r ∷ more)) c.waits d.waits).1;
+      in_hand = subst (AllBoth (IsFor gs) (with_mail r ∷ [])) (sym (λ i. keyed_in (c.hand i) (c.passing i))) (for_begun gs r k is_for, tt);
+      its = λ q e. (came, ap (λ n. came ++ n ∷ []) (let same : with_mail r ≡ q = cc in ap (λ (z : Request). z.gram) same));
+      newest = λ p e. (let same : record { key = k.key; mail = k.mail; told = [] } ≡ p = (let all : Some (record { key = k.key; mail = k.mail; told = [] }) ≡ Some p = sym c.hand ∙ e in cc) in
+          subst (IsNewest gs slave (came ++ r.gram ∷ []) os) same (record {
+            before = came;
+            number = r.gram;
+            last = refl;
+            gram = is_for.of_gram.gram;
+            there = is_for.of_gram.there;
+            queued = is_for.of_gram.queued ∙ ap Some here;
+            asked = is_for.asked;
+            request = is_for.request;
+            same = is_for.same;
+            owed = All-head (IsNew os) r more d.new;
+          }));
+      new = All-tail (IsNew os) r more d.new;
+      many = many;
+      known = All-push (λ n. n < length gs) came r.gram d.known (known_at gs r.gram is_for.of_gram.gram is_for.of_gram.there);
+      rising = subst AreRising (sym (append_assoc came (r.gram ∷ []) (grams_of more))) d.rising;
+      late = late_stays gs (came ++ r.gram ∷ []) (passed_rows w.lead.lived.life ++ row ∷ []) (passed_rows v.lead.lived.life)
+          (both_push (IsLate gs) came (passed_rows w.lead.lived.life) r.gram row d.late (λ g e. all_got (λ (g : GramIn). g.frame ≤ row.frame) gs r.gram g c.early e)) c.stay;
+    }
+
+    -- its row is the last of those that were passed on
+    pub first_row : HasRow v (came ++ r.gram ∷ []) r.gram is_for.asked []
+    first_row =
+        let at = both_at Stays (passed_rows w.lead.lived.life ++ row ∷ []) (passed_rows v.lead.lived.life) (length came) row c.stay (ap (slice_get (passed_rows w.lead.lived.life ++ row ∷ [])) d.many ∙ at_last (passed_rows w.lead.lived.life) row) in
+        record {
+          index = length came;
+          its = at_last came r.gram;
+          row = at.0;
+          is = at.1;
+          mail = k.mail;
+          same = is_for.same;
+          service = at.2.service ∙ c.its;
+          rest = plain emission at.0.heard;
+          heard = refl;
+        }
+
+    -- what its datagrams got
+    pub fares_mail : (done : Bool) (number : ℕ) (asked : Mail) (mails : List Mail) → (gram : GramIn) → slice_get gs number ≡ Some gram → request_in gram.bytes ≡ Ok asked → (WasGivenUp w → WasGivenUp v) →
+        Fares w came (r ∷ more) begun done number asked mails → Fares v (came ++ r.gram ∷ []) more (with_mail r ∷ []) done number asked mails
+    fares_mail done number asked mails gram there request gone (waits a b e) = go (number == r.gram) refl
+      where
+        go : (z : Bool) → (number == r.gram) ≡ z → Fares v (came ++ r.gram ∷ []) more (with_mail r ∷ []) done number asked mails
+        go false f = waits (sym (in_head number r.gram false f (grams_of more)) ∙ a) b e
+        go true f = replies [] first_here (subst (StandsSo v (with_mail r ∷ []) number []) (sym b) (inl (in_head number r.gram true f []))) e
+          where
+            number_is : number ≡ r.gram
+            number_is = eqb-true number r.gram f
+
+            same_asked : is_for.asked ≡ asked
+            same_asked = (let g : is_for.of_gram.gram ≡ gram = (let all : Some is_for.of_gram.gram ≡ Some gram = sym is_for.of_gram.there ∙ ap (slice_get gs) (sym number_is) ∙ there in cc) in
+                let both = sym is_for.request ∙ ap (λ (z : GramIn). request_in z.bytes) g ∙ request in cc)
+
+            first_here : HasRow v (came ++ r.gram ∷ []) number asked []
+            first_here = subst (λ n. HasRow v (came ++ r.gram ∷ []) n asked []) (sym number_is) (subst (λ m. HasRow v (came ++ r.gram ∷ []) r.gram m []) same_asked first_row)
+    fares_mail done number asked mails gram there request gone (dropped a b g e f h) = go (number == r.gram) refl
+      where
+        go : (z : Bool) → (number == r.gram) ≡ z → Fares v (came ++ r.gram ∷ []) more (with_mail r ∷ []) done number asked mails
+        go true t = absurd (let bad : true ≡ false = sym (in_head number r.gram true t (grams_of more)) ∙ a in cc)
+        go false t = dropped (sym (in_head number r.gram false t (grams_of more)) ∙ a) (in_head number r.gram false t []) (in_append number came (r.gram ∷ []) g ∙ in_head number r.gram false t []) e (gone f) h
+    fares_mail done number asked mails gram there request gone (replies told row' stands same) = replies told (row_stays w v came (r.gram ∷ []) number asked told (row ∷ []) c.stay row') (stands_so done stands) same
+      where
+        none : begun ≡ []
+        none = none_begun gs w begun c.free d.in_hand
+
+        stands_so : (z : Bool) → StandsSo w begun number told z → StandsSo v (with_mail r ∷ []) number told z
+        stands_so true s = s
+        stands_so false (inl here) = absurd (let bad : false ≡ true = sym (ap (λ rs. is_in number (grams_of rs)) none) ∙ here in cc)
+        stands_so false (inr given) = inr (gone given)

@@ -1,0 +1,143 @@
+-- BEHIND A LOST FRAME one slave's desk is what its life has: nothing is told, or the slave was given up.
+use Rattle.std.proofs.Common.{◌≡◌, ℕ, Bool, true, false, Option, Some, None, List, [], ◌∷◌, ◌++◌, map, refl, sym, ap, ◌∙◌, subst, append-nil}
+use Rattle.std.specs.Prelude.{if◌then◌else◌, All}
+use Rattle.kept_rows.proofs.Behind.{Goes, behind_stays, lost_goes, unpassed_behind}
+use Rattle.kept_rows.specs.Rows.{Stays, passed_rows}
+use Rattle.kept_rows.specs.of_served_runs.Served.{Serves, ServedTurn, TellsSo, gives_it, served_behind}
+use Rattle.kept_rows.specs.of_served_runs.Told.{Passed, replies_in, told_on}
+use Rattle.mailbox_mail.specs.Mail.{error_of}
+use Rattle.master_node.specs.Serving.{serves_of}
+use Rattle.master_node.specs.declared.event.Event.{Event}
+use Rattle.master_node.specs.declared.event.Event.TheVariants as events
+use Rattle.master_node.specs.of_frame_view.View.{Lens}
+use Rattle.master_node.specs.of_life_frames.Shares.{AllBoth}
+use Rattle.master_node.specs.of_life_model.Lives.{Stand}
+use Rattle.master_node.specs.of_life_runs.of_link_mails.Body.{Body}
+use Rattle.master_node.specs.of_segment_model.Ends.{Passing}
+use Rattle.master_node.specs.of_segment_ring.declared.wire.Fate.TheVariants.{Lost}
+use Rattle.run_book.specs.declared.book.GramIn.{GramIn}
+use Rattle.gateway_run.specs.Account.{Owing, elsewhere, left_by_all, owing}
+use Rattle.gateway_run.specs.Rooms.{AreFiled, begun_of, owed_for, waiting_of}
+use Rattle.gateway_run.specs.Replies.{Fares, IsDesk, IsFor, WasGivenUp, keyed_in}
+use Rattle.gateway_run.specs.declared.desk.Request.{Request}
+use Rattle.gateway_run.proofs.Desking.{cut_among, gone_begun, gone_waits, none_in}
+use Rattle.gateway_run.proofs.Views.{cut_none}
+use Rattle.gateway_run.proofs.Frames.{tells_none}
+use Rattle.gateway_run.proofs.Given.{desk_gone, fares_gone}
+use Rattle.gateway_run.proofs.Hands.{keyed_none}
+use Rattle.gateway_run.proofs.Telling.{HasTold, IsBehind, IsOurs, OwesBesides, tells_nothing}
+
+module _ (lens : ℕ → Lens) (recover retry : ℕ) (gives : Bool) (made after : ℕ) (sent back : List ℕ) (v : ServedTurn) (gs : List GramIn) (slave : ℕ) (os more : List Owing) (came : List ℕ) (rs : List Request) (done done' : ℕ → Bool) where
+  -- the slave behind it
+  abbrev pub lost : Serves
+  lost = served_behind lens recover retry gives made (record { sent = sent; fate = Lost after; back = back }) v
+
+  -- by this it was given up
+  abbrev pub given : Bool
+  given = gives_it lens recover retry gives (Lost after) v
+
+  -- what that tells
+  abbrev pub tells_lost : Bool → List Event
+  tells_lost true = events.GivenUp slave ∷ []
+  tells_lost false = []
+
+  -- WHAT IS KNOWN OF THE SLAVE
+  pub record IsKnownLost : Type 0 where
+    pub opened : (p : Passed) → v.hand ≡ Some p → v.turn.lived.life.stand ≡ Stand.Open
+    pub own : TellsSo lost
+    pub gone : WasGivenUp (serves_of v) → WasGivenUp lost
+    pub given_up : given ≡ true → WasGivenUp lost
+    pub filed : AreFiled (waiting_of slave rs)
+    pub besides : OwesBesides gs slave os more rs (tells_lost given) done done'
+    pub ours : All (λ (r : Request). IsOurs gs slave r.gram) rs
+    pub undone : All (λ (r : Request). done r.gram ≡ false) rs
+
+  module _ (k : IsKnownLost) (d : IsDesk gs os slave (serves_of v) came (waiting_of slave rs) (begun_of slave rs)) where
+    abbrev Told : List Request → Type 0
+    Told qs = HasTold gs slave (serves_of v) lost os more came rs done done' qs
+
+    stay : AllBoth Stays (passed_rows v.turn.lived.life) (passed_rows lost.lead.lived.life)
+    stay = behind_stays lens recover retry gives made (record { sent = sent; fate = Lost after; back = back }) v
+
+    -- IT IS GIVEN UP
+    is_given : given ≡ true → Told (elsewhere slave rs)
+    is_given g = record {
+      desk = subst (λ bs. IsDesk gs (os ++ more) slave lost came (waiting_of slave (elsewhere slave rs)) bs) (sym (gone_begun slave rs)) (subst (λ ws. IsDesk gs (os ++ more) slave lost came ws []) (sym (gone_waits slave rs))
+          (desk_gone gs slave (serves_of v) lost came (waiting_of slave rs) (begun_of slave rs) os more (ap (λ z. if z then [] else v.waits) g) (ap (λ z. if z then None else told_on v.turn.lived.life.era.passing [] v.hand) g) stay d));
+      fares = λ number asked o request f.
+          subst (λ z. Fares lost came (waiting_of slave (elsewhere slave rs)) (begun_of slave (elsewhere slave rs)) z number asked (owed_for number (os ++ more))) (sym (besides.ended number o))
+          (subst (λ bs. Fares lost came (waiting_of slave (elsewhere slave rs)) bs (done number) number asked (owed_for number (os ++ more))) (sym (gone_begun slave rs)) (subst (λ ws. Fares lost came ws [] (done number) number asked (owed_for number (os ++ more))) (sym (gone_waits slave rs))
+          (fares_gone gs slave (serves_of v) lost came (waiting_of slave rs) (begun_of slave rs) os more (done number) number asked (owed_for number os) (owed_for number (os ++ more)) (k.given_up g) stay d
+          (λ e. besides.owed number o ∙ ap (λ ms. owed_for number os ++ ms) (ap (owed_for number) (append-nil (map (owing (error_of 5)) (waiting_of slave rs))) ∙ cut_among number (waiting_of slave rs) k.filed e))
+          (λ e. besides.owed number o ∙ ap (λ ms. owed_for number os ++ ms) (ap (owed_for number) (append-nil (map (owing (error_of 5)) (waiting_of slave rs))) ∙ cut_none number (waiting_of slave rs) (none_in number (waiting_of slave rs) e)) ∙ append-nil (owed_for number os))
+          f)));
+    }
+      where
+        besides : OwesBesides gs slave os more rs (events.GivenUp slave ∷ []) done done'
+        besides = subst (λ z. OwesBesides gs slave os more rs (tells_lost z) done done') g k.besides
+
+    -- IT ISN'T
+    module _ (g : given ≡ false) where
+      besides : OwesBesides gs slave os more rs [] done done'
+      besides = subst (λ z. OwesBesides gs slave os more rs (tells_lost z) done done') g k.besides
+
+      waits_is : lost.waits ≡ v.waits
+      waits_is = ap (λ z. if z then [] else v.waits) g
+
+      hand_is : (h : Option Passed) → v.hand ≡ h → lost.hand ≡ told_on v.turn.lived.life.era.passing [] h
+      hand_is h e = ap (λ z. if z then None else told_on v.turn.lived.life.era.passing [] v.hand) g ∙ ap (told_on v.turn.lived.life.era.passing []) e
+
+      by_none : v.hand ≡ None → Told rs
+      by_none e = tells_none gs slave (serves_of v) lost os more came rs done done' e (hand_is None e) waits_is stay k.gone besides k.ours d
+
+      nothing : (o : Option Passing) → replies_in o [] ≡ []
+      nothing None = refl
+      nothing (Some x) = refl
+
+      by_some : (p : Passed) → v.hand ≡ Some p → Told rs
+      by_some p e = tells_nothing gs slave (serves_of v) lost os more came rs [] done done' p new known d false (λ n. refl) (λ n. refl) (nothing v.turn.lived.life.era.passing) (keyed v.turn.lived.life.era.passing refl)
+        where
+          new : List Body
+          new = replies_in v.turn.lived.life.era.passing []
+
+          behind : lost.hand ≡ Some (record p { told = p.told ++ new })
+          behind = hand_is (Some p) e
+
+          known : IsBehind gs slave (serves_of v) lost os more came rs [] done done' p new
+          known = record {
+            waits = waits_is;
+            hand = e;
+            behind = behind;
+            stay = stay;
+            gone = k.gone;
+            own = k.own (record p { told = p.told ++ new }) behind;
+            owes = besides;
+            ours = k.ours;
+            undone = k.undone;
+          }
+
+          -- an open slave's mail goes on
+          goes : Goes v.turn.lived.life.era.passing → Goes lost.lead.lived.life.era.passing
+          goes o = lost_goes lens recover retry gives made (record { sent = sent; fate = Lost after; back = back }) v after g (k.opened p e) o
+
+          keyed : (o : Option Passing) → v.turn.lived.life.era.passing ≡ o → AllBoth (IsFor gs) (begun_of slave rs) (keyed_in lost.hand lost.lead.lived.life.era.passing)
+          keyed None f =
+              let over = unpassed_behind lens recover retry gives made (record { sent = sent; fate = Lost after; back = back }) v f in
+              subst (AllBoth (IsFor gs) (begun_of slave rs)) (ap (keyed_in v.hand) f ∙ keyed_none v.hand ∙ sym (ap (keyed_in lost.hand) over ∙ keyed_none lost.hand)) d.in_hand
+          keyed (Some y) f =
+              let on = goes (record { passing = y; is = f }) in
+              subst (AllBoth (IsFor gs) (begun_of slave rs)) ((λ i. keyed_in (e i) (f i)) ∙ sym (λ i. keyed_in (behind i) (on.is i))) d.in_hand
+
+      not_given : Told rs
+      not_given = go v.hand refl
+        where
+          go : (h : Option Passed) → v.hand ≡ h → Told rs
+          go None e = by_none e
+          go (Some p) e = by_some p e
+
+    pub slave_lost : Told (left_by_all (tells_lost given) rs)
+    slave_lost = go given refl
+      where
+        go : (z : Bool) → given ≡ z → Told (left_by_all (tells_lost z) rs)
+        go true g = is_given g
+        go false g = not_given g

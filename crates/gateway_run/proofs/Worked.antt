@@ -1,0 +1,107 @@
+-- WORKED ROWS: a datagram that asks for the value of IDN 1 from the drive at station 1001, and what it got. Its slave replies in three parts.
+use Rattle.std.proofs.Common.{ℕ, true, false, inl, inr, List, [], ◌∷◌, refl}
+use Rattle.std.specs.Prelude.{◌≢◌, Option, Some, None, Ok}
+use Rattle.kept_rows.specs.of_served_runs.Served.{Serves}
+use Rattle.mailbox_mail.specs.Mail.{error_of}
+use Rattle.mailbox_mail.specs.declared.mail.Kind.TheVariants.{SoE}
+use Rattle.mailbox_mail.specs.declared.mail.Mail.{Mail}
+use Rattle.gateway_core.specs.declared.framing.GatewayFault.TheVariants as faults
+use Rattle.master_node.specs.of_life_frames.of_exchange_model.Rows.{Row}
+use Rattle.master_node.specs.of_life_runs.of_link_mails.Body.{Body}
+use Rattle.master_node.specs.of_master_duty.Reply.{Reply}
+use Rattle.master_node.specs.of_master_hand.Spoken.{Asked, passed}
+use Rattle.run_book.specs.declared.book.GramIn.{GramIn}
+use Rattle.gateway_run.specs.Account.{Owing}
+use Rattle.gateway_run.specs.Replies.{AllGot, Fares.dropped, Fares.replies, Fares.waits, Got.ignored, Got.queued, Got.refused}
+use Rattle.gateway_run.specs.declared.desk.Request.{Request}
+
+-- a mail of SoE with this body, to the station and from it, with a counter
+abbrev counted : ℕ → List ℕ → Mail
+counted counter body = record { address = 1001; kind = SoE; counter = counter; body = record { items = body } }
+
+-- the same as it is told, without address and counter
+abbrev bare : List ℕ → Mail
+bare body = record { address = 0; kind = SoE; counter = 0; body = record { items = body } }
+
+-- the mail that asks, and the parts of the reply: others follow the first two
+abbrev asking : List ℕ
+asking = 1 ∷ 64 ∷ 1 ∷ 0 ∷ []
+
+abbrev part1 : List ℕ
+part1 = 10 ∷ 64 ∷ 2 ∷ 0 ∷ 65 ∷ []
+
+abbrev part2 : List ℕ
+part2 = 10 ∷ 64 ∷ 1 ∷ 0 ∷ 66 ∷ []
+
+abbrev part3 : List ℕ
+part3 = 2 ∷ 64 ∷ 1 ∷ 0 ∷ 67 ∷ []
+
+-- THE DATAGRAM of that mail, with this about where it was passed on; and one that is too short
+abbrev heard_at : Option ℕ → GramIn
+heard_at slave = record { peer = record { ip = 2130706433; port = 34980 }; bytes = 10 ∷ 80 ∷ 4 ∷ 0 ∷ 233 ∷ 3 ∷ 0 ∷ 21 ∷ asking; queued = slave; frame = 0 }
+
+abbrev short : GramIn
+short = record { peer = record { ip = 2130706433; port = 34980 }; bytes = 2 ∷ 80 ∷ 4 ∷ 0 ∷ 233 ∷ 3 ∷ 0 ∷ []; queued = None; frame = 0 }
+
+-- its request at the desk
+abbrev asked_for : List Request
+asked_for = record { key = 7; slave = 0; gram = 0; begun = false } ∷ []
+
+abbrev begun_for : List Request
+begun_for = record { key = 7; slave = 0; gram = 0; begun = true } ∷ []
+
+-- a mail that is owed by it
+abbrev owed : Mail → Owing
+owed mail = record { gram = 0; mail = mail }
+
+-- IT IS IGNORED, as what is no request
+pub ignored_row : (ws : List Serves) (came : List (List ℕ)) → AllGot ws came [] [] [] 0 (short ∷ [])
+ignored_row ws came = (ignored faults.Short refl refl refl, tt)
+
+-- IT GETS ONE ERROR, where no slave has the station
+pub refused_row : (ws : List Serves) (came : List (List ℕ)) → AllGot ws came [] [] (owed (error_of 5) ∷ []) 0 (heard_at None ∷ [])
+refused_row ws came = (refused (counted 1 asking) 5 refl refl refl, tt)
+
+module _ (w : Serves) where
+  -- ITS MAIL WAITS
+  pub waits_row : AllGot (w ∷ []) ([] ∷ []) asked_for [] [] 0 (heard_at (Some 0) ∷ [])
+  waits_row = (queued (counted 1 asking) 0 w [] refl refl refl refl (waits refl refl refl), tt)
+
+  -- ITS SLAVE WAS GIVEN UP before the mail came into hand: one mailbox error 5
+  pub dropped_row : w.lead.lived.life.gave ≢ [] → AllGot (w ∷ []) ([] ∷ []) [] [] (owed (error_of 5) ∷ []) 0 (heard_at (Some 0) ∷ [])
+  dropped_row gave = (queued (counted 1 asking) 0 w [] refl refl refl refl (dropped refl refl refl refl gave refl), tt)
+
+  -- the row of its mail, in which these mails were heard
+  abbrev row : List Body → Row Body Asked Reply
+  row heard = record { service = passed (bare asking); frame = 3; told = Ok (bare asking) ∷ []; heard = heard; answer = None }
+
+  -- the slave with just that row
+  abbrev with_row : List Body → Serves
+  with_row heard = record w {
+    lead = record w.lead {
+      lived = record w.lead.lived {
+        life = record w.lead.lived.life { past = []; era = record w.lead.lived.life.era { side = record w.lead.lived.life.era.side { past = []; now = Some (row heard) } } };
+      };
+    };
+  }
+
+  -- all three parts, as they were heard
+  abbrev all : List Body
+  all = Ok (counted 1 part1) ∷ Ok (counted 2 part2) ∷ Ok (counted 3 part3) ∷ []
+
+  -- TWO OF THREE REPLIES were told so far, and its request is unfinished
+  pub begun_row : AllGot (with_row all ∷ []) ((0 ∷ []) ∷ []) begun_for [] (owed (bare part1) ∷ owed (bare part2) ∷ []) 0 (heard_at (Some 0) ∷ [])
+  begun_row = (
+    queued (counted 1 asking) 0 (with_row all) (0 ∷ []) refl refl refl refl
+        (replies (Ok (counted 1 part1) ∷ Ok (counted 2 part2) ∷ [])
+        (record { index = 0; its = refl; row = row all; is = refl; mail = bare asking; same = record { kind = refl; body = refl }; service = refl; rest = Ok (counted 3 part3) ∷ []; heard = refl }) (inl refl) refl),
+    tt,
+  )
+
+  -- ITS ROW IS DONE: it has all three
+  pub done_row : AllGot (with_row all ∷ []) ((0 ∷ []) ∷ []) [] (0 ∷ []) (owed (bare part1) ∷ owed (bare part2) ∷ owed (bare part3) ∷ []) 0 (heard_at (Some 0) ∷ [])
+  done_row = (
+    queued (counted 1 asking) 0 (with_row all) (0 ∷ []) refl refl refl refl
+        (replies all (record { index = 0; its = refl; row = row all; is = refl; mail = bare asking; same = record { kind = refl; body = refl }; service = refl; rest = []; heard = refl }) (inr refl) refl),
+    tt,
+  )
