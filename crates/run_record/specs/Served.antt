@@ -1,6 +1,6 @@
 -- THE FRAMES OF A SERVING ARE LED by its master: each is just what the lives of the slaves ask for, from the plan's new lives on, with the mails that are asked
 -- between the frames.
-use Rattle.std.specs.Prelude.{◌≡◌, ◌≤◌, ◌+◌, ℕ, Bool, true, false, None, Some, List, [], ◌∷◌, ◌++◌, length, map, filter, slice_get}
+use Rattle.std.specs.Prelude.{◌≡◌, ◌≤◌, ◌+◌, ℕ, Bool, true, false, None, Some, List, [], ◌∷◌, ◌++◌, length, map, filter, slice_get, All}
 use Rattle.mailbox_mail.specs.declared.mail.Mail.{Mail}
 use Rattle.master_node.specs.Begins.{begun_of}
 use Rattle.master_node.specs.Events.{served_tells}
@@ -11,7 +11,7 @@ use Rattle.master_node.specs.Listing.{events_in, told_in}
 use Rattle.master_node.specs.Origins.{forwards_at}
 use Rattle.master_node.specs.Serving.{IsAsked, ServedShows, ServedUnder, run_lead, run_turn}
 use Rattle.master_node.specs.Shows.{is_carried}
-use Rattle.master_node.specs.Wants.{gave_of}
+use Rattle.master_node.specs.Wants.{gave_of, IsServedOut}
 use Rattle.master_node.specs.declared.event.Event.{Event}
 use Rattle.master_node.specs.declared.node.MasterNode.{MasterNode}
 use Rattle.master_node.specs.of_frame_view.Seen.{seen}
@@ -101,6 +101,10 @@ ServingGoesOn s s' f = (plan : Scenario) (fs : List Exchanged) → s.recover ≡
 -- SOME SLAVE IS LIVE, where a serving is led
 abbrev pub ServingLives : SessionState → Type 0
 ServingLives s = (plan : Scenario) (fs : List Exchanged) → s.recover ≡ plan.recover → Serving plan s fs → has_live s.master ≡ true
+
+-- NO MAIL IS LEFT, where a serving is led: each slave was given up for good, or it is open, none waits for it, and none that is passed on is in hand
+abbrev pub ServingRests : SessionState → Type 0
+ServingRests s = (plan : Scenario) (fs : List Exchanged) (old : Serving plan s fs) → All IsServedOut old.leading.serves
 
 -- A MAIL IS ASKED, as it is, under the key of its asker: it waits behind those of its slave, and nothing else of the lives changes
 pub record AsksOn (plan : Scenario) (slave key : ℕ) (mail : Mail) (s s' : SessionState) (fs : List Exchanged) (old : Serving plan s fs) : Type 0 where

@@ -32,7 +32,7 @@ ghost use Rattle.run_book.specs.Ports.{ports_of};
 ghost use Rattle.run_record.specs.Recalling.{RunBegins};
 ghost use Rattle.run_notes.specs.Switched.{SameSwitch};
 ghost use Rattle.run_record.specs.Replay.{first_ring};
-ghost use Rattle.run_record.specs.Served.{ServingAsks, ServingBegins, ServingGoesOn, ServingLives, TellsBehind};
+ghost use Rattle.run_record.specs.Served.{ServingAsks, ServingBegins, ServingGoesOn, ServingLives, ServingRests, TellsBehind};
 ghost use Rattle.run_record.specs.Session.{budget_of, smaller_bound, rests_at, session_rows, first_session, are_at_rest, some_given_up, has_live, IsLeftBy, StillWants, Steps, Stops, Asks};
 ghost use Rattle.run_notes.specs.Slaves.{slave_row, slave_rows, KeepsRest};
 
@@ -266,12 +266,14 @@ impl Session {
         })
     }
 
-    /// Whether nothing is left to do, for the master and at each live slave. Where something is, and a serving is led, some slave is live.
+    /// Whether nothing is left to do, for the master and at each live slave. Where a serving is led and something is, some slave is live; where nothing is, no
+    /// mail is left that was passed on to a slave, unless that was given up for good.
     pub fn settled(&self) -> bool
         ensures rest { OnTrue result (are_at_rest (session_rows self.now) ≡ true) }
         ensures left { OnTrue result (IsLeftBy self.now.master) }
         ensures wants { OnFalse result (StillWants self.now) }
         ensures lives { OnFalse result (ServingLives self.now) }
+        ensures served { OnTrue result (ServingRests self.now) }
         ensures busy { OnFalse result ((are_at_rest (session_rows self.now) ≡ false) ⊎ (has_live self.now.master ≡ true)) }
     {
         if self.master.wants() {

@@ -1,5 +1,7 @@
-use Rattle.std.proofs.Common.{◌≡◌, inl, inr, true, false, sym, ap, ◌∙◌, subst, rules}
+use Rattle.std.proofs.Common.{◌≡◌, inl, inr, true, false, sym, ap, ◌∙◌, subst, length, rules}
 use Rattle.std.proofs.lemmas.Bool.{OnTrue_at, OnTrue_from, OnFalse_at, OnFalse_from}
+use Rattle.master_node.specs.of_life_runs.First.{lens_of}
+use Rattle.run_record.specs.Served.{ServingRests}
 use Rattle.run_record.specs.Session.{SessionState, has_live, IsLeftBy, StillWants}
 use Rattle.run_record.proofs.ServedGaves.{serving_live}
 use Rattle.run_record.proofs.session.Session.settled.Goals as goal
@@ -13,6 +15,13 @@ pub returns-clause-left : goal.returns-clause-left
 returns-clause-left c =
     let no : c.wants.result ≡ false = search rules in
     OnTrue_from c.are_at_rest.result _ (λ e. subst (λ (s : SessionState). IsLeftBy s.master) c.self.view_is (OnFalse_at no c.wants.ensures.left))
+
+pub returns-clause-served : goal.returns-clause-served
+returns-clause-served c =
+    let no : c.wants.result ≡ false = search rules in
+    OnTrue_from c.are_at_rest.result _
+    (λ e. subst ServingRests c.self.view_is
+    (λ plan fs old. OnFalse_at no c.wants.ensures.served (lens_of plan.slaves) plan.recover plan.retry old.leading.missed (length fs) old.leading.serves old.leading.shows))
 
 pub returns-clause-rest : goal.returns-clause-rest
 returns-clause-rest c = OnTrue_from c.are_at_rest.result _ (λ e. sym c.are_at_rest.ensures ∙ e)
