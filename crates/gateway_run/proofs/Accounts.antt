@@ -269,6 +269,19 @@ pub fewer_found : (slave : ℕ) (rs : List Request) (r : Request) → find (is_o
 fewer_found slave [] r is = absurd (cc)
 fewer_found slave (q ∷ rs) r is = fewer_at slave q rs r (q.slave == slave) is (fewer_found slave rs r)
 
+least_step : (key : ℕ) (r : Request) (rs : List Request) (same : Bool) → (r.key == key) ≡ same → IsFree r.key rs → length rs ≤ length (others key rs) + 1 → length (r ∷ rs) ≤ length (others key (r ∷ rs)) + 1
+least_step key r rs true same free least =
+    let n : length (others key (r ∷ rs)) ≡ length rs = subst (λ (k : ℕ). length (others k (r ∷ rs)) ≡ length rs) (same_key r.key key same) (ap length (others_first r rs free)) in
+    omega (arith, n)
+least_step key r rs false same free least =
+    let n = ap length (others_kept key r rs (λ k. let e = eq-eqb r.key key k in absurd (cc))) in
+    omega (arith, n, least)
+
+-- at most one request has a key
+pub others_least : (key : ℕ) (rs : List Request) → AreApart rs → length rs ≤ length (others key rs) + 1
+others_least key [] apart = omega arith
+others_least key (r ∷ rs) apart = least_step key r rs (r.key == key) refl apart.0 (others_least key rs apart.1)
+
 get_any : (rs : List Request) (k : ℕ) (d d' : Request) → k < length rs → slice_index_or rs k d ≡ slice_index_or rs k d'
 get_any [] k d d' inside = absurd (omega (arith, inside))
 get_any (q ∷ rs) zero d d' inside = refl

@@ -1,8 +1,8 @@
 -- What keeps a desk sound.
-use Rattle.std.proofs.Common.{◌≡◌, ℕ, zero, suc, List, [], ◌∷◌, ◌++◌, length, Bool, true, refl, sym, ap, ◌∙◌, subst, eq-eqb}
+use Rattle.std.proofs.Common.{◌≡◌, ℕ, zero, suc, List, [], ◌∷◌, ◌++◌, length, length-append, Bool, true, refl, sym, ap, ◌∙◌, subst, eq-eqb, arith}
 use Rattle.std.specs.Prelude.{◌≢◌, ◌==◌, not, filter, slice_get, Option, Some, None, All, IfSome}
-use Rattle.std.proofs.lemmas.List.Elements.{All-weaker, All-filter, filter_passes}
-use Rattle.slab.specs.Slab.{Slab, Updates, get}
+use Rattle.std.proofs.lemmas.List.Elements.{All-weaker, All-push, All-filter, filter_passes}
+use Rattle.slab.specs.Slab.{Slab, Updates, get, slab_len}
 use Rattle.ec_outside.specs.Port.{HeardGram}
 use Rattle.ec_outside.specs.declared.port.Peer.{Peer}
 use Rattle.mailbox_mail.specs.declared.mail.Mail.{Mail}
@@ -10,11 +10,12 @@ use Rattle.gateway_core.specs.Framing.{gram_text}
 use Rattle.gateway_core.specs.Gateway.{RepliesTo}
 use Rattle.gateway_core.specs.declared.asker.Asker.{Asker}
 use Rattle.run_book.specs.declared.book.GramOut.{GramOut}
-use Rattle.gateway_run.specs.Account.{is_other, owing, Spells}
+use Rattle.gateway_run.specs.Account.{is_other, owing, IsFree, Spells}
 use Rattle.gateway_run.specs.Heard.{IsOwed}
-use Rattle.gateway_run.specs.Desk.{IsOpen, IsSound}
+use Rattle.gateway_run.specs.Desk.{AreApart, IsOpen, IsSoundBut, IsSound}
 use Rattle.gateway_run.specs.declared.desk.Request.{Request}
 use Rattle.gateway_run.specs.declared.desk.Desk.{Desk}
+use Rattle.gateway_run.proofs.Accounts.{apart_push}
 
 pub get_more : {X : Type 0} (xs ys : List X) (k : ℕ) (x : X) → slice_get xs k ≡ Some x → slice_get (xs ++ ys) k ≡ Some x
 get_more [] ys k x is = absurd (cc)
@@ -57,7 +58,32 @@ pub sound_more : (heard more : List HeardGram) (d : Desk) → IsSound heard d �
 sound_more heard more d s = record {
   requests = All-weaker (IsOpen d.gateway heard) (IsOpen d.gateway (heard ++ more)) (open_more d.gateway heard more) d.requests.items s.requests;
   apart = s.apart;
+  few = s.few;
   owed = all_owed_more heard more d.outbox.items s.owed;
+}
+
+-- a desk of the same requests
+pub sound_same : (heard : List HeardGram) (d d' : Desk) → d'.gateway ≡ d.gateway → d'.requests.items ≡ d.requests.items → All (IsOwed heard) d'.outbox.items → IsSound heard d → IsSound heard d'
+sound_same heard d d' gateway requests owed s = record {
+  requests = subst (λ (g : Slab Asker). All (IsOpen g heard) d'.requests.items) (sym gateway) (subst (All (IsOpen d.gateway heard)) (sym requests) s.requests);
+  apart = subst AreApart (sym requests) s.apart;
+  few = let g = ap (λ (k : Slab Asker). slab_len k) gateway in let n = ap length requests in let few = s.few in omega (arith, g, n, few);
+  owed = owed;
+}
+
+-- a request that the gateway has is put behind the others
+pub put_sound : (heard : List HeardGram) (d d' : Desk) (r : Request) → d'.gateway ≡ d.gateway → d'.requests.items ≡ d.requests.items ++ r ∷ [] → All (IsOwed heard) d'.outbox.items → IsOpen d.gateway heard r → IsFree r.key d.requests.items →
+    IsSoundBut 1 heard d → IsSound heard d'
+put_sound heard d d' r gateway requests owed stands free s = record {
+  requests = subst (λ (g : Slab Asker). All (IsOpen g heard) d'.requests.items) (sym gateway)
+      (subst (All (IsOpen d.gateway heard)) (sym requests) (All-push (IsOpen d.gateway heard) d.requests.items r s.requests stands));
+  apart = subst AreApart (sym requests) (apart_push d.requests.items r s.apart free);
+  few =
+      let g = ap (λ (k : Slab Asker). slab_len k) gateway in
+      let n = ap length requests ∙ length-append d.requests.items (r ∷ []) in
+      let few = s.few in
+      omega (arith, g, n, few);
+  owed = owed;
 }
 
 -- a request stands whatever becomes of another key

@@ -1,6 +1,7 @@
 -- A serving at its end.
 use Rattle.std.proofs.Common.{◌≡◌, ℕ, ◌<◌, ◌≤◌, ◌⊎◌, [], ◌++◌, List, length, map, Bool, true, false, not, ◌&&◌, nat_lt, refl, sym, ap, ◌∙◌, subst, inl, inr, ltb-false, lt-ltb, arith}
-use Rattle.std.specs.Prelude.{◌≢◌, All, Result, Err}
+use Rattle.std.specs.Prelude.{◌≢◌, All, Result, Err, count_by, is_some}
+use Rattle.slab.specs.Slab.{slab_len}
 use Rattle.gateway_run.specs.declared.stop.Stop.{Stop}
 use Rattle.gateway_run.specs.declared.stop.Stop.TheVariants as stops
 use Rattle.std.proofs.lemmas.List.Elements.{All-nil}
@@ -21,7 +22,7 @@ use Rattle.gateway_run.proofs.Room.{small_budget}
 use Rattle.run_record.proofs.Underway.{begun, has_frames, ended}
 use Rattle.gateway_run.specs.Heard.{heard_as, AreHeard, AreSent, AreSentBut, IsOwed, IsRightly}
 use Rattle.gateway_run.specs.Account.{Course, Course.begins}
-use Rattle.gateway_run.specs.Desk.{IsOpen, AreApart}
+use Rattle.gateway_run.specs.Desk.{HasNone, IsOpen, AreApart}
 use Rattle.gateway_run.specs.Serving.{Told, IsOn, IsServing, IsFaulted, Goes, can_hear}
 use Rattle.gateway_run.specs.Served.{HasGrams, HasAccount, IsBroken, IsServed}
 use Rattle.gateway_run.specs.declared.turn.Serving.{Serving}
@@ -29,9 +30,9 @@ use Rattle.gateway_run.proofs.Answering.{course_answers}
 use Rattle.gateway_run.proofs.Turns.{heard_none, sent_none, course_same, spelled_same}
 
 -- before the first turn
-pub first_serving : (plan : Scenario) (count : ℕ) (now : Told) (v : Serving) (b : Book) → v.session ≡ first_session plan count v.session.master → ServingBegins plan v.session → v.desk.requests.items ≡ [] → v.desk.outbox.items ≡ [] → v.count ≡ count → v.over ≡ false → IsNew b → count < 4294967296 → IsPlan plan →
+pub first_serving : (plan : Scenario) (count : ℕ) (now : Told) (v : Serving) (b : Book) → v.session ≡ first_session plan count v.session.master → ServingBegins plan v.session → HasNone v.desk → v.desk.outbox.items ≡ [] → v.count ≡ count → v.over ≡ false → IsNew b → count < 4294967296 → IsPlan plan →
     IsServing plan count now now v b
-first_serving plan count now v b session serves requests outbox counts over new fits sound = record {
+first_serving plan count now v b session serves none outbox counts over new fits sound = let requests = none.0 in record {
   on = record {
     underway = begun plan count v.session b session new;
     counts = counts;
@@ -42,6 +43,7 @@ first_serving plan count now v b session serves requests outbox counts over new 
     sound = record {
       requests = subst (All (IsOpen v.desk.gateway (map heard_as b.grams))) (sym requests) (All-nil (IsOpen v.desk.gateway (map heard_as b.grams)));
       apart = subst AreApart (sym requests) tt;
+      few = let n : slab_len v.desk.gateway ≡ 0 = ap (count_by is_some) none.1 in omega (arith, n);
       owed = subst (All (IsOwed (map heard_as b.grams))) (sym outbox) (All-nil (IsOwed (map heard_as b.grams)));
     };
     answered = subst (All (IsOwed (map heard_as b.grams))) (sym new.replies) (All-nil (IsOwed (map heard_as b.grams)));

@@ -1,7 +1,10 @@
 -- What becomes of a datagram.
 use Rattle.std.proofs.Common.{◌≡◌, ℕ, suc, ◌+◌, ◌≤◌, List, [], ◌∷◌, ◌++◌, length, Bool, true, false, refl, sym, ap, ◌∙◌, subst, arith, ltb-false, eqb-true}
+use Rattle.std.proofs.lemmas.Bool.{leb-true}
+use Rattle.std.proofs.lemmas.List.Sums.{count_by-le-length}
 use Rattle.std.specs.Prelude.{◌==◌, nat_lt, nat_le, slice_get, Option, Some, None, Result, Ok, Err, IfSome, if◌then◌else◌}
-use Rattle.slab.specs.Slab.{Slab, Updates, get}
+use Rattle.slab.specs.Slab.{Slab, Updates, entries, get, slab_len}
+use Rattle.slab.proofs.SlabLemmas.{length-entries}
 use Rattle.ec_outside.specs.Port.{HeardGram}
 use Rattle.ec_outside.specs.declared.port.Peer.{Peer}
 use Rattle.mailbox_mail.specs.Mail.{error_of}
@@ -18,7 +21,7 @@ use Rattle.run_record.specs.Session.{SessionState}
 use Rattle.run_record.proofs.of_run_notes.Stations.{stands_at_home}
 use Rattle.gateway_run.specs.Account.{IsFree, Spells, Judges.ignored as is_ignored, Judges.refused as is_refused, Judges.too_many, Judges.queues}
 use Rattle.gateway_run.specs.Heard.{IsOwed, IsPassedOn, IsJudged}
-use Rattle.gateway_run.specs.Desk.{IsOpen, Passes, IsTaken}
+use Rattle.gateway_run.specs.Desk.{IsOpen, IsSound, Passes, IsTaken}
 use Rattle.gateway_run.specs.declared.desk.Desk.{Desk}
 use Rattle.gateway_run.proofs.Accounts.{owes_none, owes_one}
 use Rattle.gateway_run.proofs.Desks.{get_last}
@@ -75,13 +78,14 @@ module _ (old new : Slab Asker) (peer : Peer) (stations : List (Option (ℕ × �
     pub place : judged old mail stations ≡ Ok slave
     pub vacant : get old key ≡ None
     pub updates : Updates old new key (Some asker)
+    pub one : slab_len new ≡ slab_len old + 1
     pub peer_is : asker.peer ≡ peer
     pub station_is : asker.station ≡ mail.address
     pub counter_is : asker.counter ≡ mail.counter
 
   put_so : (m : Mail) (slave' key' key slave : ℕ) (mail : Mail) (asker : Asker) → asked.Queued key slave mail ≡ asked.Queued key' slave' m → judged old m stations ≡ Ok slave' → get old key' ≡ None →
-      Updates old new key' (Some asker) → IsAsker peer slave' m asker → IsPut (Ok m) key slave mail
-  put_so m slave' key' key slave mail asker same place vacant updates is =
+      Updates old new key' (Some asker) → slab_len new ≡ slab_len old + 1 → IsAsker peer slave' m asker → IsPut (Ok m) key slave mail
+  put_so m slave' key' key slave mail asker same place vacant updates one is =
       let k : key' ≡ key = cc in
       let sl : slave' ≡ slave = cc in
       let ml : m ≡ mail = cc in
@@ -91,13 +95,14 @@ module _ (old new : Slab Asker) (peer : Peer) (stations : List (Option (ℕ × �
         place = subst (λ (x : Mail). judged old x stations ≡ Ok slave) ml (place ∙ ap Ok sl);
         vacant = subst (λ (n : ℕ). get old n ≡ None) k vacant;
         updates = subst (λ (n : ℕ). Updates old new n (Some asker)) k updates;
+        one = one;
         peer_is = is.of_peer;
         station_is = is.of_station ∙ ap (λ (x : Mail). x.address) ml;
         counter_is = is.of_counter ∙ ap (λ (x : Mail). x.counter) ml;
       }
 
   mail_put : (m : Mail) (j : Result ℕ ℕ) (key slave : ℕ) (mail : Mail) → judged old m stations ≡ j → AnswersMail old new peer m j (asked.Queued key slave mail) → IsPut (Ok m) key slave mail
-  mail_put m (Ok slave') key slave mail is q = put_so m slave' q.key key slave mail q.asker q.queued is q.vacant q.updates q.is_asker
+  mail_put m (Ok slave') key slave mail is q = put_so m slave' q.key key slave mail q.asker q.queued is q.vacant q.updates q.one q.is_asker
   mail_put m (Err detail) key slave mail is e = let no = e.0 in absurd (cc)
 
   pub put : (r : Result Mail GatewayFault) (key slave : ℕ) (mail : Mail) → Answers old new peer stations r (asked.Queued key slave mail) → IsPut r key slave mail
@@ -208,6 +213,27 @@ pub judged_so : (homes : List (ℕ × ℕ)) (octets : List ℕ) (slave : ℕ) �
 judged_so homes octets slave on None is = tt
 judged_so homes octets slave on (Some n) is = subst (IsPassedOn homes octets) (sym is) on
 
+-- the detail of an error
+abbrev detail_of : Result ℕ ℕ → ℕ
+detail_of (Ok slave) = 0
+detail_of (Err detail) = detail
+
+full_with : (slave : ℕ) (passed long full : Bool) → judged_with slave passed long full ≡ Err 7 → full ≡ true
+full_with slave true false true is = refl
+full_with slave true false false is = absurd (cc)
+full_with slave true true full is = let e : 8 ≡ 7 = ap detail_of is in absurd (omega (arith, e))
+full_with slave false long full is = let e : 2 ≡ 7 = ap detail_of is in absurd (omega (arith, e))
+
+-- error 7 comes only where 64 requests aren't finished
+full_at : (g : Slab Asker) (mail : Mail) (place : Option (ℕ × ℕ)) → judged_at g mail place ≡ Err 7 → 64 ≤ slab_len g
+full_at g mail None is = let e : 5 ≡ 7 = ap detail_of is in absurd (omega (arith, e))
+full_at g mail (Some place) is =
+    let full = full_with place.0 (is_passed mail.kind) (nat_lt place.1 (6 + length mail.body.items)) (nat_le 64 (unfinished_at place.0 g)) is in
+    let many : 64 ≤ unfinished_at place.0 g = leb-true 64 (unfinished_at place.0 g) full in
+    let most : unfinished_at place.0 g ≤ length (entries g) = count_by-le-length (λ (entry : ℕ × Asker). entry.1.slave == place.0) (entries g) in
+    let n = length-entries g in
+    omega (arith, many, most, n)
+
 module _ (s : SessionState) (stations : List (Option (ℕ × ℕ))) (are : stations ≡ stations_of s.recover s.homes s.notes) (heard : List HeardGram) (g : HeardGram) (octets : List ℕ) (number : ℕ) (d : Desk) where
   -- a datagram that is no request was taken
   pub taken_ignored : (d' : Desk) (fault : GatewayFault) → request_in octets ≡ Err fault → d'.requests.items ≡ d.requests.items → d'.outbox.items ≡ d.outbox.items →
@@ -219,9 +245,9 @@ module _ (s : SessionState) (stations : List (Option (ℕ × ℕ))) (are : stati
   }
 
   -- one that is answered by an error
-  pub taken_refused : (d' : Desk) (mail : Mail) (detail : ℕ) (r : GramOut) → request_in octets ≡ Ok mail → judged d.gateway mail stations ≡ Err detail → d'.requests.items ≡ d.requests.items → d'.outbox.items ≡ d.outbox.items ++ r ∷ [] →
+  pub taken_refused : (d' : Desk) (mail : Mail) (detail : ℕ) (r : GramOut) → IsSound heard d → request_in octets ≡ Ok mail → judged d.gateway mail stations ≡ Err detail → d'.requests.items ≡ d.requests.items → d'.outbox.items ≡ d.outbox.items ++ r ∷ [] →
       Spells (heard ++ g ∷ []) (record { gram = number; mail = error_of detail }) r → IsTaken s s number (heard ++ g ∷ []) octets d d' None
-  taken_refused d' mail detail r request cause requests outbox spells = record {
+  taken_refused d' mail detail r sound request cause requests outbox spells = record {
     more = record { gram = number; mail = error_of detail } ∷ [];
     judges = is_refused (record {
       mail = mail;
@@ -229,6 +255,7 @@ module _ (s : SessionState) (stations : List (Option (ℕ × ℕ))) (are : stati
       unfinished = d.gateway;
       request = request;
       cause = subst (λ (l : List (Option (ℕ × ℕ))). judged d.gateway mail l ≡ Err detail) are cause;
+      seldom = λ less same. let full = full_at d.gateway mail (place_from 0 mail.address stations) (cause ∙ ap Err same) in let few = sound.few in omega (arith, full, few, less);
       nowhere = refl;
       session = refl;
       requests = requests;

@@ -22,10 +22,8 @@ use Rattle.run_record.specs.of_run_notes.Slaves.{home_of}
 use Rattle.run_record.specs.Ran.{HasSent, IsUnderway}
 use Rattle.run_record.proofs.Underway.{same_on, has_frames, stepped_on, stopped}
 use Rattle.gateway_run.specs.Heard.{heard_as, sent_as, AreHeard, AreSent, AreSentBut, IsOwed, IsRightly}
-use Rattle.slab.specs.Slab.{Slab}
-use Rattle.gateway_core.specs.declared.asker.Asker.{Asker}
 use Rattle.gateway_run.specs.Account.{Owing, Course, Course.hears, Course.steps, AreSpelled, left_by_all, owed_by_all}
-use Rattle.gateway_run.specs.Desk.{IsOpen, AreApart, IsSound, AsksMails, Owes, NotesAll, Takes, TakesSo}
+use Rattle.gateway_run.specs.Desk.{IsSound, AsksMails, Owes, NotesAll, Takes, TakesSo}
 use Rattle.gateway_run.specs.declared.desk.Request.{Request}
 use Rattle.gateway_run.specs.Serving.{Told, IsOn, IsServing, IsFaulted, Listens, PutsOne, SentOne, FailedOne, SendsOne, Goes, left}
 use Rattle.gateway_run.specs.declared.desk.Desk.{Desk}
@@ -33,7 +31,7 @@ use Rattle.gateway_run.specs.declared.stop.Stop.{Stop}
 use Rattle.gateway_run.specs.declared.stop.Stop.TheVariants as stops
 use Rattle.gateway_run.specs.declared.turn.Serving.{Serving}
 use Rattle.gateway_run.proofs.Accounts.{spelled_both, spelled_more}
-use Rattle.gateway_run.proofs.Desks.{all_owed_more}
+use Rattle.gateway_run.proofs.Desks.{all_owed_more, sound_same}
 
 pub map_push : {A B : Type 0} (f : A → B) (xs : List A) (x : A) → map f (xs ++ x ∷ []) ≡ map f xs ++ f x ∷ []
 map_push f [] x = refl
@@ -316,11 +314,8 @@ module _ (plan : Scenario) (count : ℕ) (first : Told) where
         course = course_same plan count v.session v'.session b.frames b'.frames b.grams b'.grams v.desk.requests.items v'.desk.requests.items h.owed session (ap (λ (x : Book). x.frames) put) grams requests h.course;
         spelled = spelled_same (map heard_as b.grams) (map heard_as b'.grams) h.owed (b.replies ++ v.desk.outbox.items) (b'.replies ++ v'.desk.outbox.items) (ap (map heard_as) grams)
             (ap (λ (l : List GramOut). l ++ v'.desk.outbox.items) replies ∙ append_assoc b.replies (r ∷ []) v'.desk.outbox.items ∙ ap (λ (l : List GramOut). b.replies ++ l) (sym outbox)) h.spelled;
-        sound = subst (λ (l : List GramIn). IsSound (map heard_as l) v'.desk) (sym grams) (record {
-          apart = subst AreApart (sym requests) h.sound.apart;
-          requests = subst (λ (g : Slab Asker). All (IsOpen g (map heard_as b.grams)) v'.desk.requests.items) (sym gateway) (subst (All (IsOpen v.desk.gateway (map heard_as b.grams))) (sym requests) h.sound.requests);
-          owed = All-tail (IsOwed (map heard_as b.grams)) r v'.desk.outbox.items owed;
-        });
+        sound = subst (λ (l : List GramIn). IsSound (map heard_as l) v'.desk) (sym grams)
+            (sound_same (map heard_as b.grams) v.desk v'.desk gateway requests (All-tail (IsOwed (map heard_as b.grams)) r v'.desk.outbox.items owed) h.sound);
         answered = subst (λ (l : List GramIn). All (IsOwed (map heard_as l)) b'.replies) (sym grams)
             (subst (All (IsOwed (map heard_as b.grams))) (sym replies) (All-push (IsOwed (map heard_as b.grams)) b.replies r h.answered (All-head (IsOwed (map heard_as b.grams)) r v'.desk.outbox.items owed)));
         judged = subst (All (IsRightly (map home_of plan.slaves))) (sym grams) h.judged;
@@ -364,11 +359,7 @@ module _ (plan : Scenario) (count : ℕ) (first : Told) where
       owed = h.on.owed;
       course = course_same plan count v.session v'.session b.frames b.frames b.grams b.grams v.desk.requests.items v'.desk.requests.items h.on.owed session refl refl requests h.on.course;
       spelled = spelled_same (map heard_as b.grams) (map heard_as b.grams) h.on.owed (b.replies ++ v.desk.outbox.items) (b.replies ++ v'.desk.outbox.items) refl (ap (λ (l : List GramOut). b.replies ++ l) outbox) h.on.spelled;
-      sound = record {
-        apart = subst AreApart (sym requests) h.on.sound.apart;
-        requests = subst (λ (g : Slab Asker). All (IsOpen g (map heard_as b.grams)) v'.desk.requests.items) (sym gateway) (subst (All (IsOpen v.desk.gateway (map heard_as b.grams))) (sym requests) h.on.sound.requests);
-        owed = subst (All (IsOwed (map heard_as b.grams))) (sym outbox) h.on.sound.owed;
-      };
+      sound = sound_same (map heard_as b.grams) v.desk v'.desk gateway requests (subst (All (IsOwed (map heard_as b.grams))) (sym outbox) h.on.sound.owed) h.on.sound;
       answered = h.on.answered;
       judged = h.on.judged;
     };

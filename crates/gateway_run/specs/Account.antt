@@ -1,5 +1,5 @@
 -- What a serving owes its peers, by what it hears and what its session tells.
-use Rattle.std.specs.Prelude.{◌≡◌, ◌≢◌, ◌≤◌, ◌+◌, ℕ, ◌==◌, ◌&&◌, Bool, true, false, not, if◌then◌else◌, List, [], ◌∷◌, ◌++◌, length, map, filter, find, slice_get, All, Option, Some, None, Ok, Err}
+use Rattle.std.specs.Prelude.{◌≡◌, ◌≢◌, ◌<◌, ◌≤◌, ◌+◌, ℕ, ◌==◌, ◌&&◌, Bool, true, false, not, if◌then◌else◌, List, [], ◌∷◌, ◌++◌, length, map, filter, find, slice_get, All, Option, Some, None, Ok, Err}
 use Rattle.slab.specs.Slab.{Slab}
 use Rattle.ec_outside.specs.Port.{HeardGram}
 use Rattle.mailbox_mail.specs.Mail.{error_of}
@@ -113,13 +113,14 @@ pub record IsIgnored (s s' : SessionState) (rs rs' : List Request) (octets : Lis
   pub requests : rs' ≡ rs
   pub nothing : more ≡ []
 
--- one that the gateway answers by itself: one error, the first whose cause is there
+-- one that the gateway answers by itself: one error, the first whose cause is there; error 7 comes only where 64 requests aren't finished
 pub record IsRefused (s s' : SessionState) (rs rs' : List Request) (number : ℕ) (octets : List ℕ) (queued : Option ℕ) (more : List Owing) : Type 0 where
   pub mail : Mail
   pub detail : ℕ
   pub unfinished : Slab Asker
   pub request : request_in octets ≡ Ok mail
   pub cause : judged unfinished mail (stations_of s.recover s.homes s.notes) ≡ Err detail
+  pub seldom : length rs < 64 → detail ≢ 7
   pub nowhere : queued ≡ None
   pub session : s' ≡ s
   pub requests : rs' ≡ rs

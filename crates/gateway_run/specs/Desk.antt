@@ -1,6 +1,6 @@
 -- What a serving still owes its peers.
-use Rattle.std.specs.Prelude.{◌≡◌, ◌≢◌, ◌<◌, ℕ, true, false, if◌then◌else◌, List, [], ◌∷◌, ◌++◌, length, map, slice_get, Option, Some, None, Ok, All}
-use Rattle.slab.specs.Slab.{Slab, get}
+use Rattle.std.specs.Prelude.{◌≡◌, ◌≢◌, ◌<◌, ◌≤◌, ◌+◌, ℕ, true, false, if◌then◌else◌, List, [], ◌∷◌, ◌++◌, length, map, slice_get, Option, Some, None, Ok, All}
+use Rattle.slab.specs.Slab.{Slab, get, slab_len}
 use Rattle.ec_outside.specs.Port.{HeardGram}
 use Rattle.mailbox_mail.specs.Mail.{error_of}
 use Rattle.mailbox_mail.specs.declared.mail.Mail.{Mail}
@@ -39,11 +39,20 @@ AreUnlike number (r ∷ rs) = All (λ (q : Request). number q ≢ number r) rs �
 abbrev pub AreApart : List Request → Type 0
 AreApart rs = AreUnlike (λ (r : Request). r.key) rs
 
--- each request and each datagram that is to be sent answers one of those heard
-pub record IsSound (heard : List HeardGram) (d : Desk) : Type 0 where
+-- no request is unfinished, at the desk or at its gateway
+abbrev pub HasNone : Desk → Type 0
+HasNone d = (d.requests.items ≡ []) × (d.gateway.slots ≡ [])
+
+-- each request and each datagram that is to be sent answers one of those heard, and the gateway has so many requests besides at most
+pub record IsSoundBut (more : ℕ) (heard : List HeardGram) (d : Desk) : Type 0 where
   pub requests : All (IsOpen d.gateway heard) d.requests.items
   pub apart : AreApart d.requests.items
+  pub few : slab_len d.gateway ≤ length d.requests.items + more
   pub owed : All (IsOwed heard) d.outbox.items
+
+-- it has none besides
+abbrev pub IsSound : List HeardGram → Desk → Type 0
+IsSound heard d = IsSoundBut 0 heard d
 
 -- a session in which mails were passed on: all else stays
 abbrev pub AsksMails : SessionState → SessionState → Type 0
@@ -63,9 +72,9 @@ pub record IsTold (heard : List HeardGram) (rs : List Request) (os : List Owing)
   pub requests : d'.requests.items ≡ rs
   pub owes : Owes heard os d.outbox.items d'.outbox.items
 
--- a desk stays sound where a request of it under a key of its own is passed on
+-- a desk is sound where a request that its gateway has under a key of its own is passed on
 abbrev pub PassesSoundly : Request → Desk → Desk → Type 0
-PassesSoundly r d d' = (heard : List HeardGram) → IsOpen d.gateway heard r → IsFree r.key d.requests.items → IsSound heard d → IsSound heard d'
+PassesSoundly r d d' = (heard : List HeardGram) → IsOpen d.gateway heard r → IsFree r.key d.requests.items → IsSoundBut 1 heard d → IsSound heard d'
 
 -- something is told to a desk that is sound
 abbrev pub Tells : List Request → List Owing → Desk → Desk → Type 0

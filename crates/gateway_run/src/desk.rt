@@ -5,7 +5,7 @@ ghost use Rattle.master_node.specs.declared.event.Event.TheVariants as events;
 ghost use Rattle.gateway_run.specs.Events.{events_of};
 ghost use Rattle.gateway_run.specs.Account.{has_key, is_of, others, elsewhere, begun_first, cut_off, replied, left_by, owed_by};
 ghost use Rattle.gateway_run.specs.Heard.{heard_as, IsJudged};
-ghost use Rattle.gateway_run.specs.Desk.{IsOpen, IsSound, AsksMails, SameLive, Tells, NotesAll, cut_one, Answers, PassesSoundly, PassesSo, IsTakenSo, Takes, TakesSoundly};
+ghost use Rattle.gateway_run.specs.Desk.{HasNone, IsOpen, IsSound, AsksMails, SameLive, Tells, NotesAll, cut_one, Answers, PassesSoundly, PassesSo, IsTakenSo, Takes, TakesSoundly};
 
 use ec_fields::{NoMemory, Octets};
 use ec_outside::{Gram, Peer};
@@ -77,7 +77,7 @@ fn at_slave(requests: &[Request], slave: u32) -> Option<&Request>
 impl Desk {
     /// Nothing is owed.
     pub fn new(alloc: Global) -> Desk
-        ensures requests { result.requests.items ≡ [] }
+        ensures requests { HasNone result }
         ensures outbox { result.outbox.items ≡ [] }
     {
         Desk {

@@ -5,7 +5,7 @@ ghost use Rattle.segment_plan.specs.Sound.{IsPlan};
 ghost use Rattle.segment_plan.specs.declared.plan.Scenario.{Scenario as Plan};
 ghost use Rattle.run_record.specs.Served.{ServingBegins};
 ghost use Rattle.run_record.specs.Session.{first_session};
-ghost use Rattle.gateway_run.specs.Desk.{SameLive};
+ghost use Rattle.gateway_run.specs.Desk.{HasNone, SameLive};
 ghost use Rattle.gateway_run.specs.Serving.{Told, told, Listens, SendsOne, Goes, IsServing, LivesUnless, left, can_hear};
 
 use crate::desk::Desk;
@@ -46,7 +46,7 @@ impl Serving {
         requires { IsPlan plan.now }
         ensures session { IfOk result (λ v. v.session ≡ first_session plan.now count v.session.master) }
         ensures serves { IfOk result (λ v. ServingBegins plan.now v.session) }
-        ensures requests { IfOk result (λ v. v.desk.requests.items ≡ []) }
+        ensures requests { IfOk result (λ v. HasNone v.desk) }
         ensures outbox { IfOk result (λ v. v.desk.outbox.items ≡ []) }
         ensures count { IfOk result (λ v. v.count ≡ count) }
         ensures over { IfOk result (λ v. v.over ≡ false) }

@@ -1,5 +1,6 @@
-use Rattle.std.proofs.Common.{◌<◌, length, true, sym, ap, ◌∙◌, subst, arith}
+use Rattle.std.proofs.Common.{◌<◌, ◌≤◌, ◌+◌, ℕ, length, length-set, true, sym, ap, ◌∙◌, subst, arith}
 use Rattle.std.proofs.lemmas.List.Elements.{All-set}
+use Rattle.slab.specs.Slab.{slab_len}
 use Rattle.gateway_run.specs.Account.{begun_first}
 use Rattle.gateway_run.specs.Desk.{IsOpen, IsSound, AreApart}
 use Rattle.gateway_run.specs.declared.desk.Desk.{Desk}
@@ -22,6 +23,7 @@ returns-then-not-request-clause-sound c = λ heard before.
       apart = subst AreApart
           (begun_at c.args.slave d.requests.items at c.index-request.result.now r c.loop-at.invariant.none inside c.index-request.ensures c.index_mut.ensures.value c.if-request-slave.true c.if-not-request.true)
           (apart_begun c.args.slave d.requests.items s.apart);
+      few = subst (λ (n : ℕ). slab_len d.gateway ≤ n + 0) (sym (length-set d.requests.items at _)) s.few;
       owed = s.owed;
     }
 

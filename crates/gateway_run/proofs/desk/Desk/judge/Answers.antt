@@ -1,17 +1,14 @@
-use Rattle.std.proofs.Common.{◌∷◌, ◌++◌, [], refl, sym, ◌∙◌, subst}
-use Rattle.std.specs.Prelude.{All}
+use Rattle.std.proofs.Common.{◌∷◌, ◌++◌, [], refl, sym, ◌∙◌, subst, arith}
+use Rattle.std.specs.Prelude.{All, false}
 use Rattle.std.proofs.lemmas.List.Elements.{All-push}
 use Rattle.ec_outside.specs.Port.{HeardGram}
 use Rattle.gateway_run.specs.Heard.{IsOwed, IsJudged}
 use Rattle.std.proofs.lemmas.Result.{on_ok_weaker, IfOk-weaker}
-use Rattle.std.specs.Prelude.{false}
-use Rattle.gateway_run.specs.Desk.{IsOpen, IsTakenSo}
-use Rattle.slab.specs.Slab.{Slab}
+use Rattle.gateway_run.specs.Desk.{IsTakenSo}
 use Rattle.gateway_core.specs.Framing.{request_in}
 use Rattle.gateway_core.specs.Gateway.{Answers}
-use Rattle.gateway_core.specs.declared.asker.Asker.{Asker}
 use Rattle.gateway_core.specs.declared.asker.Asked.TheVariants as asked
-use Rattle.gateway_run.proofs.Desks.{sound_more, queued}
+use Rattle.gateway_run.proofs.Desks.{sound_more, sound_same, queued}
 use Rattle.gateway_run.proofs.Accounts.{free_of}
 use Rattle.gateway_run.proofs.Judged.{ignored, faulty, refused, caused, put, error_owed, error_spelled, put_open, passed_on, judged_so, taken_ignored, taken_refused, taken_passed}
 use Rattle.gateway_run.proofs.desk.Desk.judge.Goals as goal
@@ -23,11 +20,7 @@ returns-in-Ignored-clause-sound c = λ heard many s.
     let a : Answers d.gateway c.request.new.self c.args.peer c.stations.result.now r asked.Ignored = subst (Answers d.gateway c.request.new.self c.args.peer c.stations.result.now r) c.in-Ignored.is c.in_ok-request.ensures.ok in
     let same = ignored d.gateway c.request.new.self c.args.peer c.stations.result.now r a in
     let more = sound_more heard (record { from = c.args.peer; bytes = c.args.bytes.now } ∷ []) d s in
-    record {
-      requests = subst (λ (g : Slab Asker). All (IsOpen g (heard ++ record { from = c.args.peer; bytes = c.args.bytes.now } ∷ [])) d.requests.items) (sym same) more.requests;
-      apart = s.apart;
-      owed = more.owed;
-    }
+    sound_same (heard ++ record { from = c.args.peer; bytes = c.args.bytes.now } ∷ []) d _ same refl more.owed more
 
 pub returns-in-Ignored-clause-taken : goal.returns-in-Ignored-clause-taken
 returns-in-Ignored-clause-taken c = λ heard many s.
@@ -45,13 +38,11 @@ returns-in_ok-push_back-in-Error-clause-sound c = λ heard many s.
     let a : Answers d.gateway c.request.new.self c.args.peer c.stations.result.now r (asked.Error c.in-Error.error) = subst (Answers d.gateway c.request.new.self c.args.peer c.stations.result.now r) c.in-Error.is c.in_ok-request.ensures.ok in
     let is = refused d.gateway c.request.new.self c.args.peer c.stations.result.now r c.in-Error.error.items a in
     let more = sound_more heard (g ∷ []) d s in
-    record {
-      requests = subst (λ (k : Slab Asker). All (IsOpen k (heard ++ g ∷ [])) d.requests.items) (sym is.0) more.requests;
-      apart = s.apart;
-      owed = subst (All (IsOwed (heard ++ g ∷ []))) (sym c.in_ok-push_back-in-Error.ensures.items)
-          (All-push (IsOwed (heard ++ g ∷ [])) d.outbox.items _ more.owed
-          (error_owed heard g c.args.peer c.in-Error.error.items c.in_ok-bytes-in-Error.bytes c.args.gram is.2 is.1 many refl is.3 is.4 (c.in_ok-bytes-in-Error.ensures ∙ c.as_slice.ensures.value)));
-    }
+    sound_same (heard ++ g ∷ []) d _ is.0 refl
+    (subst (All (IsOwed (heard ++ g ∷ []))) (sym c.in_ok-push_back-in-Error.ensures.items)
+    (All-push (IsOwed (heard ++ g ∷ [])) d.outbox.items _ more.owed
+    (error_owed heard g c.args.peer c.in-Error.error.items c.in_ok-bytes-in-Error.bytes c.args.gram is.2 is.1 many refl is.3 is.4 (c.in_ok-bytes-in-Error.ensures ∙ c.as_slice.ensures.value))))
+    more
 
 pub returns-in_ok-push_back-in-Error-clause-taken : goal.returns-in_ok-push_back-in-Error-clause-taken
 returns-in_ok-push_back-in-Error-clause-taken c = λ heard many s.
@@ -60,7 +51,7 @@ returns-in_ok-push_back-in-Error-clause-taken c = λ heard many s.
     let r = request_in c.args.bytes.now in
     let a : Answers d.gateway c.request.new.self c.args.peer c.stations.result.now r (asked.Error c.in-Error.error) = subst (Answers d.gateway c.request.new.self c.args.peer c.stations.result.now r) c.in-Error.is c.in_ok-request.ensures.ok in
     let is = caused d.gateway c.request.new.self c.args.peer c.stations.result.now r c.in-Error.error.items a in
-    taken_refused c.args.session.now c.stations.result.now c.stations.ensures.value heard g c.args.bytes.now c.args.gram d _ is.0 is.1 _ is.2 is.3 refl c.in_ok-push_back-in-Error.ensures.items
+    taken_refused c.args.session.now c.stations.result.now c.stations.ensures.value heard g c.args.bytes.now c.args.gram d _ is.0 is.1 _ s is.2 is.3 refl c.in_ok-push_back-in-Error.ensures.items
     (error_spelled heard g c.args.peer c.in-Error.error.items c.in_ok-bytes-in-Error.bytes c.args.gram is.1 is.0 many refl is.2 is.4 (c.in_ok-bytes-in-Error.ensures ∙ c.as_slice.ensures.value))
 
 pub returns-in-Queued-clause-taken : goal.returns-in-Queued-clause-taken
@@ -92,6 +83,7 @@ returns-in-Queued-clause-sound c =
     (record {
       apart = s.apart;
       requests = queued d.gateway c.request.new.self q.key is.asker (heard ++ g ∷ []) d.requests.items is.vacant is.updates more.requests;
+      few = let one = is.one in let few = s.few in omega (arith, one, few);
       owed = more.owed;
     }))
     c.pass_on.ensures.sound

@@ -1,30 +1,21 @@
 use Rattle.std.proofs.Common.{◌∷◌, [], List, Bool, refl, sym, ap, ◌∙◌, subst}
-use Rattle.std.specs.Prelude.{All, Ok}
-use Rattle.std.proofs.lemmas.List.Elements.{All-push}
+use Rattle.std.specs.Prelude.{Ok}
 use Rattle.mailbox_mail.specs.Mail.{error_of}
 use Rattle.mailbox_mail.specs.declared.mail.Mail.{Mail}
 use Rattle.run_book.specs.declared.book.GramOut.{GramOut}
 use Rattle.run_record.specs.Served.{ServingAsks}
 use Rattle.run_record.specs.Session.{Asks}
 use Rattle.gateway_run.specs.Account.{owing, others}
-use Rattle.gateway_run.specs.Desk.{IsOpen, AreApart, Owes}
-use Rattle.gateway_run.proofs.Accounts.{apart_push, others_push}
+use Rattle.gateway_run.specs.Desk.{Owes}
+use Rattle.gateway_run.proofs.Accounts.{others_push}
+use Rattle.gateway_run.proofs.Desks.{put_sound}
 use Rattle.gateway_run.proofs.desk.Desk.pass_on.Goals as goal
 
 pub returns-then-branch-clause-sound : goal.returns-then-branch-clause-sound
-returns-then-branch-clause-sound c = λ heard o free s. record {
-  requests = subst (All (IsOpen c.args.self.now.gateway heard)) (sym c.in_ok-push.ensures.items) (All-push (IsOpen c.args.self.now.gateway heard) c.args.self.now.requests.items c.args.request s.requests o);
-  apart = subst AreApart (sym c.in_ok-push.ensures.items) (apart_push c.args.self.now.requests.items c.args.request s.apart free);
-  owed = s.owed;
-}
+returns-then-branch-clause-sound c = λ heard o free s. put_sound heard c.args.self.now _ c.args.request refl c.in_ok-push.ensures.items s.owed o free s
 
 pub returns-clause-sound : goal.returns-clause-sound
-returns-clause-sound c = λ heard o free s.
-    c.finish.ensures.sound heard (c.in_ok-answer.ensures.sound heard o (record {
-      requests = subst (All (IsOpen c.args.self.now.gateway heard)) (sym c.in_ok-push.ensures.items) (All-push (IsOpen c.args.self.now.gateway heard) c.args.self.now.requests.items c.args.request s.requests o);
-      apart = subst AreApart (sym c.in_ok-push.ensures.items) (apart_push c.args.self.now.requests.items c.args.request s.apart free);
-      owed = s.owed;
-    }))
+returns-clause-sound c = λ heard o free s. c.finish.ensures.sound heard (c.in_ok-answer.ensures.sound heard o (put_sound heard c.args.self.now _ c.args.request refl c.in_ok-push.ensures.items s.owed o free s))
 
 pub returns-clause-passes : goal.returns-clause-passes
 returns-clause-passes c = λ heard o free.
