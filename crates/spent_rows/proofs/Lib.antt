@@ -1,0 +1,5 @@
+mod Lives
+pub mod Last
+pub mod Said
+mod Spent
+mod Told
