@@ -6,4 +6,5 @@ pub mod Desk
 pub mod Rooms
 pub mod Serving
 pub mod Replies
+pub mod Done
 pub mod Served

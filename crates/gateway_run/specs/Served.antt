@@ -12,6 +12,7 @@ use Rattle.run_record.specs.of_run_notes.Slaves.{home_of}
 use Rattle.run_record.specs.Ran.{StopsAs}
 use Rattle.gateway_run.specs.declared.desk.Request.{Request}
 use Rattle.gateway_run.specs.Account.{Owing, Course, AreSpelled}
+use Rattle.gateway_run.specs.Done.{AllDone, LeavesNone}
 use Rattle.gateway_run.specs.Heard.{heard_as, AreHeard, AreSent, AreSentBut, IsOwed, IsRightly}
 use Rattle.gateway_run.specs.Replies.{Answers, dones_of}
 use Rattle.gateway_run.specs.Serving.{Told}
@@ -46,6 +47,9 @@ pub record HasAccount (plan : Scenario) (count : ℕ) (book : Book) (ending : En
   pub spelled : AreSpelled (map heard_as book.grams) owed (book.replies ++ later)
   -- by the lives that these frames lead each datagram got what is its own
   pub answers : Answers plan session (map exchanged book.frames) book.grams requests owed (dones_of plan count session book.frames book.grams requests owed course)
+  -- where nothing was left to do no request is unfinished, and each that was queued at a slave is done, unless that slave was given up
+  pub none : LeavesNone ending → requests ≡ []
+  pub done : LeavesNone ending → AllDone answers.serving.leading.serves (dones_of plan count session book.frames book.grams requests owed course) 0 book.grams
   pub rows : book.slaves ≡ session_rows session
   pub all : ending ≢ endings.PortFault → later ≡ []
 

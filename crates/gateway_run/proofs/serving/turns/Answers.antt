@@ -21,6 +21,7 @@ loop-settled-preserved g c = record {
   empty = c.in_ok-turn.ensures.empty;
   at_rest = c.settled-settled-in-loop-settled.ensures.rest;
   lives = c.settled-settled-in-loop-settled.ensures.lives;
+  rests = c.settled-settled-in-loop-settled.ensures.served;
 }
 
 pub returns-in_err-turn-clause-goes : goal.returns-in_err-turn-clause-goes
