@@ -20,13 +20,13 @@ use Rattle.master_node.specs.of_master_duty.Reply.{Reply}
 use Rattle.master_node.specs.of_master_duty.of_state_exchange.Stated.{Service}
 use Rattle.master_node.specs.of_master_hand.Spoken.{Asked, acknowledged, is_followed, is_passed}
 use Rattle.master_node.specs.of_master_side.Passing.{news_lost}
+use Rattle.master_node.specs.of_segment_ring.declared.wire.Fate.{Fate}
+use Rattle.master_node.specs.of_segment_ring.declared.wire.Fate.TheVariants as Fates
 use Rattle.run_record.specs.of_run_notes.Notes.{station_of, stations_of}
 use Rattle.run_record.specs.of_run_notes.Slaves.{gaves_noted}
 use Rattle.run_record.specs.of_run_notes.declared.notes.Notes.{Notes}
 use Rattle.run_record.proofs.Noted.{next_gives}
 use Rattle.run_record.proofs.ServedGaves.{one_gives}
-use Rattle.segment_ring.specs.declared.wire.Fate.{Fate}
-use Rattle.segment_ring.specs.declared.wire.Fate.TheVariants as Fates
 
 -- no mail waits for a slave that was given up more often than it is taken up again
 abbrev pub NoneWaits : ℕ → Serves → Type 0
