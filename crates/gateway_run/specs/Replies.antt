@@ -1,6 +1,6 @@
 -- WHAT EACH DATAGRAM OF A SERVING GOT, by the lives of the slaves: nothing, one error, or the first of the replies of its own row, and all of them where that is
 -- done.
-use Rattle.std.specs.Prelude.{◌≡◌, ◌≢◌, ◌<◌, ◌≤◌, ◌⊎◌, ℕ, suc, Bool, true, false, Option, Some, None, List, [], ◌∷◌, ◌++◌, length, map, slice_get, All, Ok, Err, ⊤}
+use Rattle.std.specs.Prelude.{◌≡◌, ◌≢◌, ◌<◌, ◌≤◌, ◌⊎◌, ℕ, suc, Bool, true, false, Option, Some, None, List, [], ◌∷◌, ◌++◌, length, slice_get, All, Ok, Err, ⊤}
 use Rattle.master_node.specs.of_life_frames.of_exchange_model.Exchange.{plain}
 use Rattle.master_node.specs.of_life_frames.of_exchange_model.Rows.{Row}
 use Rattle.gateway_core.specs.Framing.{request_in}
