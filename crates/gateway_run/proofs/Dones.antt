@@ -1,6 +1,8 @@
 -- WHERE A SERVING LEAVES NOTHING no request is unfinished, so each datagram that was queued at a slave is done, unless that slave was given up.
 use Rattle.std.proofs.Common.{◌≡◌, ◌⊎◌, ◌+◌, inl, inr, ℕ, zero, suc, Bool, true, false, Option, Some, None, List, [], ◌∷◌, length, map, refl, sym, ap, ◌∙◌, subst, arith, eq-eqb}
 use Rattle.std.specs.Prelude.{All, ◌==◌, ◌&&◌, cond, not, slice_get}
+use Rattle.std.specs.Bool.{OnTrue}
+use Rattle.std.proofs.lemmas.Bool.{OnTrue_at, OnTrue_from}
 use Rattle.std.proofs.lemmas.List.Elements.{All-head, All-tail}
 use Rattle.kept_rows.proofs.Held.{all_held}
 use Rattle.kept_rows.specs.Rows.{IsHeld}
@@ -25,7 +27,7 @@ use Rattle.gateway_run.specs.Account.{Owing, waits_at}
 use Rattle.gateway_run.specs.Done.{AllDone, IsDone}
 use Rattle.gateway_run.specs.Replies.{AllDesk, AllGot, Answers, Fares, Fares.dropped, Fares.replies, Fares.waits, Got, Got.ignored, Got.queued, Got.refused, IsDesk, IsFor, IsHeard, StandsSo, WasGivenUp, dones_of, keyed_in}
 use Rattle.gateway_run.specs.Rooms.{begun_of, has_begun, owed_for, waiting_of}
-use Rattle.gateway_run.specs.Serving.{IsOn}
+use Rattle.gateway_run.specs.Serving.{EmptyWhere, IsOn}
 use Rattle.gateway_run.specs.declared.desk.Request.{Request}
 use Rattle.gateway_run.specs.declared.turn.Serving.{Serving}
 use Rattle.gateway_run.proofs.Answering.{course_answers}
@@ -115,7 +117,7 @@ module _ (recover : ℕ) (all : List GramIn) (rs : List Request) (os : List Owin
 
     none_of : (r : Request) (heard : IsHeard all r) (mails : List Mail) → Got ws nss rs dones r.gram heard.gram mails → (waiting_of r.slave rs ≡ []) × (begun_of r.slave rs ≡ [])
     none_of r heard mails (ignored fault request nowhere none) = absurd (let bad : None ≡ Some r.slave = sym nowhere ∙ heard.queued in cc)
-    none_of r heard mails (refused asked detail request nowhere error) = absurd (let bad : None ≡ Some r.slave = sym nowhere ∙ heard.queued in cc)
+    none_of r heard mails (refused asked detail request nowhere seldom error) = absurd (let bad : None ≡ Some r.slave = sym nowhere ∙ heard.queued in cc)
     none_of r heard mails (queued asked slave w numbers request there at came fares) =
         let both : Some slave ≡ Some r.slave = sym there ∙ heard.queued in
         let same : slave ≡ r.slave = cc in
@@ -145,6 +147,10 @@ none_unfinished plan count v b on rests =
     let a = course_answers plan count on.is_plan v.session b.frames b.grams v.desk.requests.items on.owed on.course in
     no_request plan v.session (map exchanged b.frames) b.grams v.desk.requests.items on.owed (dones_of plan count v.session b.frames b.grams v.desk.requests.items on.owed on.course) a (on_led plan count v b on) (rests plan (map exchanged b.frames) a.serving)
 
+-- the same, where the segment is settled
+pub empty_on : (plan : Scenario) (count : ℕ) (v : Serving) (b : Book) → IsOn plan count v b → (settled : Bool) → OnTrue settled (ServingRests v.session) → EmptyWhere settled v
+empty_on plan count v b on settled rests = OnTrue_from settled (v.desk.requests.items ≡ []) (λ is. none_unfinished plan count v b on (OnTrue_at is rests))
+
 -- WHERE NONE IS each datagram that was queued at a slave is done
 over : (w : Serves) (numbers : List ℕ) (done : Bool) (number : ℕ) (asked : Mail) (mails : List Mail) → Fares w numbers [] [] done number asked mails → (done ≡ true) ⊎ WasGivenUp w
 over w numbers done number asked mails (waits a b c) = absurd (cc)
@@ -159,7 +165,7 @@ over w numbers done number asked mails (replies told row s m) = stands done s
 module _ (serves : List Serves) (came : List (List ℕ)) (os : List Owing) (dones : List ℕ) where
   one_done : (number : ℕ) (g : GramIn) (mails : List Mail) → Got serves came [] dones number g mails → IsDone serves dones number g.queued
   one_done number g mails (ignored fault request nowhere none) = subst (IsDone serves dones number) (sym nowhere) tt
-  one_done number g mails (refused asked detail request nowhere error) = subst (IsDone serves dones number) (sym nowhere) tt
+  one_done number g mails (refused asked detail request nowhere seldom error) = subst (IsDone serves dones number) (sym nowhere) tt
   one_done number g mails (queued asked slave w numbers request there at its fares) = subst (IsDone serves dones number) (sym there) (w, at, over w numbers (is_in number dones) number asked mails fares)
 
   each_done : (n : ℕ) (gs : List GramIn) → AllGot serves came [] dones os n gs → AllDone serves dones n gs

@@ -71,7 +71,7 @@ course_led plan count is _ _ _ _ _ (begins s first serves) = record {
   waits = All-weaker (λ (w : Serves). w.waits ≡ []) (NoneWaits plan.recover) (λ w none often. none) serves.leading.serves
       (none_wait serves.leading.serves (length plan.slaves) (serves.waiting ∙ ap (λ (z : SessionState). z.waiting) first));
 }
-course_led plan count is _ _ _ _ _ (hears s s' fs gs g rs rs' os more c at judges) = judged_led plan is s s' (map exchanged fs) rs rs' (length gs) g.bytes g.queued more judges (course_led plan count is s fs gs rs os c)
+course_led plan count is _ _ _ _ _ (hears s s' fs gs g rs rs' os more c at few judges) = judged_led plan is s s' (map exchanged fs) rs rs' (length gs) g.bytes g.queued more judges (course_led plan count is s fs gs rs os c)
 course_led plan count is _ _ _ _ _ (steps s s' fs f gs rs os c m) =
     let l = course_led plan count is s fs gs rs os c in
     let number : s'.ring.number ≡ suc s.ring.number = ap (λ r. (record s { ring = r }).ring.number) m.ring in

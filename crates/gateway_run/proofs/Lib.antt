@@ -22,6 +22,7 @@ pub mod Room
 pub mod Rooms
 pub mod Rounds
 pub mod Stepping
+pub mod Strays
 pub mod Telling
 pub mod Told
 pub mod Tolds

@@ -7,4 +7,5 @@ pub mod Rooms
 pub mod Serving
 pub mod Replies
 pub mod Done
+pub mod Stray
 pub mod Served

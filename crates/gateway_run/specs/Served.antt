@@ -1,10 +1,11 @@
 -- What a serving leaves in its book.
-use Rattle.std.specs.Prelude.{◌≡◌, ◌≢◌, ◌⊎◌, ℕ, ◌≤◌, true, List, [], ◌++◌, length, map, All}
+use Rattle.std.specs.Prelude.{◌≡◌, ◌≢◌, ◌⊎◌, ℕ, ◌≤◌, true, List, [], ◌++◌, length, map, slice_get, All, Some}
 use Rattle.ec_outside.specs.Faults.{Rose}
 use Rattle.segment_plan.specs.declared.plan.Scenario.{Scenario}
 use Rattle.run_book.specs.declared.book.Book.{Book}
 use Rattle.run_book.specs.declared.book.Ending.{Ending}
 use Rattle.run_book.specs.declared.book.Ending.TheVariants as endings
+use Rattle.run_book.specs.declared.book.GramIn.{GramIn}
 use Rattle.run_book.specs.declared.book.GramOut.{GramOut}
 use Rattle.run_record.specs.Led.{exchanged}
 use Rattle.run_record.specs.Session.{SessionState, session_rows}
@@ -16,6 +17,7 @@ use Rattle.gateway_run.specs.Done.{AllDone, LeavesNone}
 use Rattle.gateway_run.specs.Heard.{heard_as, AreHeard, AreSent, AreSentBut, IsOwed, IsRightly}
 use Rattle.gateway_run.specs.Replies.{Answers, dones_of}
 use Rattle.gateway_run.specs.Serving.{Told}
+use Rattle.gateway_run.specs.Stray.{DontFall, IsStray}
 
 -- the datagrams of a serving: they are those that the port heard, and no more than so many; each that was sent goes to who asked, and each
 -- that was passed on was rightly so
@@ -51,6 +53,9 @@ pub record HasAccount (plan : Scenario) (count : ℕ) (book : Book) (ending : En
   pub none : LeavesNone ending → requests ≡ []
   pub done : LeavesNone ending → AllDone answers.serving.leading.serves (dones_of plan count session book.frames book.grams requests owed course) 0 book.grams
   pub rows : book.slaves ≡ session_rows session
+  -- the frames before which the datagrams were heard don't fall; and one that wasn't passed on gets error 5 only where no slave stands under its station
+  pub steady : DontFall book.grams
+  pub stray : (n : ℕ) (g : GramIn) → slice_get book.grams n ≡ Some g → IsStray (map home_of plan.slaves) book.slaves owed n g
   pub all : ending ≢ endings.PortFault → later ≡ []
 
 -- what goes with an ending
