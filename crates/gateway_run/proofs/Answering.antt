@@ -1,6 +1,6 @@
 -- ALL ALONG A COURSE each desk is what the lives have, and each datagram got what is its own.
 use Rattle.std.proofs.Common.{◌≡◌, ◌<◌, ◌≤◌, ℕ, zero, suc, Some, None, List, [], ◌∷◌, ◌++◌, length, map, refl, sym, ap, ◌∙◌, subst, arith}
-use Rattle.std.specs.Prelude.{replicate, All}
+use Rattle.std.specs.Prelude.{All}
 use Rattle.std.proofs.lemmas.List.{length-map, map-append}
 use Rattle.std.proofs.lemmas.List.Elements.{All-nil, All-cons, All-head, All-tail}
 use Rattle.kept_rows.specs.Rows.{ToldAll, passed_rows}
@@ -22,6 +22,7 @@ use Rattle.gateway_run.specs.Events.{events_of}
 use Rattle.gateway_run.specs.Rooms.{done_by_all}
 use Rattle.gateway_run.specs.Replies.{AllDesk, Answers, IsDesk, IsFor, IsHeard, IsLate, IsNew, IsUndone, dones_of, keyed_in}
 use Rattle.gateway_run.specs.declared.desk.Request.{Request}
+use Rattle.gateway_run.proofs.Gones.{none_wait}
 use Rattle.gateway_run.proofs.Judging.{answers_heard}
 use Rattle.gateway_run.proofs.Leds.{course_led}
 use Rattle.gateway_run.proofs.Stepping.{answers_on}
@@ -57,20 +58,6 @@ first_born : (plan : Scenario) (fs : List Exchanged) (missed : ℕ) (ws : List S
 first_born plan _ _ _ IsServedLed.start e = all_born plan.paces (first_leads plan) (born plan.services 0 plan.slaves)
 first_born plan _ _ _ (IsServedLed.asks fs missed ws place k led may) e = asked_born place k ws (first_born plan fs missed ws led e)
 first_born plan _ _ _ (IsServedLed.on fs missed ws f vs led frame) e = absurd (some_last fs f e)
-
--- nor does one wait
-none_wait : (ws : List Serves) (n : ℕ) → map (λ (w : Serves). length w.waits) ws ≡ replicate n 0 → All (λ (w : Serves). w.waits ≡ []) ws
-none_wait [] n e = All-nil (λ (w : Serves). w.waits ≡ [])
-none_wait (w ∷ ws) zero e = absurd (let bad : length w.waits ∷ map (λ (w : Serves). length w.waits) ws ≡ [] = e in cc)
-none_wait (w ∷ ws) (suc n) e =
-    let all : length w.waits ∷ map (λ (w : Serves). length w.waits) ws ≡ 0 ∷ replicate n 0 = e in
-    let none : length w.waits ≡ 0 = cc in
-    let rest : map (λ (w : Serves). length w.waits) ws ≡ replicate n 0 = cc in
-    All-cons (λ (w : Serves). w.waits ≡ []) w ws (empty w.waits none) (none_wait ws n rest)
-  where
-    empty : (ks : List Keyed) → length ks ≡ 0 → ks ≡ []
-    empty [] f = refl
-    empty (k ∷ ks) f = absurd (omega (arith, f))
 
 first_desk : (i : ℕ) (w : Serves) → IsNewborn w → w.waits ≡ [] → IsDesk [] [] i w [] [] []
 first_desk i w b e = record {
