@@ -22,7 +22,7 @@ ghost use Rattle.run_work.specs.ServedGained.{asked_in};
 ghost use Rattle.segment_plan.specs.Bound.{bound_of, slowest};
 ghost use Rattle.segment_plan.specs.Sound.{IsPlan};
 ghost use Rattle.segment_plan.specs.declared.plan.Scenario.{Scenario};
-ghost use Rattle.served_bound.specs.Servings.{IsPlanServing};
+ghost use Rattle.served_rings.specs.Servings.{IsPlanServing};
 ghost use Rattle.served_packets.specs.Quiet.{AsksQuiet};
 ghost use Rattle.served_places.specs.Answered.{ServedAsks};
 ghost use Rattle.served_places.specs.Toured.{IsServedToured};
@@ -43,6 +43,6 @@ pub fn bounded_serving_law()
 {
     served_waits::served_waits_law();
     served_waits::served_answers_law();
-    served_bound::served_bound();
+    served_rings::served_bound();
     served_packets::switched_servings::switched_serving_law();
 }

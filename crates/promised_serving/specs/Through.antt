@@ -7,7 +7,7 @@ use Rattle.run_record.specs.Led.{exchanged}
 use Rattle.run_record.specs.Replay.{first_ring, ring_after}
 use Rattle.run_record.specs.Served.{ServeTo}
 use Rattle.segment_plan.specs.declared.plan.Scenario.{Scenario}
-use Rattle.served_replies.specs.Served.{AllServeSo}
+use Rattle.served_rings.specs.Served.{AllServeSo}
 use Rattle.served_runs.specs.Came.{HasServed}
 use Rattle.served_runs.specs.Served.{Serves, TellsSo}
 

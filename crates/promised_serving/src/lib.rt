@@ -13,7 +13,7 @@ ghost use Rattle.promised_serving.specs.Through.{IsServedThrough};
 use ec_outside::Port;
 use run_book::{Book, Ending};
 use segment_plan::Scenario;
-use served_replies::served_replies_law;
+use served_rings::served_replies_law;
 use served_runs::{asked_law, told_law};
 use std::alloc::Global;
 

@@ -6,7 +6,7 @@ use Rattle.datagrams.specs.Datagram as Raw
 use Rattle.frame_view.specs.Seen.{seen, datagrams_seen}
 use Rattle.frame_view.specs.View.{Lens}
 use Rattle.frame_view.proofs.Octets.{seen_is, seen_chained}
-use Rattle.led_rings.specs.Rings.{AllLedMembers}
+use Rattle.served_rings.specs.LedRings.{AllLedMembers}
 use Rattle.life_frames.specs.Shares.{AllBoth}
 use Rattle.life_runs.specs.First.{lens_of, first_leads, spot_of}
 use Rattle.life_runs.specs.Led.{Exchanged, Leads, gives_up_at}

@@ -2,18 +2,18 @@
 use Rattle.std.proofs.Common.{◌≡◌, ◌&&◌, ℕ, Bool, true, List, refl, ap, ap₂, ◌∙◌, subst}
 use Rattle.few_replies.specs.Packets.{is_calm}
 use Rattle.frame_view.specs.View.{Lens}
-use Rattle.led_eras.specs.Led.{LedEra}
-use Rattle.led_lives.specs.Lives.{AllLeds, IsLedLived, LedKept, LedLeft, LedYet}
+use Rattle.served_rings.specs.Led.{LedEra}
+use Rattle.served_rings.specs.Lives.{AllLeds, IsLedLived, LedKept, LedLeft, LedYet}
 use Rattle.life_model.specs.Lives.{Spot, Era, Life, Stand}
 use Rattle.link_mails.specs.Body.{Body}
 use Rattle.master_duty.specs.Reply.{Reply}
 use Rattle.master_hand.specs.Spoken.{Asked, is_followed, is_passed}
-use Rattle.plan_speakers.specs.Speakers.{processor_of, seer_of, spoken, table_of}
+use Rattle.served_rings.specs.Speakers.{processor_of, seer_of, spoken, table_of}
 use Rattle.segment_model.specs.Record.{Frame, Kept}
 use Rattle.sent_packets.specs.Sends.{sends_most}
 use Rattle.sent_packets.proofs.Live.{IsLive}
-use Rattle.served_eras.specs.Serves.{serves}
-use Rattle.served_lives.specs.Clearing.{serves_clearing}
+use Rattle.served_rings.specs.Serves.{serves}
+use Rattle.served_rings.specs.Clearing.{serves_clearing}
 use Rattle.served_packets.specs.Quiet.{quiet_speaker}
 use Rattle.served_packets.proofs.Seen.{Quiets, seen_live}
 use Rattle.slave_lives.specs.Lived.{Behind, node_seen}

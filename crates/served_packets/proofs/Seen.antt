@@ -20,7 +20,7 @@ use Rattle.master_hand.specs.Spoken as Spoken
 use Rattle.passed_whole.specs.Client.{ByContents}
 use Rattle.passed_whole.specs.Erased.{frame_as, news_as, all_news_as}
 use Rattle.passed_whole.proofs.Naturals.{each_of, kept_of}
-use Rattle.plan_speakers.specs.Speakers.{seer_of, table_of, whole_states}
+use Rattle.served_rings.specs.Speakers.{seer_of, table_of, whole_states}
 use Rattle.run_work.specs.Sessions.{InRow, Meant, Wanted, named_wanted}
 use Rattle.segment_model.specs.Record.{Frame, Kept, News, heard, joined, kept_after, kept_all, mails_heard, news_each, nothing_kept}
 use Rattle.segment_model.specs.Slaves.{Registers, Slave}

@@ -10,8 +10,8 @@ use Rattle.life_runs.specs.Led.{Comes}
 use Rattle.link_mails.specs.Body.{Body}
 use Rattle.master_hand.specs.Spoken.{Asked, passed, net, is_passed}
 use Rattle.master_hand.specs.of_eoe_model.Client as EoeClient
-use Rattle.plan_speakers.specs.Speakers.{naming_of, speaker}
-use Rattle.plan_speakers.proofs.Any.{fewer_lawful}
+use Rattle.served_rings.specs.Speakers.{naming_of, speaker}
+use Rattle.served_rings.proofs.Any.{fewer_lawful}
 use Rattle.run_work.specs.Sessions.{OwnService}
 use Rattle.run_work.proofs.Counted.{passes, none_passes}
 use Rattle.segment_plan.specs.declared.service.Service as Plan

@@ -4,7 +4,7 @@ use Rattle.eoe_model.specs.Network.{Station}
 use Rattle.few_replies.specs.Packets.{is_fair}
 use Rattle.link_mails.specs.Body.{Body}
 use Rattle.master_hand.specs.Spoken as Spoken
-use Rattle.plan_speakers.specs.Speakers.{speaker}
+use Rattle.served_rings.specs.Speakers.{speaker}
 use Rattle.run_work.specs.Sessions.{OwnService}
 use Rattle.sent_packets.specs.Sends.{is_network}
 use Rattle.served_runs.specs.Served.{Keyed, Serves}

@@ -4,9 +4,9 @@ use Rattle.std.specs.Prelude.{All}
 use Rattle.datagrams.specs.Datagram as Raw
 use Rattle.frame_pass.specs.Passing.{datagrams_after}
 use Rattle.frame_view.specs.View.{Lens}
-use Rattle.led_lives.specs.Lives.{news_of}
-use Rattle.led_lives.proofs.Lived as Lived
-use Rattle.led_rings.specs.Rings.{Counters, LedMember, AllLedMembers, AllTold, all_counters}
+use Rattle.served_rings.specs.Lives.{news_of}
+use Rattle.served_rings.proofs.Lived as Lived
+use Rattle.served_rings.specs.LedRings.{Counters, LedMember, AllLedMembers, AllTold, all_counters}
 use Rattle.life_model.specs.Lives.{gives_up}
 use Rattle.life_runs.specs.First.{lens_of}
 use Rattle.life_runs.specs.Led.{Exchanged}

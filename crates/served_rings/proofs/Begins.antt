@@ -4,8 +4,8 @@ use Rattle.std.specs.Prelude.{None, All}
 use Rattle.std.proofs.lemmas.List.Elements.{All-head, All-tail}
 use Rattle.slave_served.specs.FoeServed.{has_its_room}
 use Rattle.frame_view.specs.View.{Lens}
-use Rattle.led_lives.proofs.Lived as Lived
-use Rattle.led_rings.specs.Rings.{LedMember, AllLedMembers}
+use Rattle.served_rings.proofs.Lived as Lived
+use Rattle.served_rings.specs.LedRings.{LedMember, AllLedMembers}
 use Rattle.life_runs.specs.First.{first_leads, leads_from, lens_of, script_for, spot_of}
 use Rattle.life_runs.specs.Led.{new_leads}
 use Rattle.master_hand.specs.Spoken.{Asked, sdo, file, drive, net, passed, is_followed, is_passed}
@@ -13,13 +13,13 @@ use Rattle.plan_ring.specs.Lives.{IsKnown}
 use Rattle.plan_ring.specs.Plan.{AllMacs, FitsPlan, members_of, new_member, new_members, step}
 use Rattle.plan_ring.proofs.Asked.{alike}
 use Rattle.plan_ring.proofs.Known.{macs_in}
-use Rattle.plan_speakers.specs.Speakers.{spoken, spoken_states}
+use Rattle.served_rings.specs.Speakers.{spoken, spoken_states}
 use Rattle.segment_plan.specs.Sound as Plan
 use Rattle.segment_plan.specs.Sound.{IsSlave}
 use Rattle.segment_plan.specs.declared.plan.Scenario.{Scenario}
 use Rattle.segment_plan.specs.declared.service.Service as Row
 use Rattle.segment_plan.specs.declared.slave.SlaveSpec.{SlaveSpec}
-use Rattle.served_eras.specs.Serves.{serves}
+use Rattle.served_rings.specs.Serves.{serves}
 use Rattle.served_runs.specs.Served.{Serves, all_serve, new_serves}
 use Rattle.plan_ring.specs.Rooms.{IsSound}
 use Rattle.slave_lives.specs.Lived.{IsBehind}

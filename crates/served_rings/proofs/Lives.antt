@@ -4,8 +4,8 @@ use Rattle.std.proofs.lemmas.List.{map-append, length-map}
 use Rattle.datagrams.specs.Frame.{chained}
 use Rattle.frame_view.specs.Seen.{seen}
 use Rattle.frame_view.specs.View.{Lens}
-use Rattle.led_rings.specs.Rings.{Counters, AllLedMembers, all_counters}
-use Rattle.led_rings.proofs.Rings.{led_turns}
+use Rattle.served_rings.specs.LedRings.{Counters, AllLedMembers, all_counters}
+use Rattle.served_rings.proofs.Rings.{led_turns}
 use Rattle.life_runs.specs.First.{first_leads, lens_of}
 use Rattle.life_runs.specs.Led.{Exchanged, gives_up_at}
 use Rattle.link_mails.specs.Body.{Body}

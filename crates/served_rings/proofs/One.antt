@@ -4,8 +4,8 @@ use Rattle.std.specs.Prelude.{Option, Some, All}
 use Rattle.datagrams.specs.Datagram as Raw
 use Rattle.frame_view.specs.Seen.{seen}
 use Rattle.frame_view.specs.View.{Lens}
-use Rattle.led_lives.specs.Lives.{news_by, news_of, recorded_by, recorded_of}
-use Rattle.led_rings.specs.Rings.{counters_next}
+use Rattle.served_rings.specs.Lives.{news_by, news_of, recorded_by, recorded_of}
+use Rattle.served_rings.specs.LedRings.{counters_next}
 use Rattle.life_frames.specs.Shares.{Asked as AskedFor, came_at, given_where}
 use Rattle.life_model.specs.Lives.{Spot, Life, life_back, life_lost, life_next, gives_up}
 use Rattle.life_runs.specs.First.{lens_of, spot_of}

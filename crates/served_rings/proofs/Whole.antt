@@ -3,23 +3,23 @@ use Rattle.std.proofs.Common.{ℕ, suc, Bool, List, [], ◌∷◌, map, refl}
 use Rattle.std.specs.Prelude.{All}
 use Rattle.std.proofs.lemmas.List.Elements.{All-head, All-tail}
 use Rattle.frame_view.specs.View.{Lens}
-use Rattle.led_rings.specs.Rings.{AllLedMembers}
+use Rattle.served_rings.specs.LedRings.{AllLedMembers}
 use Rattle.life_model.specs.Lives.{Life, Spot}
 use Rattle.life_runs.specs.First.{lens_of, spot_of}
 use Rattle.link_mails.specs.Body.{Body}
 use Rattle.master_duty.specs.Reply.{Reply}
 use Rattle.master_hand.specs.Spoken.{Asked, is_followed, is_passed}
 use Rattle.plan_ring.specs.Plan.{AllMacs, plan_of}
-use Rattle.plan_speakers.specs.Speakers.{cleared_whole, processor_of, seer_of, speaker, spoken, table_of}
-use Rattle.plan_speakers.proofs.Fair.{life_fair}
-use Rattle.seen_lives.specs.Led.{IsFairLife, IsLedLife}
+use Rattle.served_rings.specs.Speakers.{cleared_whole, processor_of, seer_of, speaker, spoken, table_of}
+use Rattle.served_rings.proofs.Fair.{life_fair}
+use Rattle.served_rings.specs.SeenLed.{IsFairLife, IsLedLife}
 use Rattle.segment_model.specs.Record.{Frame}
 use Rattle.segment_plan.specs.Sound.{IsSlave}
 use Rattle.segment_plan.specs.declared.plan.Scenario.{Scenario}
 use Rattle.segment_plan.specs.declared.slave.SlaveSpec.{SlaveSpec}
 use Rattle.run_work.specs.Fair.{AsksFair}
 use Rattle.run_work.specs.Lives.{AllServedLives, IsServedLife, first_server}
-use Rattle.served_lives.proofs.Leds.{life_led}
+use Rattle.served_rings.proofs.Leds.{life_led}
 use Rattle.served_runs.specs.Came.{HasServed}
 use Rattle.served_runs.specs.Served.{Serves}
 use Rattle.slave_model.specs.Profile.{Profile, IsProfile}

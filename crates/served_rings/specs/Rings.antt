@@ -1,7 +1,7 @@
 -- THE RING OF A SERVING: its slaves, with the services that their nodes run, the lives that the master leads of them, and what its records keep.
 use Rattle.std.specs.Prelude.{◌≡◌, ℕ, suc, List, [], ◌∷◌, map, ⊤}
 use Rattle.frame_view.specs.View.{Lens}
-use Rattle.led_rings.specs.Rings.{Counters, AllLedMembers}
+use Rattle.served_rings.specs.LedRings.{Counters, AllLedMembers}
 use Rattle.life_runs.specs.First.{lens_of, spot_of, script_for}
 use Rattle.life_runs.specs.Led.{Exchanged}
 use Rattle.master_duty.specs.Reply.{Reply}
@@ -10,8 +10,8 @@ use Rattle.plan_ring.specs.Plan.{FitsPlan, plan_of, step}
 use Rattle.plan_ring.specs.Round.{all_seen, ring_after, ring_of}
 use Rattle.segment_plan.specs.declared.plan.Scenario.{Scenario}
 use Rattle.segment_plan.specs.declared.slave.SlaveSpec.{SlaveSpec}
-use Rattle.served_eras.specs.Serves.{serves}
-use Rattle.served_lives.specs.Clearing.{serves_clearing}
+use Rattle.served_rings.specs.Serves.{serves}
+use Rattle.served_rings.specs.Clearing.{serves_clearing}
 use Rattle.served_runs.specs.Served.{Serves}
 use Rattle.slave_parts.specs.Parts.{Server}
 use Rattle.slave_server.specs.Seen.{seen_in}

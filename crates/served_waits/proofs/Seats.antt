@@ -11,9 +11,9 @@ use Rattle.idle_slaves.proofs.Opened.{answered_is}
 use Rattle.idle_slaves.proofs.Settled.{is_left}
 use Rattle.exchange_model.specs.Exchange.{Speech}
 use Rattle.frame_view.specs.View.{Lens}
-use Rattle.led_eras.specs.Led.{LedEra}
-use Rattle.led_lives.specs.Lives.{LedKept, LedLeft, LedYet}
-use Rattle.led_rings.specs.Rings.{AllLedMembers, LedMember}
+use Rattle.served_rings.specs.Led.{LedEra}
+use Rattle.served_rings.specs.Lives.{LedKept, LedLeft, LedYet}
+use Rattle.served_rings.specs.LedRings.{AllLedMembers, LedMember}
 use Rattle.life_model.specs.Eras.{planned}
 use Rattle.life_model.specs.Lives.{Life, Spot, Stand}
 use Rattle.life_runs.specs.First.{lens_of, spot_of}
@@ -24,7 +24,7 @@ use Rattle.master_hand.specs.Spoken.{Asked, acknowledged, hand_speech, is_follow
 use Rattle.passed_whole.specs.Heard.{EraPasses}
 use Rattle.plan_met.specs.Met.{slave_at}
 use Rattle.plan_ring.specs.Plan.{AllMacs, FitsPlan, plan_of, step}
-use Rattle.plan_speakers.specs.Speakers.{any_speaker, processor_of, seer_of, spoken, table_of}
+use Rattle.served_rings.specs.Speakers.{any_speaker, processor_of, seer_of, spoken, table_of}
 use Rattle.seen_spent.specs.Fits.{FitsSo, HasNone}
 use Rattle.seen_spent.proofs.Fits.{fits}
 use Rattle.seen_spent.proofs.Speaks.{first, plans_some, silent}
@@ -34,7 +34,7 @@ use Rattle.segment_model.specs.Slaves.{serving}
 use Rattle.segment_plan.specs.Sound.{IsSlave}
 use Rattle.segment_plan.specs.declared.plan.Scenario.{Scenario}
 use Rattle.segment_plan.specs.declared.slave.SlaveSpec.{SlaveSpec}
-use Rattle.served_eras.specs.Serves.{serves}
+use Rattle.served_rings.specs.Serves.{serves}
 use Rattle.served_rings.specs.Rings.{AllServedAt, IsServedAt, ServedMember, counters_of, served_member, served_members}
 use Rattle.served_rows.specs.Rows.{PassesSo, ToldSo}
 use Rattle.served_runs.specs.Served.{Serves}

@@ -31,7 +31,7 @@ pub fn served_waits_law()
     frame_view::seen_is();
     run_work::served_work::served_returned();
     served_rings::served_ring_law();
-    plan_speakers::any_law();
+    served_rings::any_law();
     tagged_waits::parts_never();
 }
 

@@ -1,3 +1,0 @@
-pub mod Singles
-pub mod Sessions
-pub mod Lives

@@ -1,5 +1,0 @@
-use Rattle.led_eras.proofs.Sessions.{led_session}
-use Rattle.led_eras.proofs.session_law.Goals as goal
-
-pub returns : goal.returns
-returns g c = λ x s processor table more passed spot opened v r plan answers fs counts e n l. led_session x s processor table more passed spot opened v r plan answers fs counts e n l

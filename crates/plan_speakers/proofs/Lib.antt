@@ -1,3 +1,0 @@
-pub mod Speakers
-pub mod Fair
-pub mod Any

@@ -1,8 +1,0 @@
-use Rattle.std.proofs.Common.{refl}
-use Rattle.tagged_epochs.proofs.Whole.{seeing_lawful, seeing_stated}
-use Rattle.tagged_epochs.specs.Epochs.{between}
-use Rattle.seen_lives.proofs.Rows.{era_in}
-use Rattle.seen_lives.proofs.row_law.Goals as goal
-
-pub returns : goal.returns
-returns g c = λ w k seer table spot e opened end fs v r n is. era_in w.exchange w.calm w.fair w.states (seeing_lawful w k) (seeing_stated w k) seer table spot e opened end fs (between v) r n is refl
