@@ -27,7 +27,7 @@ ghost use Rattle.served_packets.specs.Quiet.{AsksQuiet};
 ghost use Rattle.served_places.specs.Answered.{ServedAsks};
 ghost use Rattle.served_places.specs.Toured.{IsServedToured};
 ghost use Rattle.served_runs.specs.Served.{IsServedLed, Serves, all_serve};
-ghost use Rattle.served_waits.specs.Eager.{ServedEagerIn};
+ghost use Rattle.seen_slaves.specs.Eager.{ServedEagerIn};
 ghost use Rattle.std.specs.Prelude.{◌≡◌, ◌≢◌, ◌≤◌, ◌+◌, ◌*◌, ◌++◌, ℕ, All, List, Option, length};
 
 /// THE FRAMES OF A SERVING COUNT AS THOSE OF ITS PLAN, where they are the visits of one tour, each asks by the inward half first, its master makes no visit in vain
@@ -41,8 +41,8 @@ pub fn bounded_serving_law()
         (led : IsServedLed (lens_of plan.slaves) plan.recover plan.retry (all_serve plan.paces (first_leads plan)) fs lost ws) (es : List SwitchEvent) (rest : List (ArrayVec ℕ)) → All (IsAtPort (ports_of plan.slaves)) es → arrivals_at 0 es ++ rest ≡ plan.host →
         ServedListed (ports_behind 0 plan.slaves) led es → AreServedBegun (ports_behind 0 plan.slaves) (ports_of plan.slaves) led es → bound_of plan count ≤ budget → length fs ≢ budget }
 {
-    served_waits::served_waits_law();
-    served_waits::served_answers_law();
+    seen_slaves::served_waits_law();
+    seen_slaves::served_answers_law();
     served_rings::served_bound();
     served_packets::switched_servings::switched_serving_law();
 }

@@ -2,7 +2,6 @@
 //! code: the functions here do nothing, and their contracts state the laws.
 #![tactic(auto)]
 
-ghost use Rattle.std.specs.Prelude.{◌≡◌, ℕ, List, [], map};
 ghost use Rattle.exchange_model.specs.Exchange.{Speech};
 ghost use Rattle.exchange_model.specs.Rows.{Row, left};
 ghost use Rattle.idle_slaves.specs.Going.{IsCome};
@@ -13,6 +12,14 @@ ghost use Rattle.segment_model.specs.Seats.{Side};
 ghost use Rattle.segment_model.specs.Slaves.{Registers, Slave};
 ghost use Rattle.serving_model.specs.Erasing.{slave_as};
 ghost use Rattle.state_model.specs.States.{Phase, Table};
+ghost use Rattle.std.specs.Prelude.{◌≡◌, ℕ, List, [], map};
+
+pub mod seen_spent;
+pub mod seen_steps;
+pub mod served_rows;
+pub mod served_waits;
+pub mod spent_rows;
+pub mod tagged_waits;
 
 /// THE LINK of an open slave: mails that went between its master and it agree with both, also as another sees them, who has other forms of them.
 pub fn link_seen<N, M, P, Q, S, R, W, V>()

@@ -1,5 +1,0 @@
-use Rattle.seen_spent.proofs.Fits.{fits}
-use Rattle.seen_spent.proofs.fits_law.Goals as goal
-
-pub returns : goal.returns
-returns g c = λ w is never u processor seer table spot run opened v r fs counts e n seen. fits w is never u processor seer table spot run opened v r fs counts e n seen

@@ -1,5 +1,0 @@
-use Rattle.seen_spent.proofs.Spent.{frees}
-use Rattle.seen_spent.proofs.free_seen.Goals as goal
-
-pub returns : goal.returns
-returns g c = λ f names h x s y acknowledged server processor table spot e opened last fs v r n law stated never is same k. frees f names h x s y server processor table spot e opened last fs v r n law stated never is same k acknowledged

@@ -1,3 +1,0 @@
-pub mod Stands
-pub mod Alone
-pub mod Rows

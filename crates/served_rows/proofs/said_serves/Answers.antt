@@ -1,5 +1,0 @@
-use Rattle.served_rows.proofs.Said.{serves_said}
-use Rattle.served_rows.proofs.said_serves.Goals as goal
-
-pub returns : goal.returns
-returns c = λ lens recover retry paces first fs missed ws silent new led. serves_said lens silent recover retry paces first fs missed ws new led

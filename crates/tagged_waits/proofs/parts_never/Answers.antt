@@ -1,6 +1,0 @@
-use Rattle.slave_parts.specs.Parts.{parts}
-use Rattle.tagged_waits.proofs.Served.{whole_never}
-use Rattle.tagged_waits.proofs.parts_never.Goals as goal
-
-pub returns : goal.returns
-returns c = λ p is. whole_never parts c.parts_are_lawful.ensures c.files_are_served.ensures p is

@@ -1,8 +1,0 @@
-use Rattle.tagged_waits.proofs.Never.{never_calm, never_tagged}
-use Rattle.tagged_waits.proofs.tagged_never.Goals as goal
-
-pub returns : goal.returns
-returns g c = record {
-  tagged = λ x core law never. never_tagged x core law never;
-  calm = λ x core law never calm fair. never_calm x core law never calm fair;
-}
