@@ -30,7 +30,7 @@ use Rattle.packets_heard.specs.Recalled.{AllQuiet, AllStill, IsLanOf}
 use Rattle.segment_model.specs.Slaves.{Datagram, grams}
 use Rattle.segment_plan.specs.declared.plan.Scenario.{Scenario}
 use Rattle.idle_slaves.specs.WaitEager.{AllSilent}
-use Rattle.plan_met.specs.Dues.{AllDue}
+use Rattle.plan_ring.specs.Dues.{AllDue}
 use Rattle.bound_premises.specs.Runs.{is_waiting, remembered, waiting_at}
 use Rattle.bound_premises.proofs.Maps.{each_asks, full_is, memory, memory_behind_is, memory_same, visit_is}
 use Rattle.bound_premises.proofs.Rests.{at_port}

@@ -11,7 +11,7 @@ use Rattle.master_node.specs.Recalled.{AllKnow}
 use Rattle.master_node.specs.Resting as Resting
 use Rattle.master_node.specs.declared.lan.Lan.{Lan}
 use Rattle.master_side.specs.Recall.{Recall}
-use Rattle.plan_met.specs.Met.{AllOpenAt, IsAt}
+use Rattle.plan_ring.specs.PlanMet.{AllOpenAt, IsAt}
 use Rattle.plan_ring.specs.Asked.{asked}
 use Rattle.packets_heard.specs.Recalled.{AllSettled, IsLanOf}
 use Rattle.segment_plan.specs.declared.plan.Scenario.{Scenario}

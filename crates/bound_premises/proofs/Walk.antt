@@ -13,7 +13,7 @@ use Rattle.master_hand.specs.Spoken.{Asked}
 use Rattle.master_node.specs.Happened.{arrivals_at}
 use Rattle.master_node.specs.Recalled.{AllKnow}
 use Rattle.master_node.specs.of_master_tour.Toured.{Tour}
-use Rattle.plan_met.specs.Met.{AllOpenAt}
+use Rattle.plan_ring.specs.PlanMet.{AllOpenAt}
 use Rattle.plan_ring.specs.Lives.{AreLived}
 use Rattle.plan_ring.specs.Round.{ring_of, ring_after, behind, AllRound}
 use Rattle.plan_ring.proofs.Lives.{front_round, one_after}
@@ -30,7 +30,7 @@ use Rattle.slave_server.specs.Serving.{Serving}
 use Rattle.slave_steps.specs.Node.{Node}
 use Rattle.packets_heard.specs.Toured as Visits
 use Rattle.idle_slaves.specs.WaitEager.{AllRest, AllUnpassed, IsEagerFrame}
-use Rattle.plan_met.specs.Dues.{MailsAreDue}
+use Rattle.plan_ring.specs.Dues.{MailsAreDue}
 use Rattle.bound_premises.specs.Runs.{ScriptsMay, remembered, waiting_at}
 use Rattle.bound_premises.proofs.Counts.{came_more, entered_few, lost_more, lost_one}
 use Rattle.bound_premises.proofs.Frames.{all_eager, all_known, all_quiet, all_remember, gets_none, lost_known}

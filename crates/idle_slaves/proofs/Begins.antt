@@ -13,7 +13,7 @@ use Rattle.link_model.specs.Link.{Halves}
 use Rattle.link_model.specs.Master.{InState}
 use Rattle.master_duty.specs.Reply.{Reply}
 use Rattle.master_hand.specs.Spoken.{Asked}
-use Rattle.plan_met.specs.Met.{slave_at}
+use Rattle.plan_ring.specs.PlanMet.{slave_at}
 use Rattle.run_frames.specs.Clocks.{duty_reopens, goes_to_init}
 use Rattle.run_frames.specs.Goes.{HandAt}
 use Rattle.run_frames.specs.Waits.{new_waits}

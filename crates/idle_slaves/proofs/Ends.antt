@@ -8,8 +8,8 @@ use Rattle.exchange_model.specs.Rows.{Row, left}
 use Rattle.idle_slaves.specs.Held.{Took}
 use Rattle.life_model.specs.Eras.{EraIs}
 use Rattle.life_model.specs.Lives.{Spot, Era, era_next, granted, passing_begins}
-use Rattle.named_lives.specs.Alike.{Alike, RowIs}
-use Rattle.named_lives.proofs.NamedAlike.{left_same, in_hand}
+use Rattle.plan_ring.specs.Alike.{Alike, RowIs}
+use Rattle.plan_ring.proofs.NamedAlike.{left_same, in_hand}
 use Rattle.segment_model.specs.Ends.{Passing}
 use Rattle.segment_model.specs.Record.{Frame}
 use Rattle.segment_model.specs.Seats.{Side, side_back, side_next}

@@ -17,7 +17,7 @@ use Rattle.life_runs.specs.Led.{Leads, Took, speech_at, is_passed}
 use Rattle.link_mails.specs.Body.{Body}
 use Rattle.master_duty.specs.Reply.{Reply}
 use Rattle.master_hand.specs.Spoken.{Asked, acknowledged, is_followed}
-use Rattle.plan_met.specs.Met.{slave_at, IsMet}
+use Rattle.plan_ring.specs.PlanMet.{slave_at, IsMet}
 use Rattle.plan_ring.specs.Asked.{asked}
 use Rattle.run_frames.specs.Clocks.{Clocked}
 use Rattle.run_frames.specs.Goes.{Under, back_life}

@@ -19,8 +19,8 @@ use Rattle.link_model.specs.Link.{Halves}
 use Rattle.link_model.specs.Master.{InState}
 use Rattle.master_duty.specs.Reply.{Reply}
 use Rattle.master_hand.specs.Spoken.{Asked, acknowledged, is_followed}
-use Rattle.plan_met.specs.Met.{slave_at}
-use Rattle.slave_clocks.specs.Hands.{AllHand}
+use Rattle.plan_ring.specs.PlanMet.{slave_at}
+use Rattle.plan_ring.specs.Hands.{AllHand}
 use Rattle.run_frames.specs.Clocks.{gains_all, reopened_all, still_behind}
 use Rattle.run_frames.specs.Goes.{Under, IsUnder, AllUnder, back_life, all_back}
 use Rattle.run_frames.specs.Led.{AreLed}

@@ -22,7 +22,7 @@ use Rattle.link_model.specs.Frames.{all_accepted}
 use Rattle.link_model.specs.Master.{InState as HalfState}
 use Rattle.master_duty.specs.Reply.{Reply}
 use Rattle.master_hand.specs.Spoken.{Asked, acknowledged, is_followed}
-use Rattle.plan_met.specs.Met.{slave_at, IsMet}
+use Rattle.plan_ring.specs.PlanMet.{slave_at, IsMet}
 use Rattle.plan_ring.specs.Asked.{asked}
 use Rattle.run_frames.specs.Goes.{Under, back_life}
 use Rattle.run_frames.specs.Orders.{is_live}

@@ -17,10 +17,10 @@ use Rattle.life_runs.specs.Led.{Exchanged, Leads, speech_at}
 use Rattle.link_mails.specs.Body.{Body}
 use Rattle.master_duty.specs.Reply.{Reply}
 use Rattle.master_hand.specs.Spoken.{Asked, acknowledged}
-use Rattle.named_lives.specs.Alike.{Alike}
-use Rattle.named_lives.proofs.NamedAlike.{answered_alike}
+use Rattle.plan_ring.specs.Alike.{Alike}
+use Rattle.plan_ring.proofs.NamedAlike.{answered_alike}
 use Rattle.never_waits.specs.Waits.{NeverWaits}
-use Rattle.plan_met.specs.Met.{slave_at, IsOpenAt, IsAt}
+use Rattle.plan_ring.specs.PlanMet.{slave_at, IsOpenAt, IsAt}
 use Rattle.plan_ring.specs.Asked.{asked, is_service}
 use Rattle.plan_ring.specs.Round.{all_seen}
 use Rattle.segment_model.specs.Slaves.{serving}

@@ -21,7 +21,7 @@ use Rattle.link_model.specs.Frames.{all_accepted}
 use Rattle.master_duty.specs.Reply.{Reply}
 use Rattle.master_hand.specs.Spoken.{Asked, acknowledged, is_followed}
 use Rattle.never_waits.specs.Waits.{NeverWaits}
-use Rattle.plan_met.specs.Met.{IsMet, AllOpenAt, AllMet}
+use Rattle.plan_ring.specs.PlanMet.{IsMet, AllOpenAt, AllMet}
 use Rattle.plan_ring.specs.Asked.{asked, is_service}
 use Rattle.run_frames.specs.Goes.{Under, back_life}
 use Rattle.run_frames.specs.Led.{AreLed, under_of, unders}

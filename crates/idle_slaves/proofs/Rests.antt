@@ -7,7 +7,7 @@ use Rattle.idle_slaves.specs.Visited.{IsLeft}
 use Rattle.idle_slaves.proofs.Settled.{is_left}
 use Rattle.life_model.specs.Lives.{Stand}
 use Rattle.life_runs.specs.Led.{Leads, speech_at}
-use Rattle.plan_met.specs.Met.{slave_at}
+use Rattle.plan_ring.specs.PlanMet.{slave_at}
 use Rattle.segment_model.specs.Slaves.{serving}
 use Rattle.segment_plan.specs.declared.slave.SlaveSpec.{SlaveSpec}
 use Rattle.slave_server.specs.Serving.{Serving}

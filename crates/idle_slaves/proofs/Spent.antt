@@ -7,9 +7,9 @@ use Rattle.idle_slaves.specs.Visited.{LifeSpent}
 use Rattle.idle_slaves.proofs.Settled.{is_left}
 use Rattle.life_model.specs.Eras.{EraIs}
 use Rattle.life_model.specs.Lives.{Life, Spot}
-use Rattle.named_lives.specs.Alike.{Alike, RowIs}
-use Rattle.named_lives.proofs.NamedAlike.{free_back, left_alike, answered_alike}
-use Rattle.named_lives.specs.of_never_waits.Waits.{NeverWaits}
+use Rattle.plan_ring.specs.Alike.{Alike, RowIs}
+use Rattle.plan_ring.proofs.NamedAlike.{free_back, left_alike, answered_alike}
+use Rattle.plan_ring.specs.of_never_waits.Waits.{NeverWaits}
 use Rattle.segment_model.specs.Record.{Frame}
 use Rattle.segment_model.specs.Slaves.{Processor, Registers, Slave, serving}
 use Rattle.state_exchange.specs.Stated.{Stated, IsStated}

@@ -5,7 +5,7 @@ use Rattle.exchange_model.specs.Exchange.{Exchange, Speech, IsLawful, given, pla
 use Rattle.exchange_model.specs.Rows.{Row, begun}
 use Rattle.life_runs.specs.Led.{Comes}
 use Rattle.master_hand.specs.Spoken.{Asked}
-use Rattle.named_lives.specs.Alike.{WishIs}
+use Rattle.plan_ring.specs.Alike.{WishIs}
 use Rattle.never_waits.specs.Waits.{NeverWaits}
 use Rattle.plan_ring.specs.Asked.{is_service}
 use Rattle.plan_ring.proofs.Turns.{wish_is}

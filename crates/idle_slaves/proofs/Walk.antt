@@ -12,13 +12,13 @@ use Rattle.life_runs.specs.Led.{Exchanged, Leads, Turn, IsLed, IsLedFrame, speec
 use Rattle.link_mails.specs.Body.{Body}
 use Rattle.master_duty.specs.Reply.{Reply}
 use Rattle.master_hand.specs.Spoken.{Asked, acknowledged, is_followed}
-use Rattle.plan_met.specs.Met.{AllOpenAt, AllMet}
+use Rattle.plan_ring.specs.PlanMet.{AllOpenAt, AllMet}
 use Rattle.plan_ring.specs.Lives.{AreLived}
 use Rattle.plan_ring.specs.Round.{ring_of, ring_after, WentRound, AllRound}
 use Rattle.plan_ring.proofs.Lives.{front_round, last_round}
-use Rattle.slave_clocks.specs.Hands.{AllHand}
-use Rattle.slave_clocks.proofs.Hands.{hands_back, hands_lost}
-use Rattle.slave_clocks.proofs.Repairs.{all_repaired, none_repaired}
+use Rattle.plan_ring.specs.Hands.{AllHand}
+use Rattle.plan_ring.proofs.Hands.{hands_back, hands_lost}
+use Rattle.plan_ring.proofs.Repairs.{all_repaired, none_repaired}
 use Rattle.run_frames.specs.Clocks.{repair_of, still_behind, reopened_all, gains_all}
 use Rattle.run_frames.specs.Goes.{Under, AllUnder, AllClocked, all_back, all_lost}
 use Rattle.run_frames.specs.Led.{AreLed, first_clocked, unders, behind_back, behind_lost, leads_behind, still_led, waits_led}

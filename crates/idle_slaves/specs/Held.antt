@@ -4,7 +4,7 @@ use Rattle.never_waits.specs.Moments.{IsFree, HeldStill}
 use Rattle.exchange_model.specs.Exchange.{Speech}
 use Rattle.idle_slaves.specs.Waiting.{Memory}
 use Rattle.life_model.specs.Lives.{Era, Life, era_next}
-use Rattle.named_lives.specs.Alike.{WishIs}
+use Rattle.plan_ring.specs.Alike.{WishIs}
 use Rattle.life_model.specs.Own.{own}
 use Rattle.run_frames.specs.Waits.{Waits}
 use Rattle.segment_model.specs.Slaves.{Datagram}

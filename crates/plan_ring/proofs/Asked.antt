@@ -3,8 +3,8 @@ use Rattle.std.proofs.Common.{◌≡◌, ℕ, ◌&&◌, Bool, true, false, List,
 use Rattle.std.specs.Prelude.{if◌then◌else◌, None, option_map}
 use Rattle.life_runs.specs.of_frame_view.View.{Lens}
 use Rattle.life_runs.specs.of_link_mails.Body.{Body}
-use Rattle.named_lives.specs.of_exchange_model.Exchange.{Exchange, IsLawful}
-use Rattle.named_lives.proofs.Named.{named_law}
+use Rattle.exchange_model.specs.Exchange.{Exchange, IsLawful}
+use Rattle.plan_ring.proofs.Named.{named_law}
 use Rattle.slave_parts.specs.of_exchange_sum.Refusing.{Refusal, gated}
 use Rattle.slave_parts.specs.of_foe_model.Meaning as FoeMeaning
 use Rattle.slave_parts.specs.of_eoe_model.Network.{Station}
@@ -15,11 +15,11 @@ use Rattle.slave_parts.specs.of_slave_model.Acknowledged as Slave
 use Rattle.slave_parts.specs.of_slave_model.Product.{product, served, refusal, side}
 use Rattle.slave_parts.specs.of_slave_model.Profile.{Protocol, Profile, IsProfile, areas_of, serves}
 use Rattle.slave_parts.specs.Parts.{Core, Server, parts}
-use Rattle.named_lives.specs.Named.{Agrees, AgreesLast}
-use Rattle.kept_lives.specs.of_book_model.Chain.{Same}
-use Rattle.kept_lives.specs.First.{Forgets}
+use Rattle.plan_ring.specs.Named.{Agrees, AgreesLast}
+use Rattle.book_model.specs.Chain.{Same}
+use Rattle.plan_ring.specs.KeptFirst.{Forgets}
 use Rattle.plan_ring.specs.Real.{real_clearing}
-use Rattle.named_lives.specs.Alike.{Alike}
+use Rattle.plan_ring.specs.Alike.{Alike}
 use Rattle.plan_ring.specs.Asked.{is_service, service_of, as_asked, asked}
 
 -- a client is that of its protocol, served or not

@@ -7,15 +7,15 @@ use Rattle.slave_parts.specs.of_segment_model.Record.{Frame}
 use Rattle.life_runs.specs.of_segment_plan.declared.slave.SlaveSpec.{SlaveSpec}
 use Rattle.life_runs.specs.of_segment_ring.declared.wire.Fate.{Fate}
 use Rattle.life_runs.specs.of_segment_ring.declared.wire.Fate.TheVariants.{Pass, Lost}
-use Rattle.named_lives.specs.of_task_model.Accounts.{Pick}
-use Rattle.named_lives.specs.of_life_model.Lives.{Life, Stand, life_next, life_back, life_lost}
+use Rattle.task_model.specs.Accounts.{Pick}
+use Rattle.life_model.specs.Lives.{Life, Stand, life_next, life_back, life_lost}
 use Rattle.life_runs.specs.of_master_duty.Reply as Master
 use Rattle.life_runs.specs.of_master_hand.Spoken.{Asked, acknowledged}
 use Rattle.life_runs.specs.of_life_frames.Shares.{came_at, given_where}
-use Rattle.kept_lives.specs.of_book_model.Script.{Addressed, HaveBegun, AnyLive, EachLive, AllLive, RestsWhole, DoneWhole}
-use Rattle.kept_lives.specs.Rows.{IsFirst}
-use Rattle.kept_lives.proofs.Rows.{back_first, lost_first, new_first}
-use Rattle.kept_lives.proofs.First.{first_book}
+use Rattle.book_model.specs.Script.{Addressed, HaveBegun, AnyLive, EachLive, AllLive, RestsWhole, DoneWhole}
+use Rattle.plan_ring.specs.Rows.{IsFirst}
+use Rattle.plan_ring.proofs.Rows.{back_first, lost_first, new_first}
+use Rattle.plan_ring.proofs.KeptFirst.{first_book}
 use Rattle.whole_ring.specs.Members.{AllLived}
 use Rattle.plan_ring.specs.Plan.{PlanMember, FitsPlan, step, new_members}
 use Rattle.plan_ring.specs.Master.{owed, speech_of, AllLed, Under, IsUnder, AllUnder, led_behind, AllBehind}

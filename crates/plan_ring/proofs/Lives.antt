@@ -22,9 +22,9 @@ use Rattle.life_runs.specs.of_segment_plan.declared.service.Service as Script
 use Rattle.life_runs.specs.of_segment_ring.declared.wire.Fate.{Fate}
 use Rattle.life_runs.specs.of_segment_ring.Ring.{RingState}
 use Rattle.life_runs.specs.of_segment_ring.Schedule.{fate_at}
-use Rattle.kept_lives.specs.of_slave_lives.Rings.{fate_seen}
+use Rattle.slave_lives.specs.Rings.{fate_seen}
 use Rattle.slave_server.specs.Serving.{Serving}
-use Rattle.kept_lives.specs.of_slave_steps.Node.{Node, node_passed}
+use Rattle.slave_steps.specs.Node.{Node, node_passed}
 use Rattle.whole_ring.specs.Members.{IsRing, first_ring}
 use Rattle.whole_ring.specs.Turning.{frame_at}
 use Rattle.plan_ring.specs.Lives.{IsKnown, AllShown, AreLived}

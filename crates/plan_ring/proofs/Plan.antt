@@ -4,8 +4,8 @@ use Rattle.std.specs.Prelude.{Some, None, if◌then◌else◌}
 use Rattle.std.proofs.lemmas.Bool.{ne_eqb, eqb-true, eq-eqb}
 use Rattle.life_runs.specs.of_frame_view.View.{Lens}
 use Rattle.life_runs.specs.of_link_mails.Body.{Body}
-use Rattle.named_lives.specs.of_life_model.Lives.{Spot}
-use Rattle.named_lives.specs.of_life_model.Tours.{item_at}
+use Rattle.life_model.specs.Lives.{Spot}
+use Rattle.life_model.specs.Tours.{item_at}
 use Rattle.std.specs.List.{list_any}
 use Rattle.std.proofs.lemmas.List.Elements.{All-head, All-tail}
 use Rattle.life_runs.specs.of_segment_plan.Sound.{is_start, IsSlave, repeated_from, is_same_station}
@@ -13,14 +13,14 @@ use Rattle.life_runs.specs.of_segment_plan.Sound as Plan
 use Rattle.life_runs.specs.of_segment_plan.declared.plan.Scenario.{Scenario}
 use Rattle.life_runs.specs.of_segment_plan.declared.slave.SlaveSpec.{SlaveSpec}
 use Rattle.slave_parts.specs.of_slave_model.Profile.{Profile, IsProfile}
-use Rattle.kept_lives.specs.of_slave_lives.Opening.{Plan, IsPlan}
+use Rattle.slave_lives.specs.Opening.{Plan, IsPlan}
 use Rattle.slave_server.specs.Serving.{Serving}
 use Rattle.slave_server.specs.Spec.{profile_of, server_of, node_of}
-use Rattle.kept_lives.specs.of_slave_steps.Node.{Node}
+use Rattle.slave_steps.specs.Node.{Node}
 use Rattle.plan_ring.specs.Real.{real, running_as, real_clearing, StepsAs}
 use Rattle.plan_ring.specs.Rooms.{IsSound}
-use Rattle.kept_lives.specs.of_slave_lives.Nodes.{GivesPlaced}
-use Rattle.kept_lives.specs.of_whole_ring.Whole.{OwesLaws}
+use Rattle.slave_lives.specs.Nodes.{GivesPlaced}
+use Rattle.whole_ring.specs.Whole.{OwesLaws}
 use Rattle.whole_ring.specs.Members as Ring
 use Rattle.whole_ring.specs.Members.{Serves, IsNew, AllNew, IsRing, first_ring}
 use Rattle.whole_ring.proofs.Begins.{ring_begins}

@@ -7,8 +7,8 @@ use Rattle.slave_parts.specs.of_eoe_model.Network.{Station}
 use Rattle.slave_parts.specs.of_state_exchange.Families.{InState, states_of}
 use Rattle.life_runs.specs.of_master_duty.Reply as Master
 use Rattle.life_runs.specs.of_master_hand.Spoken.{Asked, sdo, file, drive, net, passed, hand_speech, acknowledged}
-use Rattle.named_lives.specs.Named.{Naming, named, named_states}
-use Rattle.kept_lives.specs.of_slave_lives.Lived.{Behind}
+use Rattle.plan_ring.specs.Named.{Naming, named, named_states}
+use Rattle.slave_lives.specs.Lived.{Behind}
 use Rattle.slave_parts.specs.of_slave_model.Acknowledged as Slave
 use Rattle.slave_parts.specs.of_slave_model.Product.{product}
 use Rattle.slave_parts.specs.of_slave_model.Profile.{Protocol, Profile, areas_of}

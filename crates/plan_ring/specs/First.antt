@@ -10,14 +10,14 @@ use Rattle.life_runs.specs.of_segment_plan.declared.slave.SlaveSpec.{SlaveSpec}
 use Rattle.life_runs.specs.of_segment_ring.declared.wire.Fate.{Fate}
 use Rattle.life_runs.specs.of_segment_ring.declared.wire.Fate.TheVariants.{Pass, Lost}
 use Rattle.slave_parts.specs.of_state_exchange.Families.{InState}
-use Rattle.named_lives.specs.of_task_model.Promise.{services_in}
-use Rattle.named_lives.specs.of_life_model.Lives.{Stand}
+use Rattle.task_model.specs.Promise.{services_in}
+use Rattle.life_model.specs.Lives.{Stand}
 use Rattle.life_runs.specs.of_master_duty.Reply as Master
 use Rattle.life_runs.specs.of_master_hand.Spoken as Spoken
-use Rattle.kept_lives.specs.of_book_model.Script.{Addressed, HaveBegun, SlaveRun, RunRests, RunDone}
-use Rattle.kept_lives.specs.Rows.{WishStays, IsFirst}
-use Rattle.kept_lives.specs.First.{setting_of, FirstBook}
-use Rattle.kept_lives.specs.of_slave_lives.Lived.{node_seen}
+use Rattle.book_model.specs.Script.{Addressed, HaveBegun, SlaveRun, RunRests, RunDone}
+use Rattle.plan_ring.specs.Rows.{WishStays, IsFirst}
+use Rattle.plan_ring.specs.KeptFirst.{setting_of, FirstBook}
+use Rattle.slave_lives.specs.Lived.{node_seen}
 use Rattle.slave_parts.specs.Parts.{Core, Server}
 use Rattle.whole_ring.specs.Members.{AllLived}
 use Rattle.plan_ring.specs.Plan.{PlanMember, FitsPlan, step}

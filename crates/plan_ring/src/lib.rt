@@ -2,12 +2,8 @@
 //! of its slaves. No running code: each function here does nothing, and its contract states a law.
 #![tactic(auto)]
 
-ghost use Rattle.kept_lives.specs.First.{FirstBook};
-ghost use Rattle.kept_lives.specs.Rows.{IsFirst};
-ghost use Rattle.kept_lives.specs.of_book_model.Script.{Addressed, AnyLive};
-ghost use Rattle.kept_lives.specs.of_slave_lives.Opening as Opening;
-ghost use Rattle.kept_lives.specs.of_slave_steps.Node.{Node, node_passed};
-ghost use Rattle.kept_lives.specs.of_whole_ring.Whole.{OwesLaws};
+ghost use Rattle.book_model.specs.Script.{Addressed, AnyLive};
+ghost use Rattle.life_model.specs.Lives.{Spot, Stand};
 ghost use Rattle.life_runs.specs.First.{lens_of, first_leads};
 ghost use Rattle.life_runs.specs.Led.{Exchanged, Leads, IsLed};
 ghost use Rattle.life_runs.specs.of_datagrams.Datagram as Raw;
@@ -22,25 +18,42 @@ ghost use Rattle.life_runs.specs.of_segment_plan.declared.slave.SlaveSpec.{Slave
 ghost use Rattle.life_runs.specs.of_segment_ring.Ring.{RingState, ring_behind};
 ghost use Rattle.life_runs.specs.of_segment_ring.Schedule.{fate_at};
 ghost use Rattle.life_runs.specs.of_segment_ring.declared.wire.Fate.{Fate};
-ghost use Rattle.named_lives.specs.Alike.{Alike};
-ghost use Rattle.named_lives.specs.of_life_model.Lives.{Spot, Stand};
+ghost use Rattle.plan_ring.specs.Alike.{Alike};
 ghost use Rattle.plan_ring.specs.Asked.{is_service, asked};
 ghost use Rattle.plan_ring.specs.First.{AllFirst, AllStay, AllOpen, AllBooks, AllAtRest, runs_of, RunEnds};
+ghost use Rattle.plan_ring.specs.KeptFirst.{FirstBook};
 ghost use Rattle.plan_ring.specs.Lives.{IsKnown, AreLived};
 ghost use Rattle.plan_ring.specs.Master.{owed, Under, IsLed as IsLedMember, AllLed, AllUnder, AllBehind, GoesOn};
 ghost use Rattle.plan_ring.specs.Plan.{PlanMember, FitsPlan, AllMacs, lens_of, members_of, step};
 ghost use Rattle.plan_ring.specs.Real.{real_clearing};
 ghost use Rattle.plan_ring.specs.Round.{ring_of, AllRound};
+ghost use Rattle.plan_ring.specs.Rows.{IsFirst};
+ghost use Rattle.slave_lives.specs.Opening as Opening;
 ghost use Rattle.slave_parts.specs.of_segment_model.Record.{Frame};
 ghost use Rattle.slave_parts.specs.of_slave_model.Profile.{Profile, IsProfile, areas_of};
 ghost use Rattle.slave_server.specs.Serving.{Serving};
 ghost use Rattle.slave_server.specs.Spec.{node_of};
+ghost use Rattle.slave_steps.specs.Node.{Node, node_passed};
 ghost use Rattle.std.specs.Prelude.{◌≡◌, ◌<◌, ◌∷◌, ◌++◌, ℕ, suc, Bool, List, [], map, length};
 ghost use Rattle.whole_ring.specs.Members.{MemberIs, IsRing, first_ring};
 ghost use Rattle.whole_ring.specs.Turning.{Turn, AllTurn, frame_at, behind_frame, given_up};
+ghost use Rattle.whole_ring.specs.Whole.{OwesLaws};
 
+pub mod book_lives;
+pub mod due_rows;
+pub mod half_asked;
+pub mod kept_lives;
+pub mod named_lives;
+pub mod named_waits;
+pub mod open_met;
+pub mod plan_dues;
+pub mod plan_met;
 pub mod plan_rooms;
+pub mod quiet_rings;
+pub mod ring_clocks;
+pub mod run_answers;
 pub mod server_lives;
+pub mod slave_clocks;
 
 /// The services of a slave of a plan, as the master asks for them, are such as the laws of whole lives speak of; and the master speaks of them as
 /// their own client does, but for mails that are passed on.

@@ -3,7 +3,7 @@ use Rattle.std.specs.Prelude.{◌==◌, not, if◌then◌else◌}
 use Rattle.std.proofs.Common.{◌≡◌, ℕ, suc, Bool, true, false, Option, Some, None, List, [], ◌∷◌, ◌++◌, refl, ap, sym, ◌∙◌, subst, append-nil}
 use Rattle.segment_plan.specs.of_exchange_model.Exchange.{Exchange}
 use Rattle.segment_plan.specs.of_exchange_model.Rows.{Row}
-use Rattle.run_promises.specs.of_kept_lives.Epochs.{IsKept, AreKept, IsNewest, IsKeptLife}
+use Rattle.run_promises.specs.of_plan_ring.Epochs.{IsKept, AreKept, IsNewest, IsKeptLife}
 use Rattle.life_runs.specs.of_life_frames.Shares.{AllBoth}
 use Rattle.script_runs.specs.of_life_model.Eras.{era_frames}
 use Rattle.script_runs.specs.of_life_model.Lives.{Spot, Era, Life, returns_to_init}

@@ -1,7 +1,7 @@
 -- EACH SERVICE OF A SCRIPT IS REPORTED with just what the frames give for it, and each reply is that of its application.
 use Rattle.std.specs.Prelude.{◌≡◌, ℕ, suc, not, Bool, true, false, Option, Some, None, List, [], ◌∷◌, ◌++◌, length, ⊤}
 use Rattle.segment_plan.specs.of_exchange_model.Exchange.{Exchange, Speech}
-use Rattle.run_promises.specs.of_kept_lives.Epochs.{IsKept, app_of}
+use Rattle.run_promises.specs.of_plan_ring.Epochs.{IsKept, app_of}
 use Rattle.script_runs.specs.of_life_model.Eras.{era_frames}
 use Rattle.script_runs.specs.of_life_model.Lives.{Spot, Era, Life, returns_to_init}
 use Rattle.life_runs.specs.First.{lens_of, spot_of}

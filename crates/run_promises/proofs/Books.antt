@@ -1,9 +1,9 @@
 -- THE BOOKS of slaves that stay up.
 use Rattle.std.proofs.Common.{◌≡◌, ℕ, suc, true, List, [], ◌∷◌, map, length, ap, sym, ◌∙◌, subst}
 use Rattle.std.proofs.lemmas.List.{length-map}
-use Rattle.plan_ring.specs.of_kept_lives.First.{Forgets, FirstBook}
-use Rattle.plan_ring.specs.of_kept_lives.Rows.{IsFirst}
-use Rattle.plan_ring.proofs.of_kept_lives.First.{first_book}
+use Rattle.plan_ring.specs.of_plan_ring.KeptFirst.{Forgets, FirstBook}
+use Rattle.plan_ring.specs.of_plan_ring.Rows.{IsFirst}
+use Rattle.plan_ring.proofs.of_plan_ring.KeptFirst.{first_book}
 use Rattle.script_runs.specs.of_eoe_model.Network.{Station}
 use Rattle.script_runs.specs.of_frame_view.View.{Lens}
 use Rattle.script_runs.specs.of_life_frames.Shares.{Lived}
@@ -20,22 +20,22 @@ use Rattle.script_runs.specs.of_segment_model.Record.{Frame}
 use Rattle.script_runs.specs.of_segment_plan.declared.plan.Scenario.{Scenario}
 use Rattle.script_runs.specs.of_segment_plan.declared.slave.SlaveSpec.{SlaveSpec}
 use Rattle.plan_ring.specs.Real.{real_clearing}
-use Rattle.kept_lives.specs.of_slave_lives.Lived.{Behind, node_seen}
-use Rattle.kept_lives.specs.of_slave_lives.Opening as Opening
+use Rattle.plan_ring.specs.of_slave_lives.Lived.{Behind, node_seen}
+use Rattle.plan_ring.specs.of_slave_lives.Opening as Opening
 use Rattle.plan_ring.specs.of_slave_parts.Parts.{Core, Server}
 use Rattle.plan_ring.specs.of_slave_server.Serving.{Serving}
-use Rattle.kept_lives.specs.of_slave_steps.Node.{Node, is_settled}
-use Rattle.kept_lives.specs.of_slave_lives.Steps.{Stands}
-use Rattle.kept_lives.specs.of_mailbox_slave.Node.{in_side}
+use Rattle.plan_ring.specs.of_slave_steps.Node.{Node, is_settled}
+use Rattle.plan_ring.specs.of_slave_lives.Steps.{Stands}
+use Rattle.plan_ring.specs.of_mailbox_slave.Node.{in_side}
 use Rattle.script_runs.specs.of_segment_model.Laws.{IsSettled}
 use Rattle.script_runs.specs.of_state_exchange.Families.{InState}
-use Rattle.kept_lives.specs.of_whole_ring.Whole.{OwesLaws, StandsAs}
+use Rattle.plan_ring.specs.of_whole_ring.Whole.{OwesLaws, StandsAs}
 use Rattle.plan_ring.specs.of_whole_ring.Members.{MemberIs, AllLived}
 use Rattle.plan_ring.specs.Lives.{IsShown, AllShown, AreLived}
 use Rattle.plan_ring.specs.Round.{ring_of, ring_after, frame_seen, all_seen}
 use Rattle.run_promises.specs.Books.{StaysUp, HasBook, AllHaveBooks}
 use Rattle.run_promises.specs.Slaves.{services_of}
-use Rattle.kept_lives.proofs.Settled.{settled_seen}
+use Rattle.plan_ring.proofs.Settled.{settled_seen}
 use Rattle.run_promises.proofs.Ups.{AllUp}
 
 -- a book of a slave with any services

@@ -15,8 +15,8 @@ use Rattle.script_runs.specs.of_life_runs.Led.{Exchanged, Leads, speech_at}
 use Rattle.script_runs.specs.of_link_mails.Body.{Body}
 use Rattle.script_runs.specs.of_master_duty.Reply.{Reply}
 use Rattle.script_runs.specs.of_master_hand.Spoken.{Asked, hand_speech, is_followed}
-use Rattle.plan_ring.specs.of_named_lives.Alike.{RowIs}
-use Rattle.plan_ring.proofs.of_named_lives.Alike as Alike
+use Rattle.plan_ring.specs.of_plan_ring.Alike.{RowIs}
+use Rattle.plan_ring.proofs.of_plan_ring.Alike as Alike
 use Rattle.plan_ring.specs.Asked.{is_service}
 use Rattle.plan_ring.specs.Master.{speech_of, IsLed, AllLed, owed}
 use Rattle.plan_ring.specs.Plan.{PlanMember, FitsPlan, step, first_app}
@@ -25,21 +25,21 @@ use Rattle.script_runs.specs.of_segment_model.Record.{Frame}
 use Rattle.script_runs.specs.of_segment_plan.declared.plan.Scenario.{Scenario}
 use Rattle.script_runs.specs.of_segment_plan.declared.slave.SlaveSpec.{SlaveSpec}
 use Rattle.plan_ring.specs.Real.{real_clearing}
-use Rattle.kept_lives.specs.of_slave_lives.Lived.{Behind}
+use Rattle.plan_ring.specs.of_slave_lives.Lived.{Behind}
 use Rattle.plan_ring.specs.of_slave_parts.Parts.{Core, Server}
 use Rattle.plan_ring.specs.of_slave_server.Serving.{Serving, next_mail}
-use Rattle.kept_lives.specs.of_slave_steps.Node.{Node, is_settled}
+use Rattle.plan_ring.specs.of_slave_steps.Node.{Node, is_settled}
 use Rattle.script_runs.specs.of_state_exchange.Families.{InState}
-use Rattle.kept_lives.specs.of_whole_ring.Whole.{StandsAs, LivesOpen}
+use Rattle.plan_ring.specs.of_whole_ring.Whole.{StandsAs, LivesOpen}
 use Rattle.plan_ring.specs.of_whole_ring.Members.{MemberIs, AllLived}
 use Rattle.plan_ring.specs.Lives.{IsShown, AllShown, AreLived}
 use Rattle.plan_ring.specs.Round.{ring_of, ring_after, all_seen}
 use Rattle.script_runs.specs.Came.{AreThose, is_packet}
-use Rattle.kept_lives.specs.Epochs.{AreKept, NothingLeft, app_of}
+use Rattle.plan_ring.specs.Epochs.{AreKept, NothingLeft, app_of}
 use Rattle.run_promises.specs.Rests.{IsIdle, IsDone, AllDoneIf}
 use Rattle.run_promises.specs.Slaves.{services_of}
 use Rattle.script_runs.specs.Slaves.{HasCome, AllCome}
-use Rattle.kept_lives.proofs.Epochs.{lived_rests, past_kept}
+use Rattle.plan_ring.proofs.Epochs.{lived_rests, past_kept}
 use Rattle.run_promises.proofs.Served.{one_served}
 
 -- a newest epoch of which nothing is left, of a slave with any services

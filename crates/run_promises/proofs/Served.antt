@@ -15,16 +15,16 @@ use Rattle.script_runs.specs.of_segment_plan.declared.plan.Scenario.{Scenario}
 use Rattle.script_runs.specs.of_segment_plan.declared.slave.SlaveSpec.{SlaveSpec}
 use Rattle.plan_ring.specs.Real.{real_clearing}
 use Rattle.plan_ring.specs.of_slave_server.Serving.{Serving}
-use Rattle.kept_lives.specs.of_slave_steps.Node.{Node}
+use Rattle.plan_ring.specs.of_slave_steps.Node.{Node}
 use Rattle.plan_ring.specs.of_whole_ring.Members.{MemberIs, AllLived}
 use Rattle.plan_ring.specs.Lives.{IsShown, AllShown, AreLived}
 use Rattle.plan_ring.specs.Master.{IsLed, AllLed, owed}
 use Rattle.plan_ring.specs.Round.{ring_of, ring_after, all_seen}
 use Rattle.script_runs.specs.Came.{Came, AreFirst}
-use Rattle.kept_lives.specs.Epochs.{IsKeptLife}
+use Rattle.plan_ring.specs.Epochs.{IsKeptLife}
 use Rattle.run_promises.specs.Slaves.{services_of, IsServed, AllServed}
 use Rattle.script_runs.specs.Slaves.{HasCome, AllCome}
-use Rattle.kept_lives.proofs.Epochs.{kept_life}
+use Rattle.plan_ring.proofs.Epochs.{kept_life}
 
 module _ (plan : Scenario) (fs : List Exchanged) where
   abbrev lens : ℕ → Lens

@@ -90,7 +90,7 @@ pub fn tallied_law()
     ensures { (plan : Scenario) (fs : List Exchanged) (missed : ℕ) (leads : List Leads) (p : Progress) (cs : List (Clocked Body Asked Reply)) → IsPlan plan → IsKnown plan → IsPlanRun plan fs missed leads p cs →
         IsTallied (lens_of plan.slaves) plan.recover plan.retry (slowest plan.paces) (first_leads plan) plan.paces fs missed leads p cs }
 {
-    slave_clocks::run_answers::answer_law();
+    plan_ring::run_answers::answer_law();
     run_frames::toured_law();
 }
 

@@ -33,7 +33,7 @@ use Rattle.seen_slaves.proofs.Clocks.{RunOn, answers, clocks, run_back, run_lost
 use Rattle.seen_slaves.proofs.Seats.{nodes_are}
 use Rattle.seen_slaves.proofs.Stays.{paces_asked, paces_served}
 use Rattle.seen_slaves.proofs.Walk.{Led, first_of, nodes_at}
-use Rattle.slave_clocks.specs.Clocks.{AllStand}
+use Rattle.plan_ring.specs.Clocks.{AllStand}
 
 -- a clock that runs on keeps its pace
 run_paces : (number : ℕ) (cs ds : List Slave) → RunOn number cs ds → map (λ (c : Slave). c.pace) ds ≡ map (λ (c : Slave). c.pace) cs

@@ -40,11 +40,11 @@ use Rattle.served_rings.proofs.One as One
 use Rattle.served_runs.specs.Served.{Serves, ServedTurn, AllServedTurn, IsServedFrame, IsServedTurn, all_serve, new_serves, served_behind}
 use Rattle.seen_slaves.specs.Eager.{leads_of, turns_of}
 use Rattle.seen_slaves.proofs.Seats.{nodes_are}
-use Rattle.slave_clocks.specs.Clocks.{AllAnswered, AllAsked, AllStand, AnswersAs, AsksAs, clocks_on}
-use Rattle.slave_clocks.specs.Stands.{StandsTo}
-use Rattle.slave_clocks.proofs.Each.{each_answers, each_stand, meets}
-use Rattle.slave_clocks.proofs.Opened.{nothing_awaited}
-use Rattle.slave_clocks.proofs.Turns.{given}
+use Rattle.plan_ring.specs.Clocks.{AllAnswered, AllAsked, AllStand, AnswersAs, AsksAs, clocks_on}
+use Rattle.plan_ring.specs.Stands.{StandsTo}
+use Rattle.plan_ring.proofs.Each.{each_answers, each_stand, meets}
+use Rattle.plan_ring.proofs.Opened.{nothing_awaited}
+use Rattle.plan_ring.proofs.SlaveTurns.{given}
 use Rattle.slave_server.specs.Serving.{Serving}
 use Rattle.slave_server.specs.Spec.{node_of}
 use Rattle.slave_steps.specs.Node.{Node, node_passed}

@@ -9,7 +9,7 @@ use Rattle.life_runs.specs.First.{lens_of}
 use Rattle.life_runs.specs.Led.{Exchanged}
 use Rattle.link_mails.specs.Body.{Body}
 use Rattle.master_hand.specs.Spoken.{Asked, is_followed, is_passed}
-use Rattle.plan_met.specs.Met.{AllMet, IsMet}
+use Rattle.plan_ring.specs.PlanMet.{AllMet, IsMet}
 use Rattle.plan_ring.specs.Lives.{IsKnown}
 use Rattle.plan_ring.specs.Plan.{FitsPlan, step}
 use Rattle.plan_ring.specs.Round.{WentRound, all_seen, behind, frame_seen, ring_after, ring_of}
@@ -28,9 +28,9 @@ use Rattle.served_rings.proofs.All as Every
 use Rattle.served_runs.specs.Served.{Serves, ServedTurn, AllServedTurn, IsServedFrame}
 use Rattle.seen_slaves.specs.Eager.{leads_of}
 use Rattle.seen_slaves.proofs.Seats.{nodes_are, paces_are}
-use Rattle.slave_clocks.specs.Met.{AllOpenMet, OpenMet}
-use Rattle.slave_clocks.proofs.Each.{meets}
-use Rattle.slave_clocks.proofs.OpenEach.{each_met}
+use Rattle.plan_ring.specs.Met.{AllOpenMet, OpenMet}
+use Rattle.plan_ring.proofs.Each.{meets}
+use Rattle.plan_ring.proofs.OpenEach.{each_met}
 use Rattle.slave_server.specs.Serving.{Serving}
 use Rattle.slave_steps.specs.Node.{Node, node_passed}
 use Rattle.whole_ring.specs.Turning.{AllTurn, Turn, behind_frame, frame_at}

@@ -17,7 +17,7 @@ use Rattle.link_mails.specs.Body.{Body}
 use Rattle.master_duty.specs.Reply.{Reply}
 use Rattle.master_hand.specs.Spoken.{Asked, acknowledged, is_followed, passed}
 use Rattle.master_tour.proofs.Backs.{seen_aims}
-use Rattle.plan_met.specs.Met.{slave_at, AllMet, IsMet}
+use Rattle.plan_ring.specs.PlanMet.{slave_at, AllMet, IsMet}
 use Rattle.run_frames.specs.Goes.{Under, back_life}
 use Rattle.run_frames.specs.Led.{AreLed}
 use Rattle.run_frames.specs.Waits.{Waits}

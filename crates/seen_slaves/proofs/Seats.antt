@@ -22,7 +22,7 @@ use Rattle.link_mails.specs.Body.{Body}
 use Rattle.master_duty.specs.Reply.{Reply}
 use Rattle.master_hand.specs.Spoken.{Asked, acknowledged, hand_speech, is_followed, is_passed}
 use Rattle.passed_whole.specs.Heard.{EraPasses}
-use Rattle.plan_met.specs.Met.{slave_at}
+use Rattle.plan_ring.specs.PlanMet.{slave_at}
 use Rattle.plan_ring.specs.Plan.{AllMacs, FitsPlan, plan_of, step}
 use Rattle.served_rings.specs.Speakers.{any_speaker, processor_of, seer_of, spoken, table_of}
 use Rattle.seen_slaves.specs.Fits.{FitsSo, HasNone}

@@ -11,7 +11,7 @@ use Rattle.life_model.specs.Lives.{Spot}
 use Rattle.life_runs.specs.First.{lens_of, first_leads, leads_from}
 use Rattle.life_runs.specs.Led.{Exchanged, Leads}
 use Rattle.life_runs.specs.of_datagrams.Datagram as Raw
-use Rattle.plan_met.specs.Met.{AllMet}
+use Rattle.plan_ring.specs.PlanMet.{AllMet}
 use Rattle.plan_ring.specs.Round.{ring_of, AllRound}
 use Rattle.run_frames.specs.Runs.{Progress}
 use Rattle.run_frames.proofs.Leading.{SeenIs}

@@ -12,7 +12,7 @@ use Rattle.life_runs.specs.Led.{Exchanged, speech_at}
 use Rattle.link_mails.specs.Body.{Body}
 use Rattle.link_model.specs.Frames.{all_accepted}
 use Rattle.master_hand.specs.Spoken.{acknowledged}
-use Rattle.plan_met.specs.Met.{slave_at}
+use Rattle.plan_ring.specs.PlanMet.{slave_at}
 use Rattle.run_frames.specs.Led.{AreLed}
 use Rattle.run_frames.specs.Waits.{Waits}
 use Rattle.segment_model.specs.Slaves.{Datagram, grams, serving}

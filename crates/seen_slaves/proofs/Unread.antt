@@ -22,7 +22,7 @@ use Rattle.link_model.specs.Slave.{InSide}
 use Rattle.master_duty.specs.Reply.{Reply}
 use Rattle.master_hand.specs.Spoken.{Asked, acknowledged, is_followed}
 use Rattle.master_tour.proofs.Unders.{SameAim}
-use Rattle.plan_met.specs.Met.{slave_at}
+use Rattle.plan_ring.specs.PlanMet.{slave_at}
 use Rattle.run_frames.proofs.Access.{begins_same, holds_same}
 use Rattle.run_frames.specs.Goes.{Under}
 use Rattle.run_frames.specs.Waits.{Waits}

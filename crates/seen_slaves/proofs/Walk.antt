@@ -10,12 +10,12 @@ use Rattle.life_runs.specs.Led.{Exchanged, speech_at, is_passed, gives_up_at, mi
 use Rattle.link_mails.specs.Body.{Body}
 use Rattle.master_duty.specs.Reply.{Reply}
 use Rattle.master_hand.specs.Spoken.{Asked, acknowledged, is_followed}
-use Rattle.plan_met.specs.Met.{AllMet}
+use Rattle.plan_ring.specs.PlanMet.{AllMet}
 use Rattle.plan_ring.specs.Round.{ring_of, ring_after, AllRound}
 use Rattle.plan_ring.proofs.Lives.{front_round}
-use Rattle.slave_clocks.specs.Hands.{AllHand}
-use Rattle.slave_clocks.proofs.Hands.{hands_back, hands_lost}
-use Rattle.slave_clocks.proofs.Repairs.{all_repaired, none_repaired}
+use Rattle.plan_ring.specs.Hands.{AllHand}
+use Rattle.plan_ring.proofs.Hands.{hands_back, hands_lost}
+use Rattle.plan_ring.proofs.Repairs.{all_repaired, none_repaired}
 use Rattle.run_frames.specs.Clocks.{repair_of, gains_all}
 use Rattle.run_frames.specs.Goes.{Under, AllUnder, AllClocked}
 use Rattle.run_frames.specs.Led.{AreLed}

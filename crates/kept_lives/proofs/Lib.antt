@@ -1,5 +1,0 @@
-pub mod Epochs
-pub mod First
-mod Owns
-pub mod Rows
-pub mod Settled

@@ -1,4 +1,0 @@
-pub mod Alike
-pub mod Named
-pub mod NamedAlike
-pub mod Names

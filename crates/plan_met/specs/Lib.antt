@@ -1,4 +1,0 @@
-pub use Rattle.never_waits.specs as of_never_waits
-pub mod Brings
-pub mod Dues
-pub mod Met
