@@ -20,6 +20,7 @@ ghost use Rattle.task_model.specs.Promise.{services_in};
 ghost use Rattle.whole_ring.specs.Whole.{OwesLaws, IsLived};
 
 pub mod served_gains;
+pub mod tagged_epochs;
 pub mod tagged_lives;
 
 /// WHAT AN EPOCH HAS GAINED, in mails and in steps of state services, is no more than what its services count: each by mails what it takes at most, a

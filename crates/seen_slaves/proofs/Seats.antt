@@ -48,8 +48,8 @@ use Rattle.slave_server.specs.Spec.{profile_of}
 use Rattle.slave_steps.specs.Node.{Node}
 use Rattle.seen_slaves.proofs.Told.{none_sent, none_waits}
 use Rattle.state_exchange.specs.Families.{InState}
-use Rattle.tagged_epochs.specs.Epochs.{AllFair, IsRun, IsSeen, IsSpeaker, between, seeing, seeing_states}
-use Rattle.tagged_epochs.proofs.Whole.{epoch_seen}
+use Rattle.life_counts.specs.Epochs.{AllFair, IsRun, IsSeen, IsSpeaker, between, seeing, seeing_states}
+use Rattle.life_counts.proofs.TaggedWhole.{epoch_seen}
 use Rattle.task_model.specs.Accounts.{Started}
 use Rattle.task_model.specs.Tasks.{IsTaskPlan}
 use Rattle.whole_ring.specs.Members.{AllLived}

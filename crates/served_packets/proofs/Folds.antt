@@ -35,7 +35,7 @@ use Rattle.state_exchange.specs.Families.{InState}
 use Rattle.state_exchange.specs.Stated.{Act, Counting, Service, acts, mails, service_valid, with_states}
 use Rattle.state_exchange.proofs.Acts.{mails_acts, mails_append}
 use Rattle.state_model.specs.States.{Table}
-use Rattle.tagged_epochs.specs.Epochs.{seeing, seeing_states}
+use Rattle.life_counts.specs.Epochs.{seeing, seeing_states}
 
 not_false : (b : Bool) → not b ≡ true → b ≡ false
 not_false true e = absurd (cc)

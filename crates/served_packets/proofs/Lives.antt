@@ -23,8 +23,8 @@ use Rattle.slave_parts.specs.Parts.{Server}
 use Rattle.slave_server.specs.Serving.{Serving}
 use Rattle.slave_steps.specs.Node.{Node}
 use Rattle.state_exchange.specs.Families.{InState}
-use Rattle.tagged_epochs.specs.Epochs.{AllFair, IsSeen}
-use Rattle.tagged_epochs.proofs.Whole.{epoch_seen}
+use Rattle.life_counts.specs.Epochs.{AllFair, IsSeen}
+use Rattle.life_counts.proofs.TaggedWhole.{epoch_seen}
 use Rattle.whole_ring.specs.Whole.{LivesOpenBy, StandsBy}
 
 module _ (weigh : List ℕ → ℕ) (p : Profile) (laws : Quiets weigh p) (boot : Bool) (lens : ℕ → Lens) (spot : Spot) where

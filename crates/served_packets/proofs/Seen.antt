@@ -40,9 +40,9 @@ use Rattle.slave_parts.specs.Parts.{Server, parts as real_parts}
 use Rattle.slave_served.specs.Served.{product_whole}
 use Rattle.state_exchange.specs.Families.{InState}
 use Rattle.state_exchange.specs.Stated.{Service, mails, service_valid}
-use Rattle.tagged_epochs.specs.Epochs.{IsSeen, IsSpeaker, between, seeing, seeing_states}
-use Rattle.tagged_epochs.proofs.Eras.{Knows, era_knows}
-use Rattle.tagged_epochs.proofs.Whole.{seeing_lawful, seeing_stated}
+use Rattle.life_counts.specs.Epochs.{IsSeen, IsSpeaker, between, seeing, seeing_states}
+use Rattle.life_counts.proofs.Eras.{Knows, era_knows}
+use Rattle.life_counts.proofs.TaggedWhole.{seeing_lawful, seeing_stated}
 use Rattle.task_model.specs.Accounts.{Started}
 use Rattle.task_model.specs.Promise.{TasksPromised, services_in}
 use Rattle.task_model.proofs.Sessions.{tasks_promised}

@@ -10,7 +10,7 @@ use Rattle.segment_model.specs.Slaves.{Registers, Processor, Slave}
 use Rattle.serving_model.specs.Tagged.{Tagged, Asked, Rowed, real, ideal}
 use Rattle.state_model.specs.States.{Table}
 use Rattle.task_model.specs.Tasks.{IsTaskPlan}
-use Rattle.tagged_epochs.specs.Epochs.{Speaker, AllFair, IsSeen, between, seeing, seeing_states, era_named}
+use Rattle.life_counts.specs.Epochs.{Speaker, AllFair, IsSeen, between, seeing, seeing_states, era_named}
 use Rattle.life_counts.specs.Worked.{AllWorked, IsNewest}
 use Rattle.served_rings.specs.SeenLed.{ErasFair, IsFairLife, IsSeenLife, WasLed, AllLed, IsNewestLed, IsLedLife}
 

@@ -31,9 +31,9 @@ use Rattle.slave_server.specs.Serving.{Serving}
 use Rattle.slave_steps.specs.Node.{Node}
 use Rattle.state_exchange.specs.Families.{InState}
 use Rattle.state_exchange.specs.Stated.{Service}
-use Rattle.tagged_epochs.specs.Epochs.{IsSpeaker, IsSeen, seeing}
-use Rattle.tagged_epochs.specs.Foreseen as Foreseen
-use Rattle.tagged_epochs.proofs.Whole.{epoch_seen}
+use Rattle.life_counts.specs.Epochs.{IsSpeaker, IsSeen, seeing}
+use Rattle.life_counts.specs.Foreseen as Foreseen
+use Rattle.life_counts.proofs.TaggedWhole.{epoch_seen}
 use Rattle.task_model.specs.Accounts.{Started}
 use Rattle.task_model.specs.Promise.{services_in}
 use Rattle.served_rings.specs.Served.{IsHeardOf, IsHeardSo, IsServedEra, WasServed, replies_to, server_behind}

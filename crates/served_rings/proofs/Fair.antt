@@ -19,8 +19,8 @@ use Rattle.run_work.proofs.Counted.{passes, none_passes}
 use Rattle.few_replies.specs.Packets.{is_fair}
 use Rattle.slave_model.specs.Profile.{Profile}
 use Rattle.state_exchange.specs.Stated.{Service}
-use Rattle.tagged_epochs.specs.Epochs.{AllFair}
-use Rattle.tagged_epochs.specs.Spoken.{IsPassed}
+use Rattle.life_counts.specs.Epochs.{AllFair}
+use Rattle.life_counts.specs.Spoken.{IsPassed}
 use Rattle.task_model.specs.Accounts.{Started}
 use Rattle.task_model.specs.Promise.{services_in}
 use Rattle.served_rings.specs.Speakers.{naming_of, speaker}

@@ -19,9 +19,9 @@ use Rattle.state_exchange.specs.Families.{InState}
 use Rattle.state_exchange.specs.Stated.{Service, service_valid}
 use Rattle.state_model.specs.Promises.{state_behind}
 use Rattle.serving_model.specs.Tagged.{Asked, asked_exec}
-use Rattle.tagged_epochs.specs.Epochs.{Speaker, IsSpeaker, IsRun, AllFair}
-use Rattle.tagged_epochs.specs.Foreseen as Foreseen
-use Rattle.tagged_epochs.specs.Spoken.{IsPassed}
+use Rattle.life_counts.specs.Epochs.{Speaker, IsSpeaker, IsRun, AllFair}
+use Rattle.life_counts.specs.Foreseen as Foreseen
+use Rattle.life_counts.specs.Spoken.{IsPassed}
 use Rattle.task_model.specs.Accounts.{Started}
 use Rattle.task_model.specs.Promise.{services_in}
 use Rattle.served_rings.specs.Served.{server_behind}

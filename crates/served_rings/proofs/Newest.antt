@@ -23,9 +23,9 @@ use Rattle.state_exchange.proofs.Acts.{all_acts, begin_acts, given_acts, plain_a
 use Rattle.state_exchange.proofs.StatedLaw.{stated_law}
 use Rattle.state_model.specs.Promises.{IsTable, state_behind}
 use Rattle.state_model.specs.States.{Table}
-use Rattle.tagged_epochs.specs.Foreseen.{AllRight, server_behind}
-use Rattle.tagged_epochs.proofs.Rights.{Between, IsRight, alike, rows_between, tells}
-use Rattle.tagged_epochs.proofs.Steps.{started_services}
+use Rattle.life_counts.specs.Foreseen.{AllRight, server_behind}
+use Rattle.life_counts.proofs.Rights.{Between, IsRight, alike, rows_between, tells}
+use Rattle.life_counts.proofs.Steps.{started_services}
 use Rattle.task_model.specs.Accounts.{Account, Started}
 use Rattle.task_model.specs.Promise.{services_in}
 use Rattle.task_model.proofs.Ghosts as Ghosts

@@ -12,10 +12,10 @@ use Rattle.segment_model.specs.Slaves.{Registers, Processor, Slave}
 use Rattle.serving_model.specs.Tagged.{Tagged, Asked, Rowed, ideal, real}
 use Rattle.state_exchange.specs.Stated.{Service}
 use Rattle.state_model.specs.States.{Table}
-use Rattle.tagged_epochs.specs.Epochs.{Speaker, IsSpeaker, IsSeen, between, seeing, seeing_states}
-use Rattle.tagged_epochs.specs.Foreseen.{AllRight, server_behind}
-use Rattle.tagged_epochs.proofs.Rights.{Between}
-use Rattle.tagged_epochs.proofs.Whole.{seeing_lawful, seeing_stated}
+use Rattle.life_counts.specs.Epochs.{Speaker, IsSpeaker, IsSeen, between, seeing, seeing_states}
+use Rattle.life_counts.specs.Foreseen.{AllRight, server_behind}
+use Rattle.life_counts.proofs.Rights.{Between}
+use Rattle.life_counts.proofs.TaggedWhole.{seeing_lawful, seeing_stated}
 use Rattle.task_model.specs.Accounts.{Account, Started}
 use Rattle.task_model.specs.Promise.{TasksPromised, services_in}
 use Rattle.task_model.proofs.Sessions.{of_slaves, tasks_promised}

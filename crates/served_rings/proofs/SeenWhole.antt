@@ -7,8 +7,8 @@ use Rattle.passed_whole.proofs.Clears.{clears}
 use Rattle.segment_model.specs.Slaves.{Processor}
 use Rattle.serving_model.specs.Tagged.{Rowed}
 use Rattle.state_model.specs.States.{Table}
-use Rattle.tagged_epochs.specs.Epochs.{Speaker, IsSpeaker, IsRun, between}
-use Rattle.tagged_epochs.proofs.Whole.{seeing_lawful, seeing_stated, epoch_seen}
+use Rattle.life_counts.specs.Epochs.{Speaker, IsSpeaker, IsRun, between}
+use Rattle.life_counts.proofs.TaggedWhole.{seeing_lawful, seeing_stated, epoch_seen}
 use Rattle.served_rings.specs.SeenLed.{IsFairLife, IsSeenLife, IsLedLife}
 use Rattle.served_rings.proofs.SeenRows.{era_in}
 use Rattle.served_rings.proofs.Chains.{Laws, lives}

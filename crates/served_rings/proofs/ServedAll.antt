@@ -22,7 +22,7 @@ use Rattle.slave_model.specs.Profile.{Profile, IsProfile}
 use Rattle.slave_server.specs.Serving.{Serving}
 use Rattle.slave_server.specs.Spec.{profile_of}
 use Rattle.slave_steps.specs.Node.{Node}
-use Rattle.tagged_epochs.specs.Epochs.{IsSpeaker}
+use Rattle.life_counts.specs.Epochs.{IsSpeaker}
 use Rattle.served_rings.specs.Served.{AllServeSo}
 use Rattle.served_rings.proofs.ServedLives.{life_served}
 

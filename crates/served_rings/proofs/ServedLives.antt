@@ -20,7 +20,7 @@ use Rattle.slave_parts.specs.Parts.{Server}
 use Rattle.slave_server.specs.Serving.{Serving, fresh}
 use Rattle.slave_steps.specs.Node.{Node}
 use Rattle.state_exchange.specs.Families.{InState}
-use Rattle.tagged_epochs.specs.Epochs.{IsSpeaker}
+use Rattle.life_counts.specs.Epochs.{IsSpeaker}
 use Rattle.whole_ring.specs.Whole.{OpensBy, StandsBy}
 use Rattle.served_rings.specs.Served.{AreServedEras, IsServedNewest, IsServedLife, WasServed}
 use Rattle.served_rings.proofs.Epochs.{era_served}

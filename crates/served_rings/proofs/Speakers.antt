@@ -18,7 +18,7 @@ use Rattle.slave_served.specs.Served.{product_whole, served_whole, side_whole}
 use Rattle.state_exchange.specs.Families.{InState}
 use Rattle.state_exchange.specs.Stated.{IsStated}
 use Rattle.run_work.specs.Sessions.{OwnService, named}
-use Rattle.tagged_epochs.specs.Spoken.{IsScript, IsNamed, Speaks}
+use Rattle.life_counts.specs.Spoken.{IsScript, IsNamed, Speaks}
 use Rattle.served_rings.specs.Speakers.{naming_of, spoken, spoken_states, whole_states}
 
 -- a client is that of its protocol, served or not

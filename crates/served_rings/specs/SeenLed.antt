@@ -9,7 +9,7 @@ use Rattle.segment_model.specs.Record.{Frame}
 use Rattle.segment_model.specs.Slaves.{Registers, Processor, Slave}
 use Rattle.serving_model.specs.Tagged.{Tagged, Asked, Rowed}
 use Rattle.state_model.specs.States.{Table}
-use Rattle.tagged_epochs.specs.Epochs.{Speaker, AllFair, between, seeing, seeing_states}
+use Rattle.life_counts.specs.Epochs.{Speaker, AllFair, between, seeing, seeing_states}
 use Rattle.life_counts.specs.Seen.{life_seen}
 use Rattle.life_counts.specs.Worked.{IsWorked}
 use Rattle.task_model.specs.Tasks.{IsTaskPlan}

@@ -20,8 +20,8 @@ use Rattle.state_exchange.specs.Stated.{Stated}
 use Rattle.state_law.specs.Shows.{slave_table}
 use Rattle.state_model.specs.States.{Table, carry}
 use Rattle.run_work.specs.Sessions.{OwnService, Wanted, InRow, named_wanted}
-use Rattle.tagged_epochs.specs.Epochs.{Speaker}
-use Rattle.tagged_epochs.specs.Spoken.{Naming}
+use Rattle.life_counts.specs.Epochs.{Speaker}
+use Rattle.life_counts.specs.Spoken.{Naming}
 
 -- the AL state of the whole server
 abbrev pub whole_states : Stated (InState Server) (InState Server) OwnService

@@ -17,7 +17,7 @@ ghost use Rattle.slave_model.specs.Profile.{Profile, IsProfile};
 ghost use Rattle.slave_parts.specs.Parts.{Server};
 ghost use Rattle.state_exchange.specs.Families.{InState};
 ghost use Rattle.state_exchange.specs.Stated.{IsStated};
-ghost use Rattle.tagged_epochs.specs.Epochs.{IsSpeaker, IsRun};
+ghost use Rattle.life_counts.specs.Epochs.{IsSpeaker, IsRun};
 ghost use Rattle.served_rings.specs.Speakers.{any_speaker, speaker, spoken, spoken_states, table_of, processor_of, seer_of, cleared_whole};
 
 /// A SLAVE OF A PLAN AND ITS MASTER keep the laws of both: the server owes those of its services and of its AL state in whatever state it is, with fair mails

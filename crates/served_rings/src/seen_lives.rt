@@ -10,7 +10,7 @@ ghost use Rattle.segment_model.specs.Record.{Frame};
 ghost use Rattle.segment_model.specs.Slaves.{Registers, Processor, Slave};
 ghost use Rattle.serving_model.specs.Tagged.{Tagged, Asked, Rowed};
 ghost use Rattle.state_model.specs.States.{Table};
-ghost use Rattle.tagged_epochs.specs.Epochs.{Speaker, IsSpeaker, IsRun, between, seeing, seeing_states};
+ghost use Rattle.life_counts.specs.Epochs.{Speaker, IsSpeaker, IsRun, between, seeing, seeing_states};
 ghost use Rattle.served_rings.specs.SeenLed.{IsFairLife, IsSeenLife, IsLedLife};
 
 /// AT EACH MOMENT OF SUCH A SESSION its server is between rows or in one: the mails that it took of the row in hand are the first of its service's.

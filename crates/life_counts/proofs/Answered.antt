@@ -13,9 +13,9 @@ use Rattle.segment_model.specs.Seats.{Side, is_none_left, side_begins, side_hold
 use Rattle.serving_model.specs.Tagged.{Tagged, Asked}
 use Rattle.state_exchange.specs.Stated.{Service}
 use Rattle.task_model.specs.Accounts.{Account, Duty, Pick, Started, is_free, is_acknowledged, account_begins, state_begins, starts, mails_begin}
-use Rattle.tagged_epochs.proofs.Begins.{both_of, may_begin, may_not, nothing_begins, free_over}
-use Rattle.tagged_epochs.specs.Epochs.{newest_of}
-use Rattle.tagged_epochs.proofs.Marks.{newest_last}
+use Rattle.life_counts.proofs.Begins.{both_of, may_begin, may_not, nothing_begins, free_over}
+use Rattle.life_counts.specs.Epochs.{newest_of}
+use Rattle.life_counts.proofs.Marks.{newest_last}
 
 less_more : (k : ℕ) → nat_lt k (suc k) ≡ true
 less_more k = grind (arith, nat_tests)

@@ -29,10 +29,10 @@ use Rattle.task_model.proofs.Ghosts as Ghosts
 use Rattle.task_model.proofs.Ghosts.{counting, start_of, starts_of, starts_append, Shows, Rested, RestedRow}
 use Rattle.task_model.proofs.Newest.{Holds}
 use Rattle.task_model.proofs.Stately.{state_over}
-use Rattle.tagged_epochs.specs.Epochs.{newest_of}
-use Rattle.tagged_epochs.specs.Foreseen.{AllRight}
-use Rattle.tagged_epochs.proofs.Rights.{lasts_tell, untag-last}
-use Rattle.tagged_epochs.proofs.Steps.{started_services}
+use Rattle.life_counts.specs.Epochs.{newest_of}
+use Rattle.life_counts.specs.Foreseen.{AllRight}
+use Rattle.life_counts.proofs.Rights.{lasts_tell, untag-last}
+use Rattle.life_counts.proofs.Steps.{started_services}
 
 pub newest_last : {Q : Type 0} (ss : List (Started Q)) (s : Started Q) → newest_of (ss ++ s ∷ []) ≡ Some s.service
 newest_last [] s = refl

@@ -18,13 +18,13 @@ use Rattle.state_exchange.specs.Stated.{IsStated, Service}
 use Rattle.state_model.specs.States.{Table}
 use Rattle.task_model.specs.Accounts.{Account, Duty, Started, is_free, is_acknowledged, starts, state_begins, account_begins}
 use Rattle.task_model.specs.Tasks.{IsTaskPlan}
-use Rattle.tagged_epochs.specs.Epochs.{Speaker, IsSpeaker, IsRun, IsSeen, AllFair, between, newest_of, seeing, seeing_states}
-use Rattle.tagged_epochs.proofs.Begins.{NowKnown, contents_of, hands_of, lasts_of, plans_of}
-use Rattle.tagged_epochs.proofs.Clients.{MarksSame, ends}
-use Rattle.tagged_epochs.proofs.Eras.{era_knows}
-use Rattle.tagged_epochs.proofs.Marks.{IsPassedNow, PassedNow}
-use Rattle.tagged_epochs.proofs.Led as Led
-use Rattle.tagged_epochs.proofs.Opened.{after_started, replicated, blank_frames, blanks_seen}
+use Rattle.life_counts.specs.Epochs.{Speaker, IsSpeaker, IsRun, IsSeen, AllFair, between, newest_of, seeing, seeing_states}
+use Rattle.life_counts.proofs.Begins.{NowKnown, contents_of, hands_of, lasts_of, plans_of}
+use Rattle.life_counts.proofs.Clients.{MarksSame, ends}
+use Rattle.life_counts.proofs.Eras.{era_knows}
+use Rattle.life_counts.proofs.Marks.{IsPassedNow, PassedNow}
+use Rattle.life_counts.proofs.Led as Led
+use Rattle.life_counts.proofs.Opened.{after_started, replicated, blank_frames, blanks_seen}
 
 module _ {V M Q R C T A : Type 0} (w : Speaker V M Q R C T) (k : IsSpeaker w) (lawful : IsLawful (seeing w)) (stated : IsStated (seeing w) (seeing_states w)) (u : Exchange V A M T (Option R)) (processor : Processor V) (seer : Processor (Rowed V M Q)) (tables : ℕ → Table) (spot : Spot)
     (run : IsRun w u processor seer (tables spot.station)) (opened : ℕ) (v : V) (r : Registers) where

@@ -21,8 +21,8 @@ use Rattle.serving_model.specs.TaggedStates.{asked_acknowledged}
 use Rattle.state_exchange.specs.Stated.{Stated}
 use Rattle.task_model.specs.Accounts.{Account, Duty, Change, Progress, account_by, account_met, account_back, access_done}
 use Rattle.life_counts.specs.Seen.{outcome_seen, account_seen, era_seen, change_seen}
-use Rattle.tagged_epochs.specs.Spoken.{Naming, Speaks}
-use Rattle.tagged_epochs.proofs.News.{passes_same}
+use Rattle.life_counts.specs.Spoken.{Naming, Speaks}
+use Rattle.life_counts.proofs.News.{passes_same}
 
 -- ---- an account
 module _ {N M P Q R : Type 0} (f : N → M) (g : P → Q) where

@@ -13,7 +13,7 @@ use Rattle.segment_model.specs.Seats.{side_back, side_lost}
 use Rattle.segment_model.specs.Slaves.{Slave, Datagram, Ring}
 use Rattle.serving_model.specs.Tagged.{Tagged, untag}
 use Rattle.task_model.specs.Accounts.{Duty, Stage, account_back}
-use Rattle.tagged_epochs.proofs.Overs.{ends_last}
+use Rattle.life_counts.proofs.Overs.{ends_last}
 
 -- the mails heard are the same without empty reads
 pub mails_without : {M : Type 0} (ns : List (News M)) → mails_heard (Record.without_empty ns) ≡ mails_heard ns

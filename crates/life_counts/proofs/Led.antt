@@ -26,23 +26,23 @@ use Rattle.state_exchange.specs.Stated.{IsStated, Service}
 use Rattle.state_model.specs.States.{Table}
 use Rattle.task_model.specs.Accounts.{Duty, Pick, Started, is_free, starts, account_begins}
 use Rattle.task_model.specs.Promise.{services_in}
-use Rattle.tagged_epochs.specs.Epochs.{Speaker, IsSpeaker, IsRun, AllFair, between, seeing, seeing_states, era_named}
-use Rattle.tagged_epochs.specs.Foreseen.{AllRight}
-use Rattle.tagged_epochs.specs.Spoken.{IsPassed}
-use Rattle.tagged_epochs.proofs.Answered.{HasAnswer, AllAnswered, StateLast, next_rests, next_over}
-use Rattle.tagged_epochs.proofs.Backs.{EndsSame, after_named}
-use Rattle.tagged_epochs.proofs.Begins.{NowKnown, NowEnded, Next, next_named}
-use Rattle.tagged_epochs.proofs.Clients.{HasEnded, IsKnown, MarksSame, ends}
-use Rattle.tagged_epochs.proofs.Eras.{Knows, era_knows}
-use Rattle.tagged_epochs.proofs.Marks.{PassedNow, IsPassedNow, none_plain}
-use Rattle.tagged_epochs.proofs.News.{counted_as, did_read_as, kept_all_as}
-use Rattle.tagged_epochs.proofs.Overs.{asks, ends_last, all_told_of, still, over, reads, news_few}
-use Rattle.tagged_epochs.proofs.Turns as Turns
-use Rattle.tagged_epochs.proofs.Frames.{own_to, to_own}
-use Rattle.tagged_epochs.proofs.Ways.{Met, Stepped, met}
+use Rattle.life_counts.specs.Epochs.{Speaker, IsSpeaker, IsRun, AllFair, between, seeing, seeing_states, era_named}
+use Rattle.life_counts.specs.Foreseen.{AllRight}
+use Rattle.life_counts.specs.Spoken.{IsPassed}
+use Rattle.life_counts.proofs.Answered.{HasAnswer, AllAnswered, StateLast, next_rests, next_over}
+use Rattle.life_counts.proofs.Backs.{EndsSame, after_named}
+use Rattle.life_counts.proofs.Begins.{NowKnown, NowEnded, Next, next_named}
+use Rattle.life_counts.proofs.Clients.{HasEnded, IsKnown, MarksSame, ends}
+use Rattle.life_counts.proofs.Eras.{Knows, era_knows}
+use Rattle.life_counts.proofs.Marks.{PassedNow, IsPassedNow, none_plain}
+use Rattle.life_counts.proofs.News.{counted_as, did_read_as, kept_all_as}
+use Rattle.life_counts.proofs.Overs.{asks, ends_last, all_told_of, still, over, reads, news_few}
+use Rattle.life_counts.proofs.Turns as Turns
+use Rattle.life_counts.proofs.Frames.{own_to, to_own}
+use Rattle.life_counts.proofs.Ways.{Met, Stepped, met}
 use Rattle.life_model.proofs.Eras.{frames_push}
-use Rattle.tagged_epochs.proofs.Opened.{after_started}
-use Rattle.tagged_epochs.proofs.Leads.{mails_counted, pushed, one_slave, and_not, after_own, reopens_era, still_some, some_after, same_some, last_untag}
+use Rattle.life_counts.proofs.Opened.{after_started}
+use Rattle.life_counts.proofs.Leads.{mails_counted, pushed, one_slave, and_not, after_own, reopens_era, still_some, some_after, same_some, last_untag}
 
 module _ {V M Q R C T A : Type 0} (w : Speaker V M Q R C T) (k : IsSpeaker w) (lawful : IsLawful (seeing w)) (stated : IsStated (seeing w) (seeing_states w)) (u : Exchange V A M T (Option R)) (processor : Processor V) (seer : Processor (Rowed V M Q)) (tables : ℕ → Table) (spot : Spot)
     (run : IsRun w u processor seer (tables spot.station)) (opened : ℕ) (v : V) (r : Registers) where

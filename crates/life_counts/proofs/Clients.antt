@@ -13,7 +13,7 @@ use Rattle.segment_model.specs.Seats.{is_none_left, is_over}
 use Rattle.serving_model.specs.Erasing.{box_as}
 use Rattle.serving_model.specs.Passing.{ends_told}
 use Rattle.serving_model.specs.Tagged.{Tagged, Asked, untag, is_own, ends_marked}
-use Rattle.tagged_epochs.specs.Spoken.{Naming, IsScript, IsPassed}
+use Rattle.life_counts.specs.Spoken.{Naming, IsScript, IsPassed}
 
 module _ {V M Q R T : Type 0} (x : Exchange V V M Q R) (calm : V → Bool) (fair : M → Bool) (acknowledged : Q → Bool) (n : Naming M Q T R) (emission : n.speech.emission ≡ x.speech.emission) where
   abbrev pub Meant : Type 0

@@ -29,13 +29,13 @@ use Rattle.state_model.specs.States.{Table, carry}
 use Rattle.task_model.specs.Accounts as Accounts
 use Rattle.task_model.specs.Accounts.{Account, Duty, Pick, Progress, account_met, account_by, account_back, access_done, duty_access}
 use Rattle.task_model.specs.Promise.{services_in}
-use Rattle.tagged_epochs.specs.Epochs.{between}
-use Rattle.tagged_epochs.specs.Foreseen.{AllRight}
-use Rattle.tagged_epochs.proofs.Eras.{era_steps, era_knows}
-use Rattle.tagged_epochs.proofs.Frames.{ToIt, meaning, reads_as, served_as, single_as, own_to, to_own, to_as}
-use Rattle.tagged_epochs.proofs.Overs.{asks as asks_of, sent_asks}
-use Rattle.tagged_epochs.proofs.Ways.{Met, met, Comes, Stepped, steps}
-use Rattle.tagged_epochs.proofs.Opened.{after_started}
+use Rattle.life_counts.specs.Epochs.{between}
+use Rattle.life_counts.specs.Foreseen.{AllRight}
+use Rattle.life_counts.proofs.Eras.{era_steps, era_knows}
+use Rattle.life_counts.proofs.Frames.{ToIt, meaning, reads_as, served_as, single_as, own_to, to_own, to_as}
+use Rattle.life_counts.proofs.Overs.{asks as asks_of, sent_asks}
+use Rattle.life_counts.proofs.Ways.{Met, met, Comes, Stepped, steps}
+use Rattle.life_counts.proofs.Opened.{after_started}
 
 -- contents tell of a part what they tell of all
 pub by_behind : {M Q : Type 0} (e : M → Bool) (as' bs : List (Tagged M Q)) → ByContents e (as' ++ bs) → ByContents e bs

@@ -15,8 +15,8 @@ use Rattle.state_exchange.specs.Stated.{IsStated}
 use Rattle.state_model.specs.States.{Table}
 use Rattle.life_counts.proofs.Stated.{calm_stated}
 use Rattle.task_model.specs.Tasks.{IsTaskPlan}
-use Rattle.tagged_epochs.specs.Epochs.{Speaker, IsSpeaker, IsRun, IsSeen, AllFair, between, seeing, seeing_states}
-use Rattle.tagged_epochs.proofs.Sessions.{seen_so}
+use Rattle.life_counts.specs.Epochs.{Speaker, IsSpeaker, IsRun, IsSeen, AllFair, between, seeing, seeing_states}
+use Rattle.life_counts.proofs.Sessions.{seen_so}
 
 module _ {V M Q R C T : Type 0} (w : Speaker V M Q R C T) (k : IsSpeaker w) where
   pub seeing_lawful : IsLawful (seeing w)

@@ -1,6 +1,5 @@
 //! An epoch in which mails are passed on beside services, led by a master that sees none of what is meant by them, is the same epoch of a session that does.
 //! Definitions and laws, no running code: the functions here do nothing, and their contracts state the laws.
-#![tactic(auto)]
 
 ghost use Rattle.std.specs.Prelude.{◌≡◌, ℕ, Bool, true, Option, List, [], ◌∷◌};
 ghost use Rattle.exchange_model.specs.Exchange.{Exchange};
@@ -12,7 +11,7 @@ ghost use Rattle.segment_model.specs.Slaves.{Registers, Processor, Slave};
 ghost use Rattle.serving_model.specs.Tagged.{Rowed};
 ghost use Rattle.state_model.specs.States.{Table};
 ghost use Rattle.task_model.specs.Tasks.{IsTaskPlan};
-ghost use Rattle.tagged_epochs.specs.Epochs.{Speaker, IsSpeaker, IsRun, IsSeen, AllFair, between, seeing, seeing_states};
+ghost use Rattle.life_counts.specs.Epochs.{Speaker, IsSpeaker, IsRun, IsSeen, AllFair, between, seeing, seeing_states};
 
 /// AN EPOCH IS A SESSION OF SERVICES AND FAIR MAILS, where each mail that was passed on in it is fair: there is what is meant by each of its mails, so that the
 /// slave's server takes and gives them as a session does that sees it, and the master's side of the slave is that session's, without it.

@@ -5,8 +5,8 @@ use Rattle.link_model.specs.Segment.{RingFate}
 use Rattle.segment_model.specs.Slaves.{Processor, Datagram, Slave, Ring, grams, slave_after, frame_after, first_meet, ring_after, ring_back, slave_steps, step_at, ring_steps}
 use Rattle.serving_model.specs.Erasing.{slave_as, all_as}
 use Rattle.serving_model.proofs.Erasing.{slave_after-as, frame_after-as}
-use Rattle.tagged_epochs.proofs.Frames.{ToIt, frame_to}
-use Rattle.tagged_epochs.proofs.Overs.{asks, after_asks}
+use Rattle.life_counts.proofs.Frames.{ToIt, frame_to}
+use Rattle.life_counts.proofs.Overs.{asks, after_asks}
 
 none_meet : {V M : Type 0} (k : ℕ) (ds : List (Datagram M)) → ◌≡◌ {A = Ring V M} (first_meet k [] ds) []
 none_meet zero ds = refl

@@ -21,10 +21,10 @@ use Rattle.state_model.specs.States.{Table, carry}
 use Rattle.task_model.specs.Accounts.{Account}
 use Rattle.task_model.specs.Promise.{services_in}
 use Rattle.task_model.proofs.Sessions.{of_slaves}
-use Rattle.tagged_epochs.specs.Foreseen.{AllRight}
-use Rattle.tagged_epochs.proofs.Marks.{IsPassedNow, passed_now}
-use Rattle.tagged_epochs.proofs.Rights.{Between}
-use Rattle.tagged_epochs.proofs.Steps.{stepped, heard_tells}
+use Rattle.life_counts.specs.Foreseen.{AllRight}
+use Rattle.life_counts.proofs.Marks.{IsPassedNow, passed_now}
+use Rattle.life_counts.proofs.Rights.{Between}
+use Rattle.life_counts.proofs.Steps.{stepped, heard_tells}
 
 -- WHAT IS KNOWN of an epoch at a moment: what was heard in it is told by its contents, and of a mail that is passed on a first part of its replies was heard;
 -- a half that holds no mail has nothing new to send; and the inward half knows the counter of the record

@@ -20,7 +20,7 @@ use Rattle.state_exchange.proofs.Acts.{after_acts}
 use Rattle.state_exchange.proofs.StatedLaw.{stated_law}
 use Rattle.state_model.specs.Promises.{state_behind}
 use Rattle.state_model.specs.States.{Table}
-use Rattle.tagged_epochs.specs.Foreseen.{IsRightAt, AllRight}
+use Rattle.life_counts.specs.Foreseen.{IsRightAt, AllRight}
 
 left_of : (a b : Bool) → (a && b) ≡ true → a ≡ true
 left_of true b e = refl

@@ -21,9 +21,9 @@ use Rattle.state_model.specs.States.{Table}
 use Rattle.task_model.specs.Promise.{services_in}
 use Rattle.task_model.specs.Accounts.{Account, Duty, Pick, Started, is_free, is_acknowledged, account_begins, state_begins, starts, mails_begin}
 use Rattle.life_counts.specs.Seen.{service_seen, account_seen, era_seen, started_seen}
-use Rattle.tagged_epochs.specs.Foreseen.{AllRight, server_behind}
-use Rattle.tagged_epochs.specs.Spoken.{Naming, IsScript, IsPassed, IsNamed, Speaks}
-use Rattle.tagged_epochs.proofs.Clients.{IsKnown, HasEnded, hands, plans, overs}
+use Rattle.life_counts.specs.Foreseen.{AllRight, server_behind}
+use Rattle.life_counts.specs.Spoken.{Naming, IsScript, IsPassed, IsNamed, Speaks}
+use Rattle.life_counts.proofs.Clients.{IsKnown, HasEnded, hands, plans, overs}
 
 not_less : (k : ℕ) → nat_lt k k ≡ false
 not_less k = grind (arith, nat_tests)

@@ -20,8 +20,8 @@ use Rattle.state_model.specs.States.{Table, carry}
 use Rattle.life_counts.specs.Seen.{era_seen}
 use Rattle.task_model.specs.Accounts.{Started}
 use Rattle.task_model.specs.Promise.{services_in}
-use Rattle.tagged_epochs.specs.Foreseen.{AllRight}
-use Rattle.tagged_epochs.specs.Spoken.{Naming, IsPassed, Speaks}
+use Rattle.life_counts.specs.Foreseen.{AllRight}
+use Rattle.life_counts.specs.Spoken.{Naming, IsPassed, Speaks}
 
 -- A SERVER OF SERVICES AND FAIR MAILS, which has an AL state, and a master that speaks with it
 pub record Speaker (V M Q R C T : Type 0) : Type 0 where

@@ -31,8 +31,8 @@ use Rattle.task_model.proofs.Newest.{Holds}
 use Rattle.task_model.proofs.Served.{duty_of}
 use Rattle.task_model.proofs.Stately.{StageStep, StateStep, state_over, step_state}
 use Rattle.task_model.proofs.Stepped.{Shifts, carried_tells}
-use Rattle.tagged_epochs.specs.Foreseen.{AllRight}
-use Rattle.tagged_epochs.proofs.Rights.{Between, IsRight, alike, rows_between, next_right, accepted_tells}
+use Rattle.life_counts.specs.Foreseen.{AllRight}
+use Rattle.life_counts.proofs.Rights.{Between, IsRight, alike, rows_between, next_right, accepted_tells}
 
 -- the services of rows are those that came into hand
 pub started_services : {M Q R : Type 0} (gs : List (Ghosts.GhostRow M Q R)) → services_in (starts_of gs) ≡ services gs

@@ -1,3 +1,0 @@
-pub mod Spoken
-pub mod Foreseen
-pub mod Epochs
