@@ -22,7 +22,7 @@ use Rattle.slave_steps.specs.Node.{Node}
 use Rattle.state_exchange.specs.Stated.{IsStated}
 use Rattle.task_model.specs.Accounts.{Pick}
 use Rattle.task_model.specs.Steady.{IsSteady, NoneToInit, HandToInit}
-use Rattle.steady_eras.proofs.Steadied.{era_steady}
+use Rattle.whole_ring.proofs.Steadied.{era_steady}
 use Rattle.served_rings.specs.Led.{LedEra, LedFrame, steps_at, turn_of}
 use Rattle.served_rings.proofs.Sessions.{led_session}
 use Rattle.served_rings.proofs.Singles.{seen_single}

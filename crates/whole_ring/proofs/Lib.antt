@@ -14,6 +14,7 @@ pub mod Promised
 pub mod Rows
 pub mod Seated
 pub mod Shut
+pub mod Steadied
 pub mod Steady
 pub mod Still
 pub mod Turning

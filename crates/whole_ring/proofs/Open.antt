@@ -19,7 +19,7 @@ use Rattle.slave_lives.specs.of_slave_steps.Node.{Node}
 use Rattle.slave_lives.specs.of_state_exchange.Stated.{Service}
 use Rattle.slave_lives.specs.of_task_model.Accounts.{Account, Pick, Duty, Stage, is_free, is_acknowledged, starts, state_begins, account_begins, duty_access}
 use Rattle.slave_lives.specs.of_task_model.Steady.{IsSteady, NoneToInit, HandToInit, StageToInit}
-use Rattle.steady_eras.proofs.Steadied.{era_steady}
+use Rattle.whole_ring.proofs.Steadied.{era_steady}
 use Rattle.slave_lives.specs.of_life_model.Lives.{Spot, Era, Life, Stand, AsksOpen, granted, returns_to_init, opens_state, reopening, reopens, reopens_at}
 use Rattle.slave_lives.specs.of_life_model.Eras.{Clearing}
 use Rattle.slave_lives.specs.of_life_model.Own.{own}

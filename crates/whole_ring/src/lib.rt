@@ -18,6 +18,7 @@ ghost use Rattle.whole_ring.specs.of_segment_ring.Ring.{RingState, ring_behind};
 ghost use Rattle.whole_ring.specs.of_segment_ring.Schedule.{fate_at};
 ghost use Rattle.whole_ring.specs.of_slave_steps.Node.{Node, node_passed};
 
+pub mod steady_eras;
 pub mod whole_lives;
 
 /// ALL LIVES OF A RING ARE LIVED BY ITS NODES, whose servers pass a test that mails and steps leave (`Serves`), from the moment the slaves are switched on; by each exchange of a frame that the master made, met by

@@ -1,6 +1,5 @@
 //! An open slave isn't in state Init, nor on the way to it, whatever its services are. A law, no running code: the function here does nothing, and its
 //! contract states the law.
-#![tactic(auto)]
 
 ghost use Rattle.std.specs.Prelude.{ℕ, List};
 ghost use Rattle.exchange_model.specs.Exchange.{Exchange};
