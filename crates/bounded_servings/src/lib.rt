@@ -23,7 +23,7 @@ ghost use Rattle.segment_plan.specs.Bound.{bound_of, slowest};
 ghost use Rattle.segment_plan.specs.Sound.{IsPlan};
 ghost use Rattle.segment_plan.specs.declared.plan.Scenario.{Scenario};
 ghost use Rattle.served_rings.specs.Servings.{IsPlanServing};
-ghost use Rattle.served_packets.specs.Quiet.{AsksQuiet};
+ghost use Rattle.sent_packets.specs.Quiet.{AsksQuiet};
 ghost use Rattle.served_places.specs.Answered.{ServedAsks};
 ghost use Rattle.served_places.specs.Toured.{IsServedToured};
 ghost use Rattle.served_runs.specs.Served.{IsServedLed, Serves, all_serve};
@@ -44,5 +44,5 @@ pub fn bounded_serving_law()
     seen_slaves::served_waits_law();
     seen_slaves::served_answers_law();
     served_rings::served_bound();
-    served_packets::switched_servings::switched_serving_law();
+    sent_packets::switched_servings::switched_serving_law();
 }

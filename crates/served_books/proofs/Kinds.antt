@@ -17,7 +17,7 @@ use Rattle.run_record.specs.Session.{SessionState, asked_mail, asked_more}
 use Rattle.run_work.specs.Fair.{AsksFair}
 use Rattle.segment_plan.specs.declared.plan.Scenario.{Scenario}
 use Rattle.sent_packets.specs.Sends.{is_network, of_network}
-use Rattle.served_packets.specs.Quiet.{AsksQuiet, is_quiet}
+use Rattle.sent_packets.specs.Quiet.{AsksQuiet, is_quiet}
 use Rattle.served_runs.specs.Served.{Keyed, Serves}
 use Rattle.slab.specs.Slab.{Slab}
 

@@ -34,10 +34,10 @@ use Rattle.sent_packets.proofs.Begun.{leads_asked}
 use Rattle.sent_packets.proofs.Live.{IsLive}
 use Rattle.sent_packets.proofs.Times.{Tracks}
 use Rattle.sent_packets.proofs.Turns.{serve_tracks}
-use Rattle.served_packets.specs.Quiet.{AsksQuiet, is_quiet}
-use Rattle.served_packets.proofs.Lives.{led_live}
-use Rattle.served_packets.proofs.Seen.{Quiets}
-use Rattle.served_packets.proofs.Speaks.{now_quiet}
+use Rattle.sent_packets.specs.Quiet.{AsksQuiet, is_quiet}
+use Rattle.sent_packets.proofs.Lives.{led_live}
+use Rattle.sent_packets.proofs.Seen.{Quiets}
+use Rattle.sent_packets.proofs.Speaks.{now_quiet}
 use Rattle.served_rings.specs.Rings.{AllServedAt, AreServedLived, counters_of, served_members}
 use Rattle.served_runs.specs.Came.{HasServed}
 use Rattle.served_runs.specs.Served.{Keyed, Serves, ServedTurn, AllServedTurn, IsServedLed, all_serve, asked_at, served_behind, served_life}

@@ -15,7 +15,7 @@ use Rattle.served_rings.proofs.Any.{fewer_lawful}
 use Rattle.run_work.specs.Sessions.{OwnService}
 use Rattle.run_work.proofs.Counted.{passes, none_passes}
 use Rattle.segment_plan.specs.declared.service.Service as Plan
-use Rattle.served_packets.specs.Quiet.{is_quiet, AsksQuiet, quiet_speaker}
+use Rattle.sent_packets.specs.Quiet.{is_quiet, AsksQuiet, quiet_speaker}
 use Rattle.served_runs.specs.Came.{ServedCame, AreAmong, HasServed}
 use Rattle.served_runs.specs.Served.{Keyed, Serves}
 use Rattle.serving_model.specs.Tagged as Tagged

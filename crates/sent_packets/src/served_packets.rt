@@ -1,6 +1,5 @@
 //! The packets that a master joins of what its slaves send over a serving are of the services that came into hand. Definitions and a law, no running code: the
 //! function here does nothing, and its contract states the law.
-#![tactic(auto)]
 
 ghost use Rattle.life_runs.specs.First.{first_leads, lens_of};
 ghost use Rattle.life_runs.specs.Led.{Exchanged};
@@ -11,11 +10,9 @@ ghost use Rattle.run_work.specs.ServedGained.{leads_of};
 ghost use Rattle.segment_plan.specs.Sound.{IsPlan};
 ghost use Rattle.segment_plan.specs.declared.plan.Scenario.{Scenario};
 ghost use Rattle.sent_packets.specs.Sent.{AllSend};
-ghost use Rattle.served_packets.specs.Quiet.{AsksQuiet};
+ghost use Rattle.sent_packets.specs.Quiet.{AsksQuiet};
 ghost use Rattle.served_runs.specs.Served.{IsServedLed, Serves, all_serve};
 ghost use Rattle.std.specs.Prelude.{ℕ, All, List};
-
-pub mod switched_servings;
 
 /// WHAT A MASTER JOINED OF A SLAVE'S PACKETS over a serving weighs no more, whatever each packet weighs, than what the services that came into hand of it may make
 /// it send: a mail that is passed on makes it send none, where it is fair and none of EoE, whatever frames are lost and whoever is given up.

@@ -20,8 +20,8 @@ use Rattle.sent_packets.proofs.All.{valid_sends}
 use Rattle.sent_packets.proofs.Cuts.{sends_both, sends_none}
 use Rattle.sent_packets.proofs.Epochs.{Emit}
 use Rattle.sent_packets.proofs.Owns.{own_fragment}
-use Rattle.served_packets.specs.Quiet.{is_quiet, quiet_speaker}
-use Rattle.served_packets.proofs.Speaks.{quiet_fair}
+use Rattle.sent_packets.specs.Quiet.{is_quiet, quiet_speaker}
+use Rattle.sent_packets.proofs.Speaks.{quiet_fair}
 use Rattle.serving_model.specs.Tagged.{Asked, IsServed, Tagged, asked_emits, asked_exec, own_gift, untag}
 use Rattle.slave_model.specs.Application.{station_valid}
 use Rattle.slave_model.specs.Product.{emission, refusal, served, side}

@@ -15,7 +15,7 @@ ghost use Rattle.run_work.specs.ServedGained.{leads_of};
 ghost use Rattle.run_work.specs.Switched.{AreSwitched};
 ghost use Rattle.segment_plan.specs.Sound.{IsPlan};
 ghost use Rattle.segment_plan.specs.declared.plan.Scenario.{Scenario};
-ghost use Rattle.served_packets.specs.Quiet.{AsksQuiet};
+ghost use Rattle.sent_packets.specs.Quiet.{AsksQuiet};
 ghost use Rattle.served_runs.specs.Served.{IsServedLed, Serves, all_serve};
 
 /// THE PACKETS OF A SERVING ARE THOSE OF ONE SWITCH, where its events are just those that the frames list, at the ports of the plan, as over a run: whatever mails

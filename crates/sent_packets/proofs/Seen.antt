@@ -28,9 +28,9 @@ use Rattle.sent_packets.specs.Sends.{sends_most}
 use Rattle.sent_packets.proofs.Epochs.{Emit, Joins, few_heard, first_sum}
 use Rattle.sent_packets.proofs.Live.{IsLive}
 use Rattle.sent_packets.proofs.Owns.{own_fragment}
-use Rattle.served_packets.specs.Quiet.{is_quiet, quiet_speaker}
-use Rattle.served_packets.proofs.Folds.{untag_append, PassedNone, all_send, both, wants_most}
-use Rattle.served_packets.proofs.Valid.{era_valid}
+use Rattle.sent_packets.specs.Quiet.{is_quiet, quiet_speaker}
+use Rattle.sent_packets.proofs.Folds.{untag_append, PassedNone, all_send, both, wants_most}
+use Rattle.sent_packets.proofs.Valid.{era_valid}
 use Rattle.serving_model.specs.Tagged.{Tagged, is_own, untag}
 use Rattle.slave_model.specs.Product.{emission}
 use Rattle.slave_model.specs.Profile.{Profile}

@@ -14,8 +14,8 @@ use Rattle.sent_packets.specs.Sends.{sends_most}
 use Rattle.sent_packets.proofs.Live.{IsLive}
 use Rattle.served_rings.specs.Serves.{serves}
 use Rattle.served_rings.specs.Clearing.{serves_clearing}
-use Rattle.served_packets.specs.Quiet.{quiet_speaker}
-use Rattle.served_packets.proofs.Seen.{Quiets, seen_live}
+use Rattle.sent_packets.specs.Quiet.{quiet_speaker}
+use Rattle.sent_packets.proofs.Seen.{Quiets, seen_live}
 use Rattle.slave_lives.specs.Lived.{Behind, node_seen}
 use Rattle.slave_lives.specs.Opening.{Plan}
 use Rattle.slave_model.specs.Profile.{Profile}

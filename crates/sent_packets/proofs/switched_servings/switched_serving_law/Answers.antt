@@ -9,7 +9,7 @@ use Rattle.run_work.proofs.Placed.{all_fresh}
 use Rattle.sent_packets.proofs.Begun.{none_served, nothing_served, served_weights}
 use Rattle.sent_packets.proofs.Switched.{Laws, served_sent, switched_so}
 use Rattle.served_runs.specs.Served.{all_serve}
-use Rattle.served_packets.proofs.switched_servings.switched_serving_law.Goals as goal
+use Rattle.sent_packets.proofs.switched_servings.switched_serving_law.Goals as goal
 
 pub returns : goal.returns
 returns c = λ plan is known fs missed ws led round quiet es rest at host listed begun.

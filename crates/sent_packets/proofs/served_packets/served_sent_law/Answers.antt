@@ -1,10 +1,10 @@
 use Rattle.life_runs.specs.First.{first_leads, lens_of}
 use Rattle.ring_returns.proofs.Returned as Returned
 use Rattle.run_work.proofs.Placed.{all_fresh}
-use Rattle.served_packets.proofs.All.{sent}
-use Rattle.served_packets.proofs.Speaks.{quiet_speaks}
+use Rattle.sent_packets.proofs.ServedAll.{sent}
+use Rattle.sent_packets.proofs.Speaks.{quiet_speaks}
 use Rattle.served_runs.specs.Served.{all_serve}
-use Rattle.served_packets.proofs.served_sent_law.Goals as goal
+use Rattle.sent_packets.proofs.served_packets.served_sent_law.Goals as goal
 
 pub returns : goal.returns
 returns c = λ weigh plan is known fs missed ws led round quiet.

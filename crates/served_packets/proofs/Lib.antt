@@ -1,6 +1,0 @@
-mod All
-mod Folds
-mod Lives
-mod Seen
-mod Speaks
-mod Valid
