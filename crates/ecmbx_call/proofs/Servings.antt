@@ -10,7 +10,7 @@ use Rattle.run_book.specs.declared.book.Ending.{Ending}
 use Rattle.run_book.specs.declared.book.Ending.TheVariants as endings
 use Rattle.run_book.specs.Book.{IsNew}
 use Rattle.promised_run.specs.Ran.{HasSent}
-use Rattle.promised_serving.specs.Through.{IsServedThrough}
+use Rattle.promised_run.specs.Through.{IsServedThrough}
 use Rattle.gateway_run.specs.Serving.{Told}
 use Rattle.gateway_run.specs.Served.{IsServed}
 use Rattle.ecmbx_words.specs.declared.form.Form.TheVariants as forms

@@ -8,7 +8,7 @@ use Rattle.scenario.specs.Document.{plan_of}
 use Rattle.run_book.specs.declared.book.Book.{Book}
 use Rattle.run_book.specs.Book.{IsNew}
 use Rattle.promised_run.specs.Ran.{HasSent}
-use Rattle.promised_serving.specs.Through.{IsServedThrough}
+use Rattle.promised_run.specs.Through.{IsServedThrough}
 use Rattle.run_report.specs.Report.{report_lines}
 use Rattle.gateway_run.specs.Serving.{Told}
 use Rattle.gateway_run.specs.Served.{IsServed}

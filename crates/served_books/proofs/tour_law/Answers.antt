@@ -1,9 +1,0 @@
-use Rattle.std.proofs.Common.{map}
-use Rattle.master_node.specs.Toured.{tour_of}
-use Rattle.run_record.specs.Led.{exchanged}
-use Rattle.served_books.proofs.tour_law.Goals as goal
-
-pub returns : goal.returns
-returns c = λ plan count book ending is a.
-    let l = a.answers.serving.leading in
-    c.toured_law.ensures plan (map exchanged book.frames) (tour_of a.session.master) l.serves is l.toured

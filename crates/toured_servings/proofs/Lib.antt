@@ -1,2 +1,0 @@
-mod Ahead
-pub mod Tours
