@@ -26,6 +26,6 @@ pub fn wait_runs_law()
 {
     frame_view::seen_is();
     plan_ring::run_lives_law();
-    plan_ring::plan_met_law();
+    plan_ring::plan_met::plan_met_law();
     crate::asked_waits::asked_waits_law();
 }

@@ -40,8 +40,8 @@ pub fn bounded_serving_law()
         (led : IsServedLed (lens_of plan.slaves) plan.recover plan.retry (all_serve plan.paces (first_leads plan)) fs lost ws) (es : List SwitchEvent) (rest : List (ArrayVec ℕ)) → All (IsAtPort (ports_of plan.slaves)) es → arrivals_at 0 es ++ rest ≡ plan.host →
         ServedListed (ports_behind 0 plan.slaves) led es → AreServedBegun (ports_behind 0 plan.slaves) (ports_of plan.slaves) led es → bound_of plan count ≤ budget → length fs ≢ budget }
 {
-    seen_slaves::served_waits_law();
-    seen_slaves::served_answers_law();
-    served_rings::served_bound();
+    seen_slaves::served_waits::served_waits_law();
+    seen_slaves::served_waits::served_answers_law();
+    served_rings::served_bound::served_bound();
     sent_packets::switched_servings::switched_serving_law();
 }

@@ -25,7 +25,7 @@ pub fn eager_run_law()
 {
     frame_view::seen_is();
     plan_ring::run_lives_law();
-    plan_ring::plan_met_law();
+    plan_ring::plan_met::plan_met_law();
     plan_ring::plan_dues::plan_due_law();
     plan_ring::plan_rooms::room_law();
     idle_slaves::entered_runs::entered_law();

@@ -16,6 +16,7 @@ pub mod eager_runs;
 pub mod promised_serving;
 pub mod served_books;
 pub mod toured_servings;
+
 use crate::bounded_runs::uncut_law;
 use ec_outside::Port;
 use life_runs::epochs_law;
@@ -24,7 +25,7 @@ use run_book::{Book, Ending};
 use run_promises::{read_promise_law, rest_promise_law};
 use script_runs::script_run_law;
 use segment_plan::Scenario;
-use served_rings::served_replies_law;
+use served_rings::served_replies::served_replies_law;
 use served_runs::{asked_law, told_law};
 use std::alloc::Global;
 

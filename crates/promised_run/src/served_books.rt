@@ -27,5 +27,5 @@ pub fn asked_law()
 pub fn tour_law()
     ensures { (plan : Scenario) (count : ℕ) (book : Book) (ending : Ending) → IsPlan plan → (a : HasAccount plan count book ending) → IsCounted plan (map exchanged book.frames) (tour_of a.session.master) a.answers.serving.leading.serves }
 {
-    promised_run::toured_law();
+    crate::toured_servings::toured_law();
 }

@@ -1,9 +1,9 @@
 -- THE BOOKS of slaves that stay up.
 use Rattle.std.proofs.Common.{◌≡◌, ℕ, suc, true, List, [], ◌∷◌, map, length, ap, sym, ◌∙◌, subst}
 use Rattle.std.proofs.lemmas.List.{length-map}
-use Rattle.plan_ring.specs.of_plan_ring.KeptFirst.{Forgets, FirstBook}
-use Rattle.plan_ring.specs.of_plan_ring.Rows.{IsFirst}
-use Rattle.plan_ring.proofs.of_plan_ring.KeptFirst.{first_book}
+use Rattle.plan_ring.specs.KeptFirst.{Forgets, FirstBook}
+use Rattle.plan_ring.specs.Rows.{IsFirst}
+use Rattle.plan_ring.proofs.KeptFirst.{first_book}
 use Rattle.script_runs.specs.of_eoe_model.Network.{Station}
 use Rattle.script_runs.specs.of_frame_view.View.{Lens}
 use Rattle.script_runs.specs.of_life_frames.Shares.{Lived}

@@ -15,8 +15,8 @@ use Rattle.script_runs.specs.of_life_runs.Led.{Exchanged, Leads, speech_at}
 use Rattle.script_runs.specs.of_link_mails.Body.{Body}
 use Rattle.script_runs.specs.of_master_duty.Reply.{Reply}
 use Rattle.script_runs.specs.of_master_hand.Spoken.{Asked, hand_speech, is_followed}
-use Rattle.plan_ring.specs.of_plan_ring.Alike.{RowIs}
-use Rattle.plan_ring.proofs.of_plan_ring.Alike as Alike
+use Rattle.plan_ring.specs.Alike.{RowIs}
+use Rattle.plan_ring.proofs.Alike as Alike
 use Rattle.plan_ring.specs.Asked.{is_service}
 use Rattle.plan_ring.specs.Master.{speech_of, IsLed, AllLed, owed}
 use Rattle.plan_ring.specs.Plan.{PlanMember, FitsPlan, step, first_app}

@@ -1,6 +1,6 @@
 -- THE BOOK OF A SLAVE THAT STAYS UP: in its first epoch, from the switch on.
 use Rattle.std.specs.Prelude.{◌≡◌, ℕ, suc, true, List, [], ◌∷◌, ⊤}
-use Rattle.plan_ring.specs.of_plan_ring.KeptFirst.{Forgets, FirstBook}
+use Rattle.plan_ring.specs.KeptFirst.{Forgets, FirstBook}
 use Rattle.script_runs.specs.of_book_model.Script.{life_started}
 use Rattle.script_runs.specs.of_life_model.Book.{NoInits}
 use Rattle.script_runs.specs.of_life_model.Lives.{Life, Stand}

@@ -30,8 +30,8 @@ pub fn served_waits_law()
     frame_view::seen_is();
     run_work::served_work::served_returned();
     served_rings::served_ring_law();
-    served_rings::any_law();
-    seen_slaves::parts_never();
+    served_rings::plan_speakers::any_law();
+    crate::tagged_waits::parts_never();
 }
 
 /// EACH SLAVE OF A PLAN'S RING ANSWERS what awaits a step of its processor, by each frame of a serving that came back, where its frames went round the ring and

@@ -25,7 +25,7 @@ pub fn switched_serving_law()
         (es : List SwitchEvent) (rest : List (ArrayVec ℕ)) → All (IsAtPort (ports_of plan.slaves)) es → arrivals_at 0 es ++ rest ≡ plan.host →
         ServedListed (ports_behind 0 plan.slaves) led es → AreServedBegun (ports_behind 0 plan.slaves) (ports_of plan.slaves) led es → AreSwitched plan (leads_of ws) }
 {
-    crate::served_sent_law();
+    crate::served_packets::served_sent_law();
     packets_heard::port_events::port_law();
     packets_heard::packets_begun::begun_law();
     run_work::packet_work::packet_law();

@@ -34,8 +34,8 @@ pub fn served_ring_law()
         IsServedLed (lens_of plan.slaves) plan.recover plan.retry (all_serve plan.paces (first_leads plan)) fs missed ws → AllRound (ring_of plan) fs → AreServedLived plan fs ws }
 {
     plan_ring::plan_ring_law();
-    crate::behind_law();
-    crate::state_law();
+    crate::served_eras::behind_law();
+    crate::plan_speakers::state_law();
 }
 
 /// SO WITH FAIR MAILS ALONE each of these lives is worked by its slave in sessions of services and fair mails, from its parts as it was switched on.
@@ -45,5 +45,5 @@ pub fn served_lives_law()
 {
     served_ring_law();
     served_runs::asked_law();
-    crate::life_law();
+    crate::plan_speakers::life_law();
 }

@@ -27,7 +27,7 @@ pub fn speaker_law()
 {
     slave_served::parts_served::parts_are_served();
     few_replies::whole_counts::passed_law();
-    crate::parts_last_told();
+    crate::last_told::parts_last_told();
 }
 
 /// SO THEY DO WITH ANY MAILS, fair or not; the node runs the same server then.

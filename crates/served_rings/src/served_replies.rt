@@ -27,8 +27,8 @@ pub fn served_replies_law()
     ensures { (plan : Scenario) → IsPlan plan → IsKnown plan → (fs : List Exchanged) (missed : ℕ) (ws : List Serves) → IsServedLed (lens_of plan.slaves) plan.recover plan.retry (all_serve plan.paces (first_leads plan)) fs missed ws → AllRound (ring_of plan) fs → ServeSo plan fs ws }
 {
     served_rings::served_ring_law();
-    served_rings::speaker_law();
-    served_rings::run_law();
+    crate::plan_speakers::speaker_law();
+    crate::plan_speakers::run_law();
 }
 
 /// Worked rows: a slave that doesn't serve CoE answers a mail of CoE by mailbox error 2, and counts it.
