@@ -23,7 +23,7 @@ pub fn asked_hears_law()
 pub fn plan_due_law()
     ensures { (plan : Scenario) → IsPlan plan → IsKnown plan → MailsAreDue plan }
 {
-    plan_ring::run_lives_law();
+    crate::run_lives_law();
     crate::plan_met::plan_met_law();
     asked_hears_law();
 }

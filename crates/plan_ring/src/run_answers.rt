@@ -22,5 +22,5 @@ pub fn answer_law()
         (run : IsToured (lens_of plan.slaves) plan.recover plan.retry (slowest plan.paces) (first_leads plan) plan.paces fs again missed leads p cs) → AllRound (ring_of plan) fs → AskIn run → AnswerIn run }
 {
     frame_view::seen_is();
-    plan_ring::run_lives_law();
+    crate::run_lives_law();
 }

@@ -18,7 +18,7 @@ use Rattle.segment_plan.specs.Sound.{IsPlan}
 use Rattle.segment_plan.specs.declared.plan.Scenario.{Scenario}
 use Rattle.segment_ring.specs.Ring.{RingState}
 use Rattle.served_rings.specs.Served.{AllServeSo, ServeSo}
-use Rattle.served_rings.proofs.Whole.{all_fresh}
+use Rattle.run_work.proofs.Placed.{all_fresh}
 use Rattle.served_runs.specs.Came.{HasServed, IsFresh}
 use Rattle.served_runs.specs.Served.{Serves, IsServedLed, TellsSo, all_serve}
 use Rattle.slave_node.specs.of_slave_steps.Node.{Node}

@@ -18,15 +18,12 @@ pub mod served_books;
 pub mod toured_servings;
 
 use crate::bounded_runs::uncut_law;
-use ec_outside::Port;
 use life_runs::epochs_law;
 use plan_ring::plan_rooms::room_law;
 use run_book::{Book, Ending};
 use run_promises::{read_promise_law, rest_promise_law};
 use script_runs::script_run_law;
 use segment_plan::Scenario;
-use served_rings::served_replies::served_replies_law;
-use served_runs::{asked_law, told_law};
 use std::alloc::Global;
 
 /// Runs a plan that was read, as `run_record` does. Whatever frames are lost, each slave begins just the first services of its script, each once and

@@ -9,6 +9,13 @@ ghost use Rattle.gateway_run.specs.Serving.{told};
 ghost use Rattle.gateway_run.specs.Served.{IsServed};
 ghost use Rattle.promised_run.specs.Through.{IsServedThrough};
 
+use ec_outside::Port;
+use run_book::{Book, Ending};
+use segment_plan::Scenario;
+use served_rings::served_replies::served_replies_law;
+use served_runs::{asked_law, told_law};
+use std::alloc::Global;
+
 /// Serves a plan that was read, as `gateway_run` does. At each moment, whatever frames are lost, each slave has carried out in each epoch just the first of the
 /// rows that came into hand of it, a request's mail by the one step that its application takes for it; and the replies that were heard for the mail in hand are the
 /// first of that step's, in order, and all of them where it is over.

@@ -24,6 +24,6 @@ pub fn served_sent_law()
     served_runs::asked_law();
     served_rings::plan_speakers::speaker_law();
     packets_heard::packets_law();
-    sent_packets::slave_sends::emits_law();
+    crate::slave_sends::emits_law();
     few_replies::whole_counts::parts_tell();
 }

@@ -30,7 +30,7 @@ pub fn served_bound()
 {
     served_places::served_tours::served_tours();
     served_places::served_tours::served_frames();
-    served_rings::served_lives_law();
+    crate::served_lives_law();
     run_work::served_counts::served_law();
     run_work::served_work::served_switched();
     run_work::served_work::served_returned();

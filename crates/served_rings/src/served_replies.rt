@@ -26,7 +26,7 @@ ghost use Rattle.state_exchange.specs.Stated.{Service};
 pub fn served_replies_law()
     ensures { (plan : Scenario) → IsPlan plan → IsKnown plan → (fs : List Exchanged) (missed : ℕ) (ws : List Serves) → IsServedLed (lens_of plan.slaves) plan.recover plan.retry (all_serve plan.paces (first_leads plan)) fs missed ws → AllRound (ring_of plan) fs → ServeSo plan fs ws }
 {
-    served_rings::served_ring_law();
+    crate::served_ring_law();
     crate::plan_speakers::speaker_law();
     crate::plan_speakers::run_law();
 }
