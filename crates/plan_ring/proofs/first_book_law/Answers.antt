@@ -1,4 +1,4 @@
-use Rattle.plan_ring.proofs.KeptFirst
+use Rattle.plan_ring.proofs.KeptFirst as First
 use Rattle.plan_ring.specs.Master.{owed}
 use Rattle.plan_ring.proofs.first_book_law.Goals as goal
 

@@ -1,4 +1,4 @@
-use Rattle.plan_ring.proofs.KeptFirst
+use Rattle.plan_ring.proofs.KeptFirst as First
 use Rattle.plan_ring.proofs.book_lives.first_epoch_law.Goals as goal
 
 pub returns : goal.returns
