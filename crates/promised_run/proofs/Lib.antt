@@ -9,7 +9,7 @@ mod Epochs
 mod Few
 mod First
 mod Frames
-mod Kinds
+mod AskedKinds
 mod Maps
 pub mod News
 mod Numbers

@@ -1,5 +1,5 @@
 use Rattle.promised_run.proofs.Asked.{course_asked, fair_asked, few_asked}
-use Rattle.promised_run.proofs.Kinds.{course_passed, quiet_asked}
+use Rattle.promised_run.proofs.AskedKinds.{course_passed, quiet_asked}
 use Rattle.promised_run.proofs.served_books.asked_law.Goals as goal
 
 pub returns-clause-few : goal.returns-clause-few
