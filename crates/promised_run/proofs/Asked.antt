@@ -35,7 +35,7 @@ fair_same m n kind body = λ i. is_fair (Ok (record { address = 0; counter = 0; 
 
 many_none : (n : ℕ) → many (replicate n []) ≡ 0
 many_none zero = refl
-many_none (suc n) = many_none n
+many_none (suc n) = ap (λ k. 0 + k) (many_none n)
 
 -- one more
 one_more : (rows : List (List AskedMail)) (k : ℕ) (a : AskedMail) → many (asked_more rows k a) ≤ suc (many rows)

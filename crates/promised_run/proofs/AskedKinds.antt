@@ -1,5 +1,5 @@
 -- The mails that were asked in the course of a serving are of the protocols whose mails are passed on.
-use Rattle.std.proofs.Common.{◌≡◌, ◌+◌, ◌&&◌, not, ℕ, zero, suc, Bool, true, false, Option, None, Some, Ok, Err, List, [], ◌∷◌, ◌++◌, length, map, refl, sym, ap, ap₂, subst, nat_le, nat_lt, if◌then◌else◌}
+use Rattle.std.proofs.Common.{◌≡◌, ◌+◌, ◌&&◌, not, ℕ, zero, suc, Bool, true, false, Option, None, Some, Result, Ok, Err, List, [], ◌∷◌, ◌++◌, length, map, refl, sym, ap, ap₂, subst, nat_le, nat_lt, if◌then◌else◌}
 use Rattle.std.specs.Prelude.{All}
 use Rattle.std.proofs.lemmas.List.Elements.{All-nil, All-cons, All-head, All-tail, All-push, All-replicate}
 use Rattle.few_replies.specs.Packets.{is_fair}
@@ -11,6 +11,7 @@ use Rattle.mailbox_mail.specs.declared.mail.Kind.{Kind}
 use Rattle.mailbox_mail.specs.declared.mail.Mail.{Mail}
 use Rattle.run_book.specs.declared.book.GramIn.{GramIn}
 use Rattle.run_book.specs.declared.book.SentFrame.{SentFrame}
+use Rattle.run_notes.specs.Notes.{stations_of}
 use Rattle.run_notes.specs.declared.standing.AskedMail.{AskedMail}
 use Rattle.run_record.specs.Served.{as_asked}
 use Rattle.run_record.specs.Session.{SessionState, asked_mail, asked_more}
@@ -23,15 +24,19 @@ use Rattle.slab.specs.Slab.{Slab}
 
 -- one that was judged so is of such a protocol
 judged_kind : (g : Slab Asker) (mail : Mail) (rows : List (Option (ℕ × ℕ))) (slave : ℕ) → judged g mail rows ≡ Ok slave → is_passed mail.kind ≡ true
-judged_kind g mail rows slave e = at (place_from 0 mail.address rows) e
+judged_kind g mail rows slave e = at (place_from 0 mail.address rows) (ap came e)
   where
-    by : (place : ℕ × ℕ) (b : Bool) → (if b then (if nat_lt place.1 (6 + length mail.body.items) then Err 8 else if nat_le 64 (unfinished_at place.0 g) then Err 7 else Ok place.0) else Err 2) ≡ Ok slave → b ≡ true
-    by place true f = refl
-    by place false f = absurd (let no : Err 2 ≡ Ok slave = f in cc)
+    came : Result ℕ ℕ → Bool
+    came (Ok slave) = true
+    came (Err detail) = false
 
-    at : (found : Option (ℕ × ℕ)) → judged_at g mail found ≡ Ok slave → is_passed mail.kind ≡ true
-    at None f = absurd (let no : Err 5 ≡ Ok slave = f in cc)
-    at (Some place) f = by place (is_passed mail.kind) f
+    by : (other : Result ℕ ℕ) (b : Bool) → came (if b then other else Err 2) ≡ true → b ≡ true
+    by other true f = refl
+    by other false f = f
+
+    at : (found : Option (ℕ × ℕ)) → came (judged_at g mail found) ≡ true → is_passed mail.kind ≡ true
+    at None f = absurd (let no : false ≡ true = f in cc)
+    at (Some place) f = by _ (is_passed mail.kind) f
 
 -- ---- in a course
 abbrev IsPassedOn : AskedMail → Type 0
@@ -53,7 +58,7 @@ judged_passed s s' number g rs rs' more (is_ignored j) h = same_rows s s' (ap (�
 judged_passed s s' number g rs rs' more (is_refused j) h = same_rows s s' (ap (λ (z : SessionState). z.asked) j.session) h
 judged_passed s s' number g rs rs' more (too_many j) h = same_rows s s' (ap (λ (z : SessionState). z.asked) j.asks) h
 judged_passed s s' number g rs rs' more (queues j) h =
-    subst (All ArePassedOn) (sym (ap (λ (z : SessionState). z.asked) j.asks)) (passed_more s.asked j.slave (asked_mail j.key j.mail) (judged_kind j.unfinished j.mail _ j.slave j.place) h)
+    subst (All ArePassedOn) (sym (ap (λ (z : SessionState). z.asked) j.asks)) (passed_more s.asked j.slave (asked_mail j.key j.mail) (judged_kind j.unfinished j.mail (stations_of s.recover s.homes s.notes) j.slave j.place) h)
 
 pub course_passed : (plan : Scenario) (count : ℕ) (s : SessionState) (fs : List SentFrame) (gs : List GramIn) (rs : List Request) (os : List Owing) → Course plan count s fs gs rs os → All ArePassedOn s.asked
 course_passed plan count _ _ _ _ _ (begins s first serves) =
