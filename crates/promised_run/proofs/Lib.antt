@@ -34,3 +34,4 @@ mod Unpassed
 mod Unsent
 mod Visits
 mod Walk
+mod Whole

@@ -7,7 +7,7 @@ ghost use Rattle.run_book.specs.Book.{IsNew};
 ghost use Rattle.run_record.specs.Ran.{HasSent};
 ghost use Rattle.gateway_run.specs.Serving.{told};
 ghost use Rattle.gateway_run.specs.Served.{IsServed};
-ghost use Rattle.promised_run.specs.Through.{IsServedThrough};
+ghost use Rattle.promised_run.specs.Through.{IsServedThrough, IsServedWhole};
 
 use ec_outside::Port;
 use run_book::{Book, Ending};
@@ -18,7 +18,8 @@ use std::alloc::Global;
 
 /// Serves a plan that was read, as `gateway_run` does. At each moment, whatever frames are lost, each slave has carried out in each epoch just the first of the
 /// rows that came into hand of it, a request's mail by the one step that its application takes for it; and the replies that were heard for the mail in hand are the
-/// first of that step's, in order, and all of them where it is over.
+/// first of that step's, in order, and all of them where it is over. What is told of it are the first of those that were heard, and behind the frame by which it is
+/// over all of them.
 pub fn serve<P: Port>(
     alloc: Global,
     plan: &Scenario,
@@ -33,6 +34,7 @@ pub fn serve<P: Port>(
     ensures frames { HasSent plan.now count book.new }
     ensures served { IsServed plan.now count (told P.heard P.sent P.over P.port_faults port.old) (told P.heard P.sent P.over P.port_faults port.new) book.new result }
     ensures through { IsServedThrough plan.now book.new }
+    ensures whole { IsServedWhole plan.now book.new }
     ensures ending { book.new.ending ≡ result }
 {
     served_replies_law();
