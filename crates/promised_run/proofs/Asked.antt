@@ -4,7 +4,6 @@ use Rattle.std.specs.Prelude.{All, Ok, Some, replicate}
 use Rattle.std.proofs.lemmas.List.{length-map}
 use Rattle.std.proofs.lemmas.List.Elements.{All-nil, All-cons, All-head, All-tail, All-pop, All-push, All-replicate}
 use Rattle.few_replies.specs.Packets.{is_fair}
-use Rattle.gateway_core.specs.Framing.{request_in}
 use Rattle.gateway_run.specs.Account.{Course, Course.begins, Course.hears, Course.steps, Judges, Judges.ignored as is_ignored, Judges.refused as is_refused, Judges.too_many, Judges.queues, Owing}
 use Rattle.gateway_run.specs.declared.desk.Request.{Request}
 use Rattle.mailbox_mail.specs.declared.mail.Mail.{Mail}

@@ -1,9 +1,9 @@
 -- The mails that were asked in the course of a serving are of the protocols whose mails are passed on.
-use Rattle.std.proofs.Common.{◌≡◌, ◌+◌, ◌&&◌, not, ℕ, zero, suc, Bool, true, false, Option, None, Some, Result, Ok, Err, List, [], ◌∷◌, ◌++◌, length, map, refl, sym, ap, ap₂, subst, nat_le, nat_lt, if◌then◌else◌}
+use Rattle.std.proofs.Common.{◌≡◌, ◌&&◌, not, ℕ, zero, suc, Bool, true, false, Option, None, Some, Result, Ok, Err, List, [], ◌∷◌, ◌++◌, length, map, refl, sym, ap, ap₂, subst, if◌then◌else◌}
 use Rattle.std.specs.Prelude.{All}
 use Rattle.std.proofs.lemmas.List.Elements.{All-nil, All-cons, All-head, All-tail, All-push, All-replicate}
 use Rattle.few_replies.specs.Packets.{is_fair}
-use Rattle.gateway_core.specs.Gateway.{is_passed, judged, judged_at, place_from, unfinished_at}
+use Rattle.gateway_core.specs.Gateway.{is_passed, judged, judged_at, place_from}
 use Rattle.gateway_core.specs.declared.asker.Asker.{Asker}
 use Rattle.gateway_run.specs.Account.{Course, Course.begins, Course.hears, Course.steps, Judges, Judges.ignored as is_ignored, Judges.refused as is_refused, Judges.too_many, Judges.queues, Owing}
 use Rattle.gateway_run.specs.declared.desk.Request.{Request}

@@ -1,6 +1,5 @@
 -- The frames of a book are a run of its plan whose count has a bound.
-use Rattle.std.proofs.Common.{◌≡◌, ◌≢◌, ◌≤◌, ℕ, Some, List, [], ◌∷◌, ◌++◌, map, sym, ap, ◌∙◌, subst}
-use Rattle.std.specs.Prelude.{slice_get}
+use Rattle.std.proofs.Common.{◌≡◌, ◌≢◌, ◌≤◌, ℕ, List, [], ◌∷◌, ◌++◌, map, sym, ap, ◌∙◌, subst}
 use Rattle.arrayvec.specs.ArrayVec.{ArrayVec}
 use Rattle.promised_run.specs.Runs.{HasRun}
 use Rattle.life_runs.specs.First.{lens_of, first_leads}
@@ -19,7 +18,7 @@ use Rattle.run_book.specs.declared.book.SentFrame.{SentFrame}
 use Rattle.run_frames.specs.Clocks.{Clocked}
 use Rattle.run_frames.specs.Runs.{Progress}
 use Rattle.run_record.specs.Led.{LedBook, RecalledBook, exchanged}
-use Rattle.run_record.specs.Ran.{HasFrames, EndsAs}
+use Rattle.run_record.specs.Ran.{HasFrames}
 use Rattle.run_record.specs.Replay.{AreRecorded}
 use Rattle.run_record.specs.Session.{budget_of}
 use Rattle.run_work.specs.Bounds.{IsPlanRun}

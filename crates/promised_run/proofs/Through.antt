@@ -1,18 +1,17 @@
 -- AT EACH MOMENT of a serving its frames went round the plan's ring.
-use Rattle.std.proofs.Common.{◌≡◌, ℕ, List, [], ◌∷◌, ◌++◌, map, refl, ap, sym, ◌∙◌, subst}
+use Rattle.std.proofs.Common.{ℕ, List, [], ◌∷◌, ◌++◌, map, ap, subst}
 use Rattle.std.specs.Prelude.{All}
 use Rattle.life_runs.specs.First.{first_leads, lens_of}
 use Rattle.life_runs.specs.Led.{Exchanged}
 use Rattle.plan_ring.specs.Lives.{IsKnown}
 use Rattle.plan_ring.specs.Round.{AllRound, ring_of}
-use Rattle.plan_ring.specs.Round as Round
 use Rattle.promised_run.proofs.Rounds.{all_round, same_ring}
 use Rattle.run_book.specs.declared.book.Book.{Book}
 use Rattle.run_book.specs.declared.book.SentFrame.{SentFrame}
 use Rattle.run_promises.proofs.Known.{known}
 use Rattle.run_record.specs.Led.{exchanged}
 use Rattle.run_record.specs.Ran.{HasSent}
-use Rattle.run_record.specs.Replay.{AreRecorded, behind, first_ring, ring_after}
+use Rattle.run_record.specs.Replay.{AreRecorded, behind, first_ring}
 use Rattle.scenario.specs.Told.{IsTold}
 use Rattle.segment_plan.specs.Sound.{IsPlan}
 use Rattle.segment_plan.specs.declared.plan.Scenario.{Scenario}
@@ -23,7 +22,7 @@ use Rattle.served_runs.specs.Came.{HasServed, IsFresh}
 use Rattle.served_runs.specs.Served.{Serves, IsServedLed, TellsSo, all_serve}
 use Rattle.slave_node.specs.of_slave_steps.Node.{Node}
 use Rattle.slave_server.specs.declared.server.SlaveServer.{SlaveServer}
-use Rattle.promised_run.specs.Through.{IsServedSo, IsServedThrough}
+use Rattle.promised_run.specs.Through.{IsServedThrough}
 
 -- the first of recorded frames are
 first_recorded : (ring : RingState (Node SlaveServer)) (fs others : List SentFrame) → AreRecorded ring (fs ++ others) → AreRecorded ring fs
