@@ -3,17 +3,19 @@
 //! the laws.
 #![tactic(auto)]
 
-ghost use Rattle.std.specs.Prelude.{◌≡◌, ℕ, Bool, length};
+ghost use Rattle.coe_model.specs.Model.{coe_exchange};
+ghost use Rattle.coe_model.specs.Octets.{AreSpelled, coe_mail_exchange};
+ghost use Rattle.coe_model.specs.Tables.{Tables, AreLawful};
+ghost use Rattle.coe_states.specs.States.{AreOneKind, acknowledged, coe_states, coe_mail_states};
+ghost use Rattle.coe_states.specs.Toys.{drawer, slave, start, tried, taken, heard, ended, replies, told};
 ghost use Rattle.exchange_model.specs.Areas.{Areas, AreMailboxes};
 ghost use Rattle.exchange_model.specs.Exchange.{IsLawful, AnswersLast, after, given};
 ghost use Rattle.exchange_model.specs.Rows.{exec_all};
-ghost use Rattle.coe_model.specs.Tables.{Tables, AreLawful};
-ghost use Rattle.coe_model.specs.Model.{coe_exchange};
-ghost use Rattle.coe_model.specs.Octets.{AreSpelled, coe_mail_exchange};
-ghost use Rattle.state_exchange.specs.Stated.{IsStated};
 ghost use Rattle.state_exchange.specs.Families.{states_of};
-ghost use Rattle.coe_states.specs.States.{AreOneKind, acknowledged, coe_states, coe_mail_states};
-ghost use Rattle.coe_states.specs.Toys.{drawer, slave, start, tried, taken, heard, ended, replies, told};
+ghost use Rattle.state_exchange.specs.Stated.{IsStated};
+ghost use Rattle.std.specs.Prelude.{◌≡◌, ℕ, Bool, length};
+
+pub mod object_states;
 
 /// Each mail of an SDO or information service brings a reply, so where all replies came, all mails were taken.
 pub fn coe_answers_last<S>()

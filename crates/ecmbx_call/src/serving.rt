@@ -10,7 +10,7 @@ use crate::running::{plan_in, tell};
 use ec_fields::Octets;
 use ec_outside::{Port, Sink};
 use ecmbx_words::Status;
-use gateway_run::serve;
+use promised_run::promised_serving::serve;
 use run_book::{Book, Ending};
 use std::alloc::Global;
 

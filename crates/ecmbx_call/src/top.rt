@@ -172,7 +172,8 @@ pub fn ecmbx<F: Files, O: Sink, P: Port>(
     // in a row are lost than the retry limit.
     ensures completes { (plan : Plan) → IsCalm F.file_faults files.old files.new → IsCalm O.sink_faults out.old out.new → CompletesTo (words_of words.now) (F.table files.old) plan book.new result }
 
-    // A found scenario that is served: the book has its frames and the datagrams that the port heard and sent, and what is written is its report.
+    // A found scenario that is served: the book has its frames and the datagrams that the port heard and sent, and what is written is its report; and at each
+    // moment what its slaves did, and replied to the mails passed on to them, is what their servers give.
     ensures serves { (plan : Plan) → IsCalm F.file_faults files.old files.new → ServesTo (words_of words.now) (F.table files.old) (told P.heard P.sent P.over P.port_faults port.old) (told P.heard P.sent P.over P.port_faults port.new) plan book.new (O.written out.old) (O.written out.new) result }
 
     // A found capture, and a scenario that is made: the text whole, where the sink doesn't fail.

@@ -1,9 +1,7 @@
 use crate::stage::Stage;
-use anyhow::{Result, bail};
-use ec_fields::Octets;
 use ecmbx_call::Status;
-use row_table::shown;
-use std::alloc::Global;
+use row_table::Row;
+use std::alloc::{AllocError, Global};
 
 /// How many octets a header has, and a packet of 60 octets with its own.
 const HEAD: usize = 24;
@@ -11,7 +9,7 @@ const HEAD: usize = 24;
 const PACKET: usize = 76;
 
 // What a capture of this length is to give: its status and how its text ends.
-fn expected(alloc: Global, len: usize) -> Result<(Status, String)> {
+fn expected(alloc: Global, len: usize) -> Result<(Status, String), AllocError> {
     if len < HEAD {
         return Ok((Status::Refused, format!(in alloc; "refused P1 at {len}\n")?));
     }
@@ -24,30 +22,34 @@ fn expected(alloc: Global, len: usize) -> Result<(Status, String)> {
 }
 
 // Whether a capture, cut at this length, is refused where its packet is cut, and accepted between two.
-fn holds_at(alloc: Global, octets: &[u8], words: &[String]) -> Result<bool> {
-    let mut stage = Stage::new(alloc, None, None)?;
-    stage.files.add("a.pcap", octets)?;
-    let status = stage.call(alloc, words)?;
-    let (wanted, end) = expected(alloc, octets.len())?;
-    Ok(status == wanted && stage.out.bytes().ends_with(end.as_bytes()))
+fn holds_at(alloc: Global, octets: &[u8], words: &[String]) -> bool {
+    let mut stage = Stage::new(alloc, None, None);
+    if stage.files.add("a.pcap", octets).is_err() {
+        return false;
+    }
+    let status = stage.call(alloc, words);
+    match expected(alloc, octets.len()) {
+        Ok((wanted, end)) => status == wanted && stage.out.bytes().ends_with(end.as_bytes()),
+        Err(_) => false,
+    }
 }
 
 // The words of the call that decodes it.
-fn words_of(alloc: Global) -> Result<Vec<String>> {
+fn words_of(alloc: Global) -> Result<Vec<String>, AllocError> {
     let mut words = Vec::new(alloc);
     words.push(String::from_str(alloc, "decode")?)?;
     words.push(String::from_str(alloc, "a.pcap")?)?;
     Ok(words)
 }
 
-/// At how many lengths a capture was cut, each refused or accepted as it is to be.
-pub fn cut(alloc: Global, octets: &Octets) -> Result<String> {
-    let words = words_of(alloc)?;
-    let octets = octets.bytes();
+/// Tells at how many lengths a capture was cut, each refused or accepted as it is to be.
+pub fn cut(row: &mut Row<'_>, octets: &[u8]) {
+    let alloc = row.alloc();
+    let Ok(words) = words_of(alloc) else {
+        return row.fail();
+    };
     for len in 0..octets.len() {
-        if !holds_at(alloc, &octets[..len], words.as_slice())? {
-            bail!("otherwise at {len}");
-        }
+        row.check(holds_at(alloc, &octets[..len], words.as_slice()));
     }
-    shown(alloc, &octets.len())
+    row.show(&octets.len());
 }

@@ -36,9 +36,9 @@ use Rattle.slave_model.specs.Product.{served, side, refusal, protocol_of, serve_
 use Rattle.slave_model.specs.Profile.{Protocol, Profile, IsProfile, serves}
 use Rattle.slave_model.specs.Server.{Server as SlaveServer, seat, reseated, failure, heard_by, told_by, refused_gives, soe_quiet, eoe_quiet}
 use Rattle.slave_model.proofs.Stations.{left_of, right_of, network_spelled}
-use Rattle.mail_counts.proofs.OfEoe.{packet_within}
-use Rattle.mail_counts.proofs.OfSoe.{fragments_within}
-use Rattle.mail_counts.proofs.Thirds.{one_less}
+use Rattle.few_replies.proofs.OfEoe.{packet_within}
+use Rattle.few_replies.proofs.OfSoe.{fragments_within}
+use Rattle.few_replies.proofs.Thirds.{one_less}
 use Rattle.few_replies.specs.Most.{Tells, AreEnough, is_packet_entry, brings_packet, begins_message, begins_mail, begins_packet, is_packet_free}
 
 -- fewer octets have no more parts

@@ -2,13 +2,20 @@
 //! running code: the functions here do nothing, and their contracts state the laws.
 #![tactic(auto)]
 
-ghost use Rattle.std.specs.Prelude.{◌≡◌, ◌≤◌, ℕ, true, false, length};
+ghost use Rattle.few_replies.specs.Most.{Tells, AreEnough, begins_packet, is_packet_free};
 ghost use Rattle.link_mails.specs.Body.{Body};
 ghost use Rattle.slave_model.specs.Application.{Parts, ArePartsLawful, station_valid};
 ghost use Rattle.slave_model.specs.Product.{serve};
 ghost use Rattle.slave_model.specs.Profile.{Profile, IsProfile};
 ghost use Rattle.slave_model.specs.Server.{Server};
-ghost use Rattle.few_replies.specs.Most.{Tells, AreEnough, begins_packet, is_packet_free};
+ghost use Rattle.std.specs.Prelude.{◌≡◌, ◌≤◌, ℕ, true, false, length};
+
+pub mod mail_counts;
+pub mod passed_counts;
+pub mod service_counts;
+pub mod slave_calm;
+pub mod task_counts;
+pub mod whole_counts;
 
 /// A SLAVE ANSWERS ONE MAIL WITH FEW: of whatever protocol it is, valid or not, in each AL state and whatever transfers are unfinished, it gives no more
 /// mails than the parts of an information, the fragments of an element, those of a packet that goes back, or an answer with an emergency. Only a

@@ -1,7 +1,6 @@
-use anyhow::{Result, bail};
 use ec_fields::Octets;
 use pcap_frames::{PcapFault, Stamp, read, write_head, write_packet};
-use row_table::{Bench, Words, digits_of};
+use row_table::{Bench, Row};
 use std::alloc::Global;
 
 /// Captures: one that is saved, whole and cut, and octets from outside.
@@ -27,60 +26,59 @@ impl CaptureBench {
     }
 
     // Saves packets of 60 octets, one a microsecond, and tells the length and the header.
-    fn save(&mut self, alloc: Global, packets: u32) -> Result<String> {
+    fn save(&mut self, row: &mut Row<'_>) {
+        let packets = row.number();
         self.saved.clear();
-        write_head(&mut self.saved)?;
+        row.check(write_head(&mut self.saved).is_ok());
         for part in 0..packets {
-            write_packet(&mut self.saved, Stamp { seconds: 0, part }, &[0; 60])?;
+            let stamp = Stamp { seconds: 0, part };
+            row.check(write_packet(&mut self.saved, stamp, &[0; 60]).is_ok());
         }
         let octets = self.saved.bytes();
         let len = octets.len();
-        let head = digits_of(alloc, &octets[..len.min(24)])?;
-        Ok(format!(in alloc; "{len} {head}")?)
+        row.show(&len);
+        row.digits(&octets[..len.min(24)]);
     }
 
     // The outcome of what was saved, cut at each of these lengths: the one that they have in common.
-    fn cut(&self, alloc: Global, from: usize, to: usize) -> Result<String> {
+    fn cut(&self, row: &mut Row<'_>) {
+        let (from, to, alloc) = (row.count(), row.count(), row.alloc());
         let octets = self.saved.bytes();
         if from > octets.len() || to > octets.len() {
-            bail!("nothing to cut");
+            return row.fail();
         }
         let first = outcome(alloc, &octets[..from]);
         for len in from..to {
-            let other = outcome(alloc, &octets[..len]);
-            if other != first {
-                return Ok(format!(in alloc; "{first:?} and at {len} {other:?}")?);
-            }
+            row.check(outcome(alloc, &octets[..len]) == first);
         }
-        Ok(format!(in alloc; "{first:?}")?)
+        row.show(&first);
     }
 
     // A packet of what was saved.
-    fn packet(&self, alloc: Global, at: usize) -> Result<String> {
-        match read(alloc, self.saved.bytes()) {
-            Ok(capture) => {
-                let packet = capture.packets.get(at);
-                Ok(format!(in alloc; "{packet:?}")?)
-            }
-            Err(fault) => Ok(format!(in alloc; "{fault:?}")?),
+    fn tell_packet(&self, row: &mut Row<'_>) {
+        let at = row.count();
+        match read(row.alloc(), self.saved.bytes()) {
+            Ok(capture) => row.show(&capture.packets.get(at)),
+            Err(fault) => row.show(&fault),
         }
     }
 }
 
 // What octets read as.
-fn outcome_of(alloc: Global, octets: &[u8]) -> Result<String> {
-    let read = outcome(alloc, octets);
-    Ok(format!(in alloc; "{read:?}")?)
+fn tell_outcome(row: &mut Row<'_>) {
+    let octets = row.octets();
+    let read = outcome(row.alloc(), octets.bytes());
+    row.show(&read);
 }
 
 impl Bench for CaptureBench {
-    fn found(&mut self, alloc: Global, asked: &mut Words<'_>) -> Result<String> {
-        match asked.word()? {
-            "save" => self.save(alloc, asked.number()?),
-            "cut" => self.cut(alloc, asked.count()?, asked.count()?),
-            "packet" => self.packet(alloc, asked.count()?),
-            "read" => outcome_of(alloc, asked.octets(alloc)?.bytes()),
-            call => bail!("no call: {call}"),
+    fn carry(&mut self, row: &mut Row<'_>) {
+        match row.word() {
+            "save" => self.save(row),
+            "cut" => self.cut(row),
+            "packet" => self.tell_packet(row),
+            "read" => tell_outcome(row),
+            _ => row.fail(),
         }
     }
 }

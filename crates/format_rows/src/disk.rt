@@ -1,7 +1,6 @@
-use anyhow::{Result, bail};
-use ec_fields::Octets;
+use ec_fields::{NoMemory, Octets};
 use ec_outside::{Files, Loaded};
-use row_table::{Bench, Words, digits_of};
+use row_table::{Bench, Row};
 use std::alloc::Global;
 
 /// Files, and what was loaded last.
@@ -13,41 +12,41 @@ pub struct DiskBench<F> {
 
 impl<F: Files + Drop> DiskBench<F> {
     /// Other octets stand where a file is loaded first.
-    pub fn new(alloc: Global, files: F) -> Result<DiskBench<F>> {
+    pub fn new(alloc: Global, files: F) -> Result<DiskBench<F>, NoMemory> {
         let into = Octets::copy_of(alloc, b"stale")?;
         Ok(DiskBench { files, into })
     }
 
     // Loads a file in place of what stands there.
-    fn load(&mut self, alloc: Global, name: &str, limit: usize) -> Result<String> {
-        let loaded = self.files.load(name, limit, &mut self.into);
+    fn load(&mut self, row: &mut Row<'_>, name: &str) {
+        let loaded = self.files.load(name, row.count(), &mut self.into);
         match loaded {
-            Ok(Loaded::Found) => digits_of(alloc, self.into.bytes()),
-            Ok(_) if self.into.len() != 0 => Ok(format!(in alloc; "octets are left")?),
-            other => Ok(format!(in alloc; "{other:?}")?),
+            Ok(Loaded::Found) => row.digits(self.into.bytes()),
+            Ok(_) if self.into.len() != 0 => row.fail(),
+            other => row.show(&other),
         }
     }
 
     // Saves a file.
-    fn save(&mut self, alloc: Global, name: &str, bytes: &[u8]) -> Result<String> {
-        let saved = self.files.save(name, bytes);
-        Ok(format!(in alloc; "{saved:?}")?)
+    fn save(&mut self, row: &mut Row<'_>, name: &str) {
+        let octets = row.octets();
+        row.show(&self.files.save(name, octets.bytes()));
     }
 
-    /// What is found for a call and its further words.
-    pub fn called(&mut self, alloc: Global, call: &str, asked: &mut Words<'_>) -> Result<String> {
-        let name = asked.word()?;
+    /// Carries out a call of these further words.
+    pub fn call(&mut self, row: &mut Row<'_>, call: &str) {
+        let name = row.word();
         match call {
-            "load" => self.load(alloc, name, asked.count()?),
-            "save" => self.save(alloc, name, asked.octets(alloc)?.bytes()),
-            _ => bail!("no call: {call}"),
+            "load" => self.load(row, name),
+            "save" => self.save(row, name),
+            _ => row.fail(),
         }
     }
 }
 
 impl<F: Files + Drop> Bench for DiskBench<F> {
-    fn found(&mut self, alloc: Global, asked: &mut Words<'_>) -> Result<String> {
-        let call = asked.word()?;
-        self.called(alloc, call, asked)
+    fn carry(&mut self, row: &mut Row<'_>) {
+        let call = row.word();
+        self.call(row, call);
     }
 }

@@ -2,15 +2,13 @@ ghost use Rattle.std.specs.Prelude.{◌≤◌, length};
 ghost use Rattle.std.specs.Bool.{OnTrue};
 ghost use Rattle.eoe.specs.Message.{IsFragment, IsSpellable};
 
-use anyhow::{Result, bail};
 use arrayvec::ArrayVec;
 use ec_fields::buffer_of;
 use eoe::{
     Came, Eoe, Fragment, FragmentView, Fragmenter, Joined, Packet, Reassembler, cut, first_block,
     is_block, read, write,
 };
-use row_table::{Bench, Words, digits_of};
-use std::alloc::Global;
+use row_table::{Bench, Row};
 
 /// EoE messages, and a packet that is cut and joined again.
 #[derive(Drop)]
@@ -50,56 +48,43 @@ fn is_spellable(message: &Eoe) -> bool
 }
 
 // What is written of what a body reads as.
-fn written_back(alloc: Global, octets: &[u8]) -> Result<String>
+fn tell_back(row: &mut Row<'_>, octets: &[u8])
     requires { length octets.now ≤ 1480 }
 {
     let Ok(message) = read(octets) else {
-        bail!("no message");
+        return row.fail();
     };
     if !is_spellable(&message) {
-        bail!("a message of no spelling");
+        return row.fail();
     }
     let mut body = ArrayVec::new();
     write(&message, &mut body);
-    digits_of(alloc, body.as_slice())
-}
-
-// What a body reads as.
-fn read_as(alloc: Global, octets: &[u8]) -> Result<String>
-    requires { length octets.now ≤ 1480 }
-{
-    let message = read(octets);
-    Ok(format!(in alloc; "{message:?}")?)
-}
-
-// Whether octets are an address block.
-fn block_of(alloc: Global, octets: &[u8]) -> Result<String> {
-    let holds = is_block(octets);
-    Ok(format!(in alloc; "{holds}")?)
+    row.digits(body.as_slice());
 }
 
 // A message, or an address block.
-fn found_in(alloc: Global, call: &str, octets: &[u8]) -> Result<String> {
+fn tell_message(row: &mut Row<'_>, call: &str) {
+    let octets = row.octets();
     if octets.len() > 1480 {
-        bail!("too long");
+        return row.fail();
     }
     match call {
-        "read" => read_as(alloc, octets),
-        "back" => written_back(alloc, octets),
-        "block" => block_of(alloc, octets),
-        _ => bail!("no call: {call}"),
+        "read" => row.show(&read(octets.bytes())),
+        "back" => tell_back(row, octets.bytes()),
+        "block" => row.show(&is_block(octets.bytes())),
+        _ => row.fail(),
     }
 }
 
 // The head of a fragment in five words.
-fn head_in(asked: &mut Words<'_>) -> Result<Head> {
-    Ok(Head {
-        number: asked.small()?,
-        offset: asked.small()?,
-        frame: asked.small()?,
-        last: asked.flag()?,
-        stamped: asked.flag()?,
-    })
+fn head_in(row: &mut Row<'_>) -> Head {
+    Head {
+        number: row.small(),
+        offset: row.small(),
+        frame: row.small(),
+        last: row.flag(),
+        stamped: row.flag(),
+    }
 }
 
 impl EoeBench {
@@ -115,44 +100,46 @@ impl EoeBench {
     }
 
     // Cuts a packet for areas of 64 octets.
-    fn begin(&mut self, alloc: Global, octets: &[u8]) -> Result<String> {
+    fn begin(&mut self, row: &mut Row<'_>) {
+        let octets = row.octets();
         if octets.len() > 1514 {
-            bail!("a packet of more octets");
+            return row.fail();
         }
-        self.packet = buffer_of(octets);
+        self.packet = buffer_of(octets.bytes());
         self.fragments = cut(&self.packet, 64, 0);
-        self.joined = Reassembler::new();
-        Ok(format!(in alloc; "begun")?)
+        self.renew(row);
     }
 
     // No fragment is awaited.
-    fn afresh(&mut self, alloc: Global) -> Result<String> {
+    fn renew(&mut self, row: &mut Row<'_>) {
         self.joined = Reassembler::new();
-        Ok(format!(in alloc; "begun")?)
+        row.say("begun");
     }
 
     // The next fragment, and what it is to the reassembler.
-    fn next(&mut self, alloc: Global) -> Result<String> {
+    fn next(&mut self, row: &mut Row<'_>) {
         let Some(fragment) = self.fragments.next() else {
-            return Ok(format!(in alloc; "none")?);
+            return row.say("none");
         };
-        let (number, offset, len) = (fragment.number, fragment.offset, fragment.bytes.len());
-        let last = fragment.last;
+        row.show(&fragment.number);
+        row.show(&fragment.offset);
+        row.show(&fragment.last);
+        row.show(&fragment.bytes.len());
         let came = match self.joined.take(&fragment) {
             Joined::More => "more",
             Joined::Whole(whole) if whole.as_slice() == self.packet.as_slice() => "the packet",
             Joined::Whole(_) => "another packet",
             Joined::Dropped => "dropped",
         };
-        Ok(format!(in alloc; "{number} {offset} {last} {len} {came}")?)
+        row.say(came);
     }
 
     // A fragment of 32 octets at most, and the length of the packet that it completes.
-    fn take(&mut self, alloc: Global, asked: &mut Words<'_>) -> Result<String> {
-        let head = head_in(asked)?;
-        let octets = asked.octets(alloc)?;
+    fn take(&mut self, row: &mut Row<'_>) {
+        let head = head_in(row);
+        let octets = row.octets();
         if octets.len() > 32 {
-            bail!("a fragment of more octets");
+            return row.fail();
         }
         let fragment = Fragment {
             last: head.last,
@@ -163,19 +150,19 @@ impl EoeBench {
             bytes: buffer_of(octets.bytes()),
         };
         match self.joined.take(&fragment) {
-            Joined::More => Ok(format!(in alloc; "more")?),
+            Joined::More => row.say("more"),
             Joined::Whole(packet) => {
-                let len = packet.len();
-                Ok(format!(in alloc; "whole {len}")?)
+                row.say("whole");
+                row.show(&packet.len());
             }
-            Joined::Dropped => Ok(format!(in alloc; "dropped")?),
+            Joined::Dropped => row.say("dropped"),
         }
     }
 
     // The same in place, and the length of the last packet that was completed so.
-    fn take_into(&mut self, alloc: Global, asked: &mut Words<'_>) -> Result<String> {
-        let head = head_in(asked)?;
-        let octets = asked.octets(alloc)?;
+    fn take_into(&mut self, row: &mut Row<'_>) {
+        let head = head_in(row);
+        let octets = row.octets();
         let fragment = FragmentView {
             last: head.last,
             stamped: head.stamped,
@@ -189,21 +176,21 @@ impl EoeBench {
             Came::Whole => "whole",
             Came::Dropped => "dropped",
         };
-        let len = self.whole.len();
-        Ok(format!(in alloc; "{came} {len}")?)
+        row.say(came);
+        row.show(&self.whole.len());
     }
 }
 
 impl Bench for EoeBench {
-    fn found(&mut self, alloc: Global, asked: &mut Words<'_>) -> Result<String> {
-        match asked.word()? {
-            "next" => self.next(alloc),
-            "first_block" => digits_of(alloc, first_block().as_slice()),
-            "afresh" => self.afresh(alloc),
-            "cut" => self.begin(alloc, asked.octets(alloc)?.bytes()),
-            "take" => self.take(alloc, asked),
-            "take_into" => self.take_into(alloc, asked),
-            call => found_in(alloc, call, asked.octets(alloc)?.bytes()),
+    fn carry(&mut self, row: &mut Row<'_>) {
+        match row.word() {
+            "next" => self.next(row),
+            "first_block" => row.digits(first_block().as_slice()),
+            "afresh" => self.renew(row),
+            "cut" => self.begin(row),
+            "take" => self.take(row),
+            "take_into" => self.take_into(row),
+            call => tell_message(row, call),
         }
     }
 }

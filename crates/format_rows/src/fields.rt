@@ -1,105 +1,84 @@
-use anyhow::{Result, bail};
 use ec_fields::{Octets, Rows, Transfer, bits, put_bits, put_u16, put_u32, u8_at, u16_at, u32_at};
-use row_table::{Bench, Words, digits_of};
-use std::alloc::Global;
+use row_table::{Bench, Row};
 
 /// Octets, rows and fields.
 #[derive(Drop)]
 pub struct FieldBench;
 
 // Octets with more behind them.
-fn grown(alloc: Global, first: &Octets, more: &Octets) -> Result<String> {
-    let mut octets = Octets::copy_of(alloc, first.bytes())?;
-    octets.add(more.bytes())?;
-    digits_of(alloc, octets.bytes())
+fn grow(row: &mut Row<'_>) {
+    let first = row.octets();
+    let more = row.octets();
+    let Ok(mut octets) = Octets::copy_of(row.alloc(), first.bytes()) else {
+        return row.fail();
+    };
+    row.check(octets.add(more.bytes()).is_ok());
+    row.digits(octets.bytes());
 }
 
 // Rows of two numbers, of which the second is changed, and what stands and is removed then.
-fn rows_of(alloc: Global, first: usize, second: usize, other: usize) -> Result<String> {
-    let mut rows = Rows::new(alloc);
+fn change(row: &mut Row<'_>) {
+    let (first, second, other) = (row.count(), row.count(), row.count());
+    let mut rows = Rows::new(row.alloc());
     if rows.push(first).is_err() || rows.push(second).is_err() {
-        bail!("no memory");
+        return row.fail();
     }
     *rows.at_mut(1) = other;
-    let (len, text) = (rows.len(), format!(in alloc; "{rows:?}")?);
-    let last = rows.pop();
-    Ok(format!(in alloc; "{len} {text} {last:?}")?)
+    row.show(&rows.len());
+    row.show(&rows);
+    row.show(&rows.pop());
+}
+
+// Whether a part fits a transfer, to which it is added then.
+fn add(row: &mut Row<'_>, transfer: &mut Transfer) -> bool {
+    let part = row.octets();
+    transfer.add(part.bytes())
 }
 
 // A transfer of three octets at most, to which three parts are added.
-fn transferred(alloc: Global, first: &Octets, second: &Octets, third: &Octets) -> Result<String> {
-    let mut transfer = Transfer::new(alloc, 3)?;
-    let fits = [
-        transfer.add(first.bytes()),
-        transfer.add(second.bytes()),
-        transfer.add(third.bytes()),
-    ];
-    let digits = digits_of(alloc, transfer.bytes())?;
-    Ok(format!(in alloc; "{fits:?} {digits}")?)
+fn add_three(row: &mut Row<'_>) {
+    let Ok(mut transfer) = Transfer::new(row.alloc(), 3) else {
+        return row.fail();
+    };
+    let first = add(row, &mut transfer);
+    let second = add(row, &mut transfer);
+    let third = add(row, &mut transfer);
+    row.show(&[first, second, third]);
+    row.digits(transfer.bytes());
 }
 
 // Eight octets with a number of two octets at place 1 and one of four at place 3, and what is read there.
-fn put(alloc: Global, word: u16, long: u32) -> Result<String> {
+fn put(row: &mut Row<'_>) {
+    let (word, long) = (row.short(), row.number());
     let mut octets = [0xEE; 8];
     put_u16(&mut octets, 1, word);
     put_u32(&mut octets, 3, long);
-    let digits = digits_of(alloc, &octets)?;
-    let read = (u8_at(&octets, 0), u16_at(&octets, 1), u32_at(&octets, 3));
-    Ok(format!(in alloc; "{digits} {read:?}")?)
+    row.digits(&octets);
+    row.show(&(u8_at(&octets, 0), u16_at(&octets, 1), u32_at(&octets, 3)));
 }
 
-// Bits of a word, and the word with others there.
-fn bits_in(alloc: Global, word: u16, at: u32, count: u32) -> Result<String> {
+// Bits of a word.
+fn tell_bits(row: &mut Row<'_>) {
+    let (word, at, count) = (row.short(), row.number(), row.number());
     if at > 15 || count < 1 || count > 15 || at + count > 16 {
-        bail!("no bits of a word");
+        return row.fail();
     }
-    let found = bits(word, at, count);
-    Ok(format!(in alloc; "{found}")?)
-}
-
-// What is asked of octets.
-fn grown_asked(alloc: Global, asked: &mut Words<'_>) -> Result<String> {
-    let first = asked.octets(alloc)?;
-    let more = asked.octets(alloc)?;
-    grown(alloc, &first, &more)
-}
-
-// What is asked of rows.
-fn rows_asked(alloc: Global, asked: &mut Words<'_>) -> Result<String> {
-    let (first, second) = (asked.count()?, asked.count()?);
-    rows_of(alloc, first, second, asked.count()?)
-}
-
-// What is asked of a transfer.
-fn transfer_asked(alloc: Global, asked: &mut Words<'_>) -> Result<String> {
-    let first = asked.octets(alloc)?;
-    let second = asked.octets(alloc)?;
-    let third = asked.octets(alloc)?;
-    transferred(alloc, &first, &second, &third)
-}
-
-// What is asked of bits.
-fn bits_asked(alloc: Global, asked: &mut Words<'_>) -> Result<String> {
-    let (word, at) = (asked.short()?, asked.number()?);
-    bits_in(alloc, word, at, asked.number()?)
-}
-
-// The word with 5 in three bits.
-fn bits_put(alloc: Global, word: u16) -> Result<String> {
-    let put = put_bits(word, 12, 3, 5);
-    Ok(format!(in alloc; "{put}")?)
+    row.show(&bits(word, at, count));
 }
 
 impl Bench for FieldBench {
-    fn found(&mut self, alloc: Global, asked: &mut Words<'_>) -> Result<String> {
-        match asked.word()? {
-            "octets" => grown_asked(alloc, asked),
-            "rows" => rows_asked(alloc, asked),
-            "transfer" => transfer_asked(alloc, asked),
-            "put" => put(alloc, asked.short()?, asked.number()?),
-            "bits" => bits_asked(alloc, asked),
-            "put_bits" => bits_put(alloc, asked.short()?),
-            call => bail!("no call: {call}"),
+    fn carry(&mut self, row: &mut Row<'_>) {
+        match row.word() {
+            "octets" => grow(row),
+            "rows" => change(row),
+            "transfer" => add_three(row),
+            "put" => put(row),
+            "bits" => tell_bits(row),
+            "put_bits" => {
+                let word = row.short();
+                row.show(&put_bits(word, 12, 3, 5));
+            }
+            _ => row.fail(),
         }
     }
 }

@@ -1,9 +1,7 @@
 ghost use Rattle.std.specs.Prelude.{◌≡◌, ◌∷◌, []};
 
-use anyhow::{Result, bail};
 use datagrams::{Body, Command, FrameBuf, Head, add, add_with, begin, fault, finish, read};
-use row_table::{Bench, Words, digits_of};
-use std::alloc::Global;
+use row_table::{Bench, Row};
 
 /// Frames: the fault of octets, and a frame that is built datagram by datagram.
 #[derive(Drop)]
@@ -39,31 +37,30 @@ fn request_head(station: u16) -> Head
 }
 
 // The frame that writes the repeat request of two slaves.
-fn requests(alloc: Global, first: u16, second: u16) -> Result<String> {
+fn requests(row: &mut Row<'_>) {
+    let (first, second) = (row.short(), row.short());
     let mut frame = FrameBuf::new();
     begin(&mut frame);
     add(&mut frame, &request_head(first), &[3]);
     add_with(&mut frame, &request_head(second), &Control(3));
     finish(&mut frame);
-    digits_of(alloc, frame.as_slice())
+    row.digits(frame.as_slice());
 }
 
 // The fault of octets, by both calls.
-fn fault_of(alloc: Global, octets: &[u8]) -> Result<String> {
-    let told = read(octets).err();
-    let walked = fault(octets);
-    if told != walked {
-        return Ok(format!(in alloc; "{told:?} and also {walked:?}")?);
-    }
-    Ok(format!(in alloc; "{told:?}")?)
+fn tell_fault(row: &mut Row<'_>) {
+    let octets = row.octets();
+    let told = read(octets.bytes()).err();
+    row.check(told == fault(octets.bytes()));
+    row.show(&told);
 }
 
 impl Bench for FrameBench {
-    fn found(&mut self, alloc: Global, asked: &mut Words<'_>) -> Result<String> {
-        match asked.word()? {
-            "requests" => requests(alloc, asked.short()?, asked.short()?),
-            "fault" => fault_of(alloc, asked.octets(alloc)?.bytes()),
-            call => bail!("no call: {call}"),
+    fn carry(&mut self, row: &mut Row<'_>) {
+        match row.word() {
+            "requests" => requests(row),
+            "fault" => tell_fault(row),
+            _ => row.fail(),
         }
     }
 }

@@ -1,17 +1,17 @@
-use anyhow::{Result, bail};
-use ec_fields::{Octets, buffer_of};
+use ec_fields::buffer_of;
 use mailbox_mail::{Kind, Mail, error_mail, next_counter, read, read_into, write, write_head};
-use row_table::{Bench, Words, digits_of};
-use std::alloc::Global;
+use row_table::{Bench, Row};
 
 /// Mails in areas of octets.
 #[derive(Drop)]
 pub struct MailBench;
 
-// An area of 64 octets with a mail of CoE.
-fn written(alloc: Global, counter: u8, body: &Octets) -> Result<String> {
+// An area of 64 octets with a mail of CoE. Where the head alone is written, its body stands in its place before.
+fn tell_written(row: &mut Row<'_>, heads: bool) {
+    let counter = row.small();
+    let body = row.octets();
     if counter > 7 || body.len() > 58 {
-        bail!("no mail");
+        return row.fail();
     }
     let mail = Mail {
         address: 0,
@@ -20,74 +20,50 @@ fn written(alloc: Global, counter: u8, body: &Octets) -> Result<String> {
         body: buffer_of(body.bytes()),
     };
     let mut area = [0xEE; 64];
-    write(&mail, &mut area);
-    digits_of(alloc, &area)
-}
-
-// The same area, where the body stands in its place and the head alone is written.
-fn headed(alloc: Global, counter: u8, body: &Octets) -> Result<String> {
-    if counter > 7 || body.len() > 58 {
-        bail!("no mail");
+    if heads {
+        area[6..6 + body.len()].copy_from_slice(body.bytes());
+        write_head(mail.head(), body.len(), &mut area);
+    } else {
+        write(&mail, &mut area);
     }
-    let mail = Mail {
-        address: 0,
-        kind: Kind::CoE,
-        counter,
-        body: buffer_of(body.bytes()),
-    };
-    let mut area = [0xEE; 64];
-    area[6..6 + body.len()].copy_from_slice(body.bytes());
-    write_head(mail.head(), body.len(), &mut area);
-    digits_of(alloc, &area)
+    row.digits(&area);
 }
 
 // A mailbox error.
-fn refused(alloc: Global, detail: u16) -> Result<String> {
+fn tell_error(row: &mut Row<'_>) {
     let mut area = [0; 10];
-    write(&error_mail(detail), &mut area);
-    digits_of(alloc, &area)
+    write(&error_mail(row.short()), &mut area);
+    row.digits(&area);
 }
 
 // The counter behind one.
-fn counted(alloc: Global, counter: u8) -> Result<String> {
+fn tell_next(row: &mut Row<'_>) {
+    let counter = row.small();
     if counter > 7 {
-        bail!("no counter");
+        return row.fail();
     }
-    let next = next_counter(counter);
-    Ok(format!(in alloc; "{next}")?)
+    row.show(&next_counter(counter));
 }
 
 // What an area reads as, at once and in place of another mail.
-fn read_twice(alloc: Global, area: &[u8]) -> Result<String> {
-    let mail = read(area);
+fn tell_mail(row: &mut Row<'_>) {
+    let area = row.octets();
+    let mail = read(area.bytes());
     let mut kept = Ok(error_mail(1));
-    read_into(area, &mut kept);
-    if kept != mail {
-        return Ok(format!(in alloc; "{mail:?} and in its place {kept:?}")?);
-    }
-    Ok(format!(in alloc; "{mail:?}")?)
-}
-
-// A mail by its counter and body, whose head alone is written or all of it.
-fn write_asked(alloc: Global, asked: &mut Words<'_>, heads: bool) -> Result<String> {
-    let counter = asked.small()?;
-    let body = asked.octets(alloc)?;
-    if heads {
-        headed(alloc, counter, &body)
-    } else {
-        written(alloc, counter, &body)
-    }
+    read_into(area.bytes(), &mut kept);
+    row.check(kept == mail);
+    row.show(&mail);
 }
 
 impl Bench for MailBench {
-    fn found(&mut self, alloc: Global, asked: &mut Words<'_>) -> Result<String> {
-        match asked.word()? {
-            "read" => read_twice(alloc, asked.octets(alloc)?.bytes()),
-            "write" => write_asked(alloc, asked, false),
-            "head" => write_asked(alloc, asked, true),
-            "next" => counted(alloc, asked.small()?),
-            "error" => refused(alloc, asked.short()?),
-            call => bail!("no call: {call}"),
+    fn carry(&mut self, row: &mut Row<'_>) {
+        match row.word() {
+            "read" => tell_mail(row),
+            "write" => tell_written(row, false),
+            "head" => tell_written(row, true),
+            "next" => tell_next(row),
+            "error" => tell_error(row),
+            _ => row.fail(),
         }
     }
 }

@@ -1,4 +1,4 @@
-//! The formats against octets from outside: the codecs, the switch and the adapters, by tables of rows in files of their names.
+//! The formats against octets from outside: the codecs, the text of captures, the switch and the adapters, by tables of rows in files of their names.
 #![tactic(auto)]
 
 mod captures;
@@ -12,6 +12,7 @@ mod mails;
 mod outside;
 mod soe;
 mod switch;
+mod views;
 
 use anyhow::Result;
 use captures::CaptureBench;
@@ -27,44 +28,8 @@ use outside::OutsideBench;
 use row_table::tell;
 use soe::SoeBench;
 use std::fs;
-use std::rt::Files;
 use switch::SwitchBench;
-
-// The tables of fields and mails, and of the mailbox protocols' messages.
-fn tell_messages<R: AllocGlobal + Files + Print>(rt: &R) -> Result<()> {
-    tell(rt, "fields", &mut FieldBench)?;
-    tell(rt, "mails", &mut MailBench)?;
-    tell(rt, "coe", &mut CoeBench)?;
-    tell(rt, "foe", &mut FoeBench)?;
-    tell(rt, "soe", &mut SoeBench)
-}
-
-// The tables of Ethernet's formats.
-fn tell_packets<R: AllocGlobal + Files + Print>(rt: &R) -> Result<()> {
-    tell(rt, "eoe", &mut EoeBench::new())?;
-    tell(rt, "frames", &mut FrameBench)?;
-    tell(rt, "captures", &mut CaptureBench::new(rt.alloc()))
-}
-
-// The table of the switch.
-fn tell_switch<R: AllocGlobal + Files + Print>(rt: &R) -> Result<()> {
-    let mut bench = SwitchBench::new(rt.alloc())?;
-    tell(rt, "switch", &mut bench)
-}
-
-// The table of files and sinks in memory.
-fn tell_outside<R: AllocGlobal + Files + Print>(rt: &R) -> Result<()> {
-    let mut bench = OutsideBench::new(rt.alloc())?;
-    tell(rt, "outside", &mut bench)
-}
-
-// The table of files on the disk, of which the one that is saved is removed behind it.
-fn tell_disk<R: AllocGlobal + Files + Print>(rt: &R) -> Result<()> {
-    let mut bench = DiskBench::new(rt.alloc(), DiskFiles::new(rt))?;
-    tell(rt, "disk", &mut bench)?;
-    fs::remove_file(rt, "kept.bin")?;
-    Ok(())
-}
+use views::ViewBench;
 
 // A line by the sink of the standard output.
 fn tell_sink<R: Print>(rt: &R) -> Result<()> {
@@ -75,10 +40,19 @@ fn tell_sink<R: Print>(rt: &R) -> Result<()> {
 }
 
 fn main(rt: HostRuntime) -> Result<()> {
-    tell_messages(&rt)?;
-    tell_packets(&rt)?;
-    tell_switch(&rt)?;
-    tell_outside(&rt)?;
-    tell_disk(&rt)?;
+    tell(&rt, "fields", Some(FieldBench))?;
+    tell(&rt, "mails", Some(MailBench))?;
+    tell(&rt, "coe", Some(CoeBench))?;
+    tell(&rt, "foe", Some(FoeBench))?;
+    tell(&rt, "soe", Some(SoeBench))?;
+    tell(&rt, "eoe", Some(EoeBench::new()))?;
+    tell(&rt, "frames", Some(FrameBench))?;
+    tell(&rt, "captures", Some(CaptureBench::new(rt.alloc())))?;
+    tell(&rt, "views", Some(ViewBench))?;
+    tell(&rt, "switch", SwitchBench::new(rt.alloc()).ok())?;
+    tell(&rt, "outside", OutsideBench::new(rt.alloc()).ok())?;
+    let disk = DiskBench::new(rt.alloc(), DiskFiles::new(&rt));
+    tell(&rt, "disk", disk.ok())?;
+    fs::remove_file(&rt, "kept.bin")?;
     tell_sink(&rt)
 }

@@ -1,8 +1,7 @@
 use crate::disk::DiskBench;
-use anyhow::{Result, bail};
-use ec_fields::Rows;
+use ec_fields::{NoMemory, Rows};
 use ec_outside::{MemFiles, MemSink, Sink, SureSink};
-use row_table::{Bench, Words, digits_of};
+use row_table::{Bench, Row};
 use std::alloc::Global;
 
 /// Files and sinks in memory.
@@ -14,17 +13,27 @@ pub struct OutsideBench {
 }
 
 // Numbers of calls, between commas.
-fn numbers(alloc: Global, text: &str) -> Result<Rows<u64>> {
-    let mut rows = Rows::new(alloc);
+fn numbers(row: &mut Row<'_>) -> Rows<u64> {
+    let text = row.word();
+    let mut rows = Rows::new(row.alloc());
     for number in text.split(',') {
-        rows.add(number.parse()?)?;
+        match number.parse::<u64>() {
+            Ok(number) => row.check(rows.add(number).is_ok()),
+            Err(_) => row.fail(),
+        }
     }
-    Ok(rows)
+    rows
+}
+
+// Whether a sink takes octets.
+fn put<S: Sink>(row: &mut Row<'_>, sink: &mut S) {
+    let octets = row.octets();
+    row.show(&sink.put(octets.bytes()));
 }
 
 impl OutsideBench {
     /// No file and no octets, and no call fails.
-    pub fn new(alloc: Global) -> Result<OutsideBench> {
+    pub fn new(alloc: Global) -> Result<OutsideBench, NoMemory> {
         Ok(OutsideBench {
             disk: DiskBench::new(alloc, MemFiles::new(alloc, Rows::new(alloc)))?,
             sink: MemSink::new(alloc, Rows::new(alloc)),
@@ -33,58 +42,61 @@ impl OutsideBench {
     }
 
     // A file as it stands.
-    fn file(&self, alloc: Global, name: &str) -> Result<String> {
+    fn tell_file(&self, row: &mut Row<'_>) {
+        let name = row.word();
         match self.disk.files.get(name) {
-            Some(octets) => digits_of(alloc, octets),
-            None => Ok(format!(in alloc; "none")?),
+            Some(octets) => row.digits(octets),
+            None => row.say("none"),
         }
     }
 
     // Files of which these calls fail.
-    fn set_files(&mut self, alloc: Global, text: &str) -> Result<String> {
-        let files = MemFiles::new(alloc, numbers(alloc, text)?);
-        self.disk = DiskBench::new(alloc, files)?;
-        Ok(format!(in alloc; "new")?)
+    fn set_files(&mut self, row: &mut Row<'_>) {
+        let numbers = numbers(row);
+        match DiskBench::new(row.alloc(), MemFiles::new(row.alloc(), numbers)) {
+            Ok(disk) => {
+                self.disk = disk;
+                row.say("new");
+            }
+            Err(_) => row.fail(),
+        }
     }
 
     // A sink of which these calls fail.
-    fn set_sink(&mut self, alloc: Global, text: &str) -> Result<String> {
-        self.sink = MemSink::new(alloc, numbers(alloc, text)?);
-        Ok(format!(in alloc; "new")?)
+    fn set_sink(&mut self, row: &mut Row<'_>) {
+        let numbers = numbers(row);
+        self.sink = MemSink::new(row.alloc(), numbers);
+        row.say("new");
     }
 
     // One more file.
-    fn add(&mut self, alloc: Global, name: &str, bytes: &[u8]) -> Result<String> {
-        self.disk.files.add(name, bytes)?;
-        Ok(format!(in alloc; "added")?)
+    fn add(&mut self, row: &mut Row<'_>) {
+        let name = row.word();
+        let octets = row.octets();
+        row.check(self.disk.files.add(name, octets.bytes()).is_ok());
+        row.say("added");
     }
 
-    // What is found for a call of the sinks.
-    fn called(&mut self, alloc: Global, call: &str, asked: &mut Words<'_>) -> Result<String> {
+    // Carries out a call of the sinks, or of the files.
+    fn call(&mut self, row: &mut Row<'_>, call: &str) {
         match call {
-            "sink" => self.set_sink(alloc, asked.word()?),
-            "put" => put(alloc, &mut self.sink, asked.octets(alloc)?.bytes()),
-            "put_surely" => put(alloc, &mut self.sure, asked.octets(alloc)?.bytes()),
-            "written" => digits_of(alloc, self.sink.bytes()),
-            "surely_written" => digits_of(alloc, self.sure.bytes()),
-            _ => self.disk.called(alloc, call, asked),
+            "sink" => self.set_sink(row),
+            "put" => put(row, &mut self.sink),
+            "put_surely" => put(row, &mut self.sure),
+            "written" => row.digits(self.sink.bytes()),
+            "surely_written" => row.digits(self.sure.bytes()),
+            _ => self.disk.call(row, call),
         }
     }
 }
 
-// Whether a sink takes octets.
-fn put<S: Sink>(alloc: Global, sink: &mut S, bytes: &[u8]) -> Result<String> {
-    let put = sink.put(bytes);
-    Ok(format!(in alloc; "{put:?}")?)
-}
-
 impl Bench for OutsideBench {
-    fn found(&mut self, alloc: Global, asked: &mut Words<'_>) -> Result<String> {
-        match asked.word()? {
-            "files" => self.set_files(alloc, asked.word()?),
-            "get" => self.file(alloc, asked.word()?),
-            "add" => self.add(alloc, asked.word()?, asked.octets(alloc)?.bytes()),
-            call => self.called(alloc, call, asked),
+    fn carry(&mut self, row: &mut Row<'_>) {
+        match row.word() {
+            "files" => self.set_files(row),
+            "get" => self.tell_file(row),
+            "add" => self.add(row),
+            call => self.call(row, call),
         }
     }
 }

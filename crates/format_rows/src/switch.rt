@@ -1,10 +1,7 @@
-ghost use Rattle.std.specs.Prelude.{◌≤◌, length, IfOk};
-
-use anyhow::{Result, bail};
-use ec_fields::buffer_of;
+use ec_fields::{NoMemory, buffer_of};
 use eoe::Packet;
 use eoe_switch::Switch;
-use row_table::{Bench, Words, digits_of};
+use row_table::{Bench, Row};
 use std::alloc::Global;
 use std::marker::Model;
 
@@ -26,82 +23,77 @@ impl Model for SwitchBench {
     ghost invariant = { λ b. length b.switch.ports ≡ b.ports };
 }
 
-// A packet of at least 14 octets.
-fn packet_in(alloc: Global, asked: &mut Words<'_>) -> Result<Packet>
-    ensures { IfOk result (λ packet. 14 ≤ length packet.items) }
-{
-    let octets = asked.octets(alloc)?;
-    if octets.len() < 14 || octets.len() > 1514 {
-        bail!("no packet");
-    }
-    Ok(buffer_of(octets.bytes()))
-}
-
 impl SwitchBench {
     /// A switch with one port.
-    pub fn new(alloc: Global) -> Result<SwitchBench> {
+    pub fn new(alloc: Global) -> Result<SwitchBench, NoMemory> {
         let switch = Switch::new(alloc, 1)?;
         Ok(SwitchBench { switch, ports: 1 })
     }
 
     // A new switch with so many ports.
-    fn begin(&mut self, alloc: Global, ports: u32) -> Result<String> {
+    fn renew(&mut self, row: &mut Row<'_>) {
+        let ports = row.number();
         if ports < 1 || ports > 17 {
-            bail!("no such switch");
+            return row.fail();
         }
-        let switch = Switch::new(alloc, ports)?;
+        let Ok(switch) = Switch::new(row.alloc(), ports) else {
+            return row.fail();
+        };
         *self = SwitchBench { switch, ports };
-        Ok(format!(in alloc; "new")?)
+        row.say("new");
     }
 
     // The ports that take a packet and those that drop it, as sums of powers of two.
-    fn arrive(&mut self, alloc: Global, asked: &mut Words<'_>) -> Result<String> {
-        let port = asked.number()?;
-        let packet = packet_in(alloc, asked)?;
-        if port >= self.ports {
-            bail!("no such port");
+    fn arrive(&mut self, row: &mut Row<'_>) {
+        let port = row.number();
+        let octets = row.octets();
+        if octets.len() < 14 || octets.len() > 1514 || port >= self.ports {
+            return row.fail();
         }
+        let packet: Packet = buffer_of(octets.bytes());
         let (taken, dropped) = self.switch.arrive(port, &packet);
-        let (taken, dropped) = (taken.bits, dropped.bits);
-        Ok(format!(in alloc; "{taken} {dropped}")?)
+        row.show(&taken.bits);
+        row.show(&dropped.bits);
     }
 
     // A port goes down.
-    fn down(&mut self, alloc: Global, port: u32) -> Result<String> {
+    fn down(&mut self, row: &mut Row<'_>) {
+        let port = row.number();
         if port >= self.ports {
-            bail!("no such port");
+            return row.fail();
         }
         self.switch.down(port);
-        Ok(format!(in alloc; "down")?)
+        row.say("down");
     }
 
     // The oldest packet at a port is begun.
-    fn begun(&mut self, alloc: Global, port: u32) -> Result<String> {
+    fn begin(&mut self, row: &mut Row<'_>) {
+        let port = row.number();
         if port >= self.ports {
-            bail!("no such port");
+            return row.fail();
         }
         match self.switch.begun(port) {
-            Some(packet) => digits_of(alloc, packet.as_slice()),
-            None => Ok(format!(in alloc; "none")?),
+            Some(packet) => row.digits(packet.as_slice()),
+            None => row.say("none"),
         }
     }
 
     // How many packets wait at a port.
-    fn waiting(&self, alloc: Global, port: u32) -> Result<String> {
-        let waiting = self.switch.waiting(port);
-        Ok(format!(in alloc; "{waiting}")?)
+    fn tell_waiting(&self, row: &mut Row<'_>) {
+        let port = row.number();
+        row.show(&self.switch.waiting(port));
     }
 }
 
 impl Bench for SwitchBench {
-    fn found(&mut self, alloc: Global, asked: &mut Words<'_>) -> Result<String> {
-        match asked.word()? {
-            "new" => self.begin(alloc, asked.number()?),
-            "arrive" => self.arrive(alloc, asked),
-            "down" => self.down(alloc, asked.number()?),
-            "begun" => self.begun(alloc, asked.number()?),
-            "waiting" => self.waiting(alloc, asked.number()?),
-            call => bail!("no call: {call}"),
+    fn carry(&mut self, row: &mut Row<'_>) {
+        match row.word() {
+            "new" => self.renew(row),
+            "arrive" => self.arrive(row),
+            "down" => self.down(row),
+            "begun" => self.begin(row),
+            "waiting" => self.tell_waiting(row),
+            _ => row.fail(),
         }
     }
 }

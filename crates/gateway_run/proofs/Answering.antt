@@ -3,8 +3,8 @@ use Rattle.std.proofs.Common.{◌≡◌, ◌<◌, ◌≤◌, ℕ, zero, suc, Som
 use Rattle.std.specs.Prelude.{replicate, All}
 use Rattle.std.proofs.lemmas.List.{length-map, map-append}
 use Rattle.std.proofs.lemmas.List.Elements.{All-nil, All-cons, All-head, All-tail}
-use Rattle.kept_rows.specs.Rows.{ToldAll, passed_rows}
-use Rattle.kept_rows.specs.of_served_runs.Served.{IsServedLed, Keyed, Serves, all_serve, asked_at, new_serves}
+use Rattle.served_places.specs.Rows.{ToldAll, passed_rows}
+use Rattle.served_places.specs.of_served_runs.Served.{IsServedLed, Keyed, Serves, all_serve, asked_at, new_serves}
 use Rattle.master_node.specs.of_life_frames.Shares.{AllBoth}
 use Rattle.master_node.specs.of_life_runs.First.{first_leads, leads_from, lens_of}
 use Rattle.master_node.specs.of_life_runs.Led.{Exchanged, Leads}
@@ -116,9 +116,9 @@ first_answers plan count s first serving =
 -- ALL ALONG
 pub course_answers : (plan : Scenario) (count : ℕ) → IsPlan plan → (s : SessionState) (fs : List SentFrame) (gs : List GramIn) (rs : List Request) (os : List Owing) (c : Course plan count s fs gs rs os) → Answers plan s (map exchanged fs) gs rs os (dones_of plan count s fs gs rs os c)
 course_answers plan count is _ _ _ _ _ (begins s first serves) = first_answers plan count s first serves
-course_answers plan count is _ _ _ _ _ (hears s s' fs gs g rs rs' os more c at judges) =
+course_answers plan count is _ _ _ _ _ (hears s s' fs gs g rs rs' os more c at few judges) =
     let l = course_led plan count is s fs gs rs os c in
-    answers_heard plan s s' (map exchanged fs) gs g rs os (dones_of plan count s fs gs rs os c) (course_answers plan count is s fs gs rs os c) (let many = length-map fs exchanged in omega (arith, at, many)) is l.homes rs' more judges
+    answers_heard plan s s' (map exchanged fs) gs g rs os (dones_of plan count s fs gs rs os c) (course_answers plan count is s fs gs rs os c) (let many = length-map fs exchanged in omega (arith, at, many)) is l.homes few rs' more judges
 course_answers plan count is _ _ _ _ _ (steps s s' fs f gs rs os c m) =
     let l = course_led plan count is s fs gs rs os c in
     let old = course_answers plan count is s fs gs rs os c in

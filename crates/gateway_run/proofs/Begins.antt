@@ -4,10 +4,10 @@ use Rattle.std.specs.Prelude.{◌==◌, if◌then◌else◌, not, slice_get, All
 use Rattle.std.proofs.lemmas.List.Elements.{All-head, filter_passes}
 use Rattle.master_node.specs.of_life_frames.of_exchange_model.Rows.{begun}
 use Rattle.gateway_core.specs.Framing.{request_in}
-use Rattle.kept_rows.specs.Rows.{Stays, passed_rows, row_begun}
-use Rattle.kept_rows.proofs.Next.{next_free, next_passing, next_stays}
-use Rattle.kept_rows.specs.of_served_runs.Served.{Keyed, Serves, ServedComes, ServedTurn, IsServedTurn}
-use Rattle.kept_rows.specs.of_served_runs.Told.{Passed}
+use Rattle.served_places.specs.Rows.{Stays, passed_rows, row_begun}
+use Rattle.served_places.proofs.Next.{next_free, next_passing, next_stays}
+use Rattle.served_places.specs.of_served_runs.Served.{Keyed, Serves, ServedComes, ServedTurn, IsServedTurn}
+use Rattle.served_places.specs.of_served_runs.Told.{Passed}
 use Rattle.mailbox_mail.specs.declared.mail.Mail.{Mail}
 use Rattle.master_node.proofs.Handeds.{comes_own}
 use Rattle.master_node.specs.Begins.{is_other}

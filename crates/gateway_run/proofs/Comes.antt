@@ -5,9 +5,9 @@ use Rattle.std.proofs.lemmas.List.Elements.{All-head, All-tail, All-push}
 use Rattle.master_node.specs.of_life_frames.of_exchange_model.Exchange.{plain}
 use Rattle.master_node.specs.of_life_frames.of_exchange_model.Rows.{Row, begun}
 use Rattle.gateway_core.specs.Framing.{request_in}
-use Rattle.kept_rows.specs.Rows.{Stays, passed_rows}
-use Rattle.kept_rows.specs.of_served_runs.Served.{Keyed, Serves}
-use Rattle.kept_rows.specs.of_served_runs.Told.{Passed}
+use Rattle.served_places.specs.Rows.{Stays, passed_rows}
+use Rattle.served_places.specs.of_served_runs.Served.{Keyed, Serves}
+use Rattle.served_places.specs.of_served_runs.Told.{Passed}
 use Rattle.mailbox_mail.specs.declared.mail.Mail.{Mail}
 use Rattle.master_node.specs.of_life_frames.Shares.{AllBoth}
 use Rattle.master_node.specs.of_life_runs.of_link_mails.Body.{Body}

@@ -14,19 +14,24 @@ use Rattle.run_book.specs.declared.book.Ending.{Ending}
 use Rattle.run_book.specs.declared.book.Ending.TheVariants as endings
 use Rattle.run_book.specs.declared.book.GramIn.{GramIn}
 use Rattle.run_book.specs.declared.book.GramOut.{GramOut}
-use Rattle.run_record.specs.Served.{ServingBegins}
+use Rattle.run_record.specs.Led.{exchanged}
+use Rattle.run_record.specs.Served.{ServingBegins, ServingRests}
 use Rattle.run_record.specs.Session.{first_session, session_rows}
 use Rattle.run_record.specs.of_run_notes.Slaves.{home_of}
 use Rattle.run_record.specs.Ran.{HasSent, EndsSo, StopsSo, StopsAs}
 use Rattle.gateway_run.proofs.Room.{small_budget}
 use Rattle.run_record.proofs.Underway.{begun, has_frames, ended}
+use Rattle.gateway_run.specs.Done.{LeavesNone}
 use Rattle.gateway_run.specs.Heard.{heard_as, AreHeard, AreSent, AreSentBut, IsOwed, IsRightly}
 use Rattle.gateway_run.specs.Account.{Course, Course.begins}
 use Rattle.gateway_run.specs.Desk.{HasNone, IsOpen, AreApart}
+use Rattle.gateway_run.specs.Replies.{Answers, dones_of}
 use Rattle.gateway_run.specs.Serving.{Told, IsOn, IsServing, IsFaulted, Goes, can_hear}
 use Rattle.gateway_run.specs.Served.{HasGrams, HasAccount, IsBroken, IsServed}
 use Rattle.gateway_run.specs.declared.turn.Serving.{Serving}
 use Rattle.gateway_run.proofs.Answering.{course_answers}
+use Rattle.gateway_run.proofs.Dones.{all_done, none_unfinished}
+use Rattle.gateway_run.proofs.Strays.{course_falls, course_strays}
 use Rattle.gateway_run.proofs.Turns.{heard_none, sent_none, course_same, spelled_same}
 
 -- before the first turn
@@ -67,6 +72,15 @@ over_so : (heard count : ℕ) (over over' : Bool) → (over ≡ true → over' �
 over_so heard count over over' told (inl all) = inl all
 over_so heard count over over' told (inr is) = inr (told is)
 
+-- a serving whose port failed or whose budget was spent may leave something
+leaves_some : LeavesNone endings.PortFault → ⊥
+leaves_some (inl e) = cc
+leaves_some (inr e) = cc
+
+spent_some : LeavesNone endings.BudgetSpent → ⊥
+spent_some (inl e) = cc
+spent_some (inr e) = cc
+
 module _ (plan : Scenario) (count : ℕ) (first now : Told) (v : Serving) (b b' : Book) (some : 0 < count) (on : IsOn plan count v b) (heard : AreHeard first.heard now.heard b.grams)
     (frames : b'.frames ≡ b.frames) (switch : b'.switch ≡ b.switch) (grams : b'.grams ≡ b.grams) (replies : b'.replies ≡ b.replies) (serving : b'.serving ≡ v.session.serving) (many : length v.session.notes ≡ length v.session.ring.nodes) where
   pub sent_frames : HasSent plan count b'
@@ -84,51 +98,58 @@ module _ (plan : Scenario) (count : ℕ) (first now : Told) (v : Serving) (b b' 
   stops_as : (ending : Ending) → b'.slaves ≡ session_rows v.session → StopsSo v.session ending → StopsAs plan count b' ending
   stops_as ending rows so = ended plan count v.session b b' on.underway frames rows many ending so
 
-  has_account : (ending : Ending) → b'.slaves ≡ session_rows v.session → (ending ≢ endings.PortFault → v.desk.outbox.items ≡ []) → HasAccount plan count b' ending
-  has_account ending rows all = record {
+  has_account : (ending : Ending) → b'.slaves ≡ session_rows v.session → (ending ≢ endings.PortFault → v.desk.outbox.items ≡ []) → (LeavesNone ending → ServingRests v.session) → HasAccount plan count b' ending
+  has_account ending rows all rests = record {
     session = v.session;
     requests = v.desk.requests.items;
     owed = on.owed;
     later = v.desk.outbox.items;
     course = course';
     spelled = spelled_same (map heard_as b.grams) (map heard_as b'.grams) on.owed (b.replies ++ v.desk.outbox.items) (b'.replies ++ v.desk.outbox.items) (ap (map heard_as) grams) (ap (λ (l : List GramOut). l ++ v.desk.outbox.items) replies) on.spelled;
-    answers = course_answers plan count on.is_plan v.session b'.frames b'.grams v.desk.requests.items on.owed course';
+    answers = answers';
+    none = λ none. none_unfinished plan count v b on (rests none);
+    done = λ none. all_done plan v.session (map exchanged b'.frames) b'.grams v.desk.requests.items on.owed (dones_of plan count v.session b'.frames b'.grams v.desk.requests.items on.owed course') answers' (none_unfinished plan count v b on (rests none));
     rows = rows;
+    steady = course_falls plan count on.is_plan v.session b'.frames b'.grams v.desk.requests.items on.owed course';
+    stray = course_strays plan count on.is_plan v.session b'.frames b'.grams v.desk.requests.items on.owed course' b'.slaves rows;
     all = all;
   }
     where
       course' : Course plan count v.session b'.frames b'.grams v.desk.requests.items on.owed
       course' = course_same plan count v.session v.session b.frames b'.frames b.grams b'.grams v.desk.requests.items v.desk.requests.items on.owed refl frames grams refl on.course
 
+      answers' : Answers plan v.session (map exchanged b'.frames) b'.grams v.desk.requests.items on.owed (dones_of plan count v.session b'.frames b'.grams v.desk.requests.items on.owed course')
+      answers' = course_answers plan count on.is_plan v.session b'.frames b'.grams v.desk.requests.items on.owed course'
+
   -- a serving whose port failed
   faulted_so : (result : Ending) → (result ≢ endings.NoMemory → b'.slaves ≡ session_rows v.session) → (result ≡ endings.PortFault) ⊎ (result ≡ endings.NoMemory) → IsBroken first now b' → IsServed plan count first now b' result
   faulted_so result rows (inl is) broken =
       let apart : result ≢ endings.NoMemory = λ e. absurd (cc) in
-      subst (IsServed plan count first now b') (sym is) (stops_as endings.PortFault (rows apart) tt, has_grams, broken, has_account endings.PortFault (rows apart) (λ other. absurd (other refl)))
+      subst (IsServed plan count first now b') (sym is) (stops_as endings.PortFault (rows apart) tt, has_grams, broken, has_account endings.PortFault (rows apart) (λ other. absurd (other refl)) (λ none. absurd (leaves_some none)))
   faulted_so result rows (inr is) broken = subst (IsServed plan count first now b') (sym is) tt
 
   -- a serving that came to its end
   through_so : (ending result : Ending) → (result ≢ endings.NoMemory → b'.slaves ≡ session_rows v.session) → (result ≡ ending) ⊎ (result ≡ endings.NoMemory) → EndsSo v.session ending → (ending ≢ endings.BudgetSpent → (length b'.grams ≡ count) ⊎ (now.over ≡ true)) →
-      v.desk.outbox.items ≡ [] → AreSent first.sent now.sent b'.replies → IsServed plan count first now b' result
-  through_so ending result rows (inr is) so over empty sent = subst (IsServed plan count first now b') (sym is) tt
-  through_so endings.Done result rows (inl is) so over empty sent =
+      (ending ≢ endings.BudgetSpent → ServingRests v.session) → v.desk.outbox.items ≡ [] → AreSent first.sent now.sent b'.replies → IsServed plan count first now b' result
+  through_so ending result rows (inr is) so over rests empty sent = subst (IsServed plan count first now b') (sym is) tt
+  through_so endings.Done result rows (inl is) so over rests empty sent =
       let apart : result ≢ endings.NoMemory = λ e. absurd (cc) in
-      subst (IsServed plan count first now b') (sym is) (stops_as endings.Done (rows apart) so, has_grams, record { over = over (λ e. absurd (cc)); sent = sent }, has_account endings.Done (rows apart) (λ other. empty))
-  through_so endings.GivenUp result rows (inl is) so over empty sent =
+      subst (IsServed plan count first now b') (sym is) (stops_as endings.Done (rows apart) so, has_grams, record { over = over (λ e. absurd (cc)); sent = sent }, has_account endings.Done (rows apart) (λ other. empty) (λ none. rests (λ e. absurd (cc))))
+  through_so endings.GivenUp result rows (inl is) so over rests empty sent =
       let apart : result ≢ endings.NoMemory = λ e. absurd (cc) in
-      subst (IsServed plan count first now b') (sym is) (stops_as endings.GivenUp (rows apart) so, has_grams, record { over = over (λ e. absurd (cc)); sent = sent }, has_account endings.GivenUp (rows apart) (λ other. empty))
-  through_so endings.BudgetSpent result rows (inl is) so over empty sent =
+      subst (IsServed plan count first now b') (sym is) (stops_as endings.GivenUp (rows apart) so, has_grams, record { over = over (λ e. absurd (cc)); sent = sent }, has_account endings.GivenUp (rows apart) (λ other. empty) (λ none. rests (λ e. absurd (cc))))
+  through_so endings.BudgetSpent result rows (inl is) so over rests empty sent =
       let apart : result ≢ endings.NoMemory = λ e. absurd (cc) in
-      subst (IsServed plan count first now b') (sym is) (stops_as endings.BudgetSpent (rows apart) so, has_grams, sent, has_account endings.BudgetSpent (rows apart) (λ other. empty))
-  through_so endings.PortFault result rows (inl is) so over empty sent = absurd so
-  through_so endings.NoMemory result rows (inl is) so over empty sent = absurd so
-  through_so endings.Unfinished result rows (inl is) so over empty sent = absurd so
+      subst (IsServed plan count first now b') (sym is) (stops_as endings.BudgetSpent (rows apart) so, has_grams, sent, has_account endings.BudgetSpent (rows apart) (λ other. empty) (λ none. absurd (spent_some none)))
+  through_so endings.PortFault result rows (inl is) so over rests empty sent = absurd so
+  through_so endings.NoMemory result rows (inl is) so over rests empty sent = absurd so
+  through_so endings.Unfinished result rows (inl is) so over rests empty sent = absurd so
 
 -- what a serving that ended leaves
 pub served : (plan : Scenario) (count : ℕ) (first now : Told) (v : Serving) (b b' : Book) (ending result : Ending) → 0 < count → IsServing plan count first now v b → b'.frames ≡ b.frames → b'.switch ≡ b.switch → b'.grams ≡ b.grams → b'.replies ≡ b.replies →
     b'.serving ≡ v.session.serving → length v.session.notes ≡ length v.session.ring.nodes → (result ≢ endings.NoMemory → b'.slaves ≡ session_rows v.session) → (result ≡ ending) ⊎ (result ≡ endings.NoMemory) → EndsSo v.session ending →
-    (ending ≢ endings.BudgetSpent → can_hear v b ≡ false) → v.desk.outbox.items ≡ [] → IsServed plan count first now b' result
-served plan count first now v b b' ending result some h frames switch grams replies serving many rows is so whole empty =
+    (ending ≢ endings.BudgetSpent → can_hear v b ≡ false) → (ending ≢ endings.BudgetSpent → ServingRests v.session) → v.desk.outbox.items ≡ [] → IsServed plan count first now b' result
+served plan count first now v b b' ending result some h frames switch grams replies serving many rows is so whole rests empty =
     through_so plan count first now v b b' some h.on h.heard frames switch grams replies serving many ending result rows is so
     (λ apart.
     let counts = h.on.counts in
@@ -136,6 +157,7 @@ served plan count first now v b b' ending result some h frames switch grams repl
     let same = ap length grams in
     over_so (length b'.grams) count v.over now.over h.over (all_heard (length b'.grams) count v.over
     (subst (λ (n : ℕ). (not v.over && nat_lt n count) ≡ false) (sym same) (subst (λ (n : ℕ). (not v.over && nat_lt (length b.grams) n) ≡ false) counts (whole apart))) (omega (arith, same, few))))
+    rests
     empty
     (subst (AreSent first.sent now.sent) (sym replies) h.sent)
 

@@ -4,9 +4,9 @@ use Rattle.std.specs.Prelude.{cond, filter, slice_get, All, Ok, Err}
 use Rattle.std.proofs.lemmas.List.Elements.{All-nil, All-cons, filter-append}
 use Rattle.master_node.specs.of_life_frames.of_exchange_model.Rows.{Row}
 use Rattle.gateway_core.specs.Framing.{request_in}
-use Rattle.kept_rows.specs.Rows.{Stays, eras_rows, is_passed_row, passed_rows}
-use Rattle.kept_rows.specs.of_served_runs.Served.{Keyed, Serves}
-use Rattle.kept_rows.specs.of_served_runs.Told.{Passed, TellsOwn}
+use Rattle.served_places.specs.Rows.{Stays, eras_rows, is_passed_row, passed_rows}
+use Rattle.served_places.specs.of_served_runs.Served.{Keyed, Serves}
+use Rattle.served_places.specs.of_served_runs.Told.{Passed, TellsOwn}
 use Rattle.mailbox_mail.specs.Mail.{error_of}
 use Rattle.mailbox_mail.specs.declared.mail.Mail.{Mail}
 use Rattle.master_node.specs.of_life_frames.Shares.{AllBoth}

@@ -4,10 +4,10 @@ use Rattle.std.specs.Prelude.{◌==◌, if◌then◌else◌, slice_get, All}
 use Rattle.std.proofs.lemmas.List.Elements.{All-nil, All-head, All-tail, All-cons, All-push, All-weaker}
 use Rattle.master_node.specs.of_life_frames.of_exchange_model.Exchange.{plain}
 use Rattle.master_node.specs.of_life_frames.of_exchange_model.Rows.{Row}
-use Rattle.kept_rows.proofs.of_exchange_model.Words.{plain-append}
-use Rattle.kept_rows.specs.Rows.{Stays, passed_rows}
-use Rattle.kept_rows.specs.of_served_runs.Served.{Serves}
-use Rattle.kept_rows.specs.of_served_runs.Told.{Passed}
+use Rattle.served_places.proofs.of_exchange_model.Words.{plain-append}
+use Rattle.served_places.specs.Rows.{Stays, passed_rows}
+use Rattle.served_places.specs.of_served_runs.Served.{Serves}
+use Rattle.served_places.specs.of_served_runs.Told.{Passed}
 use Rattle.mailbox_mail.specs.declared.mail.Mail.{Mail}
 use Rattle.master_node.specs.of_life_frames.Shares.{AllBoth}
 use Rattle.master_node.specs.of_life_runs.of_link_mails.Body.{Body}

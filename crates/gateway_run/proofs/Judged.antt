@@ -188,18 +188,24 @@ passes : (g : Slab Asker) (mail : Mail) (slave : ℕ) (place : Option (ℕ × �
 passes g mail slave None is = absurd (cc)
 passes g mail slave (Some place) is = passes_with g mail slave place (is_passed mail.kind) (nat_lt place.1 (6 + length mail.body.items)) (nat_le 64 (unfinished_at place.0 g)) refl refl is
 
--- a mail that is to be passed on fits the home of its slave
-pub at_home : (g : Slab Asker) (s : SessionState) (stations : List (Option (ℕ × ℕ))) (mail : Mail) (slave : ℕ) → stations ≡ stations_of s.recover s.homes s.notes → judged g mail stations ≡ Ok slave →
-    (len : ℕ) × (slice_get s.homes slave ≡ Some (mail.address, len)) × (6 + length mail.body.items ≤ len)
-at_home g s stations mail slave are is =
+-- a mail that is to be passed on is for the station of its slave, which stands, and fits its mailbox
+pub at_station : (g : Slab Asker) (s : SessionState) (stations : List (Option (ℕ × ℕ))) (mail : Mail) (slave : ℕ) → stations ≡ stations_of s.recover s.homes s.notes → judged g mail stations ≡ Ok slave →
+    (len : ℕ) × (slice_get (stations_of s.recover s.homes s.notes) slave ≡ Some (Some (mail.address, len))) × (6 + length mail.body.items ≤ len)
+at_station g s stations mail slave are is =
     let p = passes g mail slave (place_from 0 mail.address stations) is in
     let at = place_at 0 mail.address stations (slave, p.0) p.1 in
     let k : slave ≡ at.0 = (let e = at.1 in omega (arith, e)) in (
       p.0,
-      subst (λ (n : ℕ). slice_get s.homes n ≡ Some (mail.address, p.0)) (sym k)
-          (stands_at_home s.recover s.homes s.notes at.0 (mail.address, p.0) (subst (λ (rows : List (Option (ℕ × ℕ))). slice_get rows at.0 ≡ Some (Some (mail.address, p.0))) are at.2)),
+      subst (λ (n : ℕ). slice_get (stations_of s.recover s.homes s.notes) n ≡ Some (Some (mail.address, p.0))) (sym k)
+          (subst (λ (rows : List (Option (ℕ × ℕ))). slice_get rows at.0 ≡ Some (Some (mail.address, p.0))) are at.2),
       p.3,
     )
+
+-- so it is at the home of its slave
+pub at_home : (g : Slab Asker) (s : SessionState) (stations : List (Option (ℕ × ℕ))) (mail : Mail) (slave : ℕ) → stations ≡ stations_of s.recover s.homes s.notes → judged g mail stations ≡ Ok slave →
+    (len : ℕ) × (slice_get s.homes slave ≡ Some (mail.address, len)) × (6 + length mail.body.items ≤ len)
+at_home g s stations mail slave are is =
+    let at = at_station g s stations mail slave are is in (at.0, stands_at_home s.recover s.homes s.notes slave (mail.address, at.0) at.1, at.2)
 
 pub passed_on : (g : Slab Asker) (s : SessionState) (stations : List (Option (ℕ × ℕ))) (octets : List ℕ) (mail : Mail) (slave : ℕ) → stations ≡ stations_of s.recover s.homes s.notes →
     request_in octets ≡ Ok mail → judged g mail stations ≡ Ok slave → IsPassedOn s.homes octets slave

@@ -2,9 +2,10 @@
 use Rattle.std.proofs.Common.{◌≡◌, ◌<◌, ◌≤◌, ℕ, zero, suc, ◌+◌, true, false, Some, None, List, [], ◌∷◌, ◌++◌, length, map, refl, sym, ap, ◌∙◌, subst, append-nil, length-append, arith}
 use Rattle.std.specs.Prelude.{◌≢◌, slice_get, All, Ok}
 use Rattle.std.proofs.lemmas.List.Elements.{All-nil, All-append, All-cons, All-push, All-weaker}
+use Rattle.std.proofs.lemmas.List.Sums.{count_by-le-length, length-filter}
 use Rattle.gateway_core.specs.Framing.{request_in}
-use Rattle.kept_rows.specs.Rows.{ToldAll}
-use Rattle.kept_rows.specs.of_served_runs.Served.{Keyed, MayAsk, Serves, asked_at}
+use Rattle.served_places.specs.Rows.{ToldAll}
+use Rattle.served_places.specs.of_served_runs.Served.{Keyed, MayAsk, Serves, asked_at}
 use Rattle.mailbox_mail.specs.Mail.{error_of}
 use Rattle.mailbox_mail.specs.declared.mail.Mail.{Mail}
 use Rattle.master_node.specs.of_frame_view.View.{Lens}
@@ -17,13 +18,13 @@ use Rattle.run_record.specs.Session.{SessionState}
 use Rattle.run_record.specs.of_run_notes.Slaves.{home_of}
 use Rattle.segment_plan.specs.Sound.{IsPlan}
 use Rattle.segment_plan.specs.declared.plan.Scenario.{Scenario}
-use Rattle.gateway_run.specs.Account.{IsFree, Judges, Judges.ignored as is_ignored, Judges.refused as is_refused, Judges.too_many, Judges.queues, Owing}
+use Rattle.gateway_run.specs.Account.{IsFree, Judges, Judges.ignored as is_ignored, Judges.refused as is_refused, Judges.too_many, Judges.queues, Owing, waits_at}
 use Rattle.gateway_run.specs.Rooms.{begun_of, grams_of, owed_for, waiting_of}
 use Rattle.gateway_run.specs.Replies.{AllDesk, AllGot, Answers, Fares, Fares.waits, Got, Got.ignored, Got.queued, Got.refused, IsFor, IsHeard, IsUndone}
 use Rattle.gateway_run.specs.declared.desk.Request.{Request}
 use Rattle.gateway_run.proofs.Accounts.{apart_push, unlike_push}
 use Rattle.gateway_run.proofs.Comes.{known_at}
-use Rattle.gateway_run.proofs.Hands.{among_at, at_last}
+use Rattle.gateway_run.proofs.Hands.{among_at, at_last, both_many}
 use Rattle.gateway_run.proofs.Hearing.{asked_lookup, asked_told, below_out, desks_asked, desks_more, fares_asked, grams_push, heard_more, longer, none_owed, waits_push}
 use Rattle.gateway_run.proofs.Rooms.{owed_append, owed_one, owed_other}
 
@@ -47,19 +48,30 @@ asked_there lens gs rs os i place k (w ∷ ws) [] may d = absurd d
 asked_there lens gs rs os i zero k (w ∷ ws) (ns ∷ nss) may d = (record w { asked = w.asked ++ k ∷ []; waits = w.waits ++ k ∷ [] }, refl, (ns, refl))
 asked_there lens gs rs os i (suc place) k (w ∷ ws) (ns ∷ nss) may d = asked_there lens gs rs os (suc i) place k ws nss may d.1
 
+-- no more mails wait for a slave than there are requests
+waits_least : (gs : List GramIn) (rs : List Request) (os : List Owing) (i place many : ℕ) (ws : List Serves) (nss : List (List ℕ)) → slice_get (map (λ (w : Serves). length w.waits) ws) place ≡ Some many → AllDesk gs rs os i ws nss → many ≤ length rs
+waits_least gs rs os i place many [] nss at d = absurd (cc)
+waits_least gs rs os i place many (w ∷ ws) [] at d = absurd d
+waits_least gs rs os i zero many (w ∷ ws) (ns ∷ nss) at d =
+    let same : length w.waits ≡ many = cc in
+    let n = both_many (IsFor gs) (waiting_of i rs) w.waits d.0.waits in
+    let most : length (waiting_of i rs) ≤ length rs = subst (λ (k : ℕ). k ≤ length rs) (sym (length-filter (waits_at i) rs)) (count_by-le-length (waits_at i) rs) in
+    omega (arith, same, n, most)
+waits_least gs rs os i (suc place) many (w ∷ ws) (ns ∷ nss) at d = waits_least gs rs os (suc i) place many ws nss at d.1
+
 -- what is owed at once by a new datagram is owed by that alone
-error_alone : (n detail : ℕ) (os : List Owing) → All (λ (o : Owing). o.gram < n) os → owed_for n (os ++ record { gram = n; mail = error_of detail } ∷ []) ≡ error_of detail ∷ []
+pub error_alone : (n detail : ℕ) (os : List Owing) → All (λ (o : Owing). o.gram < n) os → owed_for n (os ++ record { gram = n; mail = error_of detail } ∷ []) ≡ error_of detail ∷ []
 error_alone n detail os a =
     owed_append n os (record { gram = n; mail = error_of detail } ∷ [])
     ∙ (λ i. none_owed n os a i ++ owed_one (error_of detail) (record { key = 0; slave = 0; gram = n; begun = false }) i)
 
-error_quiet : (n m detail : ℕ) (os : List Owing) → m < n → owed_for m (os ++ record { gram = n; mail = error_of detail } ∷ []) ≡ owed_for m os
+pub error_quiet : (n m detail : ℕ) (os : List Owing) → m < n → owed_for m (os ++ record { gram = n; mail = error_of detail } ∷ []) ≡ owed_for m os
 error_quiet n m detail os less =
     owed_append m os (record { gram = n; mail = error_of detail } ∷ [])
     ∙ ap (λ l. owed_for m os ++ l) (owed_other m (error_of detail) (record { key = 0; slave = 0; gram = n; begun = false }) (λ s. omega (arith, s, less)))
     ∙ append-nil (owed_for m os)
 
-nothing_quiet : (m : ℕ) (os : List Owing) → owed_for m (os ++ []) ≡ owed_for m os
+pub nothing_quiet : (m : ℕ) (os : List Owing) → owed_for m (os ++ []) ≡ owed_for m os
 nothing_quiet m os = ap (owed_for m) (append-nil os)
 
 module _ (plan : Scenario) (s s' : SessionState) (fs : List Exchanged) (gs : List GramIn) (g : GramIn) (rs : List Request) (os : List Owing) (dones : List ℕ) (old : Answers plan s fs gs rs os dones) (due : g.frame ≤ length fs) where
@@ -96,12 +108,12 @@ module _ (plan : Scenario) (s s' : SessionState) (fs : List Exchanged) (gs : Lis
     }
 
   -- one error is owed by it at once
-  error_stays : (detail : ℕ) (asked : Mail) → request_in g.bytes ≡ Ok asked → g.queued ≡ None → (t : SessionState) (serving : Serving plan t fs) → serving.leading.serves ≡ ws →
+  error_stays : (detail : ℕ) (asked : Mail) → request_in g.bytes ≡ Ok asked → g.queued ≡ None → detail ≢ 7 → (t : SessionState) (serving : Serving plan t fs) → serving.leading.serves ≡ ws →
       Answers plan t fs (gs ++ g ∷ []) rs (os ++ record { gram = n; mail = error_of detail } ∷ []) dones
-  error_stays detail asked request nowhere t serving same =
+  error_stays detail asked request nowhere seldom t serving same =
       stays (record { gram = n; mail = error_of detail } ∷ []) (λ m less. error_quiet n m detail os less)
       (All-cons (λ (o : Owing). o.gram < length (gs ++ g ∷ [])) (record { gram = n; mail = error_of detail }) [] (let long = length-append gs (g ∷ []) in omega (arith, long)) (All-nil (λ (o : Owing). o.gram < length (gs ++ g ∷ []))))
-      t serving same (refused asked detail request nowhere (error_alone n detail os old.owed))
+      t serving same (refused asked detail request nowhere seldom (error_alone n detail os old.owed))
 
   -- IT IS PASSED ON: its mail waits at its slave
   module _ (slave key : ℕ) (mail : Mail) (on : AsksOn plan slave key mail s s' fs old.serving) (request : request_in g.bytes ≡ Ok mail) (there : g.queued ≡ Some slave) (free : IsFree key rs) where
@@ -137,7 +149,7 @@ module _ (plan : Scenario) (s s' : SessionState) (fs : List Exchanged) (gs : Lis
 
     got_old : (j m : ℕ) (h : GramIn) → m ≡ 0 + j → slice_get gs j ≡ Some h → Got ws old.came rs dones m h (owed_for m os) → Got (asked_at slave k ws) old.came (rs ++ r ∷ []) dones m h (owed_for m (os ++ []))
     got_old j m h e at (ignored fault f q ms) = ignored fault f q (nothing_quiet m os ∙ ms)
-    got_old j m h e at (refused asked detail f q ms) = refused asked detail f q (nothing_quiet m os ∙ ms)
+    got_old j m h e at (refused asked detail f q seldom ms) = refused asked detail f q seldom (nothing_quiet m os ∙ ms)
     got_old j m h e at (queued asked place w numbers f q at_w at_came fares) =
         let a = asked_lookup slave k ws place w at_w in
         let less : m < length gs = (let known = known_at gs j h at in omega (arith, known, e)) in
@@ -163,20 +175,18 @@ module _ (plan : Scenario) (s s' : SessionState) (fs : List Exchanged) (gs : Lis
     }
 
   -- WHATEVER BECOMES OF IT
-  pub answers_heard : IsPlan plan → s.homes ≡ map home_of plan.slaves → (rs' : List Request) (more : List Owing) → Judges s s' rs rs' (length gs) g.bytes g.queued more → Answers plan s' fs (gs ++ g ∷ []) rs' (os ++ more) dones
-  answers_heard is homes rs' more (is_ignored i) =
+  pub answers_heard : IsPlan plan → s.homes ≡ map home_of plan.slaves → length rs < 64 → (rs' : List Request) (more : List Owing) → Judges s s' rs rs' (length gs) g.bytes g.queued more → Answers plan s' fs (gs ++ g ∷ []) rs' (os ++ more) dones
+  answers_heard is homes few rs' more (is_ignored i) =
       subst (λ z. Answers plan z fs (gs ++ g ∷ []) rs' (os ++ more) dones) (sym i.session)
       (subst (λ z. Answers plan s fs (gs ++ g ∷ []) z (os ++ more) dones) (sym i.requests) (subst (λ z. Answers plan s fs (gs ++ g ∷ []) rs (os ++ z) dones) (sym i.nothing)
       (stays [] (λ m less. nothing_quiet m os) (All-nil (λ (o : Owing). o.gram < length (gs ++ g ∷ []))) s old.serving refl (ignored i.fault i.request i.nowhere (nothing_quiet n os ∙ none_owed n os old.owed)))))
-  answers_heard is homes rs' more (is_refused f) =
+  answers_heard is homes few rs' more (is_refused f) =
       subst (λ z. Answers plan z fs (gs ++ g ∷ []) rs' (os ++ more) dones) (sym f.session)
       (subst (λ z. Answers plan s fs (gs ++ g ∷ []) z (os ++ more) dones) (sym f.requests) (subst (λ z. Answers plan s fs (gs ++ g ∷ []) rs (os ++ z) dones) (sym f.error)
-      (error_stays f.detail f.mail f.request f.nowhere s old.serving refl)))
-  answers_heard is homes rs' more (too_many t) =
-      let none = t.led plan fs old.serving in
-      subst (λ z. Answers plan s' fs (gs ++ g ∷ []) z (os ++ more) dones) (sym t.requests) (subst (λ z. Answers plan s' fs (gs ++ g ∷ []) rs (os ++ z) dones) (sym t.error)
-      (error_stays 7 t.mail t.request t.nowhere s' none.new none.serves))
-  answers_heard is homes rs' more (queues q) =
+      (error_stays f.detail f.mail f.request f.nowhere (f.seldom few) s old.serving refl)))
+  answers_heard is homes few rs' more (too_many t) =
+      absurd (let most = waits_least gs rs os 0 t.slave 64 ws old.came (ap (λ (l : List ℕ). slice_get l t.slave) old.serving.waiting ∙ t.full) old.desk in omega (arith, few, most))
+  answers_heard is homes few rs' more (queues q) =
       let on = q.led plan fs q.home is (subst (λ (hs : List (ℕ × ℕ)). slice_get hs q.slave ≡ Some q.home) homes q.at_home) q.fits old.serving in
       subst (λ z. Answers plan s' fs (gs ++ g ∷ []) z (os ++ more) dones) (sym q.requests) (subst (λ z. Answers plan s' fs (gs ++ g ∷ []) (rs ++ record { key = q.key; slave = q.slave; gram = length gs; begun = false } ∷ []) (os ++ z) dones) (sym q.nothing)
       (passed q.slave q.key q.mail on q.request q.there q.free))

@@ -1,10 +1,13 @@
 -- THE FRAMES OF A COURSE LEAD its session, from the plan's new lives on, with the mails that were asked.
-use Rattle.std.proofs.Common.{◌≡◌, ℕ, suc, Bool, true, false, Option, Some, List, [], ◌∷◌, ◌++◌, map, length, length-append, sym, ap, ◌∙◌, subst, arith}
+use Rattle.std.proofs.Common.{◌≡◌, ℕ, suc, Bool, true, false, Option, Some, List, [], ◌∷◌, ◌++◌, map, length, length-append, refl, sym, ap, ◌∙◌, subst, arith}
 use Rattle.std.specs.Bool.{OnFalse}
-use Rattle.std.specs.Prelude.{slice_get}
+use Rattle.std.specs.Prelude.{All, slice_get}
 use Rattle.std.proofs.lemmas.Bool.{OnFalse_at, OnFalse_from}
 use Rattle.std.proofs.lemmas.List.{map-append}
-use Rattle.master_node.specs.of_life_runs.Led.{Exchanged}
+use Rattle.std.proofs.lemmas.List.Elements.{All-weaker}
+use Rattle.served_places.specs.of_served_runs.Served.{Serves}
+use Rattle.master_node.specs.of_life_runs.First.{lens_of}
+use Rattle.master_node.specs.of_life_runs.Led.{Exchanged, gives_up_at}
 use Rattle.run_book.specs.declared.book.Book.{Book}
 use Rattle.run_book.specs.declared.book.GramIn.{GramIn}
 use Rattle.run_book.specs.declared.book.SentFrame.{SentFrame}
@@ -12,6 +15,7 @@ use Rattle.run_record.specs.Led.{exchanged}
 use Rattle.run_record.specs.Served as Led
 use Rattle.run_record.specs.Served.{ServingLives}
 use Rattle.run_record.specs.Session.{SessionState, has_live}
+use Rattle.run_record.specs.of_run_notes.Notes.{stations_of}
 use Rattle.run_record.specs.of_run_notes.Slaves.{home_of}
 use Rattle.segment_plan.specs.Sound.{IsPlan}
 use Rattle.segment_plan.specs.declared.plan.Scenario.{Scenario}
@@ -20,13 +24,16 @@ use Rattle.gateway_run.specs.Desk.{SameLive}
 use Rattle.gateway_run.specs.Serving.{IsOn, LivesUnless}
 use Rattle.gateway_run.specs.declared.desk.Request.{Request}
 use Rattle.gateway_run.specs.declared.turn.Serving.{Serving}
+use Rattle.gateway_run.proofs.Gones.{NoneWaits, all_none, asked_none, few_given, none_wait}
+use Rattle.gateway_run.proofs.Judged.{at_station}
 
--- a session that is led, of the plan's slaves
+-- a session that is led, of the plan's slaves; and no mail waits for one that was given up for good
 pub record IsLed (plan : Scenario) (s : SessionState) (fs : List Exchanged) : Type 0 where
   pub homes : s.homes ≡ map home_of plan.slaves
   pub recover : s.recover ≡ plan.recover
   pub many : length fs ≡ s.ring.number
   pub serving : Led.Serving plan s fs
+  pub waits : All (NoneWaits plan.recover) serving.leading.serves
 
 one_more : (fs : List Exchanged) (f : Exchanged) → length (fs ++ f ∷ []) ≡ suc (length fs)
 one_more fs f = let k = length-append fs (f ∷ []) in omega (arith, k)
@@ -34,18 +41,26 @@ one_more fs f = let k = length-append fs (f ∷ []) in omega (arith, k)
 judged_led : (plan : Scenario) → IsPlan plan → (s s' : SessionState) (fs : List Exchanged) (rs rs' : List Request) (number : ℕ) (octets : List ℕ) (queued : Option ℕ) (more : List Owing) → Judges s s' rs rs' number octets queued more → IsLed plan s fs → IsLed plan s' fs
 judged_led plan is s s' fs rs rs' number octets queued more (is_ignored i) l = subst (λ (z : SessionState). IsLed plan z fs) (sym i.session) l
 judged_led plan is s s' fs rs rs' number octets queued more (is_refused r) l = subst (λ (z : SessionState). IsLed plan z fs) (sym r.session) l
-judged_led plan is s s' fs rs rs' number octets queued more (too_many t) l = record {
+judged_led plan is s s' fs rs rs' number octets queued more (too_many t) l = let on = t.led plan fs l.serving in record {
   homes = ap (λ (z : SessionState). z.homes) t.asks ∙ l.homes;
   recover = ap (λ (z : SessionState). z.recover) t.asks ∙ l.recover;
   many = l.many ∙ sym (ap (λ (z : SessionState). z.ring.number) t.asks);
-  serving = (t.led plan fs l.serving).new;
+  serving = on.new;
+  waits = subst (All (NoneWaits plan.recover)) (sym on.serves) l.waits;
 }
-judged_led plan is s s' fs rs rs' number octets queued more (queues q) l = record {
-  homes = ap (λ (z : SessionState). z.homes) q.asks ∙ l.homes;
-  recover = ap (λ (z : SessionState). z.recover) q.asks ∙ l.recover;
-  many = l.many ∙ sym (ap (λ (z : SessionState). z.ring.number) q.asks);
-  serving = (q.led plan fs q.home is (subst (λ (hs : List (ℕ × ℕ)). slice_get hs q.slave ≡ Some q.home) l.homes q.at_home) q.fits l.serving).new;
-}
+judged_led plan is s s' fs rs rs' number octets queued more (queues q) l =
+    let on = q.led plan fs q.home is (subst (λ (hs : List (ℕ × ℕ)). slice_get hs q.slave ≡ Some q.home) l.homes q.at_home) q.fits l.serving in
+    let ws = l.serving.leading.serves in
+    let at = at_station q.unfinished s (stations_of s.recover s.homes s.notes) q.mail q.slave refl q.place in
+    let stands = subst (λ (recover : ℕ). slice_get (stations_of recover s.homes s.notes) q.slave ≡ Some (Some (q.mail.address, at.0))) l.recover at.1 in
+    record {
+      homes = ap (λ (z : SessionState). z.homes) q.asks ∙ l.homes;
+      recover = ap (λ (z : SessionState). z.recover) q.asks ∙ l.recover;
+      many = l.many ∙ sym (ap (λ (z : SessionState). z.ring.number) q.asks);
+      serving = on.new;
+      waits = subst (All (NoneWaits plan.recover)) (sym on.serves)
+          (asked_none plan.recover q.slave on.mail_asked ws (few_given plan.recover s.homes s.notes ws l.serving.gave q.slave (q.mail.address, at.0) stands) l.waits);
+    }
 
 pub course_led : (plan : Scenario) (count : ℕ) → IsPlan plan → (s : SessionState) (fs : List SentFrame) (gs : List GramIn) (rs : List Request) (os : List Owing) → Course plan count s fs gs rs os → IsLed plan s (map exchanged fs)
 course_led plan count is _ _ _ _ _ (begins s first serves) = record {
@@ -53,16 +68,21 @@ course_led plan count is _ _ _ _ _ (begins s first serves) = record {
   recover = ap (λ (z : SessionState). z.recover) first;
   many = sym (ap (λ (z : SessionState). z.ring.number) first);
   serving = serves;
+  waits = All-weaker (λ (w : Serves). w.waits ≡ []) (NoneWaits plan.recover) (λ w none often. none) serves.leading.serves
+      (none_wait serves.leading.serves (length plan.slaves) (serves.waiting ∙ ap (λ (z : SessionState). z.waiting) first));
 }
-course_led plan count is _ _ _ _ _ (hears s s' fs gs g rs rs' os more c at judges) = judged_led plan is s s' (map exchanged fs) rs rs' (length gs) g.bytes g.queued more judges (course_led plan count is s fs gs rs os c)
+course_led plan count is _ _ _ _ _ (hears s s' fs gs g rs rs' os more c at few judges) = judged_led plan is s s' (map exchanged fs) rs rs' (length gs) g.bytes g.queued more judges (course_led plan count is s fs gs rs os c)
 course_led plan count is _ _ _ _ _ (steps s s' fs f gs rs os c m) =
     let l = course_led plan count is s fs gs rs os c in
     let number : s'.ring.number ≡ suc s.ring.number = ap (λ r. (record s { ring = r }).ring.number) m.ring in
+    let more = m.led plan (map exchanged fs) l.recover l.many m.live l.serving in
     let on : IsLed plan s' (map exchanged fs ++ exchanged f ∷ []) = record {
       homes = m.homes ∙ l.homes;
       recover = m.recover ∙ l.recover;
       many = one_more (map exchanged fs) (exchanged f) ∙ ap suc l.many ∙ sym number;
-      serving = (m.led plan (map exchanged fs) l.recover l.many m.live l.serving).new;
+      serving = more.new;
+      waits = subst (All (NoneWaits plan.recover)) (sym more.serves)
+          (all_none (lens_of plan.slaves) plan.recover plan.retry (gives_up_at (lens_of plan.slaves) plan.recover plan.retry l.serving.leading.missed) (length (map exchanged fs)) (exchanged f) more.frame.datagrams l.serving.leading.serves more.turns more.frame.each l.waits);
     } in
     subst (λ (k : List Exchanged). IsLed plan s' k) (sym (map-append exchanged fs (f ∷ []))) on
 

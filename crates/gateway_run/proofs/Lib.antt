@@ -6,9 +6,11 @@ pub mod Comes
 pub mod Cut
 pub mod Desking
 pub mod Desks
+pub mod Dones
 pub mod Ended
 pub mod Frames
 pub mod Given
+pub mod Gones
 pub mod Hands
 pub mod Hearing
 pub mod Judged
@@ -20,6 +22,7 @@ pub mod Room
 pub mod Rooms
 pub mod Rounds
 pub mod Stepping
+pub mod Strays
 pub mod Telling
 pub mod Told
 pub mod Tolds

@@ -1,10 +1,10 @@
 -- BEHIND A LOST FRAME one slave's desk is what its life has: nothing is told, or the slave was given up.
 use Rattle.std.proofs.Common.{◌≡◌, ℕ, Bool, true, false, Option, Some, None, List, [], ◌∷◌, ◌++◌, map, refl, sym, ap, ◌∙◌, subst, append-nil}
 use Rattle.std.specs.Prelude.{if◌then◌else◌, All}
-use Rattle.kept_rows.proofs.Behind.{Goes, behind_stays, lost_goes, unpassed_behind}
-use Rattle.kept_rows.specs.Rows.{Stays, passed_rows}
-use Rattle.kept_rows.specs.of_served_runs.Served.{Serves, ServedTurn, TellsSo, gives_it, served_behind}
-use Rattle.kept_rows.specs.of_served_runs.Told.{Passed, replies_in, told_on}
+use Rattle.served_places.proofs.Behind.{Goes, behind_stays, lost_goes, unpassed_behind}
+use Rattle.served_places.specs.Rows.{Stays, passed_rows}
+use Rattle.served_places.specs.of_served_runs.Served.{Serves, ServedTurn, TellsSo, gives_it, served_behind}
+use Rattle.served_places.specs.of_served_runs.Told.{Passed, replies_in, told_on}
 use Rattle.mailbox_mail.specs.Mail.{error_of}
 use Rattle.master_node.specs.Serving.{serves_of}
 use Rattle.master_node.specs.declared.event.Event.{Event}

@@ -3,9 +3,9 @@ use Rattle.std.proofs.Common.{◌≡◌, ℕ, ◌≤◌, Bool, true, false, Some
 use Rattle.std.specs.Prelude.{◌==◌, cond, if◌then◌else◌, slice_get, slice_index_or, All, Ok}
 use Rattle.std.proofs.lemmas.List.Elements.{All-filter, filter-append, filter_passes}
 use Rattle.gateway_core.specs.Framing.{request_in}
-use Rattle.kept_rows.specs.Rows.{AreAll}
-use Rattle.kept_rows.specs.of_served_runs.Served.{Serves, ServedTurn, IsServedTurn, TellsSo, gives_it, served_behind}
-use Rattle.kept_rows.specs.of_served_runs.Told.{Passed, replies_in}
+use Rattle.served_places.specs.Rows.{AreAll}
+use Rattle.served_places.specs.of_served_runs.Served.{Serves, ServedTurn, IsServedTurn, TellsSo, gives_it, served_behind}
+use Rattle.served_places.specs.of_served_runs.Told.{Passed, replies_in}
 use Rattle.mailbox_mail.specs.declared.mail.Mail.{Mail}
 use Rattle.master_node.specs.Events.{begun_told}
 use Rattle.master_node.specs.Serving.{serves_of}

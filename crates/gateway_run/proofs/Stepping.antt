@@ -3,10 +3,10 @@ use Rattle.std.proofs.Common.{◌≡◌, ◌<◌, ◌≤◌, ℕ, suc, ◌+◌, 
 use Rattle.std.specs.Prelude.{◌≢◌, ◌==◌, cond, filter, find, if◌then◌else◌, nat_le, not, slice_get, slice_index_or, All}
 use Rattle.std.proofs.lemmas.Bool.{leb-true}
 use Rattle.std.proofs.lemmas.List.Elements.{All-nil, All-append, All-cons, All-filter, All-head, All-map, All-tail, All-weaker}
-use Rattle.kept_rows.proofs.Held.{all_held}
-use Rattle.kept_rows.proofs.of_served_runs.Telling.{serves_tell}
-use Rattle.kept_rows.specs.Rows.{IsHeld, ToldAll}
-use Rattle.kept_rows.specs.of_served_runs.Served.{Serves, ServedTurn, TellsSo}
+use Rattle.served_places.proofs.Held.{all_held}
+use Rattle.served_places.proofs.of_served_runs.Telling.{serves_tell}
+use Rattle.served_places.specs.Rows.{IsHeld, ToldAll}
+use Rattle.served_places.specs.of_served_runs.Served.{Serves, ServedTurn, TellsSo}
 use Rattle.mailbox_mail.specs.Mail.{error_of}
 use Rattle.mailbox_mail.specs.declared.mail.Mail.{Mail}
 use Rattle.master_node.specs.Begins.{begun_of as began_of}
@@ -256,7 +256,7 @@ module _ (plan : Scenario) (s s' : SessionState) (fs : List Exchanged) (f : Exch
 
   got_on : (n : ℕ) (g : GramIn) → slice_get gs n ≡ Some g → Got ws old.came rs dones n g (owed_for n os) → Got (map goes on.turns) turned.comes rs2 (dones ++ ended) n g (owed_for n (os ++ more))
   got_on n g there (ignored fault e q none) = ignored fault e q (no_more n os (told_in shows second) rs1 (no_request gs n g rs1 there q heard1) ∙ none)
-  got_on n g there (refused asked detail e q one) = refused asked detail e q (no_more n os (told_in shows second) rs1 (no_request gs n g rs1 there q heard1) ∙ one)
+  got_on n g there (refused asked detail e q seldom one) = refused asked detail e q seldom (no_more n os (told_in shows second) rs1 (no_request gs n g rs1 there q heard1) ∙ one)
   got_on n g there (queued asked slave w numbers e q at_w at_came fares) =
       let a = turned.at slave slave w numbers (omega arith) at_w at_came in
       queued asked slave a.after a.comes e q a.is a.there (a.fares n asked (record { gram = g; there = there; queued = q }) e fares)

@@ -3,9 +3,9 @@ use Rattle.std.proofs.Common.{◌≡◌, ℕ, Bool, true, false, inl, Some, None
 use Rattle.std.specs.Prelude.{◌≢◌, if◌then◌else◌, length, slice_get, slice_index_or, All, Ok}
 use Rattle.std.proofs.lemmas.List.Elements.{All-filter, All-map, All-weaker}
 use Rattle.gateway_core.specs.Framing.{request_in}
-use Rattle.kept_rows.specs.Rows.{AreAll, Stays, passed_rows}
-use Rattle.kept_rows.specs.of_served_runs.Served.{Serves}
-use Rattle.kept_rows.specs.of_served_runs.Told.{Passed, TellsOwn}
+use Rattle.served_places.specs.Rows.{AreAll, Stays, passed_rows}
+use Rattle.served_places.specs.of_served_runs.Served.{Serves}
+use Rattle.served_places.specs.of_served_runs.Told.{Passed, TellsOwn}
 use Rattle.mailbox_mail.specs.declared.mail.Mail.{Mail}
 use Rattle.master_node.specs.declared.event.Event.{Event}
 use Rattle.master_node.specs.of_life_frames.Shares.{AllBoth}

@@ -3,10 +3,10 @@ use Rattle.std.proofs.Common.{◌≡◌, ◌≤◌, ℕ, zero, suc, ◌+◌, Boo
 use Rattle.std.specs.Prelude.{◌≢◌, ◌&&◌, cond, filter, if◌then◌else◌, slice_get, All, Ok}
 use Rattle.std.proofs.lemmas.List.Elements.{All-nil, All-cons, All-head, All-tail, All-filter, All-weaker}
 use Rattle.gateway_core.specs.Framing.{request_in}
-use Rattle.kept_rows.proofs.All.{goes_told, turn_held}
-use Rattle.kept_rows.specs.Rows.{AreAll, IsHeld, StandsTold, ToldAll}
-use Rattle.kept_rows.specs.of_served_runs.Served.{AllServedTurn, IsServedTurn, Serves, ServedTurn, TellsSo, gives_it}
-use Rattle.kept_rows.specs.of_served_runs.Told.{Passed, replies_in, told_on}
+use Rattle.served_places.proofs.All.{goes_told, turn_held}
+use Rattle.served_places.specs.Rows.{AreAll, IsHeld, StandsTold, ToldAll}
+use Rattle.served_places.specs.of_served_runs.Served.{AllServedTurn, IsServedTurn, Serves, ServedTurn, TellsSo, gives_it}
+use Rattle.served_places.specs.of_served_runs.Told.{Passed, replies_in, told_on}
 use Rattle.mailbox_mail.specs.declared.mail.Mail.{Mail}
 use Rattle.master_node.proofs.Counts.{lost_gave}
 use Rattle.master_node.specs.Begins.{begun_of as began_of}
@@ -16,7 +16,7 @@ use Rattle.master_node.specs.Serving.{run_lead, run_turn, serves_of}
 use Rattle.master_node.specs.Shows.{is_carried}
 use Rattle.master_node.specs.declared.event.Event.{Event}
 use Rattle.master_node.specs.declared.event.Event.TheVariants as events
-use Rattle.kept_rows.specs.of_counters_kept.Lives.{LifeKept}
+use Rattle.served_places.specs.of_counters_kept.Lives.{LifeKept}
 use Rattle.master_node.specs.of_datagrams.Datagram as Raw
 use Rattle.master_node.specs.of_datagrams.Frame.{IsFrame, chained}
 use Rattle.master_node.specs.of_frame_view.Seen.{seen}

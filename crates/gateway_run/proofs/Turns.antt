@@ -178,10 +178,10 @@ module _ (plan : Scenario) (count : ℕ) (first : Told) where
 
   module _ (now next : Told) (v v' : Serving) (b b' : Book) (h : IsServing plan count first now v b) where
     -- a datagram was taken
-    pub took : (peer : Peer) (octets : List ℕ) → Listens now next (heards.From peer) octets → length b.grams < v.count → Takes v.session.homes peer octets b b' →
+    pub took : (peer : Peer) (octets : List ℕ) → length v.desk.requests.items < 64 → Listens now next (heards.From peer) octets → length b.grams < v.count → Takes v.session.homes peer octets b b' →
         (IsSound (map heard_as b.grams) v.desk → IsSound (map heard_as b'.grams) v'.desk) → TakesSo v.session v'.session v.desk v'.desk b b' → b' ≡ record b { grams = b'.grams } → AsksMails v.session v'.session → v'.count ≡ v.count → v'.over ≡ v.over →
         IsServing plan count first next v' b'
-    took peer octets l room t sound so same asks counts over =
+    took peer octets few l room t sound so same asks counts over =
         let g = t.gram in
         let grams : map heard_as b'.grams ≡ map heard_as b.grams ++ heard_as g ∷ [] = ap (map heard_as) t.put ∙ map_push heard_as b.grams g in
         let frames = ap (λ (x : Book). x.frames) same in
@@ -202,7 +202,7 @@ module _ (plan : Scenario) (count : ℕ) (first : Told) where
             judged = subst (All (IsRightly (map home_of plan.slaves))) (sym t.put) (All-push (IsRightly (map home_of plan.slaves)) b.grams g h.on.judged (subst (λ (l : List (ℕ × ℕ)). IsRightly l g) homes t.judged));
             owed = h.on.owed ++ so.taken.more;
             course = course_same plan count v'.session v'.session b.frames b'.frames (b.grams ++ so.gram ∷ []) b'.grams v'.desk.requests.items v'.desk.requests.items (h.on.owed ++ so.taken.more) refl frames so.put refl
-                (hears v.session v'.session b.frames b.grams so.gram v.desk.requests.items v'.desk.requests.items h.on.owed so.taken.more h.on.course (so.frame (sent_few h.on)) so.taken.judges);
+                (hears v.session v'.session b.frames b.grams so.gram v.desk.requests.items v'.desk.requests.items h.on.owed so.taken.more h.on.course (so.frame (sent_few h.on)) few so.taken.judges);
             spelled = spelled_on (map heard_as b'.grams) h.on.owed so.taken.more b.replies b'.replies v.desk.outbox.items v'.desk.outbox.items sent
                 (subst (λ (l : List HeardGram). AreSpelled l h.on.owed (b.replies ++ v.desk.outbox.items)) (sym grams) (spelled_more (map heard_as b.grams) (heard_as g ∷ []) h.on.owed (b.replies ++ v.desk.outbox.items) h.on.spelled)) so.taken.owes;
           };

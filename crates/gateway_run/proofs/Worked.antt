@@ -1,7 +1,7 @@
 -- WORKED ROWS: a datagram that asks for the value of IDN 1 from the drive at station 1001, and what it got. Its slave replies in three parts.
-use Rattle.std.proofs.Common.{ℕ, true, false, inl, inr, List, [], ◌∷◌, refl}
+use Rattle.std.proofs.Common.{ℕ, true, false, inl, inr, List, [], ◌∷◌, refl, arith}
 use Rattle.std.specs.Prelude.{◌≢◌, Option, Some, None, Ok}
-use Rattle.kept_rows.specs.of_served_runs.Served.{Serves}
+use Rattle.served_places.specs.of_served_runs.Served.{Serves}
 use Rattle.mailbox_mail.specs.Mail.{error_of}
 use Rattle.mailbox_mail.specs.declared.mail.Kind.TheVariants.{SoE}
 use Rattle.mailbox_mail.specs.declared.mail.Mail.{Mail}
@@ -60,7 +60,7 @@ ignored_row ws came = (ignored faults.Short refl refl refl, tt)
 
 -- IT GETS ONE ERROR, where no slave has the station
 pub refused_row : (ws : List Serves) (came : List (List ℕ)) → AllGot ws came [] [] (owed (error_of 5) ∷ []) 0 (heard_at None ∷ [])
-refused_row ws came = (refused (counted 1 asking) 5 refl refl refl, tt)
+refused_row ws came = (refused (counted 1 asking) 5 refl refl (λ same. omega (arith, same)) refl, tt)
 
 module _ (w : Serves) where
   -- ITS MAIL WAITS

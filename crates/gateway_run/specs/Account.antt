@@ -176,11 +176,11 @@ pub record Moves (s s' : SessionState) (f : SentFrame) : Type 0 where
   pub led : ServingGoesOn s s' f
 
 -- THE COURSE OF A SERVING: its session, the frames sent and the datagrams heard until then, the requests that aren't finished, and all that was
--- ever owed, in order
+-- ever owed, in order. A datagram is heard only while fewer than 64 requests aren't finished
 pub data Course (plan : Scenario) (count : ℕ) : SessionState → List SentFrame → List GramIn → List Request → List Owing → Type 0 where
   begins : (s : SessionState) → s ≡ first_session plan count s.master → ServingBegins plan s → Course plan count s [] [] [] []
   hears :
-      (s s' : SessionState) (fs : List SentFrame) (gs : List GramIn) (g : GramIn) (rs rs' : List Request) (os more : List Owing) → Course plan count s fs gs rs os → g.frame ≡ length fs
+      (s s' : SessionState) (fs : List SentFrame) (gs : List GramIn) (g : GramIn) (rs rs' : List Request) (os more : List Owing) → Course plan count s fs gs rs os → g.frame ≡ length fs → length rs < 64
       → Judges s s' rs rs' (length gs) g.bytes g.queued more → Course plan count s' fs (gs ++ g ∷ []) rs' (os ++ more)
   steps :
       (s s' : SessionState) (fs : List SentFrame) (f : SentFrame) (gs : List GramIn) (rs : List Request) (os : List Owing) → Course plan count s fs gs rs os → Moves s s' f

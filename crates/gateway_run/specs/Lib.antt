@@ -6,4 +6,6 @@ pub mod Desk
 pub mod Rooms
 pub mod Serving
 pub mod Replies
+pub mod Done
+pub mod Stray
 pub mod Served

@@ -1,13 +1,13 @@
 -- WHAT EACH DATAGRAM OF A SERVING GOT, by the lives of the slaves: nothing, one error, or the first of the replies of its own row, and all of them where that is
 -- done.
-use Rattle.std.specs.Prelude.{◌≡◌, ◌≢◌, ◌<◌, ◌≤◌, ◌⊎◌, ℕ, suc, Bool, true, false, Option, Some, None, List, [], ◌∷◌, ◌++◌, length, map, slice_get, All, Ok, Err, ⊤}
+use Rattle.std.specs.Prelude.{◌≡◌, ◌≢◌, ◌<◌, ◌≤◌, ◌⊎◌, ℕ, suc, Bool, true, false, Option, Some, None, List, [], ◌∷◌, ◌++◌, length, slice_get, All, Ok, Err, ⊤}
 use Rattle.master_node.specs.of_life_frames.of_exchange_model.Exchange.{plain}
 use Rattle.master_node.specs.of_life_frames.of_exchange_model.Rows.{Row}
 use Rattle.gateway_core.specs.Framing.{request_in}
 use Rattle.gateway_core.specs.declared.framing.GatewayFault.{GatewayFault}
-use Rattle.kept_rows.specs.Rows.{AreAll, ToldAll, passed_rows}
-use Rattle.kept_rows.specs.of_served_runs.Served.{Keyed, Serves}
-use Rattle.kept_rows.specs.of_served_runs.Told.{Passed}
+use Rattle.served_places.specs.Rows.{AreAll, ToldAll, passed_rows}
+use Rattle.served_places.specs.of_served_runs.Served.{Keyed, Serves}
+use Rattle.served_places.specs.of_served_runs.Told.{Passed}
 use Rattle.mailbox_mail.specs.Mail.{error_of}
 use Rattle.mailbox_mail.specs.declared.mail.Mail.{Mail}
 use Rattle.master_node.specs.of_life_frames.Shares.{AllBoth}
@@ -70,11 +70,11 @@ pub data Fares (w : Serves) (came : List ℕ) (waiting begun : List Request) (do
       → Fares w came waiting begun done number asked mails
   replies : (told : List Body) → HasRow w came number asked told → StandsSo w begun number told done → mails ≡ mails_told told → Fares w came waiting begun done number asked mails
 
--- WHAT A DATAGRAM GOT: one that is no request nothing, one that the gateway answered by itself one error, and any other what it got that was passed on; `dones`
+-- WHAT A DATAGRAM GOT: one that is no request nothing, one that the gateway answered by itself one error, which is never 7, and any other what it got that was passed on; `dones`
 -- are those whose rows are done
 pub data Got (serves : List Serves) (came : List (List ℕ)) (rs : List Request) (dones : List ℕ) (number : ℕ) (g : GramIn) (mails : List Mail) : Type 0 where
   ignored : (fault : GatewayFault) → request_in g.bytes ≡ Err fault → g.queued ≡ None → mails ≡ [] → Got serves came rs dones number g mails
-  refused : (asked : Mail) (detail : ℕ) → request_in g.bytes ≡ Ok asked → g.queued ≡ None → mails ≡ error_of detail ∷ [] → Got serves came rs dones number g mails
+  refused : (asked : Mail) (detail : ℕ) → request_in g.bytes ≡ Ok asked → g.queued ≡ None → detail ≢ 7 → mails ≡ error_of detail ∷ [] → Got serves came rs dones number g mails
   queued :
       (asked : Mail) (slave : ℕ) (w : Serves) (numbers : List ℕ) → request_in g.bytes ≡ Ok asked → g.queued ≡ Some slave → slice_get serves slave ≡ Some w → slice_get came slave ≡ Some numbers
       → Fares w numbers (waiting_of slave rs) (begun_of slave rs) (is_in number dones) number asked mails → Got serves came rs dones number g mails
@@ -170,5 +170,5 @@ pub record Answers (plan : Scenario) (s : SessionState) (fs : List Exchanged) (g
 -- THE DATAGRAMS WHOSE ROWS WERE DONE in a course, as its session told
 abbrev pub dones_of : (plan : Scenario) (count : ℕ) (s : SessionState) (fs : List SentFrame) (gs : List GramIn) (rs : List Request) (os : List Owing) → Course plan count s fs gs rs os → List ℕ
 dones_of plan count _ _ _ _ _ (begins s first serves) = []
-dones_of plan count _ _ _ _ _ (hears s s' fs gs g rs rs' os more c at judges) = dones_of plan count s fs gs rs os c
+dones_of plan count _ _ _ _ _ (hears s s' fs gs g rs rs' os more c at few judges) = dones_of plan count s fs gs rs os c
 dones_of plan count _ _ _ _ _ (steps s s' fs f gs rs os c m) = dones_of plan count s fs gs rs os c ++ done_by_all (events_of s'.master) rs

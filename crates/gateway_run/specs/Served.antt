@@ -1,10 +1,11 @@
 -- What a serving leaves in its book.
-use Rattle.std.specs.Prelude.{◌≡◌, ◌≢◌, ◌⊎◌, ℕ, ◌≤◌, true, List, [], ◌++◌, length, map, All}
+use Rattle.std.specs.Prelude.{◌≡◌, ◌≢◌, ◌⊎◌, ℕ, ◌≤◌, true, List, [], ◌++◌, length, map, slice_get, All, Some}
 use Rattle.ec_outside.specs.Faults.{Rose}
 use Rattle.segment_plan.specs.declared.plan.Scenario.{Scenario}
 use Rattle.run_book.specs.declared.book.Book.{Book}
 use Rattle.run_book.specs.declared.book.Ending.{Ending}
 use Rattle.run_book.specs.declared.book.Ending.TheVariants as endings
+use Rattle.run_book.specs.declared.book.GramIn.{GramIn}
 use Rattle.run_book.specs.declared.book.GramOut.{GramOut}
 use Rattle.run_record.specs.Led.{exchanged}
 use Rattle.run_record.specs.Session.{SessionState, session_rows}
@@ -12,9 +13,11 @@ use Rattle.run_record.specs.of_run_notes.Slaves.{home_of}
 use Rattle.run_record.specs.Ran.{StopsAs}
 use Rattle.gateway_run.specs.declared.desk.Request.{Request}
 use Rattle.gateway_run.specs.Account.{Owing, Course, AreSpelled}
+use Rattle.gateway_run.specs.Done.{AllDone, LeavesNone}
 use Rattle.gateway_run.specs.Heard.{heard_as, AreHeard, AreSent, AreSentBut, IsOwed, IsRightly}
 use Rattle.gateway_run.specs.Replies.{Answers, dones_of}
 use Rattle.gateway_run.specs.Serving.{Told}
+use Rattle.gateway_run.specs.Stray.{DontFall, IsStray}
 
 -- the datagrams of a serving: they are those that the port heard, and no more than so many; each that was sent goes to who asked, and each
 -- that was passed on was rightly so
@@ -46,7 +49,13 @@ pub record HasAccount (plan : Scenario) (count : ℕ) (book : Book) (ending : En
   pub spelled : AreSpelled (map heard_as book.grams) owed (book.replies ++ later)
   -- by the lives that these frames lead each datagram got what is its own
   pub answers : Answers plan session (map exchanged book.frames) book.grams requests owed (dones_of plan count session book.frames book.grams requests owed course)
+  -- where nothing was left to do no request is unfinished, and each that was queued at a slave is done, unless that slave was given up
+  pub none : LeavesNone ending → requests ≡ []
+  pub done : LeavesNone ending → AllDone answers.serving.leading.serves (dones_of plan count session book.frames book.grams requests owed course) 0 book.grams
   pub rows : book.slaves ≡ session_rows session
+  -- the frames before which the datagrams were heard don't fall; and one that wasn't passed on gets error 5 only where no slave stands under its station
+  pub steady : DontFall book.grams
+  pub stray : (n : ℕ) (g : GramIn) → slice_get book.grams n ≡ Some g → IsStray (map home_of plan.slaves) book.slaves owed n g
   pub all : ending ≢ endings.PortFault → later ≡ []
 
 -- what goes with an ending

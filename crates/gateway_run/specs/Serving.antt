@@ -1,5 +1,5 @@
 -- A serving between its turns.
-use Rattle.std.specs.Bool.{OnFalse}
+use Rattle.std.specs.Bool.{OnTrue, OnFalse}
 use Rattle.std.specs.Prelude.{◌≡◌, ℕ, ◌+◌, ◌-◌, ◌<◌, ◌≤◌, ◌&&◌, ◌||◌, Bool, true, not, nat_lt, if◌then◌else◌, List, [], ◌∷◌, ◌++◌, length, map, All, Option, Result, Ok, Err}
 use Rattle.ec_outside.specs.Faults.{Rose}
 use Rattle.ec_outside.specs.Port.{HeardGram, Hears, has_ended}
@@ -33,6 +33,10 @@ told heard sent over faults port = record { heard = heard port; sent = sent port
 -- some slave is live, unless the segment rests
 abbrev pub LivesUnless : Bool → SessionState → Type 0
 LivesUnless rests s = OnFalse rests (has_live s.master ≡ true)
+
+-- no request is unfinished, where the segment is settled
+abbrev pub EmptyWhere : Bool → Serving → Type 0
+EmptyWhere settled v = OnTrue settled (v.desk.requests.items ≡ [])
 
 -- a serving of a sound plan and its book: the session is under way, each reply goes to its own asker, what was passed on was rightly so, and what was
 -- sent and is still to be sent is what was owed

@@ -3,6 +3,7 @@ ghost use Rattle.segment_plan.specs.Sound.{IsPlan};
 ghost use Rattle.segment_plan.specs.declared.plan.Scenario.{Scenario as Plan};
 ghost use Rattle.run_book.specs.Book.{IsNew};
 ghost use Rattle.run_book.specs.declared.book.Ending.TheVariants as endings;
+ghost use Rattle.run_record.specs.Served.{ServingRests};
 ghost use Rattle.run_record.specs.Session.{session_rows, are_at_rest};
 ghost use Rattle.run_record.specs.Ran.{HasSent, EndsSo};
 ghost use Rattle.gateway_run.specs.Serving.{Told, told, Goes, IsServing, can_hear};
@@ -41,6 +42,7 @@ fn turns<P: Port>(
     ensures goes { (plan : Plan) (count : ℕ) (first : Told) → IsServing plan count first (told P.heard P.sent P.over P.port_faults port.old) serving.old book.old → Goes plan count first (told P.heard P.sent P.over P.port_faults port.new) serving.new book.new result }
     ensures ends { IfOk result (EndsSo serving.new.session) }
     ensures whole { IfOk result (λ ending. ending ≢ endings.BudgetSpent → can_hear serving.new book.new ≡ false) }
+    ensures rests { IfOk result (λ ending. ending ≢ endings.BudgetSpent → ServingRests serving.new.session) }
     ensures empty { OnOk result (serving.new.desk.outbox.items ≡ []) }
 {
     let mut settled = serving.session.settled();

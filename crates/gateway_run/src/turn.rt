@@ -1,4 +1,4 @@
-ghost use Rattle.std.specs.Prelude.{◌≡◌, ◌≢◌, ◌<◌, ◌≤◌, [], ℕ, true, false, IfOk, OnOk};
+ghost use Rattle.std.specs.Prelude.{◌≡◌, ◌≢◌, ◌<◌, ◌≤◌, [], ℕ, length, true, false, IfOk, OnOk};
 ghost use Rattle.std.specs.Bool.{OnTrue, OnFalse};
 ghost use Rattle.ec_outside.specs.declared.port.Heard.TheVariants as heards;
 ghost use Rattle.segment_plan.specs.Sound.{IsPlan};
@@ -6,7 +6,7 @@ ghost use Rattle.segment_plan.specs.declared.plan.Scenario.{Scenario as Plan};
 ghost use Rattle.run_record.specs.Served.{ServingBegins};
 ghost use Rattle.run_record.specs.Session.{first_session};
 ghost use Rattle.gateway_run.specs.Desk.{HasNone, SameLive};
-ghost use Rattle.gateway_run.specs.Serving.{Told, told, Listens, SendsOne, Goes, IsServing, LivesUnless, left, can_hear};
+ghost use Rattle.gateway_run.specs.Serving.{Told, told, Listens, SendsOne, Goes, IsServing, LivesUnless, EmptyWhere, left, can_hear};
 
 use crate::desk::Desk;
 use crate::stop::Stop;
@@ -70,7 +70,7 @@ impl Serving {
     // What a call of the port answered: a datagram is taken. Whether there was one.
     fn take(&mut self, alloc: Global, heard: Heard, book: &mut Book) -> Result<bool, Stop>
         requires { can_hear self.old book.old ≡ true }
-        ensures goes { (plan : Plan) (count : ℕ) (first now next : Told) → IsServing plan count first now self.old book.old → Listens now next heard self.old.gram.items → Goes plan count first next self.new book.new result }
+        ensures goes { (plan : Plan) (count : ℕ) (first now next : Told) → length self.old.desk.requests.items < 64 → IsServing plan count first now self.old book.old → Listens now next heard self.old.gram.items → Goes plan count first next self.new book.new result }
         ensures live { SameLive self.old.session self.new.session }
         ensures some { IfOk result (λ some. OnTrue some (left self.new book.new < left self.old book.old)) }
         ensures loud { OnOk result (heard ≢ heards.Quiet → left self.new book.new < left self.old book.old) }
@@ -93,7 +93,7 @@ impl Serving {
     // Waits for a datagram.
     fn wait<P: Port>(&mut self, alloc: Global, port: &mut P, book: &mut Book) -> Result<(), Stop>
         requires { can_hear self.old book.old ≡ true }
-        ensures goes { (plan : Plan) (count : ℕ) (first : Told) → IsServing plan count first (told P.heard P.sent P.over P.port_faults port.old) self.old book.old → Goes plan count first (told P.heard P.sent P.over P.port_faults port.new) self.new book.new result }
+        ensures goes { (plan : Plan) (count : ℕ) (first : Told) → length self.old.desk.requests.items < 64 → IsServing plan count first (told P.heard P.sent P.over P.port_faults port.old) self.old book.old → Goes plan count first (told P.heard P.sent P.over P.port_faults port.new) self.new book.new result }
         ensures live { SameLive self.old.session self.new.session }
         ensures less { OnOk result (left self.new book.new < left self.old book.old) }
     {
@@ -126,7 +126,7 @@ impl Serving {
         book: &mut Book,
     ) -> Result<(), Stop>
         requires { OnTrue settled (can_hear self.old book.old ≡ true) }
-        ensures goes { (plan : Plan) (count : ℕ) (first : Told) → IsServing plan count first (told P.heard P.sent P.over P.port_faults port.old) self.old book.old → Goes plan count first (told P.heard P.sent P.over P.port_faults port.new) self.new book.new result }
+        ensures goes { (plan : Plan) (count : ℕ) (first : Told) → EmptyWhere settled self.old → IsServing plan count first (told P.heard P.sent P.over P.port_faults port.old) self.old book.old → Goes plan count first (told P.heard P.sent P.over P.port_faults port.new) self.new book.new result }
         ensures live { SameLive self.old.session self.new.session }
         ensures less { OnOk result (OnTrue settled (left self.new book.new < left self.old book.old)) }
         ensures most { OnOk result (left self.new book.new ≤ left self.old book.old) }
@@ -179,7 +179,7 @@ impl Serving {
         book: &mut Book,
     ) -> Result<bool, Stop>
         requires { OnTrue settled (can_hear self.old book.old ≡ true) }
-        ensures goes { (plan : Plan) (count : ℕ) (first : Told) → LivesUnless settled self.old.session → IsServing plan count first (told P.heard P.sent P.over P.port_faults port.old) self.old book.old → Goes plan count first (told P.heard P.sent P.over P.port_faults port.new) self.new book.new result }
+        ensures goes { (plan : Plan) (count : ℕ) (first : Told) → LivesUnless settled self.old.session → EmptyWhere settled self.old → IsServing plan count first (told P.heard P.sent P.over P.port_faults port.old) self.old book.old → Goes plan count first (told P.heard P.sent P.over P.port_faults port.new) self.new book.new result }
         ensures less { IfOk result (λ on. OnTrue on (left self.new book.new < left self.old book.old)) }
         ensures spent { IfOk result (λ on. OnFalse on (self.new.session.ring.number ≡ self.new.session.budget)) }
         ensures empty { OnOk result (self.new.desk.outbox.items ≡ []) }

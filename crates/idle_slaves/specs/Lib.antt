@@ -1,9 +1,17 @@
+pub use Rattle.never_waits.specs as of_never_waits
+pub mod Eager
+pub mod EagerFrames
+pub mod Entered
 pub mod Frames
 pub mod Going
+pub mod Held
 pub mod Links
 pub mod Phases
 pub mod Rings
 pub mod Rows
 pub mod Runs
+pub mod Standing
+pub mod Steps
 pub mod Visited
+pub mod WaitEager
 pub mod Waiting

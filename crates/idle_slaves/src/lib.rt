@@ -2,47 +2,52 @@
 //! contracts state the laws.
 #![tactic(auto)]
 
-ghost use Rattle.std.specs.Prelude.{◌≡◌, ◌≤◌, ◌⊎◌, ℕ, true, false, Bool, Option, None, List, []};
 ghost use Rattle.exchange_model.specs.Exchange.{Exchange, Speech, IsLawful, given, plain};
 ghost use Rattle.exchange_model.specs.Laws.{Moment};
 ghost use Rattle.exchange_model.specs.Rows.{Row, answer_after, left};
+ghost use Rattle.frame_view.specs.View.{Lens};
+ghost use Rattle.idle_slaves.specs.Frames.{InVain, node_on, memory_on};
+ghost use Rattle.idle_slaves.specs.Going.{Going, AccessVain, registers_on};
+ghost use Rattle.idle_slaves.specs.Links.{HasLink};
+ghost use Rattle.idle_slaves.specs.Phases.{IsSeen, HandSeen, TakesOn, Rests, idle_states};
+ghost use Rattle.idle_slaves.specs.Rings.{Kept, AllVain, AllStay, AllSpent};
+ghost use Rattle.idle_slaves.specs.Rows.{NeverWaits};
+ghost use Rattle.idle_slaves.specs.Runs.{VainIn};
+ghost use Rattle.idle_slaves.specs.Visited.{Waiting, Shows, Chosen, CameBack, HasRow, IsStill, IsUnpaused, LifeSpent, IsLeft, life_visit, memory_of};
+ghost use Rattle.idle_slaves.specs.Waiting.{Wanted, Memory, Coming, MayCome, IsVain, IsWaiting, IsSpent, IsIdle, memory_behind, tried};
 ghost use Rattle.life_measure.specs.Gains.{gains};
 ghost use Rattle.life_measure.specs.Repairs.{way_of};
-ghost use Rattle.link_model.specs.Agree.{Agrees};
-ghost use Rattle.life_model.specs.Lives.{Life, Spot, Era, life_next, life_back};
 ghost use Rattle.life_model.specs.Eras.{EraIs};
-ghost use Rattle.state_exchange.specs.Stated.{Stated, IsStated};
-ghost use Rattle.segment_model.specs.Record.{Frame};
-ghost use Rattle.segment_model.specs.Slaves.{Processor, Slave, serving};
-ghost use Rattle.idle_slaves.specs.Links.{HasLink};
+ghost use Rattle.life_model.specs.Lives.{Life, Spot, Era, life_next, life_back};
 ghost use Rattle.life_model.specs.Own.{own};
+ghost use Rattle.life_runs.specs.Led.{Exchanged, Leads};
+ghost use Rattle.link_mails.specs.Body.{Body};
+ghost use Rattle.link_model.specs.Agree.{Agrees};
 ghost use Rattle.link_model.specs.Frames.{node_meets};
 ghost use Rattle.link_model.specs.Link.{Link};
 ghost use Rattle.link_model.specs.Slave.{Node, Server, processor_step};
-ghost use Rattle.run_frames.specs.Clocks.{Clocked};
-ghost use Rattle.run_frames.specs.Goes.{Under, back_life, all_back};
-ghost use Rattle.run_frames.specs.Waits.{Waits, new_waits, waits_on, all_on, SomeWaits};
-ghost use Rattle.segment_model.specs.Record.{News};
-ghost use Rattle.segment_model.specs.Slaves.{Datagram, Found, Registers};
-ghost use Rattle.state_model.specs.Promises.{IsTable};
-ghost use Rattle.state_model.specs.States.{Table, Phase, Event, run, carry};
-ghost use Rattle.idle_slaves.specs.Going.{Going, AccessVain, registers_on};
-ghost use Rattle.idle_slaves.specs.Phases.{IsSeen, HandSeen, TakesOn, Rests, idle_states};
-ghost use Rattle.task_model.specs.Accounts.{Pick};
-ghost use Rattle.idle_slaves.specs.Waiting.{Wanted, Memory, Coming, MayCome, IsVain, IsWaiting, IsSpent, IsIdle, memory_behind, tried};
-ghost use Rattle.segment_model.specs.Seats.{is_over};
-ghost use Rattle.frame_view.specs.View.{Lens};
-ghost use Rattle.life_runs.specs.Led.{Exchanged, Leads};
-ghost use Rattle.link_mails.specs.Body.{Body};
 ghost use Rattle.master_duty.specs.Reply.{Reply};
 ghost use Rattle.master_hand.specs.Spoken.{Asked};
+ghost use Rattle.run_frames.specs.Clocks.{Clocked};
+ghost use Rattle.run_frames.specs.Goes.{Under, back_life, all_back};
 ghost use Rattle.run_frames.specs.Runs.{Progress};
 ghost use Rattle.run_frames.specs.Toured.{IsToured, WaitIn};
-ghost use Rattle.idle_slaves.specs.Runs.{VainIn};
-ghost use Rattle.idle_slaves.specs.Rows.{NeverWaits};
-ghost use Rattle.idle_slaves.specs.Rings.{Kept, AllVain, AllStay, AllSpent};
-ghost use Rattle.idle_slaves.specs.Frames.{InVain, node_on, memory_on};
-ghost use Rattle.idle_slaves.specs.Visited.{Waiting, Shows, Chosen, CameBack, HasRow, IsStill, IsUnpaused, LifeSpent, IsLeft, life_visit, memory_of};
+ghost use Rattle.run_frames.specs.Waits.{Waits, new_waits, waits_on, all_on, SomeWaits};
+ghost use Rattle.segment_model.specs.Record.{Frame, News};
+ghost use Rattle.segment_model.specs.Seats.{is_over};
+ghost use Rattle.segment_model.specs.Slaves.{Processor, Slave, serving, Datagram, Found, Registers};
+ghost use Rattle.state_exchange.specs.Stated.{Stated, IsStated};
+ghost use Rattle.state_model.specs.Promises.{IsTable};
+ghost use Rattle.state_model.specs.States.{Table, Phase, Event, run, carry};
+ghost use Rattle.std.specs.Prelude.{◌≡◌, ◌≤◌, ◌⊎◌, ℕ, true, false, Bool, Option, None, List, []};
+ghost use Rattle.task_model.specs.Accounts.{Pick};
+
+pub mod asked_waits;
+pub mod eager_slaves;
+pub mod entered_runs;
+pub mod held_visits;
+pub mod states_come;
+pub mod wait_runs;
 
 /// A SLAVE THAT WAS VISITED TWICE IN VAIN behind a step of its processor, since something was gained last, is spent: no mail is held for it, both mailboxes
 /// are empty, it has nothing to offer, and no state service drains.

@@ -10,13 +10,13 @@ use Rattle.state_exchange.specs.Stated.{Service, states_in, with_states}
 use Rattle.task_model.specs.Accounts.{Stage, Duty, Change, Account, Started}
 use Rattle.task_model.specs.Promise.{TasksPromised, TasksAnswered, services_in, state_of, states_started, changes_in, duty_in}
 use Rattle.task_model.proofs.Sessions.{tasks_promised, tasks_answered}
-use Rattle.mail_counts.specs.RowCounts.{AreCounted, rows_mails}
-use Rattle.task_counts.specs.Services.{service_count, services_count}
+use Rattle.few_replies.specs.RowCounts.{AreCounted, rows_mails}
+use Rattle.few_replies.specs.Services.{service_count, services_count}
 use Rattle.life_measure.specs.Gains.{rows_gains, newest_gains, phase_gains, stage_gains, duty_gains, changes_gains, account_gains, era_gains}
 use Rattle.life_model.specs.Eras.{OpenEra, frames_of}
 use Rattle.life_model.specs.Lives.{Era}
 use Rattle.life_model.proofs.Eras.{session_of, of_one}
-use Rattle.task_counts.proofs.OfTasks.{tasks_within}
+use Rattle.few_replies.proofs.OfTasks.{tasks_within}
 use Rattle.life_counts.specs.Begun.{service_most, begun_most, era_most}
 
 -- ---- mails

@@ -1,3 +1,25 @@
+pub mod Answered
+pub mod Backs
+pub mod Begins
+pub mod Clients
 pub mod Epoch
+pub mod Eras
+pub mod Frames
+pub mod Leads
+pub mod Led
+pub mod Marks
+pub mod News
+pub mod Opened
+pub mod Overs
+pub mod Rights
+pub mod Seen
+pub mod Sessions
+pub mod Stated
+pub mod Steps
+mod Sums
+pub mod TaggedWhole
+pub mod Turns
 pub mod Unopened
+pub mod Ways
 pub mod Whole
+pub mod Worked

@@ -16,7 +16,7 @@ use Rattle.slave_lives.specs.Lived.{Behind, table_of, node_seen, LivesEra}
 use Rattle.slave_lives.specs.Opening.{Plan}
 use Rattle.slave_lives.specs.Stands.{opening_again}
 use Rattle.slave_steps.specs.Node.{Node}
-use Rattle.whole_lives.specs.Whole.{IsWhole, OpensAs, StandsAs, IsLived}
+use Rattle.whole_ring.specs.Whole.{OwesLaws, OpensAs, OpensBy, StandsAs, IsLived}
 use Rattle.life_counts.proofs.Epoch.{epoch_within, epoch_app}
 use Rattle.life_counts.specs.Begun.{era_most, eras_most, life_most, IsUnopened, AllUnopened, AreUnopened, KeepsShape}
 
@@ -40,7 +40,7 @@ the_last : {M Q R : Type 0} (es : List (Era M Q R)) (e : Era M Q R) → AllUnope
 the_last [] e all = all.0
 the_last (f ∷ es) e all = the_last es e all.1
 
-module _ {S V A Q R K : Type 0} (w : Behind S V A Q R) (c : Clearing V A) (p : Plan) (spot : Spot) (whole : IsWhole w c p spot) (fs : List (Frame Body)) (shape : A → K) (count : K → Q → ℕ) (keeps : KeepsShape w c shape count) where
+module _ {S V A Q R K : Type 0} (w : Behind S V A Q R) (c : Clearing V A) (p : Plan) (spot : Spot) (owes : OwesLaws w c p spot) (fs : List (Frame Body)) (shape : A → K) (count : K → Q → ℕ) (keeps : KeepsShape w c shape count) where
   -- no services change the shape
   pub all_shape : (table : Table) (a : A × ℕ) (qs : List (Service Q)) → shape (exec_all (with_states w.exchange w.states table) a qs).0 ≡ shape a.0
   all_shape table a [] = refl
@@ -62,8 +62,8 @@ module _ {S V A Q R K : Type 0} (w : Behind S V A Q R) (c : Clearing V A) (p : P
     server = server;
     registers = registers;
     slave = slave;
-    lawful = whole.lawful;
-    stated = whole.stated;
+    lawful = owes.lawful;
+    stated = owes.whole.stated;
     is = is;
   }
 
@@ -110,9 +110,9 @@ module _ {S V A Q R K : Type 0} (w : Behind S V A Q R) (c : Clearing V A) (p : P
 
     -- the newest
     opens : (from : A) (e : Era Body Q R) (o : Opening) (n : Node S) → OpensAs w p spot from e fs o n → era_gains e ≤ era_most (count (shape from)) e
-    opens from e o n (OpensAs.yet again step plan still) = lived from e n still.lives.epoch
-    opens from e o n (OpensAs.anew closing waits start) = omega (arith, ap era_gains waits.is_new)
-    opens from e o n (OpensAs.over closing again step over) = left from e over.server over.left
+    opens from e o n (OpensBy.yet again step plan still) = lived from e n still.lives.epoch
+    opens from e o n (OpensBy.anew closing waits start) = omega (arith, ap era_gains waits.is_new)
+    opens from e o n (OpensBy.over closing again step over) = left from e over.server over.left
 
     newest : (from : A) (e : Era Body Q R) (stand : Stand) (n : Node S) → StandsAs w p spot from e fs stand n → era_gains e ≤ era_most (count (shape from)) e
     newest from e (Stand.Opens o) n x = opens from e o n x
@@ -127,14 +127,14 @@ module _ {S V A Q R K : Type 0} (w : Behind S V A Q R) (c : Clearing V A) (p : P
 
 -- THE GAINS OF A LIFE
 pub life_gains : {S V A Q R K : Type 0} (w : Behind S V A Q R) (c : Clearing V A) (p : Plan) (spot : Spot) (first : A) (l : Life Body Q R) (fs : List (Frame Body)) (n : Node S) (shape : A → K) (count : K → Q → ℕ) →
-    IsWhole w c p spot → IsLived w c p spot first l fs n → AreUnopened l → KeepsShape w c shape count → gains l ≤ 1 + life_most (count (shape first)) l
-life_gains w c p spot first l fs n shape count whole lived unopened keeps =
-    life_within w c p spot whole fs shape count keeps
+    OwesLaws w c p spot → IsLived w c p spot first l fs n → AreUnopened l → KeepsShape w c shape count → gains l ≤ 1 + life_most (count (shape first)) l
+life_gains w c p spot first l fs n shape count owes lived unopened keeps =
+    life_within w c p spot owes fs shape count keeps
     (λ e opened until server registers slave is.
-    let o = open_era w c p spot whole fs shape count keeps e opened until server registers slave is in
+    let o = open_era w c p spot owes fs shape count keeps e opened until server registers slave is in
     let t = epoch_app o in
     record {
-      within = epoch_within o (λ v. shape (w.exchange.app v)) count keeps.counted (λ state v. ap shape (whole.stated.app state v) ∙ keeps.told state (w.exchange.app v));
-      same = ap shape t.1 ∙ all_shape w c p spot whole fs shape count keeps (o.table o.spot.station) (w.exchange.app server, 0) (take t.0 (services_in e.account.started));
+      within = epoch_within o (λ v. shape (w.exchange.app v)) count keeps.counted (λ state v. ap shape (owes.whole.stated.app state v) ∙ keeps.told state (w.exchange.app v));
+      same = ap shape t.1 ∙ all_shape w c p spot owes fs shape count keeps (o.table o.spot.station) (w.exchange.app server, 0) (take t.0 (services_in e.account.started));
     })
     first l n lived unopened

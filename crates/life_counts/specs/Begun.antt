@@ -1,6 +1,6 @@
 -- WHAT THE SERVICES COUNT THAT CAME INTO HAND, of which each by mails takes so many at most.
 use Rattle.std.specs.Prelude.{◌≡◌, ◌≢◌, ℕ, ◌+◌, None, List, [], ◌∷◌, sum_by, ⊤}
-use Rattle.mail_counts.specs.RowCounts.{AreCounted}
+use Rattle.few_replies.specs.RowCounts.{AreCounted}
 use Rattle.state_exchange.specs.Stated.{Service}
 use Rattle.task_model.specs.Promise.{services_in}
 use Rattle.life_measure.specs.Gains.{era_gains}

@@ -1,1 +1,7 @@
 pub mod Begun
+pub mod Epochs
+pub mod Foreseen
+pub mod Seen
+pub mod Served
+pub mod Spoken
+pub mod Worked

@@ -2,22 +2,26 @@
 //! do nothing, and their contracts state the laws.
 #![tactic(auto)]
 
-ghost use Rattle.std.specs.Prelude.{◌≡◌, ◌≤◌, ◌+◌, ℕ, Bool, Option, List};
 ghost use Rattle.exchange_model.specs.Exchange.{Speech};
+ghost use Rattle.few_replies.specs.RowCounts.{AreCounted};
+ghost use Rattle.life_counts.specs.Begun.{begun_most, life_most, KeepsShape, AreUnopened};
 ghost use Rattle.life_measure.specs.Gains.{era_gains, gains};
 ghost use Rattle.life_model.specs.Eras.{Clearing, OpenEra};
 ghost use Rattle.life_model.specs.Lives.{Spot, Life, new_life, life_next, life_back, life_lost, gives_up};
 ghost use Rattle.link_mails.specs.Body.{Body};
-ghost use Rattle.mail_counts.specs.RowCounts.{AreCounted};
 ghost use Rattle.segment_model.specs.Record.{Frame, News};
 ghost use Rattle.segment_model.specs.Slaves.{Datagram, Found};
 ghost use Rattle.slave_lives.specs.Lived.{Behind};
 ghost use Rattle.slave_lives.specs.Opening.{Plan};
 ghost use Rattle.slave_steps.specs.Node.{Node};
+ghost use Rattle.std.specs.Prelude.{◌≡◌, ◌≤◌, ◌+◌, ℕ, Bool, Option, List};
 ghost use Rattle.task_model.specs.Accounts.{Pick};
 ghost use Rattle.task_model.specs.Promise.{services_in};
-ghost use Rattle.whole_lives.specs.Whole.{IsWhole, IsLived};
-ghost use Rattle.life_counts.specs.Begun.{begun_most, life_most, KeepsShape, AreUnopened};
+ghost use Rattle.whole_ring.specs.Whole.{OwesLaws, IsLived};
+
+pub mod served_gains;
+pub mod tagged_epochs;
+pub mod tagged_lives;
 
 /// WHAT AN EPOCH HAS GAINED, in mails and in steps of state services, is no more than what its services count: each by mails what it takes at most, a
 /// state service six.
@@ -40,5 +44,5 @@ pub fn unopened_law<M, Q, R>()
 /// lost, and whether the slave was given up, taken up again or returned to Init.
 pub fn life_counts<S, V, A, Q, R, K>()
     ensures { (w : Behind S V A Q R) (c : Clearing V A) (p : Plan) (spot : Spot) (first : A) (l : Life Body Q R) (fs : List (Frame Body)) (n : Node S) (shape : A → K) (count : K → Q → ℕ) →
-        IsWhole w c p spot → IsLived w c p spot first l fs n → AreUnopened l → KeepsShape w c shape count → gains l ≤ 1 + life_most (count (shape first)) l }
+        OwesLaws w c p spot → IsLived w c p spot first l fs n → AreUnopened l → KeepsShape w c shape count → gains l ≤ 1 + life_most (count (shape first)) l }
 {}

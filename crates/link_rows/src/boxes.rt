@@ -1,13 +1,11 @@
 ghost use Rattle.std.specs.Prelude.{◌<◌, ◌^◌, length};
 ghost use Rattle.esc_registers.specs.Access.{KeepsLengths};
 
-use anyhow::{Result, bail};
 use datagrams::{Command, Head};
 use esc_registers::Esc;
 use mailbox_mail::{Mail, MailFault, error_mail};
 use mailbox_slave::{Server, SlaveBox};
-use row_table::{Bench, Words};
-use std::alloc::Global;
+use row_table::{Bench, Row};
 
 // A server that refuses each mail by a mailbox error.
 #[derive(Drop)]
@@ -62,8 +60,10 @@ fn write(esc: &mut Esc, ado: u16, octets: &mut [u8]) -> u16
 }
 
 // A mail that is written twice, and again behind a step: the working counters, how many mails the server took behind each step, and what is left.
-fn taken_once(alloc: Global) -> Result<String> {
-    let mut esc = Esc::new(alloc, 64, 64)?;
+fn taken_once(row: &mut Row<'_>) {
+    let Ok(mut esc) = Esc::new(row.alloc(), 64, 64) else {
+        return row.fail();
+    };
     let mut slave_box = SlaveBox::new();
     let mut server = Refusing {
         taken: 0,
@@ -79,14 +79,13 @@ fn taken_once(alloc: Global) -> Result<String> {
     slave_box.serve(&mut esc, &mut server, 2);
     let first = server.taken;
     if first > 1 {
-        bail!("taken more than once");
+        return row.fail();
     }
     let again = write(&mut esc, 0x1000, &mut area);
     slave_box.step(&mut esc, &mut server, 2);
-    let second = server.taken;
-    let left = (esc.out_area().is_none(), esc.in_full(), slave_box.at_rest());
-    let (counters, taken) = ((enabled, written, full, again), (first, second));
-    Ok(format!(in alloc; "{counters:?} {taken:?} {left:?}")?)
+    row.show(&(enabled, written, full, again));
+    row.show(&(first, server.taken));
+    row.show(&(esc.out_area().is_none(), esc.in_full(), slave_box.at_rest()));
 }
 
 /// The box of a slave.
@@ -94,10 +93,10 @@ fn taken_once(alloc: Global) -> Result<String> {
 pub struct BoxBench;
 
 impl Bench for BoxBench {
-    fn found(&mut self, alloc: Global, asked: &mut Words<'_>) -> Result<String> {
-        match asked.word()? {
-            "twice" => taken_once(alloc),
-            call => bail!("no call: {call}"),
+    fn carry(&mut self, row: &mut Row<'_>) {
+        match row.word() {
+            "twice" => taken_once(row),
+            _ => row.fail(),
         }
     }
 }

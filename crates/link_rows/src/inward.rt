@@ -1,9 +1,7 @@
-use anyhow::{Result, bail};
 use arrayvec::ArrayVec;
 use datagrams::{Body, Head};
 use mailbox_master::{Got, GotView, InwardHalf, new_inward};
-use row_table::{Bench, Words, digits_of};
-use std::alloc::Global;
+use row_table::{Bench, Row};
 use std::mem;
 
 /// The inward half of a link.
@@ -12,34 +10,37 @@ pub struct InwardBench {
     half: InwardHalf,
 }
 
-/// A datagram of a half: command, ADP, ADO, the length that its head says, and its body.
-pub fn told_of(alloc: Global, head: &Head, body: &[u8]) -> Result<String> {
-    let (command, index, adp, ado, len) = (head.command, head.index, head.adp, head.ado, head.len);
-    let digits = digits_of(alloc, body)?;
-    Ok(format!(in alloc; "{command:?} {index} {adp} {ado} {len} {digits}")?)
+/// A datagram of a half: command, index, ADP, ADO, the length that its head says, and its body.
+pub fn tell_datagram(row: &mut Row<'_>, head: &Head, body: &[u8]) {
+    row.show(&head.command);
+    row.show(&head.index);
+    row.show(&head.adp);
+    row.show(&head.ado);
+    row.show(&head.len);
+    row.digits(body);
 }
 
 // What a read gave.
-fn got_by(alloc: Global, got: Option<Got>) -> Result<String> {
+fn tell_got(row: &mut Row<'_>, got: Option<Got>) {
     match got {
         Some(Got::Mail(mail)) => {
-            let (kind, counter) = (mail.kind, mail.counter);
-            let digits = digits_of(alloc, mail.body.as_slice())?;
-            Ok(format!(in alloc; "{kind:?} {counter} {digits}")?)
+            row.show(&mail.kind);
+            row.show(&mail.counter);
+            row.digits(mail.body.as_slice());
         }
-        other => Ok(format!(in alloc; "{other:?}")?),
+        other => row.show(&other),
     }
 }
 
 // The same of a mail as it stands in the area.
-fn seen_by(alloc: Global, got: Option<GotView<'_>>) -> Result<String> {
+fn tell_seen(row: &mut Row<'_>, got: Option<GotView<'_>>) {
     match got {
         Some(GotView::Mail(mail)) => {
-            let (kind, counter) = (mail.kind, mail.counter);
-            let digits = digits_of(alloc, mail.body)?;
-            Ok(format!(in alloc; "{kind:?} {counter} {digits}")?)
+            row.show(&mail.kind);
+            row.show(&mail.counter);
+            row.digits(mail.body);
         }
-        other => Ok(format!(in alloc; "{other:?}")?),
+        other => row.show(&other),
     }
 }
 
@@ -51,74 +52,82 @@ impl InwardBench {
         }
     }
 
+    // The half, in whose place another stands.
+    fn taken(&mut self) -> InwardHalf {
+        mem::replace(&mut self.half, InwardHalf::Clear(new_inward(0, 0)))
+    }
+
     // Another half in its place.
-    fn renew(&mut self, alloc: Global, len: u16) -> Result<String> {
+    fn renew(&mut self, row: &mut Row<'_>) {
+        let len = row.short();
         if len > 1486 {
-            bail!("no mailbox");
+            return row.fail();
         }
         self.half = InwardHalf::Clear(new_inward(0x1001, len));
-        Ok(format!(in alloc; "new")?)
+        row.say("new");
     }
 
     // Its datagram.
-    fn datagram(&self, alloc: Global) -> Result<String> {
+    fn tell(&self, row: &mut Row<'_>) {
         let mut head = Head::default();
         let mut body = ArrayVec::new();
         self.half.datagram(7, &mut head, &mut body);
-        told_of(alloc, &head, body.as_slice())
+        tell_datagram(row, &head, body.as_slice());
     }
 
     // The same by its head, and its body written into octets of its length.
-    fn filled(&self, alloc: Global) -> Result<String> {
+    fn tell_filled(&self, row: &mut Row<'_>) {
         let head = self.half.head(7);
         let mut octets = [0xEE; 64];
         let len = self.half.len();
         if len > 64 {
-            bail!("a longer body");
+            return row.fail();
         }
         self.half.fill(&mut octets[..len]);
-        told_of(alloc, &head, &octets[..len])
+        tell_datagram(row, &head, &octets[..len]);
     }
 
     // Its datagram is lost, of a half that is consumed.
-    fn lost(&mut self, alloc: Global) -> Result<String> {
-        let half = mem::replace(&mut self.half, InwardHalf::Clear(new_inward(0, 0)));
-        self.half = half.lost();
-        Ok(format!(in alloc; "lost")?)
+    fn lost(&mut self, row: &mut Row<'_>) {
+        self.half = self.taken().lost();
+        row.say("lost");
     }
 
     // The same in its place.
-    fn gone(&mut self, alloc: Global) -> Result<String> {
+    fn gone(&mut self, row: &mut Row<'_>) {
         self.half.gone();
-        Ok(format!(in alloc; "lost")?)
+        row.say("lost");
     }
 
     // Its datagram returns, to a half that is consumed.
-    fn answered(&mut self, alloc: Global, counter: u16, octets: &[u8]) -> Result<String> {
-        let half = mem::replace(&mut self.half, InwardHalf::Clear(new_inward(0, 0)));
-        let (half, got) = half.answered(counter, octets);
+    fn answered(&mut self, row: &mut Row<'_>) {
+        let counter = row.short();
+        let octets = row.octets();
+        let (half, got) = self.taken().answered(counter, octets.bytes());
         self.half = half;
-        got_by(alloc, got)
+        tell_got(row, got);
     }
 
     // The same in its place.
-    fn returned(&mut self, alloc: Global, counter: u16, octets: &[u8]) -> Result<String> {
-        let got = self.half.returned(counter, octets);
-        seen_by(alloc, got)
+    fn returned(&mut self, row: &mut Row<'_>) {
+        let counter = row.short();
+        let octets = row.octets();
+        let got = self.half.returned(counter, octets.bytes());
+        tell_seen(row, got);
     }
 }
 
 impl Bench for InwardBench {
-    fn found(&mut self, alloc: Global, asked: &mut Words<'_>) -> Result<String> {
-        match asked.word()? {
-            "new" => self.renew(alloc, asked.short()?),
-            "datagram" => self.datagram(alloc),
-            "filled" => self.filled(alloc),
-            "lost" => self.lost(alloc),
-            "gone" => self.gone(alloc),
-            "answered" => self.answered(alloc, asked.short()?, asked.octets(alloc)?.bytes()),
-            "returned" => self.returned(alloc, asked.short()?, asked.octets(alloc)?.bytes()),
-            call => bail!("no call: {call}"),
+    fn carry(&mut self, row: &mut Row<'_>) {
+        match row.word() {
+            "new" => self.renew(row),
+            "datagram" => self.tell(row),
+            "filled" => self.tell_filled(row),
+            "lost" => self.lost(row),
+            "gone" => self.gone(row),
+            "answered" => self.answered(row),
+            "returned" => self.returned(row),
+            _ => row.fail(),
         }
     }
 }

@@ -1,11 +1,11 @@
 ghost use Rattle.std.specs.Prelude.{◌≤◌, length};
 ghost use Rattle.esc_registers.specs.Access.{KeepsLengths};
 
-use anyhow::{Result, bail};
 use arrayvec::ArrayVec;
 use datagrams::{Command, Head};
+use ec_fields::NoMemory;
 use esc_registers::Esc;
-use row_table::{Bench, Words, digits_of};
+use row_table::{Bench, Row};
 use std::alloc::Global;
 
 /// The registers of a slave.
@@ -31,7 +31,7 @@ fn manager_written(esc: &mut Esc, activate: u8) -> u16
 }
 
 // A read of mailbox 1, twice: the working counter of both, and what stands first in the area.
-fn area_read(alloc: Global, esc: &mut Esc) -> Result<String> {
+fn tell_read(row: &mut Row<'_>, esc: &mut Esc) {
     let mut area = [0; 64];
     let mut read = Head {
         command: Command::Fprd,
@@ -41,8 +41,8 @@ fn area_read(alloc: Global, esc: &mut Esc) -> Result<String> {
     };
     esc.pass(&mut read, &mut area);
     esc.pass(&mut read, &mut area);
-    let (counter, digits) = (read.counter, digits_of(alloc, &area[..10])?);
-    Ok(format!(in alloc; "{counter} {digits}")?)
+    row.show(&read.counter);
+    row.digits(&area[..10]);
 }
 
 // A mail is offered: whether mailbox 1 is full behind it, the working counter of a write that disables its manager, and whether it is full still.
@@ -64,40 +64,40 @@ fn acknowledged(esc: &mut Esc) -> (bool, bool, bool) {
 }
 
 // Both, and whether mailbox 0 is empty.
-fn offered(alloc: Global) -> Result<String> {
-    let mut esc = Esc::new(alloc, 64, 64)?;
-    let placed = placed(&mut esc);
-    let acknowledged = acknowledged(&mut esc);
-    let out = esc.out_area().is_none();
-    Ok(format!(in alloc; "{placed:?} {acknowledged:?} {out}")?)
+fn offered(row: &mut Row<'_>) {
+    let Ok(mut esc) = Esc::new(row.alloc(), 64, 64) else {
+        return row.fail();
+    };
+    row.show(&placed(&mut esc));
+    row.show(&acknowledged(&mut esc));
+    row.show(&esc.out_area().is_none());
 }
 
 // A mail is offered where the managers are enabled, and read once.
-fn read_once(alloc: Global) -> Result<String> {
-    let mut esc = Esc::new(alloc, 64, 64)?;
+fn read_once(row: &mut Row<'_>) {
+    let Ok(mut esc) = Esc::new(row.alloc(), 64, 64) else {
+        return row.fail();
+    };
     let _ = manager_written(&mut esc, 3);
     esc.acknowledge();
     esc.place_in(&mailbox_mail::error_mail(2));
-    let read = area_read(alloc, &mut esc)?;
-    let right = esc.areas_right();
-    Ok(format!(in alloc; "{read} {right}")?)
+    tell_read(row, &mut esc);
+    row.show(&esc.areas_right());
 }
 
 impl EscBench {
     /// Areas of 4 octets.
-    pub fn new(alloc: Global) -> Result<EscBench> {
+    pub fn new(alloc: Global) -> Result<EscBench, NoMemory> {
         let esc = Esc::new(alloc, 4, 4)?;
         Ok(EscBench { esc })
     }
 
     // A datagram passes: ADP, working counter and octets as it comes back.
-    fn pass(&mut self, alloc: Global, asked: &mut Words<'_>) -> Result<String> {
-        let (command, adp, ado) = (asked.small()?, asked.short()?, asked.short()?);
-        let octets = asked.octets(alloc)?;
+    fn pass(&mut self, row: &mut Row<'_>) {
+        let (command, adp, ado) = (row.small(), row.short(), row.short());
+        let octets = row.octets();
         let mut body: ArrayVec<u8, 8> = ArrayVec::new();
-        if body.try_extend_from_slice(octets.bytes()).is_err() {
-            bail!("a longer body");
-        }
+        row.check(body.try_extend_from_slice(octets.bytes()).is_ok());
         let mut head = Head {
             command: Command::of(command),
             adp,
@@ -106,25 +106,20 @@ impl EscBench {
             ..Head::default()
         };
         self.esc.pass(&mut head, body.as_mut_slice());
-        let (adp, counter, digits) = (head.adp, head.counter, digits_of(alloc, body.as_slice())?);
-        Ok(format!(in alloc; "{adp} {counter} {digits}")?)
-    }
-
-    // The AL control word that was written.
-    fn request(&mut self, alloc: Global) -> Result<String> {
-        let word = self.esc.al_request();
-        Ok(format!(in alloc; "{word:?}")?)
+        row.show(&head.adp);
+        row.show(&head.counter);
+        row.digits(body.as_slice());
     }
 }
 
 impl Bench for EscBench {
-    fn found(&mut self, alloc: Global, asked: &mut Words<'_>) -> Result<String> {
-        match asked.word()? {
-            "pass" => self.pass(alloc, asked),
-            "request" => self.request(alloc),
-            "offered" => offered(alloc),
-            "read_once" => read_once(alloc),
-            call => bail!("no call: {call}"),
+    fn carry(&mut self, row: &mut Row<'_>) {
+        match row.word() {
+            "pass" => self.pass(row),
+            "request" => row.show(&self.esc.al_request()),
+            "offered" => offered(row),
+            "read_once" => read_once(row),
+            _ => row.fail(),
         }
     }
 }

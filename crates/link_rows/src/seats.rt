@@ -1,10 +1,8 @@
-use crate::inward::told_of;
-use anyhow::{Result, bail};
+use crate::inward::tell_datagram;
 use datagrams::Body;
 use mailbox_mail::Kind;
 use mailbox_master::OutwardSeat;
-use row_table::{Bench, Words};
-use std::alloc::Global;
+use row_table::{Bench, Row};
 
 /// The outward half with the place of its mail, of station 1001 and a mailbox of 20 octets.
 #[derive(Drop)]
@@ -21,48 +19,43 @@ impl SeatBench {
     }
 
     // Takes up a mail.
-    fn hold(&mut self, alloc: Global, address: u16, kind: Kind, body: &[u8]) -> Result<String> {
+    fn hold(&mut self, row: &mut Row<'_>, kind: Kind) {
+        let address = row.short();
+        let body = row.octets();
         if body.len() + 6 > self.seat.area_len() as usize {
-            bail!("a longer mail");
+            return row.fail();
         }
-        self.seat.hold(address, kind, body);
-        Ok(format!(in alloc; "held")?)
+        self.seat.hold(address, kind, body.bytes());
+        row.say("held");
     }
 
     // Its head, and its body written into octets of its length.
-    fn filled(&self, alloc: Global) -> Result<String> {
+    fn tell_filled(&self, row: &mut Row<'_>) {
         let head = self.seat.head(7);
         let mut octets = [0xEE; 64];
         let len = self.seat.len();
         if len > 64 {
-            bail!("a longer body");
+            return row.fail();
         }
         self.seat.fill(&mut octets[..len]);
-        told_of(alloc, &head, &octets[..len])
+        tell_datagram(row, &head, &octets[..len]);
     }
 
     // Its datagram returns: whether it holds no mail then.
-    fn answered(&mut self, alloc: Global, counter: u16) -> Result<String> {
-        self.seat.answered(counter);
-        let idle = self.seat.is_idle();
-        Ok(format!(in alloc; "{idle}")?)
+    fn answered(&mut self, row: &mut Row<'_>) {
+        self.seat.answered(row.short());
+        row.show(&self.seat.is_idle());
     }
 }
 
 impl Bench for SeatBench {
-    fn found(&mut self, alloc: Global, asked: &mut Words<'_>) -> Result<String> {
-        match asked.word()? {
-            "coe" => {
-                let address = asked.short()?;
-                self.hold(alloc, address, Kind::CoE, asked.octets(alloc)?.bytes())
-            }
-            "foe" => {
-                let address = asked.short()?;
-                self.hold(alloc, address, Kind::FoE, asked.octets(alloc)?.bytes())
-            }
-            "filled" => self.filled(alloc),
-            "answered" => self.answered(alloc, asked.short()?),
-            call => bail!("no call: {call}"),
+    fn carry(&mut self, row: &mut Row<'_>) {
+        match row.word() {
+            "coe" => self.hold(row, Kind::CoE),
+            "foe" => self.hold(row, Kind::FoE),
+            "filled" => self.tell_filled(row),
+            "answered" => self.answered(row),
+            _ => row.fail(),
         }
     }
 }

@@ -2,11 +2,9 @@ use al_state::{
     Al, BringUp, Climb, access, bring_new, came_back, cleared, climb_new, next, reopen_new,
     request, status, written,
 };
-use anyhow::{Result, bail};
 use arrayvec::ArrayVec;
 use datagrams::Head;
-use row_table::{Bench, Words, digits_of};
-use std::alloc::Global;
+use row_table::{Bench, Row};
 
 /// Changes of an AL state.
 #[derive(Drop)]
@@ -25,22 +23,22 @@ pub struct BringBench {
 }
 
 // A change from a state with its error: what the control word came to, and the state and error behind it.
-fn changed(alloc: Global, asked: &mut Words<'_>) -> Result<String> {
+fn change(row: &mut Row<'_>) {
     let mut al = Al {
-        state: asked.small()?,
-        error: asked.short()?,
+        state: row.small(),
+        error: row.short(),
     };
-    let (control, boot, areas) = (asked.short()?, asked.flag()?, asked.flag()?);
-    let outcome = request(&mut al, control, boot, areas);
-    let Al { state, error } = al;
-    Ok(format!(in alloc; "{outcome:?} {state} {error}")?)
+    let (control, boot, areas) = (row.short(), row.flag(), row.flag());
+    row.show(&request(&mut al, control, boot, areas));
+    row.show(&al.state);
+    row.show(&al.error);
 }
 
 impl Bench for StateBench {
-    fn found(&mut self, alloc: Global, asked: &mut Words<'_>) -> Result<String> {
-        match asked.word()? {
-            "change" => changed(alloc, asked),
-            call => bail!("no call: {call}"),
+    fn carry(&mut self, row: &mut Row<'_>) {
+        match row.word() {
+            "change" => change(row),
+            _ => row.fail(),
         }
     }
 }
@@ -54,38 +52,34 @@ impl ClimbBench {
     }
 
     // Another climb in its place.
-    fn renew(&mut self, alloc: Global, from: u8, target: u8) -> Result<String> {
+    fn renew(&mut self, row: &mut Row<'_>) {
+        let (from, target) = (row.small(), row.small());
         self.climb = climb_new(from, target);
-        Ok(format!(in alloc; "new")?)
+        row.say("new");
     }
 
-    // What is next.
-    fn next(&self, alloc: Global) -> Result<String> {
-        let next = next(&self.climb);
-        Ok(format!(in alloc; "{next:?}")?)
-    }
-
-    // The write is over.
-    fn written(&mut self, alloc: Global) -> Result<String> {
+    // The write is over: what is next.
+    fn written(&mut self, row: &mut Row<'_>) {
         written(&mut self.climb);
-        self.next(alloc)
+        row.show(&next(&self.climb));
     }
 
-    // A status that was read.
-    fn status(&mut self, alloc: Global, word: u16, code: u16) -> Result<String> {
+    // A status that was read: what is next.
+    fn status(&mut self, row: &mut Row<'_>) {
+        let (word, code) = (row.short(), row.short());
         status(&mut self.climb, word, code);
-        self.next(alloc)
+        row.show(&next(&self.climb));
     }
 }
 
 impl Bench for ClimbBench {
-    fn found(&mut self, alloc: Global, asked: &mut Words<'_>) -> Result<String> {
-        match asked.word()? {
-            "new" => self.renew(alloc, asked.small()?, asked.small()?),
-            "next" => self.next(alloc),
-            "written" => self.written(alloc),
-            "status" => self.status(alloc, asked.short()?, asked.short()?),
-            call => bail!("no call: {call}"),
+    fn carry(&mut self, row: &mut Row<'_>) {
+        match row.word() {
+            "new" => self.renew(row),
+            "next" => row.show(&next(&self.climb)),
+            "written" => self.written(row),
+            "status" => self.status(row),
+            _ => row.fail(),
         }
     }
 }
@@ -99,13 +93,13 @@ impl BringBench {
     }
 
     // The same slave, opened again to Bootstrap.
-    fn reopen(&mut self, alloc: Global) -> Result<String> {
+    fn reopen(&mut self, row: &mut Row<'_>) {
         self.up = reopen_new(1, 0x1002, 128, 64, 3);
-        Ok(format!(in alloc; "new")?)
+        row.say("new");
     }
 
     // The datagram of the access in hand: command, ADP, ADO and body, where all else is as it is to be.
-    fn access(&self, alloc: Global) -> Result<String> {
+    fn tell_access(&self, row: &mut Row<'_>) {
         let mut head = Head::default();
         let mut body = ArrayVec::new();
         access(&self.up, 7, &mut head, &mut body);
@@ -118,34 +112,29 @@ impl BringBench {
             len: body.len() as u16,
             ..Head::default()
         };
-        if head != plain {
-            bail!("another head");
-        }
-        let digits = digits_of(alloc, body.as_slice())?;
-        Ok(format!(in alloc; "{command:?} {adp} {ado} {digits}")?)
+        row.check(head == plain);
+        row.show(&command);
+        row.show(&adp);
+        row.show(&ado);
+        row.digits(body.as_slice());
     }
 
     // The access came back: whether the slave is up.
-    fn came(&mut self, alloc: Global, counter: u16, body: &[u8]) -> Result<String> {
-        let up = came_back(&mut self.up, counter, body);
-        Ok(format!(in alloc; "{up}")?)
-    }
-
-    // Whether Init was seen.
-    fn cleared(&self, alloc: Global) -> Result<String> {
-        let cleared = cleared(&self.up);
-        Ok(format!(in alloc; "{cleared}")?)
+    fn come(&mut self, row: &mut Row<'_>) {
+        let counter = row.short();
+        let body = row.octets();
+        row.show(&came_back(&mut self.up, counter, body.bytes()));
     }
 }
 
 impl Bench for BringBench {
-    fn found(&mut self, alloc: Global, asked: &mut Words<'_>) -> Result<String> {
-        match asked.word()? {
-            "reopen" => self.reopen(alloc),
-            "access" => self.access(alloc),
-            "came" => self.came(alloc, asked.short()?, asked.octets(alloc)?.bytes()),
-            "cleared" => self.cleared(alloc),
-            call => bail!("no call: {call}"),
+    fn carry(&mut self, row: &mut Row<'_>) {
+        match row.word() {
+            "reopen" => self.reopen(row),
+            "access" => self.tell_access(row),
+            "came" => self.come(row),
+            "cleared" => row.show(&cleared(&self.up)),
+            _ => row.fail(),
         }
     }
 }

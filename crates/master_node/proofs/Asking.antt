@@ -30,7 +30,7 @@ use Rattle.master_tour.specs.Under.{Grams, mine, Under}
 use Rattle.master_tour.specs.declared.stop.Stand.{Stand}
 use Rattle.master_tour.specs.declared.stop.Stop.{Stop}
 use Rattle.master_node.specs.Asks.{AsksHalf, EachAsks, AsksFirst, AllAsk}
-use Rattle.master_node.specs.Shows.{IsUnder, side_shows}
+use Rattle.master_node.specs.Shows.{IsOnFrame, side_shows}
 
 -- A DATAGRAM THAT IS ADDRESSED TO A STATION is one to its mailboxes
 place_never : (station adp : ℕ) → is_for station (place_of adp) ≡ false
@@ -106,23 +106,23 @@ asks_under station at under carried h due sent inn e c (Under.none u n) = subst 
 asks_under station at under carried h due sent inn e c (Under.has b u a n m) = subst (EachAsks h.inn) (sym n) (asks_half station carried h due b inn e c m, tt)
 
 -- OF ONE SLAVE
-asks_stand : {G : Ghosts InHand} (lens : ℕ → Lens) (recover : ℕ) (octets : List ℕ) (u : Turn) (s : Stop InHand G) (stand : Stand) → s.stand ≡ stand → IsUnder lens recover octets u s → AsksFirst (seen lens octets) u
+asks_stand : {G : Ghosts InHand} (lens : ℕ → Lens) (recover : ℕ) (octets : List ℕ) (u : Turn) (s : Stop InHand G) (stand : Stand) → s.stand ≡ stand → IsOnFrame lens recover octets u s → AsksFirst (seen lens octets) u
 asks_stand lens recover octets u s (Stand.Opening up) k i = λ o.
-    let stood = subst (λ (z : Stand). StandShows (λ d b. side_shows lens recover s u.lived.spot d b) u.lived.spot z u.lived.life) k i.lead.lives.shown.stood in
+    let stood = subst (λ (z : Stand). StandShows (λ d b. side_shows lens recover s u.lived.spot d b) u.lived.spot z u.lived.life) k i.lives.shown.stood in
     absurd (let t = sym stood.stand ∙ o in cc)
 asks_stand lens recover octets u s Stand.Gone k i = λ o.
-    let stood = subst (λ (z : Stand). StandShows (λ d b. side_shows lens recover s u.lived.spot d b) u.lived.spot z u.lived.life) k i.lead.lives.shown.stood in
+    let stood = subst (λ (z : Stand). StandShows (λ d b. side_shows lens recover s u.lived.spot d b) u.lived.spot z u.lived.life) k i.lives.shown.stood in
     absurd (let t = sym stood ∙ o in cc)
 asks_stand lens recover octets u s Stand.Open k i = λ o.
-    let stood = subst (λ (z : Stand). StandShows (λ d b. side_shows lens recover s u.lived.spot d b) u.lived.spot z u.lived.life) k i.lead.lives.shown.stood in
+    let stood = subst (λ (z : Stand). StandShows (λ d b. side_shows lens recover s u.lived.spot d b) u.lived.spot z u.lived.life) k i.lives.shown.stood in
     let e = u.lived.life.era in
     let way = subst (λ (z : Stand). StandUnder lens s.side.station s.at s.under s.side.carried z u.lived.life (seen lens octets)) k i.way in
     let asks = asks_under s.side.station s.at s.under s.side.carried e.side.halves (duty_access e.account.hand) (seen lens octets) s.side.inn (ap (λ (z : Halves Body). z.inn) stood.1.halves) s.side.by_half way in
-    let place = i.lead.lives.planned.stands.station_is in
+    let place = i.lives.planned.stands.station_is in
     mine_own e.side.halves.inn u.lived.spot.station (seen lens octets) (seen_for u.lived.spot.station lens octets) (subst (λ (n : ℕ). EachAsks e.side.halves.inn (mine n (seen lens octets))) place asks)
 
 -- and of all
-pub all_ask : {G : Ghosts InHand} (lens : ℕ → Lens) (recover : ℕ) (octets : List ℕ) (us : List Turn) (ss : List (Stop InHand G)) → AllBoth (λ u s. IsUnder lens recover octets u s) us ss → AllAsk (seen lens octets) us
+pub all_ask : {G : Ghosts InHand} (lens : ℕ → Lens) (recover : ℕ) (octets : List ℕ) (us : List Turn) (ss : List (Stop InHand G)) → AllBoth (λ u s. IsOnFrame lens recover octets u s) us ss → AllAsk (seen lens octets) us
 all_ask lens recover octets [] [] e = tt
 all_ask lens recover octets (u ∷ us) (s ∷ ss) e = (asks_stand lens recover octets u s s.stand refl e.0, all_ask lens recover octets us ss e.1)
 all_ask lens recover octets [] (s ∷ ss) e = absurd e

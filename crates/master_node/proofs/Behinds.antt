@@ -1,5 +1,5 @@
 -- What a master shows of its slaves behind a frame.
-use Rattle.std.proofs.Common.{◌≡◌, ℕ, ◌+◌, ◌≤◌, Bool, true, false, List, [], ◌∷◌, None, refl, sym, ap, ◌∙◌, subst, length}
+use Rattle.std.proofs.Common.{◌≡◌, ℕ, zero, suc, ◌+◌, ◌≤◌, Bool, true, false, List, [], ◌∷◌, None, refl, sym, ap, ◌∙◌, subst, length}
 use Rattle.std.specs.Prelude.{map, All, not, nat_lt, if◌then◌else◌}
 use Rattle.life_runs.specs.of_frame_view.View.{Lens}
 use Rattle.life_runs.specs.of_frame_view.Seen.{seen}
@@ -31,6 +31,36 @@ use Rattle.master_node.proofs.Lists.{each_length, both_each, both_holds, both_le
 use Rattle.master_node.proofs.Sents.{each_holds}
 use Rattle.master_node.proofs.Toureds.{opened_same}
 
+module _ (lens : ℕ → Lens) (recover : ℕ) where
+  -- its stand tells whether it is brought up or opened anew
+  stand_opens : {G : Ghosts InHand} (a : Lived Asked Reply) (t : Stop InHand G) → IsLived lens recover a t → is_opened t.stand ≡ is_opening a.life.stand
+  stand_opens a t v = go t.stand v.shown.stood
+    where
+      go : (z : Stand) → StandShows (side_shows lens recover t a.spot) a.spot z a.life → is_opened z ≡ is_opening a.life.stand
+      go (Stand.Opening up) s = sym (ap is_opening s.stand)
+      go Stand.Open s = sym (ap is_opening s.0)
+      go Stand.Gone s = sym (ap is_opening s)
+
+  lives_open : {G : Ghosts InHand} (leads : List Leads) (ts : List (Stop InHand G)) → AllBoth (λ a t. IsLived lens recover a t) (map lived_of leads) ts → (k : ℕ) → holds_at (λ s. is_opened s.stand) ts k ≡ holds_at is_opening_lead leads k
+  lives_open [] [] l k = refl
+  lives_open [] (t ∷ ts) l k = absurd l
+  lives_open (a ∷ leads) [] l k = absurd l
+  lives_open (a ∷ leads) (t ∷ ts) l zero = stand_opens a.lived t l.0
+  lives_open (a ∷ leads) (t ∷ ts) l (suc k) = lives_open leads ts l.1 k
+
+  -- how many there are, and have ended their first bring-up, by their lives
+  lives_long : {G : Ghosts InHand} (leads : List Leads) (ts : List (Stop InHand G)) → AllBoth (λ a t. IsLived lens recover a t) (map lived_of leads) ts → length ts ≡ length leads
+  lives_long leads ts l = sym (both_length (λ a t. IsLived lens recover a t) (map lived_of leads) ts l) ∙ map_length lived_of leads
+
+  pub behind_long : {G : Ghosts InHand} (leads : List Leads) (ts rs : List (Stop InHand G)) → EachPair (λ s t. StopStays s t) ts rs → AllBoth (λ a t. IsLived lens recover a t) (map lived_of leads) rs → length ts ≡ length leads
+  behind_long leads ts rs e l = each_length (λ s t. StopStays s t) ts rs e ∙ lives_long leads rs l
+
+  pub opens_behind : {G : Ghosts InHand} (leads : List Leads) (opened : ℕ) (ts rs : List (Stop InHand G)) → EachPair (λ s t. StopStays s t) ts rs → AllBoth (λ a t. IsLived lens recover a t) (map lived_of leads) rs →
+      opened_behind (λ s. is_opened s.stand) opened ts ≡ opened_behind is_opening_lead opened leads
+  opens_behind leads opened ts rs e l =
+      opened_same (λ s. is_opened s.stand) is_opening_lead opened ts leads (behind_long leads ts rs e l)
+      (λ k. sym (each_holds (λ s t. StopStays s t) (λ s. is_opened s.stand) (λ s t p. ap is_opened p.stand) ts rs e k) ∙ lives_open leads rs l k)
+
 module _ (lens : ℕ → Lens) (recover retry : ℕ) where
   -- a slave stays what it is where its master only tells
   pub lead_kept : {G : Ghosts InHand} (a : Leads) (s t : Stop InHand G) → IsLead lens recover a s → StopStays s t → IsLead lens recover a t
@@ -42,24 +72,6 @@ module _ (lens : ℕ → Lens) (recover retry : ℕ) where
     unpassed = k.side.passing ∙ l.unpassed;
     own = l.own;
   }
-
-  -- its stand tells whether it is brought up or opened anew
-  stand_opens : {G : Ghosts InHand} (a : Lived Asked Reply) (t : Stop InHand G) → IsLived lens recover a t → is_opened t.stand ≡ is_opening a.life.stand
-  stand_opens a t v = go t.stand v.shown.stood
-    where
-      go : (z : Stand) → StandShows (side_shows lens recover t a.spot) a.spot z a.life → is_opened z ≡ is_opening a.life.stand
-      go (Stand.Opening up) s = sym (ap is_opening s.stand)
-      go Stand.Open s = sym (ap is_opening s.0)
-      go Stand.Gone s = sym (ap is_opening s)
-
-  -- how many have ended their first bring-up, by their lives
-  pub opens_behind : {G : Ghosts InHand} (leads : List Leads) (opened : ℕ) (ts rs : List (Stop InHand G)) → EachPair (λ s t. StopStays s t) ts rs → AllBoth (λ a t. IsLead lens recover a t) leads rs → opened_behind (λ s. is_opened s.stand) opened ts ≡ opened_behind is_opening_lead opened leads
-  opens_behind leads opened ts rs e l =
-      opened_same (λ s. is_opened s.stand) is_opening_lead opened ts leads (each_length (λ s t. StopStays s t) ts rs e ∙ sym (both_length (λ a t. IsLead lens recover a t) leads rs l))
-      (λ k. sym (each_holds (λ s t. StopStays s t) (λ s. is_opened s.stand) (λ s t p. ap is_opened p.stand) ts rs e k) ∙ both_holds (λ a t. IsLead lens recover a t) is_opening_lead (λ s. is_opened s.stand) (λ a s v. stand_opens a.lived s v.lives) leads rs l k)
-
-  pub behind_long : {G : Ghosts InHand} (octets : List ℕ) (on : Turn → Leads) (us : List Turn) (ss : List (Stop InHand G)) → AllBoth (λ u s. IsUnder lens recover octets u s) us ss → length ss ≡ length (map on us)
-  behind_long octets on us ss e = sym (both_length (λ u s. IsUnder lens recover octets u s) us ss e) ∙ sym (map_length on us)
 
   -- behind a frame it is where it was in the ring, and no mail is passed on to it
   behind_spot : (gives : Bool) (made : ℕ) (f : Exchanged) (fate : Fate) (l : Lived Asked Reply) (share : Share) → (life_behind lens recover retry gives made f fate l share).spot ≡ l.spot
@@ -121,7 +133,7 @@ module _ (lens : ℕ → Lens) (recover retry : ℕ) where
     -- those that are opened, by their stops
     opens_at : {G : Ghosts InHand} (us : List Turn) (ts : List (Stop InHand G)) → AllBoth (λ a t. IsLead lens recover a t) (map (led_behind lens recover retry gives made f) us) ts → (k : ℕ) →
         holds_at (λ s. is_opened s.stand) ts k ≡ holds_at is_opening_lead (map (led_behind lens recover retry gives made f) us) k
-    opens_at us ts l k = both_holds (λ a t. IsLead lens recover a t) is_opening_lead (λ s. is_opened s.stand) (λ a s v. stand_opens a.lived s v.lives) (map (led_behind lens recover retry gives made f) us) ts l k
+    opens_at us ts l k = both_holds (λ a t. IsLead lens recover a t) is_opening_lead (λ s. is_opened s.stand) (λ a s v. stand_opens lens recover a.lived s v.lives) (map (led_behind lens recover retry gives made f) us) ts l k
 
     as_long : {G : Ghosts InHand} (us : List Turn) (ts : List (Stop InHand G)) → AllBoth (λ a t. IsLead lens recover a t) (map (led_behind lens recover retry gives made f) us) ts → length ts ≡ length us
     as_long us ts l = sym (both_length (λ a t. IsLead lens recover a t) (map (led_behind lens recover retry gives made f) us) ts l) ∙ map_length (led_behind lens recover retry gives made f) us

@@ -37,6 +37,7 @@ pub mod Visitings
 pub mod Eagers
 pub mod Servings
 pub mod Serveds
+pub mod OnFrames
 pub mod Mailings
 pub mod Handeds
 pub mod Handings

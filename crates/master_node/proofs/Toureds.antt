@@ -26,7 +26,7 @@ use Rattle.master_tour.specs.declared.stop.Stop.{Stop}
 use Rattle.master_tour.proofs.Firsts.{visits_once, visited_same}
 use Rattle.master_node.specs.Kept.{TourOn}
 use Rattle.master_node.specs.Toured.{stop_share, turn_share, again_of, tour_of, StaysPut, TakesPart, IsBare, HasVisited}
-use Rattle.master_node.specs.Shows.{IsUnder}
+use Rattle.master_node.specs.Shows.{IsOnFrame}
 use Rattle.life_runs.specs.of_frame_view.View.{Lens}
 use Rattle.life_runs.specs.of_life_frames.Shares.{AllBoth}
 use Rattle.life_runs.specs.Led.{Turn}
@@ -450,13 +450,13 @@ module _ (octets : List ℕ) (m m1 m2 : MasterNode) (h : HasVisited octets m1 m2
   }
 
 -- and by the lives of the slaves
-pub turns_tour : {G : Ghosts InHand} (lens : ℕ → Lens) (recover : ℕ) (octets : List ℕ) (live : ℕ → Bool) (size : ℕ) (area : ℕ → ℕ) (t : Tour) (us : List Turn) (ss : List (Stop InHand G)) (many : ℕ) (visit : List ℕ) → AllBoth (λ u s. IsUnder lens recover octets u s) us ss → IsOfTour (λ s. stop_share s) live size area t ss many visit → IsOfTour (λ u. turn_share u) live size area t us many visit
+pub turns_tour : {G : Ghosts InHand} (lens : ℕ → Lens) (recover : ℕ) (octets : List ℕ) (live : ℕ → Bool) (size : ℕ) (area : ℕ → ℕ) (t : Tour) (us : List Turn) (ss : List (Stop InHand G)) (many : ℕ) (visit : List ℕ) → AllBoth (λ u s. IsOnFrame lens recover octets u s) us ss → IsOfTour (λ s. stop_share s) live size area t ss many visit → IsOfTour (λ u. turn_share u) live size area t us many visit
 turns_tour lens recover octets live size area t us ss many visit e o = record {
   places = o.places;
   whole = o.whole;
   carries = carries_same (λ s. stop_share s) (λ u. turn_share u) ss us o.places
-      (λ test p. sym (both_holds (λ u s. IsUnder lens recover octets u s) (λ u. test (turn_share u)) (λ s. test (stop_share s)) (λ u s i. ap test (λ j. record { under = sym i.under j; at = sym i.at j })) us ss e p)) o.carries;
-  first = record { rest = o.first.rest; split = ap (λ z. visit_of live z t.again t.opened t.last) (both_length (λ u s. IsUnder lens recover octets u s) us ss e) ∙ o.first.split; some = o.first.some };
+      (λ test p. sym (both_holds (λ u s. IsOnFrame lens recover octets u s) (λ u. test (turn_share u)) (λ s. test (stop_share s)) (λ u s i. ap test (λ j. record { under = sym i.under j; at = sym i.at j })) us ss e p)) o.carries;
+  first = record { rest = o.first.rest; split = ap (λ z. visit_of live z t.again t.opened t.last) (both_length (λ u s. IsOnFrame lens recover octets u s) us ss e) ∙ o.first.split; some = o.first.some };
   comes = o.comes;
   leaves = o.leaves;
 }

@@ -50,6 +50,7 @@ pub mod Resting
 pub mod Named
 pub mod Inhand
 pub mod Serving
+pub mod Touring
 pub mod Events
 pub mod Passes
 pub mod Handed

@@ -111,6 +111,13 @@ module _ (lens : ℕ → Lens) (recover : ℕ) where
     pub unpassed : s.side.passing ≡ None
     pub own : a.lived.life.era.passing ≡ None
 
+  -- THE SLAVE WHILE A FRAME IS UNDER WAY, whatever is passed on to it: its life, its share of the frame, and what the frame has of it
+  pub record IsOnFrame {G : Ghosts InHand} (octets : List ℕ) (u : Turn) (s : Stop InHand G) : Type 0 where
+    pub lives : IsLived u.lived s
+    pub under : u.share.under ≡ s.under
+    pub at : u.share.at ≡ s.at
+    pub way : StandUnder lens s.side.station s.at s.under s.side.carried s.stand u.lived.life (seen lens octets)
+
   -- THE SLAVE WHILE A FRAME IS UNDER WAY: besides, its share of the frame, and what the frame has of it
   pub record IsUnder {G : Ghosts InHand} (octets : List ℕ) (u : Turn) (s : Stop InHand G) : Type 0 where
     pub lead : IsLead (lead_of u) s

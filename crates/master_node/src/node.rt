@@ -57,6 +57,7 @@ impl MasterNode {
     ghost use Rattle.master_node.specs.Serving.{FitsAt, IsAsked, ServedShows, ServedUnder, mails_in, run_lead};
     ghost use Rattle.master_node.specs.Passes.{BeginsFrame, EndsFrame, IsPassing};
     ghost use Rattle.master_node.specs.Events.{ServedBegin};
+    ghost use Rattle.master_node.specs.Touring.{IsServedVisit};
     ghost use Rattle.master_node.specs.Handed.{work_from};
     ghost use Rattle.served_runs.specs.Served.{Keyed, Serves, ServedTurn, IsServedFrame, MayAsk, asked_at};
     ghost use Rattle.master_node.specs.Shows.{WaitsNone};
@@ -304,7 +305,8 @@ impl MasterNode {
         ensures made { Makes self.old.lan self.new.lan }
         ensures eager { (lens : ℕ → Lens) (recover retry missed : ℕ) (as' : List Leads) → MasterShows lens recover retry self.old missed as' → EagerFrom self.old self.new }
         ensures serves { (lens : ℕ → Lens) (recover retry missed made : ℕ) (forwards : ℕ → ℕ) (ws : List Serves) → list_any (λ s. is_live s.stand) self.old.tour.stops.items ≡ true → suc made < 2 ^ 32 → IsUnlisted forwards self.old → ServedShows lens recover retry self.old missed made ws →
-            (vs : List ServedTurn) × IsServedFrame lens made into.new.items ws vs × ServedUnder lens recover retry (record self.new { made = suc made }) into.new.items missed made vs × (self.new.made ≡ made) × ServedBegin forwards ws vs self.new }
+            (vs : List ServedTurn) × IsServedFrame lens made into.new.items ws vs × ServedUnder lens recover retry (record self.new { made = suc made }) into.new.items missed made vs × (self.new.made ≡ made) × ServedBegin forwards ws vs self.new × (tour_of self.new ≡ tour_of self.old) ×
+            IsOfTour (λ s. stop_share s) (λ k. holds_at is_live_lead (map run_lead ws) k) (frame_size into.new.items) (λ k. area_at lens (map run_lead ws) k) (tour_of self.old) self.new.tour.stops.items (length (seen lens into.new.items)) self.new.tour.visit.items }
         ensures events { self.new.list.count ≤ self.old.list.count + 16 }
         ensures head { events_before self.new ≡ events_before self.old }
         ensures answers { self.old.list.count ≤ 81 → AnswersOn self.old self.new }
@@ -342,7 +344,7 @@ impl MasterNode {
         ensures happened { HappensSo self.old.lan self.new.lan }
         ensures made { (self.new.lan.ports ≡ self.old.lan.ports) × AreOfMaking self.new.lan.happened }
         ensures services { result ≡ Next.Frame → (lens : ℕ → Lens) (recover retry missed made : ℕ) (ws : List Serves) → suc made < 2 ^ 32 → ServedShows lens recover retry self.old missed made ws →
-            (vs : List ServedTurn) × IsServedFrame lens made into.new.items ws vs × ServedUnder lens recover retry self.new into.new.items missed made vs × ServedBegin (λ k. forwards_at self.old.posts.items k) ws vs self.new }
+            (vs : List ServedTurn) × IsServedFrame lens made into.new.items ws vs × ServedUnder lens recover retry self.new into.new.items missed made vs × ServedBegin (λ k. forwards_at self.old.posts.items k) ws vs self.new × IsServedVisit lens into.new.items ws vs self.old self.new }
         ensures few { self.new.list.before ≤ 16 }
         ensures answers { AnswersSo self.old self.new }
         ensures whole { (listed self.new.list.rows.items self.new.list.count ≡ events_in self.new) × (take self.new.list.before self.new.list.rows.items ≡ events_in self.new) }

@@ -31,7 +31,7 @@ impl MasterNode {
     ghost use Rattle.life_runs.specs.of_frame_view.Seen.{seen};
     ghost use Rattle.master_duty.specs.of_segment_model.Returned.{Returns};
     ghost use Rattle.life_runs.specs.of_segment_ring.declared.wire.Fate.{Fate};
-    ghost use Rattle.life_runs.specs.Led.{Turn, Exchanged, led_behind, gives_up_at, missed_behind};
+    ghost use Rattle.life_runs.specs.Led.{Leads, Turn, Exchanged, led_behind, gives_up_at, missed_behind};
     ghost use Rattle.master_node.specs.Brought.{HasBrought};
     ghost use Rattle.master_node.specs.Joined.{HasUnfinished, HasCompleted, stand_before, stand_under, unfinished_after, mails_back, mails_lost};
     ghost use Rattle.master_node.specs.Kept.{NodeKept};
@@ -54,7 +54,8 @@ impl MasterNode {
     ghost use Rattle.served_runs.specs.Served.{ServedTurn, served_behind};
     ghost use Rattle.std.specs.Prelude.{suc};
     ghost use Rattle.master_tour.specs.Toured.{goes_on, lost_on};
-    ghost use Rattle.master_node.specs.Shows.{is_opening_lead};
+    ghost use Rattle.master_node.specs.Shows.{is_opening_lead, lived_of};
+    ghost use Rattle.master_node.specs.Told.{HasLives};
     ghost use Rattle.master_node.specs.Toured.{tour_of};
     ghost use Rattle.std.specs.Prelude.{[], ◌++◌, take, true, Some, None};
     ghost use Rattle.master_node.specs.Answered.{AnswersSo};
@@ -342,8 +343,7 @@ impl MasterNode {
         ensures posts { vec_len self.new.posts ≡ vec_len self.old.posts }
         ensures leads { (lens : ℕ → Lens) (recover retry missed number : ℕ) (octets : List ℕ) (us : List Turn) (f : Exchanged) → f.fate ≡ Fate.Pass → f.back ≡ frame.now.items → MasterUnder lens recover retry self.old octets missed us → Returns (seen lens octets) (seen lens frame.now.items) →
             MasterShows lens recover retry self.new 0 (map (led_behind lens recover retry (gives_up_at lens recover retry missed) number f) us) }
-        ensures toured { (lens : ℕ → Lens) (recover retry missed number : ℕ) (octets : List ℕ) (us : List Turn) (f : Exchanged) → f.fate ≡ Fate.Pass → f.back ≡ frame.now.items → MasterUnder lens recover retry self.old octets missed us → Returns (seen lens octets) (seen lens frame.now.items) →
-            tour_of self.new ≡ goes_on is_opening_lead (map (led_behind lens recover retry (gives_up_at lens recover retry missed) number f) us) (tour_of self.old) self.old.tour.visit.items }
+        ensures toured { (lens : ℕ → Lens) (recover : ℕ) (as' : List Leads) → HasLives lens recover self.new (map lived_of as') → tour_of self.new ≡ goes_on is_opening_lead as' (tour_of self.old) self.old.tour.visit.items }
         ensures brought { (lens : ℕ → Lens) (recover retry missed : ℕ) (octets : List ℕ) (us : List Turn) → MasterUnder lens recover retry self.old octets missed us → Returns (seen lens octets) (seen lens frame.now.items) → HasBrought self.new us (seen lens frame.now.items) }
         ensures joined { (lens : ℕ → Lens) (recover retry missed number : ℕ) (octets : List ℕ) (us : List Turn) (befores : List (Option Unfinished)) (f : Exchanged) → f.fate ≡ Fate.Pass → f.back ≡ frame.now.items → MasterUnder lens recover retry self.old octets missed us → Returns (seen lens octets) (seen lens frame.now.items) →
             HasUnfinished self.old (map stand_under us) befores → HasCompleted self.new us befores (seen lens frame.now.items) × HasUnfinished self.new (map stand_before (map (led_behind lens recover retry (gives_up_at lens recover retry missed) number f) us)) (unfinished_after (mails_back (seen lens frame.now.items)) us befores) }
@@ -463,8 +463,7 @@ impl MasterNode {
             MasterShows lens recover retry self.new (missed_behind lens recover retry f.fate missed) (map (led_behind lens recover retry (gives_up_at lens recover retry missed) number f) us) }
         ensures joined { (lens : ℕ → Lens) (recover retry missed number after : ℕ) (octets : List ℕ) (us : List Turn) (befores : List (Option Unfinished)) (f : Exchanged) → f.fate ≡ Fate.Lost after → f.sent ≡ octets → MasterUnder lens recover retry self.old octets missed us →
             HasUnfinished self.old (map stand_under us) befores → HasUnfinished self.new (map stand_before (map (led_behind lens recover retry (gives_up_at lens recover retry missed) number f) us)) (unfinished_after mails_lost us befores) }
-        ensures toured { (lens : ℕ → Lens) (recover retry missed number after : ℕ) (octets : List ℕ) (us : List Turn) (f : Exchanged) → f.fate ≡ Fate.Lost after → f.sent ≡ octets → MasterUnder lens recover retry self.old octets missed us →
-            tour_of self.new ≡ lost_on is_opening_lead retry (map (led_behind lens recover retry (gives_up_at lens recover retry missed) number f) us) (tour_of self.old) self.old.tour.visit.items }
+        ensures toured { (lens : ℕ → Lens) (recover : ℕ) (as' : List Leads) → HasLives lens recover self.new (map lived_of as') → tour_of self.new ≡ lost_on is_opening_lead self.old.tour.retry as' (tour_of self.old) self.old.tour.visit.items }
         ensures happened { HappensSo self.old.lan self.new.lan }
         ensures downs { (lens : ℕ → Lens) (recover retry missed number after : ℕ) (octets : List ℕ) (us : List Turn) (f : Exchanged) → f.fate ≡ Fate.Lost after → f.sent ≡ octets → MasterUnder lens recover retry self.old octets missed us →
             GoDown self.old us (map (led_behind lens recover retry (gives_up_at lens recover retry missed) number f) us) self.new }

@@ -2,27 +2,30 @@
 //! the functions here do nothing, and their contracts state the laws.
 #![tactic(auto)]
 
-ghost use Rattle.std.specs.Prelude.{ℕ, Bool};
+ghost use Rattle.coe_model.specs.Model.{coe_exchange};
+ghost use Rattle.coe_model.specs.Tables as Tables;
+ghost use Rattle.eoe_model.specs.Model.{eoe_exchange};
+ghost use Rattle.eoe_model.specs.Network.{Network};
 ghost use Rattle.exchange_model.specs.Areas.{Areas, AreMailboxes};
 ghost use Rattle.exchange_model.specs.Exchange.{Exchange};
 ghost use Rattle.exchange_model.specs.Lifted.{Spells, lifted};
 ghost use Rattle.exchange_sum.specs.Refusing.{Refusal, IsRefusal, gated};
 ghost use Rattle.exchange_sum.specs.Sides.{Slave, IsSide, joined};
+ghost use Rattle.foe_model.specs.Files as Files;
+ghost use Rattle.foe_model.specs.Model.{foe_exchange};
+ghost use Rattle.never_waits.specs.Waits.{NeverWaits, TellsAll};
+ghost use Rattle.slave_model.specs.Application.{Parts, ArePartsLawful};
+ghost use Rattle.slave_model.specs.Product.{product};
+ghost use Rattle.slave_model.specs.Profile.{Profile, IsProfile};
+ghost use Rattle.soe_model.specs.Elements.{Elements};
+ghost use Rattle.soe_model.specs.Model.{soe_exchange};
 ghost use Rattle.state_exchange.specs.Families.{AreOneClient, in_states};
 ghost use Rattle.state_exchange.specs.Stated.{Stated, with_states};
 ghost use Rattle.state_exchange.specs.of_state_model.States.{Table};
-ghost use Rattle.coe_model.specs.Tables as Tables;
-ghost use Rattle.coe_model.specs.Model.{coe_exchange};
-ghost use Rattle.foe_model.specs.Files as Files;
-ghost use Rattle.foe_model.specs.Model.{foe_exchange};
-ghost use Rattle.soe_model.specs.Elements.{Elements};
-ghost use Rattle.soe_model.specs.Model.{soe_exchange};
-ghost use Rattle.eoe_model.specs.Network.{Network};
-ghost use Rattle.eoe_model.specs.Model.{eoe_exchange};
-ghost use Rattle.slave_model.specs.Profile.{Profile, IsProfile};
-ghost use Rattle.slave_model.specs.Application.{Parts, ArePartsLawful};
-ghost use Rattle.slave_model.specs.Product.{product};
-ghost use Rattle.never_waits.specs.Waits.{NeverWaits, TellsAll};
+ghost use Rattle.std.specs.Prelude.{ℕ, Bool};
+
+pub mod answered_rows;
+pub mod hears_first;
 
 /// So it is of each protocol's client: of SDO and of files each answer brings the next mail or the end, and elements, packets and address blocks are told
 /// whatever was heard.

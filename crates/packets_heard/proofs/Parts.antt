@@ -1,5 +1,5 @@
 -- The packets of mails, part by part.
-use Rattle.std.proofs.Common.{◌≡◌, ℕ, Option, Some, None, List, [], ◌∷◌, ◌++◌, refl, sym, ap, ◌∙◌, append_assoc, append-nil}
+use Rattle.std.proofs.Common.{◌≡◌, ℕ, Option, Some, None, List, [], ◌∷◌, ◌++◌, map, refl, sym, ap, ◌∙◌, append_assoc, append-nil}
 use Rattle.eoe.specs.Joining.{taken, joins}
 use Rattle.eoe.specs.declared.joining.Joined as Eoe
 use Rattle.eoe.specs.declared.joining.Joined.TheVariants.{More, Whole, Dropped}
@@ -13,12 +13,15 @@ use Rattle.life_runs.specs.Led.{Exchanged, Leads, Turn, IsLed}
 use Rattle.link_mails.specs.Body.{Body}
 use Rattle.master_hand.specs.Brings.{as_list}
 use Rattle.master_hand.specs.Joins.{fragment_in, unfinished_by, completed_by, whole_of, unfinished_behind, packet_in, packets_in}
+use Rattle.master_node.specs.Serving.{run_lead, run_turn}
 use Rattle.master_side.specs.Heard.{joined_by}
 use Rattle.master_tour.specs.Brings.{accepted_at}
 use Rattle.packet_model.specs.Packets.{wholes, as_part, parts}
 use Rattle.segment_ring.specs.declared.wire.Fate.{Fate}
 use Rattle.segment_ring.specs.declared.wire.Fate.TheVariants.{Pass, Lost}
 use Rattle.packets_heard.specs.Heard.{mails_by, Joined, joined_behind, joined_on, joined_none, joined_in, Times, ended, times_behind, times_on, times_none, times_in, packets_of, IsJoined}
+use Rattle.packets_heard.specs.Servings.{served_joined, served_times}
+use Rattle.served_runs.specs.Served.{Serves, IsServedLed}
 
 -- as the fragments among the mails are joined
 whole_first : (j : Eoe.Joined) (js : List Eoe.Joined) (ps : List (List ℕ)) → ps ≡ wholes js → as_list (whole_of j) ++ ps ≡ wholes (j ∷ js)
@@ -98,3 +101,8 @@ none_joined (a ∷ as') = (record { unfinished = refl; packets = refl }, none_jo
 pub run_joined : {lens : ℕ → Lens} {recover retry : ℕ} {first : List Leads} {fs : List Exchanged} {missed : ℕ} {as' : List Leads} (led : IsLed lens recover retry first fs missed as') → AllBoth IsJoined (times_in led) (joined_in led)
 run_joined {first = first} IsLed.start = none_joined first
 run_joined {lens = lens} (IsLed.on fs missed as' f us led frame) = all_behind lens f (times_in led) (joined_in led) us (run_joined led)
+
+pub serving_joined : {lens : ℕ → Lens} {recover retry : ℕ} {first : List Serves} {fs : List Exchanged} {missed : ℕ} {ws : List Serves} (led : IsServedLed lens recover retry first fs missed ws) → AllBoth IsJoined (served_times led) (served_joined led)
+serving_joined {first = first} IsServedLed.start = none_joined (map run_lead first)
+serving_joined (IsServedLed.asks fs missed ws place k led may) = serving_joined led
+serving_joined {lens = lens} (IsServedLed.on fs missed ws f vs led frame) = all_behind lens f (served_times led) (served_joined led) (map run_turn vs) (serving_joined led)

@@ -71,7 +71,7 @@ module _ {V M Q R : Type 0} (x : Exchange V V M Q R) (order : RepliesFirst x) wh
       go true e = (refl, refl)
       go false e = (refl, ap (λ b. is_own {Q = Q} (if b then Meant.Own else Meant.Reply (no_reply x.speech.emission ms))) (first_replies x.speech.emission k ms o e))
 
-  answered : (m : M) → IsAnswered (tagged x) is_passed (Asked.Passed m true)
+  pub answered : (m : M) → IsAnswered (tagged x) is_passed (Asked.Passed m true)
   answered m = record {
     mail = record { mail = m; meant = Meant.Alone true };
     planned = λ hs. refl;

@@ -1,2 +1,10 @@
+pub mod Clearing
+pub mod Client
+pub mod Drained
+pub mod Erased
+pub mod Frames
+pub mod Heard
 pub mod Led
+pub mod Newest
 pub mod Silent
+pub mod Steps

@@ -2,15 +2,21 @@
 //! running code.
 #![tactic(auto)]
 
-ghost use Rattle.std.specs.Prelude.{◌≡◌, ℕ, Bool, Option, List};
 ghost use Rattle.exchange_model.specs.Exchange.{Exchange, IsLawful};
-ghost use Rattle.segment_model.specs.Slaves.{Registers, Processor, Slave};
-ghost use Rattle.segment_model.specs.Record.{Frame};
-ghost use Rattle.life_model.specs.Lives.{Spot, Era};
 ghost use Rattle.exchange_model.specs.Rows.{Row, IsWhole};
-ghost use Rattle.serving_model.specs.Tagged.{IsServed, Tagged, Asked, Rowed, ideal, tagged};
+ghost use Rattle.life_model.specs.Lives.{Spot, Era};
 ghost use Rattle.passed_whole.specs.Led.{RepliesFirst, IsLed, NoneUnheard};
 ghost use Rattle.passed_whole.specs.Silent.{is_passed, IsForeseenRight, EachHadNone, HeardAll};
+ghost use Rattle.segment_model.specs.Record.{Frame};
+ghost use Rattle.segment_model.specs.Slaves.{Registers, Processor, Slave};
+ghost use Rattle.serving_model.specs.Tagged.{IsServed, Tagged, Asked, Rowed, ideal, tagged};
+ghost use Rattle.std.specs.Prelude.{◌≡◌, ℕ, Bool, Option, List};
+
+pub mod passed_model;
+pub mod passing_gains;
+pub mod passing_rows;
+pub mod session_rows;
+pub mod worked_life;
 
 /// A service of one mail that is always answered isn't over before a reply of it was heard: a master that reads the status of mailbox 0 only where
 /// nothing is in doubt, and counts an empty read of mailbox 1 only behind a step of the slave, hears it first.

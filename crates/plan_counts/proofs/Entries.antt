@@ -15,7 +15,7 @@ use Rattle.segment_plan.specs.declared.slave.SlaveSpec.{SlaveSpec}
 use Rattle.segment_plan.specs.Bound.{most_at, most_of, own_most, entry_most}
 use Rattle.segment_plan.specs.Sound.{kept, indexes, IsObject, IsSlave}
 use Rattle.slave_server.specs.Spec.{with_objects, objects_of}
-use Rattle.service_counts.specs.Shapes.{mosts, object_size, found_size, entry_size}
+use Rattle.few_replies.specs.Shapes.{mosts, object_size, found_size, entry_size}
 
 -- a size by its place
 place_size : (entries : List EntrySpec) (place : ℕ) → slice_index (mosts entries) place ≡ most_at entries place

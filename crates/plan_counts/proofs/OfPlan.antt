@@ -20,10 +20,10 @@ use Rattle.segment_plan.specs.Bound.{mails_of, entry_most, work_of}
 use Rattle.segment_plan.specs.Sound.{IsSlave, IsService}
 use Rattle.slave_model.specs.Profile.{areas_of}
 use Rattle.slave_server.specs.Spec.{files_of, core_of, profile_of}
-use Rattle.mail_counts.specs.Counts.{third, mails_within}
-use Rattle.mail_counts.proofs.Thirds.{fits}
-use Rattle.service_counts.specs.Shapes.{Shape, shape_of, emission_mails}
-use Rattle.service_counts.proofs.OfShape.{mails_less}
+use Rattle.few_replies.specs.Counts.{third, mails_within}
+use Rattle.few_replies.proofs.Thirds.{fits}
+use Rattle.few_replies.specs.Shapes.{Shape, shape_of, emission_mails}
+use Rattle.few_replies.proofs.OfShape.{mails_less}
 use Rattle.plan_counts.specs.Asked.{asked_most}
 use Rattle.plan_counts.specs.Split.{own_work, entering, split_work}
 use Rattle.plan_counts.proofs.Entries.{plan_entry}

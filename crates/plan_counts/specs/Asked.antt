@@ -2,7 +2,7 @@
 use Rattle.std.specs.Prelude.{ℕ}
 use Rattle.master_hand.specs.Spoken.{Asked, sdo, file, drive, net, passed}
 use Rattle.slave_model.specs.Profile.{Protocol, Profile}
-use Rattle.service_counts.specs.Shapes.{Shape, shape_most}
+use Rattle.few_replies.specs.Shapes.{Shape, shape_most}
 
 -- a mail that is passed on is no service of a plan
 abbrev pub asked_most : Profile → Shape → Asked → ℕ

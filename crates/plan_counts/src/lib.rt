@@ -10,7 +10,7 @@ ghost use Rattle.segment_plan.specs.declared.service.Service as Plan;
 ghost use Rattle.segment_plan.specs.Bound.{work_of};
 ghost use Rattle.segment_plan.specs.Sound.{IsSlave, IsService};
 ghost use Rattle.slave_server.specs.Spec.{core_of, profile_of};
-ghost use Rattle.service_counts.specs.Shapes.{shape_of};
+ghost use Rattle.few_replies.specs.Shapes.{shape_of};
 ghost use Rattle.plan_counts.specs.Asked.{asked_most};
 ghost use Rattle.plan_counts.specs.Split.{own_work, entering, split_work};
 

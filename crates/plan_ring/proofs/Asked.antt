@@ -3,7 +3,8 @@ use Rattle.std.proofs.Common.{◌≡◌, ℕ, ◌&&◌, Bool, true, false, List,
 use Rattle.std.specs.Prelude.{if◌then◌else◌, None, option_map}
 use Rattle.life_runs.specs.of_frame_view.View.{Lens}
 use Rattle.life_runs.specs.of_link_mails.Body.{Body}
-use Rattle.named_lives.specs.of_exchange_model.Exchange.{Exchange}
+use Rattle.exchange_model.specs.Exchange.{Exchange, IsLawful}
+use Rattle.plan_ring.proofs.Named.{named_law}
 use Rattle.slave_parts.specs.of_exchange_sum.Refusing.{Refusal, gated}
 use Rattle.slave_parts.specs.of_foe_model.Meaning as FoeMeaning
 use Rattle.slave_parts.specs.of_eoe_model.Network.{Station}
@@ -12,13 +13,13 @@ use Rattle.life_runs.specs.of_master_hand.Spoken.{Asked, sdo, file, drive, net, 
 use Rattle.slave_parts.specs.of_state_exchange.Families.{InState, states_of}
 use Rattle.slave_parts.specs.of_slave_model.Acknowledged as Slave
 use Rattle.slave_parts.specs.of_slave_model.Product.{product, served, refusal, side}
-use Rattle.slave_parts.specs.of_slave_model.Profile.{Protocol, Profile, areas_of, serves}
+use Rattle.slave_parts.specs.of_slave_model.Profile.{Protocol, Profile, IsProfile, areas_of, serves}
 use Rattle.slave_parts.specs.Parts.{Core, Server, parts}
-use Rattle.named_lives.specs.Named.{Agrees, AgreesLast}
-use Rattle.book_lives.specs.of_book_model.Chain.{Same}
-use Rattle.book_lives.specs.First.{Forgets}
-use Rattle.server_lives.specs.Real.{real_clearing}
-use Rattle.named_lives.specs.Alike.{Alike}
+use Rattle.plan_ring.specs.Named.{Agrees, AgreesLast}
+use Rattle.book_model.specs.Chain.{Same}
+use Rattle.plan_ring.specs.KeptFirst.{Forgets}
+use Rattle.plan_ring.specs.Real.{real_clearing}
+use Rattle.plan_ring.specs.Alike.{Alike}
 use Rattle.plan_ring.specs.Asked.{is_service, service_of, as_asked, asked}
 
 -- a client is that of its protocol, served or not
@@ -60,6 +61,10 @@ module _ (p : Profile) where
 
   pub agrees : Agrees (product parts p) as_asked (hand_speech (areas_of p))
   agrees = record { valid = valid_as; planned = planned_as; ends = ends_as; handed = handed_as }
+
+-- so it owes the laws
+pub asked_lawful : ((p : Profile) → IsProfile p → IsLawful (product parts p)) → (p : Profile) → IsProfile p → (boot : Bool) (lens : ℕ → Lens) → IsLawful (asked p boot lens).exchange
+asked_lawful law p profile boot lens = named_law (product parts p) as_asked (hand_speech (areas_of p)) (law p profile) (agrees p)
 
 file_last : (q : FoeMeaning.Service) → FoeMeaning.is_file_read q ≡ Slave.is_file_read q
 file_last (FoeMeaning.read name pass) = refl

@@ -7,18 +7,18 @@ use Rattle.slave_parts.specs.of_segment_model.Record.{Frame}
 use Rattle.life_runs.specs.of_segment_plan.declared.slave.SlaveSpec.{SlaveSpec}
 use Rattle.life_runs.specs.of_segment_ring.declared.wire.Fate.{Fate}
 use Rattle.life_runs.specs.of_segment_ring.declared.wire.Fate.TheVariants.{Pass, Lost}
-use Rattle.named_lives.specs.of_task_model.Accounts.{Pick}
-use Rattle.named_lives.specs.of_life_model.Lives.{Life, Stand, life_next, life_back, life_lost}
+use Rattle.task_model.specs.Accounts.{Pick}
+use Rattle.life_model.specs.Lives.{Life, Stand, life_next, life_back, life_lost}
 use Rattle.life_runs.specs.of_master_duty.Reply as Master
 use Rattle.life_runs.specs.of_master_hand.Spoken.{Asked, acknowledged}
 use Rattle.life_runs.specs.of_life_frames.Shares.{came_at, given_where}
-use Rattle.book_lives.specs.of_book_model.Script.{Addressed, HaveBegun, AnyLive, EachLive, AllLive, RestsWhole, DoneWhole}
-use Rattle.book_lives.specs.Rows.{IsFirst}
-use Rattle.book_lives.proofs.Rows.{back_first, lost_first, new_first}
-use Rattle.book_lives.proofs.First.{first_book}
+use Rattle.book_model.specs.Script.{Addressed, HaveBegun, AnyLive, EachLive, AllLive, RestsWhole, DoneWhole}
+use Rattle.plan_ring.specs.Rows.{IsFirst}
+use Rattle.plan_ring.proofs.Rows.{back_first, lost_first, new_first}
+use Rattle.plan_ring.proofs.KeptFirst.{first_book}
 use Rattle.whole_ring.specs.Members.{AllLived}
 use Rattle.plan_ring.specs.Plan.{PlanMember, FitsPlan, step, new_members}
-use Rattle.plan_ring.specs.Master.{speech_of, AllLed, Under, IsUnder, AllUnder, led_behind, AllBehind}
+use Rattle.plan_ring.specs.Master.{owed, speech_of, AllLed, Under, IsUnder, AllUnder, led_behind, AllBehind}
 use Rattle.plan_ring.specs.First.{AllFirst, Stays, AllStay, AllOpen, AllBooks, runs_of, AllAtRest, RunEnds}
 
 next_stands : (m : PlanMember) (more : Body → Bool) (passed : Asked → Bool) (made : ℕ) (stand : Stand) (pick : Pick Asked) → (life_next (speech_of m) acknowledged more passed made m.life stand pick).stand ≡ m.life.stand
@@ -69,7 +69,7 @@ module _ (lens : ℕ → Lens) (ss : List SlaveSpec) (more : Body → Bool) (fs 
   pub all_books : (place : ℕ) (ms : List PlanMember) (lives : AllLived lens step (FitsPlan ss) fs place ms) (led : AllLed ms) → AllFirst (length fs) ms → AllOpen lens ss more fs ms → AllBooks lens ss more fs place ms lives led
   all_books place [] lives led first open_ = tt
   all_books place (m ∷ ms) lives led first open_ =
-      (first_book m.services m.clearing m.plan m.spot lives.0.whole led.0.forgets more m.first m.life fs m.node lives.0.lived first.0 open_.0, all_books (suc place) ms lives.1 led.1 first.1 open_.1)
+      (first_book m.services m.clearing m.plan m.spot (owed m lives.0.whole led.0) led.0.forgets more m.first m.life fs m.node lives.0.lived first.0 open_.0, all_books (suc place) ms lives.1 led.1 first.1 open_.1)
 
   -- NOTHING IS LEFT
   each_rests : (place : ℕ) (ms : List PlanMember) (lives : AllLived lens step (FitsPlan ss) fs place ms) (led : AllLed ms) (books : AllBooks lens ss more fs place ms lives led) (as' : List (Addressed Asked)) → AllAtRest lens ss more fs ms as' →

@@ -1,10 +1,49 @@
-pub use Rattle.book_lives.proofs as of_book_lives
-pub use Rattle.named_lives.proofs as of_named_lives
+pub use Rattle.slave_server.proofs as of_slave_server
+pub mod Alike
+pub mod All
+pub mod Answering
+pub mod Answers
 pub mod Asked
-pub mod Valid
-pub mod Plan
-pub mod Master
+pub mod CoeRooms
+pub mod DriveRooms
+pub mod Each
+pub mod Epochs
+pub mod Eras
 pub mod First
+pub mod FoeRooms
+mod Frames
+pub mod Goes
+pub mod Halves
+pub mod Hands
+pub mod KeptFirst
 pub mod Known
-pub mod Turns
 pub mod Lives
+pub mod Master
+mod Meets
+mod Moments
+pub mod Named
+pub mod NamedAlike
+pub mod NamedNames
+pub mod Names
+mod Open
+pub mod OpenEach
+pub mod Opened
+pub mod Opens
+mod Owns
+pub mod Pairs
+pub mod Plan
+mod PlanOpens
+pub mod Reals
+pub mod Repairs
+pub mod Rooms
+pub mod Rows
+mod Runs
+mod Seats
+pub mod Settled
+pub mod SlaveTurns
+mod Slaves
+pub mod Sounds
+mod Told
+pub mod Turns
+pub mod Valid
+pub mod Ways

@@ -22,9 +22,9 @@ use Rattle.life_runs.specs.of_segment_plan.declared.service.Service as Script
 use Rattle.life_runs.specs.of_segment_ring.declared.wire.Fate.{Fate}
 use Rattle.life_runs.specs.of_segment_ring.Ring.{RingState}
 use Rattle.life_runs.specs.of_segment_ring.Schedule.{fate_at}
-use Rattle.book_lives.specs.of_slave_lives.Rings.{fate_seen}
-use Rattle.server_lives.specs.of_slave_server.Serving.{Serving}
-use Rattle.book_lives.specs.of_slave_steps.Node.{Node, node_passed}
+use Rattle.slave_lives.specs.Rings.{fate_seen}
+use Rattle.slave_server.specs.Serving.{Serving}
+use Rattle.slave_steps.specs.Node.{Node, node_passed}
 use Rattle.whole_ring.specs.Members.{IsRing, first_ring}
 use Rattle.whole_ring.specs.Turning.{frame_at}
 use Rattle.plan_ring.specs.Lives.{IsKnown, AllShown, AreLived}
@@ -36,7 +36,7 @@ use Rattle.plan_ring.proofs.Turns.{under_of, all_under, all_behind}
 pub record Laws : Type 0 where
   pub begins : (plan : Scenario) → Plan.IsPlan plan → AllMacs plan.slaves → IsRing (lens_of plan.slaves) step (FitsPlan plan.slaves) [] (first_ring plan.lose (members_of plan)) (members_of plan)
   pub runs : (plan : Scenario) → Plan.IsPlan plan → first_ring plan.lose (members_of plan) ≡ ring_of plan
-  pub led : (plan : Scenario) → AllLed (members_of plan)
+  pub led : (plan : Scenario) → Plan.IsPlan plan → AllMacs plan.slaves → AllLed (members_of plan)
   pub goes_on : (more : Body → Bool) (passed : Asked → Bool) (lens : ℕ → Lens) (ss : List SlaveSpec) (gives : Bool) (recover : ℕ) (fs : List (Frame Body)) (ring : RingState (Node Serving)) (octets : List ℕ) (ds : List Raw.Datagram) (ms : List PlanMember) (us : List Under) →
       IsFrame octets (chained ds) → IsRing lens step (FitsPlan ss) fs ring ms → AllLed ms → AllUnder more passed lens (length fs) ds ms us → GoesOn more passed lens ss gives recover fs ring octets ms us
 
@@ -70,7 +70,7 @@ module _ (laws : Laws) (plan : Scenario) (is : Plan.IsPlan plan) (known : IsKnow
   begins = record {
     members = members_of plan;
     lives = subst (λ (ring : RingState (Node Serving)). IsRing lens step (FitsPlan plan.slaves) [] ring (members_of plan)) (laws.runs plan is) (laws.begins plan is (macs_in plan.slaves known.macs));
-    led = laws.led plan;
+    led = laws.led plan is (macs_in plan.slaves known.macs);
     shown = first_shown 0 plan.slaves plan.paces is.laid.paces;
   }
 

@@ -1,36 +1,40 @@
 -- THE MASTER'S LIVES are those of the ring: what it speaks with a slave is what the slave's client speaks, but for mails that are passed on.
-use Rattle.std.proofs.Common.{◌≡◌, ℕ, suc, ◌&&◌, Bool, true, false, List, [], ◌∷◌, ◌++◌, length, refl, ap, sym, ◌∙◌, subst}
+use Rattle.std.proofs.Common.{◌≡◌, ℕ, suc, ◌&&◌, All, Bool, true, false, List, [], ◌∷◌, ◌++◌, length, refl, ap, sym, ◌∙◌, subst}
 use Rattle.std.specs.Prelude.{if◌then◌else◌}
+use Rattle.std.proofs.lemmas.List.Elements.{All-head, All-tail}
 use Rattle.life_runs.specs.of_datagrams.Datagram as Raw
 use Rattle.life_runs.specs.of_datagrams.Frame.{IsFrame, chained}
-use Rattle.book_lives.specs.of_frame_pass.Passing.{datagrams_after}
+use Rattle.frame_pass.specs.Passing.{datagrams_after}
 use Rattle.life_runs.specs.of_frame_view.View.{Lens}
 use Rattle.life_runs.specs.of_link_mails.Body.{Body}
 use Rattle.slave_parts.specs.of_segment_model.Record.{Frame}
+use Rattle.life_runs.specs.of_segment_plan.Sound.{IsSlave}
 use Rattle.life_runs.specs.of_segment_plan.declared.slave.SlaveSpec.{SlaveSpec}
+use Rattle.exchange_model.specs.Exchange.{IsLawful}
+use Rattle.slave_parts.specs.of_slave_model.Profile.{Profile, IsProfile}
 use Rattle.life_runs.specs.of_segment_ring.declared.wire.Fate.{Fate}
 use Rattle.life_runs.specs.of_segment_ring.declared.wire.Fate.TheVariants.{Pass, Lost}
 use Rattle.life_runs.specs.of_segment_ring.Ring.{RingState, ring_behind}
 use Rattle.life_runs.specs.of_segment_ring.Schedule.{fate_at}
-use Rattle.server_lives.specs.of_slave_server.Serving.{Serving}
-use Rattle.book_lives.specs.of_slave_steps.Node.{Node, node_passed}
+use Rattle.slave_server.specs.Serving.{Serving}
+use Rattle.slave_steps.specs.Node.{Node, node_passed}
 use Rattle.life_runs.specs.of_master_duty.Reply as Master
 use Rattle.life_runs.specs.of_master_hand.Spoken.{Asked, acknowledged}
-use Rattle.named_lives.specs.of_life_model.Lives.{Spot, Life, life_next, life_back, life_lost, gives_up}
+use Rattle.life_model.specs.Lives.{Spot, Life, life_next, life_back, life_lost, gives_up}
 use Rattle.life_runs.specs.of_life_frames.Shares as Shares
 use Rattle.life_runs.specs.of_life_frames.Shares.{Lived, came_at, given_where}
-use Rattle.named_lives.specs.Alike.{InHandIs}
-use Rattle.named_lives.proofs.Alike as Alike
-use Rattle.book_lives.specs.of_slave_lives.Rings.{fate_seen, is_met_at, met, turned}
+use Rattle.plan_ring.specs.Alike.{InHandIs}
+use Rattle.plan_ring.proofs.Alike as Alike
+use Rattle.slave_lives.specs.Rings.{fate_seen, is_met_at, met, turned}
 use Rattle.whole_ring.specs.Members.{IsRing}
 use Rattle.whole_ring.specs.Turning.{Turn, TurnsFor, AllTurn, frame_at, next_life, life_by, behind_frame, given_up}
 use Rattle.whole_ring.proofs.Begins as Begins
 use Rattle.whole_ring.proofs.Members as Members
 use Rattle.whole_ring.proofs.Turning.{next_stand}
-use Rattle.plan_ring.specs.Asked.{is_service}
-use Rattle.plan_ring.specs.Plan.{PlanMember, FitsPlan, step, new_members}
+use Rattle.plan_ring.specs.Asked.{is_service, asked}
+use Rattle.plan_ring.specs.Plan.{PlanMember, FitsPlan, AllMacs, step, new_members}
 use Rattle.plan_ring.proofs.Asked.{alike, forgets_as}
-use Rattle.server_lives.specs.of_slave_server.Spec.{profile_of}
+use Rattle.slave_server.specs.Spec.{profile_of}
 use Rattle.plan_ring.specs.Master.{speech_of, lived_of, IsLed, AllLed, Under, IsUnder, AllUnder, IsSame, AllSame, AllBehind, OnAs, GoesOn}
 
 module _ (more : Body → Bool) (passed : Asked → Bool) (lens : ℕ → Lens) (made : ℕ) (ds : List Raw.Datagram) where
@@ -117,14 +121,14 @@ module _ (more : Body → Bool) (passed : Asked → Bool) (lens : ℕ → Lens) 
       let rest = led_back gives recover f (suc place) ms us (datagrams_after m.node.registers es) led.1 xs.1 in
       let same = back_life m u led.0 xs.0 f in
       record {
-        led = (record { alike = led.0.alike; last = led.0.last; in_hand = subst (λ (l : Life Body Asked Master.Reply). InHandIs is_service l) (sym same) (back_in m u led.0 xs.0 f); forgets = led.0.forgets }, rest.led);
+        led = (record { alike = led.0.alike; lawful = led.0.lawful; last = led.0.last; in_hand = subst (λ (l : Life Body Asked Master.Reply). InHandIs is_service l) (sym same) (back_in m u led.0 xs.0 f); forgets = led.0.forgets }, rest.led);
         same = (record { services = refl; clearing = refl; plan = refl; spot = refl; first = refl; pace = refl }, rest.same);
         shown = ((λ i. record { spot = sym xs.0.next.spot i; life = same i }), rest.shown);
       }
 
   -- one that is given up, or isn't
   led_given : (b : Bool) (recover : ℕ) (n : PlanMember) → IsLed n → IsLed (if b then record n { life = gives_up recover n.spot made n.life } else n)
-  led_given true recover n k = record { alike = k.alike; last = k.last; in_hand = k.in_hand; forgets = k.forgets }
+  led_given true recover n k = record { alike = k.alike; lawful = k.lawful; last = k.last; in_hand = k.in_hand; forgets = k.forgets }
   led_given false recover n k = k
 
   same_given : (b : Bool) (recover : ℕ) (m n : PlanMember) → IsSame m n → IsSame m (if b then record n { life = gives_up recover n.spot made n.life } else n)
@@ -148,7 +152,7 @@ module _ (more : Body → Bool) (passed : Asked → Bool) (lens : ℕ → Lens) 
         life = life_by more passed made f (fate_seen (Lost after)) m.services m.spot m.life (turn_of m u led.0 xs.0);
         node = turned m.services.running m.pace made (met (is_met_at place (Lost after)) m.node es);
       } in
-      let mine : IsLed n = record { alike = led.0.alike; last = led.0.last; in_hand = subst (λ (l : Life Body Asked Master.Reply). InHandIs is_service l) (sym same) (lost_in m u led.0 xs.0 f); forgets = led.0.forgets } in
+      let mine : IsLed n = record { alike = led.0.alike; lawful = led.0.lawful; last = led.0.last; in_hand = subst (λ (l : Life Body Asked Master.Reply). InHandIs is_service l) (sym same) (lost_in m u led.0 xs.0 f); forgets = led.0.forgets } in
       record {
         led = (led_given (gives && u.share.under) recover n mine, rest.led);
         same = (same_given (gives && u.share.under) recover m n (record { services = refl; clearing = refl; plan = refl; spot = refl; first = refl; pace = refl }), rest.same);
@@ -186,7 +190,12 @@ module _ (more : Body → Bool) (passed : Asked → Bool) (lens : ℕ → Lens) 
           }
 
 -- it begins with a master to which nothing has happened
-pub led_first : (lens : ℕ → Lens) (place : ℕ) (ss : List SlaveSpec) (paces : List ℕ) → AllLed (new_members lens place ss paces)
-led_first lens place [] paces = tt
-led_first lens place (s ∷ ss) [] = tt
-led_first lens place (s ∷ ss) (pace ∷ paces) = (record { alike = alike (profile_of s) s.boot lens; last = refl; in_hand = tt; forgets = forgets_as (profile_of s) s.boot lens }, led_first lens (suc place) ss paces)
+pub led_first : ((p : Profile) → IsProfile p → (boot : Bool) (lens : ℕ → Lens) → IsLawful (asked p boot lens).exchange) → (lens : ℕ → Lens) (place : ℕ) (ss : List SlaveSpec) (paces : List ℕ) → All IsSlave ss → AllMacs ss → AllLed (new_members lens place ss paces)
+led_first law lens place [] paces slaves macs = tt
+led_first law lens place (s ∷ ss) [] slaves macs = tt
+led_first law lens place (s ∷ ss) (pace ∷ paces) slaves macs =
+    let here = All-head IsSlave s ss slaves in
+    let profile : IsProfile (profile_of s) = record { out_least = here.out_least; out_most = here.out_most; back_least = here.in_least; back_most = here.in_most; mac = macs.0 } in (
+      record { alike = alike (profile_of s) s.boot lens; lawful = law (profile_of s) profile s.boot lens; last = refl; in_hand = tt; forgets = forgets_as (profile_of s) s.boot lens },
+      led_first law lens (suc place) ss paces (All-tail IsSlave s ss slaves) macs.1,
+    )

@@ -4,8 +4,8 @@ use Rattle.std.specs.Prelude.{Some, None, if◌then◌else◌}
 use Rattle.std.proofs.lemmas.Bool.{ne_eqb, eqb-true, eq-eqb}
 use Rattle.life_runs.specs.of_frame_view.View.{Lens}
 use Rattle.life_runs.specs.of_link_mails.Body.{Body}
-use Rattle.named_lives.specs.of_life_model.Lives.{Spot}
-use Rattle.named_lives.specs.of_life_model.Tours.{item_at}
+use Rattle.life_model.specs.Lives.{Spot}
+use Rattle.life_model.specs.Tours.{item_at}
 use Rattle.std.specs.List.{list_any}
 use Rattle.std.proofs.lemmas.List.Elements.{All-head, All-tail}
 use Rattle.life_runs.specs.of_segment_plan.Sound.{is_start, IsSlave, repeated_from, is_same_station}
@@ -13,14 +13,14 @@ use Rattle.life_runs.specs.of_segment_plan.Sound as Plan
 use Rattle.life_runs.specs.of_segment_plan.declared.plan.Scenario.{Scenario}
 use Rattle.life_runs.specs.of_segment_plan.declared.slave.SlaveSpec.{SlaveSpec}
 use Rattle.slave_parts.specs.of_slave_model.Profile.{Profile, IsProfile}
-use Rattle.book_lives.specs.of_slave_lives.Opening.{Plan, IsPlan}
-use Rattle.server_lives.specs.of_slave_server.Serving.{Serving}
-use Rattle.server_lives.specs.of_slave_server.Spec.{profile_of, server_of, node_of}
-use Rattle.book_lives.specs.of_slave_steps.Node.{Node}
-use Rattle.server_lives.specs.Real.{real, running_as, real_clearing, StepsAs}
-use Rattle.server_lives.specs.Rooms.{IsSound}
-use Rattle.book_lives.specs.of_slave_lives.Nodes.{GivesPlaced}
-use Rattle.book_lives.specs.of_whole_lives.Whole.{IsWhole}
+use Rattle.slave_lives.specs.Opening.{Plan, IsPlan}
+use Rattle.slave_server.specs.Serving.{Serving}
+use Rattle.slave_server.specs.Spec.{profile_of, server_of, node_of}
+use Rattle.slave_steps.specs.Node.{Node}
+use Rattle.plan_ring.specs.Real.{real, running_as, real_clearing, StepsAs}
+use Rattle.plan_ring.specs.Rooms.{IsSound}
+use Rattle.slave_lives.specs.Nodes.{GivesPlaced}
+use Rattle.whole_ring.specs.Whole.{OwesLaws}
 use Rattle.whole_ring.specs.Members as Ring
 use Rattle.whole_ring.specs.Members.{Serves, IsNew, AllNew, IsRing, first_ring}
 use Rattle.whole_ring.proofs.Begins.{ring_begins}
@@ -31,7 +31,7 @@ use Rattle.plan_ring.specs.Plan.{PlanMember, plan_of, spot_of, new_member, new_m
 
 -- what the laws of the real services say
 pub record Laws : Type 0 where
-  pub whole : (p : Profile) → IsProfile p → (boot : Bool) (lens : ℕ → Lens) (plan : Plan) (spot : Spot) → IsPlan boot lens plan → plan.station ≡ spot.station → plan.start ≡ spot.start → IsWhole (asked p boot lens) real_clearing plan spot
+  pub whole : (p : Profile) → IsProfile p → (boot : Bool) (lens : ℕ → Lens) (plan : Plan) (spot : Spot) → IsPlan boot lens plan → plan.station ≡ spot.station → plan.start ≡ spot.start → OwesLaws (asked p boot lens) real_clearing plan spot
   pub steps : (p : Profile) (n : Node Serving) → n.server.profile ≡ p → StepsAs p n
   pub takes : (p : Profile) → IsProfile p → (al : ℕ) (s : Serving) (b : Body) → IsSound p s → IsSound p ((running_as p).take s b al)
   pub gives : (p : Profile) (s : Serving) → IsSound p s → IsSound p ((running_as p).rest s)
@@ -39,7 +39,7 @@ pub record Laws : Type 0 where
   pub placed : (p : Profile) (s : Serving) → IsSound p s → GivesPlaced (running_as p) p.back s
   pub ready : (p : Profile) (boot : Bool) (lens : ℕ → Lens) (al : ℕ) (s : Serving) → IsSound p s → (running_as p).clear s ≡ s → (real p boot lens).exchange.ready ((real p boot lens).sees al s).server ≡ true
 
-start_is : (boot : Bool) (start : ℕ) → is_start boot start ≡ true → (start ≡ 2) ⊎ ((start ≡ 3) × (boot ≡ true))
+pub start_is : (boot : Bool) (start : ℕ) → is_start boot start ≡ true → (start ≡ 2) ⊎ ((start ≡ 3) × (boot ≡ true))
 start_is boot start e = go (start == 2) refl boot refl
   where
     go : (a : Bool) → (start == 2) ≡ a → (b : Bool) → boot ≡ b → (start ≡ 2) ⊎ ((start ≡ 3) × (boot ≡ true))
@@ -89,7 +89,7 @@ module _ (laws : Laws) (lens : ℕ → Lens) (all : List SlaveSpec) where
     new_one pace = record {
       server = server_of s;
       al = 1;
-      whole = laws.whole (profile_of s) (profile_is s x) s.boot lens (plan_of s) (spot_of place s) (plan_is s x) refl refl;
+      whole = (laws.whole (profile_of s) (profile_is s x) s.boot lens (plan_of s) (spot_of place s) (plan_is s x) refl refl).whole;
       at = refl;
       lens_is = refl;
       named = ne_eqb 0 s.station (λ (e : 0 ≡ s.station). let f = x.slave.some_station in omega (arith, e, f));
@@ -165,7 +165,7 @@ further s all (t ∷ ts) other xs =
     let same : lens_of (s ∷ all) t.station ≡ lens_of all t.station = ap (λ (b : Bool). if b then record { out = s.out_len; back = s.in_len } else lens_of all t.station) other.0 in
     (record { slave = xs.0.slave; mac = xs.0.mac; out = ap (λ (l : Lens). l.out) same ∙ xs.0.out; back = ap (λ (l : Lens). l.back) same ∙ xs.0.back }, further s all ts other.1 xs.1)
 
-all_planned : (ss : List SlaveSpec) → AreApart ss → All IsSlave ss → AllMacs ss → AllPlanned (lens_of ss) ss
+pub all_planned : (ss : List SlaveSpec) → AreApart ss → All IsSlave ss → AllMacs ss → AllPlanned (lens_of ss) ss
 all_planned [] apart slaves macs = tt
 all_planned (s ∷ ss) apart slaves macs =
     let here : lens_of (s ∷ ss) s.station ≡ record { out = s.out_len; back = s.in_len } = ap (λ (b : Bool). if b then record { out = s.out_len; back = s.in_len } else lens_of ss s.station) (eq-eqb s.station s.station refl) in (

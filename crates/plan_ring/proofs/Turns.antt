@@ -2,11 +2,11 @@
 use Rattle.std.proofs.Common.{◌≡◌, ℕ, suc, ◌+◌, Bool, true, false, Option, Some, None, List, [], ◌∷◌, map, length, refl, ap, sym, ◌∙◌, subst}
 use Rattle.std.specs.Prelude.{◌%◌, if◌then◌else◌, nat_lt, slice_get, All}
 use Rattle.life_runs.specs.of_datagrams.Datagram as Raw
-use Rattle.named_lives.specs.of_exchange_model.Exchange.{Speech}
+use Rattle.exchange_model.specs.Exchange.{Speech}
 use Rattle.life_runs.specs.of_frame_view.View.{Lens}
 use Rattle.life_runs.specs.of_frame_view.Seen.{seen}
 use Rattle.life_runs.specs.of_life_frames.Shares.{Lived, lived_back, lived_lost}
-use Rattle.named_lives.specs.of_life_model.Lives.{Spot, Life, life_next}
+use Rattle.life_model.specs.Lives.{Spot, Life, life_next}
 use Rattle.life_runs.specs.First.{lens_of}
 use Rattle.life_runs.specs.Led as Led
 use Rattle.life_runs.specs.Led.{Exchanged, Leads, Turn, Comes, IsTurn, AllTurn, is_passed, speech_at, life_behind}
@@ -14,7 +14,7 @@ use Rattle.life_runs.specs.of_link_mails.Body.{Body}
 use Rattle.life_runs.specs.of_master_duty.Reply.{Reply}
 use Rattle.life_runs.specs.of_master_hand.Spoken.{Asked, sdo, file, drive, net, passed, hand_speech, acknowledged, is_followed}
 use Rattle.life_runs.specs.of_master_hand.Talk.{asked_of, asked_set}
-use Rattle.named_lives.specs.Alike.{WishIs}
+use Rattle.plan_ring.specs.Alike.{WishIs}
 use Rattle.plan_ring.specs.Asked.{is_service}
 use Rattle.plan_ring.specs.Master as Master
 use Rattle.plan_ring.specs.Master.{speech_of, lived_of, Under, IsUnder, AllUnder, IsSame, AllSame, AllBehind}
@@ -27,8 +27,8 @@ use Rattle.life_runs.specs.of_segment_ring.declared.wire.Fate.{Fate}
 use Rattle.life_runs.specs.of_segment_ring.declared.wire.Fate.TheVariants.{Pass, Lost}
 use Rattle.life_runs.specs.of_segment_ring.Ring.{RingState, ring_returned}
 use Rattle.life_runs.specs.of_segment_ring.Schedule.{fate_at}
-use Rattle.server_lives.specs.of_slave_server.Serving.{Serving}
-use Rattle.book_lives.specs.of_slave_steps.Node.{Node, node_passed}
+use Rattle.slave_server.specs.Serving.{Serving}
+use Rattle.slave_steps.specs.Node.{Node, node_passed}
 use Rattle.slave_parts.specs.of_state_exchange.Stated.{Service}
 use Rattle.whole_ring.specs.Members.{MemberIs, AllLived}
 use Rattle.whole_ring.specs.Turning.{BeginBoots, frame_at}
@@ -66,7 +66,7 @@ wish_is room script n _ _ (Comes.mails s q at asked) = asked_is room s q asked
 wish_is room script n _ _ (Comes.state target at) = tt
 wish_is room script n _ _ (Comes.packet octets frame) = refl
 
-boots_is : (boot : Bool) (room : ℕ) (script : List Plan.Service) (n : ℕ) (b : Option (Service Asked)) (k : ℕ) → All (Boots boot) script → Comes room script n b k → BeginBoots boot b
+pub boots_is : (boot : Bool) (room : ℕ) (script : List Plan.Service) (n : ℕ) (b : Option (Service Asked)) (k : ℕ) → All (Boots boot) script → Comes room script n b k → BeginBoots boot b
 boots_is boot room script n _ _ all Comes.none = tt
 boots_is boot room script n _ _ all (Comes.mails s q at asked) = tt
 boots_is boot room script n _ _ all (Comes.state target at) = all_at (Boots boot) script n (Plan.Service.State target) all at

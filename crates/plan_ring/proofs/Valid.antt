@@ -21,8 +21,8 @@ use Rattle.life_runs.specs.of_segment_plan.Sound.{kept, IsObject, IsFile, IsIdn,
 use Rattle.slave_parts.specs.of_slave_model.Application.{station_valid}
 use Rattle.slave_parts.proofs.of_slave_model.Stations.{both}
 use Rattle.slave_parts.specs.Parts.{parts}
-use Rattle.server_lives.specs.of_slave_server.Spec.{with_objects, objects_of, with_files, files_of, with_idn, with_idns, idns_of, core_of}
-use Rattle.server_lives.proofs.of_slave_server.Objects as Taken
+use Rattle.slave_server.specs.Spec.{with_objects, objects_of, with_files, files_of, with_idn, with_idns, idns_of, core_of}
+use Rattle.slave_server.proofs.Objects as Taken
 
 -- an item of a list, whatever stands for none
 same_item : {X : Type 0} (xs : List X) (i : ℕ) (d e : X) → i < length xs → get_or xs i d ≡ get_or xs i e

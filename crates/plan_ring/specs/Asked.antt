@@ -7,15 +7,15 @@ use Rattle.slave_parts.specs.of_eoe_model.Network.{Station}
 use Rattle.slave_parts.specs.of_state_exchange.Families.{InState, states_of}
 use Rattle.life_runs.specs.of_master_duty.Reply as Master
 use Rattle.life_runs.specs.of_master_hand.Spoken.{Asked, sdo, file, drive, net, passed, hand_speech, acknowledged}
-use Rattle.named_lives.specs.Named.{Naming, named, named_states}
-use Rattle.book_lives.specs.of_slave_lives.Lived.{Behind}
+use Rattle.plan_ring.specs.Named.{Naming, named, named_states}
+use Rattle.slave_lives.specs.Lived.{Behind}
 use Rattle.slave_parts.specs.of_slave_model.Acknowledged as Slave
 use Rattle.slave_parts.specs.of_slave_model.Product.{product}
 use Rattle.slave_parts.specs.of_slave_model.Profile.{Protocol, Profile, areas_of}
 use Rattle.slave_parts.specs.of_slave_model.Server.{ServiceOf, Reply}
 use Rattle.slave_parts.specs.Parts.{Core, Server, parts}
-use Rattle.server_lives.specs.of_slave_server.Serving.{Serving}
-use Rattle.server_lives.specs.Real.{real}
+use Rattle.slave_server.specs.Serving.{Serving}
+use Rattle.plan_ring.specs.Real.{real}
 
 -- a service of one of the slave's protocols; a mail that is passed on is none
 abbrev pub is_service : Asked → Bool

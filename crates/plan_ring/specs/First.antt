@@ -10,18 +10,18 @@ use Rattle.life_runs.specs.of_segment_plan.declared.slave.SlaveSpec.{SlaveSpec}
 use Rattle.life_runs.specs.of_segment_ring.declared.wire.Fate.{Fate}
 use Rattle.life_runs.specs.of_segment_ring.declared.wire.Fate.TheVariants.{Pass, Lost}
 use Rattle.slave_parts.specs.of_state_exchange.Families.{InState}
-use Rattle.named_lives.specs.of_task_model.Promise.{services_in}
-use Rattle.named_lives.specs.of_life_model.Lives.{Stand}
+use Rattle.task_model.specs.Promise.{services_in}
+use Rattle.life_model.specs.Lives.{Stand}
 use Rattle.life_runs.specs.of_master_duty.Reply as Master
 use Rattle.life_runs.specs.of_master_hand.Spoken as Spoken
-use Rattle.book_lives.specs.of_book_model.Script.{Addressed, HaveBegun, SlaveRun, RunRests, RunDone}
-use Rattle.book_lives.specs.Rows.{WishStays, IsFirst}
-use Rattle.book_lives.specs.First.{setting_of, FirstBook}
-use Rattle.book_lives.specs.of_slave_lives.Lived.{node_seen}
+use Rattle.book_model.specs.Script.{Addressed, HaveBegun, SlaveRun, RunRests, RunDone}
+use Rattle.plan_ring.specs.Rows.{WishStays, IsFirst}
+use Rattle.plan_ring.specs.KeptFirst.{setting_of, FirstBook}
+use Rattle.slave_lives.specs.Lived.{node_seen}
 use Rattle.slave_parts.specs.Parts.{Core, Server}
 use Rattle.whole_ring.specs.Members.{AllLived}
 use Rattle.plan_ring.specs.Plan.{PlanMember, FitsPlan, step}
-use Rattle.plan_ring.specs.Master.{AllLed, Under, IsUnder, AllUnder}
+use Rattle.plan_ring.specs.Master.{owed, AllLed, Under, IsUnder, AllUnder}
 
 -- each life is in its first epoch
 abbrev pub AllFirst : ℕ → List PlanMember → Type 0
@@ -59,14 +59,14 @@ module _ (lens : ℕ → Lens) (ss : List SlaveSpec) (more : Body → Bool) (fs 
   -- THE BOOKS OF ALL SLAVES
   abbrev pub AllBooks : (place : ℕ) (ms : List PlanMember) → AllLived lens step (FitsPlan ss) fs place ms → AllLed ms → Type 0
   AllBooks place [] lives led = ⊤
-  AllBooks place (m ∷ ms) lives led = FirstBook m.services m.clearing m.plan m.spot lives.0.whole led.0.forgets more m.first m.life fs m.node × AllBooks (suc place) ms lives.1 led.1
+  AllBooks place (m ∷ ms) lives led = FirstBook m.services m.clearing m.plan m.spot (owed m lives.0.whole led.0) led.0.forgets more m.first m.life fs m.node × AllBooks (suc place) ms lives.1 led.1
 
   -- and their runs, with what is addressed to each
   abbrev pub runs_of : (place : ℕ) (ms : List PlanMember) (lives : AllLived lens step (FitsPlan ss) fs place ms) (led : AllLed ms) → AllBooks place ms lives led → List (Addressed Spoken.Asked) → List PlanRun
   runs_of place [] lives led books as' = []
   runs_of place (m ∷ ms) lives led books [] = []
   runs_of place (m ∷ ms) lives led books (a ∷ as') =
-      record { setting = setting_of m.services m.clearing m.plan m.spot lives.0.whole led.0.forgets more fs; book = books.0.book; addressed = a } ∷ runs_of (suc place) ms lives.1 led.1 books.1 as'
+      record { setting = setting_of m.services m.clearing m.plan m.spot (owed m lives.0.whole led.0) led.0.forgets more fs; book = books.0.book; addressed = a } ∷ runs_of (suc place) ms lives.1 led.1 books.1 as'
 
   -- NOTHING IS WANTED OF A SLAVE, and all that is addressed to it came into hand
   pub record IsAtRest (m : PlanMember) (a : Addressed Spoken.Asked) : Type 0 where

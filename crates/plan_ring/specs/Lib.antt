@@ -1,12 +1,34 @@
-pub use Rattle.book_lives.specs as of_book_lives
-pub use Rattle.named_lives.specs as of_named_lives
-pub use Rattle.server_lives.specs as of_server_lives
+pub use Rattle.book_model.specs as of_book_model
+pub use Rattle.exchange_model.specs as of_exchange_model
+pub use Rattle.life_model.specs as of_life_model
+pub use Rattle.mailbox_slave.specs as of_mailbox_slave
+pub use Rattle.never_waits.specs as of_never_waits
+pub use Rattle.slave_lives.specs as of_slave_lives
 pub use Rattle.slave_parts.specs as of_slave_parts
-pub use Rattle.server_lives.specs.of_slave_server as of_slave_server
+pub use Rattle.slave_server.specs as of_slave_server
+pub use Rattle.slave_steps.specs as of_slave_steps
+pub use Rattle.slave_steps.specs.of_frame_pass as of_frame_pass
+pub use Rattle.task_model.specs as of_task_model
 pub use Rattle.whole_ring.specs as of_whole_ring
+pub mod Alike
 pub mod Asked
-pub mod Plan
-pub mod Master
+pub mod Brings
+pub mod Clocks
+pub mod Dues
+pub mod Epochs
 pub mod First
-pub mod Round
+pub mod Hands
+pub mod KeptFirst
 pub mod Lives
+pub mod Master
+pub mod Met
+pub mod Named
+pub mod Plan
+pub mod PlanMet
+pub mod PlanRooms
+pub mod Real
+pub mod Rooms
+pub mod Round
+pub mod Rows
+pub mod SlaveAsked
+pub mod Stands

@@ -9,8 +9,8 @@ use Rattle.plan_ring.specs.Plan.{PlanMember, FitsPlan, plan_of, first_app, step}
 use Rattle.life_runs.specs.of_segment_plan.declared.plan.Scenario.{Scenario}
 use Rattle.life_runs.specs.of_segment_plan.declared.service.Service as Plan
 use Rattle.life_runs.specs.of_segment_plan.declared.slave.SlaveSpec.{SlaveSpec}
-use Rattle.server_lives.specs.Real.{real_clearing}
-use Rattle.server_lives.specs.of_slave_server.Spec.{profile_of}
+use Rattle.plan_ring.specs.Real.{real_clearing}
+use Rattle.slave_server.specs.Spec.{profile_of}
 use Rattle.whole_ring.specs.Members.{IsRing}
 use Rattle.plan_ring.specs.Round.{ring_of, ring_after, all_seen}
 

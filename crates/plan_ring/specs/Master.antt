@@ -1,7 +1,7 @@
 -- A MASTER AND THE RING OF ITS PLAN: its lives of the slaves are those that the ring's law speaks of.
 use Rattle.std.specs.Prelude.{◌≡◌, ℕ, Bool, List, [], ◌∷◌, ◌++◌, length, ⊤}
 use Rattle.life_runs.specs.of_datagrams.Datagram as Raw
-use Rattle.named_lives.specs.of_exchange_model.Exchange.{Speech}
+use Rattle.exchange_model.specs.Exchange.{Speech, IsLawful}
 use Rattle.life_runs.specs.of_frame_view.View.{Lens}
 use Rattle.life_runs.specs.of_link_mails.Body.{Body}
 use Rattle.slave_parts.specs.of_segment_model.Record.{Frame, News}
@@ -10,15 +10,16 @@ use Rattle.life_runs.specs.of_segment_ring.declared.wire.Fate.{Fate}
 use Rattle.life_runs.specs.of_segment_ring.declared.wire.Fate.TheVariants.{Pass, Lost}
 use Rattle.life_runs.specs.of_segment_ring.Ring.{RingState, ring_behind}
 use Rattle.life_runs.specs.of_segment_ring.Schedule.{fate_at}
-use Rattle.server_lives.specs.of_slave_server.Serving.{Serving}
-use Rattle.book_lives.specs.of_slave_steps.Node.{Node, node_passed}
+use Rattle.slave_server.specs.Serving.{Serving}
+use Rattle.slave_steps.specs.Node.{Node, node_passed}
 use Rattle.life_runs.specs.of_master_duty.Reply as Master
 use Rattle.life_runs.specs.of_master_hand.Spoken.{Asked, hand_speech, acknowledged}
 use Rattle.life_runs.specs.of_life_frames.Frames.{Share}
 use Rattle.life_runs.specs.of_life_frames.Shares as Shares
 use Rattle.life_runs.specs.of_life_frames.Shares.{Lived, IsNext, lived_back, lived_lost}
-use Rattle.book_lives.specs.First.{Forgets}
-use Rattle.named_lives.specs.Alike.{Alike, WishIs, InHandIs}
+use Rattle.plan_ring.specs.KeptFirst.{Forgets}
+use Rattle.plan_ring.specs.Alike.{Alike, WishIs, InHandIs}
+use Rattle.whole_ring.specs.Whole.{IsWhole, OwesLaws}
 use Rattle.whole_ring.specs.Members.{IsRing}
 use Rattle.whole_ring.specs.Turning.{BeginBoots, frame_at}
 use Rattle.plan_ring.specs.Asked.{is_service}
@@ -32,13 +33,18 @@ speech_of m = hand_speech (record { out = m.plan.out; back = m.plan.back })
 abbrev pub lived_of : PlanMember → Lived Asked Master.Reply
 lived_of m = record { spot = m.spot; life = m.life }
 
--- A MASTER LEADS THE LIFE: it speaks as the slave's client does, and no mail that is passed on is in hand; and what telling an AL state and a return
--- to Init do to the slave's application
+-- A MASTER LEADS THE LIFE: it speaks as the slave's client does, by services that owe the laws, and no mail that is passed on is in hand; and what telling an
+-- AL state and a return to Init do to the slave's application
 pub record IsLed (m : PlanMember) : Type 0 where
   pub alike : Alike is_service (speech_of m) m.services.exchange.speech
+  pub lawful : IsLawful m.services.exchange
   pub last : m.services.states.acknowledged ≡ acknowledged
   pub in_hand : InHandIs is_service m.life
   pub forgets : Forgets m.services m.clearing
+
+-- so what its ring has of it is what the promises of its epochs ask for
+abbrev pub owed : (m : PlanMember) → IsWhole m.services m.clearing m.plan m.spot → IsLed m → OwesLaws m.services m.clearing m.plan m.spot
+owed m whole led = record { whole = whole; lawful = led.lawful }
 
 -- each of these
 abbrev pub AllLed : List PlanMember → Type 0

@@ -5,20 +5,20 @@ use Rattle.slave_parts.specs.of_eoe_model.Network.{Station}
 use Rattle.slave_parts.specs.of_state_exchange.Families.{InState}
 use Rattle.life_runs.specs.of_master_duty.Reply as Master
 use Rattle.life_runs.specs.of_master_hand.Spoken.{Asked}
-use Rattle.named_lives.specs.of_life_model.Lives.{Spot, new_life}
+use Rattle.life_model.specs.Lives.{Spot, new_life}
 pub use Rattle.life_runs.specs.First.{lens_of, spot_of, IsElsewhere, AreApart}
-use Rattle.named_lives.specs.of_life_model.Tours.{item_at}
+use Rattle.life_model.specs.Tours.{item_at}
 use Rattle.life_runs.specs.of_segment_plan.Sound.{IsSlave}
 use Rattle.life_runs.specs.of_segment_plan.declared.plan.Scenario.{Scenario}
 use Rattle.life_runs.specs.of_segment_plan.declared.slave.SlaveSpec.{SlaveSpec}
-use Rattle.book_lives.specs.of_slave_lives.Opening as Opening
+use Rattle.slave_lives.specs.Opening as Opening
 use Rattle.slave_parts.specs.Parts.{Core, Server}
-use Rattle.server_lives.specs.of_slave_server.Serving.{Serving, takes, next_mail, rest, cleared}
-use Rattle.server_lives.specs.of_slave_server.Spec.{profile_of, server_of, node_of}
-use Rattle.book_lives.specs.of_slave_steps.Node.{Node}
-use Rattle.book_lives.specs.of_slave_steps.Step.{pdi_step}
-use Rattle.server_lives.specs.Real.{real_clearing}
-use Rattle.server_lives.specs.Rooms.{IsSound}
+use Rattle.slave_server.specs.Serving.{Serving, takes, next_mail, rest, cleared}
+use Rattle.slave_server.specs.Spec.{profile_of, server_of, node_of}
+use Rattle.slave_steps.specs.Node.{Node}
+use Rattle.slave_steps.specs.Step.{pdi_step}
+use Rattle.plan_ring.specs.Real.{real_clearing}
+use Rattle.plan_ring.specs.Rooms.{IsSound}
 use Rattle.whole_ring.specs.Members.{Member}
 use Rattle.plan_ring.specs.Asked.{asked}
 

@@ -9,10 +9,10 @@ use Rattle.slave_parts.specs.of_segment_model.Record.{Frame}
 use Rattle.life_runs.specs.of_segment_plan.declared.plan.Scenario.{Scenario}
 use Rattle.life_runs.specs.of_segment_ring.Ring.{RingState, ring_behind, ring_returned}
 use Rattle.life_runs.specs.of_segment_ring.Schedule.{fate_at}
-use Rattle.book_lives.specs.of_slave_lives.Rings.{fate_seen}
-use Rattle.server_lives.specs.of_slave_server.Serving.{Serving}
-use Rattle.server_lives.specs.of_slave_server.Spec.{node_of}
-use Rattle.book_lives.specs.of_slave_steps.Node.{Node, node_passed}
+use Rattle.slave_lives.specs.Rings.{fate_seen}
+use Rattle.slave_server.specs.Serving.{Serving}
+use Rattle.slave_server.specs.Spec.{node_of}
+use Rattle.slave_steps.specs.Node.{Node, node_passed}
 
 -- the slaves of a plan as they are switched on, in their ring before its first frame
 abbrev pub ring_of : Scenario → RingState (Node Serving)

@@ -23,17 +23,17 @@ use Rattle.run_book.specs.of_master_node.Ports.{ports_behind, ports_of}
 use Rattle.run_book.specs.of_master_node.Wants.{gave_of}
 use Rattle.run_book.specs.of_master_node.declared.event.Origin.{Origin}
 use Rattle.run_book.specs.of_master_node.declared.event.Origin.TheVariants.{Script, Forward, Gateway}
-use Rattle.run_record.proofs.of_packets_begun.GivenUp.{numbers_down}
-use Rattle.run_record.proofs.of_packets_begun.Numbers.{numbers_begun, numbers_heard}
-use Rattle.run_record.proofs.of_packets_begun.Quiet.{run_quiet}
-use Rattle.run_record.proofs.of_port_events.Owns.{own_port}
+use Rattle.run_record.proofs.of_packets_heard.GivenUp.{numbers_down}
+use Rattle.run_record.proofs.of_packets_heard.Numbers.{numbers_begun, numbers_heard}
+use Rattle.run_record.proofs.of_packets_heard.Quiet.{run_quiet}
+use Rattle.run_record.proofs.of_packets_heard.Owns.{own_port}
 use Rattle.run_record.specs.Led.{LeadTo, ListsAll, NumbersAll}
 use Rattle.run_record.specs.of_run_notes.Slaves.{gaves_in}
 use Rattle.run_record.specs.of_run_notes.Packets.{AreNumbered, begun_in, numbered_from}
 use Rattle.run_record.specs.Ran.{EndsAs, HasRows, IsGivenUp}
 use Rattle.run_record.specs.of_run_notes.Reports.{IsBooked, noted_in, noted_of, reply_in}
-use Rattle.run_record.specs.of_packets_begun.Numbers.{NoneWaits, events_up_to, frames_begun, given_up_at, number_behind}
-use Rattle.run_record.specs.of_script_answers.Answers.{AllNoted, Noted, Scripted, changes_behind, era_scripted, eras_scripted, life_scripted, next_opened, opened_anew, scripted_by, scripted_in, scripted_mails, side_answers}
+use Rattle.run_record.specs.of_packets_heard.Numbers.{NoneWaits, events_up_to, frames_begun, given_up_at, number_behind}
+use Rattle.run_record.specs.of_script_runs.Answers.{AllNoted, Noted, Scripted, changes_behind, era_scripted, eras_scripted, life_scripted, next_opened, opened_anew, scripted_by, scripted_in, scripted_mails, side_answers}
 use Rattle.script_runs.specs.Came.{is_packet}
 use Rattle.script_runs.specs.of_life_model.Lives.{Era, Life}
 use Rattle.script_runs.specs.of_state_exchange.Stated.{Service}

@@ -10,15 +10,15 @@ use Rattle.run_book.specs.of_master_node.Forwards.{port_by}
 use Rattle.run_book.specs.of_master_node.Ports.{ports_behind, ports_of, port_where, last_where}
 use Rattle.run_book.specs.of_master_node.Shows.{is_live_lead}
 use Rattle.run_book.specs.of_master_tour.Goes.{holds_at}
-use Rattle.run_record.proofs.of_packets_begun.Runs.{run_begun, run_first, run_last}
-use Rattle.run_record.proofs.of_port_events.Owns.{own_port}
-use Rattle.run_record.proofs.of_port_events.Runs.{run_downs, run_arrivals}
-use Rattle.run_record.proofs.of_port_events.of_packets_heard.Parts.{run_joined}
+use Rattle.run_record.proofs.of_packets_heard.PacketsRuns.{run_begun, run_first, run_last}
+use Rattle.run_record.proofs.of_packets_heard.Owns.{own_port}
+use Rattle.run_record.proofs.of_packets_heard.Runs.{run_downs, run_arrivals}
+use Rattle.run_record.proofs.of_packets_heard.Parts.{run_joined}
 use Rattle.run_record.specs.Led.{LeadTo, ListsAll, BeginsAll}
 use Rattle.run_record.specs.of_eoe_switch.declared.switching.SwitchEvent.{SwitchEvent}
-use Rattle.run_record.specs.of_packets_begun.Over.{packets_begun}
-use Rattle.run_record.specs.of_port_events.Listed.{IsOwn, long_ones, packets_at}
-use Rattle.run_record.specs.of_port_events.of_packets_heard.Heard.{Joined, Times, IsJoined, joined_in, times_in, packets_of}
+use Rattle.run_record.specs.of_packets_heard.Over.{packets_begun}
+use Rattle.run_record.specs.of_packets_heard.Listed.{IsOwn, long_ones, packets_at}
+use Rattle.run_record.specs.of_packets_heard.Heard.{Joined, Times, IsJoined, joined_in, times_in, packets_of}
 use Rattle.segment_plan.specs.declared.plan.Scenario.{Scenario}
 use Rattle.segment_plan.specs.declared.service.Service as Plan
 use Rattle.segment_plan.specs.declared.slave.SlaveSpec.{SlaveSpec}

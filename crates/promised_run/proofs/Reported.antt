@@ -3,7 +3,7 @@ use Rattle.std.specs.Prelude.{◌==◌, not, if◌then◌else◌}
 use Rattle.std.proofs.Common.{◌≡◌, ℕ, suc, Bool, true, false, Option, Some, None, List, [], ◌∷◌, ◌++◌, refl, ap, sym, ◌∙◌, subst, append-nil}
 use Rattle.segment_plan.specs.of_exchange_model.Exchange.{Exchange}
 use Rattle.segment_plan.specs.of_exchange_model.Rows.{Row}
-use Rattle.run_promises.specs.of_kept_lives.Epochs.{IsKept, AreKept, IsNewest, IsKeptLife}
+use Rattle.run_promises.specs.of_plan_ring.Epochs.{IsKept, AreKept, IsNewest, IsKeptLife}
 use Rattle.life_runs.specs.of_life_frames.Shares.{AllBoth}
 use Rattle.script_runs.specs.of_life_model.Eras.{era_frames}
 use Rattle.script_runs.specs.of_life_model.Lives.{Spot, Era, Life, returns_to_init}
@@ -20,8 +20,8 @@ use Rattle.run_book.specs.declared.book.SlaveBook.{SlaveBook}
 use Rattle.run_promises.specs.Round.{all_seen}
 use Rattle.run_promises.specs.Slaves.{services_of}
 use Rattle.run_record.specs.of_run_notes.Reports.{noted_in, IsBooked}
-use Rattle.run_record.specs.of_script_answers.Answers.{Came, Scripted, Noted, AllNoted, answers_in, side_answers, first_change, changes_behind, change_outcome, opened_anew, scripted_by, scripted_in, scripted_mails, era_scripted, eras_scripted, life_scripted, reply_by, outcome_reply}
-use Rattle.run_record.proofs.of_script_answers.Lists.{eras_more}
+use Rattle.run_record.specs.of_script_runs.Answers.{Came, Scripted, Noted, AllNoted, answers_in, side_answers, first_change, changes_behind, change_outcome, opened_anew, scripted_by, scripted_in, scripted_mails, era_scripted, eras_scripted, life_scripted, reply_by, outcome_reply}
+use Rattle.run_record.proofs.of_script_runs.Lists.{eras_more}
 use Rattle.script_runs.specs.Came.{is_packet}
 use Rattle.script_runs.specs.of_link_model.Mails.{first_of}
 use Rattle.script_runs.specs.of_segment_model.Ends.{Outcome, state_ends}
@@ -30,7 +30,7 @@ use Rattle.script_runs.specs.of_segment_model.Record.{Frame, News, first_end, or
 use Rattle.script_runs.specs.of_segment_model.Seats.{rows_of}
 use Rattle.segment_plan.specs.declared.plan.Scenario.{Scenario}
 use Rattle.segment_plan.specs.declared.slave.SlaveSpec.{SlaveSpec}
-use Rattle.run_promises.specs.of_server_lives.Real.{real_clearing}
+use Rattle.run_promises.specs.of_plan_ring.Real.{real_clearing}
 use Rattle.run_promises.specs.of_slave_lives.Lived.{Behind, table_of}
 use Rattle.run_book.specs.of_slave_server.Serving.{Serving}
 use Rattle.run_book.specs.of_slave_steps.Node.{Node}

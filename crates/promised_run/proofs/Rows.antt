@@ -13,8 +13,8 @@ use Rattle.life_runs.specs.of_master_duty.Reply.{Reply}
 use Rattle.life_runs.specs.of_master_hand.Spoken.{Asked, sdo, file, drive, net, passed, acknowledged, is_followed}
 use Rattle.promised_run.specs.Numbers.{eras_rows, life_rows, packet_frames, rows_at}
 use Rattle.run_book.specs.of_master_node.Begins.{begins_other, begun_of}
-use Rattle.run_record.specs.of_packets_begun.Numbers.{each_with, frame_where, frames_begun, frames_other}
-use Rattle.run_record.specs.of_packets_begun.Over.{packet_begun}
+use Rattle.run_record.specs.of_packets_heard.Numbers.{each_with, frame_where, frames_begun, frames_other}
+use Rattle.run_record.specs.of_packets_heard.Over.{packet_begun}
 use Rattle.script_runs.proofs.of_task_model.Completed.{started_back}
 use Rattle.script_runs.specs.Came.{is_packet}
 use Rattle.script_runs.specs.of_exchange_model.Exchange.{Speech}

@@ -28,11 +28,11 @@ use Rattle.segment_plan.specs.declared.plan.Scenario.{Scenario}
 use Rattle.segment_plan.specs.declared.slave.SlaveSpec.{SlaveSpec}
 use Rattle.life_runs.specs.of_segment_ring.declared.wire.Fate.{Fate}
 use Rattle.life_runs.specs.of_segment_ring.declared.wire.Fate.TheVariants as Fates
-use Rattle.run_record.specs.of_visit_orders.Toured.{AreAt, IsToured, tour_behind, lives_behind}
-use Rattle.run_record.specs.of_visit_orders.Visits as Stops
-use Rattle.run_record.specs.of_visit_orders.Visits.{IsPlace, stop_at, stations_at}
-use Rattle.run_record.proofs.of_visit_orders.Toured.{toured_led}
-use Rattle.run_record.proofs.of_visit_orders.Whole.{visit_whole}
+use Rattle.run_record.specs.of_packets_heard.Toured.{AreAt, IsToured, tour_behind, lives_behind}
+use Rattle.run_record.specs.of_packets_heard.Visits as Stops
+use Rattle.run_record.specs.of_packets_heard.Visits.{IsPlace, stop_at, stations_at}
+use Rattle.run_record.proofs.of_packets_heard.Toured.{toured_led}
+use Rattle.run_record.proofs.of_packets_heard.Whole.{visit_whole}
 
 -- THE SLAVES OF A FRAME stand at their places
 module _ (plan : Scenario) (lens : ℕ → Lens) (made : ℕ) (ds : List Raw.Datagram) where

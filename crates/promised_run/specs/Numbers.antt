@@ -12,7 +12,7 @@ use Rattle.run_book.specs.of_master_node.Ports.{ports_behind, ports_of}
 use Rattle.run_book.specs.of_master_node.declared.event.Origin.{Origin}
 use Rattle.run_book.specs.of_master_node.declared.event.Origin.TheVariants.{Script, Forward, Gateway}
 use Rattle.run_record.specs.Led.{LeadTo}
-use Rattle.run_record.specs.of_packets_begun.Numbers.{NoneWaits, begins, comes_in, events_up_to, frames_heard, goes, number_behind, numbers_where}
+use Rattle.run_record.specs.of_packets_heard.Numbers.{NoneWaits, begins, comes_in, events_up_to, frames_heard, goes, number_behind, numbers_where}
 use Rattle.script_runs.specs.Came.{is_packet}
 use Rattle.script_runs.specs.of_life_model.Lives.{Era, Life}
 use Rattle.script_runs.specs.of_task_model.Accounts.{Started}

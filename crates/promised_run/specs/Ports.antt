@@ -13,9 +13,9 @@ use Rattle.run_record.specs.of_arrayvec.ArrayVec.{ArrayVec}
 use Rattle.run_record.specs.of_eoe_switch.Switch.{switched}
 use Rattle.run_record.specs.of_eoe_switch.declared.switching.SwitchEvent.{SwitchEvent}
 use Rattle.run_record.specs.of_eoe_switch.declared.switching.SwitchEvent.TheVariants.{Down}
-use Rattle.run_record.specs.of_packets_begun.Over.{begun_at, forwarded_to, packets_begun}
-use Rattle.run_record.specs.of_port_events.Listed.{downs_at, long_ones}
-use Rattle.run_record.specs.of_port_events.of_packets_heard.Heard.{Times, ended, packets_of, times_in}
+use Rattle.run_record.specs.of_packets_heard.Over.{begun_at, forwarded_to, packets_begun}
+use Rattle.run_record.specs.of_packets_heard.Listed.{downs_at, long_ones}
+use Rattle.run_record.specs.of_packets_heard.Heard.{Times, ended, packets_of, times_in}
 use Rattle.segment_plan.specs.declared.plan.Scenario.{Scenario}
 
 -- the mails that the life of the slave at a place accepted, those of each time that it was open

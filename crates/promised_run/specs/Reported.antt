@@ -1,7 +1,7 @@
 -- EACH SERVICE OF A SCRIPT IS REPORTED with just what the frames give for it, and each reply is that of its application.
 use Rattle.std.specs.Prelude.{◌≡◌, ℕ, suc, not, Bool, true, false, Option, Some, None, List, [], ◌∷◌, ◌++◌, length, ⊤}
 use Rattle.segment_plan.specs.of_exchange_model.Exchange.{Exchange, Speech}
-use Rattle.run_promises.specs.of_kept_lives.Epochs.{IsKept, app_of}
+use Rattle.run_promises.specs.of_plan_ring.Epochs.{IsKept, app_of}
 use Rattle.script_runs.specs.of_life_model.Eras.{era_frames}
 use Rattle.script_runs.specs.of_life_model.Lives.{Spot, Era, Life, returns_to_init}
 use Rattle.life_runs.specs.First.{lens_of, spot_of}
@@ -14,13 +14,13 @@ use Rattle.run_book.specs.declared.book.SlaveBook.{SlaveBook}
 use Rattle.run_promises.specs.Round.{all_seen}
 use Rattle.run_promises.specs.Slaves.{services_of}
 use Rattle.run_record.specs.of_run_notes.Reports.{noted_in}
-use Rattle.run_record.specs.of_script_answers.Answers.{Noted, reply_by, outcome_reply, change_outcome, opened_anew}
+use Rattle.run_record.specs.of_script_runs.Answers.{Noted, reply_by, outcome_reply, change_outcome, opened_anew}
 use Rattle.script_runs.specs.Came.{is_packet}
 use Rattle.script_runs.specs.of_segment_model.Ends.{Outcome}
 use Rattle.script_runs.specs.of_segment_model.Record.{Frame}
 use Rattle.segment_plan.specs.declared.plan.Scenario.{Scenario}
 use Rattle.segment_plan.specs.declared.slave.SlaveSpec.{SlaveSpec}
-use Rattle.run_promises.specs.of_server_lives.Real.{real_clearing}
+use Rattle.run_promises.specs.of_plan_ring.Real.{real_clearing}
 use Rattle.run_promises.specs.of_slave_lives.Lived.{Behind, table_of}
 use Rattle.run_book.specs.of_slave_server.Serving.{Serving}
 use Rattle.run_book.specs.of_slave_steps.Node.{Node}

@@ -12,8 +12,8 @@ use Rattle.script_runs.specs.of_segment_model.Visits
 use Rattle.script_runs.specs.of_segment_model.Visits.{Stop, carried}
 use Rattle.segment_plan.specs.declared.plan.Scenario.{Scenario}
 use Rattle.segment_plan.specs.declared.slave.SlaveSpec.{SlaveSpec}
-use Rattle.run_record.specs.of_visit_orders.Toured.{IsToured, stations_of}
-use Rattle.run_record.specs.of_visit_orders.Visits.{last_station}
+use Rattle.run_record.specs.of_packets_heard.Toured.{IsToured, stations_of}
+use Rattle.run_record.specs.of_packets_heard.Visits.{last_station}
 
 -- a slave of a plan as a stop of its tour
 abbrev pub stop_of : SlaveSpec → Stop

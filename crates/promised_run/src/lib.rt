@@ -1,17 +1,25 @@
 //! A run of a plan that was read, with what it promises of each slave.
 #![tactic(auto)]
 
-ghost use Rattle.std.specs.Prelude.{◌≡◌, [], false};
-ghost use Rattle.run_book.specs.Book.{IsNew};
-ghost use Rattle.run_record.specs.Ran.{HasFrames, EndsAs};
-ghost use Rattle.run_promises.specs.of_scenario.Told.{IsTold};
-ghost use Rattle.segment_plan.specs.Sound.{IsPlan};
 ghost use Rattle.promised_run.specs.Bounded.{IsBounded};
 ghost use Rattle.promised_run.specs.Promised.{IsPromised};
+ghost use Rattle.run_book.specs.Book.{IsNew};
+ghost use Rattle.run_promises.specs.of_scenario.Told.{IsTold};
+ghost use Rattle.run_record.specs.Ran.{HasFrames, EndsAs};
+ghost use Rattle.segment_plan.specs.Sound.{IsPlan};
+ghost use Rattle.std.specs.Prelude.{◌≡◌, [], false};
 
-use bounded_runs::uncut_law;
+pub mod bound_premises;
+pub mod bounded_runs;
+pub mod bounded_servings;
+pub mod eager_runs;
+pub mod promised_serving;
+pub mod served_books;
+pub mod toured_servings;
+
+use crate::bounded_runs::uncut_law;
 use life_runs::epochs_law;
-use plan_rooms::room_law;
+use plan_ring::plan_rooms::room_law;
 use run_book::{Book, Ending};
 use run_promises::{read_promise_law, rest_promise_law};
 use script_runs::script_run_law;

@@ -1,12 +1,12 @@
-//! Tables of rows, a line each: what a row asks, ` = `, and what is to be found for it. A line that begins with `#` is no row.
+//! What programs over tables of rows stand on. A table has a line for each row: what it asks, ` = `, and what is to be found for it. A line that begins
+//! with `#` is no row.
 #![tactic(auto)]
 
-mod found;
 mod octets;
+mod page;
+mod row;
 mod table;
-mod words;
 
-pub use found::{no_call, shown};
-pub use octets::{digits_of, octets_in};
+pub use page::Page;
+pub use row::Row;
 pub use table::{Bench, tell};
-pub use words::Words;

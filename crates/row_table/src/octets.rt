@@ -26,11 +26,3 @@ pub fn octets_in(alloc: Global, text: &str) -> Result<Octets> {
     }
     Ok(octets)
 }
-
-/// The hexadecimal digits of octets; `-` stands for none.
-pub fn digits_of(alloc: Global, octets: &[u8]) -> Result<String> {
-    if octets.is_empty() {
-        return Ok(String::from_str(alloc, "-")?);
-    }
-    Ok(hex::encode(alloc, octets)?)
-}

@@ -1,4 +1,4 @@
-use crate::words::Words;
+use crate::row::Row;
 use anyhow::{Result, bail};
 use std::alloc::Global;
 use std::fs;
@@ -6,8 +6,8 @@ use std::rt::Files;
 
 /// What the rows of a table are asked of, one behind the other.
 pub trait Bench {
-    /// What is found for a row.
-    fn found(&mut self, alloc: Global, asked: &mut Words<'_>) -> Result<String>;
+    /// Carries out what a row asks, and tells it what is found.
+    fn carry(&mut self, row: &mut Row<'_>);
 }
 
 // What is wrong with a row, if it doesn't hold.
@@ -15,12 +15,13 @@ fn wrong_at<B: Bench>(alloc: Global, line: &str, bench: &mut B) -> Result<Option
     let Some((asked, wanted)) = line.split_once(" = ") else {
         bail!("no row: {line}");
     };
-    let mut words = Words::of(asked);
-    let found = bench.found(alloc, &mut words)?;
-    if found.as_str() == wanted && words.is_read() {
+    let mut row = Row::of(alloc, asked);
+    bench.carry(&mut row);
+    if row.holds(wanted) {
         return Ok(None);
     }
-    Ok(Some(format!(in alloc; "{asked}: {found} and not {wanted}")?))
+    let (found, faulty) = (row.found(), row.is_faulty());
+    Ok(Some(format!(in alloc; "{asked}: {found} (fault: {faulty}) and not {wanted}")?))
 }
 
 // How many rows of a table hold, or the first that doesn't.
@@ -39,13 +40,16 @@ fn told<B: Bench>(alloc: Global, name: &str, table: &str, bench: &mut B) -> Resu
 }
 
 /// Prints how many rows of the table of this name hold, or the first that doesn't.
-pub fn tell<R: AllocGlobal + Files + Print, B: Bench>(
+pub fn tell<R: AllocGlobal + Files + Print, B: Bench + Drop>(
     rt: &R,
     name: &str,
-    bench: &mut B,
+    bench: Option<B>,
 ) -> Result<()> {
+    let Some(mut bench) = bench else {
+        bail!("{name}: no bench");
+    };
     let table = fs::read_to_string(rt, name)?;
-    let line = told(rt.alloc(), name, table.as_str(), bench)?;
+    let line = told(rt.alloc(), name, table.as_str(), &mut bench)?;
     println!(rt; "{line}")?;
     Ok(())
 }

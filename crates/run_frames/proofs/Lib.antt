@@ -5,7 +5,7 @@ mod Bringing
 mod Clocking
 mod Counting
 mod Deciding
-mod Fated
+pub mod Fated
 pub mod Leading
 mod Losing
 mod Lost

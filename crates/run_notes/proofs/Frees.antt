@@ -14,7 +14,7 @@ use Rattle.run_notes.specs.Packets.{AllFree, AllPackets, FreeAt, FreeFor, HasPac
 use Rattle.run_notes.specs.Reports.{AllReport, Reports, waits_of}
 use Rattle.run_notes.specs.declared.notes.Awaited.{Awaited}
 use Rattle.run_notes.specs.declared.notes.Notes.{Notes}
-use Rattle.script_answers.specs.Answers.{StandsBy}
+use Rattle.script_runs.specs.Answers.{StandsBy}
 use Rattle.script_runs.specs.Came.{is_packet}
 
 last_same : {T : Type 0} (xs ys : List T) (x y : T) → xs ++ x ∷ [] ≡ ys ++ y ∷ [] → x ≡ y

@@ -1,4 +1,4 @@
-pub use Rattle.script_answers.proofs as of_script_answers
+pub use Rattle.script_runs.proofs as of_script_runs
 pub mod Epochs
 pub mod Firsts
 pub mod Frees

@@ -22,8 +22,8 @@ use Rattle.run_notes.specs.Slaves.{slave_rows}
 use Rattle.master_node.specs.of_life_runs.Spans.{is_leaving, is_open}
 use Rattle.run_notes.specs.Epochs.{HasEpochs}
 use Rattle.run_notes.specs.Unsent.{IsSpent}
-use Rattle.script_answers.specs.Answers.{IsNoted, Waits, now_answer}
-use Rattle.script_answers.specs.Steps.{EndedSo, TurnsSo, PassesSo, LosesSo}
+use Rattle.script_runs.specs.Answers.{IsNoted, Waits, now_answer}
+use Rattle.script_runs.specs.Steps.{EndedSo, TurnsSo, PassesSo, LosesSo}
 use Rattle.master_node.specs.of_segment_model.Ends.{Outcome}
 use Rattle.master_node.specs.of_task_model.Accounts.{Account, Change}
 use Rattle.run_notes.specs.declared.notes.Awaited.{Awaited}

@@ -1,5 +1,5 @@
 pub use Rattle.eoe_switch.specs as of_eoe_switch
-pub use Rattle.script_answers.specs as of_script_answers
+pub use Rattle.script_runs.specs as of_script_runs
 pub mod Notes
 pub mod Unsent
 pub mod Epochs

@@ -17,7 +17,7 @@ use Rattle.run_notes.specs.Notes.{began_where}
 use Rattle.run_notes.specs.Reports.{AllReport}
 use Rattle.run_notes.specs.declared.notes.Awaited.{Awaited}
 use Rattle.run_notes.specs.declared.notes.Notes.{Notes}
-use Rattle.script_answers.specs.Steps.{account_of}
+use Rattle.script_runs.specs.Steps.{account_of}
 
 -- the row of a packet: its number, and the frame before which it came into hand; others have none
 abbrev pub packet_row : Origin → ℕ → List (ℕ × ℕ)

@@ -21,8 +21,8 @@ use Rattle.run_notes.specs.Notes.{awaits_nothing}
 use Rattle.run_notes.specs.declared.standing.Log.{Log}
 use Rattle.run_notes.specs.Epochs.{IsMarked}
 use Rattle.run_notes.specs.Unsent.{IsNumbered}
-use Rattle.script_answers.specs.Answers.{Noted, AllNoted, IsNoted, Waits, life_scripted}
-use Rattle.script_answers.specs.Steps.{TurnsSo, PassesSo, LosesSo}
+use Rattle.script_runs.specs.Answers.{Noted, AllNoted, IsNoted, Waits, life_scripted}
+use Rattle.script_runs.specs.Steps.{TurnsSo, PassesSo, LosesSo}
 use Rattle.segment_ring.specs.declared.wire.Fate.{Fate}
 use Rattle.segment_ring.specs.declared.wire.Fate.TheVariants.{Pass, Lost}
 

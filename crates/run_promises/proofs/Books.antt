@@ -1,9 +1,9 @@
 -- THE BOOKS of slaves that stay up.
 use Rattle.std.proofs.Common.{◌≡◌, ℕ, suc, true, List, [], ◌∷◌, map, length, ap, sym, ◌∙◌, subst}
 use Rattle.std.proofs.lemmas.List.{length-map}
-use Rattle.plan_ring.specs.of_book_lives.First.{Forgets, FirstBook}
-use Rattle.plan_ring.specs.of_book_lives.Rows.{IsFirst}
-use Rattle.plan_ring.proofs.of_book_lives.First.{first_book}
+use Rattle.plan_ring.specs.KeptFirst.{Forgets, FirstBook}
+use Rattle.plan_ring.specs.Rows.{IsFirst}
+use Rattle.plan_ring.proofs.KeptFirst.{first_book}
 use Rattle.script_runs.specs.of_eoe_model.Network.{Station}
 use Rattle.script_runs.specs.of_frame_view.View.{Lens}
 use Rattle.script_runs.specs.of_life_frames.Shares.{Lived}
@@ -14,35 +14,35 @@ use Rattle.script_runs.specs.of_life_runs.Led.{Exchanged, Leads}
 use Rattle.script_runs.specs.of_link_mails.Body.{Body}
 use Rattle.script_runs.specs.of_master_duty.Reply.{Reply}
 use Rattle.script_runs.specs.of_master_hand.Spoken.{Asked, is_followed}
-use Rattle.plan_ring.specs.Master.{IsLed, AllLed}
+use Rattle.plan_ring.specs.Master.{IsLed, AllLed, owed}
 use Rattle.plan_ring.specs.Plan.{PlanMember, FitsPlan, step, plan_of, first_app}
 use Rattle.script_runs.specs.of_segment_model.Record.{Frame}
 use Rattle.script_runs.specs.of_segment_plan.declared.plan.Scenario.{Scenario}
 use Rattle.script_runs.specs.of_segment_plan.declared.slave.SlaveSpec.{SlaveSpec}
-use Rattle.plan_ring.specs.of_server_lives.Real.{real_clearing}
-use Rattle.kept_lives.specs.of_slave_lives.Lived.{Behind, node_seen}
-use Rattle.kept_lives.specs.of_slave_lives.Opening as Opening
+use Rattle.plan_ring.specs.Real.{real_clearing}
+use Rattle.plan_ring.specs.of_slave_lives.Lived.{Behind, node_seen}
+use Rattle.plan_ring.specs.of_slave_lives.Opening as Opening
 use Rattle.plan_ring.specs.of_slave_parts.Parts.{Core, Server}
 use Rattle.plan_ring.specs.of_slave_server.Serving.{Serving}
-use Rattle.kept_lives.specs.of_slave_steps.Node.{Node, is_settled}
-use Rattle.kept_lives.specs.of_slave_lives.Steps.{Stands}
-use Rattle.kept_lives.specs.of_mailbox_slave.Node.{in_side}
+use Rattle.plan_ring.specs.of_slave_steps.Node.{Node, is_settled}
+use Rattle.plan_ring.specs.of_slave_lives.Steps.{Stands}
+use Rattle.plan_ring.specs.of_mailbox_slave.Node.{in_side}
 use Rattle.script_runs.specs.of_segment_model.Laws.{IsSettled}
 use Rattle.script_runs.specs.of_state_exchange.Families.{InState}
-use Rattle.kept_lives.specs.of_whole_lives.Whole.{IsWhole, StandsAs}
+use Rattle.plan_ring.specs.of_whole_ring.Whole.{OwesLaws, StandsAs}
 use Rattle.plan_ring.specs.of_whole_ring.Members.{MemberIs, AllLived}
 use Rattle.plan_ring.specs.Lives.{IsShown, AllShown, AreLived}
 use Rattle.plan_ring.specs.Round.{ring_of, ring_after, frame_seen, all_seen}
 use Rattle.run_promises.specs.Books.{StaysUp, HasBook, AllHaveBooks}
 use Rattle.run_promises.specs.Slaves.{services_of}
-use Rattle.kept_lives.proofs.Settled.{settled_seen}
+use Rattle.plan_ring.proofs.Settled.{settled_seen}
 use Rattle.run_promises.proofs.Ups.{AllUp}
 
 -- a book of a slave with any services
 record Booked (w : Behind Serving (InState Server) (InState (Station Core)) Asked Reply) (c : Clearing (InState Server) (InState (Station Core))) (p : Opening.Plan) (spot : Spot) (first : InState (Station Core)) (l : Life Body Asked Reply) (gs : List (Frame Body)) (n : Node Serving) : Type 0 where
-  whole : IsWhole w c p spot
+  owes : OwesLaws w c p spot
   forgets : Forgets w c
-  book : FirstBook w c p spot whole forgets is_followed first l gs n
+  book : FirstBook w c p spot owes forgets is_followed first l gs n
   settled : is_settled w.running.next n ≡ true → IsSettled (node_seen w n)
 
 module _ (plan : Scenario) (fs : List Exchanged) where
@@ -63,14 +63,14 @@ module _ (plan : Scenario) (fs : List Exchanged) where
       let first : IsFirst (length gs) m.life = subst (λ (k : ℕ). IsFirst k m.life) (sym (length-map fs (frame_seen lens))) (subst (λ (l : Life Body Asked Reply). IsFirst (length fs) l) life (up stays)) in
       let stands : m.life.stand ≡ Stand.Open = ap (λ (l : Life Body Asked Reply). l.stand) (sym life) ∙ open_ in
       let here : Booked m.services m.clearing m.plan m.spot m.first m.life gs m.node =
-      record { whole = i.whole; forgets = led.forgets; book = first_book m.services m.clearing m.plan m.spot i.whole led.forgets is_followed m.first m.life gs m.node i.lived first stands; settled = λ e. settled_seen m.services i.whole.behind m.node (open_stands m i stands) e } in
+      record { owes = owed m i.whole led; forgets = led.forgets; book = first_book m.services m.clearing m.plan m.spot (owed m i.whole led) led.forgets is_followed m.first m.life gs m.node i.lived first stands; settled = λ e. settled_seen m.services i.whole.behind m.node (open_stands m i stands) e } in
       let by_services = subst (λ w. Booked w m.clearing m.plan m.spot m.first m.life gs m.node) x.is.services here in
       let by_clearing = subst (λ c. Booked (services_of plan s) c m.plan m.spot m.first m.life gs m.node) x.is.clearing by_services in
       let by_plan = subst (λ p. Booked (services_of plan s) real_clearing p m.spot m.first m.life gs m.node) x.is.plan by_clearing in
       let by_spot = subst (λ spot. Booked (services_of plan s) real_clearing (plan_of s) spot m.first m.life gs m.node) x.is.spot by_plan in
       let by_first = subst (λ first. Booked (services_of plan s) real_clearing (plan_of s) (spot_of place s) first m.life gs m.node) x.is.first by_spot in
       let by_life = subst (λ (l : Life Body Asked Reply). Booked (services_of plan s) real_clearing (plan_of s) (spot_of place s) (first_app s) l gs m.node) (sym life) by_first in
-      record { whole = by_life.whole; forgets = by_life.forgets; book = by_life.book; settled = by_life.settled }
+      record { owes = by_life.owes; forgets = by_life.forgets; book = by_life.book; settled = by_life.settled }
 
   all_books : (place : ℕ) (ss : List SlaveSpec) (ms : List PlanMember) (as' : List Leads) → AllLived lens step (FitsPlan plan.slaves) gs place ms → AllLed ms → AllShown plan place ss ms as' → AllUp plan (length fs) as' →
       AllHaveBooks plan fs place ss as' (map (λ (m : PlanMember). m.node) ms)

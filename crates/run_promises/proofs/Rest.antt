@@ -8,7 +8,7 @@ use Rattle.run_promises.specs.Rests.{IsDone}
 use Rattle.script_runs.specs.of_segment_plan.declared.plan.Scenario.{Scenario}
 use Rattle.script_runs.specs.of_segment_plan.declared.slave.SlaveSpec.{SlaveSpec}
 use Rattle.plan_ring.specs.of_slave_server.Serving.{Serving}
-use Rattle.kept_lives.specs.of_slave_steps.Node.{Node}
+use Rattle.plan_ring.specs.of_slave_steps.Node.{Node}
 
 module _ (plan : Scenario) (fs : List Exchanged) where
   one_rests : (place : ℕ) (s : SlaveSpec) (a : Leads) (n : Node Serving) → KeepsOne plan fs place s a n → IsAtRest (lens_of plan.slaves) a n → HasNothingLeft plan fs place s a n

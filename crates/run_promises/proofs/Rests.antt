@@ -15,31 +15,31 @@ use Rattle.script_runs.specs.of_life_runs.Led.{Exchanged, Leads, speech_at}
 use Rattle.script_runs.specs.of_link_mails.Body.{Body}
 use Rattle.script_runs.specs.of_master_duty.Reply.{Reply}
 use Rattle.script_runs.specs.of_master_hand.Spoken.{Asked, hand_speech, is_followed}
-use Rattle.plan_ring.specs.of_named_lives.Alike.{RowIs}
-use Rattle.plan_ring.proofs.of_named_lives.Alike as Alike
+use Rattle.plan_ring.specs.Alike.{RowIs}
+use Rattle.plan_ring.proofs.Alike as Alike
 use Rattle.plan_ring.specs.Asked.{is_service}
-use Rattle.plan_ring.specs.Master.{speech_of, IsLed, AllLed}
+use Rattle.plan_ring.specs.Master.{speech_of, IsLed, AllLed, owed}
 use Rattle.plan_ring.specs.Plan.{PlanMember, FitsPlan, step, first_app}
 use Rattle.script_runs.specs.of_segment_model.Laws.{WantsNothing, NothingInHand}
 use Rattle.script_runs.specs.of_segment_model.Record.{Frame}
 use Rattle.script_runs.specs.of_segment_plan.declared.plan.Scenario.{Scenario}
 use Rattle.script_runs.specs.of_segment_plan.declared.slave.SlaveSpec.{SlaveSpec}
-use Rattle.plan_ring.specs.of_server_lives.Real.{real_clearing}
-use Rattle.kept_lives.specs.of_slave_lives.Lived.{Behind}
+use Rattle.plan_ring.specs.Real.{real_clearing}
+use Rattle.plan_ring.specs.of_slave_lives.Lived.{Behind}
 use Rattle.plan_ring.specs.of_slave_parts.Parts.{Core, Server}
 use Rattle.plan_ring.specs.of_slave_server.Serving.{Serving, next_mail}
-use Rattle.kept_lives.specs.of_slave_steps.Node.{Node, is_settled}
+use Rattle.plan_ring.specs.of_slave_steps.Node.{Node, is_settled}
 use Rattle.script_runs.specs.of_state_exchange.Families.{InState}
-use Rattle.kept_lives.specs.of_whole_lives.Whole.{StandsAs, LivesOpen}
+use Rattle.plan_ring.specs.of_whole_ring.Whole.{StandsAs, LivesOpen}
 use Rattle.plan_ring.specs.of_whole_ring.Members.{MemberIs, AllLived}
 use Rattle.plan_ring.specs.Lives.{IsShown, AllShown, AreLived}
 use Rattle.plan_ring.specs.Round.{ring_of, ring_after, all_seen}
 use Rattle.script_runs.specs.Came.{AreThose, is_packet}
-use Rattle.kept_lives.specs.Epochs.{AreKept, NothingLeft, app_of}
+use Rattle.plan_ring.specs.Epochs.{AreKept, NothingLeft, app_of}
 use Rattle.run_promises.specs.Rests.{IsIdle, IsDone, AllDoneIf}
 use Rattle.run_promises.specs.Slaves.{services_of}
 use Rattle.script_runs.specs.Slaves.{HasCome, AllCome}
-use Rattle.kept_lives.proofs.Epochs.{lived_rests, past_kept}
+use Rattle.plan_ring.proofs.Epochs.{lived_rests, past_kept}
 use Rattle.run_promises.proofs.Served.{one_served}
 
 -- a newest epoch of which nothing is left, of a slave with any services
@@ -86,8 +86,8 @@ module _ (plan : Scenario) (fs : List Exchanged) where
         let next : is_settled m.services.running.next m.node ≡ true = ap (λ (w : Behind Serving (InState Server) (InState (Station Core)) Asked Reply). is_settled w.running.next m.node) x.is.services ∙ settled in
         record {
           from = i.lived.from;
-          past = past_kept m.services m.clearing m.plan m.spot i.whole is_followed gs m.first m.life.past i.lived.from i.lived.past;
-          newest = lived_rests m.services m.clearing m.plan m.spot i.whole is_followed gs i.lived.from m.life.era m.node now.lives.epoch next wants hand;
+          past = past_kept m.services m.clearing m.plan m.spot (owed m i.whole led) is_followed gs m.first m.life.past i.lived.from i.lived.past;
+          newest = lived_rests m.services m.clearing m.plan m.spot (owed m i.whole led) is_followed gs i.lived.from m.life.era m.node now.lives.epoch next wants hand;
         }
 
     one_done : IsDone plan fs place s a m.node
@@ -98,7 +98,7 @@ module _ (plan : Scenario) (fs : List Exchanged) where
         let by_first = subst (λ first. Left (services_of plan s) real_clearing (spot_of place s) first m.life gs m.node) x.is.first by_spot in
         let by_life = subst (λ (l : Life Body Asked Reply). Left (services_of plan s) real_clearing (spot_of place s) (first_app s) l gs m.node) (sym life_is) by_first in
         let script = script_for place plan.services in
-        let served = one_served plan fs place s m a i x come in
+        let served = one_served plan fs place s m a i led x come in
         let whole : take a.number script ≡ script = ap (λ (k : ℕ). take k script) (idle.script ∙ ap length x.script) ∙ take-length script in
         record {
           all = subst (λ ss. AreThose s.out_len ss (filter (λ q. not (is_packet q)) (life_started a.lived.life))) whole served.firsts.those;

@@ -4,7 +4,7 @@ use Rattle.script_runs.specs.of_life_runs.Led.{Exchanged}
 use Rattle.plan_ring.specs.Round.{AllRound, behind}
 use Rattle.script_runs.specs.of_segment_ring.Ring.{RingState}
 use Rattle.plan_ring.specs.of_slave_server.Serving.{Serving}
-use Rattle.kept_lives.specs.of_slave_steps.Node.{Node}
+use Rattle.plan_ring.specs.of_slave_steps.Node.{Node}
 
 pub first_round : (ring : RingState (Node Serving)) (fs others : List Exchanged) → AllRound ring (fs ++ others) → AllRound ring fs
 first_round ring [] others round = tt

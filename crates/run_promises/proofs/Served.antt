@@ -13,17 +13,18 @@ use Rattle.plan_ring.specs.Plan.{PlanMember, FitsPlan, step, first_app}
 use Rattle.script_runs.specs.of_segment_model.Record.{Frame}
 use Rattle.script_runs.specs.of_segment_plan.declared.plan.Scenario.{Scenario}
 use Rattle.script_runs.specs.of_segment_plan.declared.slave.SlaveSpec.{SlaveSpec}
-use Rattle.plan_ring.specs.of_server_lives.Real.{real_clearing}
+use Rattle.plan_ring.specs.Real.{real_clearing}
 use Rattle.plan_ring.specs.of_slave_server.Serving.{Serving}
-use Rattle.kept_lives.specs.of_slave_steps.Node.{Node}
+use Rattle.plan_ring.specs.of_slave_steps.Node.{Node}
 use Rattle.plan_ring.specs.of_whole_ring.Members.{MemberIs, AllLived}
 use Rattle.plan_ring.specs.Lives.{IsShown, AllShown, AreLived}
+use Rattle.plan_ring.specs.Master.{IsLed, AllLed, owed}
 use Rattle.plan_ring.specs.Round.{ring_of, ring_after, all_seen}
 use Rattle.script_runs.specs.Came.{Came, AreFirst}
-use Rattle.kept_lives.specs.Epochs.{IsKeptLife}
+use Rattle.plan_ring.specs.Epochs.{IsKeptLife}
 use Rattle.run_promises.specs.Slaves.{services_of, IsServed, AllServed}
 use Rattle.script_runs.specs.Slaves.{HasCome, AllCome}
-use Rattle.kept_lives.proofs.Epochs.{kept_life}
+use Rattle.plan_ring.proofs.Epochs.{kept_life}
 
 module _ (plan : Scenario) (fs : List Exchanged) where
   abbrev lens : ℕ → Lens
@@ -33,11 +34,11 @@ module _ (plan : Scenario) (fs : List Exchanged) where
   gs = all_seen lens fs
 
   -- one slave
-  pub one_served : (place : ℕ) (s : SlaveSpec) (m : PlanMember) (a : Leads) → MemberIs lens step (FitsPlan plan.slaves) gs place m → IsShown plan place s m a → HasCome plan place s a → IsServed plan fs place s a m.node
-  one_served place s m a i x come =
+  pub one_served : (place : ℕ) (s : SlaveSpec) (m : PlanMember) (a : Leads) → MemberIs lens step (FitsPlan plan.slaves) gs place m → IsLed m → IsShown plan place s m a → HasCome plan place s a → IsServed plan fs place s a m.node
+  one_served place s m a i led x come =
       let out : (lens s.station).out ≡ s.out_len =
       ap (λ p. (lens p.station).out) (sym x.is.plan) ∙ subst (λ (l : ℕ → Lens). (l m.plan.station).out ≡ m.plan.out) i.lens_is i.whole.plan.lens_out ∙ ap (λ p. p.out) x.is.plan in
-      let life : IsKeptLife m.services is_followed m.spot m.clearing.cleared gs m.first m.life m.node = kept_life m.services m.clearing m.plan m.spot i.whole is_followed gs m.first m.life m.node i.lived in
+      let life : IsKeptLife m.services is_followed m.spot m.clearing.cleared gs m.first m.life m.node = kept_life m.services m.clearing m.plan m.spot (owed m i.whole led) is_followed gs m.first m.life m.node i.lived in
       let by_services = subst (λ w. IsKeptLife w is_followed m.spot m.clearing.cleared gs m.first m.life m.node) x.is.services life in
       let by_spot = subst (λ spot. IsKeptLife (services_of plan s) is_followed spot m.clearing.cleared gs m.first m.life m.node) x.is.spot by_services in
       let by_clearing = subst (λ c. IsKeptLife (services_of plan s) is_followed (spot_of place s) c.cleared gs m.first m.life m.node) x.is.clearing by_spot in
@@ -50,14 +51,14 @@ module _ (plan : Scenario) (fs : List Exchanged) where
       }
 
   -- all
-  all_served : (place : ℕ) (ss : List SlaveSpec) (ms : List PlanMember) (as' : List Leads) → AllLived lens step (FitsPlan plan.slaves) gs place ms → AllShown plan place ss ms as' → AllCome plan place ss as' →
+  all_served : (place : ℕ) (ss : List SlaveSpec) (ms : List PlanMember) (as' : List Leads) → AllLived lens step (FitsPlan plan.slaves) gs place ms → AllLed ms → AllShown plan place ss ms as' → AllCome plan place ss as' →
       AllServed plan fs place ss as' (map (λ (m : PlanMember). m.node) ms)
-  all_served place [] [] [] i x come = tt
-  all_served place [] [] (a ∷ as') i x come = absurd x
-  all_served place [] (m ∷ ms) as' i x come = absurd x
-  all_served place (s ∷ ss) [] as' i x come = absurd x
-  all_served place (s ∷ ss) (m ∷ ms) [] i x come = absurd x
-  all_served place (s ∷ ss) (m ∷ ms) (a ∷ as') i x come = (one_served place s m a i.0 x.0 come.0, all_served (suc place) ss ms as' i.1 x.1 come.1)
+  all_served place [] [] [] i led x come = tt
+  all_served place [] [] (a ∷ as') i led x come = absurd x
+  all_served place [] (m ∷ ms) as' i led x come = absurd x
+  all_served place (s ∷ ss) [] as' i led x come = absurd x
+  all_served place (s ∷ ss) (m ∷ ms) [] i led x come = absurd x
+  all_served place (s ∷ ss) (m ∷ ms) (a ∷ as') i led x come = (one_served place s m a i.0 led.0 x.0 come.0, all_served (suc place) ss ms as' i.1 led.1 x.1 come.1)
 
   pub served : (as' : List Leads) → AreLived plan fs as' → AllCome plan 0 plan.slaves as' → AllServed plan fs 0 plan.slaves as' (ring_after (ring_of plan) fs).nodes
-  served as' x come = subst (λ (ns : List (Node Serving)). AllServed plan fs 0 plan.slaves as' ns) (sym x.lives.nodes) (all_served 0 plan.slaves x.members as' x.lives.each x.shown come)
+  served as' x come = subst (λ (ns : List (Node Serving)). AllServed plan fs 0 plan.slaves as' ns) (sym x.lives.nodes) (all_served 0 plan.slaves x.members as' x.lives.each x.led x.shown come)

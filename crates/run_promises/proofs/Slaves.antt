@@ -7,7 +7,7 @@ use Rattle.run_promises.specs.Slaves.{AllServed}
 use Rattle.script_runs.specs.of_segment_plan.declared.plan.Scenario.{Scenario}
 use Rattle.script_runs.specs.of_segment_plan.declared.slave.SlaveSpec.{SlaveSpec}
 use Rattle.plan_ring.specs.of_slave_server.Serving.{Serving}
-use Rattle.kept_lives.specs.of_slave_steps.Node.{Node}
+use Rattle.plan_ring.specs.of_slave_steps.Node.{Node}
 use Rattle.run_promises.specs.Promise.{AllKeep}
 use Rattle.run_promises.proofs.Gones.{AllGiven}
 

@@ -2,8 +2,8 @@
 use Rattle.std.proofs.Common.{◌≡◌, ℕ, suc, Bool, true, false, Option, Some, None, List, [], ◌∷◌, ◌++◌, map, length, refl, ap, sym, ◌∙◌, subst, arith, length-append}
 use Rattle.std.specs.Prelude.{◌&&◌, ◌==◌, if◌then◌else◌, ⊤}
 use Rattle.script_runs.specs.of_datagrams.Datagram as Raw
-use Rattle.plan_ring.specs.of_book_lives.Rows.{WishStays, IsFirst}
-use Rattle.plan_ring.proofs.of_book_lives.Rows.{back_first, lost_first, new_first}
+use Rattle.plan_ring.specs.Rows.{WishStays, IsFirst}
+use Rattle.plan_ring.proofs.Rows.{back_first, lost_first, new_first}
 use Rattle.script_runs.specs.of_book_model.Script.{life_started}
 use Rattle.script_runs.specs.of_exchange_model.Exchange.{Speech}
 use Rattle.script_runs.specs.of_frame_view.View.{Lens}

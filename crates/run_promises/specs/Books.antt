@@ -1,6 +1,6 @@
 -- THE BOOK OF A SLAVE THAT STAYS UP: in its first epoch, from the switch on.
 use Rattle.std.specs.Prelude.{◌≡◌, ℕ, suc, true, List, [], ◌∷◌, ⊤}
-use Rattle.plan_ring.specs.of_book_lives.First.{Forgets, FirstBook}
+use Rattle.plan_ring.specs.KeptFirst.{Forgets, FirstBook}
 use Rattle.script_runs.specs.of_book_model.Script.{life_started}
 use Rattle.script_runs.specs.of_life_model.Book.{NoInits}
 use Rattle.script_runs.specs.of_life_model.Lives.{Life, Stand}
@@ -10,12 +10,12 @@ use Rattle.script_runs.specs.of_master_hand.Spoken.{is_followed}
 use Rattle.plan_ring.specs.Plan.{plan_of, first_app}
 use Rattle.script_runs.specs.of_segment_plan.declared.plan.Scenario.{Scenario}
 use Rattle.script_runs.specs.of_segment_plan.declared.slave.SlaveSpec.{SlaveSpec}
-use Rattle.plan_ring.specs.of_server_lives.Real.{real_clearing}
+use Rattle.plan_ring.specs.Real.{real_clearing}
 use Rattle.script_runs.specs.of_segment_model.Laws.{IsSettled}
-use Rattle.kept_lives.specs.of_slave_lives.Lived.{node_seen}
+use Rattle.plan_ring.specs.of_slave_lives.Lived.{node_seen}
 use Rattle.plan_ring.specs.of_slave_server.Serving.{Serving, next_mail}
-use Rattle.kept_lives.specs.of_slave_steps.Node.{Node, is_settled}
-use Rattle.kept_lives.specs.of_whole_lives.Whole.{IsWhole}
+use Rattle.plan_ring.specs.of_slave_steps.Node.{Node, is_settled}
+use Rattle.plan_ring.specs.of_whole_ring.Whole.{OwesLaws}
 use Rattle.plan_ring.specs.Round.{all_seen}
 use Rattle.run_promises.specs.Slaves.{services_of}
 
@@ -28,9 +28,9 @@ pub record StaysUp {M Q R : Type 0} (l : Life M Q R) : Type 0 where
 -- ITS BOOK: the rows are what came into hand, each answer is the one that the frames give, what is done of them is the application of its node; and
 -- where it is settled and nothing is wanted of it, nothing is left and all is done
 pub record HasBook (plan : Scenario) (fs : List Exchanged) (place : ℕ) (s : SlaveSpec) (a : Leads) (n : Node Serving) : Type 0 where
-  pub whole : IsWhole (services_of plan s) real_clearing (plan_of s) (spot_of place s)
+  pub owes : OwesLaws (services_of plan s) real_clearing (plan_of s) (spot_of place s)
   pub forgets : Forgets (services_of plan s) real_clearing
-  pub book : FirstBook (services_of plan s) real_clearing (plan_of s) (spot_of place s) whole forgets is_followed (first_app s) a.lived.life (all_seen (lens_of plan.slaves) fs) n
+  pub book : FirstBook (services_of plan s) real_clearing (plan_of s) (spot_of place s) owes forgets is_followed (first_app s) a.lived.life (all_seen (lens_of plan.slaves) fs) n
   pub settled : is_settled next_mail n ≡ true → IsSettled (node_seen (services_of plan s) n)
 
 -- each that is open, from a place on

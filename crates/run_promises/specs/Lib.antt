@@ -1,7 +1,6 @@
-pub use Rattle.kept_lives.specs as of_kept_lives
+pub use Rattle.plan_ring.specs as of_plan_ring
 pub use Rattle.scenario.specs as of_scenario
-pub use Rattle.plan_ring.specs.of_server_lives as of_server_lives
-pub use Rattle.kept_lives.specs.of_slave_lives as of_slave_lives
+pub use Rattle.plan_ring.specs.of_slave_lives as of_slave_lives
 pub mod Slaves
 pub mod Books
 pub mod Rests

@@ -8,7 +8,7 @@ use Rattle.run_promises.specs.Rests.{IsIdle, IsDone}
 use Rattle.script_runs.specs.of_segment_plan.declared.plan.Scenario.{Scenario}
 use Rattle.script_runs.specs.of_segment_plan.declared.slave.SlaveSpec.{SlaveSpec}
 use Rattle.plan_ring.specs.of_slave_server.Serving.{Serving, next_mail}
-use Rattle.kept_lives.specs.of_slave_steps.Node.{Node, is_settled}
+use Rattle.plan_ring.specs.of_slave_steps.Node.{Node, is_settled}
 use Rattle.run_promises.specs.Promise.{slaves_behind}
 
 -- AT REST: a slave that was given up for good, or one that is settled and of which its master wants nothing

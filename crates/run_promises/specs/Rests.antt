@@ -11,14 +11,14 @@ use Rattle.plan_ring.specs.Plan.{first_app}
 use Rattle.script_runs.specs.of_segment_model.Laws.{WantsNothing}
 use Rattle.script_runs.specs.of_segment_plan.declared.plan.Scenario.{Scenario}
 use Rattle.script_runs.specs.of_segment_plan.declared.slave.SlaveSpec.{SlaveSpec}
-use Rattle.plan_ring.specs.of_server_lives.Real.{real_clearing}
+use Rattle.plan_ring.specs.Real.{real_clearing}
 use Rattle.plan_ring.specs.of_slave_parts.Parts.{Core}
 use Rattle.plan_ring.specs.of_slave_server.Serving.{Serving, next_mail}
-use Rattle.kept_lives.specs.of_slave_steps.Node.{Node, is_settled}
+use Rattle.plan_ring.specs.of_slave_steps.Node.{Node, is_settled}
 use Rattle.script_runs.specs.of_state_exchange.Families.{InState}
 use Rattle.plan_ring.specs.Round.{all_seen}
 use Rattle.script_runs.specs.Came.{AreThose, is_packet}
-use Rattle.kept_lives.specs.Epochs.{AreKept, NothingLeft, app_of}
+use Rattle.plan_ring.specs.Epochs.{AreKept, NothingLeft, app_of}
 use Rattle.run_promises.specs.Slaves.{services_of}
 
 -- THE MASTER WANTS NOTHING of a slave: it is open, no service is in hand and none is left of its script, and both halves of its link are idle

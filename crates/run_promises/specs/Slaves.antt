@@ -11,16 +11,16 @@ use Rattle.plan_ring.specs.Asked.{asked}
 use Rattle.plan_ring.specs.Plan.{first_app}
 use Rattle.script_runs.specs.of_segment_plan.declared.plan.Scenario.{Scenario}
 use Rattle.script_runs.specs.of_segment_plan.declared.slave.SlaveSpec.{SlaveSpec}
-use Rattle.plan_ring.specs.of_server_lives.Real.{real_clearing}
-use Rattle.kept_lives.specs.of_slave_lives.Lived.{Behind}
+use Rattle.plan_ring.specs.Real.{real_clearing}
+use Rattle.plan_ring.specs.of_slave_lives.Lived.{Behind}
 use Rattle.plan_ring.specs.of_slave_parts.Parts.{Core, Server}
 use Rattle.plan_ring.specs.of_slave_server.Serving.{Serving}
 use Rattle.plan_ring.specs.of_slave_server.Spec.{profile_of}
-use Rattle.kept_lives.specs.of_slave_steps.Node.{Node}
+use Rattle.plan_ring.specs.of_slave_steps.Node.{Node}
 use Rattle.script_runs.specs.of_state_exchange.Families.{InState}
 use Rattle.plan_ring.specs.Round.{all_seen}
 use Rattle.script_runs.specs.Came.{Came, AreFirst}
-use Rattle.kept_lives.specs.Epochs.{IsKeptLife}
+use Rattle.plan_ring.specs.Epochs.{IsKeptLife}
 
 -- the services of a plan's slave, as its master asks for them
 abbrev pub services_of : Scenario → SlaveSpec → Behind Serving (InState Server) (InState (Station Core)) Asked Reply

@@ -16,10 +16,10 @@ use Rattle.segment_plan.specs.declared.slave.SlaveSpec.{SlaveSpec}
 use Rattle.segment_ring.specs.declared.wire.Fate.{Fate}
 use Rattle.segment_ring.specs.declared.wire.Fate.TheVariants as Fates
 use Rattle.run_record.specs.Led.{LeadTo}
-use Rattle.script_answers.specs.Answers.{turned}
-use Rattle.script_answers.specs.Steps.{OpenedBefore, IsBefore}
-use Rattle.script_answers.proofs.Losses.{passes_so, loses_so}
-use Rattle.script_answers.proofs.Turns.{turns_so}
+use Rattle.script_runs.specs.Answers.{turned}
+use Rattle.script_runs.specs.Steps.{OpenedBefore, IsBefore}
+use Rattle.script_runs.proofs.Losses.{passes_so, loses_so}
+use Rattle.script_runs.proofs.Turns.{turns_so}
 
 abbrev pub AllBefore : ℕ → List Leads → Type 0
 AllBefore made [] = ⊤

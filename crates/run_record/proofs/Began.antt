@@ -22,8 +22,8 @@ use Rattle.master_node.specs.of_master_hand.of_eoe_model.Client as EoeClient
 use Rattle.master_node.specs.of_master_tour.Made.{is_in}
 use Rattle.master_node.specs.of_master_tour.Orders.{AreOnce}
 use Rattle.master_node.specs.of_task_model.Accounts.{starts}
-use Rattle.packets_begun.specs.Numbers.{each_with, frames_begun}
-use Rattle.packets_begun.specs.Over.{packet_begun}
+use Rattle.packets_heard.specs.Numbers.{each_with, frames_begun}
+use Rattle.packets_heard.specs.Over.{packet_begun}
 use Rattle.run_record.specs.Forwarded.{PacketsNoted}
 use Rattle.run_record.specs.Led.{LeadTo}
 use Rattle.run_notes.specs.Packets.{AllPackets, BeginsOn, HasPacket, PacketFor, begun_noted, numbered_from, packet_row, packets_at, rows_by}
@@ -31,8 +31,8 @@ use Rattle.run_notes.specs.Reports.{AllReport}
 use Rattle.run_notes.specs.Slaves.{first_notes}
 use Rattle.run_notes.specs.declared.notes.Notes.{Notes}
 use Rattle.run_notes.proofs.Packets.{rows_append}
-use Rattle.script_answers.specs.Answers.{turned}
-use Rattle.script_answers.proofs.Turns.{life_mails}
+use Rattle.script_runs.specs.Answers.{turned}
+use Rattle.script_runs.proofs.Turns.{life_mails}
 use Rattle.segment_plan.specs.declared.plan.Scenario.{Scenario}
 use Rattle.segment_plan.specs.declared.service.Service as Plan
 use Rattle.segment_plan.specs.declared.slave.SlaveSpec.{SlaveSpec}

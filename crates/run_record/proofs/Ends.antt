@@ -12,13 +12,12 @@ use Rattle.master_node.specs.Shows.{MasterShows, lived_of}
 use Rattle.master_node.specs.Told.{HasLives}
 use Rattle.master_node.specs.Wants.{gave_of, IsCounted, AllCounted, IsLeft, AllLeft}
 use Rattle.master_node.specs.declared.node.MasterNode.{MasterNode}
-use Rattle.recalled_runs.specs.Recalled.{AllSettled}
+use Rattle.packets_heard.specs.Recalled.{AllSettled}
 use Rattle.run_book.specs.declared.book.SlaveBook.{SlaveBook}
 use Rattle.run_notes.specs.declared.notes.Notes.{Notes}
 use Rattle.run_record.specs.Led.{RestsSo, DoneSo}
-use Rattle.run_notes.specs.Slaves.{gaves_noted, gaves_in}
+use Rattle.run_notes.specs.Slaves.{gaves_noted, gaves_in, slave_row, slave_rows}
 use Rattle.run_record.specs.Session.{is_at_rest, are_at_rest, some_given_up, has_live}
-use Rattle.run_notes.specs.Slaves.{slave_row, slave_rows}
 use Rattle.run_record.proofs.Heads.{heads, not_none, rests}
 use Rattle.run_record.proofs.Gones.{AllGone, all_gone, first_false, second_false}
 use Rattle.slave_server.specs.Serving.{next_mail}

@@ -7,7 +7,7 @@ use Rattle.eoe_switch.specs.declared.switching.SwitchEvent.{SwitchEvent}
 use Rattle.master_node.specs.of_frame_view.View.{Lens}
 use Rattle.master_node.specs.of_frame_view.Seen.{seen}
 use Rattle.master_node.specs.of_life_frames.Shares.{AllThree}
-use Rattle.master_node.specs.of_life_runs.First.{lens_of, first_leads}
+use Rattle.master_node.specs.of_life_runs.First.{lens_of}
 use Rattle.master_node.specs.of_life_runs.Led.{Exchanged, Leads, Turn, IsLed, IsLedFrame}
 use Rattle.master_node.specs.of_master_hand.declared.hand.InHand.{InHand}
 use Rattle.master_node.specs.of_master_side.declared.hand.Hand.{Ghosts}
@@ -27,20 +27,20 @@ use Rattle.master_node.specs.Rooms.{area_at}
 use Rattle.master_node.specs.Shows.{MasterUnder, is_live_lead}
 use Rattle.master_node.specs.Toured.{tour_of, turn_share}
 use Rattle.master_node.specs.declared.node.MasterNode.{MasterNode}
-use Rattle.packets_begun.proofs.Numbers.{numbered_on}
-use Rattle.packets_begun.proofs.Runs.{begun_on, none_behind}
-use Rattle.packets_begun.specs.Numbers.{each_with}
-use Rattle.packets_begun.specs.Over.{IsNoBegun}
-use Rattle.port_events.proofs.Carries.{carries_all, listed_on}
-use Rattle.port_events.proofs.Unfinished.{under_way, joined_so}
-use Rattle.port_events.specs.Listed.{CarriesAll, packets_by, unfinished_of}
-use Rattle.port_events.specs.of_packets_heard.Heard.{Joined, joined_in, mails_by}
+use Rattle.packets_heard.proofs.Numbers.{numbered_on}
+use Rattle.packets_heard.proofs.PacketsRuns.{begun_on, none_behind}
+use Rattle.packets_heard.specs.Numbers.{each_with}
+use Rattle.packets_heard.specs.Over.{IsNoBegun}
+use Rattle.packets_heard.proofs.Carries.{carries_all, listed_on, turns_asked}
+use Rattle.packets_heard.proofs.Unfinished.{under_way, joined_so}
+use Rattle.packets_heard.specs.Listed.{CarriesAll, packets_by, unfinished_of}
+use Rattle.packets_heard.specs.Heard.{Joined, joined_in, mails_by}
 use Rattle.segment_plan.specs.declared.plan.Scenario.{Scenario}
 use Rattle.segment_ring.specs.declared.wire.Fate.{Fate}
 use Rattle.segment_ring.specs.declared.wire.Fate.TheVariants as Fates
 use Rattle.run_record.specs.Forwarded.{IsForwarded}
 use Rattle.run_record.specs.Led.{LeadTo, ListsAll, BeginsAll, NumbersAll}
-use Rattle.visit_orders.specs.Toured.{lives_behind}
+use Rattle.packets_heard.specs.Toured.{lives_behind}
 
 -- as many slaves
 as_many : {G : Ghosts InHand} (us : List Turn) (js : List Joined) (ss : List (Stop InHand G)) → AllThree (λ l j s. IsUnfinished l s.side.hand.found.join j) (map stand_under us) (unfinished_of js) ss → length js ≡ length us
@@ -79,13 +79,13 @@ module _ (plan : Scenario) (fs : List Exchanged) (missed : ℕ) (as' : List Lead
 
     carries : CarriesAll m1.tour.visit.items us (λ k. packets_by lens plan.recover plan.retry ports f f.fate us (joined_in lives) k)
     carries =
-        carries_all lens plan.recover plan.retry ports (length fs) f as' us frame (λ k. holds_at is_live_lead as' k) (frame_size f.sent) (λ k. area_at lens as' k) (tour_of m0) (length (seen lens f.sent)) m1.tour.visit.items visits
-        under.goes.comes.once back (joined_in lives)
+        carries_all lens plan.recover plan.retry ports f us frame.datagrams frame.frame (turns_asked lens (length fs) frame.datagrams as' us frame.each) (λ k. holds_at is_live_lead as' k) (frame_size f.sent) (λ k. area_at lens as' k) (tour_of m0)
+        (length (seen lens f.sent)) m1.tour.visit.items visits under.goes.comes.once back (joined_in lives)
 
     listed : ListsAll plan (IsLed.on fs missed as' f us lives frame) es'
     listed =
         subst (λ (z : List SwitchEvent). ListsAll plan (IsLed.on fs missed as' f us lives frame) z) (sym grown)
-        (listed_on lens plan.recover plan.retry ports (first_leads plan) fs missed as' lives f us frame m1 m2 same making.1 (λ pass. arrivals pass half) downs carries es w.listed)
+        (listed_on lens plan.recover plan.retry ports (λ old. ListsAll plan lives old) f us behind (joined_in lives) m1 m2 same making.1 (λ pass. arrivals pass half) downs carries es w.listed)
 
     begins_so : PacketsBegin (switched (ports_of plan.slaves) es).switch us m1.lan
     begins_so = subst (λ (s : Switched). PacketsBegin s us m1.lan) (sym stood) begins

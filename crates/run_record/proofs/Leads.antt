@@ -11,8 +11,7 @@ use Rattle.master_node.specs.of_life_frames.Shares.{AllBoth}
 use Rattle.life_heard.proofs.Heards.{loses}
 use Rattle.life_heard.specs.Heard.{AllNoted, brought_by, heard_in, heard_on}
 use Rattle.master_node.specs.of_life_runs.First.{lens_of, script_for, first_leads, leads_from}
-use Rattle.master_node.specs.of_life_runs.Led.{Exchanged, Leads, Turn, AllTurn, IsLed, IsLedFrame, IsTurn, life_behind, led_behind, gives_up_at, missed_behind}
-use Rattle.master_node.specs.of_life_runs.Led.{new_leads}
+use Rattle.master_node.specs.of_life_runs.Led.{Exchanged, Leads, Turn, AllTurn, IsLed, IsLedFrame, IsTurn, life_behind, led_behind, gives_up_at, missed_behind, new_leads}
 use Rattle.master_node.specs.of_life_model.Lives.{Spot}
 use Rattle.master_node.specs.Arrivals.{completed_at, ComeIn}
 use Rattle.master_node.specs.Begins.{PacketsBegin}
@@ -43,12 +42,12 @@ use Rattle.master_node.specs.of_master_tour.Sizes.{frame_size}
 use Rattle.master_node.specs.of_master_tour.Toured.{Tour, IsOfTour, new_tour}
 use Rattle.master_node.proofs.Counts.{counted}
 use Rattle.master_node.proofs.Quiets.{lead_lives}
-use Rattle.packets_begun.specs.Numbers.{each_with}
-use Rattle.port_events.specs.Listed.{unfinished_of}
-use Rattle.port_events.specs.of_packets_heard.Heard.{Joined, joined_in, joined_none, mails_by}
-use Rattle.port_events.proofs.Unfinished.{under_way}
-use Rattle.recalled_runs.specs.Recalled.{AllSettled, AtSwitch, IsLanOf, IsRecalledFrame, RecalledIn, has_entered}
-use Rattle.recalled_runs.proofs.Steps.{at_switch, before_is, made_is, still_of}
+use Rattle.packets_heard.specs.Numbers.{each_with}
+use Rattle.packets_heard.specs.Listed.{unfinished_of}
+use Rattle.packets_heard.specs.Heard.{Joined, joined_in, joined_none, mails_by}
+use Rattle.packets_heard.proofs.Unfinished.{under_way}
+use Rattle.packets_heard.specs.Recalled.{AllSettled, AtSwitch, IsLanOf, IsRecalledFrame, RecalledIn, has_entered}
+use Rattle.packets_heard.proofs.Steps.{at_switch, before_is, made_is, still_of}
 use Rattle.run_book.specs.declared.book.Book.{Book}
 use Rattle.run_book.specs.declared.book.SentFrame.{SentFrame}
 use Rattle.master_node.specs.of_segment_model.Returned.{Returns}
@@ -69,25 +68,24 @@ use Rattle.run_record.specs.Recalling.{Remembers, RunBegins, RunStands, state_of
 use Rattle.run_record.specs.Replay.{behind, first_ring}
 use Rattle.run_notes.specs.Packets.{BeginsOn, begun_noted}
 use Rattle.run_record.specs.Led.{exchanged, TouredTo, Leading, AreLed}
-use Rattle.run_notes.specs.Slaves.{gaves_noted}
+use Rattle.run_notes.specs.Slaves.{gaves_noted, first_notes, scripted, GaveBy}
 use Rattle.run_notes.specs.Heard.{emergencies_noted, HeardBy}
 use Rattle.run_notes.specs.Notes.{new_notes}
 use Rattle.run_notes.specs.Reports.{Reports, AllReport, ReportsOn, ReportsBy, TurnsAll}
 use Rattle.run_notes.specs.Unsent.{IsNumbered}
 use Rattle.run_notes.proofs.Unsent.{none_begun, all_left}
 use Rattle.run_record.specs.Session.{has_live}
-use Rattle.run_notes.specs.Slaves.{first_notes, scripted, GaveBy}
-use Rattle.script_answers.specs.Answers.{turned as turned_lead}
-use Rattle.script_answers.specs.Steps.{TurnsSo, PassesSo, LosesSo}
-use Rattle.script_answers.proofs.Losses.{passes_so, loses_so}
-use Rattle.script_answers.proofs.Turns.{turns_so}
+use Rattle.script_runs.specs.Answers.{turned as turned_lead}
+use Rattle.script_runs.specs.Steps.{TurnsSo, PassesSo, LosesSo}
+use Rattle.script_runs.proofs.Losses.{passes_so, loses_so}
+use Rattle.script_runs.proofs.Turns.{turns_so}
 use Rattle.run_record.proofs.Befores.{AllBefore, turns_before, all_before}
 use Rattle.run_record.proofs.Began.{packets_first, packets_on}
 use Rattle.run_record.proofs.Forwards.{forwarded_on}
 use Rattle.run_record.proofs.Nexts.{next_frame}
 use Rattle.run_record.proofs.Noted.{GivesOne, lost_gives, next_gives, noted_by, noted_now, pass_gives}
 use Rattle.run_notes.proofs.Heard.{first_heard}
-use Rattle.visit_orders.specs.Toured.{IsToured, tour_behind, lives_behind}
+use Rattle.packets_heard.specs.Toured.{IsToured, tour_behind, lives_behind}
 
 -- BEFORE THE FIRST FRAME
 pub first_gaves : (services : List (ℕ × Plan.Service)) (number place : ℕ) (ss : List SlaveSpec) → gaves_noted (first_notes services number ss) ≡ map gave_of (leads_from services place ss)
@@ -219,14 +217,16 @@ module _ (m0 m1 m2 : MasterNode) (f : Exchanged) (result : Next)
 
     module _ (tell : (number : ℕ) (us : List Turn) → IsLedFrame lens number f.sent l.leads us → MasterUnder lens plan.recover plan.retry m1 f.sent l.missed us →
         MasterShows lens plan.recover plan.retry m2 (missed_behind lens plan.recover plan.retry f.fate l.missed) (map (led_behind lens plan.recover plan.retry gives number f) us))
-        (goes : (number : ℕ) (us : List Turn) → IsLedFrame lens number f.sent l.leads us → MasterUnder lens plan.recover plan.retry m1 f.sent l.missed us →
-        tour_of m2 ≡ tour_behind plan.retry f.fate (lives_behind lens plan.recover plan.retry l.missed number f us) (tour_of m1) m1.tour.visit.items)
+        (goes : (as' : List Leads) → HasLives lens plan.recover m2 (map lived_of as') → tour_of m2 ≡ tour_behind m1.tour.retry f.fate as' (tour_of m1) m1.tour.visit.items)
         (frame : ℕ) (counts : length fs ≡ frame) (r r' : Log) (recover : r.recover ≡ plan.recover) (before : gaves_noted r.notes ≡ gaves_noted notes) (noted : GaveBy f.fate frame m2 r r')
         (told_before : TurnsAll frame m1 (ReportsOn notes r.notes)) (told_behind : ReportsBy f.fate frame m2 r r')
         (brings : f.fate ≡ Fates.Pass → (us : List Turn) → IsLedFrame lens (length fs) f.sent l.leads us → MasterUnder lens plan.recover plan.retry m1 f.sent l.missed us → HasBrought m2 us (seen lens f.back))
         (heard_before : emergencies_noted r.notes ≡ emergencies_noted notes) (heard_behind : HeardBy f.fate frame m2 r r') where
       shown : MasterShows lens plan.recover plan.retry m2 (missed_behind lens plan.recover plan.retry f.fate l.missed) (leads made.0)
       shown = tell (length fs) made.0 made.1 made.2
+
+      tour_on : tour_of m2 ≡ tour l.missed (tour_of m0)
+      tour_on = goes (leads made.0) (lead_lives lens plan.recover (leads made.0) m2.tour.stops.items shown.each) ∙ (λ i. tour_behind (made.2.retry_is i) f.fate (leads made.0) (visited.0 i) m1.tour.visit.items)
 
       all : AllCounted plan.recover (leads made.0)
       all = counted lens plan plan.retry (fs ++ f ∷ []) _ (leads made.0) (IsLed.on fs l.missed l.leads f made.0 l.lives made.1)
@@ -282,7 +282,7 @@ module _ (m0 m1 m2 : MasterNode) (f : Exchanged) (result : Next)
         gave = given;
         told = told_by f.fate refl;
         heard = heard_by f.fate refl;
-        toured = subst (λ (t : Tour). TouredTo plan (fs ++ f ∷ []) t (leads made.0)) (sym (goes (length fs) made.0 made.1 made.2 ∙ ap (tour l.missed) visited.0)) toured_on;
+        toured = subst (λ (t : Tour). TouredTo plan (fs ++ f ∷ []) t (leads made.0)) (sym tour_on) toured_on;
       }
 
       -- and so do the events of its switch
@@ -355,7 +355,7 @@ module _ (m0 m1 m2 : MasterNode) (f : Exchanged) (result : Next)
 
           remembered_on : On (tour_of m2) (leads made.0)
           remembered_on =
-              subst (λ (t : Tour). On t (leads made.0)) (sym (goes (length fs) made.0 made.1 made.2 ∙ ap (tour l.missed) visited.0))
+              subst (λ (t : Tour). On t (leads made.0)) (sym tour_on)
               (subst (λ (n : ℕ). On (tour n (tour_of m0)) (lives_behind lens plan.recover plan.retry n (length fs) f made.0)) l.shows.missed_is remembered_first)
 
           pub stands_on : RunStands plan m2 r'.notes (fs ++ f ∷ []) b' ring'

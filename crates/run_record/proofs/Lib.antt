@@ -1,8 +1,6 @@
-pub use Rattle.packets_begun.proofs as of_packets_begun
-pub use Rattle.port_events.proofs as of_port_events
+pub use Rattle.packets_heard.proofs as of_packets_heard
 pub use Rattle.run_notes.proofs as of_run_notes
-pub use Rattle.script_answers.proofs as of_script_answers
-pub use Rattle.visit_orders.proofs as of_visit_orders
+pub use Rattle.script_runs.proofs as of_script_runs
 pub mod Asking
 pub mod Befores
 pub mod Began

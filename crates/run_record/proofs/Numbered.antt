@@ -4,7 +4,7 @@ use Rattle.arrayvec.specs.ArrayVec.{ArrayVec}
 use Rattle.master_node.specs.Happened.{events_of, HappensSo}
 use Rattle.master_node.specs.declared.happened.Happening.{Happening}
 use Rattle.master_node.specs.declared.lan.Lan.{Lan}
-use Rattle.packets_begun.specs.Numbers.{each_with}
+use Rattle.packets_heard.specs.Numbers.{each_with}
 use Rattle.run_book.specs.declared.book.Book.{Book}
 use Rattle.run_notes.specs.Switched.{rows_of, numbers_of, stamped, HasNoted, NotesSwitch, SameSwitch, IsSwitched}
 use Rattle.run_notes.proofs.Switched.{all_last, all_rows, numbers_more, switched_on, switched_same}

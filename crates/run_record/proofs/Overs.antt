@@ -11,8 +11,8 @@ use Rattle.master_node.specs.of_life_runs.Led.{Leads}
 use Rattle.master_node.specs.Toured.{tour_of}
 use Rattle.master_node.specs.Wants.{AllCounted, AllLeft, gave_of}
 use Rattle.master_node.proofs.Counts.{counted, placed}
-use Rattle.packets_begun.specs.Numbers.{frames_begun}
-use Rattle.recalled_runs.specs.Recalled.{RecalledIn}
+use Rattle.packets_heard.specs.Numbers.{frames_begun}
+use Rattle.packets_heard.specs.Recalled.{RecalledIn}
 use Rattle.run_book.specs.declared.book.Begun.{Begun}
 use Rattle.run_book.specs.declared.book.Book.{Book}
 use Rattle.run_book.specs.declared.book.Emergency.{Emergency}

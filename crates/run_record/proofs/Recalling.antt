@@ -16,8 +16,8 @@ use Rattle.master_node.specs.declared.node.MasterNode.{MasterNode}
 use Rattle.master_node.specs.of_frame_view.View.{Lens}
 use Rattle.master_node.specs.of_life_runs.First.{lens_of}
 use Rattle.master_node.specs.of_life_runs.Led.{Exchanged, Leads}
-use Rattle.recalled_runs.specs.Recalled.{AllSettled, has_entered}
-use Rattle.recalled_runs.proofs.Quiet.{quiet_led}
+use Rattle.packets_heard.specs.Recalled.{AllSettled, has_entered}
+use Rattle.packets_heard.proofs.RecalledQuiet.{quiet_led}
 use Rattle.run_notes.specs.Slaves.{slave_rows}
 use Rattle.run_notes.specs.declared.notes.Notes.{Notes}
 use Rattle.run_record.specs.Forwarded.{IsForwarded}

@@ -16,6 +16,10 @@ use Rattle.master_node.specs.Rooms.{FitAgain}
 use Rattle.master_node.specs.Serving.{FitsAt, IsAsked, IsServed, ServedShows, ServedUnder, run_lead}
 use Rattle.master_node.specs.Shows.{GoesOn, lived_of}
 use Rattle.master_node.specs.Told.{HasLives}
+use Rattle.master_node.specs.Toured.{tour_of}
+use Rattle.master_node.specs.Touring.{IsServedVisit}
+use Rattle.master_node.specs.of_master_tour.Toured.{Tour, new_tour}
+use Rattle.master_node.proofs.Toureds.{tour_by}
 use Rattle.master_node.specs.Wants.{AllCounted, gave_of}
 use Rattle.master_node.specs.declared.node.MasterNode.{MasterNode}
 use Rattle.master_node.specs.declared.node.Next.{Next}
@@ -38,7 +42,9 @@ use Rattle.run_notes.specs.declared.standing.AskedMail.{AskedMail}
 use Rattle.run_notes.specs.declared.standing.Log.{Log}
 use Rattle.run_record.specs.Led.{exchanged}
 use Rattle.run_record.specs.Replay.{IsRecorded}
-use Rattle.run_record.specs.Served.{ServedLeading, Serving, ServesOn, ServingAsks, ServingGoesOn, TellsBehind, as_asked}
+use Rattle.packets_heard.specs.Served.{IsTourServed, serves_behind}
+use Rattle.packets_heard.specs.Toured.{tour_behind}
+use Rattle.run_record.specs.Served.{ServedLeading, ServedTouredTo, Serving, ServesOn, ServingAsks, ServingGoesOn, TellsBehind, as_asked}
 use Rattle.run_record.specs.Session.{SessionState, asked_mail, asked_more, has_live}
 use Rattle.run_record.proofs.Fits.{has_room, home_fits}
 use Rattle.run_record.proofs.Leads.{first_gaves}
@@ -84,9 +90,15 @@ first_same g t h (p ∷ ps) rows place [] = refl
 first_same g t h [] rows place (s ∷ ss) = λ i. h 1 (new_leads (script_for place rows) (spot_of place s)) i ∷ first_same g t h [] rows (suc place) ss i
 first_same g t h (p ∷ ps) rows place (s ∷ ss) = λ i. h p (new_leads (script_for place rows) (spot_of place s)) i ∷ first_same g t h ps rows (suc place) ss i
 
-pub serving_begins : (plan : Scenario) (s : SessionState) → s.notes ≡ first_notes plan.services 0 plan.slaves → ServedShows (lens_of plan.slaves) plan.recover plan.retry s.master 0 0 (all_serve plan.paces (first_leads plan)) → s.asked ≡ replicate (length plan.slaves) [] → s.waiting ≡ replicate (length plan.slaves) 0 → Serving plan s []
-serving_begins plan s notes shown none still = record {
-  leading = record { missed = 0; serves = all_serve plan.paces (first_leads plan); lives = IsServedLed.start; shows = shown };
+pub serving_begins : (plan : Scenario) (s : SessionState) → s.notes ≡ first_notes plan.services 0 plan.slaves → ServedShows (lens_of plan.slaves) plan.recover plan.retry s.master 0 0 (all_serve plan.paces (first_leads plan)) → s.asked ≡ replicate (length plan.slaves) [] → s.waiting ≡ replicate (length plan.slaves) 0 → tour_of s.master ≡ new_tour → Serving plan s []
+serving_begins plan s notes shown none still tour = record {
+  leading = record {
+    missed = 0;
+    serves = all_serve plan.paces (first_leads plan);
+    lives = IsServedLed.start;
+    shows = shown;
+    toured = subst (λ (t : Tour). ServedTouredTo plan [] t (all_serve plan.paces (first_leads plan))) (sym tour) IsTourServed.start;
+  };
   gave = ap gaves_noted notes ∙ first_gaves plan.services 0 0 plan.slaves ∙ ap (map gave_of) (sym (serve_leads plan.paces (first_leads plan)));
   asked = first_same mails_of [] (λ pace a. refl) plan.paces plan.services 0 plan.slaves ∙ sym none;
   waiting = first_same left_of 0 (λ pace a. refl) plan.paces plan.services 0 plan.slaves ∙ sym still;
@@ -124,11 +136,15 @@ asked_rows key zero mail k (w ∷ ws) i =
     ap (λ z. z ∷ map mails_of ws) (more_asked w.asked k ∙ ap (λ z. map as_asked w.asked ++ z ∷ []) (same_mail key mail k i))
 asked_rows key (suc place) mail k (w ∷ ws) i = ap (λ z. mails_of w ∷ z) (asked_rows key place mail k ws i)
 
+-- the tour stands where it did
+tour_stays : (plan : Scenario) (fs : List Exchanged) (m n : MasterNode) (ws : List Serves) → n.tour ≡ m.tour → ServedTouredTo plan fs (tour_of m) ws → ServedTouredTo plan fs (tour_of n) ws
+tour_stays plan fs m n ws tour x = subst (λ (t : Tour). ServedTouredTo plan fs t ws) (sym (tour_by m n m.tour refl tour)) x
+
 one_asked : (s s' : SessionState) (slave key : ℕ) (mail : Mail) →
     ((lens : ℕ → Lens) (recover retry missed made : ℕ) (ws : List Serves) → waiting_at s.master.posts.items slave < 64 → FitsAt lens slave (length mail.body.items) ws → ServedShows lens recover retry s.master missed made ws →
     (k : Keyed) × IsAsked key mail k × MayAsk lens slave k ws × ServedShows lens recover retry s'.master missed made (asked_at slave k ws)) →
-    waiting_at s.master.posts.items slave ≢ 64 → s'.asked ≡ asked_more s.asked slave (asked_mail key mail) → s'.waiting ≡ map waiting_of s'.master.posts.items → s'.notes ≡ s.notes → ServingAsks slave key mail s s' true
-one_asked s s' slave key mail served apart asked waiting notes = λ plan fs home is there fits old.
+    waiting_at s.master.posts.items slave ≢ 64 → s'.master.tour ≡ s.master.tour → s'.asked ≡ asked_more s.asked slave (asked_mail key mail) → s'.waiting ≡ map waiting_of s'.master.posts.items → s'.notes ≡ s.notes → ServingAsks slave key mail s s' true
+one_asked s s' slave key mail served apart tour asked waiting notes = λ plan fs home is there fits old.
     let lens = lens_of plan.slaves in
     let l = old.leading in
     let room = has_room plan fs l.missed slave s.master.posts.items l.serves l.lives (shown_wait lens plan.recover plan.retry l.missed (length fs) s.master l.serves l.shows) apart in
@@ -139,7 +155,13 @@ one_asked s s' slave key mail served apart asked waiting notes = λ plan fs home
       is = more.1;
       may = more.2;
       new = record {
-        leading = record { missed = l.missed; serves = asked_at slave more.0 l.serves; lives = IsServedLed.asks fs l.missed l.serves slave more.0 l.lives more.2; shows = more.3 };
+        leading = record {
+          missed = l.missed;
+          serves = asked_at slave more.0 l.serves;
+          lives = IsServedLed.asks fs l.missed l.serves slave more.0 l.lives more.2;
+          shows = more.3;
+          toured = tour_stays plan fs s.master s'.master (asked_at slave more.0 l.serves) tour (IsTourServed.asks fs (tour_of s.master) l.serves slave more.0 l.toured more.2);
+        };
         gave = ap gaves_noted notes ∙ old.gave ∙ ap (map gave_of) (sym (leads_same (λ a. a) slave more.0 l.serves));
         asked = asked_rows key slave mail more.0 l.serves more.1 ∙ ap (λ z. asked_more z slave (asked_mail key mail)) old.asked ∙ sym asked;
         waiting = shown_wait lens plan.recover plan.retry l.missed (length fs) s'.master (asked_at slave more.0 l.serves) more.3 ∙ sym waiting;
@@ -151,9 +173,9 @@ one_asked s s' slave key mail served apart asked waiting notes = λ plan fs home
 pub serving_asks : (t s s' : SessionState) (slave key : ℕ) (mail : Mail) → t ≡ s →
     ((lens : ℕ → Lens) (recover retry missed made : ℕ) (ws : List Serves) → waiting_at t.master.posts.items slave < 64 → FitsAt lens slave (length mail.body.items) ws → ServedShows lens recover retry t.master missed made ws →
     (k : Keyed) × IsAsked key mail k × MayAsk lens slave k ws × ServedShows lens recover retry s'.master missed made (asked_at slave k ws)) →
-    waiting_at t.master.posts.items slave ≢ 64 → s'.asked ≡ asked_more s.asked slave (asked_mail key mail) → s'.waiting ≡ map waiting_of s'.master.posts.items → s'.notes ≡ t.notes → ServingAsks slave key mail s s' true
-serving_asks t s s' slave key mail view served apart asked waiting notes =
-    subst (λ (z : SessionState). ServingAsks slave key mail z s' true) view (one_asked t s' slave key mail served apart (asked ∙ ap (λ (z : SessionState). asked_more z.asked slave (asked_mail key mail)) (sym view)) waiting notes)
+    waiting_at t.master.posts.items slave ≢ 64 → s'.master.tour ≡ t.master.tour → s'.asked ≡ asked_more s.asked slave (asked_mail key mail) → s'.waiting ≡ map waiting_of s'.master.posts.items → s'.notes ≡ t.notes → ServingAsks slave key mail s s' true
+serving_asks t s s' slave key mail view served apart tour asked waiting notes =
+    subst (λ (z : SessionState). ServingAsks slave key mail z s' true) view (one_asked t s' slave key mail served apart tour (asked ∙ ap (λ (z : SessionState). asked_more z.asked slave (asked_mail key mail)) (sym view)) waiting notes)
 
 -- NONE: its posts and its tour stay
 all_stay : {S : Type 0} (i : ℕ) (xs ys : List S) → StepsAt (λ x y. y ≡ x) i xs ys → ys ≡ xs
@@ -185,7 +207,7 @@ none_asked s s' slave key mail tour number stays asked waiting notes = λ plan f
     let shown = shows_same lens plan.recover plan.retry l.missed (length fs) s.master s'.master l.serves tour (all_stay slave s.master.posts.items s'.master.posts.items stays) number l.shows in
     record {
       new = record {
-        leading = record { missed = l.missed; serves = l.serves; lives = l.lives; shows = shown };
+        leading = record { missed = l.missed; serves = l.serves; lives = l.lives; shows = shown; toured = tour_stays plan fs s.master s'.master l.serves tour l.toured };
         gave = ap gaves_noted notes ∙ old.gave;
         asked = old.asked ∙ sym asked;
         waiting = shown_wait lens plan.recover plan.retry l.missed (length fs) s'.master l.serves shown ∙ sym waiting;
@@ -202,9 +224,10 @@ serving_stays t s s' slave key mail view tour number stays asked waiting notes =
 -- ONE FRAME MORE: what the master says of it before, and of its return or loss; and what is noted of it
 module _ (s s' : SessionState) (m : MasterNode) (f : Exchanged) (result : Next) (idle : (result ≡ nexts.Idle) ↔ (has_live s.master ≡ false))
     (serves : result ≡ nexts.Frame → (lens : ℕ → Lens) (recover retry missed made : ℕ) (ws : List Serves) → suc made < 2 ^ 32 → ServedShows lens recover retry s.master missed made ws →
-    (vs : List ServedTurn) × IsServedFrame lens made f.sent ws vs × ServedUnder lens recover retry m f.sent missed made vs × ServedBegin (λ k. forwards_at s.master.posts.items k) ws vs m)
+    (vs : List ServedTurn) × IsServedFrame lens made f.sent ws vs × ServedUnder lens recover retry m f.sent missed made vs × ServedBegin (λ k. forwards_at s.master.posts.items k) ws vs m × IsServedVisit lens f.sent ws vs s.master m)
     (served : (lens : ℕ → Lens) (recover retry missed made : ℕ) (vs : List ServedTurn) → ServedUnder lens recover retry m f.sent missed made vs → (f.fate ≡ Fates.Pass → Returns (seen lens f.sent) (seen lens f.back)) →
     ServedShows lens recover retry s'.master (missed_behind lens recover retry f.fate missed) (suc made) (map (served_behind lens recover retry (gives_up_at lens recover retry missed) made f) vs))
+    (tours : (lens : ℕ → Lens) (recover : ℕ) (as' : List Leads) → HasLives lens recover s'.master (map lived_of as') → tour_of s'.master ≡ tour_behind m.tour.retry f.fate as' (tour_of m) m.tour.visit.items)
     (whole : listed s'.master.list.rows.items s'.master.list.count ≡ events_in m ++ events_in s'.master) (told : TellsBehind f.fate f.back m s'.master)
     (fate : f.fate ≡ fate_at s.ring.lose s.ring.number) (back : f.back ≡ ring_returned node_passed s.ring f.sent) (few : suc s.ring.number < 2 ^ 32) (asked : s'.asked ≡ s.asked) (waiting : s'.waiting ≡ map waiting_of s'.master.posts.items)
     (r r' : Log) (same : r.recover ≡ s.recover) (before : gaves_noted r.notes ≡ gaves_noted s.notes) (after : s'.notes ≡ r'.notes) (noted : GaveBy f.fate s.ring.number s'.master r r')
@@ -221,7 +244,8 @@ module _ (s s' : SessionState) (m : MasterNode) (f : Exchanged) (result : Next) 
   abbrev missed : ℕ
   missed = missed_behind lens plan.recover plan.retry f.fate l.missed
 
-  made : (vs : List ServedTurn) × IsServedFrame lens (length fs) f.sent l.serves vs × ServedUnder lens plan.recover plan.retry m f.sent l.missed (length fs) vs × ServedBegin (λ k. forwards_at s.master.posts.items k) l.serves vs m
+  made : (vs : List ServedTurn) × IsServedFrame lens (length fs) f.sent l.serves vs × ServedUnder lens plan.recover plan.retry m f.sent l.missed (length fs) vs × ServedBegin (λ k. forwards_at s.master.posts.items k) l.serves vs m ×
+      IsServedVisit lens f.sent l.serves vs s.master m
   made = serves (next_frame s.master result idle live) lens plan.recover plan.retry l.missed (length fs) l.serves (subst (λ (n : ℕ). suc n < 2 ^ 32) (sym number) few) l.shows
 
   abbrev behind : List Serves
@@ -236,6 +260,24 @@ module _ (s s' : SessionState) (m : MasterNode) (f : Exchanged) (result : Next) 
   lives : IsServedLed lens plan.recover plan.retry (all_serve plan.paces (first_leads plan)) (fs ++ f ∷ []) missed behind
   lives = IsServedLed.on fs l.missed l.serves f made.0 l.lives made.1
 
+  -- its visit of the tour, which goes on by the lives behind it
+  abbrev on : ℕ → List Serves
+  on n = serves_behind (lens_of plan.slaves) plan.recover plan.retry n (length fs) f made.0
+
+  abbrev tour : ℕ → Tour
+  tour n = tour_behind plan.retry f.fate (map run_lead (on n)) (tour_of s.master) m.tour.visit.items
+
+  tour_on : tour_of s'.master ≡ tour l.missed
+  tour_on =
+      tours lens plan.recover (map run_lead behind) (has_lives lens plan.recover plan.retry missed (suc (length fs)) s'.master behind shown)
+      ∙ (λ i. tour_behind (made.2.retry_is i) f.fate (map run_lead behind) (made.4.tour i) m.tour.visit.items)
+
+  toured : ServedTouredTo plan (fs ++ f ∷ []) (tour_of s'.master) behind
+  toured =
+      subst (λ (t : Tour). ServedTouredTo plan (fs ++ f ∷ []) t behind) (sym tour_on)
+      (subst (λ (n : ℕ). ServedTouredTo plan (fs ++ f ∷ []) (tour n) (on n)) l.shows.missed_is
+      (IsTourServed.on fs (tour_of s.master) l.serves f made.0 m.tour.visit.items l.toured made.1 (record { visits = made.4.visits; asks = made.4.asks })))
+
   -- what is noted of give-ups
   gave : gaves_noted s'.notes ≡ map gave_of (map run_lead behind)
   gave =
@@ -248,7 +290,7 @@ module _ (s s' : SessionState) (m : MasterNode) (f : Exchanged) (result : Next) 
 
   goes : Serving plan s' (fs ++ f ∷ [])
   goes = record {
-    leading = record { missed = missed; serves = behind; lives = lives; shows = subst (λ (n : ℕ). ServedShows lens plan.recover plan.retry s'.master missed n behind) (one_more fs f) shown };
+    leading = record { missed = missed; serves = behind; lives = lives; shows = subst (λ (n : ℕ). ServedShows lens plan.recover plan.retry s'.master missed n behind) (one_more fs f) shown; toured = toured };
     gave = gave;
     asked = behind_mails lens plan.recover plan.retry gives (length fs) f made.0 ∙ turned_mails lens (length fs) made.1.datagrams l.serves made.0 made.1.each ∙ old.asked ∙ sym asked;
     waiting = shown_wait lens plan.recover plan.retry missed (suc (length fs)) s'.master behind shown ∙ sym waiting;
@@ -268,12 +310,13 @@ module _ (s s' : SessionState) (m : MasterNode) (f : Exchanged) (result : Next) 
 
 pub serving_on : (t s s' : SessionState) (m : MasterNode) (f : SentFrame) (result : Next) → t ≡ s → (result ≡ nexts.Idle) ↔ (has_live t.master ≡ false) →
     (result ≡ nexts.Frame → (lens : ℕ → Lens) (recover retry missed made : ℕ) (ws : List Serves) → suc made < 2 ^ 32 → ServedShows lens recover retry t.master missed made ws →
-    (vs : List ServedTurn) × IsServedFrame lens made f.sent ws vs × ServedUnder lens recover retry m f.sent missed made vs × ServedBegin (λ k. forwards_at t.master.posts.items k) ws vs m) →
+    (vs : List ServedTurn) × IsServedFrame lens made f.sent ws vs × ServedUnder lens recover retry m f.sent missed made vs × ServedBegin (λ k. forwards_at t.master.posts.items k) ws vs m × IsServedVisit lens f.sent ws vs t.master m) →
     ((lens : ℕ → Lens) (recover retry missed made : ℕ) (vs : List ServedTurn) → ServedUnder lens recover retry m f.sent missed made vs → (f.fate ≡ Fates.Pass → Returns (seen lens f.sent) (seen lens f.back)) →
     ServedShows lens recover retry s'.master (missed_behind lens recover retry f.fate missed) (suc made) (map (served_behind lens recover retry (gives_up_at lens recover retry missed) made (exchanged f)) vs)) →
+    ((lens : ℕ → Lens) (recover : ℕ) (as' : List Leads) → HasLives lens recover s'.master (map lived_of as') → tour_of s'.master ≡ tour_behind m.tour.retry f.fate as' (tour_of m) m.tour.visit.items) →
     listed s'.master.list.rows.items s'.master.list.count ≡ events_in m ++ events_in s'.master → TellsBehind f.fate f.back m s'.master →
     IsRecorded t.ring f → suc t.ring.number < 2 ^ 32 → s'.asked ≡ t.asked → s'.waiting ≡ map waiting_of s'.master.posts.items →
     (r r' : Log) → r.recover ≡ t.recover → gaves_noted r.notes ≡ gaves_noted t.notes → s'.notes ≡ r'.notes → GaveBy f.fate t.ring.number s'.master r r' → ServingGoesOn s s' f
-serving_on t s s' m f result view idle serves served whole told recorded few asked waiting r r' same before after noted =
+serving_on t s s' m f result view idle serves served tours whole told recorded few asked waiting r r' same before after noted =
     subst (λ (z : SessionState). ServingGoesOn z s' f) view
-    (λ plan fs recover number live old. on_frame t s' m (exchanged f) result idle serves served whole told recorded.fate recorded.back few asked waiting r r' same before after noted plan fs recover number live old)
+    (λ plan fs recover number live old. on_frame t s' m (exchanged f) result idle serves served tours whole told recorded.fate recorded.back few asked waiting r r' same before after noted plan fs recover number live old)

@@ -6,9 +6,9 @@ use Rattle.master_node.specs.Joined.{HasUnfinished, stand_before}
 use Rattle.master_node.specs.Origins.{forwards_at}
 use Rattle.master_node.specs.Ports.{ports_behind}
 use Rattle.master_node.specs.declared.node.MasterNode.{MasterNode}
-use Rattle.packets_begun.specs.Numbers.{frames_begun}
-use Rattle.port_events.specs.Listed.{unfinished_of}
-use Rattle.port_events.specs.of_packets_heard.Heard.{joined_in}
+use Rattle.packets_heard.specs.Numbers.{frames_begun}
+use Rattle.packets_heard.specs.Listed.{unfinished_of}
+use Rattle.packets_heard.specs.Heard.{joined_in}
 use Rattle.run_book.specs.declared.book.Book.{Book}
 use Rattle.run_record.specs.Led.{LeadTo, ListsAll, BeginsAll, NumbersAll, Leading}
 use Rattle.run_notes.specs.Packets.{AreNumbered, begun_noted}

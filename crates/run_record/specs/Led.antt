@@ -14,10 +14,10 @@ use Rattle.master_node.specs.Toured.{tour_of}
 use Rattle.master_node.specs.Wants.{gave_of, IsIdle}
 use Rattle.master_node.specs.declared.node.MasterNode.{MasterNode}
 use Rattle.master_node.specs.of_master_tour.Toured.{Tour}
-use Rattle.packets_begun.specs.Numbers.{Numbered, frames_begun}
-use Rattle.packets_begun.specs.Over.{AreBegun}
-use Rattle.port_events.specs.Listed.{Listed}
-use Rattle.recalled_runs.specs.Recalled.{State, RecalledIn}
+use Rattle.packets_heard.specs.Numbers.{Numbered, frames_begun}
+use Rattle.packets_heard.specs.Over.{AreBegun}
+use Rattle.packets_heard.specs.Listed.{Listed}
+use Rattle.packets_heard.specs.Recalled.{State, RecalledIn}
 use Rattle.run_book.specs.declared.book.Book.{Book}
 use Rattle.run_book.specs.declared.book.Ending.{Ending}
 use Rattle.run_book.specs.declared.book.Ending.TheVariants as endings
@@ -33,7 +33,7 @@ use Rattle.run_notes.specs.declared.notes.Notes.{Notes}
 use Rattle.segment_plan.specs.declared.plan.Scenario.{Scenario}
 use Rattle.slave_server.specs.Serving.{next_mail}
 use Rattle.slave_node.specs.of_slave_steps.Node.{is_settled}
-use Rattle.visit_orders.specs.Toured.{IsToured}
+use Rattle.packets_heard.specs.Toured.{IsToured}
 use Rattle.run_notes.specs.Slaves.{gaves_noted, gaves_in}
 
 -- a frame of a book

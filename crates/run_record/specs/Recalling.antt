@@ -5,7 +5,7 @@ use Rattle.master_node.specs.Eager.{recalls}
 use Rattle.master_node.specs.of_life_runs.Led.{Exchanged, Leads}
 use Rattle.master_node.specs.Toured.{tour_of}
 use Rattle.master_node.specs.declared.node.MasterNode.{MasterNode}
-use Rattle.recalled_runs.specs.Recalled.{State, RecalledIn}
+use Rattle.packets_heard.specs.Recalled.{State, RecalledIn}
 use Rattle.run_book.specs.declared.book.Book.{Book}
 use Rattle.run_notes.specs.declared.notes.Notes.{Notes}
 use Rattle.run_record.specs.Forwarded.{Forwards}

@@ -21,6 +21,9 @@ use Rattle.master_node.specs.of_life_runs.Led.{Exchanged, gives_up_at, missed_be
 use Rattle.master_node.specs.of_master_tour.Goes.{holds_at}
 use Rattle.master_node.specs.of_master_tour.Made.{is_in}
 use Rattle.master_node.specs.of_master_tour.Orders.{AreOnce}
+use Rattle.master_node.specs.of_master_tour.Toured.{Tour}
+use Rattle.master_node.specs.Toured.{tour_of}
+use Rattle.packets_heard.specs.Served.{IsTourServed}
 use Rattle.master_node.specs.of_segment_model.Returned.{Returns}
 use Rattle.run_book.specs.declared.book.SentFrame.{SentFrame}
 use Rattle.run_notes.specs.declared.standing.AskedMail.{AskedMail}
@@ -37,12 +40,17 @@ use Rattle.served_runs.specs.Served.{Keyed, Serves, ServedTurn, IsServedFrame, I
 abbrev pub ServeTo : Scenario → List Exchanged → ℕ → List Serves → Type 0
 ServeTo plan fs missed ws = IsServedLed (lens_of plan.slaves) plan.recover plan.retry (all_serve plan.paces (first_leads plan)) fs missed ws
 
--- A MASTER BEHIND THESE FRAMES of a plan's serving leads its slaves
+-- THEY ARE THE VISITS OF ONE TOUR, from its begin on, which stands so behind them
+abbrev pub ServedTouredTo : Scenario → List Exchanged → Tour → List Serves → Type 0
+ServedTouredTo plan fs tour ws = IsTourServed (lens_of plan.slaves) plan.recover plan.retry (all_serve plan.paces (first_leads plan)) fs tour ws
+
+-- A MASTER BEHIND THESE FRAMES of a plan's serving leads its slaves, and its frames are the visits of its tour
 pub record ServedLeading (plan : Scenario) (m : MasterNode) (fs : List Exchanged) : Type 0 where
   pub missed : ℕ
   pub serves : List Serves
   pub lives : ServeTo plan fs missed serves
   pub shows : ServedShows (lens_of plan.slaves) plan.recover plan.retry m missed (length fs) serves
+  pub toured : ServedTouredTo plan fs (tour_of m) serves
 
 -- a mail as the session has it, with the key of its asker
 abbrev pub as_asked : Keyed → AskedMail

@@ -8,26 +8,27 @@ ghost use Rattle.run_book.specs.declared.book.SentFrame.{SentFrame as Recorded};
 ghost use Rattle.run_book.specs.declared.book.Ending.TheVariants as endings;
 ghost use Rattle.master_node.specs.of_frame_view.View.{Lens};
 ghost use Rattle.master_node.specs.of_frame_view.Seen.{seen};
-ghost use Rattle.master_node.specs.of_life_runs.Led.{Exchanged, Turn, led_behind, gives_up_at, missed_behind};
+ghost use Rattle.master_node.specs.of_life_runs.Led.{Exchanged, Leads, Turn, led_behind, gives_up_at, missed_behind};
 ghost use Rattle.master_node.specs.Brought.{HasBrought};
 ghost use Rattle.master_node.specs.Arrivals.{completed_at, ComeIn};
 ghost use Rattle.master_node.specs.Downs.{GoDown};
 ghost use Rattle.master_node.specs.Eager.{AllVisit, recalls};
 ghost use Rattle.master_node.specs.Happened.{HasHappened, HappensSo};
 ghost use Rattle.master_node.specs.Joined.{HasUnfinished, stand_before, stand_under, unfinished_after};
-ghost use Rattle.port_events.specs.Listed.{unfinished_of};
-ghost use Rattle.port_events.specs.of_packets_heard.Heard.{Joined, mails_by};
+ghost use Rattle.packets_heard.specs.Listed.{unfinished_of};
+ghost use Rattle.packets_heard.specs.Heard.{Joined, mails_by};
 ghost use Rattle.master_node.specs.Listed.{listed};
 ghost use Rattle.master_node.specs.Listing.{events_in};
 ghost use Rattle.master_node.specs.Origins.{forwards_at};
 ghost use Rattle.master_node.specs.Recalled.{AllRecall};
 ghost use Rattle.master_node.specs.Serving.{ServedShows, ServedUnder};
-ghost use Rattle.master_node.specs.Shows.{MasterShows, MasterUnder};
+ghost use Rattle.master_node.specs.Shows.{MasterShows, MasterUnder, lived_of};
+ghost use Rattle.master_node.specs.Told.{HasLives};
 ghost use Rattle.master_node.specs.Toured.{tour_of};
 ghost use Rattle.master_node.specs.of_segment_model.Returned.{Returns};
 ghost use Rattle.segment_ring.specs.declared.wire.Fate.TheVariants as Fates;
 ghost use Rattle.served_runs.specs.Served.{ServedTurn, served_behind};
-ghost use Rattle.visit_orders.specs.Toured.{tour_behind, lives_behind};
+ghost use Rattle.packets_heard.specs.Toured.{tour_behind, lives_behind};
 ghost use Rattle.run_book.specs.Ports.{ports_of};
 ghost use Rattle.run_record.specs.Recalling.{RunBegins};
 ghost use Rattle.run_notes.specs.Switched.{SameSwitch};
@@ -219,8 +220,7 @@ fn tell(master: &mut MasterNode, fate: Fate, back: &FrameBuf)
     ensures posts { vec_len master.new.posts ≡ vec_len master.old.posts }
     ensures leads { (lens : ℕ → Lens) (recover retry missed number : ℕ) (us : List Turn) (f : Exchanged) → f.fate ≡ fate → f.back ≡ back.now.items → MasterUnder lens recover retry master.old f.sent missed us →
         (fate ≡ Fates.Pass → Returns (seen lens f.sent) (seen lens back.now.items)) → MasterShows lens recover retry master.new (missed_behind lens recover retry f.fate missed) (map (led_behind lens recover retry (gives_up_at lens recover retry missed) number f) us) }
-    ensures toured { (lens : ℕ → Lens) (recover retry missed number : ℕ) (us : List Turn) (f : Exchanged) → f.fate ≡ fate → f.back ≡ back.now.items → MasterUnder lens recover retry master.old f.sent missed us →
-        (fate ≡ Fates.Pass → Returns (seen lens f.sent) (seen lens back.now.items)) → tour_of master.new ≡ tour_behind retry f.fate (lives_behind lens recover retry missed number f us) (tour_of master.old) master.old.tour.visit.items }
+    ensures toured { (lens : ℕ → Lens) (recover : ℕ) (as' : List Leads) → HasLives lens recover master.new (map lived_of as') → tour_of master.new ≡ tour_behind master.old.tour.retry fate as' (tour_of master.old) master.old.tour.visit.items }
     ensures brought { fate ≡ Fates.Pass → (lens : ℕ → Lens) (recover retry missed : ℕ) (octets : List ℕ) (us : List Turn) → MasterUnder lens recover retry master.old octets missed us → Returns (seen lens octets) (seen lens back.now.items) →
         HasBrought master.new us (seen lens back.now.items) }
     ensures recalls { fate ≡ Fates.Pass → (lens : ℕ → Lens) (recover retry missed : ℕ) (octets : List ℕ) (us : List Turn) → MasterUnder lens recover retry master.old octets missed us → Returns (seen lens octets) (seen lens back.now.items) →

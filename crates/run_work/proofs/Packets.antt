@@ -6,14 +6,16 @@ use Rattle.std.proofs.Math.Nat.{mul-le-mul_right}
 use Rattle.std.proofs.lemmas.List.Sums.{sum_by-cons}
 use Rattle.arrayvec.specs.ArrayVec.{ArrayVec}
 use Rattle.life_runs.specs.Led.{Leads}
-use Rattle.packet_work.specs.Packets.{cuts}
+use Rattle.run_work.specs.Packets.{cuts}
 use Rattle.plan_counts.specs.Split.{own_work, entering, split_work}
-use Rattle.script_work.specs.Begun.{work_begun, addressed, work_in}
+use Rattle.script_runs.specs.Begun.{work_begun, addressed, work_in}
 use Rattle.segment_plan.specs.Sound.{IsPacket}
 use Rattle.segment_plan.specs.Bound.{spread, work_of, addressed_work, services_work, host_work}
+use Rattle.segment_plan.specs.declared.plan.Scenario.{Scenario}
 use Rattle.segment_plan.specs.declared.service.Service as Plan
 use Rattle.segment_plan.specs.declared.slave.SlaveSpec.{SlaveSpec}
-use Rattle.run_work.specs.Switched.{cuts_begun, host_cuts}
+use Rattle.run_work.specs.Switched.{cuts_begun, host_cuts, AreSwitched}
+use Rattle.run_work.specs.Together.{packets_begun}
 use Rattle.run_work.proofs.Together.{whole_work}
 
 -- a fragment with what it leads to at n slaves
@@ -81,3 +83,12 @@ within_square n host begun entered packets work enters written most =
     let hosts : host * square n ≡ host + host * more = omega arith in
     let begins : begun * square n ≡ begun + begun * more = omega arith in
     omega (arith, mul-le-mul_right more enters, written, most, whole, all, hosts, begins)
+
+-- SO IT IS WITH THE PACKETS OF ONE SWITCH, where no download emits that isn't of the plan
+pub switched_few : (plan : Scenario) → All IsPacket plan.host → ((s : SlaveSpec) (service : Plan.Service) → work_of (length plan.slaves) s service ≡ split_work (length plan.slaves) s service) → (leads : List Leads) →
+    cuts_begun plan.slaves leads ≤ work_in (λ slave service. entering service) plan.slaves plan.services → AreSwitched plan leads →
+    work_in own_work plan.slaves plan.services + (cuts_begun plan.slaves leads + packets_begun plan.slaves leads) + length plan.host ≤ services_work plan.slaves plan.services + host_work (length plan.slaves) plan.host
+switched_few plan host split leads begun packets =
+    let n = length plan.slaves in
+    let all = within_square n (host_cuts plan.host) (cuts_begun plan.slaves leads) packets.entered (packets_begun plan.slaves leads) (packets.entered * square n) packets.within packets.most (omega arith) in
+    omega (arith, all, work_parts plan.slaves split plan.services, host_parts n plan.host, host_many plan.host host, mul-le-mul_right (square n) begun)

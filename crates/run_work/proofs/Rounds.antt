@@ -1,5 +1,6 @@
 -- Frames that went round a ring have the fates of its schedule, and come back as the return of what was sent.
 use Rattle.std.proofs.Common.{◌≡◌, ℕ, Option, List, [], ◌∷◌, ◌++◌, sym, ◌∙◌, subst}
+use Rattle.std.specs.Prelude.{⊤}
 use Rattle.datagrams.specs.Datagram as Raw
 use Rattle.datagrams.specs.Frame.{IsFrame, chained}
 use Rattle.frame_view.specs.Seen.{seen}
@@ -8,7 +9,7 @@ use Rattle.life_runs.specs.Led.{Exchanged, Leads}
 use Rattle.link_mails.specs.Body.{Body}
 use Rattle.master_duty.specs.Reply.{Reply}
 use Rattle.master_hand.specs.Spoken.{Asked}
-use Rattle.plan_ring.specs.Round.{AllRound, WentRound, behind, ring_after}
+use Rattle.plan_ring.specs.Round.{AllRound, behind}
 use Rattle.segment_model.specs.Returned.{Returns}
 use Rattle.segment_ring.specs.declared.wire.Fate.TheVariants.{Pass}
 use Rattle.segment_ring.specs.Ring.{RingState, ring_returned}
@@ -20,42 +21,45 @@ use Rattle.run_frames.specs.Clocks.{Clocked}
 use Rattle.run_frames.specs.Fates.{AreFated}
 use Rattle.run_frames.specs.Runs.{Progress}
 use Rattle.run_frames.specs.Toured.{IsToured}
+use Rattle.served_runs.specs.Served.{Serves, IsServedLed}
 
 pub round_fated : (ring : RingState (Node Serving)) (fs : List Exchanged) → AllRound ring fs → AreFated ring.lose ring.number fs
 round_fated ring [] r = tt
 round_fated ring (f ∷ fs) r = (r.0.fate, round_fated (behind ring f.sent) fs r.1)
 
--- ---- one frame more
-front_round : (ring : RingState (Node Serving)) (fs : List Exchanged) (f : Exchanged) → AllRound ring (fs ++ f ∷ []) → AllRound ring fs
-front_round ring [] f r = tt
-front_round ring (e ∷ fs) f r = (r.0, front_round (behind ring e.sent) fs f r.1)
+-- each frame is one of datagrams
+abbrev pub AllFramed : List Exchanged → Type 0
+AllFramed [] = ⊤
+AllFramed (f ∷ fs) = ((ds : List Raw.Datagram) × IsFrame f.sent (chained ds)) × AllFramed fs
 
-last_round : (ring : RingState (Node Serving)) (fs : List Exchanged) (f : Exchanged) → AllRound ring (fs ++ f ∷ []) → WentRound (ring_after ring fs) f
-last_round ring [] f r = r.0
-last_round ring (e ∷ fs) f r = last_round (behind ring e.sent) fs f r.1
-
-more_returned : (lens : ℕ → Lens) (fs : List Exchanged) (f : Exchanged) → AllReturned lens fs → (f.fate ≡ Pass → Returns (seen lens f.sent) (seen lens f.back)) → AllReturned lens (fs ++ f ∷ [])
-more_returned lens [] f all one = (one, tt)
-more_returned lens (e ∷ fs) f all one = (all.0, more_returned lens fs f all.1 one)
+more_framed : (fs : List Exchanged) (f : Exchanged) (ds : List Raw.Datagram) → IsFrame f.sent (chained ds) → AllFramed fs → AllFramed (fs ++ f ∷ [])
+more_framed [] f ds is all = ((ds, is), tt)
+more_framed (e ∷ fs) f ds is all = (all.0, more_framed fs f ds is all.1)
 
 -- what a law of rings says of a frame
 abbrev pub RingReturns : Type 0
 RingReturns = (lens : ℕ → Lens) (ring : RingState (Node Serving)) (octets : List ℕ) (ds : List Raw.Datagram) → IsFrame octets ds → fate_at ring.lose ring.number ≡ Pass → Returns (seen lens octets) (seen lens (ring_returned node_passed ring octets))
 
-module _ (law : RingReturns) (lens : ℕ → Lens) (recover retry slowest : ℕ) (first : List Leads) (paces : List ℕ) (ring : RingState (Node Serving)) where
-  one_returned : (fs : List Exchanged) (f : Exchanged) (ds : List Raw.Datagram) → IsFrame f.sent (chained ds) → WentRound (ring_after ring fs) f → f.fate ≡ Pass → Returns (seen lens f.sent) (seen lens f.back)
-  one_returned fs f ds is went pass =
-      subst (λ back. Returns (seen lens f.sent) (seen lens back)) (sym went.back) (law lens (ring_after ring fs) f.sent (chained ds) is (sym went.fate ∙ pass))
+-- EACH OF THEM that isn't lost
+pub frames_returned : (law : RingReturns) (lens : ℕ → Lens) (ring : RingState (Node Serving)) (fs : List Exchanged) → AllFramed fs → AllRound ring fs → AllReturned lens fs
+frames_returned law lens ring [] framed round = tt
+frames_returned law lens ring (f ∷ fs) framed round = (
+  (λ pass. subst (λ back. Returns (seen lens f.sent) (seen lens back)) (sym round.0.back) (law lens ring f.sent (chained framed.0.0) framed.0.1 (sym round.0.fate ∙ pass))),
+  frames_returned law lens (behind ring f.sent) fs framed.1 round.1,
+)
 
-  -- EACH FRAME OF A RUN that isn't lost
-  pub toured_returned : (fs : List Exchanged) (again : Option (List ℕ)) (missed : ℕ) (as' : List Leads) (p : Progress) (cs : List (Clocked Body Asked Reply)) → IsToured lens recover retry slowest first paces fs again missed as' p cs →
-      AllRound ring fs → AllReturned lens fs
-  toured_returned fs again missed as' p cs IsToured.start round = tt
-  toured_returned gs again' missed' bs q ds (IsToured.lost fs again missed as' p cs f us after ps r l fate v) round =
-      more_returned lens fs f (toured_returned fs again missed as' p cs r (front_round ring fs f round)) (one_returned fs f l.datagrams l.frame (last_round ring fs f round))
-  toured_returned gs again' missed' bs q ds (IsToured.opening fs again missed as' p cs f us ps r l fate under v) round =
-      more_returned lens fs f (toured_returned fs again missed as' p cs r (front_round ring fs f round)) (one_returned fs f l.datagrams l.frame (last_round ring fs f round))
-  toured_returned gs again' missed' bs q ds (IsToured.round fs again missed as' p cs f us ps r l fate over v) round =
-      more_returned lens fs f (toured_returned fs again missed as' p cs r (front_round ring fs f round)) (one_returned fs f l.datagrams l.frame (last_round ring fs f round))
-  toured_returned gs again' missed' bs q ds (IsToured.enters fs again missed as' p cs f us ps r l fate over v nothing) round =
-      more_returned lens fs f (toured_returned fs again missed as' p cs r (front_round ring fs f round)) (one_returned fs f l.datagrams l.frame (last_round ring fs f round))
+module _ (lens : ℕ → Lens) (recover retry : ℕ) where
+  -- those of a run
+  pub toured_framed : (slowest : ℕ) (first : List Leads) (paces : List ℕ) (fs : List Exchanged) (again : Option (List ℕ)) (missed : ℕ) (as' : List Leads) (p : Progress) (cs : List (Clocked Body Asked Reply)) →
+      IsToured lens recover retry slowest first paces fs again missed as' p cs → AllFramed fs
+  toured_framed slowest first paces fs again missed as' p cs IsToured.start = tt
+  toured_framed slowest first paces gs again' missed' bs q ds (IsToured.lost fs again missed as' p cs f us after ps r l fate v) = more_framed fs f l.datagrams l.frame (toured_framed slowest first paces fs again missed as' p cs r)
+  toured_framed slowest first paces gs again' missed' bs q ds (IsToured.opening fs again missed as' p cs f us ps r l fate under v) = more_framed fs f l.datagrams l.frame (toured_framed slowest first paces fs again missed as' p cs r)
+  toured_framed slowest first paces gs again' missed' bs q ds (IsToured.round fs again missed as' p cs f us ps r l fate over v) = more_framed fs f l.datagrams l.frame (toured_framed slowest first paces fs again missed as' p cs r)
+  toured_framed slowest first paces gs again' missed' bs q ds (IsToured.enters fs again missed as' p cs f us ps r l fate over v nothing) = more_framed fs f l.datagrams l.frame (toured_framed slowest first paces fs again missed as' p cs r)
+
+  -- and those of a serving
+  pub served_framed : (first : List Serves) (fs : List Exchanged) (missed : ℕ) (ws : List Serves) → IsServedLed lens recover retry first fs missed ws → AllFramed fs
+  served_framed first fs missed ws IsServedLed.start = tt
+  served_framed first fs missed bs (IsServedLed.asks gs m ws place k led room) = served_framed first gs m ws led
+  served_framed first gs missed' bs (IsServedLed.on fs missed ws f vs led frame) = more_framed fs f frame.datagrams frame.frame (served_framed first fs missed ws led)

@@ -12,12 +12,13 @@ use Rattle.plan_counts.specs.Asked.{asked_most}
 use Rattle.plan_ring.specs.Asked.{asked}
 use Rattle.plan_ring.specs.Plan.{PlanMember, FitsPlan, step}
 use Rattle.plan_ring.specs.Lives.{IsShown, AllShown}
+use Rattle.plan_ring.specs.Master.{IsLed, AllLed, owed}
 use Rattle.segment_model.specs.Record.{Frame}
 use Rattle.segment_plan.specs.declared.plan.Scenario.{Scenario}
 use Rattle.segment_plan.specs.declared.slave.SlaveSpec.{SlaveSpec}
 use Rattle.segment_plan.specs.Sound.{IsSlave}
-use Rattle.server_lives.specs.Real.{real_clearing}
-use Rattle.service_counts.specs.Shapes.{shape_of}
+use Rattle.plan_ring.specs.Real.{real_clearing}
+use Rattle.few_replies.specs.Shapes.{shape_of}
 use Rattle.slave_model.specs.Profile.{Profile, IsProfile}
 use Rattle.slave_server.specs.Spec.{core_of, profile_of}
 use Rattle.whole_ring.specs.Members.{MemberIs, AllLived}
@@ -29,9 +30,9 @@ module _ (plan : Scenario) (keeps : (p : Profile) → IsProfile p → (boot : Bo
   lens = lens_of plan.slaves
 
   -- one slave
-  one_gains : (place : ℕ) (s : SlaveSpec) (m : PlanMember) (a : Leads) → IsProfile (profile_of s) → IsShown plan place s m a → MemberIs lens step (FitsPlan plan.slaves) fs place m →
+  one_gains : (place : ℕ) (s : SlaveSpec) (m : PlanMember) (a : Leads) → IsProfile (profile_of s) → IsShown plan place s m a → MemberIs lens step (FitsPlan plan.slaves) fs place m → IsLed m →
       AllUnopened (a ∷ []) → gains a.lived.life ≤ 1 + life_most (asked_most (profile_of s) (shape_of (core_of s))) a.lived.life
-  one_gains place s m a profile shown is unopened =
+  one_gains place s m a profile shown is led unopened =
       let kept : KeepsShape m.services m.clearing app_shape (asked_most (profile_of s)) =
       subst (λ c. KeepsShape m.services c app_shape (asked_most (profile_of s))) (sym shown.is.clearing)
       (subst (λ w. KeepsShape w real_clearing app_shape (asked_most (profile_of s))) (sym shown.is.services) (keeps (profile_of s) profile s.boot lens)) in
@@ -39,17 +40,17 @@ module _ (plan : Scenario) (keeps : (p : Profile) → IsProfile p → (boot : Bo
       let first : app_shape m.first ≡ shape_of (core_of s) = ap app_shape shown.is.first in
       subst (λ k. gains a.lived.life ≤ 1 + life_most (asked_most (profile_of s) k) a.lived.life) first
       (subst (λ l. gains l ≤ 1 + life_most (asked_most (profile_of s) (app_shape m.first)) l) life
-      (life_gains m.services m.clearing m.plan m.spot m.first m.life fs m.node app_shape (asked_most (profile_of s)) is.whole is.lived (subst AreUnopened (sym life) unopened.0) kept))
+      (life_gains m.services m.clearing m.plan m.spot m.first m.life fs m.node app_shape (asked_most (profile_of s)) (owed m is.whole led) is.lived (subst AreUnopened (sym life) unopened.0) kept))
 
-  pub all_gain : (place : ℕ) (ss : List SlaveSpec) (ms : List PlanMember) (leads : List Leads) → All (λ (s : SlaveSpec). IsSlave s) ss → All (λ (s : SlaveSpec). length s.mac ≡ 6) ss → AllShown plan place ss ms leads → AllLived lens step (FitsPlan plan.slaves) fs place ms → AllUnopened leads → AllGain ss leads
-  all_gain place [] [] [] is macs shown lives unopened = tt
-  all_gain place [] [] (a ∷ leads) is macs shown lives unopened = absurd shown
-  all_gain place [] (m ∷ ms) leads is macs shown lives unopened = absurd shown
-  all_gain place (s ∷ ss) [] leads is macs shown lives unopened = absurd shown
-  all_gain place (s ∷ ss) (m ∷ ms) [] is macs shown lives unopened = absurd shown
-  all_gain place (s ∷ ss) (m ∷ ms) (a ∷ leads) is macs shown lives unopened =
+  pub all_gain : (place : ℕ) (ss : List SlaveSpec) (ms : List PlanMember) (leads : List Leads) → All (λ (s : SlaveSpec). IsSlave s) ss → All (λ (s : SlaveSpec). length s.mac ≡ 6) ss → AllShown plan place ss ms leads → AllLived lens step (FitsPlan plan.slaves) fs place ms → AllLed ms → AllUnopened leads → AllGain ss leads
+  all_gain place [] [] [] is macs shown lives led unopened = tt
+  all_gain place [] [] (a ∷ leads) is macs shown lives led unopened = absurd shown
+  all_gain place [] (m ∷ ms) leads is macs shown lives led unopened = absurd shown
+  all_gain place (s ∷ ss) [] leads is macs shown lives led unopened = absurd shown
+  all_gain place (s ∷ ss) (m ∷ ms) [] is macs shown lives led unopened = absurd shown
+  all_gain place (s ∷ ss) (m ∷ ms) (a ∷ leads) is macs shown lives led unopened =
       let here = All-head (λ (s : SlaveSpec). IsSlave s) s ss is in
       let profile : IsProfile (profile_of s) = record { out_least = here.out_least; out_most = here.out_most; back_least = here.in_least; back_most = here.in_most; mac = All-head (λ (s : SlaveSpec). length s.mac ≡ 6) s ss macs } in (
-        one_gains place s m a profile shown.0 lives.0 (unopened.0, tt),
-        all_gain (suc place) ss ms leads (All-tail (λ (s : SlaveSpec). IsSlave s) s ss is) (All-tail (λ (s : SlaveSpec). length s.mac ≡ 6) s ss macs) shown.1 lives.1 unopened.1,
+        one_gains place s m a profile shown.0 lives.0 led.0 (unopened.0, tt),
+        all_gain (suc place) ss ms leads (All-tail (λ (s : SlaveSpec). IsSlave s) s ss is) (All-tail (λ (s : SlaveSpec). length s.mac ≡ 6) s ss macs) shown.1 lives.1 led.1 unopened.1,
       )

@@ -2,15 +2,15 @@
 use Rattle.std.proofs.Common.{◌≡◌, ℕ, ◌≤◌, Bool, true, false, refl, subst}
 use Rattle.frame_view.specs.View.{Lens}
 use Rattle.life_counts.specs.Begun.{KeepsShape}
-use Rattle.mail_counts.specs.Counts.{mails_between}
-use Rattle.mail_counts.specs.RowCounts.{AreCounted}
+use Rattle.few_replies.specs.Counts.{mails_between}
+use Rattle.few_replies.specs.RowCounts.{AreCounted}
 use Rattle.master_hand.specs.Spoken.{Asked, sdo, file, drive, net, passed, hand_speech}
 use Rattle.plan_counts.specs.Asked.{asked_most}
 use Rattle.plan_ring.specs.Asked.{asked, is_service, service_of}
 use Rattle.plan_ring.proofs.Asked.{agrees}
-use Rattle.server_lives.specs.Real.{real_clearing}
-use Rattle.service_counts.specs.Shapes.{Shape, shape_at, shape_most}
-use Rattle.service_counts.proofs.Stays.{shape_stays}
+use Rattle.plan_ring.specs.Real.{real_clearing}
+use Rattle.few_replies.specs.Shapes.{Shape, shape_at, shape_most}
+use Rattle.few_replies.proofs.Stays.{shape_stays}
 use Rattle.slave_model.specs.Application.{ArePartsLawful}
 use Rattle.slave_model.specs.Product.{product}
 use Rattle.slave_model.specs.Profile.{Profile, IsProfile, areas_of}

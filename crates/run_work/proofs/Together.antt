@@ -14,14 +14,14 @@ use Rattle.plan_counts.specs.Asked.{asked_most}
 use Rattle.run_work.specs.Gained.{AllGain}
 use Rattle.script_runs.specs.Came.{handed_over, AreThose, is_packet}
 use Rattle.script_runs.specs.Slaves.{HasCome, AllCome}
-use Rattle.script_work.specs.Begun.{work_begun}
+use Rattle.script_runs.specs.Begun.{work_begun}
 use Rattle.plan_counts.specs.Split.{own_work, entering}
 use Rattle.segment_plan.specs.Bound.{state_work}
 use Rattle.segment_plan.specs.Sound.{IsSlave, IsService, IsAddressed}
 use Rattle.segment_plan.specs.declared.plan.Scenario.{Scenario}
 use Rattle.segment_plan.specs.declared.service.Service as Plan
 use Rattle.segment_plan.specs.declared.slave.SlaveSpec.{SlaveSpec}
-use Rattle.service_counts.specs.Shapes.{shape_of}
+use Rattle.few_replies.specs.Shapes.{shape_of}
 use Rattle.slave_server.specs.Spec.{core_of, profile_of}
 use Rattle.state_exchange.specs.Stated.{Service}
 use Rattle.run_frames.specs.Clocks.{reopened}

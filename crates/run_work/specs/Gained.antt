@@ -6,7 +6,7 @@ use Rattle.life_measure.specs.Gains.{gains}
 use Rattle.life_runs.specs.Led.{Leads}
 use Rattle.plan_counts.specs.Asked.{asked_most}
 use Rattle.segment_plan.specs.declared.slave.SlaveSpec.{SlaveSpec}
-use Rattle.service_counts.specs.Shapes.{Shape, shape_of}
+use Rattle.few_replies.specs.Shapes.{Shape, shape_of}
 use Rattle.slave_parts.specs.Parts.{Core}
 use Rattle.slave_server.specs.Spec.{core_of, profile_of}
 use Rattle.state_exchange.specs.Families.{InState}

@@ -1,4 +1,10 @@
-pub mod Together
-pub mod Gained
 pub mod Bounds
+pub mod Fair
+pub mod Flows
+pub mod Gained
+pub mod Lives
+pub mod Packets
+pub mod ServedGained
+pub mod Sessions
 pub mod Switched
+pub mod Together

@@ -2,9 +2,9 @@
 use Rattle.std.specs.Prelude.{ℕ, ◌+◌, ◌*◌, ◌≤◌, List, length, sum_by}
 use Rattle.arrayvec.specs.ArrayVec.{ArrayVec}
 use Rattle.life_runs.specs.Led.{Leads}
-use Rattle.packet_work.specs.Packets.{cuts}
+use Rattle.run_work.specs.Packets.{cuts}
 use Rattle.plan_counts.specs.Split.{entering}
-use Rattle.script_work.specs.Begun.{work_begun}
+use Rattle.script_runs.specs.Begun.{work_begun}
 use Rattle.segment_plan.specs.declared.plan.Scenario.{Scenario}
 use Rattle.segment_plan.specs.declared.slave.SlaveSpec.{SlaveSpec}
 use Rattle.run_work.specs.Together.{packets_begun}

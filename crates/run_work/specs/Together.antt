@@ -6,7 +6,7 @@ use Rattle.life_runs.specs.Led.{Leads}
 use Rattle.plan_counts.specs.Asked.{asked_most}
 use Rattle.script_runs.specs.Came.{is_packet}
 use Rattle.segment_plan.specs.declared.slave.SlaveSpec.{SlaveSpec}
-use Rattle.service_counts.specs.Shapes.{shape_of}
+use Rattle.few_replies.specs.Shapes.{shape_of}
 use Rattle.slave_server.specs.Spec.{core_of, profile_of}
 
 -- what the packets take that came into hand of each slave, with the echoes that it sends back

@@ -2,7 +2,6 @@
 //! so are its frames. Definitions and laws, no running code: each function here does nothing, and its contract states the law.
 #![tactic(auto)]
 
-ghost use Rattle.std.specs.Prelude.{◌≢◌, ℕ, Bool, List, ◌≤◌, ◌<◌, ◌+◌, length};
 ghost use Rattle.frame_view.specs.View.{Lens};
 ghost use Rattle.life_counts.specs.Begun.{KeepsShape};
 ghost use Rattle.life_runs.specs.First.{lens_of, first_leads};
@@ -11,25 +10,29 @@ ghost use Rattle.link_mails.specs.Body.{Body};
 ghost use Rattle.master_duty.specs.Reply.{Reply};
 ghost use Rattle.master_hand.specs.Spoken.{Asked};
 ghost use Rattle.plan_counts.specs.Asked.{asked_most};
+ghost use Rattle.plan_counts.specs.Split.{own_work};
 ghost use Rattle.plan_ring.specs.Asked.{asked};
 ghost use Rattle.plan_ring.specs.Lives.{IsKnown};
 ghost use Rattle.plan_ring.specs.Round.{ring_of, AllRound};
-ghost use Rattle.segment_plan.specs.Sound.{IsPlan};
-ghost use Rattle.segment_plan.specs.declared.plan.Scenario.{Scenario};
-ghost use Rattle.server_lives.specs.Real.{real_clearing};
-ghost use Rattle.slave_model.specs.Profile.{Profile, IsProfile};
 ghost use Rattle.run_frames.specs.Clocks.{Clocked};
-ghost use Rattle.run_frames.specs.Fates.{AreFated, gained_in};
+ghost use Rattle.run_frames.specs.Fates.{AreFated, gained_in, lost_of};
 ghost use Rattle.run_frames.specs.Led.{IsTallied};
 ghost use Rattle.run_frames.specs.Runs.{Progress};
-ghost use Rattle.segment_plan.specs.Bound.{slowest};
-ghost use Rattle.run_work.specs.Gained.{app_shape, AllGain};
 ghost use Rattle.run_work.specs.Bounds.{IsPlanRun, bound_with};
-ghost use Rattle.segment_plan.specs.Bound.{services_work, host_work, bound_of};
+ghost use Rattle.run_work.specs.Gained.{app_shape, AllGain};
 ghost use Rattle.run_work.specs.Switched.{AreSwitched, cuts_begun};
 ghost use Rattle.run_work.specs.Together.{packets_begun};
-ghost use Rattle.plan_counts.specs.Split.{own_work};
-ghost use Rattle.script_work.specs.Begun.{work_in};
+ghost use Rattle.script_runs.specs.Begun.{work_in};
+ghost use Rattle.segment_plan.specs.Bound.{slowest, services_work, host_work, bound_of};
+ghost use Rattle.segment_plan.specs.Sound.{IsPlan};
+ghost use Rattle.segment_plan.specs.declared.plan.Scenario.{Scenario};
+ghost use Rattle.plan_ring.specs.Real.{real_clearing};
+ghost use Rattle.slave_model.specs.Profile.{Profile, IsProfile};
+ghost use Rattle.std.specs.Prelude.{◌≢◌, ℕ, Bool, List, ◌≤◌, ◌<◌, ◌+◌, length};
+
+pub mod packet_work;
+pub mod served_counts;
+pub mod served_work;
 
 /// THE SHAPE OF A PLAN'S SLAVE STAYS, whatever services it carries out, whatever its AL state and whenever it is returned to Init; and each service that
 /// its master asks for takes at most as many mails as its shape says.
@@ -37,7 +40,7 @@ pub fn shape_law()
     ensures { (p : Profile) → IsProfile p → (boot : Bool) (lens : ℕ → Lens) → KeepsShape (asked p boot lens) real_clearing app_shape (asked_most p) }
 {
     slave_parts::parts_are_lawful();
-    service_counts::shape_counts();
+    few_replies::service_counts::shape_counts();
 }
 
 /// THE GAINS OF A RUN: of each slave of a plan what its life has gained is no more than what the services and packets count that came into hand of it,
@@ -61,7 +64,7 @@ pub fn run_work()
     run_counts();
     plan_counts::plan_counts();
     script_runs::script_run_law();
-    script_work::script_law();
+    script_runs::script_work::script_law();
 }
 
 /// THE PACKETS OF A RUN COUNT NO MORE THAN THE FRAME BOUND HAS FOR THEM, where they are those of one switch: what downloads emit and what comes into hand
@@ -72,12 +75,13 @@ pub fn switched_law()
         work_in own_work plan.slaves plan.services + (cuts_begun plan.slaves leads + packets_begun plan.slaves leads) + length plan.host ≤ services_work plan.slaves plan.services + host_work (length plan.slaves) plan.host }
 {
     plan_counts::plan_counts();
-    script_work::script_law();
+    script_runs::script_work::script_law();
 }
 
-/// FRAMES THAT WENT ROUND THE RING OF A PLAN have the fates of the plan's schedule.
+/// FRAMES THAT WENT ROUND THE RING OF A PLAN have the fates of the plan's schedule, and no more were lost than that has.
 pub fn fates_law()
-    ensures { (plan : Scenario) (fs : List Exchanged) → AllRound (ring_of plan) fs → AreFated plan.lose 0 fs }
+    ensures fated { (plan : Scenario) (fs : List Exchanged) → AllRound (ring_of plan) fs → AreFated plan.lose 0 fs }
+    ensures few { (plan : Scenario) (fs : List Exchanged) → AllRound (ring_of plan) fs → lost_of fs ≤ length plan.lose }
 {}
 
 /// WHAT CAME BACK OF A RUN'S FRAMES, which went round the ring of its plan, is the return of what was sent, and each slave answered by it what awaits a
@@ -86,7 +90,7 @@ pub fn tallied_law()
     ensures { (plan : Scenario) (fs : List Exchanged) (missed : ℕ) (leads : List Leads) (p : Progress) (cs : List (Clocked Body Asked Reply)) → IsPlan plan → IsKnown plan → IsPlanRun plan fs missed leads p cs →
         IsTallied (lens_of plan.slaves) plan.recover plan.retry (slowest plan.paces) (first_leads plan) plan.paces fs missed leads p cs }
 {
-    run_answers::answer_law();
+    plan_ring::run_answers::answer_law();
     run_frames::toured_law();
 }
 

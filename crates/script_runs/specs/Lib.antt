@@ -1,20 +1,23 @@
 pub use Rattle.book_model.specs as of_book_model
+pub use Rattle.book_model.specs.of_exchange_model as of_exchange_model
+pub use Rattle.book_model.specs.of_life_model as of_life_model
+pub use Rattle.book_model.specs.of_link_model as of_link_model
+pub use Rattle.book_model.specs.of_segment_model as of_segment_model
+pub use Rattle.book_model.specs.of_state_exchange as of_state_exchange
+pub use Rattle.book_model.specs.of_task_model as of_task_model
+pub use Rattle.life_runs.specs as of_life_runs
 pub use Rattle.life_runs.specs.of_datagrams as of_datagrams
 pub use Rattle.life_runs.specs.of_eoe_model as of_eoe_model
-pub use Rattle.book_model.specs.of_exchange_model as of_exchange_model
 pub use Rattle.life_runs.specs.of_frame_view as of_frame_view
 pub use Rattle.life_runs.specs.of_life_frames as of_life_frames
-pub use Rattle.book_model.specs.of_life_model as of_life_model
-pub use Rattle.life_runs.specs as of_life_runs
 pub use Rattle.life_runs.specs.of_link_mails as of_link_mails
-pub use Rattle.book_model.specs.of_link_model as of_link_model
 pub use Rattle.life_runs.specs.of_mailbox_mail as of_mailbox_mail
 pub use Rattle.life_runs.specs.of_master_duty as of_master_duty
 pub use Rattle.life_runs.specs.of_master_hand as of_master_hand
-pub use Rattle.book_model.specs.of_segment_model as of_segment_model
 pub use Rattle.life_runs.specs.of_segment_plan as of_segment_plan
 pub use Rattle.life_runs.specs.of_segment_ring as of_segment_ring
-pub use Rattle.book_model.specs.of_state_exchange as of_state_exchange
-pub use Rattle.book_model.specs.of_task_model as of_task_model
+pub mod Answers
+pub mod Begun
 pub mod Came
 pub mod Slaves
+pub mod Steps

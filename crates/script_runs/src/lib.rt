@@ -1,11 +1,14 @@
 //! What of a script came into hand over a run. No running code: the function here does nothing, and its contract states a law.
 #![tactic(auto)]
 
-ghost use Rattle.std.specs.Prelude.{ℕ, List};
 ghost use Rattle.life_runs.specs.First.{lens_of, first_leads};
 ghost use Rattle.life_runs.specs.Led.{Exchanged, Leads, IsLed};
 ghost use Rattle.life_runs.specs.of_segment_plan.declared.plan.Scenario.{Scenario};
 ghost use Rattle.script_runs.specs.Slaves.{AllCome};
+ghost use Rattle.std.specs.Prelude.{ℕ, List};
+
+pub mod script_answers;
+pub mod script_work;
 
 /// OF EACH SLAVE'S SCRIPT just the first services came into hand, each once and in order, with the packets of its port among them, over all epochs of
 /// its life and whatever frames are lost.

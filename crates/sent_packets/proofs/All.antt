@@ -20,6 +20,7 @@ use Rattle.master_hand.specs.Spoken.{Asked, sdo, file, drive, net, passed}
 use Rattle.packets_heard.specs.Heard.{Joined, Times, IsJoined, joined_in, mails_by, times_behind, times_on, times_none, times_in}
 use Rattle.plan_ring.specs.Asked.{asked, service_of}
 use Rattle.plan_ring.specs.Lives.{IsKnown, IsShown, AllShown, AreLived}
+use Rattle.plan_ring.specs.Master as Master
 use Rattle.plan_ring.specs.Plan.{PlanMember, FitsPlan, step}
 use Rattle.plan_ring.specs.Round.{AllRound, WentRound, behind, ring_of, ring_after, frame_seen, all_seen}
 use Rattle.segment_model.specs.Record.{Frame}
@@ -38,7 +39,7 @@ use Rattle.slave_model.specs.Application.{core_valid, station_valid}
 use Rattle.slave_model.specs.Profile.{Protocol, Profile, IsProfile}
 use Rattle.slave_model.proofs.Stations.{left_of, right_of}
 use Rattle.slave_parts.specs.Parts.{Core, parts}
-use Rattle.slave_sends.specs.Sends.{MaySend, Sends, asked_sends, sends_most, all_most}
+use Rattle.sent_packets.specs.Sends.{MaySend, Sends, asked_sends, sends_most, all_most}
 use Rattle.slave_server.specs.Serving.{Serving}
 use Rattle.slave_server.specs.Spec.{profile_of}
 use Rattle.slave_steps.specs.Node.{Node, node_passed}
@@ -54,20 +55,20 @@ use Rattle.sent_packets.proofs.Times.{TracksShut, TracksAs, Tracks, ended_weigh,
 use Rattle.sent_packets.proofs.Turns.{turn_tracks}
 
 -- ---- the services of a plan's slave send so
+pub valid_sends : (s : Station Core) → station_valid parts s ≡ true → MaySend s
+valid_sends s e =
+    let core = left_of (core_valid parts s.app) (nat_lt s.frame 16) e in
+    record { table = left_of _ _ core; frame = ltb-true s.frame 16 (right_of (core_valid parts s.app) (nat_lt s.frame 16) e) }
+
 sends_so : (weigh : List ℕ → ℕ) (p : Profile) (boot : Bool) (lens : ℕ → Lens) → Emit weigh p → SendSo weigh p (asked p boot lens)
 sends_so weigh p boot lens law = record {
-  begins = λ v ready. valid v.inner.app (left_of (station_valid parts v.inner.app) _ ready);
+  begins = λ v ready. valid_sends v.inner.app (left_of (station_valid parts v.inner.app) _ ready);
   emits = λ a q may. one a q may;
   stays = λ a q may. law.stays a.state a.inner (service_of q).0 (service_of q).1 may;
   told = λ state a may. may;
   own = own_fragment;
 }
   where
-    valid : (s : Station Core) → station_valid parts s ≡ true → MaySend s
-    valid s e =
-        let core = left_of (core_valid parts s.app) (nat_lt s.frame 16) e in
-        record { table = left_of _ _ core; frame = ltb-true s.frame 16 (right_of (core_valid parts s.app) (nat_lt s.frame 16) e) }
-
     one : (a : InState (Station Core)) (q : Asked) → MaySend a.inner → Sends weigh p.back ((asked p boot lens).exchange.emits a q) (sum_by weigh (asked_sends p q))
     one a (sdo q) may = law.emits a.state a.inner Protocol.CoE q may
     one a (file q) may = law.emits a.state a.inner Protocol.FoE q may
@@ -81,53 +82,47 @@ pub record Laws (weigh : List ℕ → ℕ) : Type 0 where
   pub joins : Joins
   pub returns : (lens : ℕ → Lens) (ring : RingState (Node Serving)) (octets : List ℕ) (ds : List Raw.Datagram) → IsFrame octets ds → fate_at ring.lose ring.number ≡ Pass → Returns (seen lens octets) (seen lens (ring_returned node_passed ring octets))
 
-module _ (weigh : List ℕ → ℕ) (plan : Scenario) (laws : Laws weigh) (is : IsPlan plan) (known : IsKnown plan)
-    (lives : (fs : List Exchanged) (missed : ℕ) (leads : List Leads) → IsLed (lens_of plan.slaves) plan.recover plan.retry (first_leads plan) fs missed leads → AllRound (ring_of plan) fs → AreLived plan fs leads) where
-  abbrev lens : ℕ → Lens
+module _ (weigh : List ℕ → ℕ) (plan : Scenario) (laws : Laws weigh) where
+  abbrev pub lens : ℕ → Lens
   lens = lens_of plan.slaves
 
-  abbrev most_of : SlaveSpec → Service Asked → ℕ
+  abbrev pub most_of : SlaveSpec → Service Asked → ℕ
   most_of s = sends_most weigh (profile_of s)
 
   -- ---- each open slave, by its ring
-  abbrev LiveSo : List (Frame Body) → SlaveSpec → Leads → Type 0
+  abbrev pub LiveSo : List (Frame Body) → SlaveSpec → Leads → Type 0
   LiveSo gs s a = a.lived.life.stand ≡ Stand.Open → IsLive weigh (most_of s) a.lived.spot gs a.lived.life
 
-  one_live : (gs : List (Frame Body)) (place : ℕ) (s : SlaveSpec) (m : PlanMember) (a : Leads) → IsSlave s → length s.mac ≡ 6 → IsShown plan place s m a → MemberIs lens step (FitsPlan plan.slaves) gs place m → LiveSo gs s a
-  one_live gs place s m a slave mac shown i open_ =
+  one_live : (gs : List (Frame Body)) (place : ℕ) (s : SlaveSpec) (m : PlanMember) (a : Leads) → IsSlave s → length s.mac ≡ 6 → IsShown plan place s m a → MemberIs lens step (FitsPlan plan.slaves) gs place m → Master.IsLed m → LiveSo gs s a
+  one_live gs place s m a slave mac shown i led open_ =
       let profile : IsProfile (profile_of s) = record { out_least = slave.out_least; out_most = slave.out_most; back_least = slave.in_least; back_most = slave.in_most; mac = mac } in
       let so : SendSo weigh (profile_of s) m.services = subst (λ w. SendSo weigh (profile_of s) w) (sym shown.is.services) (sends_so weigh (profile_of s) s.boot lens (laws.emit (profile_of s) profile)) in
       let life : m.life ≡ a.lived.life = ap (λ x. x.life) shown.lived in
       let spot : m.spot ≡ a.lived.spot = ap (λ x. x.spot) shown.lived in
-      let here = live weigh (profile_of s) slave.in_least laws.joins m.services so m.clearing m.plan m.spot m.first m.life gs m.node i.whole i.lived (ap (λ (l : Life Body Asked Reply). l.stand) life ∙ open_) in
+      let here = live weigh (profile_of s) slave.in_least laws.joins m.services so m.clearing m.plan m.spot m.first m.life gs m.node (Master.owed m i.whole led) i.lived (ap (λ (l : Life Body Asked Reply). l.stand) life ∙ open_) in
       subst (λ (p : Spot). IsLive weigh (most_of s) p gs a.lived.life) spot (subst (λ (l : Life Body Asked Reply). IsLive weigh (most_of s) m.spot gs l) life here)
 
-  abbrev AllLive : List (Frame Body) → List SlaveSpec → List Leads → Type 0
+  abbrev pub AllLive : List (Frame Body) → List SlaveSpec → List Leads → Type 0
   AllLive gs ss as' = AllBoth (λ s a. LiveSo gs s a) ss as'
 
-  all_live : (gs : List (Frame Body)) (place : ℕ) (ss : List SlaveSpec) (ms : List PlanMember) (as' : List Leads) → All (λ (s : SlaveSpec). IsSlave s) ss → All (λ (s : SlaveSpec). length s.mac ≡ 6) ss → AllShown plan place ss ms as' → AllLived lens step (FitsPlan plan.slaves) gs place ms → AllLive gs ss as'
-  all_live gs place [] [] [] slaves macs shown i = tt
-  all_live gs place [] [] (a ∷ as') slaves macs shown i = absurd shown
-  all_live gs place [] (m ∷ ms) as' slaves macs shown i = absurd shown
-  all_live gs place (s ∷ ss) [] as' slaves macs shown i = absurd shown
-  all_live gs place (s ∷ ss) (m ∷ ms) [] slaves macs shown i = absurd shown
-  all_live gs place (s ∷ ss) (m ∷ ms) (a ∷ as') slaves macs shown i = (
-    one_live gs place s m a (All-head (λ (s : SlaveSpec). IsSlave s) s ss slaves) (All-head (λ (s : SlaveSpec). length s.mac ≡ 6) s ss macs) shown.0 i.0,
-    all_live gs (suc place) ss ms as' (All-tail (λ (s : SlaveSpec). IsSlave s) s ss slaves) (All-tail (λ (s : SlaveSpec). length s.mac ≡ 6) s ss macs) shown.1 i.1,
+  all_live : (gs : List (Frame Body)) (place : ℕ) (ss : List SlaveSpec) (ms : List PlanMember) (as' : List Leads) → All (λ (s : SlaveSpec). IsSlave s) ss → All (λ (s : SlaveSpec). length s.mac ≡ 6) ss → AllShown plan place ss ms as' → AllLived lens step (FitsPlan plan.slaves) gs place ms → Master.AllLed ms → AllLive gs ss as'
+  all_live gs place [] [] [] slaves macs shown i led = tt
+  all_live gs place [] [] (a ∷ as') slaves macs shown i led = absurd shown
+  all_live gs place [] (m ∷ ms) as' slaves macs shown i led = absurd shown
+  all_live gs place (s ∷ ss) [] as' slaves macs shown i led = absurd shown
+  all_live gs place (s ∷ ss) (m ∷ ms) [] slaves macs shown i led = absurd shown
+  all_live gs place (s ∷ ss) (m ∷ ms) (a ∷ as') slaves macs shown i led = (
+    one_live gs place s m a (All-head (λ (s : SlaveSpec). IsSlave s) s ss slaves) (All-head (λ (s : SlaveSpec). length s.mac ≡ 6) s ss macs) shown.0 i.0 led.0,
+    all_live gs (suc place) ss ms as' (All-tail (λ (s : SlaveSpec). IsSlave s) s ss slaves) (All-tail (λ (s : SlaveSpec). length s.mac ≡ 6) s ss macs) shown.1 i.1 led.1,
   )
 
-  live_at : (fs : List Exchanged) (missed : ℕ) (as' : List Leads) → IsLed lens plan.recover plan.retry (first_leads plan) fs missed as' → AllRound (ring_of plan) fs → AllLive (all_seen lens fs) plan.slaves as'
-  live_at fs missed as' led round =
-      let x = lives fs missed as' led round in
-      all_live (all_seen lens fs) 0 plan.slaves x.members as' is.laid.slaves known.macs x.shown x.lives.each
-
   -- ---- each slave's times
-  abbrev AllTrack : List (Frame Body) → List SlaveSpec → List Leads → List Times → Type 0
+  abbrev pub AllTrack : List (Frame Body) → List SlaveSpec → List Leads → List Times → Type 0
   AllTrack gs [] [] [] = ⊤
   AllTrack gs (s ∷ ss) (a ∷ as') (t ∷ ts) = Tracks weigh (most_of s) a.lived.spot gs a.lived.life t × AllTrack gs ss as' ts
   AllTrack gs _ _ _ = ⊥
 
-  first_track : (place : ℕ) (ss : List SlaveSpec) → AllTrack [] ss (leads_from plan.services place ss) (times_none (leads_from plan.services place ss))
+  pub first_track : (place : ℕ) (ss : List SlaveSpec) → AllTrack [] ss (leads_from plan.services place ss) (times_none (leads_from plan.services place ss))
   first_track place [] = tt
   first_track place (s ∷ ss) = ((record { all = omega arith }, inr (refl, refl)), first_track (suc place) ss)
 
@@ -156,34 +151,20 @@ module _ (weigh : List ℕ → ℕ) (plan : Scenario) (laws : Laws weigh) (is : 
         )
 
   -- ---- the frames went round
-  front_round : (ring : RingState (Node Serving)) (fs : List Exchanged) (f : Exchanged) → AllRound ring (fs ++ f ∷ []) → AllRound ring fs
+  pub front_round : (ring : RingState (Node Serving)) (fs : List Exchanged) (f : Exchanged) → AllRound ring (fs ++ f ∷ []) → AllRound ring fs
   front_round ring [] f r = tt
   front_round ring (e ∷ fs) f r = (r.0, front_round (behind ring e.sent) fs f r.1)
 
-  last_round : (ring : RingState (Node Serving)) (fs : List Exchanged) (f : Exchanged) → AllRound ring (fs ++ f ∷ []) → WentRound (ring_after ring fs) f
+  pub last_round : (ring : RingState (Node Serving)) (fs : List Exchanged) (f : Exchanged) → AllRound ring (fs ++ f ∷ []) → WentRound (ring_after ring fs) f
   last_round ring [] f r = r.0
   last_round ring (e ∷ fs) f r = last_round (behind ring e.sent) fs f r.1
 
-  one_returned : (ring : RingState (Node Serving)) (f : Exchanged) (ds : List Raw.Datagram) → IsFrame f.sent (chained ds) → WentRound ring f → f.fate ≡ Pass → Returns (seen lens f.sent) (seen lens f.back)
+  pub one_returned : (ring : RingState (Node Serving)) (f : Exchanged) (ds : List Raw.Datagram) → IsFrame f.sent (chained ds) → WentRound ring f → f.fate ≡ Pass → Returns (seen lens f.sent) (seen lens f.back)
   one_returned ring f ds frame went pass = subst (λ back. Returns (seen lens f.sent) (seen lens back)) (sym went.back) (laws.returns lens ring f.sent (chained ds) frame (sym went.fate ∙ pass))
 
-  none_back : (ring : RingState (Node Serving)) (f : Exchanged) (after : ℕ) → WentRound ring f → f.fate ≡ Lost after → seen lens f.back ≡ []
+  pub none_back : (ring : RingState (Node Serving)) (f : Exchanged) (after : ℕ) → WentRound ring f → f.fate ≡ Lost after → seen lens f.back ≡ []
   none_back ring f after went lost =
       ap (seen lens) (went.back ∙ ap (λ (fate : Fate). (frame_met node_passed ring.nodes f.sent fate).1) (sym went.fate ∙ lost))
-
-  tracks : (fs : List Exchanged) (missed : ℕ) (as' : List Leads) (led : IsLed lens plan.recover plan.retry (first_leads plan) fs missed as') → AllRound (ring_of plan) fs → AllTrack (all_seen lens fs) plan.slaves as' (times_in led)
-  tracks _ _ _ IsLed.start round = first_track 0 plan.slaves
-  tracks _ _ _ (IsLed.on fs missed as' f us led frame) round =
-      let before = front_round (ring_of plan) fs f round in
-      let went = last_round (ring_of plan) fs f round in
-      let gs = all_seen lens fs in
-      let long : length gs ≡ length fs = length-map fs (frame_seen lens) in
-      let seen_so = seen_is lens f.sent _ frame.frame ∙ seen_chained lens frame.datagrams in
-      let turns : AllTurn lens (length gs) frame.datagrams as' us = subst (λ n. AllTurn lens n frame.datagrams as' us) (sym long) frame.each in
-      let all = all_turn (gives_up_at lens plan.recover plan.retry missed) gs f frame.datagrams seen_so (one_returned (ring_after (ring_of plan) fs) f frame.datagrams frame.frame went) (λ after lost. none_back (ring_after (ring_of plan) fs) f after went lost)
-      plan.slaves as' us (times_in led) turns (live_at fs missed as' led before) (tracks fs missed as' led before) in
-      subst (λ hs. AllTrack hs plan.slaves (map (led_behind lens plan.recover plan.retry (gives_up_at lens plan.recover plan.retry missed) (length fs) f) us) (times_on lens f (times_in led) us)) (sym (map-append (frame_seen lens) fs (f ∷ [])))
-      (subst (λ n. AllTrack (gs ++ frame_seen lens f ∷ []) plan.slaves (map (led_behind lens plan.recover plan.retry (gives_up_at lens plan.recover plan.retry missed) n f) us) (times_on lens f (times_in led) us)) long all)
 
   -- ---- BEHIND ALL FRAMES
   one_sent : (gs : List (Frame Body)) (s : SlaveSpec) (a : Leads) (t : Times) (j : Joined) (z : Stand) → a.lived.life.stand ≡ z → TracksAs weigh (most_of s) a.lived.spot gs a.lived.life t z → LiveSo gs s a → IsJoined t j → sum_by weigh j.packets ≤ all_most weigh (profile_of s) (life_started a.lived.life)
@@ -196,7 +177,7 @@ module _ (weigh : List ℕ → ℕ) (plan : Scenario) (laws : Laws weigh) (is : 
       by Stand.Open e k = shut_now weigh (most_of s) a.lived.spot gs a.lived.life t k (l e)
       by Stand.Gone e k = k
 
-  all_sent : (gs : List (Frame Body)) (ss : List SlaveSpec) (as' : List Leads) (ts : List Times) (js : List Joined) → AllTrack gs ss as' ts → AllLive gs ss as' → AllBoth IsJoined ts js → AllSend weigh ss as' js
+  pub all_sent : (gs : List (Frame Body)) (ss : List SlaveSpec) (as' : List Leads) (ts : List Times) (js : List Joined) → AllTrack gs ss as' ts → AllLive gs ss as' → AllBoth IsJoined ts js → AllSend weigh ss as' js
   all_sent gs [] [] [] [] k l b = tt
   all_sent gs [] [] [] (j ∷ js) k l b = absurd b
   all_sent gs [] [] (t ∷ ts) js k l b = absurd k
@@ -206,5 +187,26 @@ module _ (weigh : List ℕ → ℕ) (plan : Scenario) (laws : Laws weigh) (is : 
   all_sent gs (s ∷ ss) (a ∷ as') (t ∷ ts) [] k l b = absurd b
   all_sent gs (s ∷ ss) (a ∷ as') (t ∷ ts) (j ∷ js) k l b = (one_sent gs s a t j a.lived.life.stand refl k.0 l.0 b.0, all_sent gs ss as' ts js k.1 l.1 b.1)
 
-  pub sent : (fs : List Exchanged) (missed : ℕ) (as' : List Leads) (led : IsLed lens plan.recover plan.retry (first_leads plan) fs missed as') → AllRound (ring_of plan) fs → AllBoth IsJoined (times_in led) (joined_in led) → AllSend weigh plan.slaves as' (joined_in led)
-  sent fs missed as' led round joined = all_sent (all_seen lens fs) plan.slaves as' (times_in led) (joined_in led) (tracks fs missed as' led round) (live_at fs missed as' led round) joined
+  -- ---- OVER A RUN
+  module _ (is : IsPlan plan) (known : IsKnown plan) (lives : (fs : List Exchanged) (missed : ℕ) (leads : List Leads) → IsLed (lens_of plan.slaves) plan.recover plan.retry (first_leads plan) fs missed leads → AllRound (ring_of plan) fs → AreLived plan fs leads) where
+    live_at : (fs : List Exchanged) (missed : ℕ) (as' : List Leads) → IsLed lens plan.recover plan.retry (first_leads plan) fs missed as' → AllRound (ring_of plan) fs → AllLive (all_seen lens fs) plan.slaves as'
+    live_at fs missed as' led round =
+        let x = lives fs missed as' led round in
+        all_live (all_seen lens fs) 0 plan.slaves x.members as' is.laid.slaves known.macs x.shown x.lives.each x.led
+
+    tracks : (fs : List Exchanged) (missed : ℕ) (as' : List Leads) (led : IsLed lens plan.recover plan.retry (first_leads plan) fs missed as') → AllRound (ring_of plan) fs → AllTrack (all_seen lens fs) plan.slaves as' (times_in led)
+    tracks _ _ _ IsLed.start round = first_track 0 plan.slaves
+    tracks _ _ _ (IsLed.on fs missed as' f us led frame) round =
+        let before = front_round (ring_of plan) fs f round in
+        let went = last_round (ring_of plan) fs f round in
+        let gs = all_seen lens fs in
+        let long : length gs ≡ length fs = length-map fs (frame_seen lens) in
+        let seen_so = seen_is lens f.sent _ frame.frame ∙ seen_chained lens frame.datagrams in
+        let turns : AllTurn lens (length gs) frame.datagrams as' us = subst (λ n. AllTurn lens n frame.datagrams as' us) (sym long) frame.each in
+        let all = all_turn (gives_up_at lens plan.recover plan.retry missed) gs f frame.datagrams seen_so (one_returned (ring_after (ring_of plan) fs) f frame.datagrams frame.frame went) (λ after lost. none_back (ring_after (ring_of plan) fs) f after went lost)
+        plan.slaves as' us (times_in led) turns (live_at fs missed as' led before) (tracks fs missed as' led before) in
+        subst (λ hs. AllTrack hs plan.slaves (map (led_behind lens plan.recover plan.retry (gives_up_at lens plan.recover plan.retry missed) (length fs) f) us) (times_on lens f (times_in led) us)) (sym (map-append (frame_seen lens) fs (f ∷ [])))
+        (subst (λ n. AllTrack (gs ++ frame_seen lens f ∷ []) plan.slaves (map (led_behind lens plan.recover plan.retry (gives_up_at lens plan.recover plan.retry missed) n f) us) (times_on lens f (times_in led) us)) long all)
+
+    pub sent : (fs : List Exchanged) (missed : ℕ) (as' : List Leads) (led : IsLed lens plan.recover plan.retry (first_leads plan) fs missed as') → AllRound (ring_of plan) fs → AllBoth IsJoined (times_in led) (joined_in led) → AllSend weigh plan.slaves as' (joined_in led)
+    sent fs missed as' led round joined = all_sent (all_seen lens fs) plan.slaves as' (times_in led) (joined_in led) (tracks fs missed as' led round) (live_at fs missed as' led round) joined

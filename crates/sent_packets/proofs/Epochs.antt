@@ -1,5 +1,5 @@
 -- OF AN OPEN SLAVE the packets that its epoch's mails join to are of the services that came into hand in it.
-use Rattle.std.proofs.Common.{◌≡◌, ℕ, zero, suc, ◌+◌, ◌≤◌, true, false, None, List, [], ◌∷◌, ◌++◌, take, length, refl, sym, ap, ◌∙◌, subst, arith}
+use Rattle.std.proofs.Common.{◌≡◌, ℕ, zero, suc, ◌+◌, ◌≤◌, Bool, true, false, None, List, [], ◌∷◌, ◌++◌, take, length, refl, sym, ap, ◌∙◌, subst, arith}
 use Rattle.std.specs.Prelude.{sum_by}
 use Rattle.std.proofs.lemmas.List.Sums.{sum_by-cons, sum_by-append}
 use Rattle.eoe.specs.declared.message.Fragment.{Fragment}
@@ -24,15 +24,15 @@ use Rattle.slave_parts.specs.Parts.{Core, Server, parts as real_parts}
 use Rattle.slave_server.specs.Serving.{Serving}
 use Rattle.slave_steps.specs.Node.{Node}
 use Rattle.eoe_model.specs.Network.{Station}
-use Rattle.slave_sends.specs.Sends.{MaySend, Sends, may_send, asked_sends, sends_most}
-use Rattle.slave_sends.proofs.Cuts.{parts_append, sends_none, sends_both}
+use Rattle.sent_packets.specs.Sends.{MaySend, Sends, may_send, asked_sends, sends_most}
+use Rattle.sent_packets.proofs.Cuts.{parts_append, sends_none, sends_both}
 use Rattle.state_exchange.specs.Families.{InState}
 use Rattle.state_exchange.specs.Stated.{Service, acts, mails, with_states}
 use Rattle.state_exchange.proofs.Acts.{mails_acts, mails_append}
 use Rattle.state_model.specs.States.{Table}
 use Rattle.task_model.specs.Promise.{services_in}
-use Rattle.whole_lives.specs.Whole.{IsWhole, IsLived}
-use Rattle.whole_lives.proofs.Promised.{promised}
+use Rattle.whole_ring.specs.Whole.{OwesLaws, IsLived}
+use Rattle.whole_ring.proofs.Promised.{promised}
 use Rattle.sent_packets.proofs.Live.{IsLive}
 
 abbrev pub Real : Type 0
@@ -51,7 +51,7 @@ pub record SendSo (weigh : List ℕ → ℕ) (p : Profile) (w : Real) : Type 0 w
   pub told : (state : ℕ) (a : InState (Station Core)) → MaySend a.inner → MaySend (w.states.told state a).inner
   pub own : IsOwn w.exchange.speech.emission fragment_in
 
-first_sum : {X : Type 0} (f : X → ℕ) (n : ℕ) (xs : List X) → sum_by f (take n xs) ≤ sum_by f xs
+pub first_sum : {X : Type 0} (f : X → ℕ) (n : ℕ) (xs : List X) → sum_by f (take n xs) ≤ sum_by f xs
 first_sum f zero xs = omega arith
 first_sum f (suc n) [] = omega arith
 first_sum f (suc n) (x ∷ xs) = omega (arith, sum_by-cons f x (take n xs), sum_by-cons f x xs, first_sum f n xs)
@@ -62,6 +62,15 @@ prefix_sum f xs ys p = omega (arith, ap (sum_by f) p.1, sum_by-append f xs p.0)
 -- what joining says
 abbrev pub Joins : Type 0
 Joins = (room : ℕ) (ps : List Emitted) (ms : List Body) (rest : List Fragment) → 64 ≤ room → ArePackets ps → parts fragment_in ms ++ rest ≡ all_fragments room ps → IsPrefixOf (packets_in None ms) (octets_of ps)
+
+-- mails of which the emissions are the first of those
+pub few_heard : (weigh : List ℕ → ℕ) (room : ℕ) → 64 ≤ room → Joins → (emission : Body → Bool) → IsOwn emission fragment_in → (hs ms : List Body) (n : ℕ) → Sends weigh room ms n → IsPrefixOf (emitted emission hs) ms → sum_by weigh (packets_in None hs) ≤ n
+few_heard weigh room wide joins emission is_own hs ms n s first =
+    let own : parts fragment_in hs ≡ parts fragment_in (emitted emission hs) = heard_own emission fragment_in is_own hs in
+    let all : parts fragment_in hs ++ parts fragment_in first.0 ≡ all_fragments room s.packets =
+    ap (λ l. l ++ parts fragment_in first.0) own ∙ sym (parts_append (emitted emission hs) first.0) ∙ ap (parts fragment_in) first.1 ∙ s.cut in
+    let joined = prefix_sum weigh (packets_in None hs) (octets_of s.packets) (joins room s.packets hs (parts fragment_in first.0) wide s.are all) in
+    omega (arith, joined, s.few)
 
 module _ (weigh : List ℕ → ℕ) (p : Profile) (wide : 64 ≤ p.back) (joins : Joins) (w : Real) (so : SendSo weigh p w) where
   abbrev most : Service Asked → ℕ
@@ -84,26 +93,17 @@ module _ (weigh : List ℕ → ℕ) (p : Profile) (wide : 64 ≤ p.back) (joins 
       let same : sum_by most qs ≡ sum_by most (Service.State target ∷ qs) = omega (arith, sum_by-cons most (Service.State target) qs) in
       subst (λ n. Sends weigh p.back (mails (emits_all both next qs)) n) same (fold_sends table next.0 next.1 qs (so.told _ a may))
 
-  -- mails of which the emissions are the first of those
-  few_of : (hs ms : List Body) (n : ℕ) → Sends weigh p.back ms n → IsPrefixOf (emitted w.exchange.speech.emission hs) ms → sum_by weigh (packets_in None hs) ≤ n
-  few_of hs ms n s first =
-      let own : parts fragment_in hs ≡ parts fragment_in (emitted w.exchange.speech.emission hs) = heard_own w.exchange.speech.emission fragment_in so.own hs in
-      let all : parts fragment_in hs ++ parts fragment_in first.0 ≡ all_fragments p.back s.packets =
-      ap (λ l. l ++ parts fragment_in first.0) own ∙ sym (parts_append (emitted w.exchange.speech.emission hs) first.0) ∙ ap (parts fragment_in) first.1 ∙ s.cut in
-      let joined = prefix_sum weigh (packets_in None hs) (octets_of s.packets) (joins p.back s.packets hs (parts fragment_in first.0) wide s.are all) in
-      omega (arith, joined, s.few)
-
   -- AN OPEN SLAVE
-  pub live : (c : Clearing (InState Server) (InState (Station Core))) (plan : Plan) (spot : Spot) (first : InState (Station Core)) (l : Life Body Asked Reply) (gs : List (Frame Body)) (n : Node Serving) → IsWhole w c plan spot → IsLived w c plan spot first l gs n → l.stand ≡ Stand.Open →
+  pub live : (c : Clearing (InState Server) (InState (Station Core))) (plan : Plan) (spot : Spot) (first : InState (Station Core)) (l : Life Body Asked Reply) (gs : List (Frame Body)) (n : Node Serving) → OwesLaws w c plan spot → IsLived w c plan spot first l gs n → l.stand ≡ Stand.Open →
       IsLive weigh most spot gs l
-  live c plan spot first l gs n whole lived stand =
-      let x = promised w c plan spot first l gs n whole lived stand in
+  live c plan spot first l gs n owes lived stand =
+      let x = promised w c plan spot first l gs n owes lived stand in
       let k = x.epoch in
       let t = x.promised (λ m. false) in
       let may = so.begins k.server k.is.plan.plan.ready.0 in
       let qs = take t.count (services_in l.era.account.started) in
       let all = fold_sends (table_of w spot.station) (w.exchange.app k.server) 0 qs may in
-      let few = few_of (heard spot.station (era_frames spot k.opened (length gs) gs)) _ (sum_by most qs) all t.emissions in
+      let few = few_heard weigh p.back wide joins w.exchange.speech.emission so.own (heard spot.station (era_frames spot k.opened (length gs) gs)) _ (sum_by most qs) all t.emissions in
       record {
         opened = k.opened;
         opened_at = k.is.opened_at;

@@ -9,7 +9,7 @@ use Rattle.exchange_model.specs.Exchange.{Speech}
 use Rattle.frame_view.specs.Seen.{seen, datagrams_seen}
 use Rattle.frame_view.specs.View.{Lens, ask_of, access_of, read_ask, read_access, datagram_seen, station_of}
 use Rattle.life_frames.specs.Frames.{FrameFor, IsOpenGram, Share}
-use Rattle.life_frames.specs.Shares.{came_at, given_where}
+use Rattle.life_frames.specs.Shares.{Lived, IsNext, came_at, given_where, lived_back, lived_lost}
 use Rattle.life_frames.proofs.Frames.{own_none, own_one}
 use Rattle.life_model.specs.Lives.{Spot, Era, Life, Stand, era_back, granted, life_next, life_back, life_lost, reopens, reopens_at, reopening, opens_state, returns_to_init}
 use Rattle.life_model.specs.Own.{own}
@@ -19,13 +19,15 @@ use Rattle.link_model.specs.Frames.{Ask, all_accepted, halves_accept}
 use Rattle.link_model.specs.Link.{Halves}
 use Rattle.master_duty.specs.Reply.{Reply}
 use Rattle.master_hand.specs.Spoken.{Asked, acknowledged, is_followed}
+use Rattle.master_side.specs.Passing.{news_back, news_lost}
 use Rattle.master_tour.specs.Brings.{accepted_at}
 use Rattle.packets_heard.specs.Heard.{Times, mails_by, times_behind}
-use Rattle.segment_model.specs.Record.{Frame, is_for}
+use Rattle.segment_model.specs.Record.{Frame, News, is_for}
 use Rattle.segment_model.specs.Returned.{Returns}
 use Rattle.segment_model.specs.Slaves.{Access, Address, Datagram, grams}
 use Rattle.segment_ring.specs.declared.wire.Fate.{Fate}
 use Rattle.segment_ring.specs.declared.wire.Fate.TheVariants.{Pass, Lost}
+use Rattle.served_runs.specs.Served.{Serves, ServedTurn, IsServedTurn, served_life}
 use Rattle.state_exchange.specs.Stated.{Service}
 use Rattle.task_model.specs.Accounts.{Account, Duty, Stage, account_back, account_met, account_by, access_done}
 use Rattle.task_model.specs.Promise.{services_in}
@@ -186,8 +188,8 @@ started_same {R = R} station made a (d ∷ ds) = started_same station made (acco
         either true = by duty (access_done duty.target duty.stage d.access d.found)
         either false = refl
 
--- ---- BEHIND THE FRAME
-module _ (weigh : List ℕ → ℕ) (most : Service Asked → ℕ) (spot : Spot) (x : Speech Body Asked Reply) (recover : ℕ) (gs : List (Frame Body)) (g : Frame Body) (n : Life Body Asked Reply) (t : Times) where
+-- ---- BEHIND THE FRAME, with what it tells of a mail that is passed on
+module _ (weigh : List ℕ → ℕ) (most : Service Asked → ℕ) (spot : Spot) (x : Speech Body Asked Reply) (recover : ℕ) (news : List (News Body)) (gs : List (Frame Body)) (g : Frame Body) (n : Life Body Asked Reply) (t : Times) where
   abbrev back : List (Datagram Body)
   back = g.back
 
@@ -198,17 +200,17 @@ module _ (weigh : List ℕ → ℕ) (most : Service Asked → ℕ) (spot : Spot)
   gs' = gs ++ g ∷ []
 
   abbrev BackSo : Option (Bool × Option Rattle.segment_model.specs.Slaves.Found) → Stand → Type 0
-  BackSo came z = Tracks weigh most spot gs' (life_back x acknowledged is_followed is_passed (length gs) spot [] back came n z) (times_behind z (accepted_at spot.station halves back z) t)
+  BackSo came z = Tracks weigh most spot gs' (life_back x acknowledged is_followed is_passed (length gs) spot news back came n z) (times_behind z (accepted_at spot.station halves back z) t)
 
   abbrev LostSo : Bool → List (Datagram Body) → Stand → Type 0
-  LostSo gives sent z = Tracks weigh most spot gs' (given_where gives recover spot (length gs) (life_lost x acknowledged is_followed is_passed spot [] sent n z)) (times_behind z [] t)
+  LostSo gives sent z = Tracks weigh most spot gs' (given_where gives recover spot (length gs) (life_lost x acknowledged is_followed is_passed spot news sent n z)) (times_behind z [] t)
 
   module _ (open_ : TracksOpen weigh most spot gs n t) (live : IsLive weigh most spot gs n) (stand : n.stand ≡ Stand.Open) where
     abbrev ms : List Body
     ms = all_accepted spot.station halves (grams (own spot.station back))
 
     abbrev behind : Era Body Asked Reply
-    behind = era_back x acknowledged is_followed is_passed spot.station (length gs) [] back n.era
+    behind = era_back x acknowledged is_followed is_passed spot.station (length gs) news back n.era
 
     abbrev now : Life Body Asked Reply
     now = record n { era = behind }
@@ -251,11 +253,11 @@ module _ (weigh : List ℕ → ℕ) (most : Service Asked → ℕ) (spot : Spot)
 
     open_lost : (gives : Bool) (sent : List (Datagram Body)) → back ≡ [] → LostSo gives sent Stand.Open
     open_lost false sent none =
-        let m = life_lost x acknowledged is_followed is_passed spot [] sent n Stand.Open in
+        let m = life_lost x acknowledged is_followed is_passed spot news sent n Stand.Open in
         subst (λ (z : Stand). TracksAs weigh most spot gs' m (record { past = t.past; now = t.now ++ [] }) z) (sym stand)
         (open_tracks weigh most spot gs g n m t [] live refl refl open_.calm open_ (sym (ap (λ l. all_accepted spot.station halves (grams (own spot.station l))) none)))
     open_lost true sent none =
-        let m = life_lost x acknowledged is_followed is_passed spot [] sent n Stand.Open in
+        let m = life_lost x acknowledged is_followed is_passed spot news sent n Stand.Open in
         gives_tracks weigh most spot recover (length gs) gs' m (record { past = t.past; now = t.now ++ [] }) (shut_by m [] refl refl refl)
 
   -- WHERE IT CAME BACK
@@ -309,40 +311,73 @@ module _ (weigh : List ℕ → ℕ) (most : Service Asked → ℕ) (lens : ℕ �
   abbrev g : Frame Body
   g = record { sent = seen lens f.sent; fate = fate_seen f.fate; back = seen lens f.back }
 
-  pub turn_tracks : (a : Leads) (u : Turn) (t : Times) → IsTurn lens (length gs) ds a u → Tracks weigh most a.lived.spot gs a.lived.life t → (a.lived.life.stand ≡ Stand.Open → IsLive weigh most a.lived.spot gs a.lived.life) →
-      Tracks weigh most a.lived.spot (gs ++ g ∷ []) (life_behind lens recover retry gives (length gs) f f.fate u.lived u.share).life (times_behind u.lived.life.stand (mails_by lens f f.fate u) t)
-  turn_tracks a u t y k live = subst (λ (spot : Spot). Ends spot) y.next.spot (go a.lived.life.stand refl)
+  -- its life behind the frame, with what that tells of a mail that is passed on, where it came back and where it was lost
+  abbrev behind_by : List (News Body) → List (News Body) → Fate → Lived Asked Reply → Share → Life Body Asked Reply
+  behind_by told lost Pass l share = (lived_back (speech_at lens l.spot) acknowledged is_followed is_passed (length gs) (seen lens f.back) l share told).life
+  behind_by told lost (Lost after) l share = (lived_lost (speech_at lens l.spot) acknowledged is_followed is_passed gives recover (length gs) (seen lens f.sent) l share lost).life
+
+  frame_tracks : (a : Lived Asked Reply) (u : Turn) (t : Times) (told lost : List (News Body)) → IsNext (speech_at lens a.spot) acknowledged is_followed is_passed (length gs) a u.lived → FrameFor lens u.lived.spot u.lived.life.stand u.share ds →
+      Tracks weigh most a.spot gs a.life t → (a.life.stand ≡ Stand.Open → IsLive weigh most a.spot gs a.life) → Tracks weigh most a.spot (gs ++ g ∷ []) (behind_by told lost f.fate u.lived u.share) (times_behind u.lived.life.stand (mails_by lens f f.fate u) t)
+  frame_tracks a u t told lost y has k live = subst (λ (spot : Spot). Ends spot) y.spot (go a.life.stand refl)
     where
       Ends : Spot → Type 0
-      Ends spot = Tracks weigh most spot (gs ++ g ∷ []) (life_behind lens recover retry gives (length gs) f f.fate u.lived u.share).life (times_behind u.lived.life.stand (mails_by lens f f.fate u) t)
+      Ends spot = Tracks weigh most spot (gs ++ g ∷ []) (behind_by told lost f.fate u.lived u.share) (times_behind u.lived.life.stand (mails_by lens f f.fate u) t)
 
-      go : (z : Stand) → a.lived.life.stand ≡ z → Ends u.lived.spot
+      go : (z : Stand) → a.life.stand ≡ z → Ends u.lived.spot
       go z e = by f.fate refl
         where
           x : Speech Body Asked Reply
-          x = speech_at lens a.lived.spot
+          x = speech_at lens a.spot
 
-          life : u.lived.life ≡ life_next x acknowledged is_followed is_passed (length gs) a.lived.life z y.next.pick
-          life = y.next.life ∙ ap (λ (s : Stand). life_next x acknowledged is_followed is_passed (length gs) a.lived.life s y.next.pick) e
+          life : u.lived.life ≡ life_next x acknowledged is_followed is_passed (length gs) a.life z y.pick
+          life = y.life ∙ ap (λ (s : Stand). life_next x acknowledged is_followed is_passed (length gs) a.life s y.pick) e
 
           stand : u.lived.life.stand ≡ z
-          stand = ap (λ (l : Life Body Asked Reply). l.stand) life ∙ next_stands weigh most a.lived.spot x gs a.lived.life t y.next.pick z e
+          stand = ap (λ (l : Life Body Asked Reply). l.stand) life ∙ next_stands weigh most a.spot x gs a.life t y.pick z e
 
           tracks : TracksAs weigh most u.lived.spot gs u.lived.life t z
-          tracks = subst (λ (spot : Spot). TracksAs weigh most spot gs u.lived.life t z) (sym y.next.spot)
-              (subst (λ (l : Life Body Asked Reply). TracksAs weigh most a.lived.spot gs l t z) (sym life)
-              (next_tracks weigh most a.lived.spot x gs a.lived.life t y.next.pick z (subst (λ (s : Stand). TracksAs weigh most a.lived.spot gs a.lived.life t s) e k)))
+          tracks = subst (λ (spot : Spot). TracksAs weigh most spot gs u.lived.life t z) (sym y.spot)
+              (subst (λ (l : Life Body Asked Reply). TracksAs weigh most a.spot gs l t z) (sym life)
+              (next_tracks weigh most a.spot x gs a.life t y.pick z (subst (λ (s : Stand). TracksAs weigh most a.spot gs a.life t s) e k)))
 
           alive : z ≡ Stand.Open → IsLive weigh most u.lived.spot gs u.lived.life
-          alive open_ = subst (λ (spot : Spot). IsLive weigh most spot gs u.lived.life) (sym y.next.spot)
-              (subst (λ (l : Life Body Asked Reply). IsLive weigh most a.lived.spot gs l) (sym (life ∙ ap (λ (s : Stand). life_next x acknowledged is_followed is_passed (length gs) a.lived.life s y.next.pick) open_))
-              (next_live weigh most a.lived.spot x gs a.lived.life t y.next.pick (live (e ∙ open_))))
+          alive open_ = subst (λ (spot : Spot). IsLive weigh most spot gs u.lived.life) (sym y.spot)
+              (subst (λ (l : Life Body Asked Reply). IsLive weigh most a.spot gs l) (sym (life ∙ ap (λ (s : Stand). life_next x acknowledged is_followed is_passed (length gs) a.life s y.pick) open_))
+              (next_live weigh most a.spot x gs a.life t y.pick (live (e ∙ open_))))
 
           one : f.fate ≡ Pass → z ≡ Stand.Open → IsOne u.lived.spot.station (seen lens f.back)
-          one pass open_ = one_back lens (seen lens f.sent) (seen lens f.back) ds is (returns pass) u.lived.spot u.share (subst (λ (s : Stand). FrameFor lens u.lived.spot s u.share ds) (stand ∙ open_) y.asked.has)
+          one pass open_ = one_back lens (seen lens f.sent) (seen lens f.back) ds is (returns pass) u.lived.spot u.share (subst (λ (s : Stand). FrameFor lens u.lived.spot s u.share ds) (stand ∙ open_) has)
 
-          by : (fate : Fate) → f.fate ≡ fate → Tracks weigh most u.lived.spot (gs ++ g ∷ []) (life_behind lens recover retry gives (length gs) f fate u.lived u.share).life (times_behind u.lived.life.stand (mails_by lens f fate u) t)
-          by Pass p = subst (λ (s : Stand). BackSo weigh most u.lived.spot (speech_at lens u.lived.spot) recover gs g u.lived.life t (came_at u.share.under u.share.at (seen lens f.back)) s) (sym stand)
-              (back_tracks weigh most u.lived.spot (speech_at lens u.lived.spot) recover gs g u.lived.life t (came_at u.share.under u.share.at (seen lens f.back)) z stand tracks alive (one p))
-          by (Lost after) p = subst (λ (s : Stand). LostSo weigh most u.lived.spot (speech_at lens u.lived.spot) recover gs g u.lived.life t (gives && u.share.under) (seen lens f.sent) s) (sym stand)
-              (lost_tracks weigh most u.lived.spot (speech_at lens u.lived.spot) recover gs g u.lived.life t (gives && u.share.under) (seen lens f.sent) (nothing after p) z stand tracks alive)
+          by : (fate : Fate) → f.fate ≡ fate → Tracks weigh most u.lived.spot (gs ++ g ∷ []) (behind_by told lost fate u.lived u.share) (times_behind u.lived.life.stand (mails_by lens f fate u) t)
+          by Pass p = subst (λ (s : Stand). BackSo weigh most u.lived.spot (speech_at lens u.lived.spot) recover told gs g u.lived.life t (came_at u.share.under u.share.at (seen lens f.back)) s) (sym stand)
+              (back_tracks weigh most u.lived.spot (speech_at lens u.lived.spot) recover told gs g u.lived.life t (came_at u.share.under u.share.at (seen lens f.back)) z stand tracks alive (one p))
+          by (Lost after) p = subst (λ (s : Stand). LostSo weigh most u.lived.spot (speech_at lens u.lived.spot) recover lost gs g u.lived.life t (gives && u.share.under) (seen lens f.sent) s) (sym stand)
+              (lost_tracks weigh most u.lived.spot (speech_at lens u.lived.spot) recover lost gs g u.lived.life t (gives && u.share.under) (seen lens f.sent) (nothing after p) z stand tracks alive)
+
+  -- of a run
+  pub turn_tracks : (a : Leads) (u : Turn) (t : Times) → IsTurn lens (length gs) ds a u → Tracks weigh most a.lived.spot gs a.lived.life t → (a.lived.life.stand ≡ Stand.Open → IsLive weigh most a.lived.spot gs a.lived.life) →
+      Tracks weigh most a.lived.spot (gs ++ g ∷ []) (life_behind lens recover retry gives (length gs) f f.fate u.lived u.share).life (times_behind u.lived.life.stand (mails_by lens f f.fate u) t)
+  turn_tracks a u t y k live =
+      subst (λ (l : Life Body Asked Reply). Tracks weigh most a.lived.spot (gs ++ g ∷ []) l (times_behind u.lived.life.stand (mails_by lens f f.fate u) t)) (same f.fate)
+      (frame_tracks a.lived u t [] [] y.next y.asked.has k live)
+    where
+      same : (fate : Fate) → behind_by [] [] fate u.lived u.share ≡ (life_behind lens recover retry gives (length gs) f fate u.lived u.share).life
+      same Pass = refl
+      same (Lost after) = refl
+
+  -- and of a serving
+  pub serve_tracks : (w : Serves) (v : ServedTurn) (t : Times) → IsServedTurn lens (length gs) ds w v → Tracks weigh most w.lead.lived.spot gs w.lead.lived.life t → (w.lead.lived.life.stand ≡ Stand.Open → IsLive weigh most w.lead.lived.spot gs w.lead.lived.life) →
+      Tracks weigh most w.lead.lived.spot (gs ++ g ∷ []) (served_life lens recover retry gives (length gs) f f.fate v).life (times_behind v.turn.lived.life.stand (mails_by lens f f.fate v.turn) t)
+  serve_tracks w v t y k live =
+      subst (λ (l : Life Body Asked Reply). Tracks weigh most w.lead.lived.spot (gs ++ g ∷ []) l (times_behind v.turn.lived.life.stand (mails_by lens f f.fate v.turn) t)) (same f.fate)
+      (frame_tracks w.lead.lived v.turn t told lost y.next y.asked.has k live)
+    where
+      told : List (News Body)
+      told = news_back v.turn.lived.spot.station v.kept v.counts (seen lens f.back)
+
+      lost : List (News Body)
+      lost = news_lost v.turn.lived.spot.station v.kept (seen lens f.sent)
+
+      same : (fate : Fate) → behind_by told lost fate v.turn.lived v.turn.share ≡ (served_life lens recover retry gives (length gs) f fate v).life
+      same Pass = refl
+      same (Lost after) = refl

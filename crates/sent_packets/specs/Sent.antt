@@ -4,7 +4,7 @@ use Rattle.book_model.specs.Script.{life_started}
 use Rattle.life_runs.specs.Led.{Leads}
 use Rattle.packets_heard.specs.Heard.{Joined}
 use Rattle.segment_plan.specs.declared.slave.SlaveSpec.{SlaveSpec}
-use Rattle.slave_sends.specs.Sends.{all_most}
+use Rattle.sent_packets.specs.Sends.{all_most}
 use Rattle.slave_server.specs.Spec.{profile_of}
 
 -- of each slave they weigh no more, whatever each weighs, than those that its services may make it send

@@ -2,7 +2,6 @@
 //! here does nothing, and its contract states the law.
 #![tactic(auto)]
 
-ghost use Rattle.std.specs.Prelude.{ℕ, List};
 ghost use Rattle.life_runs.specs.First.{lens_of, first_leads};
 ghost use Rattle.life_runs.specs.Led.{Exchanged, Leads, IsLed};
 ghost use Rattle.packets_heard.specs.Heard.{joined_in};
@@ -11,6 +10,12 @@ ghost use Rattle.plan_ring.specs.Round.{ring_of, AllRound};
 ghost use Rattle.segment_plan.specs.Sound.{IsPlan};
 ghost use Rattle.segment_plan.specs.declared.plan.Scenario.{Scenario};
 ghost use Rattle.sent_packets.specs.Sent.{AllSend};
+ghost use Rattle.std.specs.Prelude.{ℕ, List};
+
+pub mod served_packets;
+pub mod slave_sends;
+pub mod switched_runs;
+pub mod switched_servings;
 
 /// WHAT A MASTER JOINED OF A SLAVE'S PACKETS over a run weighs no more, whatever each packet weighs, than what the services that came into hand of it may
 /// make it send: each service makes it send its packet once at most, in whatever epoch, whatever frames are lost and whoever is given up.
@@ -20,5 +25,5 @@ pub fn sent_law()
 {
     plan_ring::run_lives_law();
     packets_heard::packets_law();
-    slave_sends::emits_law();
+    crate::slave_sends::emits_law();
 }

@@ -2,11 +2,14 @@
 //! functions here do nothing, and their contracts state the laws.
 #![tactic(auto)]
 
-ghost use Rattle.std.specs.Prelude.{◌≡◌, ℕ, List, map, All};
-ghost use Rattle.life_runs.specs.of_frame_view.View.{Lens};
 ghost use Rattle.life_runs.specs.Led.{Exchanged, Leads};
+ghost use Rattle.life_runs.specs.of_frame_view.View.{Lens};
 ghost use Rattle.served_places.specs.Places.{MayWait, spot_at};
 ghost use Rattle.served_runs.specs.Served.{Serves, IsServedLed, all_serve};
+ghost use Rattle.std.specs.Prelude.{◌≡◌, ℕ, List, map, All};
+
+pub mod kept_rows;
+pub mod served_tours;
 
 /// EACH SLAVE STAYS AT ITS PLACE over all frames of a serving, whatever is asked of it.
 pub fn places_law()

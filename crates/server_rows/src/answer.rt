@@ -1,29 +1,28 @@
-use anyhow::{Result, bail};
+use crate::telling::tell;
 use mailbox_mail::ReplyKind;
-use service_mails::tell;
+use row_table::Page;
 use slave_app::{Emission, Performed, Reply};
-use std::alloc::Global;
 
 // The line of an error of FoE: a code of two octets, as all that are known, or of four.
-fn tell_foe<P: Print>(rt: &P, alloc: Global, code: u32) -> Result<()> {
+fn tell_foe(page: &mut Page, code: u32) {
     match u16::try_from(code) {
-        Ok(short) => tell(rt, alloc, "foe", &short.to_be_bytes()),
-        Err(_) => tell(rt, alloc, "foe", &code.to_be_bytes()),
+        Ok(short) => tell(page, "foe", &short.to_be_bytes()),
+        Err(_) => tell(page, "foe", &code.to_be_bytes()),
     }
 }
 
 // The line of a reply.
-fn tell_reply<P: Print>(rt: &P, alloc: Global, reply: &Reply) -> Result<()> {
+fn tell_reply(page: &mut Page, reply: &Reply) {
     match reply.kind {
-        ReplyKind::Done => tell(rt, alloc, "done", &[]),
-        ReplyKind::Value => tell(rt, alloc, "value", reply.value.bytes()),
-        ReplyKind::Abort(code) => tell(rt, alloc, "abort", &code.to_be_bytes()),
-        ReplyKind::FoeError(code) => tell_foe(rt, alloc, code),
-        ReplyKind::SoeError(code) => tell(rt, alloc, "soe", &code.to_be_bytes()),
-        ReplyKind::EoeResult(code) => tell(rt, alloc, "eoe", &code.to_be_bytes()),
-        ReplyKind::MailboxError(detail) => tell(rt, alloc, "mailbox", &detail.to_be_bytes()),
-        ReplyKind::StateRefused(code) => tell(rt, alloc, "refused", &code.to_be_bytes()),
-        ReplyKind::Handed => tell(rt, alloc, "handed", &[]),
+        ReplyKind::Done => tell(page, "done", &[]),
+        ReplyKind::Value => tell(page, "value", reply.value.bytes()),
+        ReplyKind::Abort(code) => tell(page, "abort", &code.to_be_bytes()),
+        ReplyKind::FoeError(code) => tell_foe(page, code),
+        ReplyKind::SoeError(code) => tell(page, "soe", &code.to_be_bytes()),
+        ReplyKind::EoeResult(code) => tell(page, "eoe", &code.to_be_bytes()),
+        ReplyKind::MailboxError(detail) => tell(page, "mailbox", &detail.to_be_bytes()),
+        ReplyKind::StateRefused(code) => tell(page, "refused", &code.to_be_bytes()),
+        ReplyKind::Handed => tell(page, "handed", &[]),
     }
 }
 
@@ -37,12 +36,11 @@ fn words_of(emission: &Option<Emission>) -> (&'static str, &[u8]) {
 }
 
 // The line of what a slave sends of itself.
-fn tell_emission<P: Print>(rt: &P, alloc: Global, emission: &Option<Emission>) -> Result<()> {
+fn tell_emission(page: &mut Page, emission: &Option<Emission>) {
     let (word, octets) = words_of(emission);
-    if word.is_empty() {
-        return Ok(());
+    if !word.is_empty() {
+        tell(page, word, octets);
     }
-    tell(rt, alloc, word, octets)
 }
 
 // Whether two replies are the same.
@@ -58,14 +56,9 @@ fn is_same_emission(one: &Option<Emission>, other: &Option<Emission>) -> bool {
 }
 
 /// Tells what a service came to by its mails, which has to be what it came to as a whole.
-pub fn agree<P: Print>(rt: &P, alloc: Global, mails: &Performed, whole: &Performed) -> Result<()> {
-    tell_reply(rt, alloc, &mails.reply)?;
-    tell_emission(rt, alloc, &mails.emission)?;
-    if !is_same_reply(&mails.reply, &whole.reply) {
-        bail!("as a whole it has another reply");
-    }
-    if !is_same_emission(&mails.emission, &whole.emission) {
-        bail!("as a whole it sends something else");
-    }
-    Ok(())
+pub fn agree(page: &mut Page, mails: &Performed, whole: &Performed) {
+    tell_reply(page, &mails.reply);
+    tell_emission(page, &mails.emission);
+    page.check(is_same_reply(&mails.reply, &whole.reply));
+    page.check(is_same_emission(&mails.emission, &whole.emission));
 }

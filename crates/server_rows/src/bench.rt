@@ -3,17 +3,17 @@ ghost use Rattle.segment_plan.specs.Sound.{IsSlave, IsAddressed, IsPacket, IsLai
 ghost use Rattle.slave_app.specs.Meaning.{IsPerformable};
 
 use crate::answer::agree;
+use crate::asking::{ask_file, ask_idn, ask_sdo, tell_file, tell_idn};
+use crate::desk::Desk;
 use crate::emission::emission_in;
+use crate::ether::{ask_block, tell_block, tell_packet};
 use crate::state::tell_state;
-use anyhow::{Result, bail};
 use ec_fields::{Octets, Rows, buffer_of};
 use eoe::Packet;
 use mailbox_mail::Mail;
+use row_table::Page;
 use scenario::read;
 use segment_plan::{Scenario, Service, SlaveSpec};
-use service_mails::{
-    Desk, ask_block, ask_file, ask_idn, ask_sdo, tell_block, tell_file, tell_idn, tell_packet,
-};
 use slave_app::{App, Performed, Reply};
 use slave_node::Services;
 use slave_server::server_of;
@@ -27,11 +27,11 @@ struct Bench {
     frame: u8,
 }
 
-fn desk_of(alloc: Global, spec: &SlaveSpec) -> Result<Desk>
+fn desk_of(alloc: Global, spec: &SlaveSpec) -> Option<Desk>
     requires { IsSlave spec.now }
 {
-    let server = server_of(alloc, spec)?;
-    Ok(Desk {
+    let server = server_of(alloc, spec).ok()?;
+    Some(Desk {
         alloc,
         server,
         out_len: spec.out_len,
@@ -41,12 +41,12 @@ fn desk_of(alloc: Global, spec: &SlaveSpec) -> Result<Desk>
     })
 }
 
-fn bench_of(alloc: Global, spec: &SlaveSpec) -> Result<Bench>
+fn bench_of(alloc: Global, spec: &SlaveSpec) -> Option<Bench>
     requires { IsSlave spec.now }
 {
     let desk = desk_of(alloc, spec)?;
-    let app = App::new(alloc, spec)?;
-    Ok(Bench {
+    let app = App::new(alloc, spec).ok()?;
+    Some(Bench {
         desk,
         app,
         frame: 0,
@@ -54,35 +54,44 @@ fn bench_of(alloc: Global, spec: &SlaveSpec) -> Result<Bench>
 }
 
 // A service as a whole.
-fn performed(app: &mut App, alloc: Global, service: &Service) -> Result<Performed>
+fn performed(app: &mut App, alloc: Global, service: &Service) -> Option<Performed>
     requires { IsPerformable service.now }
 {
     if app.handled == u64::MAX {
-        bail!("too many services");
+        return None;
     }
-    Ok(app.perform(alloc, service)?)
+    app.perform(alloc, service).ok()
+}
+
+// A change of the AL state by its words.
+fn stated(page: &mut Page, al: u8, boot: bool, target: u8) -> Option<Reply> {
+    let kind = tell_state(page, al, boot, target)?;
+    let value = Octets::new(page.alloc());
+    Some(Reply { kind, value })
 }
 
 // A service by its mails, in this AL state and with the number of the next packet's frame.
-fn asked<P: Print>(
-    rt: &P,
+fn asked(
+    page: &mut Page,
     desk: &mut Desk,
     (al, boot, frame): (u8, bool, u8),
     service: &Service,
     sent: &mut Rows<Mail>,
-) -> Result<Reply> {
+) -> Option<Reply> {
     match service {
-        Service::Sdo(sdo) => ask_sdo(rt, desk, al, sdo, sent),
-        Service::ReadFile { name, pass } => ask_file(rt, desk, al, (name.as_slice(), *pass), sent),
+        Service::Sdo(sdo) => ask_sdo(page, desk, al, sdo, sent),
+        Service::ReadFile { name, pass } => {
+            ask_file(page, desk, al, (name.as_slice(), *pass), sent)
+        }
         Service::WriteFile { name, pass, bytes } => {
             let file = (name.as_slice(), *pass, bytes.bytes());
-            tell_file(rt, desk, al, file, sent)
+            tell_file(page, desk, al, file, sent)
         }
         Service::ReadIdn {
             drive,
             idn,
             elements,
-        } => ask_idn(rt, desk, al, (*drive, *idn, *elements), sent),
+        } => ask_idn(page, desk, al, (*drive, *idn, *elements), sent),
         Service::WriteIdn {
             drive,
             idn,
@@ -90,15 +99,12 @@ fn asked<P: Print>(
             bytes,
         } => {
             let element = (*drive, *idn, *elements, bytes.bytes());
-            tell_idn(rt, desk, al, element, sent)
+            tell_idn(page, desk, al, element, sent)
         }
-        Service::SetIp { block } => tell_block(rt, desk, al, block.bytes(), sent),
-        Service::GetIp => ask_block(rt, desk, al, sent),
-        Service::State { target } => Ok(Reply {
-            kind: tell_state(rt, desk.alloc, al, boot, *target)?,
-            value: Octets::new(desk.alloc),
-        }),
-        Service::Forward(packet) => tell_packet(rt, desk, al, (packet, frame), sent),
+        Service::SetIp { block } => tell_block(page, desk, al, block.bytes(), sent),
+        Service::GetIp => ask_block(page, desk, al, sent),
+        Service::State { target } => stated(page, al, boot, *target),
+        Service::Forward(packet) => tell_packet(page, desk, al, (packet, frame), sent),
     }
 }
 
@@ -109,54 +115,50 @@ fn is_packet(service: &Service) -> bool {
 
 impl Bench {
     // A service by its mails: its reply, and what the slave sends of itself.
-    fn by_mails<P: Print>(&mut self, rt: &P, service: &Service) -> Result<Performed> {
+    fn by_mails(&mut self, page: &mut Page, service: &Service) -> Option<Performed> {
         let mut sent = Rows::new(self.desk.alloc);
         let asks = (self.app.al, self.app.boot, self.frame);
-        let reply = asked(rt, &mut self.desk, asks, service, &mut sent)?;
-        let emission = emission_in(sent.as_slice())?;
-        Ok(Performed { reply, emission })
+        let reply = asked(page, &mut self.desk, asks, service, &mut sent)?;
+        let emission = emission_in(page, sent.as_slice());
+        Some(Performed { reply, emission })
     }
 
     // A service by its mails, and as a whole.
-    fn both<P: Print>(&mut self, rt: &P, service: &Service) -> Result<()>
+    fn both(&mut self, page: &mut Page, service: &Service)
         requires { IsPerformable service.now }
     {
-        let alloc = self.desk.alloc;
-        let mails = self.by_mails(rt, service)?;
-        let whole = performed(&mut self.app, alloc, service)?;
+        let Some(mails) = self.by_mails(page, service) else {
+            return page.fail();
+        };
+        let Some(whole) = performed(&mut self.app, page.alloc(), service) else {
+            return page.fail();
+        };
         if is_packet(service) {
             self.frame = (self.frame % 16 + 1) % 16;
         }
-        agree(rt, alloc, &mails, &whole)?;
-        if self.desk.server.handled() != self.app.handled {
-            bail!("as a whole it counts otherwise");
-        }
-        Ok(())
+        agree(page, &mails, &whole);
+        page.check(self.desk.server.handled() == self.app.handled);
     }
 
     // Services, one after the other.
     #[tactic(auto, using(crate::proofs::Performable::performable))]
-    fn services<P: Print>(&mut self, rt: &P, slaves: usize, rows: &[(u32, Service)]) -> Result<()>
+    fn services(&mut self, page: &mut Page, slaves: usize, rows: &[(u32, Service)])
         requires { All (IsAddressed slaves) rows.now }
     {
         for (slave, service) in rows {
-            if *slave != 0 {
-                bail!("a service of another slave");
-            }
-            self.both(rt, service)?;
+            page.check(*slave == 0);
+            self.both(page, service);
         }
-        Ok(())
     }
 
     // Packets, one after the other.
-    fn packets<P: Print>(&mut self, rt: &P, rows: &[Packet]) -> Result<()>
+    fn packets(&mut self, page: &mut Page, rows: &[Packet])
         requires { All IsPacket rows.now }
     {
         for packet in rows {
             let service = Service::Forward(buffer_of(packet.as_slice()));
-            self.both(rt, &service)?;
+            self.both(page, &service);
         }
-        Ok(())
     }
 }
 
@@ -168,55 +170,30 @@ fn first(slaves: &[SlaveSpec]) -> Option<&SlaveSpec>
     slaves.first()
 }
 
-// Services, and packets behind them.
-fn follow_rows<P: Print>(
-    rt: &P,
-    bench: &mut Bench,
-    slaves: usize,
-    services: &[(u32, Service)],
-    packets: &[Packet],
-) -> Result<()>
-    requires services { All (IsAddressed slaves) services.now }
-    requires packets { All IsPacket packets.now }
+// A bench of the first slave of a plan.
+fn bench_for(alloc: Global, plan: &Scenario) -> Option<Bench>
+    requires { IsLaid plan.now }
 {
-    bench.services(rt, slaves, services)?;
-    bench.packets(rt, packets)
-}
-
-// The same at a slave.
-fn follow_slave<P: Print>(
-    rt: &P,
-    alloc: Global,
-    spec: &SlaveSpec,
-    slaves: usize,
-    services: &[(u32, Service)],
-    packets: &[Packet],
-) -> Result<()>
-    requires slave { IsSlave spec.now }
-    requires services { All (IsAddressed slaves) services.now }
-    requires packets { All IsPacket packets.now }
-{
-    let mut bench = bench_of(alloc, spec)?;
-    follow_rows(rt, &mut bench, slaves, services, packets)
+    let spec = first(plan.slaves.as_slice())?;
+    bench_of(alloc, spec)
 }
 
 // The services of a plan at its first slave.
-fn follow_plan<P: Print>(rt: &P, alloc: Global, plan: &Scenario) -> Result<()>
+fn follow_plan(page: &mut Page, plan: &Scenario)
     requires { IsLaid plan.now }
 {
-    let slaves = plan.slaves.as_slice();
-    let services = plan.services.as_slice();
-    let packets = plan.host.as_slice();
-    match first(slaves) {
-        None => bail!("no slave"),
-        Some(spec) => follow_slave(rt, alloc, spec, slaves.len(), services, packets),
-    }
+    let Some(mut bench) = bench_for(page.alloc(), plan) else {
+        return page.fail();
+    };
+    let slaves = plan.slaves.len();
+    bench.services(page, slaves, plan.services.as_slice());
+    bench.packets(page, plan.host.as_slice());
 }
 
 /// The services and the host's packets of a scenario at its first slave, each by its mails and as a whole: a line tells each mail and each answer.
-pub fn follow<P: Print>(rt: &P, alloc: Global, octets: &[u8]) -> Result<()> {
-    match read(alloc, octets) {
-        Ok(plan) => follow_plan(rt, alloc, &plan),
-        Err(_) => bail!("no scenario"),
+pub fn follow(page: &mut Page, octets: &[u8]) {
+    match read(page.alloc(), octets) {
+        Ok(plan) => follow_plan(page, &plan),
+        Err(_) => page.fail(),
     }
 }

@@ -4,35 +4,42 @@
 #![tactic(auto)]
 
 mod answer;
+mod asking;
 mod bench;
+mod client;
+mod desk;
 mod emission;
+mod ether;
 mod state;
+mod telling;
 
-use anyhow::{Result, bail};
+use anyhow::Result;
 use bench::follow;
 use ec_fields::Octets;
 use ec_outside::{DiskFiles, Files, Loaded};
-use std::alloc::Global;
+use row_table::Page;
 use std::env;
 
 /// The most octets that a scenario may have.
 const LIMIT: usize = 16_777_216;
 
-// The octets of a scenario.
-fn scenario<F: Files>(alloc: Global, name: &str, files: &mut F) -> Result<Octets> {
-    let mut octets = Octets::new(alloc);
+// The services of a scenario, behind a line with its name.
+fn tell_scenario<F: Files>(page: &mut Page, files: &mut F, name: &str) {
+    page.put(name);
+    page.put("\n");
+    let mut octets = Octets::new(page.alloc());
     match files.load(name, LIMIT, &mut octets) {
-        Ok(Loaded::Found) => Ok(octets),
-        _ => bail!("{name} isn't loaded"),
+        Ok(Loaded::Found) => follow(page, octets.bytes()),
+        _ => page.fail(),
     }
 }
 
 fn main(rt: HostRuntime) -> Result<()> {
     let mut files = DiskFiles::new(&rt);
     for word in env::args(&rt)?.skip(1) {
-        println!(rt; "{word}")?;
-        let octets = scenario(rt.alloc(), word.as_str(), &mut files)?;
-        follow(&rt, rt.alloc(), octets.bytes())?;
+        let mut page = Page::new(rt.alloc());
+        tell_scenario(&mut page, &mut files, word.as_str());
+        page.print(&rt)?;
     }
     Ok(())
 }

@@ -1,8 +1,7 @@
+use crate::telling::tell;
 use al_state::{Al, Climb, ClimbNext};
-use anyhow::{Result, bail};
 use mailbox_mail::ReplyKind;
-use service_mails::tell;
-use std::alloc::Global;
+use row_table::Page;
 
 /// The AL status code of a slave without an error.
 const NO_ERROR: u16 = 0;
@@ -20,48 +19,36 @@ fn status_of(al: Al) -> u16 {
 }
 
 // The AL status that a master reads, with its code two octets behind it.
-fn tell_status<P: Print>(rt: &P, alloc: Global, status: u16, code: u16) -> Result<()> {
+fn tell_status(page: &mut Page, status: u16, code: u16) {
     let [low, high] = status.to_le_bytes();
     let [code_low, code_high] = code.to_le_bytes();
-    tell(rt, alloc, "<", &[low, high, 0, 0, code_low, code_high])
+    tell(page, "<", &[low, high, 0, 0, code_low, code_high]);
 }
 
 // One step of a master that asks for an AL state, and of the slave that is asked: the reply where it is the last.
-fn step<P: Print>(
-    rt: &P,
-    alloc: Global,
-    boot: bool,
-    climb: &mut Climb,
-    al: &mut Al,
-) -> Result<Option<ReplyKind>> {
+fn step(page: &mut Page, boot: bool, climb: &mut Climb, al: &mut Al) -> Option<ReplyKind> {
     match al_state::next(climb) {
         ClimbNext::Write(word) => {
-            tell(rt, alloc, ">", &word.to_le_bytes())?;
+            tell(page, ">", &word.to_le_bytes());
             let _asked = al_state::request(al, word, boot, true);
             al_state::written(climb);
-            Ok(None)
+            None
         }
         ClimbNext::ReadStatus => {
             let status = status_of(*al);
-            tell_status(rt, alloc, status, al.error)?;
+            tell_status(page, status, al.error);
             al_state::status(climb, status, al.error);
-            Ok(None)
+            None
         }
-        ClimbNext::Arrived => Ok(Some(ReplyKind::Done)),
-        ClimbNext::Refused(code) => Ok(Some(ReplyKind::StateRefused(code))),
+        ClimbNext::Arrived => Some(ReplyKind::Done),
+        ClimbNext::Refused(code) => Some(ReplyKind::StateRefused(code)),
     }
 }
 
-/// A change of the AL state, by its words.
-pub fn tell_state<P: Print>(
-    rt: &P,
-    alloc: Global,
-    al: u8,
-    boot: bool,
-    target: u8,
-) -> Result<ReplyKind> {
+/// A change of the AL state, by its words, where the slave isn't opened again for it.
+pub fn tell_state(page: &mut Page, al: u8, boot: bool, target: u8) -> Option<ReplyKind> {
     if target == 1 || target == 3 {
-        bail!("a slave that is opened again");
+        return None;
     }
     let mut climb = al_state::climb_new(al, target);
     let mut al = Al {
@@ -69,9 +56,9 @@ pub fn tell_state<P: Print>(
         error: NO_ERROR,
     };
     for _ in 0..STEPS {
-        if let Some(kind) = step(rt, alloc, boot, &mut climb, &mut al)? {
-            return Ok(kind);
+        if let Some(kind) = step(page, boot, &mut climb, &mut al) {
+            return Some(kind);
         }
     }
-    bail!("the state doesn't come")
+    None
 }

@@ -12,7 +12,8 @@ use Rattle.state_law.specs.Shows.{slave_table}
 use Rattle.state_law.proofs.Tables.{is_table}
 use Rattle.slave_steps.specs.Node as Running
 use Rattle.life_model.specs.Lives.{Spot}
-use Rattle.life_model.specs.Eras.{EraIs, opened_slave}
+use Rattle.life_model.specs.Eras.{EraIs, planned, opened_slave}
+use Rattle.life_model.specs.of_task_model.Tasks.{IsTaskPlan}
 use Rattle.life_model.proofs.Eras as Eras
 use Rattle.slave_lives.specs.Opening.{Plan}
 use Rattle.slave_lives.specs.Lived.{Behind, IsBehind, table_of, node_seen, OpensEra, opened_era, BegunEra}
@@ -28,7 +29,7 @@ module _ {S V A Q R : Type 0} (w : Behind S V A Q R) (is : IsBehind w) (stated :
   seen_waits al s none = none_waits (w.sees al s).waiting (sym ((is.served.seen al).next s) ∙ ap (option_map (λ m. let b : Body = Ok (uncounted m) in b)) none)
 
   -- what is seen in a state was told it
-  seen_state : (al : ℕ) (s : S) → w.states.state (w.exchange.app (w.sees al s).server) ≡ al
+  pub seen_state : (al : ℕ) (s : S) → w.states.state (w.exchange.app (w.sees al s).server) ≡ al
   seen_state al s =
       let v = (w.sees al s).server in
       let told : w.states.tell al v ≡ v = sym (tells al v) ∙ ap (λ (x : Serving V Body). x.server) (is.served.told al al s) in
@@ -42,23 +43,22 @@ module _ {S V A Q R : Type 0} (w : Behind S V A Q R) (is : IsBehind w) (stated :
       ap w.exchange.app (sym told) ∙ stated.app to v
 
   -- the state that is opened isn't Init
-  not_init : {start : ℕ} → (start ≡ 2) ⊎ ((start ≡ 3) × (w.boot ≡ true)) → start ≡ 1 → ⊥
+  pub not_init : {start : ℕ} → (start ≡ 2) ⊎ ((start ≡ 3) × (w.boot ≡ true)) → start ≡ 1 → ⊥
   not_init (inl two) init = let no : 2 ≡ 1 = sym two ∙ init in cc
   not_init (inr three) init = let no : 3 ≡ 1 = sym three.0 ∙ init in cc
 
-  pub begun : (p : Plan) (spot : Spot) (al0 : ℕ) (cleared : Option ℕ) (opened : ℕ) (fs : List (Frame Body)) (n : Running.Node S) → length fs ≡ suc opened → (cleared ≡ None → p.start ≡ spot.start) → OpensEra w p spot n → BegunEra w p spot al0 cleared opened fs n
-  begun p spot al0 cleared opened fs n frames start o =
+  -- the server of a node as its session has it
+  abbrev pub server_seen : Running.Node S → V
+  server_seen n = (w.sees (registers_seen n.registers).state n.server).server
+
+  -- THE PLAN of its session: the registers and the server as the opening left them
+  pub opens_plan : (p : Plan) (spot : Spot) (n : Running.Node S) → OpensEra w p spot n → IsTaskPlan w.exchange w.states w.processor (table_of w) (planned spot (server_seen n) (registers_seen n.registers) ∷ [])
+  opens_plan p spot n o =
       let al = (registers_seen n.registers).state in
-      let v = (w.sees al n.server).server in
-      let r = registers_seen n.registers in
       let state : al ≡ p.start = o.opened.state in
-      let none = seen_waits al n.server o.waits in
-      let knows : w.states.state (w.exchange.app v) ≡ al = seen_state al n.server in
       let sits : slave_table w.boot true al al ≡ None = allowed w.boot al al (subst (λ (x : ℕ). (x ≡ 2) ⊎ ((x ≡ 3) × (w.boot ≡ true))) (sym state) o.plan.start) (inr refl) in
-      let here : r.station ≡ spot.station = o.opened.station ∙ o.station in
-      let ready : w.exchange.ready v ≡ true = ap (λ (a : ℕ). w.exchange.ready (w.sees a n.server).server) state ∙ o.ready in
-      let begins = Eras.era_begins {M = Body} {Q = Q} {R = R} w.exchange w.states w.processor (table_of w) spot cleared opened fs v r frames
-      (record {
+      let ready : w.exchange.ready (server_seen n) ≡ true = ap (λ (a : ℕ). w.exchange.ready (w.sees a n.server).server) state ∙ o.ready in
+      record {
         plan = record { stations = (tt, tt); ready = (ready, tt) };
         apart = ((tt, tt), tt);
         tells = tells;
@@ -69,15 +69,30 @@ module _ {S V A Q R : Type 0} (w : Behind S V A Q R) (is : IsBehind w) (stated :
               control = λ word e. ap (λ (x : ℕ × Bool). x.0) (o.opened.word word e) ∙ sym state;
               refused = o.opened.refused;
               sits = is_table w.boot true al sits;
-              state = knows;
+              state = seen_state al n.server;
             },
           ),
           tt,
         );
-      }) here in
-      let slave : node_seen w n ≡ opened_slave Body Q R spot v r =
-      ap (λ (x : Node Body S). let t : Slave V Body = record { node = record { out = x.out; inn = x.inn; server = w.sees al n.server }; registers = r } in t) o.opened.node
-      ∙ ap (λ (ms : List Body). let t : Slave V Body = record { node = (new_link {B = Body} (let sv : Serving V Body = record { server = v; waiting = ms } in sv)).node; registers = r } in t) none in
+      }
+
+  -- THE SLAVE: both mailboxes empty
+  pub opens_slave : (p : Plan) (spot : Spot) (n : Running.Node S) → OpensEra w p spot n → node_seen w n ≡ opened_slave Body Q R spot (server_seen n) (registers_seen n.registers)
+  opens_slave p spot n o =
+      let r = registers_seen n.registers in
+      let none = seen_waits r.state n.server o.waits in
+      ap (λ (x : Node Body S). let t : Slave V Body = record { node = record { out = x.out; inn = x.inn; server = w.sees r.state n.server }; registers = r } in t) o.opened.node
+      ∙ ap (λ (ms : List Body). let t : Slave V Body = record { node = (new_link {B = Body} (let sv : Serving V Body = record { server = server_seen n; waiting = ms } in sv)).node; registers = r } in t) none
+
+  pub begun : (p : Plan) (spot : Spot) (al0 : ℕ) (cleared : Option ℕ) (opened : ℕ) (fs : List (Frame Body)) (n : Running.Node S) → length fs ≡ suc opened → (cleared ≡ None → p.start ≡ spot.start) → OpensEra w p spot n → BegunEra w p spot al0 cleared opened fs n
+  begun p spot al0 cleared opened fs n frames start o =
+      let al = (registers_seen n.registers).state in
+      let v = server_seen n in
+      let r = registers_seen n.registers in
+      let state : al ≡ p.start = o.opened.state in
+      let knows : w.states.state (w.exchange.app v) ≡ al = seen_state al n.server in
+      let here : r.station ≡ spot.station = o.opened.station ∙ o.station in
+      let begins = Eras.era_begins {M = Body} {Q = Q} {R = R} w.exchange w.states w.processor (table_of w) spot cleared opened fs v r frames (opens_plan p spot n o) here in
       record {
         lives = record {
           opened = opened;
@@ -87,7 +102,7 @@ module _ {S V A Q R : Type 0} (w : Behind S V A Q R) (is : IsBehind w) (stated :
           up = λ init. not_init o.plan.start (sym (knows ∙ state) ∙ init);
           first = λ none. state ∙ start none;
           before = omega (arith, frames);
-          is = subst (λ t. EraIs w.exchange w.states w.processor (table_of w) spot (opened_era {Q = Q} {R = R} cleared opened) opened (length fs) fs v r t) (sym slave) begins;
+          is = subst (λ t. EraIs w.exchange w.states w.processor (table_of w) spot (opened_era {Q = Q} {R = R} cleared opened) opened (length fs) fs v r t) (sym (opens_slave p spot n o)) begins;
           opens = o.opened.opens;
           station = here;
           stands = o.opened.stands;

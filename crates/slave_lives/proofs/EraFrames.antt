@@ -69,7 +69,7 @@ among_not zero (suc count) e = absurd (cc)
 among_not (suc place) (suc count) e = let m = among_not place count e in omega (arith, m)
 
 -- a frame leaves where the return to Init was seen
-after_cleared : {M Q R : Type 0} (x : Speech M Q R) (acknowledged : Q → Bool) (more : M → Bool) (passed : Q → Bool) (station frame : ℕ) (news : List (News M)) (sent : List (Datagram M)) (fate : RingFate) (back : List (Datagram M)) (e : Era M Q R) →
+pub after_cleared : {M Q R : Type 0} (x : Speech M Q R) (acknowledged : Q → Bool) (more : M → Bool) (passed : Q → Bool) (station frame : ℕ) (news : List (News M)) (sent : List (Datagram M)) (fate : RingFate) (back : List (Datagram M)) (e : Era M Q R) →
     (era_after x acknowledged more passed station frame news sent fate back e).cleared ≡ e.cleared
 after_cleared x acknowledged more passed station frame news sent RingFate.Back back e = refl
 after_cleared x acknowledged more passed station frame news sent (RingFate.Lost after) back e = refl
@@ -94,7 +94,7 @@ module _ {V : Type 0} (station place : ℕ) (s : Slave V Body) (ds : List (Datag
 
 -- A NODE AND A FRAME that comes to it
 module _ {S V A Q R : Type 0} (w : Behind S V A Q R) (is_behind : IsBehind w) where
-  abbrev views : Running.Node S → Slave V Body
+  abbrev pub views : Running.Node S → Slave V Body
   views n = node_seen w n
 
   same_state : (r q : Esc.Registers) → FrameKeeps r q → (registers_seen q).state ≡ (registers_seen r).state
@@ -155,16 +155,16 @@ module _ {S V A Q R : Type 0} (w : Behind S V A Q R) (is_behind : IsBehind w) wh
   steps_none n opens stands runs = record { ring = λ station. refl; opens = opens; station = refl; stands = stands; runs = runs; boot = refl }
 
   -- behind the frame and the step, in one ring of its own
-  record TurnsOpen (spot : Spot) (n m : Running.Node S) (before : List (Running.Node S)) (behind : List (Running.Node S)) (ds : List Raw.Datagram) (fate : Fate) (steps : List ℕ) : Type 0 where
-    ring : ring_steps w.exchange w.processor (ring_after ((spot.station, views n) ∷ []) (own spot.station (datagrams_seen w.lens ds)) (own_fate spot.place (fate_seen fate))) steps ≡ (spot.station, views m) ∷ []
-    back : ring_back ((spot.station, views n) ∷ []) (own spot.station (datagrams_seen w.lens ds)) (own_fate spot.place (fate_seen fate)) ≡ own spot.station (datagrams_seen w.lens (returned fate before n behind ds))
-    opens : IsOpen w.lens m.registers
-    station : m.registers.station ≡ spot.station
-    stands : Stands (in_side m.kept m.registers)
-    runs : IsRunning w.running m
-    boot : m.boot ≡ w.boot
+  pub record TurnsOpen (spot : Spot) (n m : Running.Node S) (before : List (Running.Node S)) (behind : List (Running.Node S)) (ds : List Raw.Datagram) (fate : Fate) (steps : List ℕ) : Type 0 where
+    pub ring : ring_steps w.exchange w.processor (ring_after ((spot.station, views n) ∷ []) (own spot.station (datagrams_seen w.lens ds)) (own_fate spot.place (fate_seen fate))) steps ≡ (spot.station, views m) ∷ []
+    pub back : ring_back ((spot.station, views n) ∷ []) (own spot.station (datagrams_seen w.lens ds)) (own_fate spot.place (fate_seen fate)) ≡ own spot.station (datagrams_seen w.lens (returned fate before n behind ds))
+    pub opens : IsOpen w.lens m.registers
+    pub station : m.registers.station ≡ spot.station
+    pub stands : Stands (in_side m.kept m.registers)
+    pub runs : IsRunning w.running m
+    pub boot : m.boot ≡ w.boot
 
-  abbrev steps_of : Bool → List ℕ
+  abbrev pub steps_of : Bool → List ℕ
   steps_of pace = if pace then 0 ∷ [] else []
 
   module _ (spot : Spot) (n : Running.Node S) (before : List (Running.Node S)) (behind : List (Running.Node S)) (ds : List Raw.Datagram) (place : length before ≡ spot.place) (here : n.registers.station ≡ spot.station) where
@@ -199,7 +199,7 @@ module _ {S V A Q R : Type 0} (w : Behind S V A Q R) (is_behind : IsBehind w) wh
       stands : Stands (in_side (met c n (come_to before ds)).kept (met c n (come_to before ds)).registers)
       boot : (met c n (come_to before ds)).boot ≡ n.boot
 
-    turns_open : (fate : Fate) (b pace : Bool) → is_met_at (length before) fate ≡ b → n.boot ≡ w.boot → IsOpen w.lens n.registers → Stands (in_side n.kept n.registers) → IsRunning w.running n → (b ≡ true → IsForOpen before n behind ds) →
+    pub turns_open : (fate : Fate) (b pace : Bool) → is_met_at (length before) fate ≡ b → n.boot ≡ w.boot → IsOpen w.lens n.registers → Stands (in_side n.kept n.registers) → IsRunning w.running n → (b ≡ true → IsForOpen before n behind ds) →
         (let m = met b n (come_to before ds) in (pace ≡ true → StepsUp w m) →
         TurnsOpen spot n (if pace then stepped w.running m else m) before behind ds fate (steps_of pace))
     turns_open fate b pace e boot opens stands runs f up = go b pace e f up

@@ -104,7 +104,7 @@ reads_none {M} station (d ∷ ds) reads none = go (is_for station d.address) ref
     go false e none (inr reads) again = again reads none
 
 module _ {S V A Q R : Type 0} (w : Behind S V A Q R) (is : IsBehind w) (more : Body → Bool) (passed : Q → Bool) where
-  asks_none : (spot : Spot) (e : Era Body Q R) (sent : List (Datagram Body)) → own spot.station sent ≡ [] → AsksOpen spot.station e sent
+  pub asks_none : (spot : Spot) (e : Era Body Q R) (sent : List (Datagram Body)) → own spot.station sent ≡ [] → AsksOpen spot.station e sent
   asks_none spot e sent none = record {
     halves = subst (λ ds. IsFrameFor spot.station e.side.halves (grams ds)) (sym none) IsSent.nothing;
     served = subst (λ ds. IsServed spot.station (duty_access e.account.hand) ds) (sym none) IsServed.nothing;

@@ -10,14 +10,14 @@ use Rattle.exchange_sum.specs.Refusing.{Refusal}
 use Rattle.exchange_sum.specs.Sides.{Slave}
 use Rattle.exchange_sum.proofs.Refusals.{all_taken}
 use Rattle.serving_model.specs.Tagged.{IsServed}
-use Rattle.serving_sum.specs.Whole.{refusing_whole, gated_whole, IsRefusedWhole}
-use Rattle.serving_sum.specs.Sides.{IsWholeSide, joined_whole}
-use Rattle.serving_sum.proofs.JoinedLaw.{plain_whole, mine_full, mine_part, told_full, told_part}
+use Rattle.slave_served.specs.Whole.{refusing_whole, gated_whole, IsRefusedWhole}
+use Rattle.slave_served.specs.Sides.{IsWholeSide, joined_whole}
+use Rattle.slave_served.proofs.JoinedLaw.{plain_whole, mine_full, mine_part, told_full, told_part}
 use Rattle.soe_model.specs.Elements.{Elements, AreLawful}
 use Rattle.soe_model.specs.Mails.{is_emission}
 use Rattle.soe_model.specs.Client.{ends}
-use Rattle.soe_served.specs.Served.{soe_served}
-use Rattle.soe_served.proofs.ServedLaw.{kept, soe_is_served}
+use Rattle.slave_served.specs.SoeServed.{soe_served}
+use Rattle.slave_served.proofs.ServedLaw.{kept, soe_is_served}
 
 module _ {S : Type 0} (o : Elements S) (lawful : AreLawful o) (areas : Areas) (sized : AreMailboxes areas) where
   pub soe_last : AnswersLast (soe_served o areas) (λ q. false)

@@ -18,10 +18,10 @@ use Rattle.eoe_model.specs.Octets as EoeOctets
 use Rattle.eoe_model.specs.Network.{Station}
 use Rattle.eoe_model.specs.Server.{sends, delivered}
 use Rattle.eoe_model.specs.Echo.{echo_of}
-use Rattle.coe_served.proofs.Keeping as Coe
-use Rattle.eoe_served.proofs.Keeping as Eoe
-use Rattle.foe_served.specs.Served.{has_its_room}
-use Rattle.foe_served.proofs.Passes as Foe
+use Rattle.slave_served.proofs.Keeping as Coe
+use Rattle.slave_served.proofs.EoeKeeping as Eoe
+use Rattle.slave_served.specs.FoeServed.{has_its_room}
+use Rattle.slave_served.proofs.Passes as Foe
 use Rattle.exchange_sum.specs.Refusing.{gated, refused_serve}
 use Rattle.slave_model.specs.Profile.{Protocol, Profile, IsProfile, serves, areas_of}
 use Rattle.slave_model.specs.Application.{Core, Parts, ArePartsLawful, core_valid, station_valid, with_objects, stored, station_tables, station_files, written, station_elements, network}

@@ -5,9 +5,9 @@ use Rattle.exchange_model.specs.Exchange.{Exchange}
 use Rattle.exchange_model.specs.Lifted.{Spells}
 use Rattle.exchange_sum.specs.Refusing.{Refusal, IsRefusal}
 use Rattle.serving_model.specs.Tagged.{IsServed}
-use Rattle.serving_sum.specs.Whole.{IsRefusedWhole}
-use Rattle.serving_sum.proofs.SpelledLaw.{spelled_served}
-use Rattle.serving_sum.proofs.RefusedLaw.{gated_served}
+use Rattle.slave_served.specs.Whole.{IsRefusedWhole}
+use Rattle.slave_served.proofs.SpelledLaw.{spelled_served}
+use Rattle.slave_served.proofs.RefusedLaw.{gated_served}
 use Rattle.coe_model.specs.Mails as CoeMails
 use Rattle.coe_model.specs.Octets as CoeOctets
 use Rattle.foe_model.specs.Mails as FoeMails
@@ -16,14 +16,14 @@ use Rattle.soe_model.specs.Mails as SoeMails
 use Rattle.soe_model.specs.Octets as SoeOctets
 use Rattle.eoe_model.specs.Mails as EoeMails
 use Rattle.eoe_model.specs.Octets as EoeOctets
-use Rattle.coe_served.specs.Served as Coe
-use Rattle.coe_served.proofs.ServedLaw.{coe_is_served}
-use Rattle.foe_served.specs.Served as Foe
-use Rattle.foe_served.proofs.ServedLaw.{foe_is_served}
-use Rattle.soe_served.specs.Served as Soe
-use Rattle.soe_served.proofs.ServedLaw.{soe_is_served}
-use Rattle.eoe_served.specs.Served as Eoe
-use Rattle.eoe_served.proofs.ServedLaw.{eoe_is_served}
+use Rattle.slave_served.specs.CoeServed as Coe
+use Rattle.slave_served.proofs.CoeServedLaw.{coe_is_served}
+use Rattle.slave_served.specs.FoeServed as Foe
+use Rattle.slave_served.proofs.FoeServedLaw.{foe_is_served}
+use Rattle.slave_served.specs.SoeServed as Soe
+use Rattle.slave_served.proofs.ServedLaw.{soe_is_served}
+use Rattle.slave_served.specs.EoeServed as Eoe
+use Rattle.slave_served.proofs.EoeServedLaw.{eoe_is_served}
 use Rattle.slave_model.specs.Profile.{Protocol, Profile, IsProfile, serves, areas_of}
 use Rattle.slave_model.specs.Application.{Core, Parts, ArePartsLawful, core_valid, station_valid, station_tables, station_files, station_elements, network}
 use Rattle.slave_model.specs.Server.{Seat, heard_by, told_by}

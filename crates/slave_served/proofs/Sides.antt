@@ -5,8 +5,8 @@ use Rattle.link_mails.specs.Body.{Body}
 use Rattle.exchange_model.specs.Exchange.{Exchange, given}
 use Rattle.exchange_model.specs.Lifted.{EachOf}
 use Rattle.exchange_sum.specs.Refusing.{Refusal, refused_serve, gated}
-use Rattle.serving_sum.specs.Whole.{gated_whole}
-use Rattle.serving_sum.specs.Sides.{IsWholeSide}
+use Rattle.slave_served.specs.Whole.{gated_whole}
+use Rattle.slave_served.specs.Sides.{IsWholeSide}
 use Rattle.slave_model.specs.Profile.{Protocol, Profile, IsProfile, serves}
 use Rattle.slave_model.specs.Application.{Core, Parts, ArePartsLawful, station_valid, station_files}
 use Rattle.slave_model.specs.Server.{Server, Seat, seat, reseated, ServiceOf, Reply, one_more}
@@ -14,7 +14,7 @@ use Rattle.slave_model.specs.Product.{served, refusal, side, serve, serve_by, pr
 use Rattle.slave_model.specs.Owning.{same_protocol, is_of, mine}
 use Rattle.slave_model.proofs.Stations.{both, left_of, right_of}
 use Rattle.slave_model.proofs.Own.{are_own, soe_gives}
-use Rattle.foe_served.specs.Served.{has_its_room}
+use Rattle.slave_served.specs.FoeServed.{has_its_room}
 use Rattle.foe_model.specs.Server.{Transfer, idle, reading, writing, closing}
 use Rattle.slave_served.specs.Served.{core_of, served_whole, side_whole, slave_whole, is_fine, AreFilesServed}
 

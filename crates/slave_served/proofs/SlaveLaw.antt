@@ -2,8 +2,8 @@
 use Rattle.std.proofs.Common.{◌≡◌, ℕ, refl, sym, ap, ◌∙◌}
 use Rattle.state_exchange.specs.Families.{InState, AreOneClient}
 use Rattle.serving_model.specs.Tagged.{IsServed}
-use Rattle.serving_sum.proofs.JoinedLaw.{joined_served}
-use Rattle.serving_sum.proofs.StatesLaw.{family_served}
+use Rattle.slave_served.proofs.JoinedLaw.{joined_served}
+use Rattle.slave_served.proofs.ServingStatesLaw.{family_served}
 use Rattle.slave_model.specs.Profile.{Protocol, Profile, IsProfile}
 use Rattle.slave_model.specs.Application.{Parts, ArePartsLawful}
 use Rattle.slave_model.specs.Server.{Server, seat, reseated, ServiceOf}

@@ -13,8 +13,8 @@ use Rattle.soe_model.specs.Octets.{soe_mail_heard, soe_mail_written}
 use Rattle.soe_model.proofs.Carries.{answer_to}
 use Rattle.soe_model.proofs.SoeLaw.{both_are}
 use Rattle.soe_model.proofs.Spelled.{soe_spells}
-use Rattle.soe_served.specs.Served.{ahead_of, soe_served}
-use Rattle.soe_served.proofs.ServedLaw.{gives, kept}
+use Rattle.slave_served.specs.SoeServed.{ahead_of, soe_served}
+use Rattle.slave_served.proofs.ServedLaw.{gives, kept}
 
 both : (a b : Bool) → a ≡ true → b ≡ true → (a && b) ≡ true
 both true true p q = refl

@@ -23,7 +23,7 @@ use Rattle.foe_model.proofs.Lasts.{foe_last}
 use Rattle.slave_model.proofs.EoeLast.{eoe_last}
 use Rattle.slave_model.proofs.Stations.{left_of, tables_law, files_law, elements_law, network_sound}
 use Rattle.slave_model.proofs.Sides.{told_spells, sized}
-use Rattle.foe_served.specs.Served.{foe_served}
+use Rattle.slave_served.specs.FoeServed.{foe_served}
 use Rattle.slave_served.specs.Served.{core_of, served_whole, side_whole, slave_whole, protocols_whole, product_whole, AreFilesServed}
 use Rattle.slave_served.proofs.Protocols.{coe_fine, foe_fine, eoe_fine, each_served, each_refused}
 use Rattle.slave_served.proofs.SoeSpelled.{served_spells}

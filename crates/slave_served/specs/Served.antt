@@ -5,8 +5,8 @@ use Rattle.exchange_model.specs.Exchange.{Exchange}
 use Rattle.exchange_model.specs.Lifted.{lifted}
 use Rattle.exchange_sum.specs.Sides.{Slave}
 use Rattle.state_exchange.specs.Families.{InState, in_states}
-use Rattle.serving_sum.specs.Whole.{gated_whole}
-use Rattle.serving_sum.specs.Sides.{joined_whole}
+use Rattle.slave_served.specs.Whole.{gated_whole}
+use Rattle.slave_served.specs.Sides.{joined_whole}
 use Rattle.coe_model.specs.Mails as CoeMails
 use Rattle.coe_model.specs.Octets as CoeOctets
 use Rattle.foe_model.specs.Mails as FoeMails
@@ -16,10 +16,10 @@ use Rattle.soe_model.specs.Octets as SoeOctets
 use Rattle.eoe_model.specs.Mails as EoeMails
 use Rattle.eoe_model.specs.Octets as EoeOctets
 use Rattle.eoe_model.specs.Network.{Station}
-use Rattle.coe_served.specs.Served.{coe_served}
-use Rattle.foe_served.specs.Served.{foe_served, has_its_room}
-use Rattle.soe_served.specs.Served.{soe_served}
-use Rattle.eoe_served.specs.Served.{eoe_served}
+use Rattle.slave_served.specs.CoeServed.{coe_served}
+use Rattle.slave_served.specs.FoeServed.{foe_served, has_its_room}
+use Rattle.slave_served.specs.SoeServed.{soe_served}
+use Rattle.slave_served.specs.EoeServed.{eoe_served}
 use Rattle.slave_model.specs.Profile.{Protocol, Profile, serves, areas_of}
 use Rattle.slave_model.specs.Application.{Core, Parts, station_valid, station_tables, station_files, station_elements, network}
 use Rattle.slave_model.specs.Server.{Server, Seat, seat, reseated, ServiceOf, Reply, heard_by, told_by}

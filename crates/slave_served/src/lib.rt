@@ -2,16 +2,23 @@
 //! laws, no running code.
 #![tactic(auto)]
 
-ghost use Rattle.std.specs.Prelude.{◌≡◌};
 ghost use Rattle.serving_model.specs.Tagged.{IsServed};
 ghost use Rattle.serving_model.specs.TaggedStates.{IsStatedServed};
-ghost use Rattle.state_exchange.specs.Families.{InState, states_of};
 ghost use Rattle.slave_model.specs.Acknowledged.{acknowledged};
-ghost use Rattle.slave_model.specs.Profile.{Profile, IsProfile};
 ghost use Rattle.slave_model.specs.Application.{Parts, ArePartsLawful};
-ghost use Rattle.slave_model.specs.Server.{Server};
 ghost use Rattle.slave_model.specs.Product.{product};
+ghost use Rattle.slave_model.specs.Profile.{Profile, IsProfile};
+ghost use Rattle.slave_model.specs.Server.{Server};
 ghost use Rattle.slave_served.specs.Served.{product_whole, AreFilesServed};
+ghost use Rattle.state_exchange.specs.Families.{InState, states_of};
+ghost use Rattle.std.specs.Prelude.{◌≡◌};
+
+pub mod coe_served;
+pub mod eoe_served;
+pub mod foe_served;
+pub mod parts_served;
+pub mod serving_sum;
+pub mod soe_served;
 
 /// The one exchange of a session owes the laws of its services from whatever server: a mail of another sender may have left unfinished transfers
 /// of any protocol. The AL state is a part of the server. It takes each mail as the exchange of a session does.

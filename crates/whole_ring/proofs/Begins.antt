@@ -4,13 +4,13 @@ use Rattle.std.specs.Prelude.{if◌then◌else◌}
 use Rattle.std.proofs.lemmas.List.{length-replicate}
 use Rattle.life_frames.specs.of_frame_view.View.{Lens}
 use Rattle.life_frames.specs.of_link_mails.Body.{Body}
-use Rattle.whole_lives.specs.of_mailbox_slave.Registers.{in_len}
+use Rattle.whole_ring.specs.of_mailbox_slave.Registers.{in_len}
 use Rattle.life_frames.specs.of_segment_model.Record.{Frame}
-use Rattle.whole_lives.specs.of_segment_ring.Ring.{RingState}
-use Rattle.whole_lives.specs.of_slave_steps.Node.{Node}
+use Rattle.whole_ring.specs.of_segment_ring.Ring.{RingState}
+use Rattle.whole_ring.specs.of_slave_steps.Node.{Node}
 use Rattle.life_frames.specs.of_life_model.Lives.{Spot, Life, new_life, gives_up}
-use Rattle.whole_lives.specs.Whole.{IsLived}
-use Rattle.whole_lives.proofs.Turning.{begins, given_up}
+use Rattle.whole_ring.specs.Whole.{IsLived}
+use Rattle.whole_ring.proofs.WholeTurning.{begins, given_up}
 use Rattle.whole_ring.specs.Members.{Member, IsElsewhere, AreDistinct, MemberIs, AllLived, IsRing, IsNew, AllNew, first_ring, HandBoots}
 use Rattle.whole_ring.specs.Turning as Turning
 

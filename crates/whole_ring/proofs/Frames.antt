@@ -9,23 +9,23 @@ use Rattle.life_frames.specs.of_datagrams.declared.command.Command.{Command}
 use Rattle.life_frames.specs.of_datagrams.declared.command.Command.TheVariants.{Aprd, Apwr, Fprd, Fpwr}
 use Rattle.life_frames.specs.of_datagrams.Datagram as Raw
 use Rattle.life_frames.specs.of_datagrams.Frame.{chained, saying, datagram_of}
-use Rattle.whole_lives.specs.of_esc_registers.Access.{is_by_place, is_by_station}
+use Rattle.whole_ring.specs.of_esc_registers.Access.{is_by_place, is_by_station}
 use Rattle.life_frames.specs.of_frame_view.View.{Lens}
-use Rattle.whole_lives.specs.of_frames_seen.Own.{own_of}
-use Rattle.whole_lives.specs.of_frames_seen.Places.{AllElse}
-use Rattle.whole_lives.specs.of_esc_registers.Manager.{is_enabled}
-use Rattle.whole_lives.specs.of_frames_seen.Spoken.{is_spoken, IsSpoken, AllSpoken}
+use Rattle.whole_ring.specs.of_frames_seen.Own.{own_of}
+use Rattle.whole_ring.specs.of_frames_seen.Places.{AllElse}
+use Rattle.whole_ring.specs.of_esc_registers.Manager.{is_enabled}
+use Rattle.whole_ring.specs.of_frames_seen.Spoken.{is_spoken, IsSpoken, AllSpoken}
 use Rattle.life_frames.specs.of_life_model.Lives.{Spot, Opening, Stand}
 use Rattle.life_frames.specs.Frames as Frames
 use Rattle.life_frames.specs.Frames.{Share, FrameFor, HasOne, IsOpenGram, IsByStation, IsByPlace, GramFor, IsRequest}
 use Rattle.life_frames.specs.Openings.{step_number, opening_of, IsOpeningGram}
-use Rattle.whole_lives.specs.of_slave_lives.Opening.{Plan}
-use Rattle.whole_lives.specs.of_slave_lives.Stands.{turn_of}
-use Rattle.whole_lives.specs.of_slave_lives.Seats.{ComesAs}
-use Rattle.whole_lives.specs.of_slave_lives.Ways.{IsNotFor, AllNotFor, IsOnWay, OneOnWay}
-use Rattle.whole_lives.specs.Whole.{plan_to}
-use Rattle.whole_lives.proofs.Still.{own_not}
-use Rattle.whole_lives.specs.Turns.{plan_at}
+use Rattle.slave_lives.specs.Opening.{Plan}
+use Rattle.slave_lives.specs.Stands.{turn_of}
+use Rattle.slave_lives.specs.Seats.{ComesAs}
+use Rattle.slave_lives.specs.Ways.{IsNotFor, AllNotFor, IsOnWay, OneOnWay}
+use Rattle.whole_ring.specs.Whole.{plan_to}
+use Rattle.whole_ring.proofs.Still.{own_not}
+use Rattle.whole_ring.specs.Turns.{plan_at}
 
 -- a datagram by its command
 by_station_not_place : (c : Command) → (c ≡ Fprd) ⊎ (c ≡ Fpwr) → is_by_place c ≡ false

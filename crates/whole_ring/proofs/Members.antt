@@ -3,29 +3,29 @@ use Rattle.std.proofs.Common.{◌≡◌, ℕ, suc, ◌+◌, ◌<◌, ◌==◌, B
 use Rattle.std.specs.Prelude.{if◌then◌else◌}
 use Rattle.life_frames.specs.of_datagrams.Datagram as Raw
 use Rattle.life_frames.specs.of_datagrams.Frame.{IsFrame, chained}
-use Rattle.whole_lives.specs.of_frame_pass.Passing.{datagrams_after}
+use Rattle.whole_ring.specs.of_frame_pass.Passing.{datagrams_after}
 use Rattle.life_frames.specs.of_frame_view.View.{Lens}
 use Rattle.life_frames.specs.of_link_mails.Body.{Body}
 use Rattle.life_frames.specs.of_segment_model.Record.{Frame}
-use Rattle.whole_lives.specs.of_segment_ring.declared.wire.Fate.{Fate}
-use Rattle.whole_lives.specs.of_segment_ring.Ring.{RingState, is_in_pace, nodes_stepped, frame_met, ring_behind}
-use Rattle.whole_lives.specs.of_segment_ring.Schedule.{fate_at}
-use Rattle.whole_lives.specs.of_slave_steps.Node.{Node, node_passed}
+use Rattle.whole_ring.specs.of_segment_ring.declared.wire.Fate.{Fate}
+use Rattle.whole_ring.specs.of_segment_ring.Ring.{RingState, is_in_pace, nodes_stepped, frame_met, ring_behind}
+use Rattle.whole_ring.specs.of_segment_ring.Schedule.{fate_at}
+use Rattle.whole_ring.specs.of_slave_steps.Node.{Node, node_passed}
 use Rattle.life_frames.specs.of_life_model.Lives.{Spot, Stand}
 use Rattle.life_frames.specs.Frames.{FrameFor}
 use Rattle.life_frames.specs.Shares.{Asked}
-use Rattle.whole_lives.specs.of_mailbox_slave.Registers.{in_len}
-use Rattle.whole_lives.specs.of_slave_lives.Lived.{Behind, RingFrame, node_behind}
-use Rattle.whole_lives.specs.of_slave_lives.Nodes.{stepped}
-use Rattle.whole_lives.specs.of_slave_lives.Opening.{Plan, IsPlan}
-use Rattle.whole_lives.specs.of_slave_lives.Rings.{come_to, fate_seen, is_met_at, met, turned}
-use Rattle.whole_lives.specs.of_slave_lives.Seats as Seats
-use Rattle.whole_lives.specs.of_slave_lives.Seats.{Seat, KnownAs, AllSeats, AllCome, AllMeet, ComesAs, nodes_of}
-use Rattle.whole_lives.proofs.of_slave_lives.AllSeats.{all_meet_first}
-use Rattle.whole_lives.specs.Turns.{FrameComes, plan_at, seat_at}
-use Rattle.whole_lives.specs.Whole.{IsLived}
-use Rattle.whole_lives.proofs.Kept.{met_server}
-use Rattle.whole_lives.proofs.Seated as Seated
+use Rattle.whole_ring.specs.of_mailbox_slave.Registers.{in_len}
+use Rattle.slave_lives.specs.Lived.{Behind, RingFrame, node_behind}
+use Rattle.slave_lives.specs.Nodes.{stepped}
+use Rattle.slave_lives.specs.Opening.{Plan, IsPlan}
+use Rattle.slave_lives.specs.Rings.{come_to, fate_seen, is_met_at, met, turned}
+use Rattle.slave_lives.specs.Seats as Seats
+use Rattle.slave_lives.specs.Seats.{Seat, KnownAs, AllSeats, AllCome, AllMeet, ComesAs, nodes_of}
+use Rattle.slave_lives.proofs.AllSeats.{all_meet_first}
+use Rattle.whole_ring.specs.Turns.{FrameComes, plan_at, seat_at}
+use Rattle.whole_ring.specs.Whole.{IsLived}
+use Rattle.whole_ring.proofs.Kept.{met_server}
+use Rattle.whole_ring.proofs.Seated as Seated
 use Rattle.whole_ring.specs.Members.{Member, HandBoots, IsElsewhere, AreDistinct, MemberIs, AllLived, IsRing}
 use Rattle.whole_ring.specs.Turning.{Turn, TurnsFor, AllTurn, frame_at, next_life, life_by, behind_frame}
 use Rattle.whole_ring.proofs.Frames.{comes_as}

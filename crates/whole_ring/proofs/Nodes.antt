@@ -2,13 +2,13 @@
 use Rattle.std.proofs.Common.{◌≡◌, ℕ, zero, suc, Bool, true, false, List, [], ◌∷◌, length, refl, ap, sym, ◌∙◌}
 use Rattle.life_frames.specs.of_datagrams.Datagram as Raw
 use Rattle.life_frames.specs.of_datagrams.Frame.{IsFrame}
-use Rattle.whole_lives.specs.of_frame_pass.Passing.{datagrams_after}
-use Rattle.whole_lives.specs.of_segment_ring.declared.wire.Fate.{Fate}
-use Rattle.whole_lives.specs.of_segment_ring.declared.wire.Fate.TheVariants.{Pass, Lost}
-use Rattle.whole_lives.specs.of_segment_ring.Ring.{nodes_passed, frame_met}
-use Rattle.whole_lives.specs.of_slave_steps.Node.{Node, node_passed}
-use Rattle.whole_lives.specs.of_slave_lives.Rings.{is_among, is_met_at, met}
-use Rattle.whole_lives.proofs.of_slave_lives.RingFrames.{node_is, node_frame}
+use Rattle.whole_ring.specs.of_frame_pass.Passing.{datagrams_after}
+use Rattle.whole_ring.specs.of_segment_ring.declared.wire.Fate.{Fate}
+use Rattle.whole_ring.specs.of_segment_ring.declared.wire.Fate.TheVariants.{Pass, Lost}
+use Rattle.whole_ring.specs.of_segment_ring.Ring.{nodes_passed, frame_met}
+use Rattle.whole_ring.specs.of_slave_steps.Node.{Node, node_passed}
+use Rattle.slave_lives.specs.Rings.{is_among, is_met_at, met}
+use Rattle.slave_lives.proofs.RingFrames.{node_is, node_frame}
 
 module _ {S : Type 0} where
   -- slaves from a place on, of which those are met that it says

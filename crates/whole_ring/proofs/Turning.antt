@@ -3,41 +3,41 @@ use Rattle.std.proofs.Common.{◌≡◌, ◌⊎◌, inl, inr, ℕ, suc, ◌+◌,
 use Rattle.std.specs.Prelude.{Option, Some, None, not, ⊤}
 use Rattle.life_frames.specs.of_datagrams.Datagram as Raw
 use Rattle.life_frames.specs.of_datagrams.Frame.{chained}
-use Rattle.whole_lives.specs.of_frame_pass.Passing.{datagram_after, datagrams_after}
+use Rattle.whole_ring.specs.of_frame_pass.Passing.{datagram_after, datagrams_after}
 use Rattle.life_frames.specs.of_frame_view.View.{datagram_seen}
 use Rattle.life_frames.specs.of_frame_view.Seen.{seen, datagrams_seen}
 use Rattle.life_frames.proofs.of_frame_view.Octets as Octets
-use Rattle.whole_lives.specs.of_frames_seen.Ring.{all_after, AllApart}
+use Rattle.whole_ring.specs.of_frames_seen.Ring.{all_after, AllApart}
 use Rattle.life_frames.specs.of_link_mails.Body.{Body}
 use Rattle.life_frames.specs.of_link_model.Segment.{RingFate}
-use Rattle.whole_lives.specs.of_mailbox_slave.Registers.{in_len}
+use Rattle.whole_ring.specs.of_mailbox_slave.Registers.{in_len}
 use Rattle.life_frames.specs.of_segment_model.Record.{Frame}
 use Rattle.life_frames.specs.of_segment_model.Slaves.{Datagram, Found}
-use Rattle.whole_lives.specs.of_segment_ring.declared.wire.Fate.{Fate}
-use Rattle.whole_lives.specs.of_segment_ring.declared.wire.Fate.TheVariants.{Pass, Lost}
-use Rattle.whole_lives.specs.of_slave_steps.Node.{Node}
+use Rattle.whole_ring.specs.of_segment_ring.declared.wire.Fate.{Fate}
+use Rattle.whole_ring.specs.of_segment_ring.declared.wire.Fate.TheVariants.{Pass, Lost}
+use Rattle.whole_ring.specs.of_slave_steps.Node.{Node}
 use Rattle.life_frames.specs.of_life_model.Eras.{Clearing}
 use Rattle.life_frames.specs.of_life_model.Lives.{Spot, Life, Era, Opening, Stand, AsksOpen, life_next}
 use Rattle.life_frames.specs.of_life_model.Tours.{item_at}
 use Rattle.life_frames.specs.Frames.{FrameFor}
 use Rattle.life_frames.specs.Shares.{Asked, came_at, came_of}
-use Rattle.whole_lives.specs.of_slave_lives.Lived.{Behind, RingFrame, fate_of, is_reached, node_met, node_behind, frame_of, returned}
-use Rattle.whole_lives.specs.of_slave_lives.Nodes.{IsRunning, IsRoomy}
-use Rattle.whole_lives.specs.of_slave_lives.Opening.{Plan, IsPlan, JustOne}
-use Rattle.whole_lives.specs.of_slave_lives.Rings.{registers_of, come_to, is_met_at, met}
-use Rattle.whole_lives.specs.of_slave_lives.Stands.{turn_of}
-use Rattle.whole_lives.specs.of_slave_lives.Ways.{AllNotFor, JustOnWay}
-use Rattle.whole_lives.proofs.of_slave_lives.AllSeats as Seats
-use Rattle.whole_lives.proofs.of_slave_lives.RingFrames.{after_keeps, met_runs}
-use Rattle.whole_lives.proofs.of_slave_lives.RingLives.{sent_is, back_is}
-use Rattle.whole_lives.proofs.of_slave_lives.Servers.{step_holds}
-use Rattle.whole_lives.proofs.of_slave_lives.Ways as Way
-use Rattle.whole_lives.specs.Turns.{FrameComes, AsksFor, Came, CameAs, TurnsAs, era_before, era_behind, plan_at}
-use Rattle.whole_lives.specs.Turns as Whole
-use Rattle.whole_lives.specs.Whole.{IsWhole, OpensAs, StandsAs, IsLived, plan_to}
-use Rattle.whole_lives.proofs.Kept.{met_server, turned_with}
-use Rattle.whole_lives.proofs.Seated.{known}
-use Rattle.whole_lives.proofs.Turning.{turns}
+use Rattle.slave_lives.specs.Lived.{Behind, RingFrame, fate_of, is_reached, node_met, node_behind, frame_of, returned}
+use Rattle.slave_lives.specs.Nodes.{IsRunning, IsRoomy}
+use Rattle.slave_lives.specs.Opening.{Plan, IsPlan, JustOne}
+use Rattle.slave_lives.specs.Rings.{registers_of, come_to, is_met_at, met}
+use Rattle.slave_lives.specs.Stands.{turn_of}
+use Rattle.slave_lives.specs.Ways.{AllNotFor, JustOnWay}
+use Rattle.slave_lives.proofs.AllSeats as Seats
+use Rattle.slave_lives.proofs.RingFrames.{after_keeps, met_runs}
+use Rattle.slave_lives.proofs.RingLives.{sent_is, back_is}
+use Rattle.slave_lives.proofs.Servers.{step_holds}
+use Rattle.slave_lives.proofs.Ways as Way
+use Rattle.whole_ring.specs.Turns.{FrameComes, CameAs, TurnsAs, era_before, era_behind, plan_at}
+use Rattle.whole_ring.specs.Turns as Whole
+use Rattle.whole_ring.specs.Whole.{IsWhole, OpensBy, StandsAs, IsLived, plan_to}
+use Rattle.whole_ring.proofs.Kept.{met_server, turned_with}
+use Rattle.whole_ring.proofs.Seated.{known}
+use Rattle.whole_ring.proofs.WholeTurning.{turns}
 use Rattle.whole_ring.specs.Members.{Serves, HandBoots}
 use Rattle.whole_ring.specs.Turning.{Turn, BeginBoots, next_life, life_by}
 use Rattle.whole_ring.proofs.Boots as Boots
@@ -70,9 +70,9 @@ came_none false at = refl
 
 -- the plan of the opening in hand is one
 pub plan_known : {S V A Q R : Type 0} (w : Behind S V A Q R) (c : Clearing V A) (p : Plan) (spot : Spot) (whole : IsWhole w c p spot) (fs : List (Frame Body)) (n : Node S) (from : A) (e : Era Body Q R) (stand : Stand) → StandsAs w p spot from e fs stand n → IsPlan w.boot w.lens (plan_at p stand)
-plan_known w c p spot whole fs n from e (Stand.Opens o) (OpensAs.yet again step plan l) = plan
-plan_known w c p spot whole fs n from e (Stand.Opens o) (OpensAs.anew cl x first) = cl.plan
-plan_known w c p spot whole fs n from e (Stand.Opens o) (OpensAs.over cl again early x) = cl.plan
+plan_known w c p spot whole fs n from e (Stand.Opens o) (OpensBy.yet again step plan l) = plan
+plan_known w c p spot whole fs n from e (Stand.Opens o) (OpensBy.anew cl x first) = cl.plan
+plan_known w c p spot whole fs n from e (Stand.Opens o) (OpensBy.over cl again early x) = cl.plan
 plan_known w c p spot whole fs n from e Stand.Open now = whole.plan
 plan_known w c p spot whole fs n from e Stand.Gone now = whole.plan
 

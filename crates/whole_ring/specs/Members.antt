@@ -2,17 +2,17 @@
 use Rattle.std.specs.Prelude.{◌≡◌, ℕ, suc, ◌<◌, ◌==◌, Bool, true, false, Option, Some, None, List, [], ◌∷◌, map, length, ⊤}
 use Rattle.life_frames.specs.of_frame_view.View.{Lens}
 use Rattle.life_frames.specs.of_link_mails.Body.{Body}
-use Rattle.whole_lives.specs.of_mailbox_slave.Registers.{in_len}
+use Rattle.whole_ring.specs.of_mailbox_slave.Registers.{in_len}
 use Rattle.life_frames.specs.of_segment_model.Record.{Frame}
-use Rattle.whole_lives.specs.of_segment_ring.Ring.{RingState}
-use Rattle.whole_lives.specs.of_slave_steps.Node.{Node, new_node}
+use Rattle.whole_ring.specs.of_segment_ring.Ring.{RingState}
+use Rattle.whole_ring.specs.of_slave_steps.Node.{Node, new_node}
 use Rattle.life_frames.specs.of_task_model.Accounts.{Duty}
 use Rattle.life_frames.specs.of_life_model.Eras.{Clearing}
 use Rattle.life_frames.specs.of_life_model.Lives.{Spot, Life, new_life}
-use Rattle.whole_lives.specs.of_slave_lives.Lived.{Behind}
-use Rattle.whole_lives.specs.of_slave_lives.Nodes.{GivesPlaced, stepped}
-use Rattle.whole_lives.specs.of_slave_lives.Opening.{Plan}
-use Rattle.whole_lives.specs.Whole.{IsWhole, IsLived}
+use Rattle.slave_lives.specs.Lived.{Behind}
+use Rattle.slave_lives.specs.Nodes.{GivesPlaced, stepped}
+use Rattle.slave_lives.specs.Opening.{Plan}
+use Rattle.whole_ring.specs.Whole.{IsWhole, IsLived}
 
 -- a slave of the ring: its services, what a return to Init does to them, its plan and its place, the application with which it is switched on, its
 -- life as the master leads it, its node as it runs, and behind how many frames its processor makes a step

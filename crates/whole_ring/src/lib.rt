@@ -1,21 +1,25 @@
 //! All slaves of a ring, their lives and the frames so far. No running code: each function here does nothing, and its contract states a law.
 #![tactic(auto)]
 
-ghost use Rattle.std.specs.Prelude.{◌≡◌, ◌<◌, ◌∷◌, ◌++◌, ℕ, Bool, List, [], length};
 ghost use Rattle.life_frames.specs.of_datagrams.Datagram as Raw;
 ghost use Rattle.life_frames.specs.of_datagrams.Frame.{IsFrame, chained};
+ghost use Rattle.life_frames.specs.of_exchange_model.Exchange.{IsLawful};
 ghost use Rattle.life_frames.specs.of_frame_view.View.{Lens};
-ghost use Rattle.life_frames.specs.of_link_mails.Body.{Body};
-ghost use Rattle.life_frames.specs.of_segment_model.Record.{Frame};
-ghost use Rattle.whole_lives.specs.of_segment_ring.Ring.{RingState, ring_behind};
-ghost use Rattle.whole_lives.specs.of_segment_ring.Schedule.{fate_at};
-ghost use Rattle.whole_lives.specs.of_slave_steps.Node.{Node, node_passed};
 ghost use Rattle.life_frames.specs.of_life_model.Eras.{Eras};
 ghost use Rattle.life_frames.specs.of_life_model.Lives.{Spot, Stand};
-ghost use Rattle.whole_lives.specs.of_slave_lives.Lived.{table_of};
-ghost use Rattle.whole_lives.specs.Promises.{IsPromised};
+ghost use Rattle.life_frames.specs.of_link_mails.Body.{Body};
+ghost use Rattle.life_frames.specs.of_segment_model.Record.{Frame};
+ghost use Rattle.slave_lives.specs.Lived.{table_of};
+ghost use Rattle.std.specs.Prelude.{◌≡◌, ◌<◌, ◌∷◌, ◌++◌, ℕ, Bool, List, [], length};
 ghost use Rattle.whole_ring.specs.Members.{Member, MemberIs, AreDistinct, IsRing, AllNew, Passes, first_ring};
+ghost use Rattle.whole_ring.specs.Promises.{IsPromised};
 ghost use Rattle.whole_ring.specs.Turning.{Turn, AllTurn, frame_at, behind_frame, given_up};
+ghost use Rattle.whole_ring.specs.of_segment_ring.Ring.{RingState, ring_behind};
+ghost use Rattle.whole_ring.specs.of_segment_ring.Schedule.{fate_at};
+ghost use Rattle.whole_ring.specs.of_slave_steps.Node.{Node, node_passed};
+
+pub mod steady_eras;
+pub mod whole_lives;
 
 /// ALL LIVES OF A RING ARE LIVED BY ITS NODES, whose servers pass a test that mails and steps leave (`Serves`), from the moment the slaves are switched on; by each exchange of a frame that the master made, met by
 /// all of them, lost before, between or behind them, and by the steps that follow at each pace; and where slaves are given up.
@@ -36,6 +40,6 @@ pub fn ring_promises_law<S, V, A, Q, R>()
         IsRing lens step (Passes test) fs ring (before ++ m ∷ behind) → MemberIs lens step (Passes test) fs m.spot.place m }
     ensures chain { (lens : ℕ → Lens) (step : Node S → Node S) (test : Spot → S → Bool) (fs : List (Frame Body)) (place : ℕ) (m : Member S V A Q R) → (i : MemberIs lens step (Passes test) fs place m) →
         Eras m.services.exchange m.services.states m.services.processor (table_of m.services) m.clearing.cleared m.spot fs m.first m.life.past i.lived.from }
-    ensures promises { (lens : ℕ → Lens) (step : Node S → Node S) (test : Spot → S → Bool) (fs : List (Frame Body)) (place : ℕ) (m : Member S V A Q R) → (i : MemberIs lens step (Passes test) fs place m) → m.life.stand ≡ Stand.Open →
+    ensures promises { (lens : ℕ → Lens) (step : Node S → Node S) (test : Spot → S → Bool) (fs : List (Frame Body)) (place : ℕ) (m : Member S V A Q R) → (i : MemberIs lens step (Passes test) fs place m) → IsLawful m.services.exchange → m.life.stand ≡ Stand.Open →
         IsPromised m.services m.spot i.lived.from m.life.era fs m.node }
 {}

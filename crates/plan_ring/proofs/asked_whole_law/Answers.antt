@@ -5,7 +5,7 @@ use Rattle.slave_parts.specs.of_slave_model.Product.{product}
 use Rattle.slave_parts.specs.of_slave_model.Profile.{areas_of}
 use Rattle.slave_parts.specs.Parts.{parts}
 use Rattle.slave_parts.specs.of_state_exchange.Families.{states_of}
-use Rattle.named_lives.proofs.Named.{named_law, named_stated}
+use Rattle.plan_ring.proofs.Named.{named_stated}
 use Rattle.plan_ring.specs.Asked.{as_asked}
 use Rattle.plan_ring.proofs.Asked as Its
 use Rattle.plan_ring.proofs.asked_whole_law.Goals as goal
@@ -17,15 +17,19 @@ returns c = record {
       let clears = c.real_server_law.ensures.clears p boot lens in
       let law = c.slave_is_lawful.ensures.lawful p profile in
       let stated = c.slave_is_lawful.ensures.stated p profile in
+      let lawful = Its.asked_lawful c.slave_is_lawful.ensures.lawful p profile boot lens in
       record {
-        behind = record { served = record { seen = behind.served.seen; told = behind.served.told }; carries = behind.carries; clears = behind.clears };
-        lawful = named_law (product parts p) as_asked (hand_speech (areas_of p)) law (Its.agrees p);
-        stated = named_stated (product parts p) as_asked (hand_speech (areas_of p)) law (Its.agrees p) (states_of Slave.acknowledged) stated acknowledged Its.agrees_last;
-        tells = λ state v. refl;
-        clears = record { clearing = clears.clearing; seen = clears.seen };
-        plan = is;
-        station = station;
-        start = start;
+        whole = record {
+          behind = record { served = record { seen = behind.served.seen; told = behind.served.told }; carries = behind.carries; clears = behind.clears };
+          none = lawful.none;
+          stated = named_stated (product parts p) as_asked (hand_speech (areas_of p)) law (Its.agrees p) (states_of Slave.acknowledged) stated acknowledged Its.agrees_last;
+          tells = λ state v. refl;
+          clears = record { clearing = clears.clearing; seen = clears.seen };
+          plan = is;
+          station = station;
+          start = start;
+        };
+        lawful = lawful;
       };
   speech = λ p boot lens. Its.alike p boot lens;
 }

@@ -1,6 +1,10 @@
 use Rattle.plan_ring.specs.Round.{ring_of}
+use Rattle.run_frames.proofs.Fated.{few_lost}
 use Rattle.run_work.proofs.Rounds.{round_fated}
 use Rattle.run_work.proofs.fates_law.Goals as goal
 
 pub returns : goal.returns
-returns c = λ plan fs round. round_fated (ring_of plan) fs round
+returns c = record {
+  fated = λ plan fs round. round_fated (ring_of plan) fs round;
+  few = λ plan fs round. few_lost plan.lose fs (round_fated (ring_of plan) fs round);
+}

@@ -1,6 +1,6 @@
 use Rattle.std.proofs.Common.{◌≡◌, ℕ, ◌+◌, ◌-◌, ◌*◌, ◌<◌, length, subst, arith}
 use Rattle.plan_counts.specs.Split.{own_work}
-use Rattle.script_work.specs.Begun.{work_in}
+use Rattle.script_runs.specs.Begun.{work_in}
 use Rattle.segment_plan.specs.Bound.{services_work, host_work, slowest}
 use Rattle.run_work.specs.Switched.{cuts_begun}
 use Rattle.run_work.specs.Together.{packets_begun}
@@ -13,7 +13,7 @@ returns-clause-within c = λ plan fs missed leads p cs is known run.
     let gained = c.run_work.ensures plan is known fs missed leads led run.round in
     let packets = cuts_begun plan.slaves leads + packets_begun plan.slaves leads in
     let own = work_in own_work plan.slaves plan.services in
-    let all = c.led_counts.ensures.within plan fs missed (own + packets) (length plan.host) leads p cs is tallied (c.fates_law.ensures plan fs run.round) (omega (arith, gained)) run.enters in
+    let all = c.led_counts.ensures.within plan fs missed (own + packets) (length plan.host) leads p cs is tallied (c.fates_law.ensures.fated plan fs run.round) (omega (arith, gained)) run.enters in
     let sum : own + packets + length plan.host + length plan.lose + 2 * length plan.slaves ≡ own + (packets + length plan.host) + length plan.lose + 2 * length plan.slaves = omega arith in
     subst (λ z. length fs < 16 * slowest plan.paces * (length plan.slaves + 1) * z) sum all
 
@@ -24,7 +24,7 @@ returns-clause-switched c = λ plan fs missed leads p cs is known run packets.
     let gained = c.run_work.ensures plan is known fs missed leads led run.round in
     let few = c.switched_law.ensures plan is fs missed leads led packets in
     let whole = services_work plan.slaves plan.services + host_work (length plan.slaves) plan.host + 128 * 0 in
-    let all = c.led_counts.ensures.within plan fs missed (whole - length plan.host) (length plan.host) leads p cs is tallied (c.fates_law.ensures plan fs run.round) (omega (arith, gained, few)) run.enters in
+    let all = c.led_counts.ensures.within plan fs missed (whole - length plan.host) (length plan.host) leads p cs is tallied (c.fates_law.ensures.fated plan fs run.round) (omega (arith, gained, few)) run.enters in
     let sum : whole - length plan.host + length plan.host + length plan.lose + 2 * length plan.slaves ≡ whole + length plan.lose + 2 * length plan.slaves = omega (arith, few) in
     subst (λ z. length fs < 16 * slowest plan.paces * (length plan.slaves + 1) * z) sum all
 
@@ -35,7 +35,7 @@ returns-clause-uncut c = λ plan fs missed leads p cs budget is known run packet
     let gained = c.run_work.ensures plan is known fs missed leads led run.round in
     let few = c.switched_law.ensures plan is fs missed leads led packets in
     let whole = services_work plan.slaves plan.services + host_work (length plan.slaves) plan.host + 128 * 0 in
-    let all = c.led_counts.ensures.within plan fs missed (whole - length plan.host) (length plan.host) leads p cs is tallied (c.fates_law.ensures plan fs run.round) (omega (arith, gained, few)) run.enters in
+    let all = c.led_counts.ensures.within plan fs missed (whole - length plan.host) (length plan.host) leads p cs is tallied (c.fates_law.ensures.fated plan fs run.round) (omega (arith, gained, few)) run.enters in
     let sum : whole - length plan.host + length plan.host + length plan.lose + 2 * length plan.slaves ≡ whole + length plan.lose + 2 * length plan.slaves = omega (arith, few) in
     let within = subst (λ z. length fs < 16 * slowest plan.paces * (length plan.slaves + 1) * z) sum all in
     omega (arith, within, enough, same)

@@ -1,4 +1,4 @@
-use Rattle.std.proofs.Common.{◌≡◌, ℕ, suc, map, refl, ap, sym, ◌∙◌, subst}
+use Rattle.std.proofs.Common.{◌≡◌, ℕ, suc, map, refl, ap, sym, ◌∙◌, subst, List}
 use Rattle.master_node.specs.of_life_runs.Led.{led_behind, gives_up_at, missed_behind}
 use Rattle.master_node.specs.Listing.{events_in}
 use Rattle.master_node.specs.Serving.{ServedShows}
@@ -7,12 +7,11 @@ use Rattle.master_node.specs.Toured.{tour_of}
 use Rattle.segment_ring.specs.declared.wire.Fate.{Fate}
 use Rattle.segment_ring.specs.declared.wire.Fate.TheVariants as Fates
 use Rattle.served_runs.specs.Served.{served_behind}
-use Rattle.visit_orders.specs.Toured.{tour_behind, lives_behind}
-use Rattle.std.proofs.Common.{List}
+use Rattle.packets_heard.specs.Toured.{tour_behind, lives_behind}
 use Rattle.master_node.specs.of_frame_view.Seen.{seen}
 use Rattle.master_node.specs.Joined.{HasUnfinished, stand_before, unfinished_after, mails_back}
-use Rattle.port_events.specs.Listed.{unfinished_of}
-use Rattle.port_events.specs.of_packets_heard.Heard.{mails_by}
+use Rattle.packets_heard.specs.Listed.{unfinished_of}
+use Rattle.packets_heard.specs.Heard.{mails_by}
 use Rattle.run_record.proofs.ServedTold.{told_lost, told_pass}
 use Rattle.run_record.proofs.session.tell.Goals as goal
 
@@ -27,16 +26,14 @@ returns-in-Lost-clause-leads c = λ lens recover retry missed number us f fate b
     c.lost.ensures.leads lens recover retry missed number c.in-Lost.after f.sent us f (fate ∙ c.in-Lost.is) refl under
 
 pub returns-in-Pass-clause-toured : goal.returns-in-Pass-clause-toured
-returns-in-Pass-clause-toured c = λ lens recover retry missed number us f fate back under returns.
-    let pass : f.fate ≡ Fates.Pass = fate ∙ c.in-Pass.is in
-    c.returned.ensures.toured lens recover retry missed number f.sent us f pass back under (returns c.in-Pass.is)
-    ∙ ap (λ (k : Fate). tour_behind retry k (lives_behind lens recover retry missed number f us) (tour_of c.args.master.now) c.args.master.now.tour.visit.items) (sym pass)
+returns-in-Pass-clause-toured c = λ lens recover as' h.
+    let m = c.args.master.now in
+    c.returned.ensures.toured lens recover as' h ∙ ap (λ (k : Fate). tour_behind m.tour.retry k as' (tour_of m) m.tour.visit.items) (sym c.in-Pass.is)
 
 pub returns-in-Lost-clause-toured : goal.returns-in-Lost-clause-toured
-returns-in-Lost-clause-toured c = λ lens recover retry missed number us f fate back under returns.
-    let lost : f.fate ≡ Fates.Lost c.in-Lost.after = fate ∙ c.in-Lost.is in
-    c.lost.ensures.toured lens recover retry missed number c.in-Lost.after f.sent us f lost refl under
-    ∙ ap (λ (k : Fate). tour_behind retry k (lives_behind lens recover retry missed number f us) (tour_of c.args.master.now) c.args.master.now.tour.visit.items) (sym lost)
+returns-in-Lost-clause-toured c = λ lens recover as' h.
+    let m = c.args.master.now in
+    c.lost.ensures.toured lens recover as' h ∙ ap (λ (k : Fate). tour_behind m.tour.retry k as' (tour_of m) m.tour.visit.items) (sym c.in-Lost.is)
 
 pub returns-in-Lost-clause-brought : goal.returns-in-Lost-clause-brought
 returns-in-Lost-clause-brought c = λ pass. absurd (let bad : Fates.Lost c.in-Lost.after ≡ Fates.Pass = sym c.in-Lost.is ∙ pass in cc)

@@ -1,6 +1,7 @@
 use Rattle.std.proofs.Common.{◌≡◌, refl, ap, ◌∙◌, arith}
 use Rattle.std.specs.Prelude.{Err}
 use Rattle.std.proofs.lemmas.Result.{err_from_is_err_and}
+use Rattle.gateway_run.proofs.Room.{not_full}
 use Rattle.gateway_run.proofs.Turns.{same_gram, goes_so, listen_failed}
 use Rattle.gateway_run.proofs.turn.Serving.poll.Goals as goal
 
@@ -19,18 +20,18 @@ returns-in_err-take-clause-goes g c = λ plan count first h.
     let e2 = p.2 in
     let same : c.from_residual-in_err-take.result ≡ Err c.in_err-take.field-0.0 = cc in
     goes_so plan count first _ c.take.new.self c.take.new.book c.in_err-take.field-0.0 c.take.result c.from_residual-in_err-take.result c.in_err-take.was same
-    (c.take.ensures.goes plan count first _ _ (same_gram plan count first _ c.loop-self.self _ c.loop-self.book refl refl refl refl (c.loop-self.invariant.goes plan count first h))
+    (c.take.ensures.goes plan count first _ _ (not_full c.loop-self.self.desk c.is_full.result c.is_full.ensures c.if-not-is_full.true) (same_gram plan count first _ c.loop-self.self _ c.loop-self.book refl refl refl refl (c.loop-self.invariant.goes plan count first h))
     (record { hears = c.in_ok-heard.ensures.hears; sent = c.in_ok-heard.ensures.sends; over = c.in_ok-heard.ensures.ended; later = c.in_ok-heard.ensures.later }))
 
 pub returns-then-not-branch-clause-goes : goal.returns-then-not-branch-clause-goes
 returns-then-not-branch-clause-goes g c = λ plan count first h.
-    c.in_ok-take.ensures.goes plan count first _ _ (same_gram plan count first _ c.loop-self.self _ c.loop-self.book refl refl refl refl (c.loop-self.invariant.goes plan count first h))
+    c.in_ok-take.ensures.goes plan count first _ _ (not_full c.loop-self.self.desk c.is_full.result c.is_full.ensures c.if-not-is_full.true) (same_gram plan count first _ c.loop-self.self _ c.loop-self.book refl refl refl refl (c.loop-self.invariant.goes plan count first h))
     (record { hears = c.in_ok-heard.ensures.hears; sent = c.in_ok-heard.ensures.sends; over = c.in_ok-heard.ensures.ended; later = c.in_ok-heard.ensures.later })
 
 pub loop-self-preserved : goal.loop-self-preserved
 loop-self-preserved g c = record {
   goes = λ plan count first h.
-      c.in_ok-take.ensures.goes plan count first _ _ (same_gram plan count first _ c.loop-self.self _ c.loop-self.book refl refl refl refl (c.loop-self.invariant.goes plan count first h))
+      c.in_ok-take.ensures.goes plan count first _ _ (not_full c.loop-self.self.desk c.is_full.result c.is_full.ensures c.if-not-is_full.true) (same_gram plan count first _ c.loop-self.self _ c.loop-self.book refl refl refl refl (c.loop-self.invariant.goes plan count first h))
       (record { hears = c.in_ok-heard.ensures.hears; sent = c.in_ok-heard.ensures.sends; over = c.in_ok-heard.ensures.ended; later = c.in_ok-heard.ensures.later });
   live = c.in_ok-take.ensures.live ∙ c.loop-self.invariant.live;
   most = let a = c.in_ok-take.ensures.most in let b = c.loop-self.invariant.most in omega (arith, a, b);

@@ -8,7 +8,7 @@ use Rattle.master_node.proofs.Behinds.{opens_behind, behind_long}
 use Rattle.master_hand.specs.Spoken.{Asked, acknowledged, is_followed, is_passed}
 use Rattle.master_tour.specs.Goes.{is_opened, opened_behind}
 use Rattle.master_node.specs.Shows.{turned_of}
-use Rattle.master_node.proofs.Lists.{both_map}
+use Rattle.master_node.proofs.Lists.{both_map, each_length}
 use Rattle.master_node.proofs.Behinds.{life_lost_is, lead_behind, all_led, goes_lost, behind_shows, missed_is}
 use Rattle.std.proofs.Common.{subst, None}
 use Rattle.std.specs.Prelude.{◌&&◌}
@@ -94,17 +94,17 @@ returns-clause-joined c = λ lens recover retry missed number after octets us be
     (three_kept _ _ (λ v j s t x k. unfinished_kept (stand_before (led_behind lens recover retry gives number f v)) (join_at None unfinished_behind (stand_under v) j []) s t x k) us befores ts zs there c.all_given_up.ensures.kept.each)
 
 pub returns-clause-toured : goal.returns-clause-toured
-returns-clause-toured c = λ lens recover retry missed number after octets us f p b u.
+returns-clause-toured c = λ lens recover as' h.
     let m = c.args.self.now in
     let n = c.all_given_up.new.self in
     let k = c.all_given_up.ensures.kept in
     let e = c.lost.ensures in
-    let leads = map (led_behind lens recover retry (gives_up_at lens recover retry missed) number f) us in
-    let x = returns-clause-leads c lens recover retry missed number after octets us f p b u in
-    let by : nat_lt m.tour.missed m.tour.retry ≡ nat_lt m.tour.missed retry = λ i. nat_lt m.tour.missed (u.retry_is i) in
-    lost_same is_opening_lead retry leads m n (ap (λ z. z.items) (k.tour.visit ∙ e.tour.0)) (k.tour.again ∙ e.tour.1 ∙ by) (k.tour.missed ∙ e.tour.2 ∙ ap (λ (z : Bool). if z then m.tour.missed + 1 else 0) by)
-    (k.tour.opened ∙ e.opened ∙ (λ i. if by i then m.tour.opened else opens_behind lens recover retry leads m.tour.opened c.lost.new.self.stops.items n.tour.stops.items k.each x.each i))
-    (k.tour.last ∙ e.last ∙ (λ i. if by i then m.tour.last else last_behind m.tour.opened (behind_long lens recover retry octets (led_behind lens recover retry (gives_up_at lens recover retry missed) number f) us m.tour.stops.items u.each i) m.tour.last m.tour.visit.items))
+    let ts = c.lost.new.self.stops.items in
+    let long = each_length _ m.tour.stops.items ts e.stays ∙ behind_long lens recover as' ts n.tour.stops.items k.each h in
+    let comes = nat_lt m.tour.missed m.tour.retry in
+    lost_same is_opening_lead m.tour.retry as' m n (ap (λ z. z.items) (k.tour.visit ∙ e.tour.0)) (k.tour.again ∙ e.tour.1) (k.tour.missed ∙ e.tour.2)
+    (k.tour.opened ∙ e.opened ∙ ap (λ z. if comes then m.tour.opened else z) (opens_behind lens recover as' m.tour.opened ts n.tour.stops.items k.each h))
+    (k.tour.last ∙ e.last ∙ ap (λ z. if comes then m.tour.last else last_behind m.tour.opened z m.tour.last m.tour.visit.items) long)
 
 pub returns-clause-happened : goal.returns-clause-happened
 returns-clause-happened c = happens_so 16 _ _ _ (omega arith) c.begins.ensures.so c.begins.ensures.none c.all_given_up.ensures.lan

@@ -229,8 +229,10 @@ returns-clause-serves c = λ lens recover retry missed made forwards ws some sma
     let sent = Served.served_all lens recover made begun octets z.datagrams is left 0 ws z.lives c.fill.new.self.posts.items t2.stops.items filling.each filling.handed filling.numbered z.each in
     let us = turns lens recover made begun octets z.datagrams is as' z.lives t2.stops.items in
     let sends = subst (λ y. AllThree (λ a b s. Served.Sends lens recover made begun octets z.datagrams is a b s) y z.lives t2.stops.items) (sym flat) z.each in
+    let fills = subst (λ y. AllFrom (λ i a s. StopFills lens recover made begun (c.fill.new.self.made % 256) left filling.frame.datagrams i a s) 0 y t2.stops.items) (sym flat) filling.frame.each in
+    let areas = areas_from lens (λ i a s. StopFills lens recover made begun (c.fill.new.self.made % 256) left filling.frame.datagrams i a s) (λ i a s w. area_planned lens a.spot s w.lives.planned) 0 as' t2.stops.items fills in
     let bare = Steps.from_map _ (λ n a s. is_in n left ≡ true → s.under ≡ false) (λ i a s w. w.bare) 0 as' t2.stops.items
-    (from_map lived_of (λ i a s. StopFills lens recover made begun (c.fill.new.self.made % 256) left filling.frame.datagrams i a s) 0 as' t2.stops.items (subst (λ y. AllFrom (λ i a s. StopFills lens recover made begun (c.fill.new.self.made % 256) left filling.frame.datagrams i a s) 0 y t2.stops.items) (sym flat) filling.frame.each)) in (
+    (from_map lived_of (λ i a s. StopFills lens recover made begun (c.fill.new.self.made % 256) left filling.frame.datagrams i a s) 0 as' t2.stops.items fills) in (
       sent.sent,
       record { datagrams = z.datagrams; frame = z.frame; each = sent.each },
       record {
@@ -250,6 +252,8 @@ returns-clause-serves c = λ lens recover retry missed made forwards ws some sma
       },
       on.made ∙ x.made_is,
       served_begin forwards left begun ws sent.sent c.fill.new.self _ (Served.sent_begun us sent.sent sent.turns_are (λ k. begun_for begun as' k) (λ k. begun_turns lens recover made begun octets z.datagrams is as' z.lives t2.stops.items sends k)) refl refl filling.listing,
+      tour_same into m _ c.fill.new.self v e.tour.0 visits e.tour.1 e.tour.2 e.tour.3 on,
+      of_tour into m _ c.fill.new.self v e.tour.0 visits e.tour.1 e.tour.2 e.tour.3 on (λ k. holds_at is_live_lead as' k) alive (λ k. v.alive k ∙ alive k) (frame_size octets) (λ k. area_at lens as' k) (c.finish-some.ensures.size yes) areas (length (seen lens octets)) (sent_many lens octets filling.frame.datagrams (c.finish-some.ensures.reads yes filling.frame.datagrams filling.frame.begun filling.frame.long filling.frame.named) ∙ filling.frame.long) ends.some,
     )
 
 pub returns-clause-head : goal.returns-clause-head

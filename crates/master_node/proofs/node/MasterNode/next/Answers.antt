@@ -9,6 +9,8 @@ use Rattle.master_node.proofs.Sents.{shows_same}
 use Rattle.master_tour.specs.Walks.{EachPair}
 use Rattle.master_tour.proofs.Walks.{each_same}
 use Rattle.master_node.proofs.Asking.{all_ask}
+use Rattle.master_node.proofs.OnFrames.{all_run, all_served}
+use Rattle.master_node.specs.Serving.{run_lead, run_turn}
 use Rattle.std.specs.Prelude.{map, nat_lt}
 use Rattle.master_node.specs.Eager.{recall_of}
 use Rattle.master_node.proofs.Eagers.{all_take, each_recalls}
@@ -63,12 +65,12 @@ returns-clause-toured c = λ h lens recover retry missed as' us x y.
     let w = c.make.ensures.led lens recover retry missed 0 (record { switch = m.lan.switch; forwards = λ k. forwards_at m.posts.items k }) as' (omega (arith, admitted.few, none)) (c.admit.ensures.takes.takes _ [] (omega (arith, none)) (has_none _ _ c.begins.ensures.switch c.begins.ensures.none)) (unlisted (record c.args.self.now { list = c.clear.new.self; lan = c.begins.new.self }) c.admit.new.self c.clear.ensures.none c.clear.ensures.last c.admit.ensures.list c.admit.ensures.same.0) (subst (λ z. list_any (λ s. is_live s.stand) z.stops.items ≡ true) (sym c.admit.ensures.same.1) (sym c.has_live.ensures ∙ live)) (shows_same lens recover retry missed as' _ n c.admit.ensures.same.1 c.admit.ensures.same.0 x) in
     let same : tour_of n ≡ tour_of m = tour_by m n m.tour refl c.admit.ensures.same.1 in (
       w.4 ∙ same,
-      turns_tour lens recover c.make.new.into.items (λ k. holds_at is_live_lead as' k) (frame_size c.make.new.into.items) (λ k. area_at lens as' k) (tour_of m) us c.make.new.self.tour.stops.items (length (seen lens c.make.new.into.items)) c.make.new.self.tour.visit.items y.each
+      turns_tour lens recover c.make.new.into.items (λ k. holds_at is_live_lead as' k) (frame_size c.make.new.into.items) (λ k. area_at lens as' k) (tour_of m) us c.make.new.self.tour.stops.items (length (seen lens c.make.new.into.items)) c.make.new.self.tour.visit.items (all_run lens recover c.make.new.into.items us c.make.new.self.tour.stops.items y.each)
           (subst (λ z. IsOfTour (λ s. stop_share s) (λ k. holds_at is_live_lead as' k) (frame_size c.make.new.into.items) (λ k. area_at lens as' k) z c.make.new.self.tour.stops.items (length (seen lens c.make.new.into.items)) c.make.new.self.tour.visit.items) same w.5),
     )
 
 pub returns-clause-asks : goal.returns-clause-asks
-returns-clause-asks c = λ h lens recover retry missed us y. all_ask lens recover c.make.new.into.items us c.make.new.self.tour.stops.items y.each
+returns-clause-asks c = λ h lens recover retry missed us y. all_ask lens recover c.make.new.into.items us c.make.new.self.tour.stops.items (all_run lens recover c.make.new.into.items us c.make.new.self.tour.stops.items y.each)
 
 pub returns-clause-happened : goal.returns-clause-happened
 returns-clause-happened c = happens_so 17 _ _ _ (omega arith) c.begins.ensures.so c.begins.ensures.none (happens_then 1 16 _ _ _ c.admit.ensures.lan c.make.ensures.lan)
@@ -132,6 +134,20 @@ returns-clause-services c = λ h lens recover retry missed made ws small x.
       w.1,
       record { each = u.each; distinct = u.distinct; goes = u.goes; missed_is = u.missed_is; retry_is = u.retry_is; sent = u.sent; fits = u.fits; carried = u.carried; made_is = more; early = u.early; numbered = u.numbered },
       served_made _ _ _ c.make.new.self _ c.made.ensures.last refl w.4,
+      (let toured : tour_of c.admit.new.self ≡ tour_of m = tour_by m c.admit.new.self m.tour refl same.1 in
+          let octets = c.make.new.into.items in
+          let as' = map run_lead ws in
+          let us = map run_turn w.0 in
+          let stops = c.make.new.self.tour.stops.items in
+          let visit = c.make.new.self.tour.visit.items in
+          let many = length (seen lens octets) in
+          let each = all_served lens recover octets made w.0 c.make.new.self.posts.items stops u.each in
+          record {
+            tour = w.5 ∙ toured;
+            visits = turns_tour lens recover octets (λ k. holds_at is_live_lead as' k) (frame_size octets) (λ k. area_at lens as' k) (tour_of m) us stops many visit each
+                (subst (λ z. IsOfTour (λ s. stop_share s) (λ k. holds_at is_live_lead as' k) (frame_size octets) (λ k. area_at lens as' k) z stops many visit) toured w.6);
+            asks = all_ask lens recover octets us stops each;
+          }),
     )
 
 pub returns-then-not-has_live-clause-whole : goal.returns-then-not-has_live-clause-whole

@@ -11,7 +11,7 @@ use Rattle.master_node.specs.Brought.{StopBrought}
 use Rattle.master_node.specs.Kept.{StopStays}
 use Rattle.master_node.specs.Shows.{IsUnder, turned_of}
 use Rattle.master_node.proofs.Broughts.{brought_kept}
-use Rattle.master_node.proofs.Lists.{both_each, both_map}
+use Rattle.master_node.proofs.Lists.{both_each, both_map, each_length}
 use Rattle.master_node.proofs.Behinds.{life_back_is, lead_behind, all_led, goes_behind, behind_shows}
 use Rattle.std.proofs.Common.{subst, None}
 use Rattle.life_runs.specs.of_life_frames.Shares.{Lived}
@@ -116,15 +116,15 @@ returns-clause-joined c = λ lens recover retry missed number octets us befores 
     )
 
 pub returns-clause-toured : goal.returns-clause-toured
-returns-clause-toured c = λ lens recover retry missed number octets us f p b u r.
+returns-clause-toured c = λ lens recover as' h.
     let m = c.args.self.now in
     let n = c.all_back.new.self in
     let k = c.all_back.ensures.kept in
     let e = c.returned.ensures in
-    let leads = map (led_behind lens recover retry (gives_up_at lens recover retry missed) number f) us in
-    let x = returns-clause-leads c lens recover retry missed number octets us f p b u r in
-    goes_same is_opening_lead leads m n (k.tour.again ∙ e.tour.1) (k.tour.opened ∙ e.opened ∙ opens_behind lens recover retry leads m.tour.opened c.returned.new.self.stops.items n.tour.stops.items k.each x.each)
-    (k.tour.last ∙ e.last ∙ ap (λ z. last_behind m.tour.opened z m.tour.last m.tour.visit.items) (behind_long lens recover retry octets (led_behind lens recover retry (gives_up_at lens recover retry missed) number f) us m.tour.stops.items u.each)) (k.tour.missed ∙ e.tour.2)
+    let ts = c.returned.new.self.stops.items in
+    let long = each_length _ m.tour.stops.items ts e.stays ∙ behind_long lens recover as' ts n.tour.stops.items k.each h in
+    goes_same is_opening_lead as' m n (k.tour.again ∙ e.tour.1) (k.tour.opened ∙ e.opened ∙ opens_behind lens recover as' m.tour.opened ts n.tour.stops.items k.each h)
+    (k.tour.last ∙ e.last ∙ ap (λ z. last_behind m.tour.opened z m.tour.last m.tour.visit.items) long) (k.tour.missed ∙ e.tour.2)
 
 pub returns-clause-happened : goal.returns-clause-happened
 returns-clause-happened c = happens_so 16 _ _ _ (omega arith) c.begins.ensures.so c.begins.ensures.none c.all_back.ensures.lan

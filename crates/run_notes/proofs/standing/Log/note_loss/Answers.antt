@@ -7,15 +7,14 @@ use Rattle.master_node.proofs.Quiets.{lead_lives}
 use Rattle.master_node.specs.Shows.{IsLived, lived_of}
 use Rattle.run_notes.specs.declared.notes.Notes.{Notes}
 use Rattle.run_notes.specs.Slaves.{gaves_noted}
-use Rattle.run_notes.specs.Notes.{stations_of}
+use Rattle.run_notes.specs.Notes.{stations_of, given_up}
 use Rattle.run_notes.proofs.Gaves.{none_more, one_more, noted_at, gave_got, same_there, tells_of}
 use Rattle.run_notes.proofs.Stations.{length_stations, one_noted}
-use Rattle.run_notes.specs.Notes.{given_up}
 use Rattle.run_notes.specs.Reports.{Reports}
 use Rattle.run_notes.proofs.Heard.{same_heard}
 use Rattle.run_notes.proofs.Ways.{any_ok}
 use Rattle.run_notes.proofs.Reporting.{to_next, to_same, got_there, same_whole, loss_same, loss_more}
-use Rattle.script_answers.specs.Steps.{LosesSo}
+use Rattle.script_runs.specs.Steps.{LosesSo}
 use Rattle.run_notes.proofs.Packets.{same_begun}
 use Rattle.run_notes.proofs.standing.Log.note_loss.Goals as goal
 

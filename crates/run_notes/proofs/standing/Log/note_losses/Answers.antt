@@ -4,13 +4,12 @@ use Rattle.run_notes.specs.declared.notes.Notes.{Notes}
 use Rattle.master_node.specs.Shows.{MasterShows, lived_of}
 use Rattle.master_node.specs.Told.{HasLives}
 use Rattle.master_node.specs.Wants.{gave_of, AllCounted}
-use Rattle.run_notes.specs.Slaves.{gaves_noted}
-use Rattle.run_notes.specs.Slaves.{gave_at}
+use Rattle.run_notes.specs.Slaves.{gaves_noted, gave_at}
 use Rattle.run_notes.proofs.Gaves.{walked, walked_on, walked_all}
 use Rattle.run_notes.proofs.Kept.{slaves_more}
 use Rattle.run_notes.specs.Reports.{ReportsTo}
 use Rattle.run_notes.proofs.Reporting.{to_first, to_last, both_lengths}
-use Rattle.script_answers.specs.Steps.{LosesSo}
+use Rattle.script_runs.specs.Steps.{LosesSo}
 use Rattle.run_notes.proofs.standing.Log.note_losses.Goals as goal
 
 pub loop-place-preserved : goal.loop-place-preserved

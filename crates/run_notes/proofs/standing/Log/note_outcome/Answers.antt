@@ -8,7 +8,7 @@ use Rattle.run_notes.proofs.Heard.{same_heard}
 use Rattle.run_notes.proofs.Reporting.{to_next, got_there, awaited_at, reply_changed}
 use Rattle.run_notes.proofs.Stations.{same_noted}
 use Rattle.run_notes.proofs.Ways.{any_ok}
-use Rattle.script_answers.specs.Steps.{PassesSo}
+use Rattle.script_runs.specs.Steps.{PassesSo}
 use Rattle.run_notes.proofs.Packets.{same_begun}
 use Rattle.run_notes.proofs.standing.Log.note_outcome.Goals as goal
 

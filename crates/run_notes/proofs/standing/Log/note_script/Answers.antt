@@ -8,7 +8,7 @@ use Rattle.run_notes.proofs.Heard.{same_heard}
 use Rattle.run_notes.proofs.Reporting.{to_next, to_same, got_there, same_whole, script_same, script_more}
 use Rattle.run_notes.proofs.Stations.{same_noted}
 use Rattle.run_notes.proofs.Ways.{any_ok}
-use Rattle.script_answers.specs.Steps.{TurnsSo}
+use Rattle.script_runs.specs.Steps.{TurnsSo}
 use Rattle.run_notes.proofs.Packets.{script_rows}
 use Rattle.run_notes.proofs.standing.Log.note_script.Goals as goal
 

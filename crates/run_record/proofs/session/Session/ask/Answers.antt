@@ -45,7 +45,7 @@ returns-clause-full c =
 
 pub returns-then-ask-clause-serves : goal.returns-then-ask-clause-serves
 returns-then-ask-clause-serves c =
-    serving_asks _ _ _ c.args.slave c.args.key c.args.mail.now c.self.view_is c.if-ask.ensures.served (λ full. (let bad : true ≡ false = c.if-ask.ensures.full.1 full in cc))
+    serving_asks _ _ _ c.args.slave c.args.key c.args.mail.now c.self.view_is c.if-ask.ensures.served (λ full. (let bad : true ≡ false = c.if-ask.ensures.full.1 full in cc)) c.if-ask.ensures.kept.0
     (ap (λ (s : SessionState). s.asked) (returns-then-ask-clause-asked c)) refl refl
 
 pub returns-clause-serves : goal.returns-clause-serves

@@ -100,8 +100,7 @@ returns-clause-ok c =
             stands_on c.self.inside.master c.next.new.self c.tell.new.master (exchanged f) c.next.result c.next.ensures.idle c.next.ensures.begun c.next.ensures.toured c.next.ensures.asks plan fs live c.self.inside.log.notes l
             (λ number us frame under. c.tell.ensures.leads (lens_of plan.slaves) plan.recover plan.retry l.missed number us (exchanged f) refl refl under
             (λ pass. returned (lens_of plan.slaves) c.self.inside.ring (exchanged f) number l.leads us c.exchange-fate.ensures.fate c.exchange-fate.ensures.back frame pass))
-            (λ number us frame under. c.tell.ensures.toured (lens_of plan.slaves) plan.recover plan.retry l.missed number us (exchanged f) refl refl under
-            (λ pass. returned (lens_of plan.slaves) c.self.inside.ring (exchanged f) number l.leads us c.exchange-fate.ensures.fate c.exchange-fate.ensures.back frame pass))
+            (λ as' h. c.tell.ensures.toured (lens_of plan.slaves) plan.recover as' h)
             c.self.inside.number (counts ∙ sym (ap (λ (s : SessionState). s.ring.number) c.self.view_is) ∙ sym number) c.note_before.new.self c.note_behind.new.self
             (c.note_before.ensures.slaves.recover ∙ ap (λ (s : SessionState). s.recover) c.self.view_is ∙ recover) c.in_ok-note_before.ensures.gave both.0
             c.in_ok-note_before.ensures.told both.1.0
@@ -135,6 +134,7 @@ returns-clause-ok c =
             (λ rests may. c.next.ensures.enters (next_frame c.self.inside.master c.next.result c.next.ensures.idle live) (lens_of plan.slaves) plan.recover plan.retry l.missed l.leads l.shows rests may));
       },
       serving_on _ _ _ c.next.new.self f c.next.result c.self.view_is c.next.ensures.idle c.next.ensures.services (λ lens recover retry missed made vs under back. c.tell.ensures.served lens recover retry missed made vs (exchanged f) refl refl under back)
+          (λ lens recover as' h. c.tell.ensures.toured lens recover as' h)
           (c.tell.ensures.whole ∙ ap (λ (es : List Event). es ++ events_in c.tell.new.master) c.next.ensures.whole.1) (c.tell.ensures.told c.next.ensures.few)
           (record { fate = c.exchange-fate.ensures.fate; back = c.exchange-fate.ensures.back }) (let n = c.self.invariant.0 in let b = c.self.invariant.1 in let most = c.self.invariant.2 in omega (arith, n, b, most))
           (c.note_behind.ensures.slaves.asked ∙ c.note_before.ensures.slaves.asked) refl

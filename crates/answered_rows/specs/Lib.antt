@@ -1,3 +1,0 @@
-pub use Rattle.never_waits.specs as of_never_waits
-pub mod Moments
-pub mod Answered

@@ -1,1 +1,0 @@
-pub use Rattle.never_waits.specs as of_never_waits

@@ -1,5 +1,0 @@
-use Rattle.book_lives.proofs.First
-use Rattle.book_lives.proofs.first_epoch_law.Goals as goal
-
-pub returns : goal.returns
-returns g k = λ w c p spot whole f more first l fs n i is open_. First.first_book w c p spot whole f more first l fs n i is open_

@@ -1,5 +1,0 @@
-mod Ahead
-mod Asks
-pub mod News
-mod Places
-pub mod Tours

@@ -1,2 +1,0 @@
-mod Recalled
-mod Uncut

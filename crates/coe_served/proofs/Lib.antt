@@ -1,3 +1,0 @@
-pub mod Transfers
-pub mod Keeping
-pub mod ServedLaw

@@ -1,3 +1,0 @@
-mod Moments
-mod Seats
-pub mod Eras

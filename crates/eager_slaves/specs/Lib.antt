@@ -1,3 +1,0 @@
-pub mod Eager
-pub mod Frames
-pub mod Standing

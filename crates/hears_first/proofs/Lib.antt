@@ -1,6 +1,0 @@
-pub mod Dialogues
-pub mod Protocols
-pub mod Forms
-pub mod States
-pub mod Slaves
-mod WorkedRows

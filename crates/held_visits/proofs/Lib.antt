@@ -1,3 +1,0 @@
-pub mod Held
-pub mod Ends
-pub mod Spent

@@ -1,6 +1,0 @@
-use Rattle.held_visits.proofs.Spent.{spent_free}
-use Rattle.held_visits.proofs.spent_law.Goals as goal
-
-pub returns : goal.returns
-returns g c = λ x s processor table spot l opened last fs v r slave law stated never lived spent is y same row said none.
-    spent_free x s processor table spot l opened last fs v r slave law stated never lived spent is y same row said none

@@ -1,0 +1,27 @@
+//! One slave of a ring by a frame that came back and gained nothing of it, where its master makes no visit in vain. Definitions and a law, no running code: the
+//! function here does nothing, and its contract states the law.
+
+ghost use Rattle.std.specs.Prelude.{◌≡◌, ℕ, Bool, List, Option};
+ghost use Rattle.idle_slaves.specs.Eager.{Remembered};
+ghost use Rattle.idle_slaves.specs.EagerFrames.{FrameAs, EagerAs, StandsOn};
+ghost use Rattle.idle_slaves.specs.Standing.{Standing};
+ghost use Rattle.exchange_model.specs.Exchange.{Exchange, Speech};
+ghost use Rattle.life_model.specs.Lives.{Spot, Stand};
+ghost use Rattle.link_mails.specs.Body.{Body};
+ghost use Rattle.master_duty.specs.Reply.{Reply};
+ghost use Rattle.master_hand.specs.Spoken.{Asked};
+ghost use Rattle.run_frames.specs.Clocks.{Clocked};
+ghost use Rattle.run_frames.specs.Goes.{Under};
+ghost use Rattle.run_frames.specs.Waits.{Waits};
+ghost use Rattle.segment_model.specs.Slaves.{Datagram, Processor, Slave, serving};
+ghost use Rattle.segment_plan.specs.declared.service.Service as Plan;
+ghost use Rattle.state_exchange.specs.Stated.{Service};
+ghost use Rattle.state_model.specs.States.{Table};
+
+/// AN OPEN SLAVE STANDS SO by each frame that came back and gained nothing of it, where its master makes no visit in vain if more could go on: visited less than
+/// twice behind a step since something was gained, it waits yet; else all was done of it before the frame.
+pub fn eager_law<V, A>()
+    ensures { (ex : Exchange V A Body Asked Reply) (processor : Processor V) (table : Table) (x : Spot → Speech Body Asked Reply) (acknowledged : Asked → Bool) (more : Body → Bool) (passed : Asked → Bool) (number : ℕ) (sent back : List (Datagram Body)) (c : Clocked Body Asked Reply) (u : Under Body Asked Reply) (s s' : Slave V Body) (m n : Remembered) (begun : Option (Service Asked)) (next next' : Option Plan.Service) (t : Waits) →
+        (f : FrameAs ex processor table x acknowledged more passed number sent back c u t s s') → EagerAs ex processor table x acknowledged more passed number sent back c u t s s' f m n begun next next' → c.life.stand ≡ Stand.Open → Standing (serving ex) table (x c.spot) acknowledged c.life s m next t →
+        StandsOn ex processor table x acknowledged more passed number sent back c u s s' m n next next' t }
+{}

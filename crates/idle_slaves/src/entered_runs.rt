@@ -1,0 +1,22 @@
+//! A run of which it is known with which frames packets of the host came in. Definitions and a law, no running code: the function here does nothing, and its
+//! contract states the law.
+
+ghost use Rattle.std.specs.Prelude.{ℕ, List, Option};
+ghost use Rattle.idle_slaves.specs.Eager.{Remembered};
+ghost use Rattle.life_runs.specs.First.{lens_of, first_leads};
+ghost use Rattle.life_runs.specs.Led.{Exchanged, Leads};
+ghost use Rattle.link_mails.specs.Body.{Body};
+ghost use Rattle.master_duty.specs.Reply.{Reply};
+ghost use Rattle.master_hand.specs.Spoken.{Asked};
+ghost use Rattle.run_frames.specs.Clocks.{Clocked};
+ghost use Rattle.run_frames.specs.Runs.{Progress};
+ghost use Rattle.run_frames.specs.Toured.{IsToured};
+ghost use Rattle.segment_plan.specs.declared.plan.Scenario.{Scenario};
+ghost use Rattle.idle_slaves.specs.Entered.{EagerBut, Entered};
+
+/// OF A RUN WITH KNOWN FRAMES OF THE HOST those of them that gained nothing count as lost: each other frame that gained nothing is one that its master made with
+/// no visit in vain. No more count as lost than were lost, and one for each of the host's frames.
+pub fn entered_law()
+    ensures { (plan : Scenario) (slowest : ℕ) (paces : List ℕ) (fs : List Exchanged) (again : Option (List ℕ)) (missed : ℕ) (leads : List Leads) (p : Progress) (cs : List (Clocked Body Asked Reply)) (ns : List Remembered) →
+        (run : IsToured (lens_of plan.slaves) plan.recover plan.retry slowest (first_leads plan) paces fs again missed leads p cs) → (e : EagerBut plan run ns) → Entered plan slowest paces fs again missed leads p cs ns run e }
+{}

@@ -1,3 +1,0 @@
-pub mod Settled
-mod Owns
-pub mod Epochs

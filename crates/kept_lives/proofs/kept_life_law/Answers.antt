@@ -1,5 +1,0 @@
-use Rattle.kept_lives.proofs.Epochs.{kept_life}
-use Rattle.kept_lives.proofs.kept_life_law.Goals as goal
-
-pub returns : goal.returns
-returns g k = λ w c p spot more first l fs n whole lived. kept_life w c p spot whole more fs first l n lived

@@ -1,8 +1,0 @@
-use Rattle.kept_rows.proofs.Next.{next_free, next_passing}
-use Rattle.kept_rows.proofs.begins_law.Goals as goal
-
-pub returns-clause-free : goal.returns-clause-free
-returns-clause-free c = λ lens made ds w v t s e. next_free lens made ds w v t s e
-
-pub returns-clause-passing : goal.returns-clause-passing
-returns-clause-passing c = λ lens made ds w v t. next_passing lens made ds w v t

@@ -1,6 +1,0 @@
--- The lemmas on what a slave gives, at the types of the function.
-use Rattle.last_told.proofs.Slaves
-use Rattle.last_told.proofs.last_told.Goals as goal
-
-pub returns : goal.returns
-returns g c = λ o p law is. Slaves.slave_tells o law p is

@@ -1,8 +1,0 @@
-use Rattle.master_hand.specs.Spoken.{is_followed}
-use Rattle.slave_served.specs.Served.{product_whole}
-use Rattle.last_told.proofs.Slaves.{slave_tells}
-use Rattle.last_told.proofs.Passed as Passed
-use Rattle.last_told.proofs.passed_told.Goals as goal
-
-pub returns : goal.returns
-returns g c = λ o p law is m answers calm. Passed.passed_told (product_whole o p) is_followed (slave_tells o law p is) m answers calm

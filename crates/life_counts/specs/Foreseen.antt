@@ -1,0 +1,26 @@
+-- WHICH MAILS THAT ARE PASSED ON ARE FORESEEN AS ANSWERED: just those that the server replies to that they come to.
+use Rattle.std.specs.Prelude.{List, [], ◌∷◌, ⊤}
+use Rattle.exchange_model.specs.Exchange.{Exchange}
+use Rattle.passed_whole.specs.Silent.{IsForeseenRight}
+use Rattle.serving_model.specs.Tagged.{Asked, asked_exec}
+use Rattle.state_exchange.specs.Stated.{Stated, Service}
+use Rattle.state_model.specs.Promises.{state_behind}
+use Rattle.state_model.specs.States.{Table}
+
+module _ {V M Q R : Type 0} (x : Exchange V V M Q R) (s : Stated V V Q) (table : Table) where
+  -- of one, at this server
+  abbrev pub IsRightAt : V → Asked M Q → Type 0
+  IsRightAt v (Asked.Script q) = ⊤
+  IsRightAt v (Asked.Passed m answers) = IsForeseenRight x v m answers
+
+  -- OF ALL SERVICES, by mails and of the AL state: each at the server behind those before it
+  abbrev pub AllRight : V → List (Service (Asked M Q)) → Type 0
+  AllRight v [] = ⊤
+  AllRight v (Service.Mails q ∷ qs) = IsRightAt v q × AllRight (asked_exec x v q) qs
+  AllRight v (Service.State target ∷ qs) = AllRight (s.tell (state_behind table (s.state v) target) v) qs
+
+  -- the server behind services
+  abbrev pub server_behind : V → List (Service (Asked M Q)) → V
+  server_behind v [] = v
+  server_behind v (Service.Mails q ∷ qs) = server_behind (asked_exec x v q) qs
+  server_behind v (Service.State target ∷ qs) = server_behind (s.tell (state_behind table (s.state v) target) v) qs

@@ -1,0 +1,22 @@
+//! An epoch in which mails are passed on beside services, led by a master that sees none of what is meant by them, is the same epoch of a session that does.
+//! Definitions and laws, no running code: the functions here do nothing, and their contracts state the laws.
+
+ghost use Rattle.std.specs.Prelude.{◌≡◌, ℕ, Bool, true, Option, List, [], ◌∷◌};
+ghost use Rattle.exchange_model.specs.Exchange.{Exchange};
+ghost use Rattle.life_model.specs.Eras.{planned};
+ghost use Rattle.life_model.specs.Lives.{Spot, Era};
+ghost use Rattle.passed_whole.specs.Led.{IsLed};
+ghost use Rattle.segment_model.specs.Record.{Frame};
+ghost use Rattle.segment_model.specs.Slaves.{Registers, Processor, Slave};
+ghost use Rattle.serving_model.specs.Tagged.{Rowed};
+ghost use Rattle.state_model.specs.States.{Table};
+ghost use Rattle.task_model.specs.Tasks.{IsTaskPlan};
+ghost use Rattle.life_counts.specs.Epochs.{Speaker, IsSpeaker, IsRun, IsSeen, AllFair, between, seeing, seeing_states};
+
+/// AN EPOCH IS A SESSION OF SERVICES AND FAIR MAILS, where each mail that was passed on in it is fair: there is what is meant by each of its mails, so that the
+/// slave's server takes and gives them as a session does that sees it, and the master's side of the slave is that session's, without it.
+pub fn epoch_law<V, A, M, Q, R, C, T>()
+    ensures { (w : Speaker V M Q R C T) → IsSpeaker w → (u : Exchange V A M T (Option R)) (processor : Processor V) (seer : Processor (Rowed V M Q)) → (table : ℕ → Table) (spot : Spot) → IsRun w u processor seer (table spot.station) → (opened : ℕ) (v : V) (r : Registers) →
+        IsTaskPlan (seeing w) (seeing_states w) seer table (planned spot (between v) r ∷ []) → r.station ≡ spot.station → (fs : List (Frame M)) (counts : Bool) (e : Era M T (Option R)) (n : Slave V M) →
+        IsLed u w.naming.acknowledged processor w.naming.more w.naming.passed spot opened v r fs counts e n → AllFair w e.account.started → IsSeen w seer table spot opened v r fs counts e n }
+{}

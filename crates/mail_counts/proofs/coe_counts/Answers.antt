@@ -1,5 +1,0 @@
-use Rattle.mail_counts.proofs.OfCoe.{coe_within}
-use Rattle.mail_counts.proofs.coe_counts.Goals as goal
-
-pub returns : goal.returns
-returns g c = λ o eoe areas law sized v q sound valid. coe_within o law eoe areas sized v q sound valid

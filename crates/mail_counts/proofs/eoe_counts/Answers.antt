@@ -1,8 +1,0 @@
-use Rattle.mail_counts.proofs.OfEoe.{eoe_within, packet_within}
-use Rattle.mail_counts.proofs.eoe_counts.Goals as goal
-
-pub returns : goal.returns
-returns g c = record {
-  between = λ o areas sound sized v q ready valid. eoe_within o sound areas sized v q ready valid;
-  fragments = λ room frame octets wide. packet_within room frame octets wide;
-}

@@ -1,5 +1,0 @@
-use Rattle.mail_counts.proofs.OfSoe.{soe_within}
-use Rattle.mail_counts.proofs.soe_counts.Goals as goal
-
-pub returns : goal.returns
-returns g c = λ o areas law sized v q ready valid. soe_within o law areas sized v q ready valid

@@ -1,0 +1,20 @@
+-- A FRAME OF A SERVING IS A VISIT OF ITS MASTER'S TOUR.
+use Rattle.std.specs.Prelude.{◌≡◌, ℕ, List, map, length}
+use Rattle.life_runs.specs.of_frame_view.Seen.{seen}
+use Rattle.life_runs.specs.of_frame_view.View.{Lens}
+use Rattle.master_tour.specs.Goes.{holds_at}
+use Rattle.master_tour.specs.Sizes.{frame_size}
+use Rattle.master_tour.specs.Toured.{IsOfTour}
+use Rattle.served_runs.specs.Served.{Serves, ServedTurn}
+use Rattle.master_node.specs.Asks.{AllAsk}
+use Rattle.master_node.specs.Rooms.{area_at}
+use Rattle.master_node.specs.Serving.{run_lead, run_turn}
+use Rattle.master_node.specs.Shows.{is_live_lead}
+use Rattle.master_node.specs.Toured.{tour_of, turn_share}
+use Rattle.master_node.specs.declared.node.MasterNode.{MasterNode}
+
+-- THE FRAME CARRIES THE SLAVES OF ITS VISIT, of the tour as it stood before and stands while it is under way, and asks by the inward half first
+pub record IsServedVisit (lens : ℕ → Lens) (octets : List ℕ) (ws : List Serves) (vs : List ServedTurn) (m n : MasterNode) : Type 0 where
+  pub tour : tour_of n ≡ tour_of m
+  pub visits : IsOfTour (λ u. turn_share u) (λ k. holds_at is_live_lead (map run_lead ws) k) (frame_size octets) (λ k. area_at lens (map run_lead ws) k) (tour_of m) (map run_turn vs) (length (seen lens octets)) n.tour.visit.items
+  pub asks : AllAsk (seen lens octets) (map run_turn vs)

@@ -1,5 +1,0 @@
-use Rattle.named_waits.proofs.Names.{named_never}
-use Rattle.named_waits.proofs.named_waits_law.Goals as goal
-
-pub returns : goal.returns
-returns g c = λ x n y agrees never. named_never x n y agrees never

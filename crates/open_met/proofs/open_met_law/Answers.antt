@@ -1,9 +1,0 @@
-use Rattle.std.proofs.Common.{[], refl}
-use Rattle.ring_clocks.proofs.Each.{meets}
-use Rattle.whole_ring.specs.Members.{Passes}
-use Rattle.open_met.proofs.Each.{each_met}
-use Rattle.open_met.proofs.open_met_law.Goals as goal
-
-pub returns : goal.returns
-returns g c = λ lens step test more passed fs ring octets ds ms turns frame r asks pass.
-    each_met lens step (Passes test) more passed fs ring octets ds frame ms r (meets lens step (Passes test) more passed fs ring octets ds frame ms turns r asks) pass [] ms turns refl r.each asks

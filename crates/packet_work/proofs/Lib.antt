@@ -1,3 +1,0 @@
-mod Echoes
-mod Sharing
-mod Flows

@@ -1,2 +1,0 @@
-pub mod Calms
-mod Sums

@@ -1,8 +1,0 @@
-use Rattle.passed_counts.proofs.Sums.{quiet_few, enough}
-use Rattle.passed_counts.proofs.gram_law.Goals as goal
-
-pub returns : goal.returns
-returns s = record {
-  quiet = λ slaves pace some. quiet_few slaves pace some;
-  enough = λ slaves pace still few. enough slaves pace still few;
-}

@@ -1,3 +1,0 @@
-mod Clears
-mod Naturals
-mod Clients

@@ -1,3 +1,0 @@
-pub mod Names
-mod Slaves
-pub mod All

@@ -1,2 +1,0 @@
-pub use Rattle.due_rows.specs as of_due_rows
-pub mod Dues

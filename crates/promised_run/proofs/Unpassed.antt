@@ -1,0 +1,73 @@
+-- No mail that is passed on is in hand of a run.
+use Rattle.std.proofs.Common.{◌≡◌, ℕ, ◌+◌, Bool, true, false, Option, Some, None, List, [], ◌∷◌, map, length, refl, sym, ap, ◌∙◌, if◌then◌else◌}
+use Rattle.std.specs.Prelude.{nat_lt, ⊤}
+use Rattle.datagrams.specs.Datagram as Raw
+use Rattle.frame_view.specs.Seen.{seen}
+use Rattle.frame_view.specs.View.{Lens}
+use Rattle.life_model.specs.Lives.{Life}
+use Rattle.life_runs.specs.Led.{Exchanged, Leads, Turn, IsTurn, AllTurn, Comes, speech_at, is_passed, led_behind, life_behind}
+use Rattle.link_mails.specs.Body.{Body}
+use Rattle.master_duty.specs.Reply.{Reply}
+use Rattle.master_hand.specs.Spoken.{Asked, acknowledged, is_followed, net}
+use Rattle.master_hand.specs.Talk.{asked_of}
+use Rattle.master_hand.specs.of_eoe_model.Client as EoeClient
+use Rattle.master_tour.proofs.Unpassed.{unpassed_next, unpassed_back, unpassed_lost}
+use Rattle.segment_plan.specs.declared.service.Service as Plan
+use Rattle.segment_ring.specs.declared.wire.Fate.{Fate}
+use Rattle.segment_ring.specs.declared.wire.Fate.TheVariants.{Pass, Lost}
+use Rattle.state_exchange.specs.Stated.{Service}
+use Rattle.idle_slaves.specs.WaitEager.{AllUnpassed}
+
+-- no script passes a mail on
+abbrev passed_in : Option Asked → Bool
+passed_in None = false
+passed_in (Some q) = is_passed q
+
+none_set : (b : Bool) (block : List ℕ) → passed_in (if b then None else Some (net (EoeClient.set_ip block))) ≡ false
+none_set true block = refl
+none_set false block = refl
+
+none_in : (room : ℕ) (s : Plan.Service) → passed_in (asked_of room s) ≡ false
+none_in room (Plan.Service.Sdo service) = refl
+none_in room (Plan.Service.ReadFile name pass) = refl
+none_in room (Plan.Service.WriteFile name pass bytes) = refl
+none_in room (Plan.Service.ReadIdn drive idn elements) = refl
+none_in room (Plan.Service.WriteIdn drive idn elements bytes) = refl
+none_in room (Plan.Service.SetIp block) = none_set (nat_lt room (length block + 10)) block
+none_in room Plan.Service.GetIp = refl
+none_in room (Plan.Service.State target) = refl
+none_in room (Plan.Service.Forward packet) = refl
+
+comes_own : (room : ℕ) (script : List Plan.Service) (n m : ℕ) (b : Option (Service Asked)) → Comes room script n b m → (q : Asked) → b ≡ Some (Service.Mails q) → is_passed q ≡ false
+comes_own room script n m _ Comes.none q e = absurd (cc)
+comes_own room script n m _ (Comes.mails s p at asked) q e = (let same : p ≡ q = cc in ap is_passed (sym same) ∙ ap passed_in (sym asked) ∙ none_in room s)
+comes_own room script n m _ (Comes.state target at) q e = absurd (cc)
+comes_own room script n m _ (Comes.packet octets frame) q e = (let same : net (EoeClient.packet octets frame) ≡ q = cc in ap is_passed (sym same))
+
+-- of slaves before a frame
+abbrev pub TurnsUnpassed : List Turn → Type 0
+TurnsUnpassed [] = ⊤
+TurnsUnpassed (u ∷ us) = (u.lived.life.era.passing ≡ None) × TurnsUnpassed us
+
+module _ (lens : ℕ → Lens) (recover retry : ℕ) (gives : Bool) (made : ℕ) (f : Exchanged) where
+  turn_unpassed : (ds : List Raw.Datagram) (a : Leads) (u : Turn) → IsTurn lens made ds a u → a.lived.life.era.passing ≡ None → u.lived.life.era.passing ≡ None
+  turn_unpassed ds a u t e =
+      ap (λ (l : Life Body Asked Reply). l.era.passing) t.next.life
+      ∙ unpassed_next (speech_at lens a.lived.spot) acknowledged is_followed is_passed made a.lived.life a.lived.life.stand t.next.pick e (λ q w. comes_own (lens a.lived.spot.station).out a.script a.number u.number u.begun t.comes q (sym t.begun ∙ w))
+
+  -- nor before a frame
+  pub turns_unpassed : (ds : List Raw.Datagram) (as' : List Leads) (us : List Turn) → AllTurn lens made ds as' us → AllUnpassed as' → TurnsUnpassed us
+  turns_unpassed ds [] [] t k = tt
+  turns_unpassed ds [] (u ∷ us) t k = absurd t
+  turns_unpassed ds (a ∷ as') [] t k = absurd t
+  turns_unpassed ds (a ∷ as') (u ∷ us) t k = (turn_unpassed ds a u t.0 k.0, turns_unpassed ds as' us t.1 k.1)
+
+  behind_none : (fate : Fate) (u : Turn) → u.lived.life.era.passing ≡ None → (life_behind lens recover retry gives made f fate u.lived u.share).life.era.passing ≡ None
+  behind_none Pass u e = unpassed_back (speech_at lens u.lived.spot) acknowledged is_followed is_passed made (seen lens f.back) u.lived u.share [] e
+  behind_none (Lost after) u e = unpassed_lost (speech_at lens u.lived.spot) acknowledged is_followed is_passed gives recover made (seen lens f.sent) u.lived u.share [] e
+
+  pub unpassed_on : (ds : List Raw.Datagram) (as' : List Leads) (us : List Turn) → AllTurn lens made ds as' us → AllUnpassed as' → AllUnpassed (map (led_behind lens recover retry gives made f) us)
+  unpassed_on ds [] [] t k = tt
+  unpassed_on ds [] (u ∷ us) t k = absurd t
+  unpassed_on ds (a ∷ as') [] t k = absurd t
+  unpassed_on ds (a ∷ as') (u ∷ us) t k = (behind_none f.fate u (turn_unpassed ds a u t.0 k.0), unpassed_on ds as' us t.1 k.1)

@@ -1,0 +1,41 @@
+-- WHAT A SERVING PROMISES OF ITS SLAVES, at each moment of it.
+use Rattle.std.specs.Prelude.{◌≡◌, ℕ, Some, List, [], ◌∷◌, ◌++◌, length, map, All}
+use Rattle.life_frames.specs.Shares.{AllBoth}
+use Rattle.life_runs.specs.First.{lens_of}
+use Rattle.life_runs.specs.Led.{gives_up_at}
+use Rattle.run_book.specs.declared.book.Book.{Book}
+use Rattle.run_book.specs.declared.book.SentFrame.{SentFrame}
+use Rattle.run_record.specs.Led.{exchanged}
+use Rattle.run_record.specs.Replay.{first_ring, ring_after}
+use Rattle.run_record.specs.Served.{ServeTo}
+use Rattle.segment_plan.specs.declared.plan.Scenario.{Scenario}
+use Rattle.served_rings.specs.Served.{AllServeSo}
+use Rattle.served_runs.specs.Came.{HasServed}
+use Rattle.segment_model.specs.Ends.{Passing}
+use Rattle.served_runs.specs.Served.{Serves, ServedTurn, IsServedFrame, TellsSo, served_behind}
+use Rattle.served_runs.specs.Told.{Passed, TellsOwn}
+
+-- BEHIND THESE FRAMES, of each slave as its master leads it: the slave of the ring that replays them has carried out, epoch by epoch, just the first of the rows
+-- that came into hand of it, each mail that was passed on by the one step that its server takes for it; what was heard for the one in hand are the first of the
+-- replies of that step, and all of them where it is over; what was told of it are the first of those; and what came into hand are the next services of its script,
+-- packets, and the mails that were asked of it, in order, each once
+pub record IsServedSo (plan : Scenario) (front : List SentFrame) (ws : List Serves) : Type 0 where
+  pub slaves : AllServeSo plan.slaves ws (ring_after (first_ring plan) front).nodes
+  pub told : All TellsSo ws
+  pub came : All (HasServed (lens_of plan.slaves)) ws
+
+-- AT EACH MOMENT: behind any first frames of the book, as its master leads the slaves by these and by the mails that were asked until then
+abbrev pub IsServedThrough : Scenario → Book → Type 0
+IsServedThrough plan book =
+    (front back : List SentFrame) → book.frames ≡ front ++ back → (missed : ℕ) (ws : List Serves) → ServeTo plan (map exchanged front) missed ws → IsServedSo plan front ws
+
+-- A MAIL THAT WAS PASSED ON AND WASN'T OVER BEFORE A FRAME: what is told of it behind the frame are all replies that were heard for it, also where it is over by then
+abbrev pub TellsWhole : ServedTurn → Serves → Type 0
+TellsWhole v w = (passing : Passing) → v.turn.lived.life.era.passing ≡ Some passing → (p : Passed) → w.hand ≡ Some p → (t : TellsOwn p w.lead.lived.life.era.passing w.lead.lived.life.era.side.now) × (t.rest ≡ [])
+
+-- FROM EACH MOMENT TO THE NEXT: of each slave, by each frame of the book as its master leads the slaves before it and behind it
+abbrev pub IsServedWhole : Scenario → Book → Type 0
+IsServedWhole plan book =
+    (front back : List SentFrame) (f : SentFrame) → book.frames ≡ front ++ f ∷ back → (missed : ℕ) (ws : List Serves) → ServeTo plan (map exchanged front) missed ws →
+    (vs : List ServedTurn) → IsServedFrame (lens_of plan.slaves) (length (map exchanged front)) f.sent ws vs →
+    AllBoth TellsWhole vs (map (served_behind (lens_of plan.slaves) plan.recover plan.retry (gives_up_at (lens_of plan.slaves) plan.recover plan.retry missed) (length (map exchanged front)) (exchanged f)) vs)

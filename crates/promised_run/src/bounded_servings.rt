@@ -1,0 +1,47 @@
+//! No budget of as many frames as the frame bound cuts a serving off. Definitions and a law, no running code: the function here does nothing, and its contract
+//! states the law.
+
+ghost use Rattle.arrayvec.specs.ArrayVec.{ArrayVec};
+ghost use Rattle.eoe_switch.specs.declared.switching.SwitchEvent.{SwitchEvent};
+ghost use Rattle.idle_slaves.specs.Eager.{Remembered};
+ghost use Rattle.life_runs.specs.First.{first_leads, lens_of};
+ghost use Rattle.life_runs.specs.Led.{Exchanged};
+ghost use Rattle.link_mails.specs.Body.{Body};
+ghost use Rattle.master_duty.specs.Reply.{Reply};
+ghost use Rattle.master_hand.specs.Spoken.{Asked};
+ghost use Rattle.master_node.specs.Happened.{arrivals_at};
+ghost use Rattle.master_node.specs.Ports.{IsAtPort, ports_behind, ports_of};
+ghost use Rattle.packets_heard.specs.Servings.{AreServedBegun, ServedListed};
+ghost use Rattle.plan_ring.specs.Lives.{IsKnown};
+ghost use Rattle.plan_ring.specs.Round.{AllRound, ring_of};
+ghost use Rattle.run_frames.specs.Clocks.{Clocked};
+ghost use Rattle.run_frames.specs.Fates.{lost_of};
+ghost use Rattle.run_frames.specs.Runs.{Progress};
+ghost use Rattle.run_work.specs.ServedGained.{asked_in};
+ghost use Rattle.segment_plan.specs.Bound.{bound_of, slowest};
+ghost use Rattle.segment_plan.specs.Sound.{IsPlan};
+ghost use Rattle.segment_plan.specs.declared.plan.Scenario.{Scenario};
+ghost use Rattle.served_rings.specs.Servings.{IsPlanServing};
+ghost use Rattle.sent_packets.specs.Quiet.{AsksQuiet};
+ghost use Rattle.served_places.specs.Answered.{ServedAsks};
+ghost use Rattle.served_places.specs.Toured.{IsServedToured};
+ghost use Rattle.served_runs.specs.Served.{IsServedLed, Serves, all_serve};
+ghost use Rattle.seen_slaves.specs.Eager.{ServedEagerIn};
+ghost use Rattle.std.specs.Prelude.{◌≡◌, ◌≢◌, ◌≤◌, ◌+◌, ◌*◌, ◌++◌, ℕ, All, List, Option, length};
+
+/// THE FRAMES OF A SERVING COUNT AS THOSE OF ITS PLAN, where they are the visits of one tour, each asks by the inward half first, its master makes no visit in vain
+/// where more could go on, and they went round the plan's ring: its slaves answer, and some waits yet while nothing is gained. So with quiet mails asked between
+/// them, no more than so many, and with just the events of its switch that the frames list, no budget of as many frames as the bound cuts it off.
+pub fn bounded_serving_law()
+    ensures serving { (plan : Scenario) (fs : List Exchanged) (again : Option (List ℕ)) (missed : ℕ) (ws : List Serves) (p : Progress) (cs : List (Clocked Body Asked Reply)) (ls ns : List Remembered) → IsPlan plan → IsKnown plan →
+        (toured : IsServedToured (lens_of plan.slaves) plan.recover plan.retry (slowest plan.paces) (all_serve plan.paces (first_leads plan)) fs again missed ws p cs) → ServedAsks toured → ServedEagerIn plan toured ls ns →
+        p.lost ≤ lost_of fs + length plan.host + 6 * asked_in ws → AllRound (ring_of plan) fs → IsPlanServing plan fs missed ws p cs }
+    ensures uncut { (plan : Scenario) (fs : List Exchanged) (missed lost : ℕ) (ws : List Serves) (p : Progress) (cs : List (Clocked Body Asked Reply)) (count budget : ℕ) → IsPlan plan → IsKnown plan → IsPlanServing plan fs missed ws p cs → All AsksQuiet ws → asked_in ws ≤ count →
+        (led : IsServedLed (lens_of plan.slaves) plan.recover plan.retry (all_serve plan.paces (first_leads plan)) fs lost ws) (es : List SwitchEvent) (rest : List (ArrayVec ℕ)) → All (IsAtPort (ports_of plan.slaves)) es → arrivals_at 0 es ++ rest ≡ plan.host →
+        ServedListed (ports_behind 0 plan.slaves) led es → AreServedBegun (ports_behind 0 plan.slaves) (ports_of plan.slaves) led es → bound_of plan count ≤ budget → length fs ≢ budget }
+{
+    seen_slaves::served_waits::served_waits_law();
+    seen_slaves::served_waits::served_answers_law();
+    served_rings::served_bound::served_bound();
+    sent_packets::switched_servings::switched_serving_law();
+}

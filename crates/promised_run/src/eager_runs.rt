@@ -1,0 +1,33 @@
+//! A run of one tour whose master makes no visit in vain is one whose count has a bound. Definitions and a law, no running code: the function here does nothing,
+//! and its contract states the law.
+
+ghost use Rattle.std.specs.Prelude.{◌≡◌, ◌++◌, ℕ, List};
+ghost use Rattle.arrayvec.specs.ArrayVec.{ArrayVec};
+ghost use Rattle.promised_run.specs.Runs.{HasRun};
+ghost use Rattle.life_runs.specs.First.{lens_of, first_leads};
+ghost use Rattle.life_runs.specs.Led.{Exchanged, Leads};
+ghost use Rattle.master_node.specs.Happened.{arrivals_at};
+ghost use Rattle.master_node.specs.of_master_tour.Toured.{Tour};
+ghost use Rattle.plan_ring.specs.Lives.{IsKnown};
+ghost use Rattle.plan_ring.specs.Round.{ring_of, AllRound};
+ghost use Rattle.plan_ring.specs.PlanRooms.{HasRoom};
+ghost use Rattle.packets_heard.specs.Recalled.{State, RecalledIn};
+ghost use Rattle.segment_plan.specs.Sound.{IsPlan};
+ghost use Rattle.segment_plan.specs.declared.plan.Scenario.{Scenario};
+ghost use Rattle.packets_heard.specs.Toured.{IsToured};
+
+/// THE FRAMES OF A TOUR ARE A RUN OF THE PLAN whose count has a bound, where frame by frame its master makes no visit in vain by what it remembers: of those that
+/// gained nothing, with nothing to repair and no packet of the host, each leaves some slave waiting. And no more let packets of the host in than it has.
+pub fn eager_run_law()
+    ensures { (plan : Scenario) (fs : List Exchanged) (t : Tour) (leads : List Leads) (s : State) → IsPlan plan → IsKnown plan → HasRoom plan →
+        (toured : IsToured (lens_of plan.slaves) plan.recover plan.retry (first_leads plan) fs t leads) → RecalledIn plan toured s → AllRound (ring_of plan) fs →
+        (rest : List (ArrayVec ℕ)) → arrivals_at 0 s.events ++ rest ≡ plan.host → HasRun plan fs t.missed leads }
+{
+    frame_view::seen_is();
+    plan_ring::run_lives_law();
+    plan_ring::plan_met::plan_met_law();
+    plan_ring::plan_dues::plan_due_law();
+    plan_ring::plan_rooms::room_law();
+    idle_slaves::entered_runs::entered_law();
+    idle_slaves::wait_runs::wait_runs_law();
+}

@@ -1,0 +1,44 @@
+//! A serving of a plan that was read, with what it promises of each slave.
+
+ghost use Rattle.std.specs.Prelude.{◌≡◌, ◌<◌};
+ghost use Rattle.segment_plan.specs.Sound.{IsPlan};
+ghost use Rattle.scenario.specs.Told.{IsTold};
+ghost use Rattle.run_book.specs.Book.{IsNew};
+ghost use Rattle.run_record.specs.Ran.{HasSent};
+ghost use Rattle.gateway_run.specs.Serving.{told};
+ghost use Rattle.gateway_run.specs.Served.{IsServed};
+ghost use Rattle.promised_run.specs.Through.{IsServedThrough, IsServedWhole};
+
+use ec_outside::Port;
+use run_book::{Book, Ending};
+use segment_plan::Scenario;
+use served_rings::served_replies::served_replies_law;
+use served_runs::{asked_law, told_law};
+use std::alloc::Global;
+
+/// Serves a plan that was read, as `gateway_run` does. At each moment, whatever frames are lost, each slave has carried out in each epoch just the first of the
+/// rows that came into hand of it, a request's mail by the one step that its application takes for it; and the replies that were heard for the mail in hand are the
+/// first of that step's, in order, and all of them where it is over. What is told of it are the first of those that were heard, and behind the frame by which it is
+/// over all of them.
+pub fn serve<P: Port>(
+    alloc: Global,
+    plan: &Scenario,
+    count: u32,
+    port: &mut P,
+    book: &mut Book,
+) -> Ending
+    requires plan { IsPlan plan.now }
+    requires told { IsTold plan.now }
+    requires new { IsNew book.old }
+    requires some { 0 < count }
+    ensures frames { HasSent plan.now count book.new }
+    ensures served { IsServed plan.now count (told P.heard P.sent P.over P.port_faults port.old) (told P.heard P.sent P.over P.port_faults port.new) book.new result }
+    ensures through { IsServedThrough plan.now book.new }
+    ensures whole { IsServedWhole plan.now book.new }
+    ensures ending { book.new.ending ≡ result }
+{
+    served_replies_law();
+    asked_law();
+    told_law();
+    gateway_run::serve(alloc, plan, count, port, book)
+}

@@ -1,4 +1,0 @@
-mod Shut
-mod Finds
-pub mod Quiet
-pub mod Steps

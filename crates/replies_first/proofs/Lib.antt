@@ -1,2 +1,0 @@
-mod Calms
-mod Gifts

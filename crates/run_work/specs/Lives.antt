@@ -1,0 +1,42 @@
+-- A LIFE IN WHICH MAILS ARE PASSED ON, as its slave lives it and as its master has it.
+use Rattle.std.specs.Prelude.{◌≡◌, ℕ, Option, List, [], ◌∷◌, ⊤}
+use Rattle.life_model.specs.Eras.{Clearing}
+use Rattle.life_model.specs.Lives.{Spot, Life}
+use Rattle.link_mails.specs.Body.{Body}
+use Rattle.master_duty.specs.Reply as Master
+use Rattle.master_hand.specs.Spoken as Spoken
+use Rattle.segment_model.specs.Slaves.{Processor}
+use Rattle.segment_plan.specs.declared.slave.SlaveSpec.{SlaveSpec}
+use Rattle.served_runs.specs.Served.{Serves}
+use Rattle.few_replies.specs.Shapes.{shape_at}
+use Rattle.slave_model.specs.Profile.{Profile}
+use Rattle.slave_model.specs.Server.{Reply}
+use Rattle.slave_parts.specs.Parts.{Server}
+use Rattle.slave_server.specs.Spec.{profile_of, server_of}
+use Rattle.state_exchange.specs.Families.{InState}
+use Rattle.state_model.specs.States.{Table}
+use Rattle.life_counts.specs.Seen.{life_seen}
+use Rattle.life_counts.specs.Worked.{IsWorked}
+use Rattle.run_work.specs.Sessions.{Meant, Wanted, InRow, session, session_states, named_wanted}
+
+-- IT IS WORKED by a slave of this profile, from these parts and transfers on: each epoch is a session of services and fair mails; a return to Init leaves the
+-- greatest sizes of its parts; and its master sees the mails without what is meant by them
+pub record IsServedLife (p : Profile) (first : InState Server) (l : Life Body Spoken.Asked Master.Reply) : Type 0 where
+  pub clearing : Clearing InRow (InState Server)
+  pub clears : (v : InState Server) → shape_at (clearing.cleared v) ≡ shape_at v
+  pub processor : Processor InRow
+  pub table : ℕ → Table
+  pub spot : Spot
+  pub life : Life Meant Wanted (Option Reply)
+  pub worked : IsWorked (session p) (session_states p) processor table spot clearing first life
+  pub seen : life_seen (λ t. t.mail) named_wanted (λ r. r) life ≡ l
+
+-- the server of a plan's slave as it is switched on
+abbrev pub first_server : SlaveSpec → InState Server
+first_server s = record { inner = (server_of s).server; state = 1 }
+
+-- OF ALL SLAVES OF A SERVING
+abbrev pub AllServedLives : List SlaveSpec → List Serves → Type 0
+AllServedLives [] [] = ⊤
+AllServedLives (s ∷ ss) (w ∷ ws) = IsServedLife (profile_of s) (first_server s) w.lead.lived.life × AllServedLives ss ws
+AllServedLives _ _ = ⊥

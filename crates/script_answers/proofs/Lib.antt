@@ -1,9 +1,0 @@
-pub mod Lists
-pub mod Anew
-pub mod Befores
-pub mod Sides
-pub mod Turns
-pub mod Backs
-pub mod Frames
-pub mod Passes
-pub mod Losses

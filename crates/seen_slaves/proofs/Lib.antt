@@ -1,0 +1,37 @@
+pub mod Alone
+mod Answered
+mod Clocks
+pub mod Comes
+mod Counted
+pub mod Fits
+pub mod Heard
+pub mod Last
+pub mod Led
+pub mod Left
+pub mod Links
+mod Lives
+mod Meets
+pub mod Never
+mod Ready
+pub mod Returned
+pub mod Rows
+pub mod Said
+mod Seats
+pub mod SeenRows
+pub mod SeenSpent
+pub mod SeenStands
+pub mod SeenTold
+pub mod Sending
+pub mod Served
+pub mod ServedSaid
+pub mod ServedTold
+pub mod Speaks
+mod Spent
+pub mod Stands
+mod Stations
+mod Stays
+mod Tells
+pub mod Told
+pub mod Turns
+mod Unread
+mod Walk

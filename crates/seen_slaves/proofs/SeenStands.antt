@@ -1,0 +1,59 @@
+-- The AL state of an open epoch's slave, in its registers and in its server.
+use Rattle.std.proofs.Common.{◌≡◌, ℕ, Bool, false, Option, Some, None, List, [], ◌∷◌, sym, subst}
+use Rattle.exchange_model.specs.Exchange.{Exchange, IsLawful}
+use Rattle.life_model.specs.Eras.{EraIs, era_frames, planned}
+use Rattle.life_model.specs.Lives.{Spot, Era}
+use Rattle.seen_slaves.specs.Steps.{IsStanding}
+use Rattle.segment_model.specs.Record.{Frame}
+use Rattle.segment_model.specs.Seats.{Seat, Side, Planned, sides_of, ring_of}
+use Rattle.segment_model.specs.Slaves.{Processor, Registers, Ring, Slave}
+use Rattle.state_exchange.specs.Stated.{Stated, IsStated}
+use Rattle.state_model.specs.States.{Table, carry}
+use Rattle.task_model.proofs.Sessions.{Whole, session_keeps}
+use Rattle.task_model.proofs.Stately.{StateStep, step_state}
+use Rattle.task_model.proofs.Walks.{EachOne}
+use Rattle.task_model.specs.Accounts.{Account, Duty, Stage}
+use Rattle.task_model.specs.Promise.{EachTask}
+use Rattle.task_model.specs.Tasks.{IsTasked, IsTaskPlan, run, new_tasks}
+use Rattle.idle_slaves.specs.Steps.{Drains, NotGone}
+
+-- the AL state stays
+stays : (table : Table) (from : ℕ) (hand : Option Duty) (r : Registers) → NotGone hand → StateStep table from hand r → (carry table r).state ≡ r.state
+stays table from None r k e = e
+stays table from (Some duty) r k e = go duty.stage k e
+  where
+    go : (stage : Stage) → Drains stage → StateStep table from (Some (record duty { stage = stage })) r → (carry table r).state ≡ r.state
+    go Stage.Drains k e = e
+    go (Stage.Goes phase) k e = absurd k
+
+module _ {V A M Q R : Type 0} (x : Exchange V A M Q R) (law : IsLawful x) (s : Stated V A Q) (stated : IsStated x s) (processor : Processor V) (table : ℕ → Table) where
+  abbrev more : M → Bool
+  more m = false
+
+  module _ (ps : List (Planned V)) (plan : IsTaskPlan x s processor table ps) where
+    -- one slave
+    stands_one : (fs : List (Frame M)) (p : Planned V) (t : Seat V M Q R) (a : Account Q R) → Whole x law s stated processor table more plan.tells fs p t a → p.registers.station ≡ p.station → IsStanding x s (table p.station) a.hand t.slave
+    stands_one fs p t a k answers = record {
+      state = λ none. stays (table p.station) _ a.hand t.slave.registers none (step_state (table p.station) p.registers.state (k.is.brought answers).sits t.station fs t.slave.registers a (k.is.stately answers));
+      stands = sym (k.carries answers).carried.state;
+    }
+
+    each_stands : (fs : List (Frame M)) (qs : List (Planned V)) (ss : List (Seat V M Q R)) (accounts : List (Account Q R)) → EachOne (Whole x law s stated processor table more plan.tells fs) qs ss accounts →
+        EachTask (λ station start d a n. IsStanding x s (table station) a.hand n) qs (sides_of ss) accounts (ring_of ss)
+    each_stands fs [] [] [] h = tt
+    each_stands fs [] [] (a ∷ accounts) h = absurd h
+    each_stands fs [] (t ∷ ss) accounts h = absurd h
+    each_stands fs (p ∷ qs) [] accounts h = absurd h
+    each_stands fs (p ∷ qs) (t ∷ ss) [] h = absurd h
+    each_stands fs (p ∷ qs) (t ∷ ss) (a ∷ accounts) h = ((h.0.is.placed.station, h.0.is.placed.station, λ answers. stands_one fs p t a h.0 answers), each_stands fs qs ss accounts h.1)
+
+    tasks_stand : (ds : List (ℕ × Side M Q R)) (accounts : List (Account Q R)) (ns : Ring V M) (fs : List (Frame M)) → IsTasked x s.acknowledged processor ps ds accounts ns fs → EachTask (λ station start d a n. IsStanding x s (table station) a.hand n) ps ds accounts ns
+    tasks_stand ds accounts ns fs b =
+        let w = run x s.acknowledged processor (new_tasks b.opening ps) b.turns in
+        let all = each_stands w.session.frames ps w.session.seats w.accounts (session_keeps x law s stated processor table more plan.tells ps plan b.opening b.quiet b.turns b.may).each in
+        let Of : List (ℕ × Side M Q R) → List (Account Q R) → Ring V M → Type 0 = EachTask (λ station start d a n. IsStanding x s (table station) a.hand n) ps in
+        subst (λ l. Of ds accounts l) b.ring (subst (λ l. Of ds l (ring_of w.session.seats)) b.counted (subst (λ l. Of l w.accounts (ring_of w.session.seats)) b.sides all))
+
+  pub era_stands : (spot : Spot) (e : Era M Q R) (opened end : ℕ) (fs : List (Frame M)) (v : V) (r : Registers) (slave : Slave V M) → EraIs x s processor table spot e opened end fs v r slave → IsStanding x s (table spot.station) e.account.hand slave
+  era_stands spot e opened end fs v r slave is =
+      (tasks_stand (planned spot v r ∷ []) is.plan ((spot.station, e.side) ∷ []) (e.account ∷ []) ((spot.station, slave) ∷ []) (era_frames spot opened end fs) is.tasked).0.2 is.answers

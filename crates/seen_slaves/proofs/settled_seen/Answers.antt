@@ -1,0 +1,5 @@
+use Rattle.seen_slaves.proofs.Left.{settled_back, settled_to}
+use Rattle.seen_slaves.proofs.settled_seen.Goals as goal
+
+pub returns : goal.returns
+returns g c = record { to = λ f server n k. settled_to f server n k; back = λ f server n k. settled_back f server n k }

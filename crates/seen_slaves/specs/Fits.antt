@@ -1,0 +1,35 @@
+-- WHAT AN OPEN SLAVE IS TO A MASTER that passes mails on beside services.
+use Rattle.std.specs.Prelude.{◌≡◌, ℕ, Bool, false, Option, Some, None, List, []}
+use Rattle.never_waits.specs.Moments.{IsFree, NoneLeft}
+use Rattle.exchange_model.specs.Exchange.{Exchange, Speech}
+use Rattle.exchange_model.specs.Rows.{Row, left}
+use Rattle.idle_slaves.specs.Going.{IsCome}
+use Rattle.idle_slaves.specs.Links.{HasLink}
+use Rattle.idle_slaves.specs.Steps.{StepsAlone}
+use Rattle.life_model.specs.Lives.{Era}
+use Rattle.link_model.specs.Master.{InState}
+use Rattle.passed_whole.specs.Heard.{EraPasses}
+use Rattle.segment_model.specs.Ends.{Passing}
+use Rattle.segment_model.specs.Laws.{IsSettled}
+use Rattle.segment_model.specs.Slaves.{Processor, Slave}
+use Rattle.seen_slaves.specs.Last.{LastPasses}
+use Rattle.state_model.specs.States.{Phase, Table}
+use Rattle.task_model.specs.Accounts.{Duty, Stage}
+
+-- NOTHING IS LEFT of a slave: it is settled, and its master has no mail and no state service in hand, nothing in doubt and nothing to tell
+pub record HasNone {V M Q R : Type 0} (y : Speech M Q R) (e : Era M Q R) (n : Slave V M) : Type 0 where
+  pub settled : IsSettled n
+  pub held : e.side.halves.out.holding ≡ None
+  pub clear : e.side.halves.inn.state ≡ InState.Clear
+  pub hand : e.account.hand ≡ None
+  pub left : NoneLeft y e.side
+
+-- ITS MAILBOXES agree with its master's halves, its steps and its AL state are by its table; what has its answer was told whole; and where nothing is left of it
+-- its newest service is over, and no mail that is passed on awaits a reply behind the first
+pub record FitsSo {V A M Q R : Type 0} (u : Exchange V A M Q R) (processor : Processor V) (table : Table) (y : Speech M Q R) (acknowledged : Q → Bool) (more : M → Bool) (passed : Q → Bool) (e : Era M Q R) (n : Slave V M) : Type 0 where
+  pub link : HasLink e.side n
+  pub alone : StepsAlone u processor table e.account.hand n
+  pub come : (duty : Duty) (phase : Phase) → e.account.hand ≡ Some duty → duty.stage ≡ Stage.Goes phase → IsCome M R table duty.target phase n.registers
+  pub told : e.account.hand ≡ None → (r : Row M Q R) → e.side.now ≡ Some r → (answer : R × ℕ) → r.answer ≡ Some answer → acknowledged r.service ≡ false → (left y r ≡ []) × (e.side.fresh ≡ false)
+  pub free : HasNone y e n → IsFree y acknowledged e.side
+  pub awaits : HasNone y e n → EraPasses y more passed e → LastPasses e → e.passing ≡ Some Passing.Answered → ⊥

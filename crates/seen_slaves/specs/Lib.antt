@@ -1,0 +1,9 @@
+pub use Rattle.idle_slaves.specs as of_idle_slaves
+pub use Rattle.never_waits.specs as of_never_waits
+pub mod Eager
+pub mod Fits
+pub mod Last
+pub mod Rows
+pub mod Spent
+pub mod Steps
+pub mod Told

@@ -1,0 +1,30 @@
+//! The rows of the mails of a serving that are passed on. Definitions and laws, no running code: the functions here do nothing, and their contracts state the
+//! laws.
+
+ghost use Rattle.std.specs.Prelude.{◌≡◌, ℕ, None, List, [], All};
+ghost use Rattle.frame_view.specs.View.{Lens};
+ghost use Rattle.life_model.specs.Lives.{Spot};
+ghost use Rattle.life_runs.specs.Led.{Exchanged, Leads, speech_at};
+ghost use Rattle.master_hand.specs.Spoken.{Asked};
+ghost use Rattle.run_frames.specs.Answers.{AllReturned};
+ghost use Rattle.seen_slaves.specs.Rows.{IsNew, PassesSo, SaidSo, ToldSo};
+ghost use Rattle.served_runs.specs.Served.{Serves, IsServedLed, all_serve};
+
+/// WHILE A MAIL THAT IS PASSED ON ISN'T OVER it is the newest row of its slave's epoch, and the newest service, and no reply of it was heard, or others follow
+/// the last that was: over all frames of a serving, whatever comes back.
+pub fn served_rows()
+    ensures { (lens : ℕ → Lens) (recover retry : ℕ) (paces : List ℕ) (first : List Leads) (fs : List Exchanged) (missed : ℕ) (ws : List Serves) → All IsNew first → IsServedLed lens recover retry (all_serve paces first) fs missed ws → All (PassesSo lens) ws }
+{}
+
+/// WHAT WAS HEARD of a slave's newest service is its answer, where no service has an answer before it has heard anything: over all these frames.
+pub fn said_serves()
+    ensures { (lens : ℕ → Lens) (recover retry : ℕ) (paces : List ℕ) (first : List Leads) (fs : List Exchanged) (missed : ℕ) (ws : List Serves) → ((spot : Spot) (q : Asked) → (speech_at lens spot).ends q [] ≡ None) → All IsNew first → IsServedLed lens recover retry (all_serve paces first) fs missed ws → All (SaidSo lens) ws }
+{}
+
+/// AND WHILE IT WAITS it is held, or wasn't told; once it was sent it is held until its write is done: where what came back of each frame is the return of what
+/// was sent.
+pub fn told_serves()
+    ensures { (lens : ℕ → Lens) (recover retry : ℕ) (paces : List ℕ) (first : List Leads) (fs : List Exchanged) (missed : ℕ) (ws : List Serves) → All IsNew first → IsServedLed lens recover retry (all_serve paces first) fs missed ws → AllReturned lens fs → All ToldSo ws }
+{
+    frame_view::seen_is();
+}

@@ -1,0 +1,45 @@
+//! While the frames of a serving gain nothing some slave waits yet; and what its slaves answer. Definitions and laws, no running code: the functions here do
+//! nothing, and their contracts state the laws.
+
+ghost use Rattle.std.specs.Prelude.{ℕ, List, Option};
+ghost use Rattle.idle_slaves.specs.Eager.{Remembered};
+ghost use Rattle.life_runs.specs.First.{first_leads, lens_of};
+ghost use Rattle.life_runs.specs.Led.{Exchanged};
+ghost use Rattle.link_mails.specs.Body.{Body};
+ghost use Rattle.master_duty.specs.Reply.{Reply};
+ghost use Rattle.master_hand.specs.Spoken.{Asked};
+ghost use Rattle.plan_ring.specs.Lives.{IsKnown};
+ghost use Rattle.plan_ring.specs.Round.{AllRound, ring_of};
+ghost use Rattle.run_frames.specs.Clocks.{Clocked};
+ghost use Rattle.run_frames.specs.Runs.{Progress};
+ghost use Rattle.segment_plan.specs.Bound.{slowest};
+ghost use Rattle.segment_plan.specs.Sound.{IsPlan};
+ghost use Rattle.segment_plan.specs.declared.plan.Scenario.{Scenario};
+ghost use Rattle.served_places.specs.Answered.{ServedAnswers, ServedAsks, ServedWaits};
+ghost use Rattle.served_places.specs.Toured.{IsServedToured};
+ghost use Rattle.served_runs.specs.Served.{Serves, all_serve};
+ghost use Rattle.seen_slaves.specs.Eager.{ServedEagerIn};
+
+/// SOME SLAVE OF A PLAN'S SERVING WAITS YET behind each frame that came back and gained nothing, with nothing to repair, before which no mail was asked since the
+/// last, with no packet of the host and by which no mail that is passed on came a step on: where its master makes no visit in vain if more could go on, and no
+/// frame if all is done, whatever mails are asked.
+pub fn served_waits_law()
+    ensures { (plan : Scenario) (fs : List Exchanged) (again : Option (List ℕ)) (missed : ℕ) (ws : List Serves) (p : Progress) (cs : List (Clocked Body Asked Reply)) (ls ns : List Remembered) → IsPlan plan → IsKnown plan →
+        (run : IsServedToured (lens_of plan.slaves) plan.recover plan.retry (slowest plan.paces) (all_serve plan.paces (first_leads plan)) fs again missed ws p cs) → AllRound (ring_of plan) fs → ServedEagerIn plan run ls ns → ServedWaits run }
+{
+    frame_view::seen_is();
+    run_work::served_work::served_returned();
+    served_rings::served_ring_law();
+    served_rings::plan_speakers::any_law();
+    crate::tagged_waits::parts_never();
+}
+
+/// EACH SLAVE OF A PLAN'S RING ANSWERS what awaits a step of its processor, by each frame of a serving that came back, where its frames went round the ring and
+/// ask by the inward half first: behind a step it shows the state that its opening awaits, and acknowledges the repeat request.
+pub fn served_answers_law()
+    ensures { (plan : Scenario) (fs : List Exchanged) (again : Option (List ℕ)) (missed : ℕ) (ws : List Serves) (p : Progress) (cs : List (Clocked Body Asked Reply)) → IsPlan plan → IsKnown plan →
+        (run : IsServedToured (lens_of plan.slaves) plan.recover plan.retry (slowest plan.paces) (all_serve plan.paces (first_leads plan)) fs again missed ws p cs) → AllRound (ring_of plan) fs → ServedAsks run → ServedAnswers run }
+{
+    frame_view::seen_is();
+    served_rings::served_ring_law();
+}

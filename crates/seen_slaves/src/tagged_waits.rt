@@ -1,0 +1,26 @@
+//! A client that never waits in vain, beside mails that are passed on, and from whatever server. Laws, no running code: the functions here do nothing, and
+//! their contracts state the laws.
+
+ghost use Rattle.exchange_model.specs.Exchange.{Exchange};
+ghost use Rattle.few_replies.specs.Calm.{calm_tagged};
+ghost use Rattle.never_waits.specs.Waits.{NeverWaits};
+ghost use Rattle.serving_model.specs.Tagged.{IsServed, tagged};
+ghost use Rattle.slave_model.specs.Profile.{Profile, IsProfile};
+ghost use Rattle.slave_parts.specs.Parts.{parts};
+ghost use Rattle.slave_served.specs.Served.{product_whole};
+ghost use Rattle.std.specs.Prelude.{Bool};
+
+/// A CLIENT THAT NEVER WAITS IN VAIN never does where mails are passed on beside its services: such a mail is told at once, whatever was heard.
+pub fn tagged_never<V, M, Q, R, C>()
+    ensures tagged { (x : Exchange V V M Q R) (core : V → C) → IsServed x core → NeverWaits x → NeverWaits (tagged x) }
+    // So it is over calm servers and fair mails.
+    ensures calm { (x : Exchange V V M Q R) (core : V → C) → IsServed x core → NeverWaits x → (calm : V → Bool) (fair : M → Bool) → NeverWaits (calm_tagged x calm fair) }
+{}
+
+/// FROM WHATEVER SERVER a slave's client never does: with unfinished transfers of any protocol that a mail of another sender left.
+pub fn parts_never()
+    ensures { (p : Profile) → IsProfile p → NeverWaits (product_whole parts p) }
+{
+    slave_parts::parts_are_lawful();
+    slave_served::parts_served::files_are_served();
+}

@@ -1,0 +1,40 @@
+pub mod All
+pub mod Any
+pub mod Begins
+mod Calms
+mod Carried
+pub mod Chains
+pub mod Counted
+pub mod Ends
+pub mod Epochs
+pub mod Fair
+pub mod Frames
+pub mod Gifts
+pub mod Kept
+pub mod Led
+pub mod LedLives
+pub mod Leds
+pub mod Lived
+pub mod Lives
+pub mod Mails
+pub mod Newest
+pub mod Octets
+pub mod OfCoe
+pub mod One
+pub mod Others
+pub mod Passed
+pub mod Rings
+pub mod Rows
+pub mod Seen
+pub mod SeenRows
+pub mod SeenWhole
+pub mod ServedAll
+pub mod ServedLives
+pub mod Sessions
+pub mod Singles
+pub mod Slaves
+pub mod Speakers
+pub mod Told
+pub mod Whole
+mod Within
+pub mod Words

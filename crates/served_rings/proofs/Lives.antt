@@ -1,0 +1,152 @@
+-- THE LIVES OF A SERVING, frame by frame, with mails that are asked between them.
+use Rattle.std.proofs.Common.{◌≡◌, ℕ, zero, suc, Bool, List, [], ◌∷◌, ◌++◌, map, length, refl, ap, sym, ◌∙◌, subst}
+use Rattle.std.proofs.lemmas.List.{map-append, length-map}
+use Rattle.datagrams.specs.Frame.{chained}
+use Rattle.frame_view.specs.Seen.{seen}
+use Rattle.frame_view.specs.View.{Lens}
+use Rattle.served_rings.specs.LedRings.{Counters, AllLedMembers, all_counters}
+use Rattle.served_rings.proofs.Rings.{led_turns}
+use Rattle.life_runs.specs.First.{first_leads, lens_of}
+use Rattle.life_runs.specs.Led.{Exchanged, gives_up_at}
+use Rattle.link_mails.specs.Body.{Body}
+use Rattle.master_hand.specs.Spoken.{Asked, is_followed, is_passed}
+use Rattle.plan_ring.specs.Lives.{IsKnown}
+use Rattle.plan_ring.specs.Plan.{FitsPlan, step}
+use Rattle.plan_ring.specs.Round.{WentRound, AllRound, all_seen, behind, frame_seen, ring_after, ring_of}
+use Rattle.plan_ring.proofs.Known.{AllBoot, all_boot}
+use Rattle.plan_ring.proofs.Lives.{front_round, last_round, one_after}
+use Rattle.segment_model.specs.Record.{Frame}
+use Rattle.segment_plan.specs.Sound as Plan
+use Rattle.segment_plan.specs.declared.plan.Scenario.{Scenario}
+use Rattle.segment_plan.specs.declared.slave.SlaveSpec.{SlaveSpec}
+use Rattle.segment_ring.specs.Ring.{RingState, ring_behind}
+use Rattle.segment_ring.specs.Schedule.{fate_at}
+use Rattle.segment_ring.specs.declared.wire.Fate.{Fate}
+use Rattle.served_runs.specs.Served.{Keyed, Serves, ServedTurn, AllServedTurn, IsServedFrame, IsServedLed, all_serve, asked_at, served_behind}
+use Rattle.slave_lives.specs.Rings.{fate_seen}
+use Rattle.slave_server.specs.Serving.{Serving}
+use Rattle.slave_steps.specs.Node.{Node, node_passed}
+use Rattle.whole_ring.specs.Members.{IsRing}
+use Rattle.whole_ring.specs.Turning.{AllTurn, Turn, behind_frame, frame_at, given_up}
+use Rattle.whole_ring.proofs.Begins as Begins
+use Rattle.whole_ring.proofs.Members as Members
+use Rattle.served_rings.specs.Rings.{AllServedAt, AreServedLived, ServedMember, counters_of, served_member, served_members}
+use Rattle.served_rings.proofs.All as Every
+
+-- A MAIL THAT IS ASKED changes no life
+pub asked_members : (lens : ℕ → Lens) (at place : ℕ) (k : Keyed) (ss : List SlaveSpec) (ws : List Serves) (ns : List (Node Serving)) → served_members lens at ss (asked_at place k ws) ns ≡ served_members lens at ss ws ns
+asked_members lens at place k [] ws ns = refl
+asked_members lens at place k (s ∷ ss) [] ns = refl
+asked_members lens at zero k (s ∷ ss) (w ∷ ws) [] = refl
+asked_members lens at (suc place) k (s ∷ ss) (w ∷ ws) [] = refl
+asked_members lens at zero k (s ∷ ss) (w ∷ ws) (n ∷ ns) = refl
+asked_members lens at (suc place) k (s ∷ ss) (w ∷ ws) (n ∷ ns) = ap (λ (ms : List ServedMember). served_member lens at s w n ∷ ms) (asked_members lens (suc at) place k ss ws ns)
+
+asked_counters : (place : ℕ) (k : Keyed) (ws : List Serves) → map counters_of (asked_at place k ws) ≡ map counters_of ws
+asked_counters place k [] = refl
+asked_counters zero k (w ∷ ws) = refl
+asked_counters (suc place) k (w ∷ ws) = ap (λ (ks : List Counters). counters_of w ∷ ks) (asked_counters place k ws)
+
+asked_places : (plan : Scenario) (at place : ℕ) (k : Keyed) (ss : List SlaveSpec) (ws : List Serves) (ns : List (Node Serving)) → AllServedAt plan at ss ws ns → AllServedAt plan at ss (asked_at place k ws) ns
+asked_places plan at place k [] [] ns all = all
+asked_places plan at zero k [] (w ∷ ws) ns all = absurd all
+asked_places plan at (suc place) k [] (w ∷ ws) ns all = absurd all
+asked_places plan at place k (s ∷ ss) [] ns all = absurd all
+asked_places plan at zero k (s ∷ ss) (w ∷ ws) [] all = absurd all
+asked_places plan at (suc place) k (s ∷ ss) (w ∷ ws) [] all = absurd all
+asked_places plan at zero k (s ∷ ss) (w ∷ ws) (n ∷ ns) all = (record { spot = all.0.spot; script = all.0.script }, all.1)
+asked_places plan at (suc place) k (s ∷ ss) (w ∷ ws) (n ∷ ns) all = (all.0, asked_places plan (suc at) place k ss ws ns all.1)
+
+asked_lives : (plan : Scenario) (fs : List Exchanged) (ws : List Serves) (place : ℕ) (k : Keyed) → AreServedLived plan fs ws → AreServedLived plan fs (asked_at place k ws)
+asked_lives plan fs ws place k x =
+    let lens = lens_of plan.slaves in
+    let same = sym (asked_members lens 0 place k plan.slaves ws x.nodes) in
+    record {
+      nodes = x.nodes;
+      lives = subst (λ (ms : List ServedMember). IsRing lens step (FitsPlan plan.slaves) (all_seen lens fs) (ring_after (ring_of plan) fs) ms) same x.lives;
+      led = subst (λ (ms : List ServedMember). AllLedMembers is_followed is_passed (all_seen lens fs) ms (map counters_of (asked_at place k ws))) same
+          (subst (λ (ks : List Counters). AllLedMembers is_followed is_passed (all_seen lens fs) (served_members lens 0 plan.slaves ws x.nodes) ks) (sym (asked_counters place k ws)) x.led);
+      at = asked_places plan 0 place k plan.slaves ws x.nodes x.at;
+    }
+
+module _ (plan : Scenario) (is : Plan.IsPlan plan) (known : IsKnown plan) (begins : AreServedLived plan [] (all_serve plan.paces (first_leads plan))) where
+  abbrev lens : ℕ → Lens
+  lens = lens_of plan.slaves
+
+  boots : AllBoot plan.services 0 plan.slaves
+  boots = all_boot (length plan.slaves) plan.slaves [] plan.slaves refl plan.services is.laid.services known.states
+
+  -- BY A FRAME
+  module _ (fs : List Exchanged) (missed : ℕ) (ws : List Serves) (f : Exchanged) (vs : List ServedTurn) (x : AreServedLived plan fs ws) (y : IsServedFrame lens (length fs) f.sent ws vs) (went : WentRound (ring_after (ring_of plan) fs) f) where
+    abbrev ring : RingState (Node Serving)
+    ring = ring_after (ring_of plan) fs
+
+    abbrev gs : List (Frame Body)
+    gs = all_seen lens fs
+
+    abbrev gives : Bool
+    gives = gives_up_at lens plan.recover plan.retry missed
+
+    many : length gs ≡ length fs
+    many = length-map fs (frame_seen lens)
+
+    each : AllServedTurn lens (length gs) y.datagrams ws vs
+    each = subst (λ (made : ℕ). AllServedTurn lens made y.datagrams ws vs) (sym many) y.each
+
+    abbrev ms : List ServedMember
+    ms = served_members lens 0 plan.slaves ws x.nodes
+
+    abbrev turns : List (Turn Asked)
+    turns = Every.turns_of plan (length gs) y.datagrams ring f went plan.slaves ws vs each
+
+    asks : AllTurn is_followed is_passed lens (length gs) y.datagrams ms turns
+    asks = Every.all_turn plan (length gs) y.datagrams ring f went gs 0 plan.slaves ws x.nodes vs each x.lives.each x.at boots
+
+    frame_is : frame_at lens ring f.sent ≡ frame_seen lens f
+    frame_is = λ i. record { sent = seen lens f.sent; fate = fate_seen (sym went.fate i); back = seen lens (sym went.back i) }
+
+    frames_are : gs ++ frame_at lens ring f.sent ∷ [] ≡ all_seen lens (fs ++ f ∷ [])
+    frames_are = (λ i. gs ++ frame_is i ∷ []) ∙ sym (map-append (frame_seen lens) fs (f ∷ []))
+
+    abbrev Behind : Fate → List ServedMember
+    Behind fate = behind_frame is_followed is_passed (length gs) (frame_at lens ring f.sent) fate 0 ms turns (chained y.datagrams)
+
+    abbrev Given : Fate → List ServedMember
+    Given fate = given_up plan.recover (length gs) (Behind fate) (Every.carried plan (length gs) y.datagrams ring f went gs gives fate vs)
+
+    ring_on : IsRing lens step (FitsPlan plan.slaves) (gs ++ frame_at lens ring f.sent ∷ []) (ring_behind node_passed step ring f.sent) (Behind (fate_at ring.lose ring.number))
+    ring_on = Members.ring_on lens step (FitsPlan plan.slaves) is_followed is_passed gs ring f.sent y.datagrams y.frame ms turns x.lives asks
+
+    led_on : AllLedMembers is_followed is_passed (gs ++ frame_at lens ring f.sent ∷ []) (Behind (fate_at ring.lose ring.number)) (all_counters (length gs) (frame_at lens ring f.sent) ms (map counters_of ws))
+    led_on = led_turns lens step (FitsPlan plan.slaves) is_followed is_passed gs ring f.sent y.datagrams y.frame ms (map counters_of ws) turns x.lives asks x.led (Every.all_told plan (length gs) y.datagrams ring f went gs 0 plan.slaves ws x.nodes vs each x.at)
+
+    by_fate : (fate : Fate) → fate_at ring.lose ring.number ≡ fate → AreServedLived plan (fs ++ f ∷ []) (map (served_behind lens plan.recover plan.retry gives (length gs) f) vs)
+    by_fate fate at =
+        let hs = gs ++ frame_at lens ring f.sent ∷ [] in
+        let here = subst (λ (z : Fate). IsRing lens step (FitsPlan plan.slaves) hs (ring_behind node_passed step ring f.sent) (Behind z)) at ring_on in
+        let led = subst (λ (z : Fate). AllLedMembers is_followed is_passed hs (Behind z) (all_counters (length gs) (frame_at lens ring f.sent) ms (map counters_of ws))) at led_on in
+        let given = Begins.ring_given lens step (FitsPlan plan.slaves) hs plan.recover (length gs) (ring_behind node_passed step ring f.sent) (Behind fate) (Every.carried plan (length gs) y.datagrams ring f went gs gives fate vs) here in
+        let led_given = Every.led_given lens plan.slaves hs hs 0 (Behind fate) (all_counters (length gs) (frame_at lens ring f.sent) ms (map counters_of ws)) (Every.carried plan (length gs) y.datagrams ring f went gs gives fate vs) plan.recover (length gs) here.each led in
+        let same = Every.all_behind plan (length gs) y.datagrams ring f went gs plan.recover gives fate at (went.fate ∙ at) 0 plan.slaves ws x.nodes vs each (chained y.datagrams) x.lives.each x.at in
+        let kept = Every.all_kept plan (length gs) y.datagrams ring f went gs plan.recover gives fate at (went.fate ∙ at) 0 plan.slaves ws x.nodes vs each x.lives.each x.at in
+        let now = map (served_behind lens plan.recover plan.retry gives (length gs) f) vs in
+        let nodes = Every.nodes_behind plan (length gs) y.datagrams ring f went gs fate 0 ws x.nodes plan.slaves (chained y.datagrams) in
+        record {
+          nodes = nodes;
+          lives = subst (λ (r : RingState (Node Serving)). IsRing lens step (FitsPlan plan.slaves) (all_seen lens (fs ++ f ∷ [])) r (served_members lens 0 plan.slaves now nodes)) (sym (one_after (ring_of plan) fs f))
+              (subst (λ (ks : List (Frame Body)). IsRing lens step (FitsPlan plan.slaves) ks (behind ring f.sent) (served_members lens 0 plan.slaves now nodes)) frames_are
+              (subst (λ (ns : List ServedMember). IsRing lens step (FitsPlan plan.slaves) hs (behind ring f.sent) ns) same given));
+          led = subst (λ (ks : List (Frame Body)). AllLedMembers is_followed is_passed ks (served_members lens 0 plan.slaves now nodes) (map counters_of now)) frames_are
+              (subst (λ (ns : List ServedMember). AllLedMembers is_followed is_passed hs ns (map counters_of now)) same
+              (subst (λ (ks : List Counters). AllLedMembers is_followed is_passed hs (Given fate) ks) kept led_given));
+          at = Every.all_at plan (length gs) y.datagrams ring f went gs plan.recover gives fate 0 plan.slaves ws x.nodes vs each (chained y.datagrams) x.lives.each x.at;
+        }
+
+    goes_on : AreServedLived plan (fs ++ f ∷ []) (map (served_behind lens plan.recover plan.retry gives (length fs) f) vs)
+    goes_on = subst (λ (made : ℕ). AreServedLived plan (fs ++ f ∷ []) (map (served_behind lens plan.recover plan.retry gives made f) vs)) many (by_fate (fate_at ring.lose ring.number) refl)
+
+  -- THE WHOLE SERVING
+  pub served_lives : (fs : List Exchanged) (missed : ℕ) (ws : List Serves) → IsServedLed lens plan.recover plan.retry (all_serve plan.paces (first_leads plan)) fs missed ws → AllRound (ring_of plan) fs → AreServedLived plan fs ws
+  served_lives _ _ _ IsServedLed.start r = begins
+  served_lives _ _ _ (IsServedLed.asks fs missed ws place k l may) r = asked_lives plan fs ws place k (served_lives fs missed ws l r)
+  served_lives _ _ _ (IsServedLed.on fs missed ws f vs l y) r = goes_on fs missed ws f vs (served_lives fs missed ws l (front_round (ring_of plan) fs f r)) y (last_round (ring_of plan) fs f r)

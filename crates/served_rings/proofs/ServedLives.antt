@@ -1,0 +1,93 @@
+-- EPOCH BY EPOCH: what a slave of a serving did in its life.
+use Rattle.std.proofs.Common.{◌≡◌, ℕ, Bool, false, List, [], ◌∷◌, ◌++◌, refl, ap, sym, ◌∙◌}
+use Rattle.frame_view.specs.View.{Lens}
+use Rattle.frames_seen.specs.Slaves.{registers_seen}
+use Rattle.served_rings.specs.Lives.{LedKept, LedYet, LedLeft, AllLeds, IsLedLived}
+use Rattle.life_model.specs.Lives.{Spot, Era, Life, Opening, Stand}
+use Rattle.link_mails.specs.Body.{Body}
+use Rattle.master_duty.specs.Reply.{Reply}
+use Rattle.master_hand.specs.Spoken.{Asked, is_followed, is_passed}
+use Rattle.passed_whole.specs.Clearing.{Forgets}
+use Rattle.served_rings.specs.Speakers.{cleared_whole, speaker}
+use Rattle.segment_model.specs.Record.{Frame, Kept}
+use Rattle.served_rings.specs.Serves.{serves}
+use Rattle.served_rings.specs.Clearing.{serves_clearing}
+use Rattle.slave_lives.specs.Lived.{Behind}
+use Rattle.slave_lives.specs.Opening.{Plan}
+use Rattle.slave_lives.specs.Stands.{opening_again}
+use Rattle.slave_model.specs.Profile.{Profile}
+use Rattle.slave_parts.specs.Parts.{Server}
+use Rattle.slave_server.specs.Serving.{Serving, fresh}
+use Rattle.slave_steps.specs.Node.{Node}
+use Rattle.state_exchange.specs.Families.{InState}
+use Rattle.life_counts.specs.Epochs.{IsSpeaker}
+use Rattle.whole_ring.specs.Whole.{OpensBy, StandsBy}
+use Rattle.served_rings.specs.Served.{AreServedEras, IsServedNewest, IsServedLife, WasServed}
+use Rattle.served_rings.proofs.Epochs.{era_served}
+
+module _ (p : Profile) (k : IsSpeaker (speaker p)) (forgets : Forgets (speaker p).exchange (speaker p).core cleared_whole) (boot : Bool) (lens : ℕ → Lens) (spot : Spot) where
+  abbrev w : Behind Serving (InState Server) (InState Server) Asked Reply
+  w = serves p boot lens
+
+  abbrev Before : InState Server → List (Era Body Asked Reply) → InState Server → Type 0
+  Before a es b = AreServedEras p boot spot.station spot.start a es b
+
+  abbrev Newest : InState Server → Era Body Asked Reply → Node Serving → Stand → Type 0
+  Newest from e n stand = IsServedNewest p boot spot.station spot.start from e n stand
+
+  -- a return to Init clears parts alike
+  clears_inner : (a b : InState Server) → a.inner ≡ b.inner → (cleared_whole a).inner ≡ (cleared_whole b).inner
+  clears_inner a b same = ap (λ (z : Server). record (fresh z.app.app) { handled = z.handled }) same
+
+  -- all that are over, with the server that the next one begins with
+  record Begun (a : InState Server) (es : List (Era Body Asked Reply)) (b : InState Server) : Type 0 where
+    at : InState Server
+    all : Before a es at
+    same : b.inner ≡ at.inner
+
+  past_served : {a b : InState Server} {es : List (Era Body Asked Reply)} → AllLeds w is_followed is_passed spot serves_clearing.cleared a es b → Begun a es b
+  past_served (AllLeds.none a) = record { at = a; all = AreServedEras.none; same = refl }
+  past_served (AllLeds.closed a es b e cleared before is_new) =
+      let rest = past_served before in
+      record {
+        at = cleared_whole rest.at;
+        all = AreServedEras.unopened es rest.at e rest.all (ap (λ (d : Era Body Asked Reply). d.account.started) is_new);
+        same = clears_inner b rest.at rest.same;
+      }
+  past_served (AllLeds.opened a es b e s before left) =
+      let rest = past_served before in
+      let one = era_served p k forgets boot lens spot b left.led e left.frames left.node left.era rest.at rest.same in
+      let state = (registers_seen left.node.registers).state in
+      record {
+        at = cleared_whole one.done;
+        all = AreServedEras.opened es rest.at e _ one.done rest.all one.was;
+        same = ap (λ (z : Serving). (cleared_whole (w.sees state z).server).inner) (sym left.same) ∙ ap (λ (v : InState Server). v.inner) one.cleared;
+      }
+
+  opens_served : (plan : Plan) (from at : InState Server) → from.inner ≡ at.inner → (e : Era Body Asked Reply) (fs : List (Frame Body)) (stand : Stand) (n : Node Serving) (o : Opening) →
+      OpensBy w (λ a d gs m. LedYet w is_followed is_passed spot a d gs m) (λ a d gs s. LedLeft w is_followed is_passed spot a d s) plan spot from e fs o n → Newest at e n stand
+  opens_served plan from at same e fs stand n o (OpensBy.yet again step is still) =
+      let x = still.lives.epoch in
+      let one = era_served p k forgets boot lens spot from x.led e fs n x.era at same in
+      IsServedNewest.over stand _ one.done one.was
+  opens_served plan from at same e fs stand n o (OpensBy.anew closing x start) = IsServedNewest.unopened stand (ap (λ (d : Era Body Asked Reply). d.account.started) x.is_new)
+  opens_served plan from at same e fs stand n o (OpensBy.over closing again early x) =
+      let y = x.left in
+      let one = era_served p k forgets boot lens spot from y.led e y.frames y.node y.era at same in
+      IsServedNewest.over stand _ one.done one.was
+
+  newest_served : (plan : Plan) (kept : Kept) (counts : Bool) (from at : InState Server) → from.inner ≡ at.inner → (e : Era Body Asked Reply) (fs : List (Frame Body)) (stand : Stand) (n : Node Serving) →
+      StandsBy w (λ a d gs m. LedKept w is_followed is_passed spot kept counts a d gs m) (λ a d gs m. LedYet w is_followed is_passed spot a d gs m) (λ a d gs s. LedLeft w is_followed is_passed spot a d s) plan spot from e fs stand n → Newest at e n stand
+  newest_served plan kept counts from at same e fs (Stand.Opens o) n now = opens_served plan from at same e fs (Stand.Opens o) n o now
+  newest_served plan kept counts from at same e fs Stand.Open n now =
+      let x = now.lives.epoch in
+      let one = era_served p k forgets boot lens spot from x.led e fs n x.era at same in
+      IsServedNewest.lives _ one.done refl refl one.was
+  newest_served plan kept counts from at same e fs Stand.Gone n now = opens_served plan from at same e fs Stand.Gone n (opening_again spot.start false) now
+
+  -- THE WHOLE LIFE
+  pub life_served : (plan : Plan) (kept : Kept) (counts : Bool) (first : InState Server) (l : Life Body Asked Reply) (fs : List (Frame Body)) (n : Node Serving) → IsLedLived w is_followed is_passed spot serves_clearing.cleared plan kept counts first l fs n →
+      IsServedLife p boot spot.station spot.start first l n
+  life_served plan kept counts first l fs n i =
+      let before = past_served i.past in
+      record { from = before.at; past = before.all; newest = newest_served plan kept counts i.from before.at before.same l.era fs l.stand n i.now }

@@ -1,0 +1,12 @@
+pub mod Clearing
+pub mod Counters
+pub mod Led
+pub mod LedRings
+pub mod Lives
+pub mod Rings
+pub mod SeenLed
+pub mod Served
+pub mod Serves
+pub mod Servings
+pub mod Speakers
+pub mod Told

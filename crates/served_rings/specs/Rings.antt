@@ -1,0 +1,66 @@
+-- THE RING OF A SERVING: its slaves, with the services that their nodes run, the lives that the master leads of them, and what its records keep.
+use Rattle.std.specs.Prelude.{◌≡◌, ℕ, suc, List, [], ◌∷◌, map, ⊤}
+use Rattle.frame_view.specs.View.{Lens}
+use Rattle.served_rings.specs.LedRings.{Counters, AllLedMembers}
+use Rattle.life_runs.specs.First.{lens_of, spot_of, script_for}
+use Rattle.life_runs.specs.Led.{Exchanged}
+use Rattle.master_duty.specs.Reply.{Reply}
+use Rattle.master_hand.specs.Spoken.{Asked, is_followed, is_passed}
+use Rattle.plan_ring.specs.Plan.{FitsPlan, plan_of, step}
+use Rattle.plan_ring.specs.Round.{all_seen, ring_after, ring_of}
+use Rattle.segment_plan.specs.declared.plan.Scenario.{Scenario}
+use Rattle.segment_plan.specs.declared.slave.SlaveSpec.{SlaveSpec}
+use Rattle.served_rings.specs.Serves.{serves}
+use Rattle.served_rings.specs.Clearing.{serves_clearing}
+use Rattle.served_runs.specs.Served.{Serves}
+use Rattle.slave_parts.specs.Parts.{Server}
+use Rattle.slave_server.specs.Seen.{seen_in}
+use Rattle.slave_server.specs.Serving.{Serving}
+use Rattle.slave_server.specs.Spec.{profile_of, server_of}
+use Rattle.slave_steps.specs.Node.{Node}
+use Rattle.state_exchange.specs.Families.{InState}
+use Rattle.whole_ring.specs.Members.{Member, IsRing}
+
+-- a slave of a serving in its ring
+abbrev pub ServedMember : Type 0
+ServedMember = Member Serving (InState Server) (InState Server) Asked Reply
+
+-- THE SLAVE AT A PLACE: that of the plan, its life as the master leads it, its node as it runs
+abbrev pub served_member : (ℕ → Lens) → ℕ → SlaveSpec → Serves → Node Serving → ServedMember
+served_member lens place s w n = record {
+  services = serves (profile_of s) s.boot lens;
+  clearing = serves_clearing;
+  plan = plan_of s;
+  spot = spot_of place s;
+  first = (seen_in 1 (server_of s)).server;
+  life = w.lead.lived.life;
+  node = n;
+  pace = w.pace;
+}
+
+-- all of them, from a place on
+abbrev pub served_members : (ℕ → Lens) → ℕ → List SlaveSpec → List Serves → List (Node Serving) → List ServedMember
+served_members lens place (s ∷ ss) (w ∷ ws) (n ∷ ns) = served_member lens place s w n ∷ served_members lens (suc place) ss ws ns
+served_members lens place _ _ _ = []
+
+-- what its record keeps of it
+abbrev pub counters_of : Serves → Counters
+counters_of w = record { kept = w.kept; counts = w.counts }
+
+-- it is led at its place, by its script
+pub record IsServedAt (plan : Scenario) (place : ℕ) (s : SlaveSpec) (w : Serves) : Type 0 where
+  pub spot : w.lead.lived.spot ≡ spot_of place s
+  pub script : w.lead.script ≡ script_for place plan.services
+
+-- each, from a place on; and each has a node
+abbrev pub AllServedAt : Scenario → ℕ → List SlaveSpec → List Serves → List (Node Serving) → Type 0
+AllServedAt plan place [] [] [] = ⊤
+AllServedAt plan place (s ∷ ss) (w ∷ ws) (n ∷ ns) = IsServedAt plan place s w × AllServedAt plan (suc place) ss ws ns
+AllServedAt plan place _ _ _ = ⊥
+
+-- THE LIVES OF A SERVING that its master leads are lived by the nodes of the ring behind the frames, epoch by epoch as they were led
+pub record AreServedLived (plan : Scenario) (fs : List Exchanged) (ws : List Serves) : Type 0 where
+  pub nodes : List (Node Serving)
+  pub lives : IsRing (lens_of plan.slaves) step (FitsPlan plan.slaves) (all_seen (lens_of plan.slaves) fs) (ring_after (ring_of plan) fs) (served_members (lens_of plan.slaves) 0 plan.slaves ws nodes)
+  pub led : AllLedMembers is_followed is_passed (all_seen (lens_of plan.slaves) fs) (served_members (lens_of plan.slaves) 0 plan.slaves ws nodes) (map counters_of ws)
+  pub at : AllServedAt plan 0 plan.slaves ws nodes

@@ -1,0 +1,98 @@
+-- WHAT THE SLAVES OF A SERVING DID, epoch by epoch, of the rows that came into hand of them: services of the script, packets, and mails that were passed on.
+use Rattle.std.specs.Prelude.{◌≡◌, ℕ, suc, ◌+◌, ◌≤◌, Bool, Option, None, Some, Ok, List, [], ◌∷◌, ◌++◌, length, take, ⊤}
+use Rattle.exchange_model.specs.Exchange.{plain}
+use Rattle.exchange_model.specs.Prefix.{IsPrefixOf}
+use Rattle.exchange_model.specs.Rows.{Row}
+use Rattle.frames_seen.specs.Slaves.{registers_seen}
+use Rattle.life_model.specs.Lives.{Era, Life, Stand}
+use Rattle.life_runs.specs.Led.{Exchanged}
+use Rattle.link_mails.specs.Body.{Body}
+use Rattle.mailbox_mail.specs.declared.mail.Mail.{Mail}
+use Rattle.master_duty.specs.Reply.{Reply}
+use Rattle.master_hand.specs.Spoken.{Asked, emission, passed}
+use Rattle.plan_ring.specs.Round.{ring_after, ring_of}
+use Rattle.served_rings.specs.Speakers.{cleared_whole, spoken, table_of}
+use Rattle.run_work.specs.Lives.{first_server}
+use Rattle.segment_model.specs.Ends.{Passing}
+use Rattle.segment_plan.specs.declared.plan.Scenario.{Scenario}
+use Rattle.segment_plan.specs.declared.slave.SlaveSpec.{SlaveSpec}
+use Rattle.served_runs.specs.Served.{Serves}
+use Rattle.slave_model.specs.Profile.{Profile}
+use Rattle.slave_parts.specs.Parts.{Server}
+use Rattle.slave_server.specs.Serving.{Serving}
+use Rattle.slave_server.specs.Spec.{profile_of}
+use Rattle.slave_steps.specs.Node.{Node}
+use Rattle.state_exchange.specs.Families.{InState}
+use Rattle.state_exchange.specs.Stated.{Service}
+use Rattle.state_model.specs.Promises.{state_behind}
+use Rattle.task_model.specs.Accounts.{Started}
+use Rattle.task_model.specs.Promise.{services_in}
+
+module _ (p : Profile) (boot : Bool) (station : ℕ) where
+  -- THE SERVER BEHIND ROWS, one after the other: a service acts by its meaning and ends the unfinished transfer of its protocol, a mail that was passed on acts by
+  -- the one step that the server takes for it, and a change of the AL state by the slave's table
+  abbrev pub server_behind : InState Server → List (Service Asked) → InState Server
+  server_behind v [] = v
+  server_behind v (Service.Mails q ∷ qs) = server_behind ((spoken p).exec v q) qs
+  server_behind v (Service.State target ∷ qs) = server_behind (record v { state = state_behind (table_of boot station) v.state target }) qs
+
+  -- THE REPLIES OF THE SERVER'S ONE STEP for a mail, in order, without what it sends of itself
+  abbrev pub replies_to : InState Server → Mail → List Body
+  replies_to v m = plain emission ((spoken p).serve v (Ok m)).1
+
+  -- OF A MAIL that is passed on to this server: what was heard for it are the first of those replies, and all of them where it is over
+  pub record IsHeardOf (v : InState Server) (m : Mail) (passing : Option Passing) (r : Row Body Asked Reply) : Type 0 where
+    pub begin : IsPrefixOf (plain emission r.heard) (replies_to v m)
+    pub all : passing ≡ None → plain emission r.heard ≡ replies_to v m
+
+  -- of the newest row of an epoch, where it is the newest that came into hand: the server is the one behind the rows before it
+  abbrev pub IsHeardSo : InState Server → Era Body Asked Reply → Type 0
+  IsHeardSo from e =
+      (before : List (Started Asked)) (m : Mail) (frame : ℕ) (r : Row Body Asked Reply) → e.account.started ≡ before ++ record { service = Service.Mails (passed m); frame = frame } ∷ []
+      → e.side.now ≡ Some r → r.service ≡ passed m → IsHeardOf (server_behind from (services_in before)) m e.passing r
+
+  -- AN EPOCH, from this server: its slave carried out just the first so many of its rows, each once and in order; its objects, files, IDNs and addresses, its AL
+  -- state and the number of services that it counts are those of the server behind these rows; at most the two newest rows aren't among them
+  pub record IsServedEra (from : InState Server) (e : Era Body Asked Reply) (left done : InState Server) : Type 0 where
+    pub count : ℕ
+    pub prefix : count ≤ length e.account.started
+    pub behind : length e.account.started ≤ count + 2
+    pub done_is : done ≡ server_behind from (take count (services_in e.account.started))
+    pub app : left.inner.app.app ≡ done.inner.app.app
+    pub handled : left.inner.handled ≡ done.inner.handled
+    pub state : left.state ≡ done.state
+    pub heard : IsHeardSo from e
+
+  -- one that was opened: it began with this server, in the first epoch in the state of the plan, and its slave left that one
+  pub record WasServed (start : ℕ) (from : InState Server) (e : Era Body Asked Reply) (left done : InState Server) : Type 0 where
+    pub state : ℕ
+    pub first : e.cleared ≡ None → state ≡ start
+    pub era : IsServedEra (record from { state = state }) e left done
+
+  -- ALL EPOCHS THAT ARE OVER: each begins with what the one before carried out, cleared, and so does one behind an epoch that was never opened
+  pub data AreServedEras (start : ℕ) (first : InState Server) : List (Era Body Asked Reply) → InState Server → Type 0 where
+    none : AreServedEras start first [] first
+    unopened : (es : List (Era Body Asked Reply)) (b : InState Server) (e : Era Body Asked Reply) → AreServedEras start first es b → e.account.started ≡ [] → AreServedEras start first (es ++ e ∷ []) (cleared_whole b)
+    opened : (es : List (Era Body Asked Reply)) (b : InState Server) (e : Era Body Asked Reply) (left done : InState Server) → AreServedEras start first es b → WasServed start b e left done → AreServedEras start first (es ++ e ∷ []) (cleared_whole done)
+
+  -- THE NEWEST: it is open, and what its slave left is what the node has, its AL state among it; or nothing began in it; or it is over
+  pub data IsServedNewest (start : ℕ) (from : InState Server) (e : Era Body Asked Reply) (n : Node Serving) : Stand → Type 0 where
+    lives : (left done : InState Server) → left.inner ≡ n.server.server → left.state ≡ (registers_seen n.registers).state → WasServed start from e left done → IsServedNewest start from e n Stand.Open
+    unopened : (stand : Stand) → e.account.started ≡ [] → IsServedNewest start from e n stand
+    over : (stand : Stand) (left done : InState Server) → WasServed start from e left done → IsServedNewest start from e n stand
+
+  -- THE WHOLE LIFE of a slave with this node, from the server with which it was switched on
+  pub record IsServedLife (start : ℕ) (first : InState Server) (l : Life Body Asked Reply) (n : Node Serving) : Type 0 where
+    pub from : InState Server
+    pub past : AreServedEras start first l.past from
+    pub newest : IsServedNewest start from l.era n l.stand
+
+-- OF EACH SLAVE of a plan, as its master leads it, with its node
+abbrev pub AllServeSo : List SlaveSpec → List Serves → List (Node Serving) → Type 0
+AllServeSo [] [] [] = ⊤
+AllServeSo (s ∷ ss) (w ∷ ws) (n ∷ ns) = IsServedLife (profile_of s) s.boot s.station s.start (first_server s) w.lead.lived.life n × AllServeSo ss ws ns
+AllServeSo _ _ _ = ⊥
+
+-- THE SLAVES OF A SERVING behind frames that went round the plan's ring
+abbrev pub ServeSo : Scenario → List Exchanged → List Serves → Type 0
+ServeSo plan fs ws = AllServeSo plan.slaves ws (ring_after (ring_of plan) fs).nodes

@@ -1,0 +1,25 @@
+-- THE SERVICES OF A PLAN'S SLAVE IN A SERVING, as its node runs them and its master speaks of them, mails that are passed on among them.
+use Rattle.std.specs.Prelude.{ℕ, Bool}
+use Rattle.frame_view.specs.View.{Lens}
+use Rattle.master_duty.specs.Reply.{Reply}
+use Rattle.master_hand.specs.Spoken.{Asked}
+use Rattle.served_rings.specs.Speakers.{spoken, spoken_states, processor_of}
+use Rattle.plan_ring.specs.Real.{running_as}
+use Rattle.slave_lives.specs.Lived.{Behind}
+use Rattle.slave_model.specs.Profile.{Profile}
+use Rattle.slave_parts.specs.Parts.{Server}
+use Rattle.slave_server.specs.Seen.{seen_in}
+use Rattle.slave_server.specs.Serving.{Serving}
+use Rattle.state_exchange.specs.Families.{InState}
+
+-- in a session with that master
+abbrev pub serves : Profile → Bool → (ℕ → Lens) → Behind Serving (InState Server) (InState Server) Asked Reply
+serves p boot lens = record {
+  exchange = spoken p;
+  states = spoken_states;
+  processor = processor_of boot;
+  running = running_as p;
+  sees = seen_in;
+  boot = boot;
+  lens = lens;
+}

@@ -1,0 +1,82 @@
+-- A PLAN'S SLAVE AS ITS MASTER SPEAKS WITH IT: by services of its protocols, and by mails that are passed on.
+use Rattle.std.specs.Prelude.{ℕ, Bool, true, Ok}
+use Rattle.exchange_model.specs.Exchange.{Exchange}
+use Rattle.link_mails.specs.Body.{Body}
+use Rattle.master_duty.specs.Reply as Master
+use Rattle.master_hand.specs.Spoken as Spoken
+use Rattle.segment_model.specs.Slaves.{Processor}
+use Rattle.serving_model.specs.Tagged.{Asked, untag, asked_full, asked_exec, asked_reply, asked_emits}
+use Rattle.serving_model.specs.TaggedStates.{told_state}
+use Rattle.few_replies.specs.Packets.{is_calm, is_fair}
+use Rattle.slave_model.specs.Acknowledged.{acknowledged}
+use Rattle.slave_model.specs.Profile.{Protocol, Profile, areas_of}
+use Rattle.slave_model.specs.Server.{Reply}
+use Rattle.slave_parts.specs.Parts.{Core, Server, parts}
+use Rattle.slave_parts.specs.of_eoe_model.Network.{Station}
+use Rattle.slave_served.specs.Served.{product_whole}
+use Rattle.slave_server.specs.Serving.{fresh}
+use Rattle.state_exchange.specs.Families.{InState, states_of}
+use Rattle.state_exchange.specs.Stated.{Stated}
+use Rattle.state_law.specs.Shows.{slave_table}
+use Rattle.state_model.specs.States.{Table, carry}
+use Rattle.run_work.specs.Sessions.{OwnService, Wanted, InRow, named_wanted}
+use Rattle.life_counts.specs.Epochs.{Speaker}
+use Rattle.life_counts.specs.Spoken.{Naming}
+
+-- the AL state of the whole server
+abbrev pub whole_states : Stated (InState Server) (InState Server) OwnService
+whole_states = states_of {V = Server} {A = Server} acknowledged
+
+-- what the master speaks, and its names
+abbrev pub naming_of : Profile → Naming Body OwnService Spoken.Asked Reply
+naming_of p = record { speech = Spoken.hand_speech (areas_of p); name = named_wanted; acknowledged = Spoken.acknowledged; passed = Spoken.is_passed; more = Spoken.is_followed }
+
+-- THE SLAVE AND ITS MASTER: of the server its station is seen in the middle of a service; it is calm behind fair mails
+abbrev pub speaker : Profile → Speaker (InState Server) Body OwnService Reply (Station Core) Spoken.Asked
+speaker p = record { exchange = product_whole parts p; core = λ v. v.inner.app; states = whole_states; calm = is_calm; fair = is_fair; naming = naming_of p }
+
+-- THE SAME WITH ANY MAILS passed on: of each is known what it says, of none with how many it is answered
+abbrev pub any_speaker : Profile → Speaker (InState Server) Body OwnService Reply (Station Core) Spoken.Asked
+any_speaker p = record (speaker p) { calm = λ v. true; fair = λ m. true }
+
+-- a service by the master's name for it
+abbrev pub wanted : Spoken.Asked → Wanted
+wanted (Spoken.sdo q) = Asked.Script (Protocol.CoE, q)
+wanted (Spoken.file q) = Asked.Script (Protocol.FoE, q)
+wanted (Spoken.drive q) = Asked.Script (Protocol.SoE, q)
+wanted (Spoken.net q) = Asked.Script (Protocol.EoE, q)
+wanted (Spoken.passed m) = Asked.Passed (Ok m) true
+
+-- THE EXCHANGE THAT ITS NODE RUNS, by the master's names: a mail that is passed on acts by the server's one step
+abbrev pub spoken : Profile → Exchange (InState Server) (InState Server) Body Spoken.Asked Master.Reply
+spoken p = let x = product_whole parts p in record {
+  serve = x.serve;
+  app = x.app;
+  handled = x.handled;
+  ready = x.ready;
+  speech = Spoken.hand_speech (areas_of p);
+  full = λ v q. untag (asked_full x v (wanted q));
+  exec = λ v q. asked_exec x v (wanted q);
+  reply = λ v q. asked_reply x v (wanted q);
+  emits = λ v q. untag (asked_emits x v (wanted q));
+}
+
+-- its AL state
+abbrev pub spoken_states : Stated (InState Server) (InState Server) Spoken.Asked
+spoken_states = record { tell = whole_states.tell; told = whole_states.told; state = whole_states.state; acknowledged = Spoken.acknowledged }
+
+-- the slave's table of AL states, its areas right
+abbrev pub table_of : Bool → ℕ → Table
+table_of boot station = slave_table boot true
+
+-- its processor, and as it sees what is meant by the mails
+abbrev pub processor_of : Bool → Processor (InState Server)
+processor_of boot = record { carry = carry (slave_table boot true); tell = whole_states.tell }
+
+-- the same where it is seen what is meant by its mails
+abbrev pub seer_of : Profile → Bool → Processor InRow
+seer_of p boot = record { carry = carry (slave_table boot true); tell = told_state (product_whole parts p) whole_states }
+
+-- A RETURN TO INIT: all transfers are gone, the next packet has frame number 0, and the slave is in Init
+abbrev pub cleared_whole : InState Server → InState Server
+cleared_whole v = record { inner = record (fresh v.inner.app.app) { handled = v.inner.handled }; state = 1 }

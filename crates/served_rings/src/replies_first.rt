@@ -1,0 +1,13 @@
+//! The servers of a slave give replies first, and emissions behind them. Definitions and laws, no running code.
+
+ghost use Rattle.std.specs.Prelude.{ℕ};
+ghost use Rattle.passed_whole.specs.Led.{RepliesFirst};
+ghost use Rattle.slave_model.specs.Profile.{Profile};
+ghost use Rattle.slave_model.specs.Application.{Parts};
+ghost use Rattle.slave_model.specs.Product.{protocols};
+
+/// Whatever mail is taken, in whatever state of the slave: what its servers of CoE, FoE, SoE and EoE, and where one isn't served the refusal, give for
+/// it are replies, and behind them emissions.
+pub fn replies_first<T, F, I>()
+    ensures { (o : Parts T F I) (p : Profile) (al : ℕ) → RepliesFirst (protocols o p al) }
+{}

@@ -1,0 +1,38 @@
+//! The frames of a serving of a plan are fewer than the frame bound. Definitions and a law, no running code: the function here does nothing, and its contract
+//! states the law.
+
+ghost use Rattle.life_runs.specs.Led.{Exchanged};
+ghost use Rattle.link_mails.specs.Body.{Body};
+ghost use Rattle.master_duty.specs.Reply.{Reply};
+ghost use Rattle.master_hand.specs.Spoken.{Asked};
+ghost use Rattle.plan_ring.specs.Lives.{IsKnown};
+ghost use Rattle.run_frames.specs.Clocks.{Clocked};
+ghost use Rattle.run_frames.specs.Runs.{Progress};
+ghost use Rattle.run_work.specs.Fair.{AsksFair};
+ghost use Rattle.run_work.specs.ServedGained.{asked_in, leads_of};
+ghost use Rattle.run_work.specs.Switched.{AreSwitched};
+ghost use Rattle.segment_plan.specs.Bound.{bound_of};
+ghost use Rattle.segment_plan.specs.Sound.{IsPlan};
+ghost use Rattle.segment_plan.specs.declared.plan.Scenario.{Scenario};
+ghost use Rattle.served_rings.specs.Servings.{IsPlanServing};
+ghost use Rattle.served_runs.specs.Served.{Serves};
+ghost use Rattle.std.specs.Prelude.{◌≢◌, ◌≤◌, ◌<◌, ℕ, All, List, length};
+
+/// THE FRAMES OF A SERVING, of a plan that was read, that its master led by visits of one tour and that went round its ring, with fair mails asked between them,
+/// no more than so many, and with the packets of one switch, are fewer than the frame bound for so many datagrams: whatever frames are lost and whoever is
+/// given up.
+pub fn served_bound()
+    ensures within { (plan : Scenario) (fs : List Exchanged) (missed : ℕ) (ws : List Serves) (p : Progress) (cs : List (Clocked Body Asked Reply)) (count : ℕ) →
+        IsPlan plan → IsKnown plan → IsPlanServing plan fs missed ws p cs → All AsksFair ws → AreSwitched plan (leads_of ws) → asked_in ws ≤ count → length fs < bound_of plan count }
+    // So it is never cut off by a budget of as many frames or more.
+    ensures uncut { (plan : Scenario) (fs : List Exchanged) (missed : ℕ) (ws : List Serves) (p : Progress) (cs : List (Clocked Body Asked Reply)) (count budget : ℕ) →
+        IsPlan plan → IsKnown plan → IsPlanServing plan fs missed ws p cs → All AsksFair ws → AreSwitched plan (leads_of ws) → asked_in ws ≤ count → bound_of plan count ≤ budget → length fs ≢ budget }
+{
+    served_places::served_tours::served_tours();
+    served_places::served_tours::served_frames();
+    crate::served_lives_law();
+    run_work::served_counts::served_law();
+    run_work::served_work::served_switched();
+    run_work::served_work::served_returned();
+    run_work::fates_law();
+}

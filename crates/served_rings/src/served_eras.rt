@@ -1,0 +1,35 @@
+//! The epochs of a plan's slave in a serving, as its node lives them and its master leads them. A definition and laws, no running code: the functions here do
+//! nothing, and their contracts state the laws.
+
+ghost use Rattle.std.specs.Prelude.{◌≡◌, ℕ, Bool, true, List};
+ghost use Rattle.frame_view.specs.View.{Lens};
+ghost use Rattle.served_rings.specs.Led.{LedEra};
+ghost use Rattle.life_model.specs.Lives.{Spot, Era};
+ghost use Rattle.link_mails.specs.Body.{Body};
+ghost use Rattle.master_duty.specs.Reply.{Reply};
+ghost use Rattle.master_hand.specs.Spoken.{Asked, is_followed, is_passed};
+ghost use Rattle.served_rings.specs.Speakers.{speaker, spoken, table_of, processor_of, seer_of};
+ghost use Rattle.served_rings.specs.SeenLed.{WasLed};
+ghost use Rattle.segment_model.specs.Record.{Frame};
+ghost use Rattle.few_replies.specs.Packets.{is_calm};
+ghost use Rattle.slave_lives.specs.Lived.{IsBehind, node_seen};
+ghost use Rattle.slave_model.specs.Profile.{Profile};
+ghost use Rattle.slave_parts.specs.Parts.{Server};
+ghost use Rattle.slave_server.specs.Serving.{Serving};
+ghost use Rattle.slave_steps.specs.Node.{Node};
+ghost use Rattle.state_exchange.specs.Families.{InState};
+ghost use Rattle.served_rings.specs.Serves.{serves};
+
+/// THE SERVICES OF A SLAVE IN A SERVING are those that its node runs.
+pub fn behind_law()
+    ensures { (p : Profile) (boot : Bool) (lens : ℕ → Lens) → IsBehind (serves p boot lens) }
+{
+    plan_ring::server_lives::real_server_law();
+}
+
+/// AN EPOCH THAT ITS MASTER LED AND ITS NODE LIVED is one of those of which such a life is made, up to what the node is seen as; where no download was
+/// unfinished before it that sends a packet.
+pub fn led_law()
+    ensures { (p : Profile) (boot : Bool) (lens : ℕ → Lens) (spot : Spot) (from : InState Server) (counts : Bool) (e : Era Body Asked Reply) (fs : List (Frame Body)) (n : Node Serving) → LedEra (serves p boot lens) is_followed is_passed spot from counts e fs n → is_calm from ≡ true →
+        WasLed (speaker p) (seer_of p boot) (table_of boot) spot (spoken p) (processor_of boot) from e (node_seen (serves p boot lens) n).node.server.server }
+{}

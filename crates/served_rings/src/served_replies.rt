@@ -1,0 +1,38 @@
+//! What the slaves of a serving did of the rows that came into hand of them, and what they replied to the mails that were passed on. Definitions and a law, no
+//! running code: the function here does nothing, and its contract states the law.
+
+ghost use Rattle.std.specs.Prelude.{◌≡◌, ◌∷◌, ℕ, suc, Bool, false, [], List};
+ghost use Rattle.life_runs.specs.First.{first_leads, lens_of};
+ghost use Rattle.life_runs.specs.Led.{Exchanged};
+ghost use Rattle.link_mails.specs.Body.{Body};
+ghost use Rattle.mailbox_mail.specs.declared.mail.Kind.{Kind};
+ghost use Rattle.mailbox_mail.specs.declared.mail.Mail.{Mail};
+ghost use Rattle.master_hand.specs.Spoken.{passed};
+ghost use Rattle.plan_ring.specs.Lives.{IsKnown};
+ghost use Rattle.plan_ring.specs.Round.{AllRound, ring_of};
+ghost use Rattle.segment_plan.specs.Sound.{IsPlan};
+ghost use Rattle.segment_plan.specs.declared.plan.Scenario.{Scenario};
+ghost use Rattle.served_rings.specs.Served.{ServeSo, replies_to, server_behind};
+ghost use Rattle.served_runs.specs.Served.{Serves, IsServedLed, all_serve};
+ghost use Rattle.slave_model.specs.Profile.{Profile};
+ghost use Rattle.slave_model.specs.Server.{failure};
+ghost use Rattle.slave_parts.specs.Parts.{Server};
+ghost use Rattle.state_exchange.specs.Families.{InState};
+ghost use Rattle.state_exchange.specs.Stated.{Service};
+
+/// EACH SLAVE OF A SERVING has carried out, epoch by epoch, just the first of the rows that came into hand of it, each mail that was passed on by the one step that
+/// its server takes for it; and of the mail that is passed on just the first of the replies of that step were heard, all of them where it is over: behind any frames
+/// that went round the plan's ring, with any mails asked between them.
+pub fn served_replies_law()
+    ensures { (plan : Scenario) → IsPlan plan → IsKnown plan → (fs : List Exchanged) (missed : ℕ) (ws : List Serves) → IsServedLed (lens_of plan.slaves) plan.recover plan.retry (all_serve plan.paces (first_leads plan)) fs missed ws → AllRound (ring_of plan) fs → ServeSo plan fs ws }
+{
+    crate::served_ring_law();
+    crate::plan_speakers::speaker_law();
+    crate::plan_speakers::run_law();
+}
+
+/// Worked rows: a slave that doesn't serve CoE answers a mail of CoE by mailbox error 2, and counts it.
+pub fn refused_row()
+    ensures replies { (p : Profile) (boot : Bool) (station : ℕ) (v : InState Server) (m : Mail) → p.has_coe ≡ false → m.kind ≡ Kind.CoE → replies_to p boot station v m ≡ failure 2 ∷ [] }
+    ensures counts { (p : Profile) (boot : Bool) (station : ℕ) (v : InState Server) (m : Mail) → p.has_coe ≡ false → m.kind ≡ Kind.CoE → (server_behind p boot station v (Service.Mails (passed m) ∷ [])).inner.handled ≡ suc v.inner.handled }
+{}

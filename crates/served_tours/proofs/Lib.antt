@@ -1,3 +1,0 @@
-mod Toured
-mod Slaves
-pub mod Runs

@@ -1,2 +1,0 @@
-pub mod Toured
-pub mod Answered

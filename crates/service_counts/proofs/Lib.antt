@@ -1,5 +1,0 @@
-mod Layers
-mod OfSlave
-pub mod Sizes
-pub mod Stays
-pub mod OfShape

@@ -1,2 +1,0 @@
-pub mod Slave
-pub mod Shapes

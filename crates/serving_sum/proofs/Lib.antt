@@ -1,5 +1,0 @@
-pub mod WholeLaw
-pub mod SpelledLaw
-pub mod RefusedLaw
-pub mod JoinedLaw
-pub mod StatesLaw

@@ -1,5 +1,0 @@
-use Rattle.serving_sum.proofs.JoinedLaw.{joined_served}
-use Rattle.serving_sum.proofs.joined_is_served.Goals as goal
-
-pub returns : goal.returns
-returns g c = λ s x core seat reseat side law passes grows. joined_served s x core seat reseat side law passes grows

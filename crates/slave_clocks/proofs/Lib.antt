@@ -1,6 +1,0 @@
-pub mod Ways
-pub mod Opened
-pub mod Answering
-pub mod Halves
-pub mod Opens
-pub mod Turns

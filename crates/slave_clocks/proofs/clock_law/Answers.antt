@@ -1,8 +1,0 @@
-use Rattle.slave_clocks.proofs.Turns.{turns, given}
-use Rattle.slave_clocks.proofs.clock_law.Goals as goal
-
-pub returns : goal.returns
-returns g c = record {
-  turns = λ w c p spot first l fs t more passed pick news came stepped whole i f a prior. turns w c p spot whole first l fs t more passed pick news came i stepped f a prior;
-  gives = λ recover frame spot l stepped r. given recover frame spot l stepped r;
-}

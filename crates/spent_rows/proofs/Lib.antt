@@ -1,5 +1,0 @@
-mod Lives
-pub mod Last
-pub mod Said
-mod Spent
-mod Told

@@ -1,4 +1,0 @@
-mod Ports
-mod Begun
-mod Weighed
-mod Switched

@@ -1,5 +1,0 @@
-use Rattle.tagged_lives.proofs.Worked.{worked_gains}
-use Rattle.tagged_lives.proofs.worked_counts.Goals as goal
-
-pub returns : goal.returns
-returns g c = λ x s processor table spot fs cl shape count first l lawful stated keeps worked unopened. worked_gains x lawful s stated processor table spot fs cl shape count keeps first l worked unopened

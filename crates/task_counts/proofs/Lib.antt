@@ -1,3 +1,0 @@
-mod Seating
-mod Both
-pub mod OfTasks

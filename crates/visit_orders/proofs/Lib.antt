@@ -1,6 +1,0 @@
-pub mod Orders
-pub mod Onces
-pub mod Toured
-pub mod Carried
-pub mod Whole
-mod Worked

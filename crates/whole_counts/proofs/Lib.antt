@@ -1,4 +1,0 @@
-pub mod Filed
-pub mod Shaped
-pub mod Alone
-pub mod Whole

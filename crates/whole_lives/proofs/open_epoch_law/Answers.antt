@@ -1,9 +1,0 @@
-use Rattle.slave_lives.proofs.EraEnds as Ends
-use Rattle.whole_lives.proofs.Promised
-use Rattle.whole_lives.proofs.open_epoch_law.Goals as goal
-
-pub returns : goal.returns
-returns g k = record {
-  chain = λ w c p spot first l fs n i. Ends.eras w c.cleared spot fs i.past;
-  promises = λ w c p spot first l fs n whole i stand. Promised.promised w c p spot first l fs n whole i stand;
-}
