@@ -25,7 +25,7 @@ module _ {S : Type 0} (o : Network S) (room : ℕ) where
   taken_as f u last = if last then record { unfinished = None; joined = ended u (payload_of f) } else record { unfinished = Some (added u f.bytes.items); joined = More }
 
   more_quiet : (station : Station S) (f : Fragment) (u : Unfinished) (last : Bool) → last ≡ false → Quiet station (joined o room station f.last (taken_as f u last).unfinished (taken_as f u last).joined)
-  more_quiet station f u true no = absurd (cc)
+  more_quiet station f u true differs = absurd (cc)
   more_quiet station f u false is = inr refl
 
   part_quiet : (station : Station S) (f : Fragment) (before : Option Unfinished) (last : Bool) → f.last ≡ last → Quiet station (joined o room station f.last (taken_by f before).unfinished (taken_by f before).joined)
