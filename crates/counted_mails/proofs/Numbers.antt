@@ -8,9 +8,10 @@ use Rattle.link_mails.specs.Body.{Body}
 use Rattle.master_duty.specs.Reply.{Reply}
 use Rattle.master_hand.specs.Spoken.{Asked}
 use Rattle.served_rings.specs.Served.{IsServedEra, server_behind}
-use Rattle.served_rings.specs.Speakers.{spoken, table_of}
+use Rattle.served_rings.specs.Speakers.{cleared_whole, spoken, table_of}
 use Rattle.slave_model.specs.Profile.{Profile}
 use Rattle.slave_parts.specs.Parts.{Server}
+use Rattle.slave_server.specs.Serving.{fresh}
 use Rattle.state_exchange.specs.Families.{InState}
 use Rattle.state_exchange.specs.Stated.{Service}
 use Rattle.state_model.specs.Promises.{state_behind}
@@ -46,9 +47,14 @@ module _ (p : Profile) (boot : Bool) (station : ℕ) where
     | inr fewer ↦ sym (same_within v qs k n fewer (sym same))
   ]
 
+  -- what a return to Init makes of a server is told by its application and its number
+  cleared_alike : (v w : InState Server) → v.inner.app.app ≡ w.inner.app.app → v.inner.handled ≡ w.inner.handled → cleared_whole v ≡ cleared_whole w
+  cleared_alike v w app handled = (λ i. record { inner = record (fresh (app i)) { handled = handled i }; state = 1 })
+
   pub told_by_number : (from : InState Server) (e : Era Body Asked Reply) (left done : InState Server) → IsServedEra p boot station from e left done → IsToldByNumber p boot station from e left
   told_by_number from e left done is k same =
       let rows = services_in e.account.started in
       let carried : (server_behind p boot station from (take is.count rows)).inner.app ≡ done.inner.app = ap (λ (v : InState Server). v.inner.app) (sym is.done_is) in
       let number : (server_behind p boot station from (take is.count rows)).inner.handled ≡ left.inner.handled = ap (λ (v : InState Server). v.inner.handled) (sym is.done_is) ∙ sym is.handled in
-      ap (λ s. s.app) (same_parts from rows is.count k (same ∙ sym number) ∙ carried) ∙ sym is.app
+      let app : (server_behind p boot station from (take k rows)).inner.app.app ≡ left.inner.app.app = ap (λ s. s.app) (same_parts from rows is.count k (same ∙ sym number) ∙ carried) ∙ sym is.app in
+      record { app = app; cleared = cleared_alike (server_behind p boot station from (take k rows)) left app same }

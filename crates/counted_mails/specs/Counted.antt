@@ -5,6 +5,7 @@ use Rattle.life_model.specs.Lives.{Era}
 use Rattle.master_duty.specs.Reply.{Reply}
 use Rattle.master_hand.specs.Spoken.{Asked}
 use Rattle.served_rings.specs.Served.{server_behind}
+use Rattle.served_rings.specs.Speakers.{cleared_whole}
 use Rattle.slave_model.specs.Profile.{Profile}
 use Rattle.slave_model.specs.Server as Slave
 use Rattle.slave_parts.specs.Parts.{Server}
@@ -23,9 +24,12 @@ module _ (p : Profile) (boot : Bool) (station : ℕ) where
     pub grows : v.inner.handled ≤ (server_behind p boot station v qs).inner.handled
     pub stays : (server_behind p boot station v qs).inner.handled ≡ v.inner.handled → (server_behind p boot station v qs).inner.app ≡ v.inner.app
 
-  -- AN EPOCH, from the server with which it began, and the one that its slave left: behind any first part of its rows over which as many services are handled as the
-  -- slave has handled, objects, files, IDNs and addresses are the slave's; so they are behind the longest such part
+  -- A FIRST PART of an epoch's rows, from the server with which it began: behind it stand objects, files, IDNs and addresses of the server that the slave left, and a
+  -- return to Init makes the same of both
+  pub record StandsSo (from : InState Server) (e : Era Body Asked Reply) (left : InState Server) (k : ℕ) : Type 0 where
+    pub app : (server_behind p boot station from (take k (services_in e.account.started))).inner.app.app ≡ left.inner.app.app
+    pub cleared : cleared_whole (server_behind p boot station from (take k (services_in e.account.started))) ≡ cleared_whole left
+
+  -- AN EPOCH: so stands any first part of its rows over which as many services are handled as the slave has handled, the longest one among them
   abbrev pub IsToldByNumber : InState Server → Era Body Asked Reply → InState Server → Type 0
-  IsToldByNumber from e left =
-      (k : ℕ) → (server_behind p boot station from (take k (services_in e.account.started))).inner.handled ≡ left.inner.handled →
-      (server_behind p boot station from (take k (services_in e.account.started))).inner.app.app ≡ left.inner.app.app
+  IsToldByNumber from e left = (k : ℕ) → (server_behind p boot station from (take k (services_in e.account.started))).inner.handled ≡ left.inner.handled → StandsSo from e left k

@@ -30,9 +30,10 @@ pub fn rows_law()
 {}
 
 /// SO THE NUMBER TELLS WHAT A SLAVE OF A SERVING DID of an epoch: behind any first part of its rows with the slave's number, so behind the longest one, stands the
-/// slave's application.
+/// slave's application, and the next epoch begins with the same server.
 pub fn number_law()
-    ensures { (p : Profile) (boot : Bool) (station : ℕ) (from : InState Server) (e : Era Body Asked Reply) (left done : InState Server) → IsServedEra p boot station from e left done → IsToldByNumber p boot station from e left }
+    ensures { (p : Profile) (boot : Bool) (station : ℕ) (from : InState Server) (e : Era Body Asked Reply) (left done : InState Server) →
+        IsServedEra p boot station from e left done → IsToldByNumber p boot station from e left }
 {
     rows_law();
 }
