@@ -1,5 +1,5 @@
 -- A MAIL OF EoE is counted, or leaves the station: a packet is whole by its last fragment alone, and that one is counted.
-use Rattle.std.proofs.Common.{◌≡◌, ◌⊎◌, inl, inr, ℕ, Bool, true, false, List, Option, None, Some, refl, ◌∙◌}
+use Rattle.std.proofs.Common.{◌≡◌, ◌⊎◌, inl, inr, ℕ, Bool, true, false, Option, None, Some, refl, ◌∙◌}
 use Rattle.std.specs.Prelude.{if◌then◌else◌}
 use Rattle.eoe.specs.Joining.{Taken, added, awaited, ended, payload_of, taken_by}
 use Rattle.eoe.specs.declared.joining.Joined.{Joined}

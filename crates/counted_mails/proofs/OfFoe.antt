@@ -1,5 +1,5 @@
 -- A MAIL OF FoE is counted, or leaves the files: a new version replaces its file by the mail that ends its service.
-use Rattle.std.proofs.Common.{◌≡◌, ◌⊎◌, inl, inr, ℕ, ◌+◌, Bool, true, false, not, nat_lt, List, ◌++◌, length, Option, None, Some, refl}
+use Rattle.std.proofs.Common.{◌≡◌, ◌⊎◌, inl, inr, ℕ, ◌+◌, true, false, not, nat_lt, List, ◌++◌, length, Option, None, Some, refl}
 use Rattle.std.specs.Prelude.{◌==◌}
 use Rattle.counted_mails.proofs.Choices.{either}
 use Rattle.foe_model.specs.Mails.{Foe, Read, Write, Data, Ack, Error, Busy, FoeFault, Short, Opcode, Name, FoeMail, mail, unread, failed, other}

@@ -1,10 +1,10 @@
 -- A MAIL OF SoE is counted, or leaves the table: a fragment is joined, and the last one's message writes.
-use Rattle.std.proofs.Common.{◌≡◌, ◌⊎◌, inl, inr, ℕ, Bool, true, List, Option, None, Some, Result, Ok, Err, refl}
+use Rattle.std.proofs.Common.{◌≡◌, ◌⊎◌, inl, inr, ℕ, Bool, true, List, Option, Result, Ok, Err, refl}
 use Rattle.std.specs.Prelude.{◌==◌}
 use Rattle.counted_mails.proofs.Choices.{either}
 use Rattle.soe_model.specs.Elements.{Target, Elements}
 use Rattle.soe_model.specs.Mails.{Soe, SoeFault, Short, Opcode, Incomplete, SoeMail, mail, unread, failed, other}
-use Rattle.soe_model.specs.Server.{Join, Outcome, asked, gathered, written, target_of, takes_whole, soe_takes, takes_unread, soe_outcome}
+use Rattle.soe_model.specs.Server.{Join, Outcome, asked, gathered, written, target_of, takes_whole, takes_unread, soe_outcome}
 
 module _ {S : Type 0} (o : Elements S) (room : ℕ) where
   -- counted, or the table is this

@@ -1,5 +1,5 @@
 -- WHATEVER MAIL A SLAVE TAKES, it is counted, or leaves all but unfinished transfers; and a service of a script is counted.
-use Rattle.std.proofs.Common.{◌≡◌, ◌⊎◌, inl, inr, suc, ℕ, Bool, true, false, Option, None, Some, Ok, Err, List, [], refl}
+use Rattle.std.proofs.Common.{◌≡◌, ◌⊎◌, inl, inr, suc, ℕ, Bool, true, false, Option, None, Some, Ok, Err, [], refl}
 use Rattle.std.specs.Prelude.{if◌then◌else◌}
 use Rattle.coe_model.specs.Mails as CoeMails
 use Rattle.coe_model.specs.Octets as CoeOctets

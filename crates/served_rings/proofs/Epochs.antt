@@ -42,6 +42,7 @@ use Rattle.served_rings.proofs.Newest as Newest
 use Rattle.served_rings.proofs.Newest.{exec_is}
 use Rattle.served_rings.proofs.Seen.{clears_so, heard, promised, valid}
 use Rattle.served_rings.proofs.Told.{row_whole}
+use Rattle.served_rings.proofs.Uncounted.{told_by_number}
 
 -- what is there of a row that is seen otherwise
 record SeenRow (now : Option (Row (Tagged Body OwnService) Wanted (Option SlaveReply.Reply))) (r : Row Body Asked Reply) : Type 0 where
@@ -142,17 +143,23 @@ module _ (p : Profile) (k : IsSpeaker (speaker p)) (forgets : Forgets (speaker p
     served_era =
         let k = promised (mailer p) speaks (seer_of p boot) (table_of boot) spot l.opened l.server l.registers fs counts e seen_node i in
         let long : length e.account.started ≡ length i.era.account.started = ap length started_is ∙ length-map i.era.account.started start_named in
+        let rows = services_in e.account.started in
+        let done_is : done ≡ server_behind p boot spot.station l.server (take k.count rows) =
+        k.app
+        ∙ exec_is (product_whole parts p) (λ v. true) is_mail whole_states (table_of boot spot.station) l.server 0 (take k.count (services_in i.era.account.started))
+        ∙ behind_named p boot spot.station l.server (take k.count (services_in i.era.account.started)) (named_take p k.count (services_in i.era.account.started) all_valid)
+        ∙ ap (server_behind p boot spot.station l.server) (sym (take-map (λ q. service_seen named_wanted q) k.count (services_in i.era.account.started)) ∙ ap (take k.count) (sym services_is)) in
+        let app : left.inner.app.app ≡ done.inner.app.app = ap (λ (v : InState Server). v.inner.app.app) cleared_so in
+        let handled : left.inner.handled ≡ done.inner.handled = ap (λ (v : InState Server). v.inner.handled) cleared_so in
         record {
           count = k.count;
           prefix = omega (arith, long, k.prefix);
           behind = omega (arith, long, k.behind);
-          done_is = k.app
-              ∙ exec_is (product_whole parts p) (λ v. true) is_mail whole_states (table_of boot spot.station) l.server 0 (take k.count (services_in i.era.account.started))
-              ∙ behind_named p boot spot.station l.server (take k.count (services_in i.era.account.started)) (named_take p k.count (services_in i.era.account.started) all_valid)
-              ∙ ap (server_behind p boot spot.station l.server) (sym (take-map (λ q. service_seen named_wanted q) k.count (services_in i.era.account.started)) ∙ ap (take k.count) (sym services_is));
-          app = ap (λ (v : InState Server). v.inner.app.app) cleared_so;
-          handled = ap (λ (v : InState Server). v.inner.handled) cleared_so;
+          done_is = done_is;
+          app = app;
+          handled = handled;
           state = ap (λ (s : Slave (InState Server) Body). s.registers.state) (sym i.stands) ∙ k.state;
+          longest = told_by_number p boot spot.station l.server left done rows k.count done_is app handled;
           heard = λ before m frame r started now passes. heard_of before m frame r started now passes (last_one before m frame r started now passes) (row_here before m frame r started now passes);
         }
 

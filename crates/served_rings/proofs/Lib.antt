@@ -35,6 +35,7 @@ pub mod Singles
 pub mod Slaves
 pub mod Speakers
 pub mod Told
+mod Uncounted
 pub mod Whole
 mod Within
 pub mod Words

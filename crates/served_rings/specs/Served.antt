@@ -51,8 +51,13 @@ module _ (p : Profile) (boot : Bool) (station : ℕ) where
       (before : List (Started Asked)) (m : Mail) (frame : ℕ) (r : Row Body Asked Reply) → e.account.started ≡ before ++ record { service = Service.Mails (passed m); frame = frame } ∷ []
       → e.side.now ≡ Some r → r.service ≡ passed m → IsHeardOf (server_behind from (services_in before)) m e.passing r
 
+  -- OF ROWS, from this server: behind any first part of them over which as many services are handled as by this other server stand its objects, files, IDNs and
+  -- addresses; so they do behind the longest
+  abbrev pub IsToldByNumber : InState Server → List (Service Asked) → InState Server → Type 0
+  IsToldByNumber from rows left = (k : ℕ) → (server_behind from (take k rows)).inner.handled ≡ left.inner.handled → (server_behind from (take k rows)).inner.app.app ≡ left.inner.app.app
+
   -- AN EPOCH, from this server: its slave carried out just the first so many of its rows, each once and in order; its objects, files, IDNs and addresses, its AL
-  -- state and the number of services that it counts are those of the server behind these rows; at most the two newest rows aren't among them
+  -- state and the number of services that it counts are those of the server behind these rows, and that number tells all of it but the AL state; at most the two newest rows aren't among them
   pub record IsServedEra (from : InState Server) (e : Era Body Asked Reply) (left done : InState Server) : Type 0 where
     pub count : ℕ
     pub prefix : count ≤ length e.account.started
@@ -61,6 +66,7 @@ module _ (p : Profile) (boot : Bool) (station : ℕ) where
     pub app : left.inner.app.app ≡ done.inner.app.app
     pub handled : left.inner.handled ≡ done.inner.handled
     pub state : left.state ≡ done.state
+    pub longest : IsToldByNumber from (services_in e.account.started) left
     pub heard : IsHeardSo from e
 
   -- one that was opened: it began with this server, in the first epoch in the state of the plan, and its slave left that one
