@@ -43,7 +43,7 @@ module _ (p : Profile) (boot : Bool) (station : ℕ) where
   stays_on v w x (once more) grows later same = absurd (omega arith)
   stays_on v w x (never so app) grows later same = later (same ∙ sym so) ∙ app
 
-  pub rows_counted : (v : InState Server) (qs : List (Service Spoken.Asked)) → AreCounted v qs
+  rows_counted : (v : InState Server) (qs : List (Service Spoken.Asked)) → AreCounted v qs
   rows_counted v [] = record { grows = omega arith; stays = λ same. refl }
   rows_counted v (Service.Mails q ∷ qs) =
       let w = (spoken p).exec v q in
