@@ -33,6 +33,7 @@ pub mod Arrivals
 pub mod Begins
 pub mod Listing
 pub mod Restings
+pub mod Idles
 pub mod Visitings
 pub mod Eagers
 pub mod Servings
