@@ -33,7 +33,6 @@ pub mod Arrivals
 pub mod Begins
 pub mod Listing
 pub mod Restings
-pub mod Idles
 pub mod Visitings
 pub mod Eagers
 pub mod Servings

@@ -2,7 +2,7 @@
 use Rattle.std.proofs.Common.{◌≡◌, ◌+◌, ℕ, Bool, true, false, List, [], ◌∷◌, ◌++◌, length, map, refl, sym, ap, ◌∙◌, subst}
 use Rattle.std.specs.Prelude.{nat_lt}
 use Rattle.eoe_switch.specs.declared.switching.SwitchEvent.{SwitchEvent}
-use Rattle.master_node.proofs.Idles.{serves_idle}
+use Rattle.master_node.proofs.Restings.{serves_idle}
 use Rattle.master_node.specs.Eager.{AllTakeUp, recalls}
 use Rattle.master_node.specs.Happened.{events_of}
 use Rattle.master_node.specs.Recalled.{AllKnow}

@@ -1,6 +1,6 @@
 use Rattle.std.proofs.Common.{◌≡◌, ◌<◌, ◌∙◌, [], sym, arith, length}
 use Rattle.std.specs.Prelude.{slice_get}
-use Rattle.master_node.proofs.Idles.{if_less, none_before}
+use Rattle.master_node.proofs.Restings.{if_less, none_before}
 use Rattle.master_tour.proofs.Walks.{steps_both, steps_set}
 use Rattle.master_node.specs.Appends.{AppendsMail}
 use Rattle.master_node.proofs.Places.{waiting_here}

@@ -3,8 +3,7 @@ use Rattle.std.specs.Prelude.{◌&&◌, slice_get}
 use Rattle.master_tour.specs.declared.stop.Stand.{Stand}
 use Rattle.master_node.specs.Passes.{waits_in}
 use Rattle.master_node.specs.Serving.{mails_in}
-use Rattle.master_node.proofs.Idles.{if_with, quiet_in}
-use Rattle.master_node.proofs.Restings.{never, all_rest}
+use Rattle.master_node.proofs.Restings.{never, all_rest, if_with, quiet_in}
 use Rattle.std.proofs.lemmas.Bool.{OnFalse_at, OnFalse_from}
 use Rattle.master_node.proofs.Mailless.{all_out}
 use Rattle.master_node.proofs.Quiets.{all_left}
