@@ -10,11 +10,14 @@ use Rattle.master_duty.specs.of_exchange_model.Rows.{Row, left}
 use Rattle.master_duty.specs.of_segment_model.Ends as Ends
 use Rattle.master_duty.specs.of_segment_model.Seats
 use Rattle.master_duty.specs.of_segment_model.Seats.{Choice, first_left, is_none_left, next_mail, side_holds, side_next}
+use Rattle.master_duty.specs.declared.duty.Duty.{Duty}
+use Rattle.master_duty.specs.of_task_model.Accounts
 use Rattle.master_duty.specs.of_task_model.Accounts.{Account, Pick, account_begins, is_acknowledged, is_free, mails_begin}
 use Rattle.master_hand.specs.Shown.{knows}
 use Rattle.master_hand.specs.Spoken.{Asked, acknowledged}
 use Rattle.master_hand.specs.declared.hand.InHand.{InHand}
 use Rattle.master_side.specs.Carried.{in_hand}
+use Rattle.master_side.specs.Shown.{DutyShows}
 use Rattle.master_side.specs.declared.hand.Hand.{Ghosts}
 use Rattle.master_side.specs.of_link_mails.Body.{Body}
 use Rattle.master_tour.specs.Stands.{StandShows, StopShows}
@@ -24,7 +27,11 @@ use Rattle.master_tour.specs.of_life_model.Lives
 use Rattle.master_tour.specs.of_life_model.Lives.{Life, Spot, granted, life_next}
 use Rattle.master_node.specs.Shows.{side_shows}
 use Rattle.master_node.specs.Starts.{SideFrees}
-use Rattle.master_node.proofs.Restings.{no_hand}
+
+-- no state service is in hand
+pub no_hand : (duty : Option Duty) (hand : Option Accounts.Duty) → hand ≡ None → DutyShows duty hand → duty ≡ None
+no_hand None hand e x = refl
+no_hand (Some d) hand e x = absurd (let t = sym e ∙ x.1 in cc)
 
 -- nothing is left to take up of a service that is over
 left_none : {M : Type 0} (ms : List M) (b : Bool) → (is_none_left ms && b) ≡ true → ms ≡ []

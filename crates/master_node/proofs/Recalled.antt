@@ -46,7 +46,7 @@ use Rattle.master_node.specs.ServedEager.{AllServedAsk, ServedRecallsBack, Serve
 use Rattle.master_node.specs.Shows.{IsOnFrame, IsUnder, side_shows}
 use Rattle.master_node.proofs.Eagers.{recall_kept}
 use Rattle.master_node.proofs.OnFrames.{run_on}
-use Rattle.master_node.proofs.Restings.{no_hand}
+use Rattle.master_node.proofs.Frees.{no_hand}
 use Rattle.master_node.proofs.Visitings.{run_next}
 
 -- a slave's datagrams by their address are those of its mailboxes

@@ -7,8 +7,6 @@ use Rattle.life_runs.specs.of_frame_view.View.{Lens}
 use Rattle.life_runs.specs.of_life_frames.Shares.{AllBoth, AllThree}
 use Rattle.life_runs.specs.Led.{Leads, speech_at}
 use Rattle.mailbox_master.specs.of_link_model.Link.{Halves}
-use Rattle.master_duty.specs.declared.duty.Duty.{Duty}
-use Rattle.master_duty.specs.of_task_model.Accounts
 use Rattle.master_duty.specs.Reply.{Reply}
 use Rattle.master_hand.specs.Shown.{awaits_reply}
 use Rattle.master_hand.specs.Spoken.{Asked}
@@ -16,7 +14,6 @@ use Rattle.master_hand.specs.declared.hand.InHand.{InHand}
 use Rattle.master_side.specs.Carried.{in_hand}
 use Rattle.master_side.specs.Passing.{passing_seen}
 use Rattle.master_side.specs.Recall.{Recall}
-use Rattle.master_side.specs.Shown.{DutyShows}
 use Rattle.master_side.specs.declared.hand.Hand.{Ghosts}
 use Rattle.master_side.specs.declared.passing.Passing.{Passing}
 use Rattle.master_side.specs.of_link_mails.Body.{Body, link_mail}
@@ -36,6 +33,7 @@ use Rattle.master_node.specs.Serving.{IsServed, run_lead, waits_of}
 use Rattle.master_node.specs.Shows.{IsLead, IsLived, WaitsNone, side_shows}
 use Rattle.master_node.specs.declared.lan.Lan.{Lan}
 use Rattle.master_node.specs.declared.post.Post.{Post}
+use Rattle.master_node.proofs.Frees.{no_hand}
 use Rattle.master_node.proofs.Mailings.{none_waits}
 use Rattle.master_node.proofs.Servings.{keyed}
 
@@ -45,10 +43,6 @@ never e = absurd (cc)
 out_none : (o : Option Mail) → option_map link_mail o ≡ None → o ≡ None
 out_none None e = refl
 out_none (Some m) e = absurd (cc)
-
-pub no_hand : (duty : Option Duty) (hand : Option Accounts.Duty) → hand ≡ None → DutyShows duty hand → duty ≡ None
-no_hand None hand e x = refl
-no_hand (Some d) hand e x = absurd (let t = sym e ∙ x.1 in cc)
 
 -- none is copied of none
 pub none_copied : {S T : Type 0} (o : Option S) (f : S → T) → option_map f o ≡ None → is_some o ≡ false
