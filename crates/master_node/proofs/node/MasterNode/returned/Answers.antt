@@ -172,22 +172,6 @@ returns-clause-recalls c = λ lens recover retry missed octets us u r a.
     (recalls_back (λ v. v) (λ v. None) lens recover octets back us ss zs r (λ s. seen_aims lens c.args.frame.now.items s.side.station s.named)
     (runs_came lens recover octets back us ss ts zs u.each asks came c.all_back.ensures.kept.each))
 
-pub returns-clause-remembers : goal.returns-clause-remembers
-returns-clause-remembers c = λ lens recover retry missed made octets vs f p b u r a.
-    let m = c.args.self.now in
-    let n = c.all_back.new.self in
-    let back = seen lens c.args.frame.now.items in
-    let ss = m.tour.stops.items in
-    let ts = c.returned.new.self.stops.items in
-    let zs = n.tour.stops.items in
-    let gives = gives_up_at lens recover retry missed in
-    let on = on_frame lens recover retry gives made f octets vs m.posts.items ss u.each in
-    let came = each_map _ _ ss ts (λ s t p v i. p (speech_at lens v.lived.spot) recover v.lived.spot v.lived.life i.lives.planned.stands i.way i.lives.shown) (c.returned.ensures.recalls lens (seen lens octets) r u.sent) in
-    let served = returns-clause-served c lens recover retry missed made octets vs f p b u r in
-    recalls_back run_turn (λ v. (served_behind lens recover retry gives made f v).lead.lived.life.era.passing) lens recover octets back vs ss zs r (λ s. seen_aims lens c.args.frame.now.items s.side.station s.named)
-    (came_so run_turn (λ v. (served_behind lens recover retry gives made f v).lead.lived.life.era.passing) lens recover octets back vs ss ts zs on a came c.all_back.ensures.kept.each
-    (all_pass lens recover retry gives made f octets c.args.frame.now.items p b (suc made) vs n.posts.items ss zs on served.each))
-
 pub returns-clause-joins : goal.returns-clause-joins
 returns-clause-joins c = λ lens recover retry missed made octets vs befores f p b u r h.
     let m = c.args.self.now in
@@ -347,3 +331,19 @@ returns-clause-answers c = λ once few k.
     let most = c.all_back.ensures.few in
     let told = c.all_back.ensures.told (subst (λ z. AreOnce z.items) (sym c.returned.ensures.tour.0) once) in
     told.answers k ∙ ap (λ z. answer_behind k z (answer_at m.posts.items k)) (sym (just_told (told_in tells visit) m.list.before told few c.ends.ensures.few c.ends.ensures.last (omega (arith, told_five tells (λ j. back_few m.posts.items ts j) visit, most))))
+
+pub returns-clause-remembers : goal.returns-clause-remembers
+returns-clause-remembers c = λ lens recover retry missed made octets vs f p b u r a.
+    let m = c.args.self.now in
+    let n = c.all_back.new.self in
+    let back = seen lens c.args.frame.now.items in
+    let ss = m.tour.stops.items in
+    let ts = c.returned.new.self.stops.items in
+    let zs = n.tour.stops.items in
+    let gives = gives_up_at lens recover retry missed in
+    let on = on_frame lens recover retry gives made f octets vs m.posts.items ss u.each in
+    let came = each_map _ _ ss ts (λ s t p v i. p (speech_at lens v.lived.spot) recover v.lived.spot v.lived.life i.lives.planned.stands i.way i.lives.shown) (c.returned.ensures.recalls lens (seen lens octets) r u.sent) in
+    let served = returns-clause-served c lens recover retry missed made octets vs f p b u r in
+    recalls_back run_turn (λ v. (served_behind lens recover retry gives made f v).lead.lived.life.era.passing) lens recover octets back vs ss zs r (λ s. seen_aims lens c.args.frame.now.items s.side.station s.named)
+    (came_so run_turn (λ v. (served_behind lens recover retry gives made f v).lead.lived.life.era.passing) lens recover octets back vs ss ts zs on a came c.all_back.ensures.kept.each
+    (all_pass lens recover retry gives made f octets c.args.frame.now.items p b (suc made) vs n.posts.items ss zs on served.each))

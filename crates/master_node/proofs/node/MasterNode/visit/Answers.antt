@@ -40,7 +40,7 @@ use Rattle.master_node.specs.Eager.{StopGoes, recall_of}
 use Rattle.master_tour.proofs.Walks.{each_map}
 use Rattle.master_node.proofs.Happenings.{happens_none, happens_from}
 use Rattle.master_node.proofs.Made.{makes_none, makes_then}
-use Rattle.std.proofs.Common.{◌∷◌}
+use Rattle.std.proofs.Common.{[], ◌∷◌}
 use Rattle.master_hand.specs.Shown.{Shows, knows}
 use Rattle.master_hand.specs.Spoken.{acknowledged}
 use Rattle.master_side.specs.Shown.{SideShows}
@@ -387,7 +387,9 @@ returns-then-not-fits-clause-serves c = λ lens recover made from left next ws r
     }
 
 pub returns-clause-serves : goal.returns-clause-serves
-returns-clause-serves c = λ lens recover made from left next ws room few d at over fewer f.
+returns-clause-serves c =
+    let fit : c.fits.result ≡ true = cc in
+    λ lens recover made from left next ws room few d at over fewer f.
     let m = c.args.self.now in
     let e = c.fits.ensures in
     let v = c.visit-began.ensures in
@@ -486,7 +488,6 @@ returns-clause-serves c = λ lens recover made from left next ws room few d at o
             (steps_got _ place s2 s3 (steps_both _ _ place s2 s3 begins v.recalled)) in
             let wish = c.wish_of-wish.result in
             let octets = c.args.into.now.items in
-            let fit : c.fits.result ≡ true = cc in
             let roomed = steps_map _ (λ s t. Roomed octets wish s t × (t.stand ≡ s.stand)) place s0 s1
             (λ s t p. (record { free = λ w. p.0.0.0 (some_wish coming (sym (ap (λ z. is_some z) c.wish_of-wish.ensures) ∙ w)); fits = p.0.0.1; still = p.0.1 }, p.1.1))
             (steps_both _ _ place s0 s1 (steps_both _ _ place s0 s1 (steps_some (λ s. is_some coming ≡ true → (s.stand ≡ Stand.Open) × (is_free_side s.side ≡ true)) (λ s t. FitsFirst octets wish s) place s0 s1 (e.begins fit) c.coming-coming.ensures.free) e.still) e.step) in
