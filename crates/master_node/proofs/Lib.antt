@@ -55,6 +55,7 @@ pub mod FreeKept
 pub mod Alikes
 pub mod ServedVisits
 pub mod MailsReady
+pub mod ServedStarts
 pub mod Threes
 pub mod ServedTells
 pub mod Roundings

@@ -50,7 +50,7 @@ use Rattle.master_node.specs.Starts.{HasStarted}
 use Rattle.master_node.proofs.Begins.{at_other, at_place}
 use Rattle.master_node.proofs.Fills.{from_each, from_map}
 use Rattle.master_node.proofs.Lists.{steps_got, steps_mid, steps_some}
-use Rattle.master_node.proofs.Starts.{Asks, ComesSo, LeavesNone, Readies, from_both, from_steps, leaves_none, mail_none, readies, serves_known, serves_yet, some_so, started_here, started_same, started_there, waits_yet}
+use Rattle.master_node.proofs.Starts.{Asks, ComesSo, LeavesNone, Readies, from_both, from_steps, leaves_none, mail_none, readies, some_so, started_here, started_same, started_there, waits_yet}
 use Rattle.std.specs.Prelude.{None}
 use Rattle.master_tour.specs.First.{FitsFirst}
 use Rattle.master_tour.specs.declared.stop.Stand.{Stand}
@@ -67,6 +67,7 @@ use Rattle.master_node.specs.Passes.{ThreeFrom}
 use Rattle.master_node.proofs.ServedVisits as Served
 use Rattle.master_node.proofs.Alikes.{Alike, alike_same, serving_alike}
 use Rattle.master_node.proofs.MailsReady.{mail_ready}
+use Rattle.master_node.proofs.ServedStarts.{all_without, leaves_all, serves_started}
 use Rattle.master_node.proofs.Threes.{three_each}
 use Rattle.master_node.proofs.FreeKept as Frees
 use Rattle.std.proofs.Common.{length}
@@ -473,7 +474,6 @@ returns-clause-serves c =
             let l = m.lan in
             let l2 = c.came.new.self.lan in
             let past = f.starts.visited in
-            let as' = map run_lead ws in
             let fewer_on = subst (λ z. NoneMore z l2) c.lay.ensures.lan c.came.ensures.fewer in
             let asks = steps_map _ (λ s t. Asks s t) place s0 s1
             (λ s t p. ((λ lens recover made a k h. p.0.0 (speech_at lens a.lived.spot) is_followed is_passed made recover a.lived.spot k h), p.1.0.2, p.1.0.0.out_is, ap (λ z. slice_get z.script z.number) p.1.0.3, p.1.1)) (steps_both _ _ place s0 s1 e.lives (steps_both _ _ place s0 s1 e.step e.recalled)) in
@@ -483,9 +483,8 @@ returns-clause-serves c =
             let ready = steps_trans _ _ (λ s u. Readies lens recover made l place got coming s u) place s0 s1 s2 (λ s t u a b. readies lens recover made l place got coming s t u a.0 a.1 b.0.0.0 b.0.0.1 b.0.1 b.1) so
             (steps_both _ _ place s1 s2 (steps_both _ _ place s1 s2 c.lay.ensures.laid (c.lay.ensures.sure c.coming-coming.ensures.waits)) mail) in
             let begins = subst (λ z. StepsAt (λ s t. Begins s.stand r (knows s.side.hand.course) s.side.duty s.side.passing acknowledged (λ x d a. SideShows (Shows s.side.hand.course s.side.hand.which s.side.hand.clients x) s.side.out s.side.inn s.side.fresh s.side.duty d a) z (ready_of s.side.hand.laying)) place s2 s3) c.wish_of-wish.ensures v.begins in
-            let left_none = steps_trans _ _ (λ s u. LeavesNone lens recover made l place got what_is s u) place s0 s2 s3
-            (λ s t u a b. subst (λ z. LeavesNone lens recover made l place got z s u) (Served.what_seen lens recover made coming r place got s0 s1 s2 s3 s4 rooms frees ahead readied visited came t b.0) (leaves_none lens recover made l place got coming r s t u (rooms t) a b.1.0 b.1.1)) ready
-            (steps_got _ place s2 s3 (steps_both _ _ place s2 s3 begins v.recalled)) in
+            let seen_is = Served.what_seen lens recover made coming r place got s0 s1 s2 s3 s4 rooms frees ahead readied visited came in
+            let left_none = leaves_all lens recover made l place got coming r what_is s0 s2 s3 rooms seen_is ready begins v.recalled in
             let wish = c.wish_of-wish.result in
             let octets = c.args.into.now.items in
             let roomed = steps_map _ (λ s t. Roomed octets wish s t × (t.stand ≡ s.stand)) place s0 s1
@@ -496,17 +495,10 @@ returns-clause-serves c =
             (steps_both _ _ place s2 s3 (steps_both _ _ place s2 s3 v.lacks v.takes) (steps_both _ _ place s2 s3 v.lives (steps_both _ _ place s2 s3 v.step v.recalled))) in
             let went = subst (λ z. StepsAt (λ s u. Went octets z r (slice_get s2 place) s u) place s0 s3) c.wish_of-wish.ensures
             (steps_trans _ _ (λ s u. Went octets wish r (slice_get s2 place) s u) place s0 s2 s3 (λ s t u a b. record { between = t; is = b.0; roomed = a; lacking = b.1.0; place = b.1.1 }) room_kept (steps_got _ place s2 s3 lacking)) in
-            let without_one = steps_behind (λ i a u. StopFills lens recover made begun index next visited_frame.datagrams i a u) _ (λ s u. u.under ≡ false → what_is ≡ None) 0 place place lives s0 s3 (omega arith)
-            (λ a s u p w n. sym (Served.what_seen lens recover made coming r place got s0 s1 s2 s3 s4 rooms frees ahead readied visited came w.between w.is) ∙ without lens recover made octets (wish_of coming) r begun index next visited_frame.datagrams place a s w.between u p w.roomed w.lacking
-            (Served.now_here lens recover made coming r place got s0 s1 s2 s3 s4 rooms frees ahead readied visited came f.begun w.between u a.spot.place w.is w.place p.lives.planned.stands.place_is) n) visited_frame.each went in
-            let before = serves_known (λ i a s. StopFills lens recover made f.begun index left f.frame.datagrams i a s) (λ i w ks s. IsServing lens f.begun made left i w ks s) (λ i w s. HasStarted lens l past i (begun_for f.begun as' i) w.lead w.waits s) place got ws (mails_in m) s0 refl f.frame.each f.each f.starts.each in
-            let third = from_steps _ (λ i w s. HasStarted lens l2 (place ∷ past) i (begun_for begun as' i) w.lead w.waits s) (λ s u. LeavesNone lens recover made l place got what_is s u × (u.under ≡ false → what_is ≡ None)) 0 place place ws s0 s3 (omega arith)
-            (λ w s u p q.
-            let yet = serves_yet lens recover made f.begun index left f.frame.datagrams place w p.waits s at p.fills p.serving in
-            started_here lens recover made l l2 past place got (begun_for begun as' place) what_is w.lead w.waits s u fewer_on (at_place f.begun here_is what_is as' place told.0) yet.0 (λ z. sym yet.1 ∙ p.here refl ∙ z) q.0 q.1)
-            (λ j w s n p. started_there lens l l2 past place j (begun_for f.begun as' j) (begun_for begun as' j) w.lead w.waits s fewer_on n (at_other f.begun here_is what_is as' place j apart told.0 n) p.starts) before (steps_both _ _ place s0 s3 left_none without_one) in
-            from_each (λ i w s. HasStarted lens l2 (place ∷ past) i (begun_for begun as' i) w.lead w.waits s) (λ s t. SomeKept s t) (λ i w s. HasStarted lens l2 (place ∷ past) i (begun_for begun as' i) w.lead w.waits s)
-            (λ i w s t p k. started_same lens l2 (place ∷ past) i (begun_for begun as' i) w.lead w.waits s t k.kept.under (recall_kept k.number s t k.kept) p) 0 ws s3 s4 third (Served.kept lens recover made coming r place got s0 s1 s2 s3 s4 rooms frees ahead readied visited came);
+            let here_so = Served.now_here lens recover made coming r place got s0 s1 s2 s3 s4 rooms frees ahead readied visited came f.begun in
+            let without_one = all_without lens recover made index octets (wish_of coming) r begun next visited_frame.datagrams place (slice_get s2 place) what_is seen_is here_so lives s0 s3 visited_frame.each went in
+            serves_started lens recover made f.begun index left past f.frame.datagrams l l2 place here_is got what_is ws (mails_in m) s0 s3 s4 at fewer_on refl apart told.0 f.frame.each f.each f.starts.each left_none without_one
+            (Served.kept lens recover made coming r place got s0 s1 s2 s3 s4 rooms frees ahead readied visited came);
       };
     }
 
