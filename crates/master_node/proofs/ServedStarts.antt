@@ -58,9 +58,6 @@ module _ (lens : ℕ → Lens) (recover made index : ℕ) (octets : List ℕ) (w
 
 -- ALL SLAVES behind the visit of one
 module _ {G : Ghosts InHand} (lens : ℕ → Lens) (recover made : ℕ) (begun : ℕ → Option (Stated.Service Asked)) (index : ℕ) (left past : List ℕ) (ds : List Raw.Datagram) (l l2 : Lan) (place here : ℕ) (got : List Keyed) (what : Option (Stated.Service Asked)) (ws : List Serves) (kss : List (List Keyed)) (s0 s3 s4 : List (Stop InHand G)) where
-  abbrev now : ℕ → Option (Stated.Service Asked)
-  now = begun_at begun here what
-
   abbrev Fills : ℕ → Lived Asked Reply → Stop InHand G → Type 0
   Fills i a s = StopFills lens recover made begun index left ds i a s
 
