@@ -11,7 +11,7 @@ use Rattle.ecmbx_words.specs.Form.{form_in}
 use Rattle.ecmbx_words.specs.Files.{Followed}
 use Rattle.ecmbx_call.specs.Course.{Course, Began}
 use Rattle.ecmbx_call.specs.Calls.{CallsAs}
-use Rattle.ecmbx_call.proofs.Complete.{completes_to}
+use Rattle.ecmbx_call.proofs.Complete.{completes_serving, completes_to}
 use Rattle.ecmbx_call.proofs.Causes.{usage_cause, absent_cause, long_cause, refused_cause, broken_cause, given_up_cause, spent_cause, file_fault_cause, port_cause, ending_is, runs_to, saves_to, serves_to, shows_to, audits_to, makes_to}
 
 module _ (words : List (List ℕ)) (table saved : Option Table) (faulted sunk : Type 0) (first last : Told) (book : Book) (old new : Option (List ℕ)) (status : Status) where
@@ -24,6 +24,7 @@ module _ (words : List (List ℕ)) (table saved : Option Table) (faulted sunk : 
     saves = λ plan calm. saves_to words table saved faulted first last book old new status course calm plan;
     completes = λ plan calm quiet.
         completes_to words table saved sunk plan book old new status sinks quiet (runs_to words table saved faulted first last book old new status course calm plan) (saves_to words table saved faulted first last book old new status course calm plan);
+    completes_serving = λ plan calm quiet. completes_serving words table sunk first last plan book old new status sinks quiet (serves_to words table saved faulted first last book old new status course calm plan);
     serves = λ plan calm. serves_to words table saved faulted first last book old new status course calm plan;
     shows = λ calm quiet. shows_to words table saved faulted first last book old new status sunk sinks quiet calm course;
     audits = λ calm quiet. audits_to words table saved faulted first last book old new status sunk sinks quiet calm course;

@@ -11,7 +11,7 @@ use Rattle.ecmbx_words.specs.declared.status.Status.{Status}
 use Rattle.ecmbx_words.specs.declared.status.Status.TheVariants as statuses
 use Rattle.ecmbx_words.specs.Form.{form_in}
 use Rattle.ecmbx_words.specs.Files.{Followed}
-use Rattle.ecmbx_call.specs.Complete.{CompletesTo}
+use Rattle.ecmbx_call.specs.Complete.{CompletesServing, CompletesTo}
 use Rattle.ecmbx_call.specs.Course.{Course, Began}
 use Rattle.ecmbx_call.specs.Causes.{UsageCause, AbsentCause, LongCause, RefusedCause, GivenUpCause, SpentCause, BrokenCause, EndingAt, PortCause, RunsTo, SavesTo, ServesTo, ShowsTo, AuditsTo, MakesTo}
 
@@ -23,6 +23,7 @@ pub record CallsAs (words : List (List ℕ)) (table saved : Option Table) (fault
   pub saves : (plan : Scenario) → ¬ faulted → SavesTo words table saved plan book old new status
   pub completes : (plan : Scenario) → ¬ faulted → ¬ sunk → CompletesTo words table plan book status
   pub serves : (plan : Scenario) → ¬ faulted → ServesTo words table first last plan book old new status
+  pub completes_serving : (plan : Scenario) → ¬ faulted → ¬ sunk → CompletesServing words table first last plan book status
   pub shows : ¬ faulted → ¬ sunk → ShowsTo words table old new status
   pub audits : ¬ faulted → ¬ sunk → AuditsTo words table old new status
   pub makes : ¬ sunk → MakesTo words old new status

@@ -1,6 +1,8 @@
--- What a run comes to whose budget is as many frames as the bound, where no file and no sink has a fault.
+-- What a run or a serving comes to whose budget is as many frames as the bound, where no file and no sink has a fault.
 use Rattle.std.specs.Prelude.{◌≡◌, ◌≤◌, ◌⊎◌, ℕ, List, Option, Ok}
+use Rattle.ec_outside.specs.Faults.{Rose}
 use Rattle.ec_outside.specs.Files.{Table}
+use Rattle.gateway_run.specs.Serving.{Told}
 use Rattle.segment_plan.specs.Bound.{bound_of}
 use Rattle.segment_plan.specs.declared.plan.Scenario.{Scenario}
 use Rattle.scenario.specs.Document.{plan_of}
@@ -9,11 +11,13 @@ use Rattle.run_book.specs.declared.book.Ending.TheVariants as endings
 use Rattle.promised_run.specs.Few.{AreFewLost}
 use Rattle.promised_run.specs.Promised.{IsPromised, LeavesNothing}
 use Rattle.promised_run.specs.Session.{budget_of}
+use Rattle.promised_run.specs.ServedBounded.{HearsFair}
 use Rattle.ecmbx_words.specs.declared.form.Form.TheVariants as forms
 use Rattle.ecmbx_words.specs.declared.status.Status.{Status}
 use Rattle.ecmbx_words.specs.declared.status.Status.TheVariants as statuses
 use Rattle.ecmbx_words.specs.Form.{form_in}
 use Rattle.ecmbx_call.specs.Causes.{IsFound}
+use Rattle.ecmbx_call.specs.Serving.{HasServed}
 
 -- words that ask for a run
 abbrev pub IsRunning : List (List ℕ) → Type 0
@@ -30,3 +34,17 @@ pub record IsComplete (plan : Scenario) (book : Book) (status : Status) : Type 0
 abbrev pub CompletesTo : List (List ℕ) → Option Table → Scenario → Book → Status → Type 0
 CompletesTo words table plan book status =
     (octets : List ℕ) → IsRunning words → IsFound words table octets → plan_of octets ≡ Ok plan → bound_of plan 0 ≤ budget_of plan 0 → (status ≡ statuses.NoMemory) ⊎ IsComplete plan book status
+
+-- A SERVING THAT IS COMPLETE: it left nothing, with a slave given up or none, or its port failed; and where no more frames in a row are lost than the retry limit
+-- and the port doesn't fail, all is done
+pub record IsServedComplete (plan : Scenario) (count : ℕ) (first last : Told) (book : Book) (status : Status) : Type 0 where
+  pub did : HasServed plan count first last book
+  pub ends : (status ≡ statuses.Done) ⊎ ((status ≡ statuses.GivenUp) ⊎ ((status ≡ statuses.PortFault) × Rose first.faults last.faults))
+  pub few : AreFewLost plan.lose plan.retry → ¬ Rose first.faults last.faults → status ≡ statuses.Done
+
+-- the serving of a scenario that is found is complete, with a budget of as many frames as the bound for so many datagrams, where none that was heard asks for a
+-- download to 2F01:01, unless memory runs out; so it is never BudgetSpent, whatever frames are lost
+abbrev pub CompletesServing : List (List ℕ) → Option Table → Told → Told → Scenario → Book → Status → Type 0
+CompletesServing words table first last plan book status =
+    (octets : List ℕ) (count : ℕ) → form_in words ≡ forms.Serve count → IsFound words table octets → plan_of octets ≡ Ok plan → bound_of plan count ≤ budget_of plan count → HearsFair book
+    → (status ≡ statuses.NoMemory) ⊎ IsServedComplete plan count first last book status

@@ -5,7 +5,7 @@ ghost use Rattle.run_book.specs.Book.{IsNew};
 ghost use Rattle.ecmbx_words.specs.declared.form.Form.TheVariants as forms;
 ghost use Rattle.ecmbx_words.specs.declared.status.Status.TheVariants as statuses;
 ghost use Rattle.ecmbx_words.specs.Form.{form_in};
-ghost use Rattle.ecmbx_call.specs.Complete.{CompletesTo};
+ghost use Rattle.ecmbx_call.specs.Complete.{CompletesServing, CompletesTo};
 ghost use Rattle.ecmbx_call.specs.Course.{words_of, RunsFile, SavesFile, ShowsFile, AuditsFile, CarriesOut, Began, BeganIn};
 ghost use Rattle.ecmbx_call.specs.Serving.{ServesFile, ServedIn};
 ghost use Rattle.gateway_run.specs.Serving.{told};
@@ -175,6 +175,10 @@ pub fn ecmbx<F: Files, O: Sink, P: Port>(
     // A found scenario that is served: the book has its frames and the datagrams that the port heard and sent, and what is written is its report; and at each
     // moment what its slaves did, and replied to the mails passed on to them, is what their servers give.
     ensures serves { (plan : Plan) → IsCalm F.file_faults files.old files.new → ServesTo (words_of words.now) (F.table files.old) (told P.heard P.sent P.over P.port_faults port.old) (told P.heard P.sent P.over P.port_faults port.new) plan book.new (O.written out.old) (O.written out.new) result }
+
+    // It with a budget of as many frames as the bound for so many datagrams, none of which asks for a download to 2F01:01: whatever frames are lost the budget
+    // doesn't end it; and all is done where no more frames in a row are lost than the retry limit and the port doesn't fail.
+    ensures completes_serving { (plan : Plan) → IsCalm F.file_faults files.old files.new → IsCalm O.sink_faults out.old out.new → CompletesServing (words_of words.now) (F.table files.old) (told P.heard P.sent P.over P.port_faults port.old) (told P.heard P.sent P.over P.port_faults port.new) plan book.new result }
 
     // A found capture, and a scenario that is made: the text whole, where the sink doesn't fail.
     ensures shows { IsCalm F.file_faults files.old files.new → IsCalm O.sink_faults out.old out.new → ShowsTo (words_of words.now) (F.table files.old) (O.written out.old) (O.written out.new) result }

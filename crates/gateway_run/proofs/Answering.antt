@@ -123,4 +123,4 @@ course_answers plan count is _ _ _ _ _ (steps s s' fs f gs rs os c m) =
     let l = course_led plan count is s fs gs rs os c in
     let old = course_answers plan count is s fs gs rs os c in
     subst (λ z. Answers plan s' z gs (left_by_all (events_of s'.master) rs) (os ++ owed_by_all (events_of s'.master) rs) (dones_of plan count s fs gs rs os c ++ done_by_all (events_of s'.master) rs)) (sym (map-append exchanged fs (f ∷ [])))
-    (answers_on plan s s' (map exchanged fs) (exchanged f) gs rs os (dones_of plan count s fs gs rs os c) old (m.led plan (map exchanged fs) l.recover l.many m.live old.serving))
+    (answers_on plan s s' (map exchanged fs) (exchanged f) gs rs os (dones_of plan count s fs gs rs os c) old (m.led plan (map exchanged fs) l.recover l.many m.live m.busy old.serving))

@@ -14,13 +14,13 @@ use Rattle.run_book.specs.declared.book.SentFrame.{SentFrame}
 use Rattle.run_record.specs.Led.{exchanged}
 use Rattle.run_record.specs.Served as Led
 use Rattle.run_record.specs.Served.{ServingLives}
-use Rattle.run_record.specs.Session.{SessionState, has_live}
+use Rattle.run_record.specs.Session.{SessionState, IsDone, has_live}
 use Rattle.run_record.specs.of_run_notes.Notes.{stations_of}
 use Rattle.run_record.specs.of_run_notes.Slaves.{home_of}
 use Rattle.segment_plan.specs.Sound.{IsPlan}
 use Rattle.segment_plan.specs.declared.plan.Scenario.{Scenario}
 use Rattle.gateway_run.specs.Account.{Owing, Course, Course.begins, Course.hears, Course.steps, Judges, Judges.ignored as is_ignored, Judges.refused as is_refused, Judges.too_many, Judges.queues}
-use Rattle.gateway_run.specs.Desk.{SameLive}
+use Rattle.gateway_run.specs.Desk.{SameLive, StaysBusy}
 use Rattle.gateway_run.specs.Serving.{IsOn, LivesUnless}
 use Rattle.gateway_run.specs.declared.desk.Request.{Request}
 use Rattle.gateway_run.specs.declared.turn.Serving.{Serving}
@@ -75,7 +75,7 @@ course_led plan count is _ _ _ _ _ (hears s s' fs gs g rs rs' os more c at few j
 course_led plan count is _ _ _ _ _ (steps s s' fs f gs rs os c m) =
     let l = course_led plan count is s fs gs rs os c in
     let number : s'.ring.number ≡ suc s.ring.number = ap (λ r. (record s { ring = r }).ring.number) m.ring in
-    let more = m.led plan (map exchanged fs) l.recover l.many m.live l.serving in
+    let more = m.led plan (map exchanged fs) l.recover l.many m.live m.busy l.serving in
     let on : IsLed plan s' (map exchanged fs ++ exchanged f ∷ []) = record {
       homes = m.homes ∙ l.homes;
       recover = m.recover ∙ l.recover;
@@ -96,14 +96,14 @@ live_of plan count v b on lives =
     let l = on_led plan count v b on in
     lives plan (map exchanged b.frames) l.recover l.serving
 
--- the same, unless the segment is settled
-pub lives_on : (plan : Scenario) (count : ℕ) (v : Serving) (b : Book) → IsOn plan count v b → (rests settled : Bool) → rests ≡ settled → OnFalse settled (ServingLives v.session) → LivesUnless rests v.session
-lives_on plan count v b on rests settled is lives = OnFalse_from rests (has_live v.session.master ≡ true) (λ no.
+-- and something is left to do, unless the segment is settled
+pub lives_on : (plan : Scenario) (count : ℕ) (v : Serving) (b : Book) → IsOn plan count v b → (rests settled : Bool) → rests ≡ settled → OnFalse settled (ServingLives v.session) → OnFalse settled (IsDone v.session → ⊥) → LivesUnless rests v.session
+lives_on plan count v b on rests settled is lives left = OnFalse_from rests ((has_live v.session.master ≡ true) × (IsDone v.session → ⊥)) (λ no.
     let so : ServingLives v.session = OnFalse_at (sym is ∙ no) lives in
-    live_of plan count v b on so)
+    (live_of plan count v b on so, OnFalse_at (sym is ∙ no) left))
 
--- where it wasn't settled, some slave is still live behind what was heard
-pub lives_still : (s s' : SessionState) → SameLive s s' → (rests settled : Bool) → settled ≡ false → LivesUnless settled s → LivesUnless rests s'
-lives_still s s' same rests settled goes live = OnFalse_from rests (has_live s'.master ≡ true) (λ no.
-    let is : has_live s.master ≡ true = OnFalse_at goes live in
-    same ∙ is)
+-- where it wasn't settled, some slave is still live behind what was heard, and something is still left to do
+pub lives_still : (s s' : SessionState) → SameLive s s' → StaysBusy s s' → (rests settled : Bool) → settled ≡ false → LivesUnless settled s → LivesUnless rests s'
+lives_still s s' same stays rests settled goes live = OnFalse_from rests ((has_live s'.master ≡ true) × (IsDone s' → ⊥)) (λ no.
+    let is : (has_live s.master ≡ true) × (IsDone s → ⊥) = OnFalse_at goes live in
+    (same ∙ is.0, λ done. is.1 (stays done)))

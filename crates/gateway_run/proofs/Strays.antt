@@ -245,7 +245,7 @@ course_steady plan count is _ _ _ _ _ (steps s s' fs f gs rs os c m) =
     let old = course_steady plan count is s fs gs rs os c in
     let l = course_led plan count is s fs gs rs os c in
     let a = course_answers plan count is s fs gs rs os c in
-    let more = m.led plan (map exchanged fs) l.recover l.many m.live l.serving in
+    let more = m.led plan (map exchanged fs) l.recover l.many m.live m.busy l.serving in
     let lens = lens_of plan.slaves in
     let long : length (fs ++ f ∷ []) ≡ suc (length fs) = (let n = length-append fs (f ∷ []) in omega (arith, n)) in
     let gives : AllBoth (λ o n. GivesOne f.fate (length (map exchanged fs)) o n) (gaves_noted s.notes) (gaves_noted s'.notes) =

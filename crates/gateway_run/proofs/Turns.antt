@@ -17,7 +17,7 @@ use Rattle.run_book.specs.declared.book.GramOut.{GramOut}
 use Rattle.run_book.specs.declared.book.SentFrame.{SentFrame}
 use Rattle.gateway_run.specs.Events.{events_of}
 use Rattle.run_record.specs.Served.{ServingGoesOn}
-use Rattle.run_record.specs.Session.{SessionState, Steps, Stops, has_live}
+use Rattle.run_record.specs.Session.{SessionState, IsDone, Steps, Stops, has_live}
 use Rattle.run_record.specs.of_run_notes.Slaves.{home_of}
 use Rattle.run_record.specs.Ran.{HasSent, IsUnderway}
 use Rattle.run_record.proofs.Underway.{same_on, has_frames, stepped_on, stopped}
@@ -261,8 +261,8 @@ module _ (plan : Scenario) (count : ℕ) (first : Told) where
 
   -- a frame was sent
   pub stepped : (now : Told) (v v' : Serving) (b b' : Book) (f : SentFrame) → IsServing plan count first now v b → v.session.ring.number < v.session.budget → Steps v.session b v'.session b' f → ServingGoesOn v.session v'.session f → has_live v.session.master ≡ true →
-      NotesAll (events_of v'.session.master) v.desk v'.desk → v'.count ≡ v.count → v'.over ≡ v.over → IsServing plan count first now v' b'
-  stepped now v v' b b' f h left step led live notes counts over =
+      (IsDone v.session → ⊥) → NotesAll (events_of v'.session.master) v.desk v'.desk → v'.count ≡ v.count → v'.over ≡ v.over → IsServing plan count first now v' b'
+  stepped now v v' b b' f h left step led live busy notes counts over =
       let told = notes (map heard_as b.grams) h.on.sound in
       let sound = told.sound in
       let more = owed_by_all (events_of v'.session.master) v.desk.requests.items in
@@ -283,7 +283,7 @@ module _ (plan : Scenario) (count : ℕ) (first : Told) where
           owed = h.on.owed ++ more;
           course = course_same plan count v'.session v'.session (b.frames ++ f ∷ []) b'.frames b.grams b'.grams left_now v'.desk.requests.items (h.on.owed ++ more) refl step.put grams told.requests
               (steps v.session v'.session b.frames f b.grams v.desk.requests.items h.on.owed h.on.course
-              (record { recorded = step.recorded; ring = step.ring; homes = step.homes; asked = step.asked; recover = step.recover; live = live; led = led }));
+              (record { recorded = step.recorded; ring = step.ring; homes = step.homes; asked = step.asked; recover = step.recover; live = live; busy = busy; led = led }));
           spelled = subst (λ (l : List GramIn). AreSpelled (map heard_as l) (h.on.owed ++ more) (b'.replies ++ v'.desk.outbox.items)) (sym grams)
               (spelled_on (map heard_as b.grams) h.on.owed more b.replies b'.replies v.desk.outbox.items v'.desk.outbox.items replies h.on.spelled told.owes);
         };

@@ -19,7 +19,7 @@ use Rattle.run_record.specs.of_run_notes.Notes.{stations_of}
 use Rattle.run_record.specs.Replay.{behind, IsRecorded}
 use Rattle.gateway_run.specs.Events.{events_of}
 use Rattle.run_record.specs.Served.{ServingAsks, ServingBegins, ServingGoesOn}
-use Rattle.run_record.specs.Session.{SessionState, Asks, first_session, has_live}
+use Rattle.run_record.specs.Session.{SessionState, Asks, IsDone, first_session, has_live}
 use Rattle.gateway_run.specs.declared.desk.Request.{Request}
 
 -- a mail that is owed to who asked by the datagram of that number
@@ -165,7 +165,7 @@ pub data Judges (s s' : SessionState) (rs rs' : List Request) (number : ℕ) (oc
   too_many : IsTooMany s s' rs rs' number octets queued more → Judges s s' rs rs' number octets queued more
   queues : IsQueued s s' rs rs' number octets queued more → Judges s s' rs rs' number octets queued more
 
--- a session behind one frame more, before which some slave was live: it is led on by that frame
+-- a session behind one frame more, before which some slave was live and something was left to do: it is led on by that frame
 pub record Moves (s s' : SessionState) (f : SentFrame) : Type 0 where
   pub recorded : IsRecorded s.ring f
   pub ring : s'.ring ≡ behind s.ring f.sent
@@ -173,6 +173,7 @@ pub record Moves (s s' : SessionState) (f : SentFrame) : Type 0 where
   pub asked : s'.asked ≡ s.asked
   pub recover : s'.recover ≡ s.recover
   pub live : has_live s.master ≡ true
+  pub busy : IsDone s → ⊥
   pub led : ServingGoesOn s s' f
 
 -- THE COURSE OF A SERVING: its session, the frames sent and the datagrams heard until then, the requests that aren't finished, and all that was

@@ -8,7 +8,7 @@ use Rattle.gateway_core.specs.Framing.{request_in}
 use Rattle.gateway_core.specs.declared.asker.Asker.{Asker}
 use Rattle.master_node.specs.declared.event.Event.{Event}
 use Rattle.run_record.specs.Served.{ServingAsks}
-use Rattle.run_record.specs.Session.{SessionState, Asks, has_live}
+use Rattle.run_record.specs.Session.{SessionState, Asks, IsDone, has_live}
 use Rattle.ec_outside.specs.declared.port.Peer.{Peer}
 use Rattle.run_book.specs.declared.book.Book.{Book}
 use Rattle.run_book.specs.declared.book.GramIn.{GramIn}
@@ -61,6 +61,10 @@ AsksMails s s' = s' ≡ record s { asked = s'.asked; waiting = s'.waiting; maste
 -- some slave is live just where one was before
 abbrev pub SameLive : SessionState → SessionState → Type 0
 SameLive s s' = has_live s'.master ≡ has_live s.master
+
+-- a session at which something is left to do stays such a one
+abbrev pub StaysBusy : SessionState → SessionState → Type 0
+StaysBusy s s' = IsDone s' → IsDone s
 
 -- behind the datagrams that are to be sent stand those for what is owed besides
 abbrev pub Owes : List HeardGram → List Owing → List GramOut → List GramOut → Type 0

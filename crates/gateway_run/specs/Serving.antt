@@ -9,7 +9,7 @@ use Rattle.ec_outside.specs.declared.port.SentGram.{SentGram}
 use Rattle.segment_plan.specs.Sound.{IsPlan}
 use Rattle.segment_plan.specs.declared.plan.Scenario.{Scenario}
 use Rattle.run_book.specs.declared.book.Book.{Book}
-use Rattle.run_record.specs.Session.{SessionState, budget_of, has_live}
+use Rattle.run_record.specs.Session.{SessionState, IsDone, budget_of, has_live}
 use Rattle.run_record.specs.of_run_notes.Slaves.{home_of}
 use Rattle.run_record.specs.Ran.{HasSent, IsUnderway}
 use Rattle.gateway_run.specs.Heard.{heard_as, AreHeard, AreSent, AreSentBut, IsOwed, IsRightly}
@@ -30,9 +30,9 @@ pub record Told : Type 0 where
 abbrev pub told : {Q : Type 0} → (Q → Option (List HeardGram)) → (Q → Option (List SentGram)) → (Q → Bool) → (Q → ℕ) → Q → Told
 told heard sent over faults port = record { heard = heard port; sent = sent port; over = over port; faults = faults port }
 
--- some slave is live, unless the segment rests
+-- some slave is live and something is left to do, unless the segment rests
 abbrev pub LivesUnless : Bool → SessionState → Type 0
-LivesUnless rests s = OnFalse rests (has_live s.master ≡ true)
+LivesUnless rests s = OnFalse rests ((has_live s.master ≡ true) × (IsDone s → ⊥))
 
 -- no request is unfinished, where the segment is settled
 abbrev pub EmptyWhere : Bool → Serving → Type 0

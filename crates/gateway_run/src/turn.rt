@@ -5,7 +5,7 @@ ghost use Rattle.segment_plan.specs.Sound.{IsPlan};
 ghost use Rattle.segment_plan.specs.declared.plan.Scenario.{Scenario as Plan};
 ghost use Rattle.run_record.specs.Served.{ServingBegins};
 ghost use Rattle.run_record.specs.Session.{first_session};
-ghost use Rattle.gateway_run.specs.Desk.{HasNone, SameLive};
+ghost use Rattle.gateway_run.specs.Desk.{HasNone, SameLive, StaysBusy};
 ghost use Rattle.gateway_run.specs.Serving.{Told, told, Listens, SendsOne, Goes, IsServing, LivesUnless, EmptyWhere, left, can_hear};
 
 use crate::desk::Desk;
@@ -72,6 +72,7 @@ impl Serving {
         requires { can_hear self.old book.old ≡ true }
         ensures goes { (plan : Plan) (count : ℕ) (first now next : Told) → length self.old.desk.requests.items < 64 → IsServing plan count first now self.old book.old → Listens now next heard self.old.gram.items → Goes plan count first next self.new book.new result }
         ensures live { SameLive self.old.session self.new.session }
+        ensures busy { StaysBusy self.old.session self.new.session }
         ensures some { IfOk result (λ some. OnTrue some (left self.new book.new < left self.old book.old)) }
         ensures loud { OnOk result (heard ≢ heards.Quiet → left self.new book.new < left self.old book.old) }
         ensures most { OnOk result (left self.new book.new ≤ left self.old book.old) }
@@ -95,6 +96,7 @@ impl Serving {
         requires { can_hear self.old book.old ≡ true }
         ensures goes { (plan : Plan) (count : ℕ) (first : Told) → length self.old.desk.requests.items < 64 → IsServing plan count first (told P.heard P.sent P.over P.port_faults port.old) self.old book.old → Goes plan count first (told P.heard P.sent P.over P.port_faults port.new) self.new book.new result }
         ensures live { SameLive self.old.session self.new.session }
+        ensures busy { StaysBusy self.old.session self.new.session }
         ensures less { OnOk result (left self.new book.new < left self.old book.old) }
     {
         let heard = port.wait(&mut self.gram)?;
@@ -106,6 +108,7 @@ impl Serving {
     fn poll<P: Port>(&mut self, alloc: Global, port: &mut P, book: &mut Book) -> Result<(), Stop>
         ensures goes { (plan : Plan) (count : ℕ) (first : Told) → IsServing plan count first (told P.heard P.sent P.over P.port_faults port.old) self.old book.old → Goes plan count first (told P.heard P.sent P.over P.port_faults port.new) self.new book.new result }
         ensures live { SameLive self.old.session self.new.session }
+        ensures busy { StaysBusy self.old.session self.new.session }
         ensures most { OnOk result (left self.new book.new ≤ left self.old book.old) }
     {
         while self.can_hear(book) && !self.desk.is_full() {
@@ -128,6 +131,7 @@ impl Serving {
         requires { OnTrue settled (can_hear self.old book.old ≡ true) }
         ensures goes { (plan : Plan) (count : ℕ) (first : Told) → EmptyWhere settled self.old → IsServing plan count first (told P.heard P.sent P.over P.port_faults port.old) self.old book.old → Goes plan count first (told P.heard P.sent P.over P.port_faults port.new) self.new book.new result }
         ensures live { SameLive self.old.session self.new.session }
+        ensures busy { StaysBusy self.old.session self.new.session }
         ensures less { OnOk result (OnTrue settled (left self.new book.new < left self.old book.old)) }
         ensures most { OnOk result (left self.new book.new ≤ left self.old book.old) }
     {

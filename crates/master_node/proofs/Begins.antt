@@ -29,6 +29,7 @@ use Rattle.master_node.specs.Filling.{IsAmong}
 use Rattle.master_node.specs.Forwards.{forwarded, port_by, waiting_by}
 use Rattle.master_node.specs.Happened.{events_of}
 use Rattle.master_node.specs.Shows.{lived_of}
+use Rattle.master_node.specs.Passes.{IsMailReady, IsNextState}
 use Rattle.master_node.specs.declared.coming.Coming.{Coming}
 use Rattle.master_node.specs.declared.happened.Happening.{Happening}
 use Rattle.master_node.specs.declared.lan.Lan.{Lan}
@@ -247,6 +248,17 @@ leaves_here l place (Some Coming.Script) true s c d r o =
     let w = s.side.hand.laying in
     sym (ap (λ z. begins_by (port_by (slice_get l.ports.items place)) (wished Wish.Mails (ready_by z w))) d ∙ next_not w.areas.out (port_by (slice_get l.ports.items place)) (slice_get w.script w.number))
 leaves_here l place (Some (Coming.State target)) true s c d r o = refl
+
+-- so it is where a mail may come that is passed on
+pub leaves_served : {G : Ghosts InHand} (l : Lan) (place : ℕ) (coming : Option Coming) (result : Bool) (s : Stop InHand G) → IsNextState (next_of s) coming → IsLaid coming s.side.hand.laying.laid →
+    (takes_ready result (wish_of coming) ≡ true → is_some (ready_of s.side.hand.laying) ≡ true) → LaysOldest l place coming s → IsMailReady coming s.side.hand.laying →
+    taken_where result l place coming ≡ begins_by (port_by (slice_get l.ports.items place)) (wish_begun result (wish_of coming) (ready_of s.side.hand.laying))
+leaves_served l place None result s n d r o m = leaves_here l place None result s n d r o
+leaves_served l place (Some Coming.Packet) result s n d r o m = leaves_here l place (Some Coming.Packet) result s n d r o
+leaves_served l place (Some Coming.Mail) false s n d r o m = refl
+leaves_served l place (Some Coming.Mail) true s n d r o m = sym (ap (λ z. begins_by (port_by (slice_get l.ports.items place)) (wished Wish.Mails z)) m.1)
+leaves_served l place (Some Coming.Script) result s n d r o m = leaves_here l place (Some Coming.Script) result s n d r o
+leaves_served l place (Some (Coming.State target)) result s n d r o m = leaves_here l place (Some (Coming.State target)) result s n d r o
 
 -- where another service came none waits
 packet_only : (w : Waiting) → (w.laid ≡ Laid.Packet) ⊎ (w.laid ≡ Laid.Nothing) → begins_other (wished Wish.Mails (ready_of w)) ≡ true → ⊥

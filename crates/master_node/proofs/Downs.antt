@@ -8,6 +8,7 @@ use Rattle.life_runs.specs.of_frame_view.View.{Lens}
 use Rattle.life_runs.specs.of_life_frames.Shares.{AllBoth, given_where}
 use Rattle.master_duty.specs.Reply.{Reply}
 use Rattle.master_duty.specs.of_exchange_model.Exchange.{Speech}
+use Rattle.master_duty.specs.of_segment_model.Record.{News}
 use Rattle.master_duty.specs.of_segment_model.Slaves.{Datagram}
 use Rattle.master_duty.specs.of_segment_model.Seats.{Side}
 use Rattle.master_duty.specs.of_task_model.Accounts.{Account}
@@ -147,11 +148,11 @@ pub both_true : (a b : Bool) → (a && b) ≡ true → b ≡ true
 both_true true b e = e
 both_true false b e = absurd (let bad : false ≡ true = e in cc)
 
-module _ (x : Speech Body Asked Reply) (recover number : ℕ) (spot : Spot) (sent : List (Datagram Body)) where
+module _ (x : Speech Body Asked Reply) (recover number : ℕ) (spot : Spot) (ns : List (News Body)) (sent : List (Datagram Body)) where
   abbrev lost_of : SlaveLife → SlaveLife
-  lost_of l = life_lost x acknowledged is_followed is_passed spot [] sent l l.stand
+  lost_of l = life_lost x acknowledged is_followed is_passed spot ns sent l l.stand
 
-  lost_stays : (l : SlaveLife) (z : Lives.Stand) → (let m = life_lost x acknowledged is_followed is_passed spot [] sent l z in (m.stand ≡ l.stand) × (m.gave ≡ l.gave))
+  lost_stays : (l : SlaveLife) (z : Lives.Stand) → (let m = life_lost x acknowledged is_followed is_passed spot ns sent l z in (m.stand ≡ l.stand) × (m.gave ≡ l.gave))
   lost_stays l (Lives.Stand.Opens o) = (refl, refl)
   lost_stays l Lives.Stand.Open = (refl, refl)
   lost_stays l Lives.Stand.Gone = (refl, refl)

@@ -31,7 +31,7 @@ use Rattle.master_tour.specs.declared.stop.Stand.{Stand}
 use Rattle.master_tour.specs.declared.stop.Stop.{Stop}
 use Rattle.master_node.specs.Eager.{AllTakeUp, StopGoes, StopTakesUp, TakesUp, recall_of}
 use Rattle.master_node.specs.Kept.{StopKept}
-use Rattle.master_node.specs.Shows.{IsUnder, side_shows}
+use Rattle.master_node.specs.Shows.{IsOnFrame, side_shows}
 
 -- the same hand and side, and what they showed before
 shows_back : {G : Ghosts InHand} (s t : Side InHand G) (x : Speech Body Asked Reply) (d : Seats.Side Body Asked Reply) (a : Account Asked Reply) → SameHand s.hand.course s.hand.which s.hand.clients t.hand.course t.hand.which t.hand.clients →
@@ -46,7 +46,7 @@ shows_back s t x d a h k w = record {
 
 -- A SLAVE THAT IS KEPT
 pub recall_kept : {G : Ghosts InHand} (n : ℕ) (s t : Stop InHand G) → StopKept n s t → recall_of t ≡ recall_of s
-recall_kept n s t k = λ i. recall_by (k.side.paused i) (k.side.side.duty_is i) (k.side.turn i) (knows (k.side.hand.course_is i))
+recall_kept n s t k = λ i. recall_by (k.side.paused i) (k.side.side.duty_is i) (k.side.passing i) (k.side.turn i) (knows (k.side.hand.course_is i))
 
 pub goes_kept : {G : Ghosts InHand} (n : ℕ) (s t : Stop InHand G) → StopKept n s t → StopGoes s t
 goes_kept n s t k = (
@@ -88,21 +88,21 @@ none_first : (ms : List Body) → first_left ms ≡ [] → ms ≡ []
 none_first [] e = refl
 none_first (m ∷ ms) e = absurd (cc)
 
-takes_stand : {G : Ghosts InHand} (lens : ℕ → Lens) (recover : ℕ) (octets : List ℕ) (u : Turn) (s : Stop InHand G) (stand : Stand) → s.stand ≡ stand → StopTakesUp s → IsUnder lens recover octets u s → TakesUp lens (recall_of s) u
+takes_stand : {G : Ghosts InHand} (lens : ℕ → Lens) (recover : ℕ) (octets : List ℕ) (u : Turn) (s : Stop InHand G) (stand : Stand) → s.stand ≡ stand → StopTakesUp s → IsOnFrame lens recover octets u s → TakesUp lens (recall_of s) u
 takes_stand lens recover octets u s (Stand.Opening up) e h i = λ f o v n.
-    let stood = subst (λ (z : Stand). StandShows (λ d b. side_shows lens recover s u.lived.spot d b) u.lived.spot z u.lived.life) e i.lead.lives.shown.stood in
+    let stood = subst (λ (z : Stand). StandShows (λ d b. side_shows lens recover s u.lived.spot d b) u.lived.spot z u.lived.life) e i.lives.shown.stood in
     absurd (let t = sym stood.stand ∙ o in cc)
 takes_stand lens recover octets u s Stand.Gone e h i = λ f o v n.
-    let stood = subst (λ (z : Stand). StandShows (λ d b. side_shows lens recover s u.lived.spot d b) u.lived.spot z u.lived.life) e i.lead.lives.shown.stood in
+    let stood = subst (λ (z : Stand). StandShows (λ d b. side_shows lens recover s u.lived.spot d b) u.lived.spot z u.lived.life) e i.lives.shown.stood in
     absurd (let t = sym stood ∙ o in cc)
 takes_stand lens recover octets u s Stand.Open e h i = λ f o v n r is.
-    let stood = subst (λ (z : Stand). StandShows (λ d b. side_shows lens recover s u.lived.spot d b) u.lived.spot z u.lived.life) e i.lead.lives.shown.stood in
+    let stood = subst (λ (z : Stand). StandShows (λ d b. side_shows lens recover s u.lived.spot d b) u.lived.spot z u.lived.life) e i.lives.shown.stood in
     let d = u.lived.life.era.side in
     let held = out_none s.side.out.state (sym (ap (λ (z : Halves Body). z.out.holding) stood.1.halves) ∙ n) in
     let none = h (sym i.under ∙ v) e held f (speech_at lens u.lived.spot) d u.lived.life.era.account stood.1 in
     none_first (left (speech_at lens u.lived.spot) r) (sym (ap (λ z. next_mail (speech_at lens u.lived.spot) z None true) is) ∙ none)
 
-pub all_take : {G : Ghosts InHand} (lens : ℕ → Lens) (recover : ℕ) (octets : List ℕ) (us : List Turn) (xs ss : List (Stop InHand G)) → EachPair (λ s t. (recall_of t ≡ recall_of s) × StopTakesUp t) xs ss → AllBoth (λ u s. IsUnder lens recover octets u s) us ss →
+pub all_take : {G : Ghosts InHand} (lens : ℕ → Lens) (recover : ℕ) (octets : List ℕ) (us : List Turn) (xs ss : List (Stop InHand G)) → EachPair (λ s t. (recall_of t ≡ recall_of s) × StopTakesUp t) xs ss → AllBoth (λ u s. IsOnFrame lens recover octets u s) us ss →
     AllTakeUp lens (map (λ s. recall_of s) ss) us
 all_take lens recover octets [] [] [] h e = tt
 all_take lens recover octets us (x ∷ xs) [] h e = absurd h

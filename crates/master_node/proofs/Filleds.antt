@@ -62,8 +62,8 @@ module _ (lens : ℕ → Lens) (recover made : ℕ) (from : Before) (as' : List 
     listing = listed_on (run_tells as') from.forwards left f.begun as' m n k.list k.posts f.listing;
     starts = record {
       visited = f.starts.visited;
-      each = subst (λ z. AllFrom (λ i a s. HasStarted lens z f.starts.visited i (begun_for f.begun as' i) a s) 0 as' n.tour.stops.items) (sym k.lan)
-          (subst (λ z. AllFrom (λ i a s. HasStarted lens m.lan f.starts.visited i (begun_for f.begun as' i) a s) 0 as' z.items) (sym k.stops) f.starts.each);
+      each = subst (λ z. AllFrom (λ i a s. HasStarted lens z f.starts.visited i (begun_for f.begun as' i) a [] s) 0 as' n.tour.stops.items) (sym k.lan)
+          (subst (λ z. AllFrom (λ i a s. HasStarted lens m.lan f.starts.visited i (begun_for f.begun as' i) a [] s) 0 as' z.items) (sym k.stops) f.starts.each);
     };
   }
 
@@ -76,7 +76,7 @@ module _ (lens : ℕ → Lens) (recover made : ℕ) (from : Before) (as' : List 
   -- before the first visit
   pub fills_first : (m : MasterNode) (octets : List ℕ) → IsEmpty lens recover made from m octets as' → Fills 0 m octets
   fills_first m octets e = rounds_first as' Quiet many quiet_same m octets (λ left. (e.filling left, e.quiet))
-      (record { count = e.count; passed = e.passed; short = e.short; begins = e.begins; some = e.some; lives = e.lives; again = e.again; anew = e.anew; listed = e.list })
+      (record { count = e.count; passed = e.passed; short = e.short; begins = e.begins; some = e.some; lives = e.lives; again = e.again; anew = e.anew; room = e.room; listed = e.list })
 
   -- behind the last one
   pub fills_last : (n : ℕ) (m : MasterNode) (octets : List ℕ) → 1 ≤ n → Fills n m octets → IsFilled lens recover made from m octets as'

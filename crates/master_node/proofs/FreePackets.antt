@@ -26,7 +26,7 @@ use Rattle.master_side.specs.declared.side.Side.{Side}
 use Rattle.master_side.specs.of_link_mails.Body.{Body, link_mail}
 use Rattle.mailbox_master.specs.of_link_model.Link.{Halves}
 use Rattle.master_node.specs.Begins.{is_other}
-use Rattle.master_node.proofs.Restings.{no_hand}
+use Rattle.master_node.proofs.Frees.{no_hand}
 
 packet_which : (q : Asked) → is_other q ≡ false → which_of q ≡ Which.Packet
 packet_which (net (EoeClient.packet octets frame)) e = refl

@@ -10,11 +10,14 @@ use Rattle.master_duty.specs.of_exchange_model.Rows.{Row, left}
 use Rattle.master_duty.specs.of_segment_model.Ends as Ends
 use Rattle.master_duty.specs.of_segment_model.Seats
 use Rattle.master_duty.specs.of_segment_model.Seats.{Choice, first_left, is_none_left, next_mail, side_holds, side_next}
+use Rattle.master_duty.specs.declared.duty.Duty.{Duty}
+use Rattle.master_duty.specs.of_task_model.Accounts
 use Rattle.master_duty.specs.of_task_model.Accounts.{Account, Pick, account_begins, is_acknowledged, is_free, mails_begin}
 use Rattle.master_hand.specs.Shown.{knows}
 use Rattle.master_hand.specs.Spoken.{Asked, acknowledged}
 use Rattle.master_hand.specs.declared.hand.InHand.{InHand}
 use Rattle.master_side.specs.Carried.{in_hand}
+use Rattle.master_side.specs.Shown.{DutyShows}
 use Rattle.master_side.specs.declared.hand.Hand.{Ghosts}
 use Rattle.master_side.specs.of_link_mails.Body.{Body}
 use Rattle.master_tour.specs.Stands.{StandShows, StopShows}
@@ -24,7 +27,11 @@ use Rattle.master_tour.specs.of_life_model.Lives
 use Rattle.master_tour.specs.of_life_model.Lives.{Life, Spot, granted, life_next}
 use Rattle.master_node.specs.Shows.{side_shows}
 use Rattle.master_node.specs.Starts.{SideFrees}
-use Rattle.master_node.proofs.Restings.{no_hand}
+
+-- no state service is in hand
+pub no_hand : (duty : Option Duty) (hand : Option Accounts.Duty) → hand ≡ None → DutyShows duty hand → duty ≡ None
+no_hand None hand e x = refl
+no_hand (Some d) hand e x = absurd (let t = sym e ∙ x.1 in cc)
 
 -- nothing is left to take up of a service that is over
 left_none : {M : Type 0} (ms : List M) (b : Bool) → (is_none_left ms && b) ≡ true → ms ≡ []
@@ -84,7 +91,7 @@ might_still x l k s m = record {
 
 -- ITS STOP IS OPEN, and its side shows that
 module _ {G : Ghosts InHand} (lens : ℕ → Lens) (recover : ℕ) (spot : Spot) where
-  frees_stand : (s : Stop InHand G) (stand : Stand) (l : Life Body Asked Reply) → s.stand ≡ stand → StandShows (side_shows lens recover s spot) spot s.stand l → knows s.side.hand.course ≡ true → s.side.passing ≡ None → MightBegin (speech_at lens spot) l → (s.stand ≡ Stand.Open) × SideFrees s.side
+  frees_stand : (s : Stop InHand G) (stand : Stand) (l : Life Body Asked Reply) → s.stand ≡ stand → StandShows (side_shows lens recover s spot) spot s.stand l → knows s.side.hand.course ≡ true → (s.stand ≡ Stand.Open → s.side.passing ≡ None) → MightBegin (speech_at lens spot) l → (s.stand ≡ Stand.Open) × SideFrees s.side
   frees_stand s (Stand.Opening up) l e w k p m =
       let stood = subst (λ (z : Stand). StandShows (side_shows lens recover s spot) spot z l) e w in
       absurd (let t = sym stood.stand ∙ m.stands in cc)
@@ -101,11 +108,11 @@ module _ {G : Ghosts InHand} (lens : ℕ → Lens) (recover : ℕ) (spot : Spot)
           shows = stood.1;
           known = k;
           hand = no_hand (in_hand s.side.duty) l.era.account.hand m.hand stood.1.state;
-          unpassed = p;
+          unpassed = p e;
           free = m.free;
           done = m.done;
         },
       )
 
-  pub frees : (s : Stop InHand G) (l : Life Body Asked Reply) → StopShows (side_shows lens recover s spot) recover spot s.stand s.spare l → knows s.side.hand.course ≡ true → s.side.passing ≡ None → MightBegin (speech_at lens spot) l → (s.stand ≡ Stand.Open) × SideFrees s.side
+  pub frees : (s : Stop InHand G) (l : Life Body Asked Reply) → StopShows (side_shows lens recover s spot) recover spot s.stand s.spare l → knows s.side.hand.course ≡ true → (s.stand ≡ Stand.Open → s.side.passing ≡ None) → MightBegin (speech_at lens spot) l → (s.stand ≡ Stand.Open) × SideFrees s.side
   frees s l w k p m = frees_stand s s.stand l refl w.stood k p m

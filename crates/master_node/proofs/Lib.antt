@@ -38,6 +38,8 @@ pub mod Eagers
 pub mod Servings
 pub mod Serveds
 pub mod OnFrames
+pub mod ServedJoins
+pub mod ServedPasses
 pub mod Mailings
 pub mod Handeds
 pub mod Handings
@@ -50,7 +52,10 @@ mod Gateways
 mod Turneds
 pub mod Mailed
 pub mod FreeKept
+pub mod Alikes
 pub mod ServedVisits
+pub mod MailsReady
+pub mod ServedStarts
 pub mod Threes
 pub mod ServedTells
 pub mod Roundings

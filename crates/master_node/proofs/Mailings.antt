@@ -10,7 +10,7 @@ use Rattle.master_tour.specs.Walks.{StepsAt}
 use Rattle.segment_plan.specs.declared.service.Service.{Service}
 use Rattle.served_runs.specs.Served.{Keyed}
 use Rattle.master_node.specs.Coming.{IsComing}
-use Rattle.master_node.specs.Passes.{IsNextState, IsReady, MailWaits, waits_behind, waits_in}
+use Rattle.master_node.specs.Passes.{IsNextState, IsReady, MailWaits, ScriptLast, waits_behind, waits_in}
 use Rattle.master_node.specs.Serving.{MayPass, waits_of}
 use Rattle.master_node.specs.declared.coming.Coming.{Coming}
 use Rattle.master_node.specs.declared.post.Asked.{Asked}
@@ -30,6 +30,18 @@ none_keyed (a ∷ as') e = absurd (cc)
 
 pub none_waits : (p : Post) → waits_of p ≡ [] → p.mails.items ≡ []
 none_waits p e = none_keyed p.mails.items e
+
+-- none waits at a post that has no mail
+pub none_left : (ps : List Post) (place : ℕ) (p : Post) → place < length ps → p ≡ get_or ps place p → p.mails.items ≡ [] → waits_in (map waits_of ps) place ≡ []
+none_left ps place p l e n = waits_here ps place p l e ∙ ap (λ z. map keyed z) n
+
+-- so the script may go on
+pub script_last : (ks : List Keyed) (coming : Option Coming) → ks ≡ [] → ScriptLast ks coming
+script_last ks None e = tt
+script_last ks (Some Coming.Packet) e = tt
+script_last ks (Some Coming.Mail) e = tt
+script_last ks (Some Coming.Script) e = e
+script_last ks (Some (Coming.State target)) e = e
 
 pub many_wait : (ps : List Post) → length (map waits_of ps) ≡ length ps
 many_wait [] = refl

@@ -7,7 +7,7 @@ use Rattle.counters_kept.specs.Lives.{LifeKept}
 use Rattle.counters_kept.proofs.Lives.{next_life}
 use Rattle.life_runs.specs.of_frame_view.View.{Lens}
 use Rattle.life_runs.specs.of_frame_view.Seen.{seen, datagrams_seen}
-use Rattle.life_runs.specs.of_life_frames.Shares.{Lived, AllBoth, AllThree, AreDistinct}
+use Rattle.life_runs.specs.of_life_frames.Shares.{AllFrom, Lived, AllBoth, AllThree, AreDistinct}
 use Rattle.life_runs.specs.Led.{Turn, speech_at}
 use Rattle.mailbox_master.specs.Any.{in_area_len}
 use Rattle.master_duty.specs.Reply.{Reply}
@@ -29,7 +29,8 @@ use Rattle.master_tour.specs.of_life_model.Lives.{Life, Spot}
 use Rattle.segment_plan.specs.declared.service.Service as Plan
 use Rattle.served_runs.specs.Served.{AllServedTurn, IsServedTurn, Keyed, Serves, ServedComes, ServedTurn}
 use Rattle.served_runs.specs.Told.{Passed}
-use Rattle.master_node.specs.Begins.{begun_of}
+use Rattle.master_node.specs.Begins.{HasBegun, begun_for, begun_of}
+use Rattle.master_node.specs.Listing.{Before}
 use Rattle.master_node.specs.Events.{served_tells}
 use Rattle.master_node.specs.Filling.{StopFills}
 use Rattle.master_node.specs.Handed.{IsHanding}
@@ -39,6 +40,7 @@ use Rattle.master_node.specs.Inhand.{HasInHand, WorkOf}
 use Rattle.master_node.specs.Passes.{BeginsFree, IsPassing, IsServing, ThreeFrom}
 use Rattle.master_node.specs.Serving.{IsServed, IsServedUnder, MayPass, ServedShows, mails_in, run_lead, run_turn, waits_of}
 use Rattle.master_node.specs.Rooms.{FitAgain}
+use Rattle.master_node.specs.Starts.{HasStarted}
 use Rattle.master_node.specs.Shows.{GoesOn, GoesUnder, lived_of, side_shows, turned_of}
 use Rattle.master_node.specs.declared.node.MasterNode.{MasterNode}
 use Rattle.master_node.specs.declared.post.Post.{Post}
@@ -50,7 +52,7 @@ use Rattle.master_node.proofs.Roundings.{SameTour}
 use Rattle.master_node.proofs.Mailed as Mailed
 use Rattle.master_node.proofs.Mailed.{next_passing}
 use Rattle.master_node.proofs.Sents.{took_of, turns}
-use Rattle.master_node.proofs.ServedVisits.{Alike, serving_alike}
+use Rattle.master_node.proofs.Alikes.{Alike, serving_alike}
 
 pub map_map : {A B C : Type 0} (g : B → C) (f : A → B) (xs : List A) → map g (map f xs) ≡ map (λ x. g (f x)) xs
 map_map g f [] = refl
@@ -82,11 +84,11 @@ map_long f [] = refl
 map_long f (x ∷ xs) = ap suc (map_long f xs)
 
 -- while a frame is made there is a slave for each place
-pub many_serve : (lens : ℕ → Lens) (recover made : ℕ) (forwards : ℕ → ℕ) (ws : List Serves) (left : List ℕ) (m : MasterNode) (octets : List ℕ) → IsPassing lens recover made forwards left m octets ws → length m.tour.stops.items ≡ length (map run_lead ws)
-many_serve lens recover made forwards ws left m octets f = three_long (λ i w ks s. IsServing lens f.begun made left i w ks s) 0 ws (mails_in m) m.tour.stops.items f.each ∙ sym (map_long run_lead ws)
+pub many_serve : (lens : ℕ → Lens) (recover made : ℕ) (from : Before) (ws : List Serves) (left : List ℕ) (m : MasterNode) (octets : List ℕ) → IsPassing lens recover made from left m octets ws → length m.tour.stops.items ≡ length (map run_lead ws)
+many_serve lens recover made from ws left m octets f = three_long (λ i w ks s. IsServing lens f.begun made left i w ks s) 0 ws (mails_in m) m.tour.stops.items f.each ∙ sym (map_long run_lead ws)
 
-pub passing_same : (lens : ℕ → Lens) (recover made : ℕ) (forwards : ℕ → ℕ) (ws : List Serves) (left : List ℕ) (m n : MasterNode) (octets : List ℕ) → SameTour m n → IsPassing lens recover made forwards left m octets ws → IsPassing lens recover made forwards left n octets ws
-passing_same lens recover made forwards ws left m n octets k f = record {
+pub passing_same : (lens : ℕ → Lens) (recover made : ℕ) (from : Before) (ws : List Serves) (left : List ℕ) (m n : MasterNode) (octets : List ℕ) → SameTour m n → IsPassing lens recover made from left m octets ws → IsPassing lens recover made from left n octets ws
+passing_same lens recover made from ws left m n octets k f = record {
   begun = f.begun;
   frame = subst (λ z. FrameMade (λ ds i a s. StopFills lens recover made f.begun (n.made % 256) left ds i a s) octets n.tour.count (map (λ w. lived_of (run_lead w)) ws) z.items) (sym k.stops)
       (subst (λ z. FrameMade (λ ds i a s. StopFills lens recover made f.begun (n.made % 256) left ds i a s) octets z (map (λ w. lived_of (run_lead w)) ws) m.tour.stops.items) (sym k.count)
@@ -96,7 +98,13 @@ passing_same lens recover made forwards ws left m n octets k f = record {
   handed = subst (λ z. ThreeFrom (λ i w p s. IsHanding lens f.begun w p.work (knows s.side.hand.course)) 0 ws n.posts.items z.items) (sym k.stops)
       (subst (λ z. ThreeFrom (λ i w p s. IsHanding lens f.begun w p.work (knows s.side.hand.course)) 0 ws z.items m.tour.stops.items) (sym k.posts) f.handed);
   numbered = subst (λ z. AllBoth (λ w p. IsNumbered (length w.asked) p) ws z.items) (sym k.posts) f.numbered;
-  listing = listed_on (served_tells ws) forwards left f.begun (map run_lead ws) m n k.list k.posts f.listing;
+  packets = subst (λ z. HasBegun from.switch left f.begun (map run_lead ws) z) (sym k.lan) f.packets;
+  listing = listed_on (served_tells ws) from.forwards left f.begun (map run_lead ws) m n k.list k.posts f.listing;
+  starts = record {
+    visited = f.starts.visited;
+    each = subst (λ z. AllFrom (λ i w s. HasStarted lens z f.starts.visited i (begun_for f.begun (map run_lead ws) i) w.lead w.waits s) 0 ws n.tour.stops.items) (sym k.lan)
+        (subst (λ z. AllFrom (λ i w s. HasStarted lens m.lan f.starts.visited i (begun_for f.begun (map run_lead ws) i) w.lead w.waits s) 0 ws z.items) (sym k.stops) f.starts.each);
+  };
 }
 
 -- the master of a serving shows the same where its tour, its posts and the frame's number are the same
@@ -114,7 +122,7 @@ served_same lens recover retry missed made ws m n e f g x = record {
 }
 
 -- a mail that is passed on is in hand where the life has it
-seen_some : (p : Option Passing) → is_some (passing_seen p) ≡ is_some p
+pub seen_some : (p : Option Passing) → is_some (passing_seen p) ≡ is_some p
 seen_some None = refl
 seen_some (Some Passing.Waiting) = refl
 seen_some (Some Passing.Sent) = refl

@@ -29,16 +29,19 @@ use Rattle.master_tour.specs.Made.{ComesAt, FrameMade, IsPlanned, is_in}
 use Rattle.master_tour.specs.Passing.{StandPassing}
 use Rattle.master_tour.specs.Stands.{Counts, StandShows, StopShows}
 use Rattle.master_tour.specs.Walks.{EachPair, StepsAt}
+use Rattle.master_tour.proofs.Walks.{steps_both}
 use Rattle.master_tour.specs.declared.stop.Stand.{Stand}
 use Rattle.master_tour.specs.declared.stop.Stop.{Stop}
 use Rattle.master_tour.specs.of_life_model.Lives
 use Rattle.master_tour.specs.of_life_model.Lives.{Life, Spot, life_next}
 use Rattle.segment_plan.specs.declared.service.Service as Plan
 use Rattle.served_runs.specs.Served.{Keyed, Serves, ServedComes}
+use Rattle.master_node.specs.Begins.{LaysOldest, PacketFirst, begins_by as packets_by, begins_other, taken_where}
 use Rattle.master_node.specs.Coming.{CameBy, IsLaid, next_of, wish_of}
 use Rattle.master_node.specs.Filling.{StopFills}
+use Rattle.master_node.specs.Forwards.{forwarded, port_by}
 use Rattle.master_node.specs.Kept.{StopKept, StopStays}
-use Rattle.master_node.specs.Passes.{BeginsFree, IsNextState, IsServing, LaysMail, MailWaits, ThreeFrom, waits_behind, waits_in}
+use Rattle.master_node.specs.Passes.{BeginsFree, IsMailReady, IsNextState, IsServing, LaysMail, MailWaits, ThreeFrom, waits_behind, waits_in}
 use Rattle.master_node.specs.Handed.{HasBegun, IsHanding, LaysWork, hand_behind, work_from}
 use Rattle.master_node.specs.Inhand.{HasInHand, WorkOf}
 use Rattle.master_node.specs.Listing.{where_began}
@@ -46,48 +49,18 @@ use Rattle.master_node.specs.Named.{IsHanded}
 use Rattle.master_node.specs.Serving.{MayPass, run_lead, waits_of}
 use Rattle.master_node.specs.Shows.{lived_of, side_shows}
 use Rattle.master_node.specs.declared.coming.Coming.{Coming}
+use Rattle.master_node.specs.declared.lan.Lan.{Lan}
 use Rattle.master_node.specs.declared.post.Post.{Post}
 use Rattle.master_node.specs.declared.post.Work.{Work}
+use Rattle.master_node.proofs.Begins.{leaves_served, none_waits, steps_any}
 use Rattle.master_node.proofs.Cames.{NumberBehind, got_inside}
 use Rattle.master_node.proofs.Fills.{begun_at, begun_comes, begun_here, fills_kept, frame_each}
 use Rattle.master_node.proofs.Handings.{handing_on}
 use Rattle.master_node.proofs.Kepts.{lives_kept, stop_same}
 use Rattle.master_node.proofs.Lists.{no_end, no_step, steps_each, steps_got, steps_map, steps_mid, steps_trans}
-use Rattle.master_node.proofs.Mailed.{next_passing, next_stands, none_begun, none_came, served_came, stand_awaits, stand_same}
+use Rattle.master_node.proofs.Mailed.{next_passing, next_stands, none_begun, none_came, served_came, stand_same}
 use Rattle.master_node.proofs.Threes.{three_with}
 use Rattle.master_node.proofs.Visits.{Began, SomeKept}
-
--- A SLAVE THAT STAYS but for what is held, and for its place in the frame
-pub record Alike {G : Ghosts InHand} (s t : Stop InHand G) : Type 0 where
-  pub script : scripted t.side.hand.laying ≡ scripted s.side.hand.laying
-  pub place : t.place ≡ s.place
-  pub stand : t.stand ≡ s.stand
-  pub passing : t.side.passing ≡ s.side.passing
-  pub awaits : awaits_reply s.side.hand.course s.side.hand.which s.side.hand.clients ≡ true → awaits_reply t.side.hand.course t.side.hand.which t.side.hand.clients ≡ true
-  pub read : ReadStays s t
-  pub out : t.side.out.len ≡ s.side.out.len
-  pub known : knows t.side.hand.course ≡ knows s.side.hand.course
-
-pub alike_same : {G : Ghosts InHand} (s : Stop InHand G) → Alike s s
-alike_same s = record { script = refl; place = refl; stand = refl; passing = refl; awaits = λ e. e; read = (refl, refl); out = refl; known = refl }
-
-pub serving_alike : {G : Ghosts InHand} (lens : ℕ → Lens) (begun : ℕ → Option (Service Asked)) (made : ℕ) (left : List ℕ) (i : ℕ) (w : Serves) (ks : List Keyed) (s t : Stop InHand G) → IsServing lens begun made left i w ks s → Alike s t → IsServing lens begun made left i w ks t
-serving_alike lens begun made left i w ks s t h k = record {
-  hand = h.hand;
-  script = ap (λ z. z.script) k.script ∙ h.script;
-  comes = subst (λ z. ServedComes (lens w.lead.lived.spot.station).out w.lead.script w.waits w.hand w.lead.number (begun w.lead.lived.spot.place) z ks h.hand) (sym (ap (λ z. z.number) k.script)) h.comes;
-  still = h.still;
-  free = h.free;
-  short = h.short;
-  place = k.place ∙ h.place;
-  room = h.room ∙ sym k.out;
-  passing = λ l e. subst (λ z. StandPassing z (awaits_reply t.side.hand.course t.side.hand.which t.side.hand.clients) t.side.passing l) (sym k.stand)
-      (subst (λ z. StandPassing s.stand (awaits_reply t.side.hand.course t.side.hand.which t.side.hand.clients) z l) (sym k.passing) (stand_awaits s.stand _ _ s.side.passing l k.awaits (h.passing l e)));
-  kept = h.kept;
-  counts = subst (λ (z : Type 0). z) (λ j. StandCounts (sym k.stand j) (sym k.read.0 j) (sym k.read.1 j) made w.counts) h.counts;
-  pace = k.read.1 ∙ h.pace;
-  fits = h.fits;
-}
 
 -- what is ahead of a slave
 pub record Ahead {G : Ghosts InHand} (coming : Option Coming) (s : Stop InHand G) : Type 0 where
@@ -157,6 +130,12 @@ kept_is (Some (Coming.State target)) true s t u i e c =
 
 any_same : {G : Ghosts InHand} (s : Stop InHand G) → SomeKept s s
 any_same s = record { number = _; kept = stop_same s }
+
+pub kept_by : {G : Ghosts InHand} (coming : Option Coming) (result : Bool) (place : ℕ) (s2 s3 s4 : List (Stop InHand G)) →
+    StepsAt (λ s t. IsNextState (next_of s) coming × (scripted t.side.hand.laying ≡ (if takes_ready result (wish_of coming) then scripted_behind s.side.hand.laying else scripted s.side.hand.laying))) place s2 s3 →
+    StepsAt (λ s t. CameBy result coming s t) place s3 s4 → EachPair (λ s t. SomeKept s t) s3 s4
+kept_by coming result place s2 s3 s4 began came =
+    steps_each _ (λ s t. SomeKept s t) place s3 s4 any_same (λ s t k. k) (steps_mid _ _ (λ s t. SomeKept s t) place s2 s3 s4 (λ s t u a b. kept_is coming result s t u a.0 a.1 b) began came)
 
 script_stays : {G : Ghosts InHand} (b : Bool) (s t : Stop InHand G) → scripted t.side.hand.laying ≡ (if b then scripted_behind s.side.hand.laying else scripted s.side.hand.laying) → t.side.hand.laying.script ≡ s.side.hand.laying.script
 script_stays b s t e = ap (λ w. w.script) e ∙ go b
@@ -233,6 +212,12 @@ module _ {G : Ghosts InHand} (lens : ℕ → Lens) (recover made : ℕ) (coming 
   abbrev pub now : (ℕ → Option (Service Asked)) → ℕ → Option (Service Asked)
   now begun = begun_at begun here what
 
+  pub what_seen : (t : Stop InHand G) → slice_get s2 place ≡ Some t → wish_begun result (wish_of coming) (ready_of t.side.hand.laying) ≡ what
+  what_seen t e = ap came_of (sym e)
+
+  pub now_here : (begun : ℕ → Option (Service Asked)) (t u : Stop InHand G) (spot : ℕ) → slice_get s2 place ≡ Some t → u.place ≡ t.place → u.place ≡ spot → now begun spot ≡ wish_begun result (wish_of coming) (ready_of t.side.hand.laying)
+  now_here begun t u spot is p q = begun_here begun here what spot (sym q ∙ p ∙ ap place_of (sym is)) ∙ ap came_of is
+
   some_comes : (begun : ℕ → Option (Service Asked)) (o : Option (Stop InHand G)) → IfSome o (λ s. ComesAt begun (begun_at begun (place_of o) (came_of o)) s.place (wish_begun result (wish_of coming) (ready_of s.side.hand.laying)))
   some_comes begun None = tt
   some_comes begun (Some s) = begun_comes begun s.place (came_of (Some s))
@@ -261,14 +246,18 @@ module _ {G : Ghosts InHand} (lens : ℕ → Lens) (recover made : ℕ) (coming 
   pub frame : (index : ℕ) (begun : ℕ → Option (Service Asked)) (left next : List ℕ) (as' : List (Lived Asked Reply)) (octets octets' : List ℕ) (n n2 n3 : ℕ) → n2 ≡ n →
       FrameMade (λ ds i a s. StopFills lens recover made begun index left ds i a s) octets n as' s1 →
       (FrameMade (λ ds i a s. StopFills lens recover made begun index left ds i a s) octets n2 as' s2 → FrameMade (λ ds i a s. StopFills lens recover made (now begun) index next ds i a s) octets' n3 as' s3) →
-      FrameMade (λ ds i a s. StopFills lens recover made (now begun) index next ds i a s) octets' n3 as' s4
+      FrameMade (λ ds i a s. StopFills lens recover made (now begun) index next ds i a s) octets' n3 as' s3
   frame index begun left next as' octets octets' n n2 n3 e f v =
-      frame_each (λ ds i a s. StopFills lens recover made (now begun) index next ds i a s) (λ s t. SomeKept s t) (λ ds i a s. StopFills lens recover made (now begun) index next ds i a s)
-      (λ ds i a s t p k. fills_kept lens recover made (now begun) index k.number next ds i a s t k.kept p) octets' n3 as' s3 s4
-      (v (frame_each (λ ds i a s. StopFills lens recover made begun index left ds i a s) (λ s t. StopStays s t) (λ ds i a s. StopFills lens recover made begun index left ds i a s)
+      v (frame_each (λ ds i a s. StopFills lens recover made begun index left ds i a s) (λ s t. StopStays s t) (λ ds i a s. StopFills lens recover made begun index left ds i a s)
       (λ ds i a s t p k. fills_kept lens recover made begun index s.side.hand.laying.number left ds i a s t k p) octets n2 as' s1 s2 (subst (λ z. FrameMade (λ ds i a s. StopFills lens recover made begun index left ds i a s) octets z as' s1) (sym e) f)
-      (steps_each (λ s t. Readied coming got s t) (λ s t. StopStays s t) place s1 s2 (λ s. stop_same s) (λ s t k. k.stays) readied)))
-      kept
+      (steps_each (λ s t. Readied coming got s t) (λ s t. StopStays s t) place s1 s2 (λ s. stop_same s) (λ s t k. k.stays) readied))
+
+  -- and behind it what came into hand is passed by
+  pub frame_kept : (index : ℕ) (begun : ℕ → Option (Service Asked)) (next : List ℕ) (as' : List (Lived Asked Reply)) (octets : List ℕ) (n : ℕ) →
+      FrameMade (λ ds i a s. StopFills lens recover made (now begun) index next ds i a s) octets n as' s3 → FrameMade (λ ds i a s. StopFills lens recover made (now begun) index next ds i a s) octets n as' s4
+  frame_kept index begun next as' octets n f =
+      frame_each (λ ds i a s. StopFills lens recover made (now begun) index next ds i a s) (λ s t. SomeKept s t) (λ ds i a s. StopFills lens recover made (now begun) index next ds i a s)
+      (λ ds i a s t p k. fills_kept lens recover made (now begun) index k.number next ds i a s t k.kept p) octets n as' s3 s4 f kept
 
   -- THE SLAVE GOES ON
   pub all_go : StepsAt (λ s v. Goes lens recover made coming result got (slice_get s2 place) s v) place s1 s4
@@ -278,6 +267,23 @@ module _ {G : Ghosts InHand} (lens : ℕ → Lens) (recover made : ℕ) (coming 
 
   pub all_here : StepsAt (λ s v. s.place ≡ here) place s1 s4
   all_here = steps_map (λ s v. Goes lens recover made coming result got (slice_get s2 place) s v) (λ s v. s.place ≡ here) place s1 s4 (λ s v g. sym g.ready.readied.stays.place ∙ sym (ap place_of g.seen.is)) all_go
+
+  -- WHAT LEAVES THE SWITCH is what came into hand
+  pub leaves : (l : Lan) → StepsAt (λ s t. LaysOldest l place coming t) place s1 s2 → StepsAt (λ s t. IsMailReady coming t.side.hand.laying) place s1 s2 → taken_where result l place coming ≡ packets_by (port_by (slice_get l.ports.items place)) what
+  leaves l oldest mail =
+      let same = taken_where result l place coming ≡ packets_by (port_by (slice_get l.ports.items place)) what in
+      let laid = steps_both _ _ place s1 s2 oldest (steps_both _ _ place s1 s2 mail readied) in
+      steps_any same place s2 s3
+      (steps_mid _ (λ s t. Seen lens recover made coming result (slice_get s2 place) s t) (λ s t. same) place s1 s2 s3
+      (λ r s t a b. leaves_served l place coming result s b.next a.1.1.laid b.visited.began.ready a.0 a.1.0 ∙ ap (λ z. packets_by (port_by (slice_get l.ports.items place)) (came_of z)) (sym b.is)) laid all_seen)
+
+  -- and none waits there, where that is no packet
+  pub waits_none : (l : Lan) → PacketFirst l place coming → begins_other what ≡ true → forwarded l.switch l.ports.items place ≡ []
+  waits_none l first e =
+      let none = forwarded l.switch l.ports.items place ≡ [] in
+      steps_any none place s2 s3
+      (steps_mid (λ s t. Readied coming got s t) (λ s t. Seen lens recover made coming result (slice_get s2 place) s t) (λ s t. none) place s1 s2 s3
+      (λ r s t a b. none_waits l place coming result s a.laid first (ap (λ z. begins_other (came_of z)) (sym b.is) ∙ e)) readied all_seen)
 
   module _ (begun : ℕ → Option (Service Asked)) (index : ℕ) (left next : List ℕ) (ds : List Raw.Datagram) (fewer : (k : ℕ) → is_in k next ≡ true → is_in k left ≡ true) (waits : MailWaits got coming) where
     abbrev Before : ℕ → Serves → List Keyed → Stop InHand G → Type 0

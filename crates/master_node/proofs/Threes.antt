@@ -1,7 +1,7 @@
 -- THREE LISTS IN STEP, as slaves, mails and stops are: what goes from one stop to another goes for all.
 use Rattle.std.proofs.Common.{ℕ, suc, List, [], ◌∷◌}
 use Rattle.std.specs.Prelude.{map}
-use Rattle.life_runs.specs.of_life_frames.Shares.{AllFrom}
+use Rattle.life_runs.specs.of_life_frames.Shares.{AllFrom, AllThree}
 use Rattle.master_tour.specs.Walks.{EachPair}
 use Rattle.master_node.specs.Passes.{ThreeFrom}
 
@@ -28,3 +28,16 @@ three_with f Q P i (a ∷ as') [] [] q p = absurd p
 three_with f Q P i (a ∷ as') [] (s ∷ ss) q p = absurd p
 three_with f Q P i (a ∷ as') (b ∷ bs) [] q p = absurd p
 three_with f Q P i (a ∷ as') (b ∷ bs) (s ∷ ss) q p = ((q.0, p.0), three_with f Q P (suc i) as' bs ss q.1 p.1)
+
+-- where the first two go so, by their places
+pub three_from : {A B S : Type 0} (P : A → B → S → Type 0) (K : S → S → Type 0) (T : ℕ → A → S → Type 0) → ((i : ℕ) (a : A) (b : B) (s t : S) → P a b s → K s t → T i a t) → (i : ℕ) (as' : List A) (bs : List B) (ss ts : List S) → AllThree P as' bs ss → EachPair K ss ts → AllFrom T i as' ts
+three_from P K T h i [] [] [] [] p k = tt
+three_from P K T h i [] [] [] (t ∷ ts) p k = absurd k
+three_from P K T h i [] [] (s ∷ ss) ts p k = absurd p
+three_from P K T h i [] (b ∷ bs) [] ts p k = absurd p
+three_from P K T h i [] (b ∷ bs) (s ∷ ss) ts p k = absurd p
+three_from P K T h i (a ∷ as') [] [] ts p k = absurd p
+three_from P K T h i (a ∷ as') [] (s ∷ ss) ts p k = absurd p
+three_from P K T h i (a ∷ as') (b ∷ bs) [] ts p k = absurd p
+three_from P K T h i (a ∷ as') (b ∷ bs) (s ∷ ss) [] p k = absurd k
+three_from P K T h i (a ∷ as') (b ∷ bs) (s ∷ ss) (t ∷ ts) p k = (h i a b s t p.0 k.0, three_from P K T h (suc i) as' bs ss ts p.1 k.1)

@@ -29,7 +29,7 @@ use Rattle.master_node.specs.declared.node.MasterNode.{MasterNode}
 
 -- WHAT A MASTER REMEMBERS of a slave's visits
 abbrev pub recall_of : {G : Ghosts InHand} → Stop InHand G → Recall
-recall_of s = recall_by s.side.paused s.side.duty s.side.turn (knows s.side.hand.course)
+recall_of s = recall_by s.side.paused s.side.duty s.side.passing s.side.turn (knows s.side.hand.course)
 
 -- of all slaves
 abbrev pub recalls : MasterNode → List Recall

@@ -45,7 +45,7 @@ module _ (lens : ℕ → Lens) where
         pub among : AllFrom (λ i a s. IsAmong begun left i a s) 0 as' m.tour.stops.items
         pub packets : HasBegun from.switch left begun as' m.lan
         pub listing : HasListed (run_tells as') from.forwards left begun as' m
-        pub starts : HaveStarted lens m.lan begun as' m.tour.stops.items
+        pub starts : HaveStarted (λ a. a) (λ a. []) lens m.lan begun as' as' m.tour.stops.items
 
       -- BEFORE THE FIRST VISIT: no datagram stands in the frame, some slave is live, and the first that is visited is
       pub record IsEmpty (m : MasterNode) (octets : List ℕ) (as' : List Leads) : Type 0 where

@@ -49,6 +49,7 @@ pub mod Eager
 pub mod Resting
 pub mod Named
 pub mod Inhand
+pub mod ServedEager
 pub mod Serving
 pub mod Touring
 pub mod Events

@@ -17,6 +17,7 @@ use Rattle.master_side.specs.declared.hand.Hand.{Ghosts}
 use Rattle.master_side.specs.of_link_mails.Body.{Body}
 use Rattle.master_tour.specs.Counting.{StopCounts}
 use Rattle.master_tour.specs.Goes.{BeginsLive, holds_at, is_live}
+use Rattle.master_side.specs.of_mailbox_mail.declared.mail.Mail.{Mail}
 use Rattle.master_tour.specs.Made.{FrameMade, is_in}
 use Rattle.master_tour.specs.Passing.{StandPassing}
 use Rattle.master_tour.specs.declared.stop.Stop.{Stop}
@@ -28,10 +29,12 @@ use Rattle.served_runs.specs.Told.{Passed}
 use Rattle.master_node.specs.Events.{served_tells}
 use Rattle.master_node.specs.Filling.{StopFills}
 use Rattle.master_node.specs.Handed.{IsHanding}
-use Rattle.master_node.specs.Listing.{HasListed}
+use Rattle.master_node.specs.Begins.{HasBegun}
+use Rattle.master_node.specs.Listing.{Before, HasListed}
 use Rattle.master_node.specs.Numbered.{IsNumbered}
 use Rattle.master_node.specs.Serving.{MayPass, mails_in, run_lead}
 use Rattle.master_node.specs.Shows.{ComeAgain, is_live_lead, lived_of}
+use Rattle.master_node.specs.Starts.{HaveStarted}
 use Rattle.master_node.specs.declared.coming.Coming.{Coming}
 use Rattle.master_node.specs.declared.node.MasterNode.{MasterNode}
 
@@ -50,6 +53,14 @@ MailWaits ks (Some Coming.Packet) = ⊤
 MailWaits ks (Some Coming.Mail) = ks ≡ [] → ⊥
 MailWaits ks (Some Coming.Script) = ⊤
 MailWaits ks (Some (Coming.State target)) = ⊤
+
+-- the script goes on only where none waits
+abbrev pub ScriptLast : List Keyed → Option Coming → Type 0
+ScriptLast ks None = ⊤
+ScriptLast ks (Some Coming.Packet) = ⊤
+ScriptLast ks (Some Coming.Mail) = ⊤
+ScriptLast ks (Some Coming.Script) = ks ≡ []
+ScriptLast ks (Some (Coming.State target)) = ks ≡ []
 
 -- the mails that wait for the slave at a place; none where nothing stands
 abbrev pub waits_in : List (List Keyed) → ℕ → List Keyed
@@ -77,6 +88,14 @@ LaysMail (Some Coming.Packet) room ks w = ⊤
 LaysMail (Some Coming.Mail) room ks w = IsReady room ks w
 LaysMail (Some Coming.Script) room ks w = ⊤
 LaysMail (Some (Coming.State target)) room ks w = ⊤
+
+-- it is ready
+abbrev pub IsMailReady : Option Coming → Waiting → Type 0
+IsMailReady None w = ⊤
+IsMailReady (Some Coming.Packet) w = ⊤
+IsMailReady (Some Coming.Mail) w = (m : Mail) × (ready_of w ≡ Some (passed m))
+IsMailReady (Some Coming.Script) w = ⊤
+IsMailReady (Some (Coming.State target)) w = ⊤
 
 -- what holds of three lists place by place, by the places
 abbrev pub ThreeFrom : {A B S : Type 0} → (ℕ → A → B → S → Type 0) → ℕ → List A → List B → List S → Type 0
@@ -107,15 +126,17 @@ module _ (lens : ℕ → Lens) where
     pub pace : s.side.pace ≡ w.pace
     pub fits : All (λ k. MayPass (lens w.lead.lived.spot.station).out k) w.waits
 
-  module _ (recover made : ℕ) (forwards : ℕ → ℕ) where
-    -- THE MASTER WHILE A FRAME IS MADE, where the visits of these places are still to come, and so many packets had come into hand of each slave before it
+  module _ (recover made : ℕ) (from : Before) where
+    -- THE MASTER WHILE A FRAME IS MADE, where the visits of these places are still to come, and the step began so
     pub record IsPassing (left : List ℕ) (m : MasterNode) (octets : List ℕ) (ws : List Serves) : Type 0 where
       pub begun : ℕ → Option (Stated.Service Asked)
       pub frame : FrameMade (λ ds i a s. StopFills lens recover made begun (m.made % 256) left ds i a s) octets m.tour.count (map (λ w. lived_of (run_lead w)) ws) m.tour.stops.items
       pub each : ThreeFrom (λ i w ks s. IsServing begun made left i w ks s) 0 ws (mails_in m) m.tour.stops.items
       pub handed : ThreeFrom (λ i w p s. IsHanding lens begun w p.work (knows s.side.hand.course)) 0 ws m.posts.items m.tour.stops.items
       pub numbered : AllBoth (λ w p. IsNumbered (length w.asked) p) ws m.posts.items
-      pub listing : HasListed (served_tells ws) forwards left begun (map run_lead ws) m
+      pub packets : HasBegun from.switch left begun (map run_lead ws) m.lan
+      pub listing : HasListed (served_tells ws) from.forwards left begun (map run_lead ws) m
+      pub starts : HaveStarted run_lead (λ w. w.waits) lens m.lan begun (map run_lead ws) ws m.tour.stops.items
 
 -- BEFORE THE FIRST VISIT no datagram stands in the frame, some slave is live, and the first that is visited is
 pub record BeginsFrame (m : MasterNode) (octets : List ℕ) (as' : List Leads) : Type 0 where
@@ -127,6 +148,7 @@ pub record BeginsFrame (m : MasterNode) (octets : List ℕ) (as' : List Leads) :
   pub lives : (k : ℕ) → holds_at (λ s. is_live s.stand) m.tour.stops.items k ≡ holds_at is_live_lead as' k
   pub again : m.tour.again ≡ true → ComeAgain is_live_lead m.tour.visit.items m.tour.opened as'
   pub anew : m.tour.again ≡ false → m.tour.visit.items ≡ []
+  pub room : length m.lan.happened ≤ 1
   pub listed : m.list.count ≡ 0
 
 -- BEHIND THE LAST the frame has a datagram; in the first bring-up it has none but of the slave that is brought up

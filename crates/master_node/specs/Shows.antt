@@ -12,12 +12,14 @@ use Rattle.master_duty.specs.Reply.{Reply}
 use Rattle.master_hand.specs.Shown.{Shows}
 use Rattle.master_hand.specs.Spoken.{Asked}
 use Rattle.master_hand.specs.declared.hand.InHand.{InHand}
+use Rattle.master_side.specs.Passing.{passing_seen}
 use Rattle.master_side.specs.Shown.{SideShows}
 use Rattle.master_side.specs.declared.hand.Hand.{Ghosts}
 use Rattle.master_tour.specs.Goes.{holds_at}
 use Rattle.master_tour.specs.Made.{StopLives, is_in}
 use Rattle.master_tour.specs.Orders.{AreOnce}
 use Rattle.master_tour.specs.Stands.{StandUnder, is_opening}
+use Rattle.master_tour.specs.declared.stop.Stand.{Stand}
 use Rattle.master_tour.specs.declared.stop.Stop.{Stop}
 use Rattle.master_duty.specs.of_segment_model.Seats.{Side}
 use Rattle.master_duty.specs.of_task_model.Accounts.{Account}
@@ -114,6 +116,7 @@ module _ (lens : ℕ → Lens) (recover : ℕ) where
   -- THE SLAVE WHILE A FRAME IS UNDER WAY, whatever is passed on to it: its life, its share of the frame, and what the frame has of it
   pub record IsOnFrame {G : Ghosts InHand} (octets : List ℕ) (u : Turn) (s : Stop InHand G) : Type 0 where
     pub lives : IsLived u.lived s
+    pub passing : s.stand ≡ Stand.Open → u.lived.life.era.passing ≡ passing_seen s.side.passing
     pub under : u.share.under ≡ s.under
     pub at : u.share.at ≡ s.at
     pub way : StandUnder lens s.side.station s.at s.under s.side.carried s.stand u.lived.life (seen lens octets)
@@ -124,6 +127,12 @@ module _ (lens : ℕ → Lens) (recover : ℕ) where
     pub under : u.share.under ≡ s.under
     pub at : u.share.at ≡ s.at
     pub way : StandUnder lens s.side.station s.at s.under s.side.carried s.stand u.lived.life (seen lens octets)
+
+  -- A FRAME IS UNDER WAY with these slaves, whatever is passed on to them
+  pub record IsUnderWay (m : MasterNode) (octets : List ℕ) (us : List Turn) : Type 0 where
+    pub each : AllBoth (λ u s. IsOnFrame octets u s) us m.tour.stops.items
+    pub sent : 1 ≤ length (seen lens octets)
+    pub few : length m.tour.visit.items ≤ 16
 
   module _ (retry : ℕ) where
     -- THE MASTER BEFORE A FRAME: it leads these slaves, behind so many lost frames in a row; no mail waits to be passed on

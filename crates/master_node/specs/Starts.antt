@@ -22,6 +22,7 @@ use Rattle.master_side.specs.of_link_mails.Body.{Body}
 use Rattle.master_tour.specs.Made.{is_in}
 use Rattle.master_tour.specs.declared.stop.Stop.{Stop}
 use Rattle.segment_plan.specs.declared.service.Service.{Service}
+use Rattle.served_runs.specs.Served.{Keyed}
 use Rattle.segment_plan.specs.declared.service.Service.TheVariants.{State}
 use Rattle.master_node.specs.Begins.{begun_for}
 use Rattle.master_node.specs.Forwards.{forwarded}
@@ -101,13 +102,13 @@ LaysPacket (Some Coming.Mail) laid = ⊤
 LaysPacket (Some Coming.Script) laid = ⊤
 LaysPacket (Some (Coming.State target)) laid = ⊤
 
--- A SLAVE WHILE A FRAME IS MADE, where these places were visited, with what came into hand of it
-pub record HasStarted {G : Ghosts InHand} (lens : ℕ → Lens) (l : Lan) (visited : List ℕ) (i : ℕ) (begun : Option (Stated.Service Asked)) (a : Leads) (s : Stop InHand G) : Type 0 where
+-- A SLAVE WHILE A FRAME IS MADE, where these places were visited, with what came into hand of it, and the mails that waited before
+pub record HasStarted {G : Ghosts InHand} (lens : ℕ → Lens) (l : Lan) (visited : List ℕ) (i : ℕ) (begun : Option (Stated.Service Asked)) (a : Leads) (waits : List Keyed) (s : Stop InHand G) : Type 0 where
   pub under : s.under ≡ true → is_in i visited ≡ true
-  pub ends : is_in i visited ≡ true → knows s.side.hand.course ≡ true → MayBegin lens a → begun ≡ None → IsAtEnd lens l i a
+  pub ends : is_in i visited ≡ true → knows s.side.hand.course ≡ true → MayBegin lens a → a.lived.life.era.passing ≡ None → begun ≡ None → IsAtEnd lens l i a × (waits ≡ [])
   pub unvisited : s.under ≡ false → begun ≡ None
 
--- all slaves, by the places that were visited so far
-pub record HaveStarted {G : Ghosts InHand} (lens : ℕ → Lens) (l : Lan) (begun : ℕ → Option (Stated.Service Asked)) (as' : List Leads) (ss : List (Stop InHand G)) : Type 0 where
+-- all slaves, by the places that were visited so far: of a run, or of a serving
+pub record HaveStarted {A : Type 0} {G : Ghosts InHand} (lead : A → Leads) (waits : A → List Keyed) (lens : ℕ → Lens) (l : Lan) (begun : ℕ → Option (Stated.Service Asked)) (as' : List Leads) (xs : List A) (ss : List (Stop InHand G)) : Type 0 where
   pub visited : List ℕ
-  pub each : AllFrom (λ i a s. HasStarted lens l visited i (begun_for begun as' i) a s) 0 as' ss
+  pub each : AllFrom (λ i x s. HasStarted lens l visited i (begun_for begun as' i) (lead x) (waits x) s) 0 xs ss

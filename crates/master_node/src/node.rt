@@ -41,6 +41,7 @@ pub struct MasterNode {
 }
 
 impl MasterNode {
+    ghost use Rattle.master_node.specs.Entering.{IsIdle};
     ghost use Rattle.std.specs.Prelude.{◌≡◌, ◌<◌, ◌≤◌, ◌^◌, suc, ℕ, List, true, false, vec_len, length};
     ghost use Rattle.datagrams.specs.Datagram as Raw;
     ghost use Rattle.datagrams.specs.Frame.{IsBegun};
@@ -54,9 +55,10 @@ impl MasterNode {
     ghost use Rattle.master_tour.specs.Walks.{StepsAt};
     ghost use Rattle.master_node.specs.declared.coming.Coming.{Coming};
     ghost use Rattle.master_node.specs.Appends.{AppendsMail};
-    ghost use Rattle.master_node.specs.Serving.{FitsAt, IsAsked, ServedShows, ServedUnder, mails_in, run_lead};
+    ghost use Rattle.master_node.specs.Serving.{FitsAt, IsAsked, ServedShows, ServedUnder, mails_in, run_lead, run_turn};
     ghost use Rattle.master_node.specs.Passes.{BeginsFrame, EndsFrame, IsPassing};
     ghost use Rattle.master_node.specs.Events.{ServedBegin};
+    ghost use Rattle.master_node.specs.ServedEager.{AllServedBegin};
     ghost use Rattle.master_node.specs.Touring.{IsServedVisit};
     ghost use Rattle.master_node.specs.Handed.{work_from};
     ghost use Rattle.served_runs.specs.Served.{Keyed, Serves, ServedTurn, IsServedFrame, MayAsk, asked_at};
@@ -70,14 +72,14 @@ impl MasterNode {
     ghost use Rattle.life_runs.specs.Led.{Leads, Turn, IsLedFrame};
     ghost use Rattle.master_tour.specs.Made.{is_in};
     ghost use Rattle.master_tour.specs.Orders.{IsCarried};
-    ghost use Rattle.master_node.specs.Shows.{lived_of, MasterShows, MasterUnder};
+    ghost use Rattle.master_node.specs.Shows.{GoesOn, lived_of, MasterShows, MasterUnder};
     ghost use Rattle.master_node.specs.Filling.{IsFilling, IsEmpty, IsFilled};
     ghost use Rattle.master_node.specs.Joined.{JoinsKept};
     ghost use Rattle.master_tour.specs.Toured.{IsOfTour};
     ghost use Rattle.master_node.specs.Shows.{is_live_lead};
     ghost use Rattle.master_side.specs.Again.{HasNoRoom};
     ghost use Rattle.master_tour.specs.Sizes.{frame_size};
-    ghost use Rattle.master_node.specs.Rooms.{SendsSame, Takes, area_at, area_in};
+    ghost use Rattle.master_node.specs.Rooms.{FitAgain, SendsSame, Takes, area_at, area_in};
     ghost use Rattle.master_node.specs.Asks.{AllAsk};
     ghost use Rattle.master_node.specs.Eager.{AllTakeUp, AllVisit, EagerFrom, EagerOn, recalls};
     ghost use Rattle.master_node.specs.Starts.{AllBegin, AllUnvisited};
@@ -242,11 +244,11 @@ impl MasterNode {
         ensures takes { StepsAt (λ s t. Takes into.old.items into.new.items (nat_lt self.old.tour.count self.new.tour.count) s t) place self.old.tour.stops.items self.new.tour.stops.items }
         ensures lan { Happens 1 self.old.lan self.new.lan }
         ensures made { Makes self.old.lan self.new.lan }
-        ensures eager { All WaitsNone self.old.posts.items → holds_at (λ s. s.under) self.old.tour.stops.items place ≡ false → EagerOn self.old self.new }
+        ensures eager { holds_at (λ s. s.under) self.old.tour.stops.items place ≡ false → EagerOn self.old self.new }
         ensures events { self.new.list.count ≤ self.old.list.count + 1 }
         ensures head { events_before self.new ≡ events_before self.old }
-        ensures serves { (lens : ℕ → Lens) (recover made : ℕ) (forwards : ℕ → ℕ) (left next : List ℕ) (ws : List Serves) → self.old.list.count < 97 → AreDistinct (map (λ w. lived_of (run_lead w)) ws) → is_in place left ≡ true → is_in place next ≡ false → ((k : ℕ) → is_in k next ≡ true → is_in k left ≡ true) →
-            IsPassing lens recover made forwards left self.old into.old.items ws → IsPassing lens recover made forwards (if result then next else left) self.new into.new.items ws }
+        ensures serves { (lens : ℕ → Lens) (recover made : ℕ) (from : Before) (left next : List ℕ) (ws : List Serves) → length self.old.lan.happened < 17 → self.old.list.count < 97 → AreDistinct (map (λ w. lived_of (run_lead w)) ws) → is_in place left ≡ true → is_in place next ≡ false → ((k : ℕ) → is_in k next ≡ true → is_in k left ≡ true) →
+            IsPassing lens recover made from left self.old into.old.items ws → IsPassing lens recover made from (if result then next else left) self.new into.new.items ws }
         ensures answers { self.old.list.count < 97 → AnswersOn self.old self.new }
     {
         let index = (self.made % 256) as u8;
@@ -272,9 +274,9 @@ impl MasterNode {
         ensures joins { JoinsKept self.old self.new }
         ensures lan { Happens 16 self.old.lan self.new.lan }
         ensures made { Makes self.old.lan self.new.lan }
-        ensures eager { All WaitsNone self.old.posts.items → IsBare self.old → length into.old.items ≡ 16 → EagerOn self.old self.new }
-        ensures serves { (lens : ℕ → Lens) (recover made : ℕ) (forwards : ℕ → ℕ) (ws : List Serves) → AreDistinct (map (λ w. lived_of (run_lead w)) ws) → ((left : List ℕ) → IsPassing lens recover made forwards left self.old into.old.items ws) → BeginsFrame self.old into.old.items (map run_lead ws) →
-            (left : List ℕ) × IsPassing lens recover made forwards left self.new into.new.items ws × EndsFrame left self.new (map run_lead ws) }
+        ensures eager { IsBare self.old → length into.old.items ≡ 16 → EagerOn self.old self.new }
+        ensures serves { (lens : ℕ → Lens) (recover made : ℕ) (from : Before) (ws : List Serves) → AreDistinct (map (λ w. lived_of (run_lead w)) ws) → ((left : List ℕ) → IsPassing lens recover made from left self.old into.old.items ws) → BeginsFrame self.old into.old.items (map run_lead ws) →
+            (left : List ℕ) × IsPassing lens recover made from left self.new into.new.items ws × EndsFrame left self.new (map run_lead ws) }
         ensures events { self.new.list.count ≤ self.old.list.count + 16 }
         ensures head { events_before self.new ≡ events_before self.old }
         ensures answers { self.old.list.count ≤ 81 → AnswersOn self.old self.new }
@@ -303,9 +305,10 @@ impl MasterNode {
         ensures joins { JoinsKept self.old self.new }
         ensures lan { Happens 16 self.old.lan self.new.lan }
         ensures made { Makes self.old.lan self.new.lan }
-        ensures eager { (lens : ℕ → Lens) (recover retry missed : ℕ) (as' : List Leads) → MasterShows lens recover retry self.old missed as' → EagerFrom self.old self.new }
-        ensures serves { (lens : ℕ → Lens) (recover retry missed made : ℕ) (forwards : ℕ → ℕ) (ws : List Serves) → list_any (λ s. is_live s.stand) self.old.tour.stops.items ≡ true → suc made < 2 ^ 32 → IsUnlisted forwards self.old → ServedShows lens recover retry self.old missed made ws →
-            (vs : List ServedTurn) × IsServedFrame lens made into.new.items ws vs × ServedUnder lens recover retry (record self.new { made = suc made }) into.new.items missed made vs × (self.new.made ≡ made) × ServedBegin forwards ws vs self.new × (tour_of self.new ≡ tour_of self.old) ×
+        ensures eager { (as' : List Leads) → GoesOn self.old.tour.again self.old.tour.visit.items self.old.tour.opened as' → (self.old.tour.again ≡ true → FitAgain self.old.tour.visit.items self.old.tour.stops.items) → EagerFrom self.old self.new }
+        ensures serves { (lens : ℕ → Lens) (recover retry missed made : ℕ) (from : Before) (ws : List Serves) → list_any (λ s. is_live s.stand) self.old.tour.stops.items ≡ true → suc made < 2 ^ 32 → length self.old.lan.happened ≤ 1 → HasTaken from.switch [] self.old.lan → IsUnlisted from.forwards self.old → ServedShows lens recover retry self.old missed made ws →
+            (vs : List ServedTurn) × IsServedFrame lens made into.new.items ws vs × ServedUnder lens recover retry (record self.new { made = suc made }) into.new.items missed made vs × (self.new.made ≡ made) × ServedBegin from.forwards ws vs self.new × (tour_of self.new ≡ tour_of self.old) × PacketsBegin from.switch (map run_turn vs) self.new.lan ×
+            AllServedBegin lens self.new.lan 0 (recalls self.new) ws (map run_turn vs) × AllUnvisited (map run_turn vs) ×
             IsOfTour (λ s. stop_share s) (λ k. holds_at is_live_lead (map run_lead ws) k) (frame_size into.new.items) (λ k. area_at lens (map run_lead ws) k) (tour_of self.old) self.new.tour.stops.items (length (seen lens into.new.items)) self.new.tour.visit.items }
         ensures events { self.new.list.count ≤ self.old.list.count + 16 }
         ensures head { events_before self.new ≡ events_before self.old }
@@ -400,6 +403,7 @@ impl MasterNode {
         ensures stays { result ≡ false → StepsAt (λ p q. q ≡ p) slave self.old.posts.items self.new.posts.items }
         ensures works { StepsAt (λ p q. q.work ≡ p.work) slave self.old.posts.items self.new.posts.items }
         ensures kept { (self.new.tour ≡ self.old.tour) × (self.new.lan ≡ self.old.lan) × (self.new.made ≡ self.old.made) × (self.new.list ≡ self.old.list) }
+        ensures idle { IsIdle self.new → IsIdle self.old }
         ensures counts { (k : ℕ) → forwards_at self.new.posts.items k ≡ forwards_at self.old.posts.items k }
         ensures answers { (k : ℕ) → answer_at self.new.posts.items k ≡ answer_at self.old.posts.items k }
         ensures served { (lens : ℕ → Lens) (recover retry missed made : ℕ) (ws : List Serves) → waiting_at self.old.posts.items slave < 64 → FitsAt lens slave (length mail.now.body.items) ws → ServedShows lens recover retry self.old missed made ws →

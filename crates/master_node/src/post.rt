@@ -64,7 +64,7 @@ pub fn bare(mail: &Mail) -> Mail
 }
 
 impl Post {
-    ghost use Rattle.std.specs.Prelude.{◌≡◌, ◌<◌, length};
+    ghost use Rattle.std.specs.Prelude.{◌≡◌, ◌<◌, List, [], length};
     ghost use Rattle.master_node.specs.Appends.{AppendsMail};
     ghost use Rattle.master_node.specs.Numbered.{StaysNumbered};
     ghost use Rattle.master_node.specs.Origins.{counted_by};
@@ -97,6 +97,7 @@ impl Post {
         ensures full { (result ≡ false) ↔ (length self.old.mails.items ≡ 64) }
         ensures same { result ≡ false → self.new ≡ self.old }
         ensures appends { length self.old.mails.items < 64 → AppendsMail key mail.now self.old.mails.items self.new.mails.items }
+        ensures empty { self.new.mails.items ≡ [] → self.old.mails.items ≡ [] }
         ensures work { self.new.work ≡ self.old.work }
         ensures oldest { self.new.oldest ≡ self.old.oldest }
         ensures forwards { self.new.forwards ≡ self.old.forwards }

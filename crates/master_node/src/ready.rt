@@ -11,7 +11,7 @@ use master_tour::Stand;
 
 impl MasterNode {
     ghost use Rattle.std.specs.Prelude.{◌≡◌, ◌<◌, vec_len};
-    ghost use Rattle.std.specs.Prelude.{All, IfSome, Some, slice_get};
+    ghost use Rattle.std.specs.Prelude.{All, IfSome, Some, List, [], slice_get};
     ghost use Rattle.master_tour.specs.Walks.{StepsAt};
     ghost use Rattle.master_node.specs.declared.coming.Coming.{Coming};
     ghost use Rattle.master_node.specs.Shows.{WaitsNone};
@@ -30,7 +30,7 @@ impl MasterNode {
     ghost use Rattle.master_node.specs.Handed.{LaysWork};
     ghost use Rattle.master_side.specs.declared.carried.Target.{Target};
     ghost use Rattle.master_node.specs.Serving.{mails_in};
-    ghost use Rattle.master_node.specs.Passes.{IsNextState, IsReady, LaysMail, MailWaits, waits_behind, waits_in};
+    ghost use Rattle.master_node.specs.Passes.{IsNextState, IsReady, LaysMail, MailWaits, ScriptLast, waits_behind, waits_in};
 
     // What may come into hand of an open slave: a packet first, then a mail that is passed on, then the script. One that has something in hand takes
     // nothing.
@@ -38,12 +38,13 @@ impl MasterNode {
         requires { place < vec_len self.now.posts }
         ensures comes { All WaitsNone self.now.posts.items → IfSome (slice_get self.now.tour.stops.items place) (λ s. IsComing (next_of s) result) }
         ensures first { PacketFirst self.now.lan place result }
-        ensures none { All WaitsNone self.now.posts.items → result ≡ None → IfSome (slice_get self.now.tour.stops.items place) (λ s. s.stand ≡ Stand.Open → SideFrees s.side → NoneComes self.now.lan place (next_of s)) }
+        ensures none { result ≡ None → IfSome (slice_get self.now.tour.stops.items place) (λ s. s.stand ≡ Stand.Open → SideFrees s.side → NoneComes self.now.lan place (next_of s) × (waits_in (mails_in self.now) place ≡ [])) }
         ensures mails { IfSome (slice_get self.now.tour.stops.items place) (λ s. result ≡ Some Coming.Script → IsByMails (next_of s)) }
         ensures waits { WaitsFor self.now.lan place result }
         ensures free { IfSome (slice_get self.now.tour.stops.items place) (λ s. is_some result ≡ true → is_free_side s.side ≡ true) }
         ensures states { IfSome (slice_get self.now.tour.stops.items place) (λ s. IsNextState (next_of s) result) }
         ensures oldest { MailWaits (waits_in (mails_in self.now) place) result }
+        ensures last { ScriptLast (waits_in (mails_in self.now) place) result }
     {
         let stop = &self.tour.stops[place];
         if !stop.side.is_free() {
@@ -63,12 +64,13 @@ impl MasterNode {
         requires { place < vec_len self.now.posts }
         ensures comes { All WaitsNone self.now.posts.items → IfSome (slice_get self.now.tour.stops.items place) (λ s. IsComing (next_of s) result) }
         ensures first { PacketFirst self.now.lan place result }
-        ensures none { All WaitsNone self.now.posts.items → result ≡ None → IfSome (slice_get self.now.tour.stops.items place) (λ s. s.stand ≡ Stand.Open → SideFrees s.side → NoneComes self.now.lan place (next_of s)) }
+        ensures none { result ≡ None → IfSome (slice_get self.now.tour.stops.items place) (λ s. s.stand ≡ Stand.Open → SideFrees s.side → NoneComes self.now.lan place (next_of s) × (waits_in (mails_in self.now) place ≡ [])) }
         ensures mails { IfSome (slice_get self.now.tour.stops.items place) (λ s. result ≡ Some Coming.Script → IsByMails (next_of s)) }
         ensures waits { WaitsFor self.now.lan place result }
         ensures free { IfSome (slice_get self.now.tour.stops.items place) (λ s. is_some result ≡ true → (s.stand ≡ Stand.Open) × (is_free_side s.side ≡ true)) }
         ensures states { IfSome (slice_get self.now.tour.stops.items place) (λ s. IsNextState (next_of s) result) }
         ensures oldest { MailWaits (waits_in (mails_in self.now) place) result }
+        ensures last { ScriptLast (waits_in (mails_in self.now) place) result }
     {
         let stop = &self.tour.stops[place];
         match stop.stand {

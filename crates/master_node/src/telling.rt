@@ -37,8 +37,8 @@ impl MasterNode {
     ghost use Rattle.master_node.specs.Kept.{NodeKept};
     ghost use Rattle.master_node.specs.Origins.{forwards_at};
     ghost use Rattle.master_node.specs.Happened.{Happens, HappensSo};
-    ghost use Rattle.master_node.specs.Shows.{MasterShows, MasterUnder};
-    ghost use Rattle.master_node.specs.Serving.{TellsOnly, ServedShows, ServedUnder, mails_in};
+    ghost use Rattle.master_node.specs.Shows.{IsUnderWay, MasterShows, MasterUnder};
+    ghost use Rattle.master_node.specs.Serving.{TellsOnly, ServedShows, ServedUnder, mails_in, run_lead, run_turn};
     ghost use Rattle.master_node.specs.Dropped.{Drops, gave_at};
     ghost use Rattle.master_node.specs.Besides.{DoesAt, DoesSo, HasBack, TellsAll, accepted_does, answers, back_does, back_told, complete_does, emitted_does, given_at, handed_does, heard_does, is_state, met_does, over_does, passed_does, replied_does, turned_does};
     ghost use Rattle.master_node.specs.Listed.{listed};
@@ -61,6 +61,7 @@ impl MasterNode {
     ghost use Rattle.master_node.specs.Answered.{AnswersSo};
     ghost use Rattle.master_node.specs.Eager.{AllVisit, recalls};
     ghost use Rattle.master_node.specs.Recalled.{AllRecall};
+    ghost use Rattle.master_node.specs.ServedEager.{AllServedAsk, AllServedRecall};
 
     // The service in hand has its answer.
     fn answered(&mut self, place: usize, kind: ReplyKind)
@@ -347,14 +348,19 @@ impl MasterNode {
         ensures brought { (lens : ℕ → Lens) (recover retry missed : ℕ) (octets : List ℕ) (us : List Turn) → MasterUnder lens recover retry self.old octets missed us → Returns (seen lens octets) (seen lens frame.now.items) → HasBrought self.new us (seen lens frame.now.items) }
         ensures joined { (lens : ℕ → Lens) (recover retry missed number : ℕ) (octets : List ℕ) (us : List Turn) (befores : List (Option Unfinished)) (f : Exchanged) → f.fate ≡ Fate.Pass → f.back ≡ frame.now.items → MasterUnder lens recover retry self.old octets missed us → Returns (seen lens octets) (seen lens frame.now.items) →
             HasUnfinished self.old (map stand_under us) befores → HasCompleted self.new us befores (seen lens frame.now.items) × HasUnfinished self.new (map stand_before (map (led_behind lens recover retry (gives_up_at lens recover retry missed) number f) us)) (unfinished_after (mails_back (seen lens frame.now.items)) us befores) }
+        ensures joins { (lens : ℕ → Lens) (recover retry missed made : ℕ) (octets : List ℕ) (vs : List ServedTurn) (befores : List (Option Unfinished)) (f : Exchanged) → f.fate ≡ Fate.Pass → f.back ≡ frame.now.items → ServedUnder lens recover retry self.old octets missed made vs →
+            Returns (seen lens octets) (seen lens frame.now.items) → HasUnfinished self.old (map stand_under (map run_turn vs)) befores → HasCompleted self.new (map run_turn vs) befores (seen lens frame.now.items) ×
+            HasUnfinished self.new (map stand_before (map run_lead (map (served_behind lens recover retry (gives_up_at lens recover retry missed) made f) vs))) (unfinished_after (mails_back (seen lens frame.now.items)) (map run_turn vs) befores) }
         ensures happened { HappensSo self.old.lan self.new.lan }
-        ensures arrivals { (lens : ℕ → Lens) (recover retry missed : ℕ) (octets : List ℕ) (us : List Turn) (befores : List (Option Unfinished)) → MasterUnder lens recover retry self.old octets missed us → Returns (seen lens octets) (seen lens frame.now.items) →
+        ensures arrivals { (lens : ℕ → Lens) (recover : ℕ) (octets : List ℕ) (us : List Turn) (befores : List (Option Unfinished)) → IsUnderWay lens recover self.old octets us → Returns (seen lens octets) (seen lens frame.now.items) →
             HasUnfinished self.old (map stand_under us) befores → ComeIn self.old (λ p. completed_at (seen lens frame.now.items) us befores p) self.new }
         ensures served { (lens : ℕ → Lens) (recover retry missed made : ℕ) (octets : List ℕ) (vs : List ServedTurn) (f : Exchanged) → f.fate ≡ Fate.Pass → f.back ≡ frame.now.items → ServedUnder lens recover retry self.old octets missed made vs → Returns (seen lens octets) (seen lens frame.now.items) →
             ServedShows lens recover retry self.new 0 (suc made) (map (served_behind lens recover retry (gives_up_at lens recover retry missed) made f) vs) }
         ensures counts { (k : ℕ) → forwards_at self.new.posts.items k ≡ forwards_at self.old.posts.items k }
         ensures recalls { (lens : ℕ → Lens) (recover retry missed : ℕ) (octets : List ℕ) (us : List Turn) → MasterUnder lens recover retry self.old octets missed us → Returns (seen lens octets) (seen lens frame.now.items) →
             AllVisit (seen lens octets) (recalls self.old) us → AllRecall lens (seen lens frame.now.items) us (recalls self.old) (recalls self.new) }
+        ensures remembers { (lens : ℕ → Lens) (recover retry missed made : ℕ) (octets : List ℕ) (vs : List ServedTurn) (f : Exchanged) → f.fate ≡ Fate.Pass → f.back ≡ frame.now.items → ServedUnder lens recover retry self.old octets missed made vs → Returns (seen lens octets) (seen lens frame.now.items) →
+            AllServedAsk (seen lens octets) (recalls self.old) (map run_turn vs) → AllServedRecall lens (seen lens frame.now.items) (λ v. served_behind lens recover retry (gives_up_at lens recover retry missed) made f v) vs (recalls self.old) (recalls self.new) }
         ensures gateway { (lens : ℕ → Lens) (recover retry missed made : ℕ) (octets : List ℕ) (vs : List ServedTurn) (f : Exchanged) → f.fate ≡ Fate.Pass → f.back ≡ frame.now.items → ServedUnder lens recover retry self.old octets missed made vs → Returns (seen lens octets) (seen lens frame.now.items) →
             TellsGateway (λ k. lives_told (seen lens frame.now.items) vs (map (served_behind lens recover retry (gives_up_at lens recover retry missed) made f) vs) k) self.old self.new }
         ensures told { (lens : ℕ → Lens) (recover retry missed made : ℕ) (octets : List ℕ) (vs : List ServedTurn) (f : Exchanged) → f.fate ≡ Fate.Pass → f.back ≡ frame.now.items → ServedUnder lens recover retry self.old octets missed made vs → Returns (seen lens octets) (seen lens frame.now.items) →
@@ -464,6 +470,11 @@ impl MasterNode {
         ensures joined { (lens : ℕ → Lens) (recover retry missed number after : ℕ) (octets : List ℕ) (us : List Turn) (befores : List (Option Unfinished)) (f : Exchanged) → f.fate ≡ Fate.Lost after → f.sent ≡ octets → MasterUnder lens recover retry self.old octets missed us →
             HasUnfinished self.old (map stand_under us) befores → HasUnfinished self.new (map stand_before (map (led_behind lens recover retry (gives_up_at lens recover retry missed) number f) us)) (unfinished_after mails_lost us befores) }
         ensures toured { (lens : ℕ → Lens) (recover : ℕ) (as' : List Leads) → HasLives lens recover self.new (map lived_of as') → tour_of self.new ≡ lost_on is_opening_lead self.old.tour.retry as' (tour_of self.old) self.old.tour.visit.items }
+        ensures joins { (lens : ℕ → Lens) (recover retry missed made after : ℕ) (octets : List ℕ) (vs : List ServedTurn) (befores : List (Option Unfinished)) (f : Exchanged) → f.fate ≡ Fate.Lost after → f.sent ≡ octets → ServedUnder lens recover retry self.old octets missed made vs →
+            HasUnfinished self.old (map stand_under (map run_turn vs)) befores →
+            HasUnfinished self.new (map stand_before (map run_lead (map (served_behind lens recover retry (gives_up_at lens recover retry missed) made f) vs))) (unfinished_after mails_lost (map run_turn vs) befores) }
+        ensures leaves { (lens : ℕ → Lens) (recover retry missed made after : ℕ) (octets : List ℕ) (vs : List ServedTurn) (f : Exchanged) → f.fate ≡ Fate.Lost after → f.sent ≡ octets → ServedUnder lens recover retry self.old octets missed made vs →
+            GoDown self.old (map run_turn vs) (map run_lead (map (served_behind lens recover retry (gives_up_at lens recover retry missed) made f) vs)) self.new }
         ensures happened { HappensSo self.old.lan self.new.lan }
         ensures downs { (lens : ℕ → Lens) (recover retry missed number after : ℕ) (octets : List ℕ) (us : List Turn) (f : Exchanged) → f.fate ≡ Fate.Lost after → f.sent ≡ octets → MasterUnder lens recover retry self.old octets missed us →
             GoDown self.old us (map (led_behind lens recover retry (gives_up_at lens recover retry missed) number f) us) self.new }
@@ -471,6 +482,8 @@ impl MasterNode {
             ServedShows lens recover retry self.new (missed_behind lens recover retry f.fate missed) (suc made) (map (served_behind lens recover retry (gives_up_at lens recover retry missed) made f) vs) }
         ensures counts { (k : ℕ) → forwards_at self.new.posts.items k ≡ forwards_at self.old.posts.items k }
         ensures recalls { (lens : ℕ → Lens) (recover retry missed : ℕ) (octets : List ℕ) (us : List Turn) → MasterUnder lens recover retry self.old octets missed us → AllRecall lens [] us (recalls self.old) (recalls self.new) }
+        ensures remembers { (lens : ℕ → Lens) (recover retry missed made : ℕ) (octets : List ℕ) (vs : List ServedTurn) (f : Exchanged) → ServedUnder lens recover retry self.old octets missed made vs →
+            AllServedRecall lens [] (λ v. served_behind lens recover retry (gives_up_at lens recover retry missed) made f v) vs (recalls self.old) (recalls self.new) }
         ensures told { (lens : ℕ → Lens) (recover retry missed made after : ℕ) (octets : List ℕ) (vs : List ServedTurn) (f : Exchanged) → f.fate ≡ Fate.Lost after → f.sent ≡ octets → ServedUnder lens recover retry self.old octets missed made vs →
             TellsJust (λ k. lost_at vs (map (served_behind lens recover retry (gives_up_at lens recover retry missed) made f) vs) k) self.old self.new }
         ensures answers { self.old.list.before ≤ 16 → AnswersSo self.old self.new }

@@ -58,6 +58,10 @@ impl MasterNode {
     ghost use Rattle.master_node.specs.Shows.{MasterShows, lived_of};
     ghost use Rattle.master_node.specs.Told.{HasLives};
     ghost use Rattle.std.specs.Prelude.{[], false, ◌&&◌};
+    ghost use Rattle.master_tour.specs.declared.stop.Stand.{Stand};
+    ghost use Rattle.master_node.specs.Entering.{IsIdle};
+    ghost use Rattle.master_node.specs.Passes.{waits_in};
+    ghost use Rattle.master_node.specs.Serving.{mails_in};
     ghost use Rattle.master_node.specs.Eager.{recalls};
     ghost use Rattle.master_node.specs.Forwards.{forwarded};
     ghost use Rattle.master_node.specs.Resting.{AllRest, StopRests};
@@ -69,7 +73,7 @@ impl MasterNode {
     // Whether a packet or a mail waits for a slave.
     fn has_waiting(&self, place: usize) -> bool
         requires { place < vec_len self.now.posts }
-        ensures rests { All WaitsNone self.now.posts.items → forwarded self.now.lan.switch self.now.lan.ports.items place ≡ [] → result ≡ false }
+        ensures rests { waits_in (mails_in self.now) place ≡ [] → forwarded self.now.lan.switch self.now.lan.ports.items place ≡ [] → result ≡ false }
         ensures none { OnFalse result (NoneWaiting self.now place) }
         ensures mails { OnFalse result (IfSome (slice_get self.now.posts.items place) WaitsNone) }
     {
@@ -85,7 +89,7 @@ impl MasterNode {
         ensures live { OnTrue result (holds_at (λ s. is_live s.stand) self.now.tour.stops.items place ≡ true) }
         ensures quiet { OnFalse result (IfSome (slice_get self.now.tour.stops.items place) (λ s. IsQuietBy s.stand s.side)) }
         ensures mails { OnFalse result (MaillessAt self.now place) }
-        ensures rests { All WaitsNone self.now.posts.items → IfSome (slice_get self.now.tour.stops.items place) (λ s. StopRests self.now.lan place s) → result ≡ false }
+        ensures rests { IfSome (slice_get self.now.tour.stops.items place) (λ s. StopRests self.now.lan place s × (s.stand ≡ Stand.Open → waits_in (mails_in self.now) place ≡ [])) → result ≡ false }
         ensures waits { OnFalse result (holds_at (λ s. is_live s.stand) self.now.tour.stops.items place ≡ true → NoneWaiting self.now place) }
     {
         let stop = &self.tour.stops[place];
@@ -106,7 +110,7 @@ impl MasterNode {
         ensures live { OnTrue result (list_any (λ s. is_live s.stand) self.now.tour.stops.items ≡ true) }
         ensures quiet { OnFalse result (All (λ s. IsQuietBy s.stand s.side) self.now.tour.stops.items) }
         ensures mails { OnFalse result ((k : ℕ) → k < vec_len self.now.posts → MaillessAt self.now k) }
-        ensures rests { All WaitsNone self.now.posts.items → ((k : ℕ) → IfSome (slice_get self.now.tour.stops.items k) (λ s. StopRests self.now.lan k s)) → result ≡ false }
+        ensures rests { ((k : ℕ) → IfSome (slice_get self.now.tour.stops.items k) (λ s. StopRests self.now.lan k s × (s.stand ≡ Stand.Open → waits_in (mails_in self.now) k ≡ []))) → result ≡ false }
         ensures waits { OnFalse result ((k : ℕ) → holds_at (λ s. is_live s.stand) self.now.tour.stops.items k ≡ true → NoneWaiting self.now k) }
     {
         for place in 0..self.posts.len() {
@@ -135,6 +139,7 @@ impl MasterNode {
         ensures come { OnFalse result (NoneToCome self.now) }
         ensures served { OnFalse result ((lens : ℕ → Lens) (recover retry missed made : ℕ) (ws : List Serves) → ServedShows lens recover retry self.now missed made ws → All IsServedOut ws) }
         ensures rests { (lens : ℕ → Lens) (recover retry missed : ℕ) (as' : List Leads) → MasterShows lens recover retry self.now missed as' → AllRest lens self.now.lan 0 (recalls self.now) as' → nat_lt self.now.lan.entered (length self.now.lan.host) ≡ false → result ≡ false }
+        ensures idle { IsIdle self.now → result ≡ false }
     {
         if self.has_wanting() {
             return true;

@@ -1,18 +1,30 @@
 -- What a side remembers of its visits goes on as it was where a service comes into hand.
-use Rattle.std.proofs.Common.{◌≡◌, true, false, Bool, Option, None, refl, sym, ap, ◌∙◌}
-use Rattle.std.specs.Prelude.{is_some, ◌&&◌}
+use Rattle.std.proofs.Common.{◌≡◌, true, false, Bool, Option, Some, None, refl, sym, ap, ◌∙◌}
+use Rattle.std.specs.Prelude.{is_some, ◌&&◌, ◌||◌}
 use Rattle.master_duty.specs.declared.stage.Met.{Met}
 use Rattle.master_side.specs.Carried.{in_hand}
+use Rattle.master_side.specs.Passes.{told_by}
 use Rattle.master_side.specs.Recall.{recall_by}
+use Rattle.master_side.specs.declared.passing.Passing.{Passing}
 
--- with no state service in hand the turn counts for nothing
-pub idle_recall : (paused turn turn' knows knows' : Bool) (duty : Option Met) → in_hand duty ≡ None → knows' ≡ knows → recall_by paused duty turn' knows' ≡ recall_by paused duty turn knows
-idle_recall paused turn turn' knows knows' duty e k = λ i. record { paused = paused; turn = (ap (λ d. is_some d && turn') e ∙ sym (ap (λ d. is_some d && turn) e)) i; knows = k i }
+-- with neither a state service in hand nor a mail that is passed on the turn counts for nothing, and behind what comes into hand there is none
+none_after : (b : Bool) → (b && false) ≡ false
+none_after true = refl
+none_after false = refl
 
--- and a state service that comes into hand has none
-pub state_recall : (paused turn knows : Bool) (old new : Option Met) → in_hand old ≡ None → recall_by paused new false knows ≡ recall_by paused old turn knows
-state_recall paused turn knows old new e = λ i. record { paused = paused; turn = (none (is_some (in_hand new)) ∙ sym (ap (λ d. is_some d && turn) e)) i; knows = knows }
-  where
-    none : (b : Bool) → (b && false) ≡ false
-    none true = refl
-    none false = refl
+none_before : (turn : Bool) (duty : Option Met) (passing : Option Passing) → in_hand duty ≡ None → passing ≡ None → ((is_some (in_hand duty) || is_some passing) && turn) ≡ false
+none_before turn duty passing e p = (λ i. (is_some (e i) || is_some (p i)) && turn)
+
+pub begun_recall : (paused turn knows knows' : Bool) (old new : Option Met) (passing passing' : Option Passing) → in_hand old ≡ None → passing ≡ None → knows' ≡ knows → recall_by paused new passing' false knows' ≡ recall_by paused old passing turn knows
+begun_recall paused turn knows knows' old new passing passing' e p k =
+    λ i. record { paused = paused; turn = (none_after (is_some (in_hand new) || is_some passing') ∙ sym (none_before turn old passing e p)) i; knows = k i }
+
+-- a mail that is sent isn't over
+pub told_some : (passing : Option Passing) (fresh : Bool) → is_some (told_by passing fresh) ≡ is_some passing
+told_some None fresh = refl
+told_some (Some Passing.Waiting) true = refl
+told_some (Some Passing.Waiting) false = refl
+told_some (Some Passing.Sent) fresh = refl
+told_some (Some Passing.Boxed) fresh = refl
+told_some (Some Passing.Served) fresh = refl
+told_some (Some Passing.Answered) fresh = refl

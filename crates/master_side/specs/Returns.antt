@@ -1,5 +1,5 @@
 -- WHAT A SIDE SHOWS BEHIND A FRAME: its datagram came back, or was lost.
-use Rattle.std.specs.Prelude.{◌≡◌, ℕ, Bool, true, Option, None, List, map, option_map}
+use Rattle.std.specs.Prelude.{◌≡◌, ℕ, Bool, true, is_some, Option, None, List, map, option_map}
 use Rattle.frame_view.specs.of_exchange_model.Rows.{Row, row_heard}
 use Rattle.frame_view.specs.of_link_mails.Body.{Body}
 use Rattle.frame_view.specs.of_link_model.Frames.{all_accepted}
@@ -99,9 +99,9 @@ module _ {H : Type 0} {G : Ghosts H} where
   LostPasses s t = (x : SpeechOf G.Asked) (kept : Kept) (p : Option Ends.Passing) (b : Datagram Body) (d : HalfOf G.Asked) (a : AccountOf G.Asked) →
       ShowsOf s x d a → IsKept kept d → PassingOf s p → IsOwn s d a b → PassingOf t (passes x G.acknowledged G.more G.passed p (news_lost s.station kept (one b)))
 
-  -- it remembers its visits as before, and the same state service
+  -- it remembers its visits as before, and the same state service; and a mail that is passed on isn't over by it
   abbrev pub LostRecalls : Side H G → Side H G → Type 0
-  LostRecalls s t = (t.paused ≡ s.paused) × (t.turn ≡ s.turn) × (t.duty ≡ s.duty) × (G.knows t.hand ≡ G.knows s.hand)
+  LostRecalls s t = (t.paused ≡ s.paused) × (t.turn ≡ s.turn) × (t.duty ≡ s.duty) × (G.knows t.hand ≡ G.knows s.hand) × (is_some t.passing ≡ is_some s.passing)
 
   -- where that was the write of the mail held, all of these stay
   abbrev pub LostWrite : Side H G → Side H G → Type 0

@@ -42,7 +42,7 @@ module _ {H : Type 0} {G : Ghosts H} where
 
   -- what it remembers of its visits
   abbrev pub recall_in : Side H G → Recall
-  recall_in s = recall_by s.paused s.duty s.turn (G.knows s.hand)
+  recall_in s = recall_by s.paused s.duty s.passing s.turn (G.knows s.hand)
 
   -- THE NEXT MAIL IS TAKEN UP, or none is
   abbrev pub HoldsNext : Side H G → Side H G → Type 0

@@ -195,7 +195,7 @@ impl<H: Hand> Side<H> {
         ensures read { (self.new.read_at ≡ self.old.read_at) × (self.new.pace ≡ self.old.pace) }
         ensures join { H.join self.new.hand ≡ H.join self.old.hand }
         ensures again { in_hand self.old.duty ≡ None → self.old.passing ≡ None → Repeats self.old → SendsAtMost (sent_len self.old) self.new }
-        ensures recalled { in_hand self.old.duty ≡ None → H.knows self.old.hand ≡ true → recall_in self.new ≡ recall_in self.old }
+        ensures recalled { in_hand self.old.duty ≡ None → self.old.passing ≡ None → H.knows self.old.hand ≡ true → recall_in self.new ≡ recall_in self.old }
         ensures first { in_hand self.old.duty ≡ None → SendsFirst self.old self.new true (Some Wish.Mails) }
     {
         let began = self.hand.begin();
@@ -213,7 +213,7 @@ impl<H: Hand> Side<H> {
         ensures kept { (self.new.hand ≡ self.old.hand) × (self.new.passing ≡ self.old.passing) }
         ensures read { (self.new.read_at ≡ self.old.read_at) × (self.new.pace ≡ self.old.pace) }
         ensures again { in_hand self.old.duty ≡ None → self.old.passing ≡ None → Repeats self.old → SendsAtMost (sent_len self.old) self.new }
-        ensures recalled { in_hand self.old.duty ≡ None → recall_in self.new ≡ recall_in self.old }
+        ensures recalled { in_hand self.old.duty ≡ None → self.old.passing ≡ None → recall_in self.new ≡ recall_in self.old }
         ensures first { SendsFirst self.old self.new true (Some (Wish.State target)) }
     {
         let duty = Duty::new(target.state);

@@ -1,5 +1,5 @@
 -- WHAT IS REMEMBERED of a slave's visits behind a frame that came back, and behind one that was lost.
-use Rattle.std.specs.Prelude.{◌≡◌, ◌&&◌, ℕ, Bool, true, false, List}
+use Rattle.std.specs.Prelude.{◌≡◌, ◌&&◌, ℕ, Bool, true, false, is_some, None, List}
 use Rattle.life_frames.specs.of_exchange_model.Exchange.{Speech}
 use Rattle.life_frames.specs.of_life_model.Lives
 use Rattle.life_frames.specs.of_life_model.Lives.{Life, Spot}
@@ -19,9 +19,9 @@ use Rattle.master_tour.specs.declared.stop.Stand.{Stand}
 use Rattle.master_tour.specs.declared.stop.Stop.{Stop}
 
 module _ {H : Type 0} {G : Ghosts H} where
-  -- nothing of it changes; `knew` and `knows` say whether the hand knows its mails
+  -- nothing of it changes, and a mail that is passed on isn't over; `knew` and `knows` say whether the hand knows its mails
   abbrev pub SameRecall : Bool → Bool → Side H G → Side H G → Type 0
-  SameRecall knew knows s t = (t.paused ≡ s.paused) × (t.turn ≡ s.turn) × (t.duty ≡ s.duty) × (knows ≡ knew)
+  SameRecall knew knows s t = (t.paused ≡ s.paused) × (t.turn ≡ s.turn) × (t.duty ≡ s.duty) × (knows ≡ knew) × (is_some t.passing ≡ is_some s.passing)
 
   -- A VISIT CAME BACK SO: what is remembered, by this counter; and the state service in hand, by its account
   pub record VisitBack {Q : Type 0} (a : Account Q Reply) (b : Datagram Body) (s t : Side H G) : Type 0 where
@@ -31,6 +31,7 @@ module _ {H : Type 0} {G : Ghosts H} where
     pub paused : t.paused ≡ paused_after s.carried (in_half_of s.inn).state counter s.paused
     pub turn : t.turn ≡ turn_after s.carried (in_half_of s.inn).state counter s.turn
     pub duty : (frame : ℕ) → DutyShows (in_hand t.duty) (account_back s.station frame a (one b)).hand
+    pub unpassed : s.passing ≡ None → t.passing ≡ None
 
   -- A SLAVE BEHIND A FRAME THAT CAME BACK: an open one by its datagram, if the frame had one; and its hand knows its mails as long as each mail of it is
   -- due. That of an open one knows them behind it only where it did before

@@ -13,12 +13,16 @@ use Rattle.link_mails.specs.Body.{Body}
 use Rattle.master_duty.specs.Reply.{Reply}
 use Rattle.master_hand.specs.Spoken.{Asked, acknowledged, is_followed}
 use Rattle.master_node.specs.Downs.{goes_down}
+use Rattle.master_node.specs.Serving.{run_lead, run_turn}
 use Rattle.master_node.specs.Shows.{is_led, is_live_lead, is_live_turn, is_carried}
 use Rattle.master_node.proofs.Counts.{if_by, next_stand}
+use Rattle.master_side.specs.Passing.{news_back, news_lost}
 use Rattle.master_tour.specs.Goes.{holds_at}
+use Rattle.segment_model.specs.Record.{News}
 use Rattle.segment_model.specs.Slaves.{Found}
 use Rattle.segment_ring.specs.declared.wire.Fate.{Fate}
 use Rattle.segment_ring.specs.declared.wire.Fate.TheVariants.{Pass, Lost}
+use Rattle.served_runs.specs.Served.{Serves, ServedTurn, AllServedTurn, served_behind, served_life}
 use Rattle.task_model.specs.Accounts.{Duty, Stage}
 
 abbrev SlaveLife : Type 0
@@ -46,19 +50,19 @@ reopens_live l (Some duty) h = go duty.stage
     go (Stage.Goes phase) = if_by Live (returns_to_init duty.target) _ l refl h
 
 module _ (lens : ℕ → Lens) (recover retry : ℕ) (gives : Bool) (made : ℕ) (f : Exchanged) where
-  back_live : (u : Turn) (came : Option (Bool × Option Found)) (z : Stand) → u.lived.life.stand ≡ z →
-      is_led (life_back (speech_at lens u.lived.spot) acknowledged is_followed is_passed made u.lived.spot [] (seen lens f.back) came u.lived.life z).stand ≡ is_led u.lived.life.stand
-  back_live u None (Stand.Opens o) e = refl
-  back_live u (Some came) (Stand.Opens o) e =
+  back_live : (ns : List (News Body)) (u : Turn) (came : Option (Bool × Option Found)) (z : Stand) → u.lived.life.stand ≡ z →
+      is_led (life_back (speech_at lens u.lived.spot) acknowledged is_followed is_passed made u.lived.spot ns (seen lens f.back) came u.lived.life z).stand ≡ is_led u.lived.life.stand
+  back_live ns u None (Stand.Opens o) e = refl
+  back_live ns u (Some came) (Stand.Opens o) e =
       let live : Live u.lived.life = ap is_led e in
       opening_live made u.lived.life o came.0 came.1 live ∙ sym live
-  back_live u came Stand.Gone e = gone came
+  back_live ns u came Stand.Gone e = gone came
     where
       gone : (c : Option (Bool × Option Found)) →
-          is_led (life_back (speech_at lens u.lived.spot) acknowledged is_followed is_passed made u.lived.spot [] (seen lens f.back) c u.lived.life Stand.Gone).stand ≡ is_led u.lived.life.stand
+          is_led (life_back (speech_at lens u.lived.spot) acknowledged is_followed is_passed made u.lived.spot ns (seen lens f.back) c u.lived.life Stand.Gone).stand ≡ is_led u.lived.life.stand
       gone None = refl
       gone (Some c) = refl
-  back_live u came Stand.Open e = by came
+  back_live ns u came Stand.Open e = by came
     where
       l : SlaveLife
       l = u.lived.life
@@ -67,28 +71,37 @@ module _ (lens : ℕ → Lens) (recover retry : ℕ) (gives : Bool) (made : ℕ)
       live = ap is_led e
 
       e2 : Lives.Era Body Asked Reply
-      e2 = era_back (speech_at lens u.lived.spot) acknowledged is_followed is_passed u.lived.spot.station made [] (seen lens f.back) l.era
+      e2 = era_back (speech_at lens u.lived.spot) acknowledged is_followed is_passed u.lived.spot.station made ns (seen lens f.back) l.era
 
       by : (c : Option (Bool × Option Found)) →
-          is_led (life_back (speech_at lens u.lived.spot) acknowledged is_followed is_passed made u.lived.spot [] (seen lens f.back) c l Stand.Open).stand ≡ is_led l.stand
+          is_led (life_back (speech_at lens u.lived.spot) acknowledged is_followed is_passed made u.lived.spot ns (seen lens f.back) c l Stand.Open).stand ≡ is_led l.stand
       by None = reopens_live (record l { era = e2 }) e2.account.hand live ∙ sym live
       by (Some c) = reopens_live (record l { era = e2 }) e2.account.hand live ∙ sym live
 
   pub pass_lives : f.fate ≡ Pass → (us : List Turn) (k : ℕ) → holds_at is_live_lead (map (led_behind lens recover retry gives made f) us) k ≡ holds_at is_live_turn us k
   pass_lives e [] k = refl
   pass_lives e (u ∷ us) zero =
-      ap (λ (z : Fate). is_led (life_behind lens recover retry gives made f z u.lived u.share).life.stand) e ∙ back_live u (came_at u.share.under u.share.at (seen lens f.back)) u.lived.life.stand refl
+      ap (λ (z : Fate). is_led (life_behind lens recover retry gives made f z u.lived u.share).life.stand) e ∙ back_live [] u (came_at u.share.under u.share.at (seen lens f.back)) u.lived.life.stand refl
   pass_lives e (u ∷ us) (suc k) = pass_lives e us k
+
+  -- of a serving
+  pub serving_pass : f.fate ≡ Pass → (vs : List ServedTurn) (k : ℕ) → holds_at is_live_lead (map run_lead (map (served_behind lens recover retry gives made f) vs)) k ≡ holds_at is_live_turn (map run_turn vs) k
+  serving_pass e [] k = refl
+  serving_pass e (v ∷ vs) zero =
+      let u = v.turn in
+      ap (λ (z : Fate). is_led (served_life lens recover retry gives made f z v).life.stand) e
+      ∙ back_live (news_back u.lived.spot.station v.kept v.counts (seen lens f.back)) u (came_at u.share.under u.share.at (seen lens f.back)) u.lived.life.stand refl
+  serving_pass e (v ∷ vs) (suc k) = serving_pass e vs k
 
   -- ---- by a lost one just such slaves go that it carried
 
-  lost_stays : (u : Turn) (z : Stand) → (life_lost (speech_at lens u.lived.spot) acknowledged is_followed is_passed u.lived.spot [] (seen lens f.sent) u.lived.life z).stand ≡ u.lived.life.stand
-  lost_stays u (Stand.Opens o) = refl
-  lost_stays u Stand.Open = refl
-  lost_stays u Stand.Gone = refl
+  lost_stays : (ns : List (News Body)) (u : Turn) (z : Stand) → (life_lost (speech_at lens u.lived.spot) acknowledged is_followed is_passed u.lived.spot ns (seen lens f.sent) u.lived.life z).stand ≡ u.lived.life.stand
+  lost_stays ns u (Stand.Opens o) = refl
+  lost_stays ns u Stand.Open = refl
+  lost_stays ns u Stand.Gone = refl
 
-  abbrev lost_life : Bool → Turn → SlaveLife
-  lost_life b u = given_where b recover u.lived.spot made (life_lost (speech_at lens u.lived.spot) acknowledged is_followed is_passed u.lived.spot [] (seen lens f.sent) u.lived.life u.lived.life.stand)
+  abbrev lost_life : List (News Body) → Bool → Turn → SlaveLife
+  lost_life ns b u = given_where b recover u.lived.spot made (life_lost (speech_at lens u.lived.spot) acknowledged is_followed is_passed u.lived.spot ns (seen lens f.sent) u.lived.life u.lived.life.stand)
 
   both_under : (a b : Bool) → (a && b) ≡ true → b ≡ true
   both_under true b e = e
@@ -98,15 +111,22 @@ module _ (lens : ℕ → Lens) (recover retry : ℕ) (gives : Bool) (made : ℕ)
   not_both true e = let bad : false ≡ true = e in cc
   not_both false e = let bad : false ≡ true = e in cc
 
-  one_goes : (u : Turn) (b : Bool) → (gives && u.share.under) ≡ b → (is_led u.lived.life.stand && not (is_led (lost_life b u).stand)) ≡ true → u.share.under ≡ true
-  one_goes u true e g = both_under gives u.share.under e
-  one_goes u false e g = absurd (not_both (is_led u.lived.life.stand) (ap (λ z. is_led u.lived.life.stand && not (is_led z)) (sym (lost_stays u u.lived.life.stand)) ∙ g))
+  one_goes : (ns : List (News Body)) (u : Turn) (b : Bool) → (gives && u.share.under) ≡ b → (is_led u.lived.life.stand && not (is_led (lost_life ns b u).stand)) ≡ true → u.share.under ≡ true
+  one_goes ns u true e g = both_under gives u.share.under e
+  one_goes ns u false e g = absurd (not_both (is_led u.lived.life.stand) (ap (λ z. is_led u.lived.life.stand && not (is_led z)) (sym (lost_stays ns u u.lived.life.stand)) ∙ g))
 
   pub lost_carried : (after : ℕ) → f.fate ≡ Lost after → (us : List Turn) (k : ℕ) → goes_down us (map (led_behind lens recover retry gives made f) us) k ≡ true → holds_at is_carried us k ≡ true
   lost_carried after e [] k g = g
   lost_carried after e (u ∷ us) zero g =
-      one_goes u (gives && u.share.under) refl (ap (λ (z : Fate). is_led u.lived.life.stand && not (is_led (life_behind lens recover retry gives made f z u.lived u.share).life.stand)) (sym e) ∙ g)
+      one_goes [] u (gives && u.share.under) refl (ap (λ (z : Fate). is_led u.lived.life.stand && not (is_led (life_behind lens recover retry gives made f z u.lived u.share).life.stand)) (sym e) ∙ g)
   lost_carried after e (u ∷ us) (suc k) g = lost_carried after e us k g
+
+  pub serving_carried : (after : ℕ) → f.fate ≡ Lost after → (vs : List ServedTurn) (k : ℕ) → goes_down (map run_turn vs) (map run_lead (map (served_behind lens recover retry gives made f) vs)) k ≡ true → holds_at is_carried (map run_turn vs) k ≡ true
+  serving_carried after e [] k g = g
+  serving_carried after e (v ∷ vs) zero g =
+      let u = v.turn in
+      one_goes (news_lost u.lived.spot.station v.kept (seen lens f.sent)) u (gives && u.share.under) refl (ap (λ (z : Fate). is_led u.lived.life.stand && not (is_led (served_life lens recover retry gives made f z v).life.stand)) (sym e) ∙ g)
+  serving_carried after e (v ∷ vs) (suc k) g = serving_carried after e vs k g
 
   -- one that is gone stays so
   gone_unasked : (u : Turn) (ds : List Raw.Datagram) (z : Stand) → u.lived.life.stand ≡ z → is_led z ≡ false → FrameFor lens u.lived.spot z u.share ds → u.share.under ≡ false
@@ -119,9 +139,9 @@ module _ (lens : ℕ → Lens) (recover retry : ℕ) (gives : Bool) (made : ℕ)
   not_given true b e = e
   not_given false b e = refl
 
-  one_gone : (u : Turn) (ds : List Raw.Datagram) → FrameFor lens u.lived.spot u.lived.life.stand u.share ds → is_led u.lived.life.stand ≡ false → is_led (lost_life (gives && u.share.under) u).stand ≡ false
-  one_gone u ds h g =
-      ap (λ (b : Bool). is_led (lost_life b u).stand) (not_given gives u.share.under (gone_unasked u ds u.lived.life.stand refl g h)) ∙ ap is_led (lost_stays u u.lived.life.stand) ∙ g
+  one_gone : (ns : List (News Body)) (u : Turn) (ds : List Raw.Datagram) → FrameFor lens u.lived.spot u.lived.life.stand u.share ds → is_led u.lived.life.stand ≡ false → is_led (lost_life ns (gives && u.share.under) u).stand ≡ false
+  one_gone ns u ds h g =
+      ap (λ (b : Bool). is_led (lost_life ns b u).stand) (not_given gives u.share.under (gone_unasked u ds u.lived.life.stand refl g h)) ∙ ap is_led (lost_stays ns u u.lived.life.stand) ∙ g
 
   pub lost_gone : (after : ℕ) → f.fate ≡ Lost after → (ds : List Raw.Datagram) (as' : List Leads) (us : List Turn) → AllTurn lens made ds as' us → (k : ℕ) → holds_at is_live_turn us k ≡ false →
       holds_at is_live_lead (map (led_behind lens recover retry gives made f) us) k ≡ false
@@ -129,8 +149,18 @@ module _ (lens : ℕ → Lens) (recover retry : ℕ) (gives : Bool) (made : ℕ)
   lost_gone after e ds [] (u ∷ us) t k g = absurd t
   lost_gone after e ds (a ∷ as') [] t k g = absurd t
   lost_gone after e ds (a ∷ as') (u ∷ us) t zero g =
-      ap (λ (z : Fate). is_led (life_behind lens recover retry gives made f z u.lived u.share).life.stand) e ∙ one_gone u ds t.0.asked.has g
+      ap (λ (z : Fate). is_led (life_behind lens recover retry gives made f z u.lived u.share).life.stand) e ∙ one_gone [] u ds t.0.asked.has g
   lost_gone after e ds (a ∷ as') (u ∷ us) t (suc k) g = lost_gone after e ds as' us t.1 k g
+
+  pub serving_gone : (after : ℕ) → f.fate ≡ Lost after → (number : ℕ) (ds : List Raw.Datagram) (ws : List Serves) (vs : List ServedTurn) → AllServedTurn lens number ds ws vs → (k : ℕ) → holds_at is_live_turn (map run_turn vs) k ≡ false →
+      holds_at is_live_lead (map run_lead (map (served_behind lens recover retry gives made f) vs)) k ≡ false
+  serving_gone after e number ds [] [] t k g = refl
+  serving_gone after e number ds [] (v ∷ vs) t k g = absurd t
+  serving_gone after e number ds (w ∷ ws) [] t k g = absurd t
+  serving_gone after e number ds (w ∷ ws) (v ∷ vs) t zero g =
+      let u = v.turn in
+      ap (λ (z : Fate). is_led (served_life lens recover retry gives made f z v).life.stand) e ∙ one_gone (news_lost u.lived.spot.station v.kept (seen lens f.sent)) u ds t.0.asked.has g
+  serving_gone after e number ds (w ∷ ws) (v ∷ vs) t (suc k) g = serving_gone after e number ds ws vs t.1 k g
 
 -- ---- before a frame each is what it was
 pub turn_lives : (lens : ℕ → Lens) (made : ℕ) (ds : List Raw.Datagram) (as' : List Leads) (us : List Turn) → AllTurn lens made ds as' us → (k : ℕ) → holds_at is_live_turn us k ≡ holds_at is_live_lead as' k
@@ -140,3 +170,12 @@ turn_lives lens made ds (a ∷ as') [] t k = absurd t
 turn_lives lens made ds (a ∷ as') (u ∷ us) t zero =
     ap is_led (ap (λ (m : SlaveLife). m.stand) t.0.next.life ∙ next_stand (speech_at lens a.lived.spot) acknowledged is_followed is_passed made a.lived.life t.0.next.pick a.lived.life.stand)
 turn_lives lens made ds (a ∷ as') (u ∷ us) t (suc k) = turn_lives lens made ds as' us t.1 k
+
+pub serving_lives : (lens : ℕ → Lens) (made : ℕ) (ds : List Raw.Datagram) (ws : List Serves) (vs : List ServedTurn) → AllServedTurn lens made ds ws vs → (k : ℕ) → holds_at is_live_turn (map run_turn vs) k ≡ holds_at is_live_lead (map run_lead ws) k
+serving_lives lens made ds [] [] t k = refl
+serving_lives lens made ds [] (v ∷ vs) t k = absurd t
+serving_lives lens made ds (w ∷ ws) [] t k = absurd t
+serving_lives lens made ds (w ∷ ws) (v ∷ vs) t zero =
+    let a = w.lead in
+    ap is_led (ap (λ (m : SlaveLife). m.stand) t.0.next.life ∙ next_stand (speech_at lens a.lived.spot) acknowledged is_followed is_passed made a.lived.life t.0.next.pick a.lived.life.stand)
+serving_lives lens made ds (w ∷ ws) (v ∷ vs) t (suc k) = serving_lives lens made ds ws vs t.1 k

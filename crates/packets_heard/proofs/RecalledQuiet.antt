@@ -1,5 +1,5 @@
 -- Where all slaves rest no packet waits at any port.
-use Rattle.std.proofs.Common.{◌≡◌, ◌≤◌, ℕ, zero, suc, ◌+◌, Bool, true, false, Some, List, [], ◌∷◌, refl, sym, ap, ◌∙◌, subst, arith, if◌then◌else◌, inl, inr}
+use Rattle.std.proofs.Common.{◌≡◌, ◌≤◌, ℕ, zero, suc, ◌+◌, Bool, true, false, Some, List, [], ◌∷◌, map, refl, sym, ap, ◌∙◌, subst, arith, if◌then◌else◌, inl, inr}
 use Rattle.std.specs.Prelude.{replicate, slice_get}
 use Rattle.std.proofs.lemmas.Bool.{cases_order}
 use Rattle.eoe_switch.specs.Switch.{Flow, queue_of, queue_at, switched, first_port, first_switch}
@@ -11,17 +11,23 @@ use Rattle.master_node.specs.Forwards.{forwarded, port_by, waiting_by}
 use Rattle.master_node.specs.Happened.{NoneWaits}
 use Rattle.master_node.specs.Ports.{ports_behind, ports_of}
 use Rattle.master_node.specs.Resting.{AllRest}
+use Rattle.master_node.specs.ServedEager.{AllServedRest}
+use Rattle.master_node.specs.Serving.{run_lead}
 use Rattle.master_node.specs.Shows.{is_led, is_live_lead}
 use Rattle.master_node.specs.declared.lan.Lan.{Lan}
 use Rattle.master_node.specs.of_master_tour.Goes.{holds_at}
+use Rattle.master_node.proofs.Restings.{rest_leads}
+use Rattle.master_node.proofs.Servings.{run_all}
 use Rattle.master_side.specs.Recall.{Recall}
 use Rattle.packets_heard.specs.Listed.{Listed, downs_at}
 use Rattle.packets_heard.proofs.Owns.{own_port}
-use Rattle.packets_heard.proofs.Runs.{run_downs}
+use Rattle.packets_heard.proofs.Runs.{run_downs, serving_downs}
 use Rattle.packets_heard.proofs.Finds.{finds, first_live}
 use Rattle.packets_heard.proofs.Shut.{down_shut, host_empty, host_first, past_behind, past_first, shut_empty}
 use Rattle.packets_heard.specs.Recalled.{IsLanOf}
+use Rattle.packets_heard.specs.Servings.{ServedListed}
 use Rattle.segment_plan.specs.declared.plan.Scenario.{Scenario}
+use Rattle.served_runs.specs.Served.{Serves, IsServedLed, all_serve}
 
 -- at the port of a live slave that rests none waits
 live_none : (lens : ℕ → Lens) (l : Lan) (place : ℕ) (ms : List Recall) (as' : List Leads) (k : ℕ) → AllRest lens l place ms as' → holds_at is_live_lead as' k ≡ true → forwarded l.switch l.ports.items (place + k) ≡ []
@@ -74,3 +80,12 @@ quiet_led plan fs missed leads led es l ms listed is rests =
     none_waits plan leads es l is
     (λ k port e. run_downs (lens_of plan.slaves) plan.recover plan.retry (ports_behind 0 plan.slaves) k port (own_port plan.slaves k port e) led es (first_live plan.services 0 plan.slaves 0 k port e) listed)
     (lens_of plan.slaves) ms rests
+
+-- and of a serving
+pub quiet_served : (plan : Scenario) (fs : List Exchanged) (missed : ℕ) (ws : List Serves) (led : IsServedLed (lens_of plan.slaves) plan.recover plan.retry (all_serve plan.paces (first_leads plan)) fs missed ws) (es : List SwitchEvent) (l : Lan) (ms : List Recall) →
+    ServedListed (ports_behind 0 plan.slaves) led es → IsLanOf plan l es → AllServedRest (lens_of plan.slaves) l 0 ms ws → NoneWaits l.switch
+quiet_served plan fs missed ws led es l ms listed is rests =
+    none_waits plan (map run_lead ws) es l is
+    (λ k port e. serving_downs (lens_of plan.slaves) plan.recover plan.retry (ports_behind 0 plan.slaves) k port (own_port plan.slaves k port e) led es
+    (subst (λ (as' : List Leads). holds_at is_live_lead as' k ≡ true) (sym (run_all plan.paces (first_leads plan))) (first_live plan.services 0 plan.slaves 0 k port e)) listed)
+    (lens_of plan.slaves) ms (rest_leads (lens_of plan.slaves) l 0 ms ws rests)

@@ -10,7 +10,8 @@ use Rattle.master_node.specs.Arrivals.{completed_at}
 use Rattle.master_node.specs.Downs.{goes_down}
 use Rattle.master_node.specs.Happened.{arrivals_at}
 use Rattle.master_node.specs.Serving.{run_lead, run_turn}
-use Rattle.master_node.specs.Shows.{is_live_lead, is_live_turn}
+use Rattle.master_node.specs.Shows.{is_carried, is_live_lead, is_live_turn}
+use Rattle.master_node.proofs.Servings.{leads_same}
 use Rattle.master_tour.specs.Goes.{holds_at}
 use Rattle.master_tour.specs.Made.{is_in}
 use Rattle.packets_heard.specs.Heard.{Joined, joined_in, joined_on, joined_none, mails_by}
@@ -19,7 +20,7 @@ use Rattle.segment_ring.specs.declared.wire.Fate.TheVariants.{Pass, Lost}
 use Rattle.packets_heard.specs.Listed.{downs_at, long_ones, packets_at, unfinished_of, IsOwn, packets_by, listed_behind, Listed, ListedOn}
 use Rattle.packets_heard.specs.Servings.{ServedListed, served_joined}
 use Rattle.served_runs.specs.Served.{Serves, IsServedLed, served_behind}
-use Rattle.packets_heard.proofs.Lives.{pass_lives, lost_carried, lost_gone, turn_lives}
+use Rattle.packets_heard.proofs.Lives.{pass_lives, lost_carried, lost_gone, turn_lives, serving_carried, serving_gone, serving_lives, serving_pass}
 use Rattle.packets_heard.proofs.Ports.{once_if, downs_append, arrivals_append, long_append, making_downs, making_arrivals, downs_bring, arrivals_take, downs_visit, arrivals_visit}
 
 -- how often the port of a slave went down that is live, or isn't
@@ -67,35 +68,46 @@ module _ (lens : ℕ → Lens) (recover retry : ℕ) (ports : List (Option ℕ))
   packets_more f (j ∷ js) (u ∷ us) (suc k) = packets_more f js us k ∙ ap (λ z. packets_at js k ++ z) (more_there f f.fate j js u us k)
 
   module _ (k p : ℕ) (own : IsOwn ports k p) where
-    -- HOW OFTEN A PORT WENT DOWN
+    -- HOW OFTEN A PORT WENT DOWN, with one frame more
+    frame_downs : (before : List SwitchEvent → Type 0) (f : Exchanged) (us : List Turn) (leads : List Leads) (js : List Joined) (es : List SwitchEvent) → (x : ListedOn lens recover retry ports before f us leads js es) → downs_at p x.old ≡ down_if (holds_at is_live_turn us k) →
+        (f.fate ≡ Pass → holds_at is_live_lead leads k ≡ holds_at is_live_turn us k) → ((after : ℕ) → f.fate ≡ Lost after → goes_down us leads k ≡ true → holds_at is_carried us k ≡ true) →
+        ((after : ℕ) → f.fate ≡ Lost after → holds_at is_live_turn us k ≡ false → holds_at is_live_lead leads k ≡ false) → downs_at p es ≡ down_if (holds_at is_live_lead leads k)
+    frame_downs before f us leads js es x old pass carried gone =
+        ap (λ z. downs_at p z) x.whole ∙ downs_append p x.old (x.making ++ behind f.fate) ∙ (λ i. old i + downs_append p x.making (behind f.fate) i)
+        ∙ (λ i. down_if (holds_at is_live_turn us k) + (making_downs p x.making x.only i + downs_at p (behind f.fate))) ∙ by f.fate refl
+      where
+        behind : Fate → List SwitchEvent
+        behind fate = listed_behind lens recover retry ports f fate us leads js x.visit
+
+        by : (fate : Fate) → f.fate ≡ fate → down_if (holds_at is_live_turn us k) + (0 + downs_at p (behind fate)) ≡ down_if (holds_at is_live_lead leads k)
+        by Pass e =
+            let none = arrivals_take ports p (λ q. completed_at (seen lens f.back) us (unfinished_of js) q) x.visit in
+            let same : down_if (holds_at is_live_lead leads k) ≡ down_if (holds_at is_live_turn us k) = ap down_if (pass e) in
+            omega (arith, none, same)
+        by (Lost after) e =
+            ap (λ n. down_if (holds_at is_live_turn us k) + (0 + n)) (downs_visit ports k p own (λ q. goes_down us leads q) x.visit x.carries.once)
+            ∙ count (is_in k x.visit) (holds_at is_live_turn us k) (holds_at is_live_lead leads k) (λ g. x.carries.all k (carried after e g)) (gone after e)
+
+    -- over a run
     pub run_downs : {first : List Leads} {fs : List Exchanged} {missed : ℕ} {as' : List Leads} (led : IsLed lens recover retry first fs missed as') (es : List SwitchEvent) → holds_at is_live_lead first k ≡ true → Listed lens recover retry ports led es →
         downs_at p es ≡ down_if (holds_at is_live_lead as' k)
     run_downs IsLed.start es live x = ap (λ z. downs_at p z) x ∙ ap down_if (sym live)
     run_downs (IsLed.on fs missed as' f us led frame) es live x =
-        ap (λ z. downs_at p z) x.whole ∙ downs_append p x.old (x.making ++ behind f.fate) ∙ (λ i. run_downs led x.old live x.was i + downs_append p x.making (behind f.fate) i)
-        ∙ (λ i. down_if (sym turn i) + (making_downs p x.making x.only i + downs_at p (behind f.fate))) ∙ by f.fate refl
-      where
-        gives : Bool
-        gives = gives_up_at lens recover retry missed
+        let gives = gives_up_at lens recover retry missed in
+        frame_downs (λ old. Listed lens recover retry ports led old) f us (map (led_behind lens recover retry (gives_up_at lens recover retry missed) (length fs) f) us) (joined_in led) es x
+        (run_downs led x.old live x.was ∙ ap down_if (sym (turn_lives lens (length fs) frame.datagrams as' us frame.each k))) (λ e. pass_lives lens recover retry gives (length fs) f e us k)
+        (λ after e g. lost_carried lens recover retry gives (length fs) f after e us k g) (λ after e g. lost_gone lens recover retry gives (length fs) f after e frame.datagrams as' us frame.each k g)
 
-        leads : List Leads
-        leads = map (led_behind lens recover retry gives (length fs) f) us
-
-        behind : Fate → List SwitchEvent
-        behind fate = listed_behind lens recover retry ports f fate us leads (joined_in led) x.visit
-
-        turn : holds_at is_live_turn us k ≡ holds_at is_live_lead as' k
-        turn = turn_lives lens (length fs) frame.datagrams as' us frame.each k
-
-        by : (fate : Fate) → f.fate ≡ fate → down_if (holds_at is_live_turn us k) + (0 + downs_at p (behind fate)) ≡ down_if (holds_at is_live_lead leads k)
-        by Pass e =
-            let none = arrivals_take ports p (λ q. completed_at (seen lens f.back) us (unfinished_of (joined_in led)) q) x.visit in
-            let same : down_if (holds_at is_live_lead leads k) ≡ down_if (holds_at is_live_turn us k) = ap down_if (pass_lives lens recover retry gives (length fs) f e us k) in
-            omega (arith, none, same)
-        by (Lost after) e =
-            ap (λ n. down_if (holds_at is_live_turn us k) + (0 + n)) (downs_visit ports k p own (λ q. goes_down us leads q) x.visit x.carries.once)
-            ∙ count (is_in k x.visit) (holds_at is_live_turn us k) (holds_at is_live_lead leads k) (λ g. x.carries.all k (lost_carried lens recover retry gives (length fs) f after e us k g))
-            (lost_gone lens recover retry gives (length fs) f after e frame.datagrams as' us frame.each k)
+    -- and over a serving
+    pub serving_downs : {first : List Serves} {fs : List Exchanged} {missed : ℕ} {ws : List Serves} (led : IsServedLed lens recover retry first fs missed ws) (es : List SwitchEvent) → holds_at is_live_lead (map run_lead first) k ≡ true → ServedListed ports led es →
+        downs_at p es ≡ down_if (holds_at is_live_lead (map run_lead ws) k)
+    serving_downs IsServedLed.start es live x = ap (λ z. downs_at p z) x ∙ ap down_if (sym live)
+    serving_downs (IsServedLed.asks fs missed ws place key led may) es live x = serving_downs led es live x ∙ ap (λ (as' : List Leads). down_if (holds_at is_live_lead as' k)) (sym (leads_same (λ (a : Leads). a) place key ws))
+    serving_downs (IsServedLed.on fs missed ws f vs led frame) es live x =
+        let gives = gives_up_at lens recover retry missed in
+        frame_downs (λ old. ServedListed ports led old) f (map run_turn vs) (map run_lead (map (served_behind lens recover retry (gives_up_at lens recover retry missed) (length fs) f) vs)) (served_joined led) es x
+        (serving_downs led x.old live x.was ∙ ap down_if (sym (serving_lives lens (length fs) frame.datagrams ws vs frame.each k))) (λ e. serving_pass lens recover retry gives (length fs) f e vs k)
+        (λ after e g. serving_carried lens recover retry gives (length fs) f after e vs k g) (λ after e g. serving_gone lens recover retry gives (length fs) f after e (length fs) frame.datagrams ws vs frame.each k g)
 
     -- WHAT CAME IN THERE, with one frame more
     frame_arrivals : (before : List SwitchEvent → Type 0) (f : Exchanged) (us : List Turn) (leads : List Leads) (js : List Joined) (es : List SwitchEvent) → (x : ListedOn lens recover retry ports before f us leads js es) → arrivals_at p x.old ≡ long_ones (packets_at js k) →

@@ -1,6 +1,6 @@
 -- One frame of a master's, by what it says of that.
 use Rattle.std.proofs.Common.{◌≡◌, ℕ, zero, suc, ◌&&◌, Bool, false, is_some, Option, Some, None, List, [], ◌∷◌, ◌++◌, map, refl, sym, ap, ◌∙◌}
-use Rattle.std.specs.Prelude.{All, slice_get}
+use Rattle.std.specs.Prelude.{All, slice_get, ◌||◌}
 use Rattle.std.proofs.lemmas.List.Elements.{All-head, All-tail, All-cons, All-nil}
 use Rattle.arrayvec.specs.ArrayVec.{ArrayVec}
 use Rattle.eoe.specs.declared.joining.Unfinished.{Unfinished}
@@ -83,10 +83,6 @@ module _ (plan : Scenario) (m0 m1 m2 : MasterNode) (f : Exchanged) (us : List Tu
   )
 
 -- ---- with no state service in hand an open slave has no turn
-by_duty : {D : Type 0} (o : Option D) (turn : Bool) → (o ≡ None) → (is_some o && turn) ≡ false
-by_duty None turn e = refl
-by_duty (Some d) turn e = absurd (cc)
-
 module _ (lens : ℕ → Lens) (recover : ℕ) {G : Ghosts InHand} (a : Leads) (s : Stop InHand G) where
   hand_none : IsLead lens recover a s → a.lived.life.stand ≡ Stand.Open → a.lived.life.era.account.hand ≡ None → in_hand s.side.duty ≡ None
   hand_none lead opened none = by s.stand lead.lives.shown.stood
@@ -101,7 +97,7 @@ module _ (lens : ℕ → Lens) (recover : ℕ) {G : Ghosts InHand} (a : Leads) (
       by Stops.Stand.Gone x = absurd (let no : Stand.Gone ≡ Stand.Open = sym x ∙ opened in cc)
 
   still_one : IsLead lens recover a s → a.lived.life.stand ≡ Stand.Open → a.lived.life.era.account.hand ≡ None → (recall_of s).turn ≡ false
-  still_one lead opened none = by_duty (in_hand s.side.duty) s.side.turn (hand_none lead opened none)
+  still_one lead opened none = λ i. (is_some (hand_none lead opened none i) || is_some (lead.unpassed i)) && s.side.turn
 
 all_still : (lens : ℕ → Lens) (recover : ℕ) {G : Ghosts InHand} (as' : List Leads) (ss : List (Stop InHand G)) → AllBoth (λ a s. IsLead lens recover a s) as' ss → AllStill (map (λ s. recall_of s) ss) as'
 all_still lens recover [] [] k = tt

@@ -3,6 +3,7 @@ pub mod Listed
 pub mod Numbers
 pub mod Over
 pub mod Recalled
+pub mod ServedRecalled
 pub mod Servings
 pub mod Toured
 pub mod Served

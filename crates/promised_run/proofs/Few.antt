@@ -40,16 +40,16 @@ use Rattle.run_book.specs.of_slave_steps.Node.{Node}
 use Rattle.promised_run.specs.Few.{IsLost, AreFewLost, NoneGivenUp, OutlivesLosses}
 
 -- these frames, from this number on, have the fates of the schedule
-abbrev AreFated : List (ℕ × ℕ) → ℕ → List Exchanged → Type 0
+abbrev pub AreFated : List (ℕ × ℕ) → ℕ → List Exchanged → Type 0
 AreFated lose number [] = ⊤
 AreFated lose number (f ∷ fs) = (f.fate ≡ fate_at lose number) × AreFated lose (suc number) fs
 
 -- none of these slaves was given up
-abbrev NoneGave : List Leads → Type 0
+abbrev pub NoneGave : List Leads → Type 0
 NoneGave [] = ⊤
 NoneGave (a ∷ as') = (a.lived.life.gave ≡ []) × NoneGave as'
 
-abbrev LifeOf : Type 0
+abbrev pub LifeOf : Type 0
 LifeOf = Life Body Asked Reply
 
 -- WHAT LEAVES A LIFE'S GIVE-UPS: what comes into hand, a return, and a loss by which none is given up
@@ -77,18 +77,18 @@ module _ (frame : ℕ) (l : LifeOf) where
       go (Stage.Goes phase) = by (returns_to_init duty.target)
 
   module _ (x : Speech Body Asked Reply) where
-    next_gave : (pick : Pick Asked) (stand : Stand) → (life_next x acknowledged is_followed is_passed frame l stand pick).gave ≡ l.gave
+    pub next_gave : (pick : Pick Asked) (stand : Stand) → (life_next x acknowledged is_followed is_passed frame l stand pick).gave ≡ l.gave
     next_gave pick (Stand.Opens o) = refl
     next_gave pick Stand.Open = refl
     next_gave pick Stand.Gone = refl
 
-    back_gave : (spot : Spot) (news : List (News Body)) (back : List (Datagram Body)) (came : Option (Bool × Option Found)) (stand : Stand) → (life_back x acknowledged is_followed is_passed frame spot news back came l stand).gave ≡ l.gave
+    pub back_gave : (spot : Spot) (news : List (News Body)) (back : List (Datagram Body)) (came : Option (Bool × Option Found)) (stand : Stand) → (life_back x acknowledged is_followed is_passed frame spot news back came l stand).gave ≡ l.gave
     back_gave spot news back None (Stand.Opens o) = refl
     back_gave spot news back (Some came) (Stand.Opens o) = opening_gave o came.0 came.1
     back_gave spot news back came Stand.Open = let era = era_back x acknowledged is_followed is_passed spot.station frame news back l.era in reopens_gave (record l { era = era }) era.account.hand
     back_gave spot news back came Stand.Gone = refl
 
-    lost_gave : (spot : Spot) (news : List (News Body)) (sent : List (Datagram Body)) (stand : Stand) → (life_lost x acknowledged is_followed is_passed spot news sent l stand).gave ≡ l.gave
+    pub lost_gave : (spot : Spot) (news : List (News Body)) (sent : List (Datagram Body)) (stand : Stand) → (life_lost x acknowledged is_followed is_passed spot news sent l stand).gave ≡ l.gave
     lost_gave spot news sent (Stand.Opens o) = refl
     lost_gave spot news sent Stand.Open = refl
     lost_gave spot news sent Stand.Gone = refl
@@ -118,18 +118,18 @@ module _ (lens : ℕ → Lens) (recover retry made : ℕ) where
   behind gives f (u ∷ us) few n = (one_behind gives f f.fate u few ∙ n.0, behind gives f us few n.1)
 
 -- THE FATES of frames, one behind the other
-fated_split : (lose : List (ℕ × ℕ)) (number : ℕ) (fs : List Exchanged) (f : Exchanged) → AreFated lose number (fs ++ f ∷ []) → AreFated lose number fs × (f.fate ≡ fate_at lose (number + length fs))
+pub fated_split : (lose : List (ℕ × ℕ)) (number : ℕ) (fs : List Exchanged) (f : Exchanged) → AreFated lose number (fs ++ f ∷ []) → AreFated lose number fs × (f.fate ≡ fate_at lose (number + length fs))
 fated_split lose number [] f h = (tt, subst (λ (n : ℕ). f.fate ≡ fate_at lose n) (omega arith) h.0)
 fated_split lose number (g ∷ fs) f h =
     let rest = fated_split lose (suc number) fs f h.1 in
     ((h.0, rest.0), subst (λ (n : ℕ). f.fate ≡ fate_at lose n) (omega arith) rest.1)
 
 -- A RUN SO FAR: no slave was given up, and so many frames in a row were lost last
-record Stands (lose : List (ℕ × ℕ)) (count missed : ℕ) (as' : List Leads) : Type 0 where
-  none : NoneGave as'
-  first : ℕ
-  whole : first + missed ≡ count
-  lost : (k : ℕ) → k < missed → IsLost (fate_at lose (first + k))
+pub record Stands (lose : List (ℕ × ℕ)) (count missed : ℕ) (as' : List Leads) : Type 0 where
+  pub none : NoneGave as'
+  pub first : ℕ
+  pub whole : first + missed ≡ count
+  pub lost : (k : ℕ) → k < missed → IsLost (fate_at lose (first + k))
 
 module _ (lens : ℕ → Lens) (recover retry : ℕ) (lose : List (ℕ × ℕ)) (few : AreFewLost lose retry) where
   -- with this frame, which is lost too
@@ -144,28 +144,20 @@ module _ (lens : ℕ → Lens) (recover retry : ℕ) (lose : List (ℕ × ℕ)) 
   not_last : (first missed : ℕ) → ((k : ℕ) → k < suc missed → IsLost (fate_at lose (first + k))) → retry ≤ missed → ⊥
   not_last first missed all most = few (first + (missed - retry)) (λ k le. subst (λ (n : ℕ). IsLost (fate_at lose n)) (omega (arith, most)) (all (missed - retry + k) (omega (arith, most, le))))
 
-  stands : (leads : List Leads) (fs : List Exchanged) (missed : ℕ) (as' : List Leads) → IsLed lens recover retry leads fs missed as' → NoneGave leads → AreFated lose 0 fs → Stands lose (length fs) missed as'
-  stands leads [] _ _ IsLed.start none fated = record { none = none; first = 0; whole = refl; lost = λ k less. absurd (omega (arith, less)) }
-  stands leads _ _ _ (IsLed.on fs missed as' f us led frame) none fated =
-      let split = fated_split lose 0 fs f fated in
-      let h = stands leads fs missed as' led none split.0 in
-      let us_none = turned lens recover retry (length fs) frame.datagrams as' us frame.each h.none in
-      by f.fate refl split.1 h us_none
+  -- ONE FRAME MORE, by which none of these is given up where it isn't lost or may be
+  pub stands_on :
+      (fs : List Exchanged) (f : Exchanged) (missed : ℕ) (as' later : List Leads) → f.fate ≡ fate_at lose (0 + length fs) → Stands lose (length fs) missed as' → ((IsLost f.fate → gives_up_at lens recover retry missed ≡ false) → NoneGave later)
+      → Stands lose (length (fs ++ f ∷ [])) (missed_behind lens recover retry f.fate missed) later
+  stands_on fs f missed as' later at h none = by f.fate refl
     where
-      gives : Bool
-      gives = gives_up_at lens recover retry missed
-
-      later : List Leads
-      later = map (led_behind lens recover retry gives (length fs) f) us
-
-      by : (fate : Fate) → f.fate ≡ fate → f.fate ≡ fate_at lose (0 + length fs) → Stands lose (length fs) missed as' → NoneTurned lens recover retry (length fs) us → Stands lose (length (fs ++ f ∷ [])) (missed_behind lens recover retry f.fate missed) later
-      by Pass e at h n = subst (λ (fate : Fate). Stands lose (length (fs ++ f ∷ [])) (missed_behind lens recover retry fate missed) later) (sym e) (record {
-        none = behind lens recover retry (length fs) gives f us (λ is. absurd (subst (λ (fate : Fate). IsLost fate) e is)) n;
+      by : (fate : Fate) → f.fate ≡ fate → Stands lose (length (fs ++ f ∷ [])) (missed_behind lens recover retry f.fate missed) later
+      by Pass e = subst (λ (fate : Fate). Stands lose (length (fs ++ f ∷ [])) (missed_behind lens recover retry fate missed) later) (sym e) (record {
+        none = none (λ is. absurd (subst (λ (fate : Fate). IsLost fate) e is));
         first = length (fs ++ f ∷ []);
         whole = omega arith;
         lost = λ k less. absurd (omega (arith, less));
       })
-      by (Lost after) e at h n = subst (λ (fate : Fate). Stands lose (length (fs ++ f ∷ [])) (missed_behind lens recover retry fate missed) later) (sym e) (go (nat_lt missed retry) refl)
+      by (Lost after) e = subst (λ (fate : Fate). Stands lose (length (fs ++ f ∷ [])) (missed_behind lens recover retry fate missed) later) (sym e) (go (nat_lt missed retry) refl)
         where
           zero_plus : 0 + length fs ≡ length fs
           zero_plus = omega arith
@@ -179,14 +171,22 @@ module _ (lens : ℕ → Lens) (recover retry : ℕ) (lose : List (ℕ × ℕ)) 
           go : (b : Bool) → nat_lt missed retry ≡ b → Stands lose (length (fs ++ f ∷ [])) (if nat_lt missed retry then missed + 1 else 0) later
           go false le = absurd (not_last h.first missed all (ltb-false missed retry le))
           go true lt = subst (λ (b : Bool). Stands lose (length (fs ++ f ∷ [])) (if b then missed + 1 else 0) later) (sym lt) (record {
-            none = behind lens recover retry (length fs) gives f us (λ is. ap not lt) n;
+            none = none (λ is. ap not lt);
             first = h.first;
             whole = (let k = h.whole in let many = length-append fs (f ∷ []) in omega (arith, k, many));
             lost = λ k less. all k (omega (arith, less));
           })
 
+  stands : (leads : List Leads) (fs : List Exchanged) (missed : ℕ) (as' : List Leads) → IsLed lens recover retry leads fs missed as' → NoneGave leads → AreFated lose 0 fs → Stands lose (length fs) missed as'
+  stands leads [] _ _ IsLed.start none fated = record { none = none; first = 0; whole = refl; lost = λ k less. absurd (omega (arith, less)) }
+  stands leads _ _ _ (IsLed.on fs missed as' f us led frame) none fated =
+      let split = fated_split lose 0 fs f fated in
+      let h = stands leads fs missed as' led none split.0 in
+      let us_none = turned lens recover retry (length fs) frame.datagrams as' us frame.each h.none in
+      stands_on fs f missed as' (map (led_behind lens recover retry (gives_up_at lens recover retry missed) (length fs) f) us) split.1 h (λ seldom. behind lens recover retry (length fs) (gives_up_at lens recover retry missed) f us seldom us_none)
+
 -- before the first frame
-none_first : (rows : List (ℕ × Plan.Service)) (place : ℕ) (ss : List SlaveSpec) → NoneGave (leads_from rows place ss)
+pub none_first : (rows : List (ℕ × Plan.Service)) (place : ℕ) (ss : List SlaveSpec) → NoneGave (leads_from rows place ss)
 none_first rows place [] = tt
 none_first rows place (s ∷ ss) = (refl, none_first rows (suc place) ss)
 
@@ -195,7 +195,7 @@ none_gave : (plan : Scenario) (lens : ℕ → Lens) (fs : List Exchanged) (misse
 none_gave plan lens fs missed as' led fated few = (stands lens plan.recover plan.retry plan.lose few (first_leads plan) fs missed as' led (none_first plan.services 0 plan.slaves) fated).none
 
 -- ITS BOOK: the frames have the fates of the schedule
-recorded_fates : (ring : RingState (Node SlaveServer)) (fs : List SentFrame) → AreRecorded ring fs → AreFated ring.lose ring.number (map exchanged fs)
+pub recorded_fates : (ring : RingState (Node SlaveServer)) (fs : List SentFrame) → AreRecorded ring fs → AreFated ring.lose ring.number (map exchanged fs)
 recorded_fates ring [] r = tt
 recorded_fates ring (f ∷ fs) r = (r.0.fate, recorded_fates (ring_next ring f.sent) fs r.1)
 
@@ -209,7 +209,7 @@ rows_none (a ∷ as') (row ∷ rows) e n =
     let rest : gaves_in rows ≡ map gave_of as' = cc in
     (here ∙ n.0, rows_none as' rows rest n.1)
 
-none_any : (rows : List SlaveBook) → NoneGivenUp rows → some_given_up rows ≡ false
+pub none_any : (rows : List SlaveBook) → NoneGivenUp rows → some_given_up rows ≡ false
 none_any [] n = refl
 none_any (row ∷ rows) n = ap (λ (g : List ℕ). nat_lt 0 (length g) || some_given_up rows) n.0 ∙ none_any rows n.1
 

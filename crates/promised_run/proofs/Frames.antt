@@ -37,7 +37,7 @@ use Rattle.promised_run.proofs.Rests.{at_port}
 use Rattle.promised_run.proofs.Scripts.{AllMay, MayAll, none_left}
 use Rattle.promised_run.proofs.Unpassed.{TurnsUnpassed}
 
-none_is : (q : List (ArrayVec ℕ)) → q ≡ [] → is_waiting q ≡ false
+pub none_is : (q : List (ArrayVec ℕ)) → q ≡ [] → is_waiting q ≡ false
 none_is q e = ap is_waiting e
 
 module _ (plan : Scenario) where
@@ -132,7 +132,7 @@ module _ (plan : Scenario) where
   all_known back (u ∷ us) (m ∷ ms) (n ∷ ns) r k d = (r.0.known k.0 d.0, all_known back us ms ns r.1 k.1 d.1)
 
   -- a lost frame brought none
-  lost_due : (us : List Turn) → AllDue (lens_of plan.slaves) [] us
+  pub lost_due : (us : List Turn) → AllDue (lens_of plan.slaves) [] us
   lost_due [] = tt
   lost_due (u ∷ us) = (
     (λ stands. subst (λ (z : Stand). EachDue (speech_at lens u.lived.spot) u.lived.life.era.side.now (accepted_at u.lived.spot.station u.lived.life.era.side.halves [] z)) (sym stands) tt),
@@ -143,7 +143,7 @@ module _ (plan : Scenario) where
   lost_known us ms ns r k = all_known [] us ms ns r k (lost_due us)
 
   -- ---- packets
-  gets_one : (old new : List (ArrayVec ℕ)) → (old ≡ [] → new ≡ []) → is_waiting new ≡ true → is_waiting old ≡ true
+  pub gets_one : (old new : List (ArrayVec ℕ)) → (old ≡ [] → new ≡ []) → is_waiting new ≡ true → is_waiting old ≡ true
   gets_one [] new none some = absurd (let no : false ≡ true = sym (ap is_waiting (none refl)) ∙ some in cc)
   gets_one (p ∷ old) new none some = refl
 

@@ -1,36 +1,44 @@
 pub mod Ahead
 mod Asked
+mod AskedKinds
 pub mod Asks
-mod BoundPorts
+pub mod BoundPorts
 mod Bounded
-mod Counts
+pub mod Counts
+mod EagerFrames
+mod EagerMaps
+mod EagerRests
+mod EagerScripts
+mod EagerWalk
 mod Emergencies
 mod Epochs
-mod Few
+pub mod Few
 mod First
-mod Frames
-mod AskedKinds
-mod Maps
+pub mod Frames
+pub mod Maps
 pub mod News
 mod Numbers
 mod Overs
 pub mod Places
 mod Ports
 mod Quiet
-mod Recalled
+mod Ranks
+pub mod Recalled
 mod Reported
-mod Rests
-mod Rounds
+pub mod Rests
+pub mod Rounds
 mod Rows
-mod Scripts
-mod Settled
+pub mod Scripts
+pub mod ServedBounded
+mod ServedUncut
+pub mod Settled
 pub mod Through
 mod TouredAhead
 pub mod TouredTours
 pub mod Tours
 mod Uncut
 mod Unopened
-mod Unpassed
+pub mod Unpassed
 mod Unsent
 mod Visits
 mod Walk

@@ -31,12 +31,12 @@ pub memory_same : (old new : Life Body Asked Reply) (m : Recall) → (old.era.ac
 memory_same old new m still = next_same old.era.account.hand new.era.account.hand (memory m) still
 
 -- ---- what its datagram asks
-visit_asks : (h : Halves Body) (v : Visit) (d : Datagram Body) → Master.AsksVisit h v d → Eager.AsksVisit h v d
+pub visit_asks : (h : Halves Body) (v : Visit) (d : Datagram Body) → Master.AsksVisit h v d → Eager.AsksVisit h v d
 visit_asks h Visit.Write d a = a
 visit_asks h Visit.Read d a = a
 visit_asks h Visit.Full d a = a
 
-stage_asks : (h : Halves Body) (m : Recall) (duty : Duty) (stage : Stage) (d : Datagram Body) → duty.stage ≡ stage → Master.AsksSo (Some duty) h (Master.stage_visit stage m) d → Eager.AsksStage h (memory m) duty.target stage d
+pub stage_asks : (h : Halves Body) (m : Recall) (duty : Duty) (stage : Stage) (d : Datagram Body) → duty.stage ≡ stage → Master.AsksSo (Some duty) h (Master.stage_visit stage m) d → Eager.AsksStage h (memory m) duty.target stage d
 stage_asks h m duty Stage.Drains d e a = visit_asks h (drain_visit m.turn) d a
 stage_asks h m duty (Stage.Goes phase) d e a = a phase e
 
@@ -50,7 +50,7 @@ each_asks h m hand p [] e a = tt
 each_asks h m hand p (d ∷ ds) e a = (one_asks h m hand p d e a.0, each_asks h m hand p ds e a.1)
 
 -- ---- its visit
-stage_visit_is : (m : Recall) (duty : Duty) (p : Option Passing) (holding : Bool) → duty.stage ≡ Stage.Drains → Master.stage_visit duty.stage m ≡ Some (visit_for (Some duty) p (memory m) holding)
+pub stage_visit_is : (m : Recall) (duty : Duty) (p : Option Passing) (holding : Bool) → duty.stage ≡ Stage.Drains → Master.stage_visit duty.stage m ≡ Some (visit_for (Some duty) p (memory m) holding)
 stage_visit_is m duty p holding e = ap (λ s. Master.stage_visit s m) e
 
 pub visit_is : (m : Recall) (hand : Option Duty) (p : Option Passing) (holding : Bool) → p ≡ None → IsDraining hand → next_visit hand m holding ≡ Some (visit_for hand p (memory m) holding)

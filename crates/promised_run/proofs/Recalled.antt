@@ -30,7 +30,7 @@ use Rattle.slave_steps.specs.Node.{Node}
 use Rattle.packets_heard.specs.Toured.{IsToured}
 
 -- its frames went round the ring
-all_round : (ring : RingState (Node Serving)) (fs : List SentFrame) → AreRecorded ring fs → AllRound ring (map exchanged fs)
+pub all_round : (ring : RingState (Node Serving)) (fs : List SentFrame) → AreRecorded ring fs → AllRound ring (map exchanged fs)
 all_round ring [] r = tt
 all_round ring (f ∷ fs) r = (record { fate = r.0.fate; back = r.0.back }, all_round (behind ring f.sent) fs r.1)
 

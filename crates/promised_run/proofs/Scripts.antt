@@ -22,7 +22,7 @@ AllMay lens [] = ⊤
 AllMay lens (a ∷ as') = MayAll lens a × AllMay lens as'
 
 -- the length of a mailbox at its station
-lens_at : (lens : ℕ → Lens) (ss : List SlaveSpec) → HaveLens lens ss → (k : ℕ) (s : SlaveSpec) → slice_get ss k ≡ Some s → (lens s.station).out ≡ s.out_len
+pub lens_at : (lens : ℕ → Lens) (ss : List SlaveSpec) → HaveLens lens ss → (k : ℕ) (s : SlaveSpec) → slice_get ss k ≡ Some s → (lens s.station).out ≡ s.out_len
 lens_at lens [] h k s e = absurd (let no : None ≡ Some s = e in cc)
 lens_at lens (t ∷ ss) h zero s e = let same : t ≡ s = (let both : Some t ≡ Some s = e in cc) in subst (λ (z : SlaveSpec). (lens z.station).out ≡ z.out_len) same h.0.0
 lens_at lens (t ∷ ss) h (suc k) s e = lens_at lens ss h.1 k s e

@@ -38,7 +38,7 @@ none_in room Plan.Service.GetIp = refl
 none_in room (Plan.Service.State target) = refl
 none_in room (Plan.Service.Forward packet) = refl
 
-comes_own : (room : ℕ) (script : List Plan.Service) (n m : ℕ) (b : Option (Service Asked)) → Comes room script n b m → (q : Asked) → b ≡ Some (Service.Mails q) → is_passed q ≡ false
+pub comes_own : (room : ℕ) (script : List Plan.Service) (n m : ℕ) (b : Option (Service Asked)) → Comes room script n b m → (q : Asked) → b ≡ Some (Service.Mails q) → is_passed q ≡ false
 comes_own room script n m _ Comes.none q e = absurd (cc)
 comes_own room script n m _ (Comes.mails s p at asked) q e = (let same : p ≡ q = cc in ap is_passed (sym same) ∙ ap passed_in (sym asked) ∙ none_in room s)
 comes_own room script n m _ (Comes.state target at) q e = absurd (cc)

@@ -1,6 +1,7 @@
 pub use Rattle.run_record.specs.Ran
 pub use Rattle.run_record.specs.Session
 pub mod Bounded
+pub mod Eager
 pub mod Emergencies
 pub mod Epochs
 pub mod Few
@@ -10,6 +11,7 @@ pub mod Ports
 pub mod Promised
 pub mod Reported
 pub mod Runs
+pub mod ServedBounded
 pub mod Through
 pub mod TouredTours
 pub mod Tours

@@ -13,9 +13,11 @@ pub mod bound_premises;
 pub mod bounded_runs;
 pub mod bounded_servings;
 pub mod eager_runs;
+pub mod eager_servings;
 pub mod promised_serving;
 pub mod served_books;
 pub mod toured_servings;
+pub mod uncut_servings;
 
 use crate::bounded_runs::uncut_law;
 use life_runs::epochs_law;

@@ -7,9 +7,12 @@ ghost use Rattle.run_book.specs.Book.{IsNew};
 ghost use Rattle.run_record.specs.Ran.{HasSent};
 ghost use Rattle.gateway_run.specs.Serving.{told};
 ghost use Rattle.gateway_run.specs.Served.{IsServed};
+ghost use Rattle.promised_run.specs.ServedBounded.{IsServedBounded};
 ghost use Rattle.promised_run.specs.Through.{IsServedThrough, IsServedWhole};
 
+use crate::uncut_servings::uncut_law;
 use ec_outside::Port;
+use plan_ring::plan_rooms::room_law;
 use run_book::{Book, Ending};
 use segment_plan::Scenario;
 use served_rings::served_replies::served_replies_law;
@@ -19,7 +22,8 @@ use std::alloc::Global;
 /// Serves a plan that was read, as `gateway_run` does. At each moment, whatever frames are lost, each slave has carried out in each epoch just the first of the
 /// rows that came into hand of it, a request's mail by the one step that its application takes for it; and the replies that were heard for the mail in hand are the
 /// first of that step's, in order, and all of them where it is over. What is told of it are the first of those that were heard, and behind the frame by which it is
-/// over all of them.
+/// over all of them. A budget of as many frames as the bound for so many datagrams never cuts it off, where none of
+/// them asks for a download to 2F01:01; and where no more frames in a row are lost than the retry limit, no slave is given up and it ends as done.
 pub fn serve<P: Port>(
     alloc: Global,
     plan: &Scenario,
@@ -35,10 +39,13 @@ pub fn serve<P: Port>(
     ensures served { IsServed plan.now count (told P.heard P.sent P.over P.port_faults port.old) (told P.heard P.sent P.over P.port_faults port.new) book.new result }
     ensures through { IsServedThrough plan.now book.new }
     ensures whole { IsServedWhole plan.now book.new }
+    ensures bounded { IsServedBounded plan.now count book.new }
     ensures ending { book.new.ending ≡ result }
 {
     served_replies_law();
     asked_law();
     told_law();
+    room_law();
+    uncut_law();
     gateway_run::serve(alloc, plan, count, port, book)
 }

@@ -1,6 +1,5 @@
 -- What comes in of slaves and which of their ports go down, over one frame, as the events of a book's switch have it.
 use Rattle.std.proofs.Common.{◌≡◌, ℕ, suc, ◌++◌, Option, List, [], ◌∷◌, map, length, refl, sym, ap, subst, ◌∙◌}
-use Rattle.std.specs.Prelude.{All}
 use Rattle.arrayvec.specs.ArrayVec.{ArrayVec}
 use Rattle.eoe_switch.specs.Switch.{Switched, switched}
 use Rattle.eoe_switch.specs.declared.switching.SwitchEvent.{SwitchEvent}
@@ -18,7 +17,7 @@ use Rattle.master_node.specs.of_master_tour.declared.stop.Stop.{Stop}
 use Rattle.master_node.specs.of_segment_model.Returned.{Returns}
 use Rattle.master_node.specs.Arrivals.{completed_at, ComeIn}
 use Rattle.master_node.specs.Begins.{PacketsBegin}
-use Rattle.master_node.specs.Downs.{GoDown, goes_down}
+use Rattle.master_node.specs.Downs.{GoDown}
 use Rattle.master_node.specs.Happened.{events_of}
 use Rattle.master_node.specs.Joined.{IsUnfinished, HasUnfinished, JoinsKept, stand_before, stand_under, unfinished_after}
 use Rattle.master_node.specs.Made.{AreOfMaking}
@@ -28,22 +27,20 @@ use Rattle.master_node.specs.Shows.{MasterUnder, is_live_lead}
 use Rattle.master_node.specs.Toured.{tour_of, turn_share}
 use Rattle.master_node.specs.declared.node.MasterNode.{MasterNode}
 use Rattle.packets_heard.proofs.Numbers.{numbered_on}
-use Rattle.packets_heard.proofs.PacketsRuns.{begun_on, none_behind}
 use Rattle.packets_heard.specs.Numbers.{each_with}
-use Rattle.packets_heard.specs.Over.{IsNoBegun}
-use Rattle.packets_heard.proofs.Carries.{carries_all, listed_on, turns_asked}
+use Rattle.packets_heard.proofs.Carries.{carries_all, turns_asked}
 use Rattle.packets_heard.proofs.Unfinished.{under_way, joined_so}
 use Rattle.packets_heard.specs.Listed.{CarriesAll, packets_by, unfinished_of}
 use Rattle.packets_heard.specs.Heard.{Joined, joined_in, mails_by}
 use Rattle.segment_plan.specs.declared.plan.Scenario.{Scenario}
-use Rattle.segment_ring.specs.declared.wire.Fate.{Fate}
 use Rattle.segment_ring.specs.declared.wire.Fate.TheVariants as Fates
 use Rattle.run_record.specs.Forwarded.{IsForwarded}
+use Rattle.run_record.proofs.FrameLists.{FrameLists, frame_begins, frame_lists, none_begins, ports_stay}
 use Rattle.run_record.specs.Led.{LeadTo, ListsAll, BeginsAll, NumbersAll}
 use Rattle.packets_heard.specs.Toured.{lives_behind}
 
 -- as many slaves
-as_many : {G : Ghosts InHand} (us : List Turn) (js : List Joined) (ss : List (Stop InHand G)) → AllThree (λ l j s. IsUnfinished l s.side.hand.found.join j) (map stand_under us) (unfinished_of js) ss → length js ≡ length us
+pub as_many : {G : Ghosts InHand} (us : List Turn) (js : List Joined) (ss : List (Stop InHand G)) → AllThree (λ l j s. IsUnfinished l s.side.hand.found.join j) (map stand_under us) (unfinished_of js) ss → length js ≡ length us
 as_many [] [] ss h = refl
 as_many [] (j ∷ js) [] h = absurd h
 as_many [] (j ∷ js) (s ∷ ss) h = absurd h
@@ -82,34 +79,31 @@ module _ (plan : Scenario) (fs : List Exchanged) (missed : ℕ) (as' : List Lead
         carries_all lens plan.recover plan.retry ports f us frame.datagrams frame.frame (turns_asked lens (length fs) frame.datagrams as' us frame.each) (λ k. holds_at is_live_lead as' k) (frame_size f.sent) (λ k. area_at lens as' k) (tour_of m0)
         (length (seen lens f.sent)) m1.tour.visit.items visits under.goes.comes.once back (joined_in lives)
 
+    lists : FrameLists plan f us behind (joined_in lives) m1 m2
+    lists = record { ports = same; making = making.1; arrives = λ pass. arrivals pass half; downs = downs; carries = carries }
+
     listed : ListsAll plan (IsLed.on fs missed as' f us lives frame) es'
     listed =
         subst (λ (z : List SwitchEvent). ListsAll plan (IsLed.on fs missed as' f us lives frame) z) (sym grown)
-        (listed_on lens plan.recover plan.retry ports (λ old. ListsAll plan lives old) f us behind (joined_in lives) m1 m2 same making.1 (λ pass. arrivals pass half) downs carries es w.listed)
+        (frame_lists plan f us behind (joined_in lives) m1 m2 lists (λ old. ListsAll plan lives old) es w.listed)
 
     begins_so : PacketsBegin (switched (ports_of plan.slaves) es).switch us m1.lan
     begins_so = subst (λ (s : Switched). PacketsBegin s us m1.lan) (sym stood) begins
 
-    none_so : All IsNoBegun (events_of m2.lan.happened)
-    none_so = none_behind m1.lan.ports.items (λ k. completed_at (seen lens f.back) us (unfinished_of (joined_in lives)) k) (goes_down us behind) m1.tour.visit.items (events_of m2.lan.happened) f.fate (λ e. (arrivals e half).events) (λ after e. (downs after e).events)
-
     begun : BeginsAll plan (IsLed.on fs missed as' f us lives frame) es'
     begun =
         subst (λ (z : List SwitchEvent). BeginsAll plan (IsLed.on fs missed as' f us lives frame) z) (sym grown)
-        (begun_on (λ old. BeginsAll plan lives old) ports (ports_of plan.slaves) us m1.lan m2.lan es (events_of m2.lan.happened) w.begun same begins_so stands none_so)
+        (frame_begins plan f us behind (joined_in lives) m1 m2 lists (λ old. BeginsAll plan lives old) es w.begun begins_so stands)
 
     numbered : NumbersAll plan (IsLed.on fs missed as' f us lives frame) es' ns'
     numbered =
         subst (λ (z : List SwitchEvent). NumbersAll plan (IsLed.on fs missed as' f us lives frame) z ns') (sym grown)
-        (numbered_on ports (ports_of plan.slaves) lives f us frame m1.lan m2.lan es (events_of m2.lan.happened) ns ns' w.listed w.begun w.numbered same making.1 begins_so stands none_so counted)
-
-    kept : (fate : Fate) → f.fate ≡ fate → m2.lan.ports ≡ m1.lan.ports
-    kept Fates.Pass e = (arrivals e half).ports
-    kept (Fates.Lost after) e = (downs after e).ports
+        (numbered_on ports (ports_of plan.slaves) lives f us frame m1.lan m2.lan es (events_of m2.lan.happened) ns ns' w.listed w.begun w.numbered same making.1 begins_so stands
+        (none_begins plan f us behind (joined_in lives) m1 m2 lists) counted)
 
     pub forwarded_on : IsForwarded plan m2 (IsLed.on fs missed as' f us lives frame) es' ns'
     forwarded_on = record {
-      ports = ap (λ (p : ArrayVec (Option ℕ)). p.items) (kept f.fate refl) ∙ same;
+      ports = ports_stay plan f us behind (joined_in lives) m1 m2 lists;
       unfinished = subst (λ z. HasUnfinished m2 (map stand_before behind) z) (sym (joined_so lens f (joined_in lives) us (as_many us (joined_in lives) m1.tour.stops.items half))) (joined half);
       listed = listed;
       begun = begun;

@@ -123,7 +123,7 @@ begins plan m notes shown first tour = record {
 }
 
 -- and nothing happened at its switch
-none_unfinished : (services : List (ℕ × Plan.Service)) (place : ℕ) (ss : List SlaveSpec) → unfinished_of (joined_none (leads_from services place ss)) ≡ map (λ spec. None) ss
+pub none_unfinished : (services : List (ℕ × Plan.Service)) (place : ℕ) (ss : List SlaveSpec) → unfinished_of (joined_none (leads_from services place ss)) ≡ map (λ spec. None) ss
 none_unfinished services place [] = refl
 none_unfinished services place (s ∷ ss) = ap (λ z. None ∷ z) (none_unfinished services (suc place) ss)
 

@@ -7,6 +7,7 @@ pub mod Began
 pub mod Budgets
 pub mod Ends
 pub mod Fits
+pub mod FrameLists
 pub mod Forwards
 pub mod Gones
 pub mod Heads
@@ -19,7 +20,9 @@ pub mod Plans
 pub mod Recalling
 pub mod Replays
 pub mod Rows
+pub mod ServedForwards
 pub mod ServedGaves
+pub mod ServedRecalls
 pub mod ServedTold
 pub mod Servings
 pub mod Steps

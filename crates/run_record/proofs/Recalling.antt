@@ -29,7 +29,7 @@ use Rattle.segment_ring.specs.Ring.{RingState}
 use Rattle.slave_node.specs.of_slave_steps.Node.{Node}
 use Rattle.slave_server.specs.declared.server.SlaveServer.{SlaveServer}
 
-first_enters : (rows : List Happening) → EntersFirst rows → has_entered (events_of rows) ≡ true
+pub first_enters : (rows : List Happening) → EntersFirst rows → has_entered (events_of rows) ≡ true
 first_enters rows k = ap (λ z. has_entered (events_of z)) k.is
 
 -- where all rest, and not all is done, a packet of the host comes in

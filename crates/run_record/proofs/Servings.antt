@@ -1,5 +1,5 @@
 -- A serving goes on, frame by frame and mail by mail, as its master leads it.
-use Rattle.std.proofs.Common.{◌≡◌, ◌≢◌, ◌<◌, ◌^◌, ℕ, zero, suc, Bool, true, false, List, [], ◌∷◌, ◌++◌, length, length-append, map, refl, sym, ap, ◌∙◌, subst, arith}
+use Rattle.std.proofs.Common.{◌≡◌, ◌≢◌, ◌<◌, ◌^◌, ℕ, zero, suc, Bool, true, false, None, List, [], ◌∷◌, ◌++◌, length, length-append, map, refl, sym, ap, ◌∙◌, subst, arith}
 use Rattle.std.specs.Prelude.{◌↔◌, replicate}
 use Rattle.std.proofs.lemmas.List.{length-map}
 use Rattle.datagrams.specs.Datagram as Raw
@@ -7,11 +7,16 @@ use Rattle.datagrams.specs.Frame.{chained}
 use Rattle.mailbox_mail.specs.declared.mail.Mail.{Mail}
 use Rattle.master_node.proofs.Servings.{keyed, leads_same}
 use Rattle.master_node.specs.Events.{ServedBegin}
+use Rattle.master_node.specs.Eager.{recalls}
+use Rattle.master_node.specs.Happened.{HasHappened, events_of}
+use Rattle.master_node.specs.Joined.{HasUnfinished, stand_before}
 use Rattle.master_node.specs.Listed.{listed}
 use Rattle.master_node.specs.Listing.{events_in}
 use Rattle.master_node.specs.Lives.{waiting_at, waiting_of}
 use Rattle.master_node.specs.Numbered.{IsNumbered}
 use Rattle.master_node.specs.Origins.{forwards_at}
+use Rattle.master_node.specs.Ports.{ports_behind, ports_of}
+use Rattle.master_node.specs.Recalled.{AllKnow}
 use Rattle.master_node.specs.Rooms.{FitAgain}
 use Rattle.master_node.specs.Serving.{FitsAt, IsAsked, IsServed, ServedShows, ServedUnder, run_lead}
 use Rattle.master_node.specs.Shows.{GoesOn, lived_of}
@@ -41,16 +46,20 @@ use Rattle.run_notes.specs.Slaves.{GaveBy, first_notes, gaves_noted}
 use Rattle.run_notes.specs.declared.standing.AskedMail.{AskedMail}
 use Rattle.run_notes.specs.declared.standing.Log.{Log}
 use Rattle.run_record.specs.Led.{exchanged}
-use Rattle.run_record.specs.Replay.{IsRecorded}
+use Rattle.run_record.specs.Recalling.{state_of}
+use Rattle.run_record.specs.Replay.{IsRecorded, behind as behind_ring, first_ring}
+use Rattle.packets_heard.specs.Recalled.{State}
 use Rattle.packets_heard.specs.Served.{IsTourServed, serves_behind}
 use Rattle.packets_heard.specs.Toured.{tour_behind}
 use Rattle.run_record.specs.Served.{ServedLeading, ServedTouredTo, Serving, ServesOn, ServingAsks, ServingGoesOn, TellsBehind, as_asked}
-use Rattle.run_record.specs.Session.{SessionState, asked_mail, asked_more, has_live}
+use Rattle.run_record.specs.Session.{IsDone, SessionState, asked_mail, asked_more, has_live}
 use Rattle.run_record.proofs.Fits.{has_room, home_fits}
 use Rattle.run_record.proofs.Leads.{first_gaves}
 use Rattle.run_record.proofs.Nexts.{next_frame}
 use Rattle.run_record.proofs.Noted.{GivesOne, noted_by, noted_now}
+use Rattle.run_record.proofs.ServedForwards.{FrameTells, served_asked, served_first, served_forwarded_on, served_stays}
 use Rattle.run_record.proofs.ServedGaves.{all_give, has_lives, serve_leads, served_counted}
+use Rattle.run_record.proofs.ServedRecalls.{Recalled, recalled_asked, recalled_at, recalled_first, recalled_stays}
 use Rattle.run_record.proofs.ServedTold.{tells_frame}
 use Rattle.segment_plan.specs.declared.plan.Scenario.{Scenario}
 use Rattle.segment_plan.specs.declared.service.Service as Plan
@@ -90,19 +99,25 @@ first_same g t h (p ∷ ps) rows place [] = refl
 first_same g t h [] rows place (s ∷ ss) = λ i. h 1 (new_leads (script_for place rows) (spot_of place s)) i ∷ first_same g t h [] rows (suc place) ss i
 first_same g t h (p ∷ ps) rows place (s ∷ ss) = λ i. h p (new_leads (script_for place rows) (spot_of place s)) i ∷ first_same g t h ps rows (suc place) ss i
 
-pub serving_begins : (plan : Scenario) (s : SessionState) → s.notes ≡ first_notes plan.services 0 plan.slaves → ServedShows (lens_of plan.slaves) plan.recover plan.retry s.master 0 0 (all_serve plan.paces (first_leads plan)) → s.asked ≡ replicate (length plan.slaves) [] → s.waiting ≡ replicate (length plan.slaves) 0 → tour_of s.master ≡ new_tour → Serving plan s []
-serving_begins plan s notes shown none still tour = record {
-  leading = record {
-    missed = 0;
-    serves = all_serve plan.paces (first_leads plan);
-    lives = IsServedLed.start;
-    shows = shown;
-    toured = subst (λ (t : Tour). ServedTouredTo plan [] t (all_serve plan.paces (first_leads plan))) (sym tour) IsTourServed.start;
-  };
-  gave = ap gaves_noted notes ∙ first_gaves plan.services 0 0 plan.slaves ∙ ap (map gave_of) (sym (serve_leads plan.paces (first_leads plan)));
-  asked = first_same mails_of [] (λ pace a. refl) plan.paces plan.services 0 plan.slaves ∙ sym none;
-  waiting = first_same left_of 0 (λ pace a. refl) plan.paces plan.services 0 plan.slaves ∙ sym still;
-}
+pub serving_begins : (plan : Scenario) (s : SessionState) → s.notes ≡ first_notes plan.services 0 plan.slaves → ServedShows (lens_of plan.slaves) plan.recover plan.retry s.master 0 0 (all_serve plan.paces (first_leads plan)) → s.asked ≡ replicate (length plan.slaves) [] → s.waiting ≡ replicate (length plan.slaves) 0 → tour_of s.master ≡ new_tour →
+    s.master.lan.ports.items ≡ ports_behind 0 plan.slaves → HasUnfinished s.master (map stand_before (first_leads plan)) (map (λ spec. None) plan.slaves) → HasHappened (ports_of plan.slaves) plan.host [] s.master.lan → AllKnow (recalls s.master) → s.ring ≡ first_ring plan → Serving plan s []
+serving_begins plan s notes shown none still tour ports joined happened knows ring =
+    let r = recalled_first plan s.master s.ring tour knows ring in
+    record {
+      leading = record {
+        missed = 0;
+        serves = all_serve plan.paces (first_leads plan);
+        lives = IsServedLed.start;
+        shows = shown;
+        toured = r.0;
+      };
+      gave = ap gaves_noted notes ∙ first_gaves plan.services 0 0 plan.slaves ∙ ap (map gave_of) (sym (serve_leads plan.paces (first_leads plan)));
+      asked = first_same mails_of [] (λ pace a. refl) plan.paces plan.services 0 plan.slaves ∙ sym none;
+      waiting = first_same left_of 0 (λ pace a. refl) plan.paces plan.services 0 plan.slaves ∙ sym still;
+      rows = [];
+      forwarded = served_first plan s.master ports joined happened;
+      remembers = r.1;
+    }
 
 -- OVER A FRAME the mails that were asked stay
 abbrev turn_mails : ServedTurn → List AskedMail
@@ -136,20 +151,17 @@ asked_rows key zero mail k (w ∷ ws) i =
     ap (λ z. z ∷ map mails_of ws) (more_asked w.asked k ∙ ap (λ z. map as_asked w.asked ++ z ∷ []) (same_mail key mail k i))
 asked_rows key (suc place) mail k (w ∷ ws) i = ap (λ z. mails_of w ∷ z) (asked_rows key place mail k ws i)
 
--- the tour stands where it did
-tour_stays : (plan : Scenario) (fs : List Exchanged) (m n : MasterNode) (ws : List Serves) → n.tour ≡ m.tour → ServedTouredTo plan fs (tour_of m) ws → ServedTouredTo plan fs (tour_of n) ws
-tour_stays plan fs m n ws tour x = subst (λ (t : Tour). ServedTouredTo plan fs t ws) (sym (tour_by m n m.tour refl tour)) x
-
 one_asked : (s s' : SessionState) (slave key : ℕ) (mail : Mail) →
     ((lens : ℕ → Lens) (recover retry missed made : ℕ) (ws : List Serves) → waiting_at s.master.posts.items slave < 64 → FitsAt lens slave (length mail.body.items) ws → ServedShows lens recover retry s.master missed made ws →
     (k : Keyed) × IsAsked key mail k × MayAsk lens slave k ws × ServedShows lens recover retry s'.master missed made (asked_at slave k ws)) →
-    waiting_at s.master.posts.items slave ≢ 64 → s'.master.tour ≡ s.master.tour → s'.asked ≡ asked_more s.asked slave (asked_mail key mail) → s'.waiting ≡ map waiting_of s'.master.posts.items → s'.notes ≡ s.notes → ServingAsks slave key mail s s' true
-one_asked s s' slave key mail served apart tour asked waiting notes = λ plan fs home is there fits old.
+    waiting_at s.master.posts.items slave ≢ 64 → s'.master.tour ≡ s.master.tour → s'.master.lan ≡ s.master.lan → s'.ring ≡ s.ring → s'.asked ≡ asked_more s.asked slave (asked_mail key mail) → s'.waiting ≡ map waiting_of s'.master.posts.items → s'.notes ≡ s.notes → ServingAsks slave key mail s s' true
+one_asked s s' slave key mail served apart tour lan ring asked waiting notes = λ plan fs home is there fits old.
     let lens = lens_of plan.slaves in
     let l = old.leading in
     let room = has_room plan fs l.missed slave s.master.posts.items l.serves l.lives (shown_wait lens plan.recover plan.retry l.missed (length fs) s.master l.serves l.shows) apart in
     let fit = home_fits plan fs l.missed (length mail.body.items) slave home l.serves (have_lens plan.slaves (apart_from [] 0 plan.slaves is.stations)) l.lives there fits in
     let more = served lens plan.recover plan.retry l.missed (length fs) l.serves room fit l.shows in
+    let r = recalled_stays plan fs s.master s'.master (asked_at slave more.0 l.serves) (events_of old.rows) s.ring s'.ring tour ring (recalled_asked plan fs (tour_of s.master) l.serves slave more.0 (state_of s.master (events_of old.rows) s.ring) more.2 (l.toured, old.remembers)) in
     record {
       mail_asked = more.0;
       is = more.1;
@@ -160,11 +172,15 @@ one_asked s s' slave key mail served apart tour asked waiting notes = λ plan fs
           serves = asked_at slave more.0 l.serves;
           lives = IsServedLed.asks fs l.missed l.serves slave more.0 l.lives more.2;
           shows = more.3;
-          toured = tour_stays plan fs s.master s'.master (asked_at slave more.0 l.serves) tour (IsTourServed.asks fs (tour_of s.master) l.serves slave more.0 l.toured more.2);
+          toured = r.0;
         };
         gave = ap gaves_noted notes ∙ old.gave ∙ ap (map gave_of) (sym (leads_same (λ a. a) slave more.0 l.serves));
         asked = asked_rows key slave mail more.0 l.serves more.1 ∙ ap (λ z. asked_more z slave (asked_mail key mail)) old.asked ∙ sym asked;
         waiting = shown_wait lens plan.recover plan.retry l.missed (length fs) s'.master (asked_at slave more.0 l.serves) more.3 ∙ sym waiting;
+        rows = old.rows;
+        forwarded = served_asked plan fs l.missed l.serves l.lives slave more.0 more.2 s'.master old.rows (leads_same (λ a. a) slave more.0 l.serves)
+            (served_stays plan fs l.missed l.serves l.lives s.master s'.master old.rows tour lan old.forwarded);
+        remembers = r.1;
       };
       missed = refl;
       serves = refl;
@@ -173,9 +189,9 @@ one_asked s s' slave key mail served apart tour asked waiting notes = λ plan fs
 pub serving_asks : (t s s' : SessionState) (slave key : ℕ) (mail : Mail) → t ≡ s →
     ((lens : ℕ → Lens) (recover retry missed made : ℕ) (ws : List Serves) → waiting_at t.master.posts.items slave < 64 → FitsAt lens slave (length mail.body.items) ws → ServedShows lens recover retry t.master missed made ws →
     (k : Keyed) × IsAsked key mail k × MayAsk lens slave k ws × ServedShows lens recover retry s'.master missed made (asked_at slave k ws)) →
-    waiting_at t.master.posts.items slave ≢ 64 → s'.master.tour ≡ t.master.tour → s'.asked ≡ asked_more s.asked slave (asked_mail key mail) → s'.waiting ≡ map waiting_of s'.master.posts.items → s'.notes ≡ t.notes → ServingAsks slave key mail s s' true
-serving_asks t s s' slave key mail view served apart tour asked waiting notes =
-    subst (λ (z : SessionState). ServingAsks slave key mail z s' true) view (one_asked t s' slave key mail served apart tour (asked ∙ ap (λ (z : SessionState). asked_more z.asked slave (asked_mail key mail)) (sym view)) waiting notes)
+    waiting_at t.master.posts.items slave ≢ 64 → s'.master.tour ≡ t.master.tour → s'.master.lan ≡ t.master.lan → s'.ring ≡ t.ring → s'.asked ≡ asked_more s.asked slave (asked_mail key mail) → s'.waiting ≡ map waiting_of s'.master.posts.items → s'.notes ≡ t.notes → ServingAsks slave key mail s s' true
+serving_asks t s s' slave key mail view served apart tour lan ring asked waiting notes =
+    subst (λ (z : SessionState). ServingAsks slave key mail z s' true) view (one_asked t s' slave key mail served apart tour lan ring (asked ∙ ap (λ (z : SessionState). asked_more z.asked slave (asked_mail key mail)) (sym view)) waiting notes)
 
 -- NONE: its posts and its tour stay
 all_stay : {S : Type 0} (i : ℕ) (xs ys : List S) → StepsAt (λ x y. y ≡ x) i xs ys → ys ≡ xs
@@ -199,27 +215,31 @@ shows_same lens recover retry missed made m n ws tour posts number h = record {
   numbered = subst (λ z. AllBoth (λ w p. IsNumbered (length w.asked) p) ws z) (sym posts) h.numbered;
 }
 
-none_asked : (s s' : SessionState) (slave key : ℕ) (mail : Mail) → s'.master.tour ≡ s.master.tour → s'.master.made ≡ s.master.made → StepsAt (λ p q. q ≡ p) slave s.master.posts.items s'.master.posts.items →
+none_asked : (s s' : SessionState) (slave key : ℕ) (mail : Mail) → s'.master.tour ≡ s.master.tour → s'.master.lan ≡ s.master.lan → s'.ring ≡ s.ring → s'.master.made ≡ s.master.made → StepsAt (λ p q. q ≡ p) slave s.master.posts.items s'.master.posts.items →
     s'.asked ≡ s.asked → s'.waiting ≡ map waiting_of s'.master.posts.items → s'.notes ≡ s.notes → ServingAsks slave key mail s s' false
-none_asked s s' slave key mail tour number stays asked waiting notes = λ plan fs old.
+none_asked s s' slave key mail tour lan ring number stays asked waiting notes = λ plan fs old.
     let lens = lens_of plan.slaves in
     let l = old.leading in
     let shown = shows_same lens plan.recover plan.retry l.missed (length fs) s.master s'.master l.serves tour (all_stay slave s.master.posts.items s'.master.posts.items stays) number l.shows in
+    let r = recalled_stays plan fs s.master s'.master l.serves (events_of old.rows) s.ring s'.ring tour ring (l.toured, old.remembers) in
     record {
       new = record {
-        leading = record { missed = l.missed; serves = l.serves; lives = l.lives; shows = shown; toured = tour_stays plan fs s.master s'.master l.serves tour l.toured };
+        leading = record { missed = l.missed; serves = l.serves; lives = l.lives; shows = shown; toured = r.0 };
         gave = ap gaves_noted notes ∙ old.gave;
         asked = old.asked ∙ sym asked;
         waiting = shown_wait lens plan.recover plan.retry l.missed (length fs) s'.master l.serves shown ∙ sym waiting;
+        rows = old.rows;
+        forwarded = served_stays plan fs l.missed l.serves l.lives s.master s'.master old.rows tour lan old.forwarded;
+        remembers = r.1;
       };
       missed = refl;
       serves = refl;
     }
 
-pub serving_stays : (t s s' : SessionState) (slave key : ℕ) (mail : Mail) → t ≡ s → s'.master.tour ≡ t.master.tour → s'.master.made ≡ t.master.made → StepsAt (λ p q. q ≡ p) slave t.master.posts.items s'.master.posts.items →
+pub serving_stays : (t s s' : SessionState) (slave key : ℕ) (mail : Mail) → t ≡ s → s'.master.tour ≡ t.master.tour → s'.master.lan ≡ t.master.lan → s'.ring ≡ t.ring → s'.master.made ≡ t.master.made → StepsAt (λ p q. q ≡ p) slave t.master.posts.items s'.master.posts.items →
     s'.asked ≡ s.asked → s'.waiting ≡ map waiting_of s'.master.posts.items → s'.notes ≡ t.notes → ServingAsks slave key mail s s' false
-serving_stays t s s' slave key mail view tour number stays asked waiting notes =
-    subst (λ (z : SessionState). ServingAsks slave key mail z s' false) view (none_asked t s' slave key mail tour number stays (asked ∙ ap (λ (z : SessionState). z.asked) (sym view)) waiting notes)
+serving_stays t s s' slave key mail view tour lan ring number stays asked waiting notes =
+    subst (λ (z : SessionState). ServingAsks slave key mail z s' false) view (none_asked t s' slave key mail tour lan ring number stays (asked ∙ ap (λ (z : SessionState). z.asked) (sym view)) waiting notes)
 
 -- ONE FRAME MORE: what the master says of it before, and of its return or loss; and what is noted of it
 module _ (s s' : SessionState) (m : MasterNode) (f : Exchanged) (result : Next) (idle : (result ≡ nexts.Idle) ↔ (has_live s.master ≡ false))
@@ -228,10 +248,11 @@ module _ (s s' : SessionState) (m : MasterNode) (f : Exchanged) (result : Next) 
     (served : (lens : ℕ → Lens) (recover retry missed made : ℕ) (vs : List ServedTurn) → ServedUnder lens recover retry m f.sent missed made vs → (f.fate ≡ Fates.Pass → Returns (seen lens f.sent) (seen lens f.back)) →
     ServedShows lens recover retry s'.master (missed_behind lens recover retry f.fate missed) (suc made) (map (served_behind lens recover retry (gives_up_at lens recover retry missed) made f) vs))
     (tours : (lens : ℕ → Lens) (recover : ℕ) (as' : List Leads) → HasLives lens recover s'.master (map lived_of as') → tour_of s'.master ≡ tour_behind m.tour.retry f.fate as' (tour_of m) m.tour.visit.items)
+    (switch : FrameTells s.master m s'.master f)
     (whole : listed s'.master.list.rows.items s'.master.list.count ≡ events_in m ++ events_in s'.master) (told : TellsBehind f.fate f.back m s'.master)
     (fate : f.fate ≡ fate_at s.ring.lose s.ring.number) (back : f.back ≡ ring_returned node_passed s.ring f.sent) (few : suc s.ring.number < 2 ^ 32) (asked : s'.asked ≡ s.asked) (waiting : s'.waiting ≡ map waiting_of s'.master.posts.items)
     (r r' : Log) (same : r.recover ≡ s.recover) (before : gaves_noted r.notes ≡ gaves_noted s.notes) (after : s'.notes ≡ r'.notes) (noted : GaveBy f.fate s.ring.number s'.master r r')
-    (plan : Scenario) (fs : List Exchanged) (recover : s.recover ≡ plan.recover) (number : length fs ≡ s.ring.number) (live : has_live s.master ≡ true) (old : Serving plan s fs) where
+    (plan : Scenario) (fs : List Exchanged) (recover : s.recover ≡ plan.recover) (number : length fs ≡ s.ring.number) (live : has_live s.master ≡ true) (busy : IsDone s → ⊥) (on_ring : s'.ring ≡ behind_ring s.ring f.sent) (old : Serving plan s fs) where
   abbrev lens : ℕ → Lens
   lens = lens_of plan.slaves
 
@@ -257,7 +278,7 @@ module _ (s s' : SessionState) (m : MasterNode) (f : Exchanged) (result : Next) 
   shown : ServedShows lens plan.recover plan.retry s'.master missed (suc (length fs)) behind
   shown = served lens plan.recover plan.retry l.missed (length fs) made.0 made.2 returned
 
-  lives : IsServedLed lens plan.recover plan.retry (all_serve plan.paces (first_leads plan)) (fs ++ f ∷ []) missed behind
+  abbrev lives : IsServedLed lens plan.recover plan.retry (all_serve plan.paces (first_leads plan)) (fs ++ f ∷ []) missed behind
   lives = IsServedLed.on fs l.missed l.serves f made.0 l.lives made.1
 
   -- its visit of the tour, which goes on by the lives behind it
@@ -272,11 +293,23 @@ module _ (s s' : SessionState) (m : MasterNode) (f : Exchanged) (result : Next) 
       tours lens plan.recover (map run_lead behind) (has_lives lens plan.recover plan.retry missed (suc (length fs)) s'.master behind shown)
       ∙ (λ i. tour_behind (made.2.retry_is i) f.fate (map run_lead behind) (made.4.tour i) m.tour.visit.items)
 
-  toured : ServedTouredTo plan (fs ++ f ∷ []) (tour_of s'.master) behind
-  toured =
-      subst (λ (t : Tour). ServedTouredTo plan (fs ++ f ∷ []) t behind) (sym tour_on)
-      (subst (λ (n : ℕ). ServedTouredTo plan (fs ++ f ∷ []) (tour n) (on n)) l.shows.missed_is
-      (IsTourServed.on fs (tour_of s.master) l.serves f made.0 m.tour.visit.items l.toured made.1 (record { visits = made.4.visits; asks = made.4.asks })))
+  -- none of its visits was in vain
+  abbrev state : State
+  state = state_of s'.master (events_of (old.rows ++ (m.lan.happened ++ s'.master.lan.happened))) s'.ring
+
+  first_on : Recalled plan (fs ++ f ∷ []) (tour s.master.tour.missed) (on s.master.tour.missed) state
+  first_on = (
+    IsTourServed.on fs (tour_of s.master) l.serves f made.0 m.tour.visit.items l.toured made.1 (record { visits = made.4.visits; asks = made.4.asks }),
+    (
+      state_of s.master (events_of old.rows) s.ring,
+      recalled_at plan fs l.missed l.serves l.lives f made.0 made.1 s m s'.master made.2 made.4 returned switch old.rows old.forwarded l.shows busy recover old.gave s'.ring on_ring s.master.tour.missed (sym l.shows.missed_is),
+      old.remembers,
+    ),
+  )
+
+  remembered : Recalled plan (fs ++ f ∷ []) (tour_of s'.master) behind state
+  remembered =
+      subst (λ (t : Tour). Recalled plan (fs ++ f ∷ []) t behind state) (sym tour_on) (subst (λ (n : ℕ). Recalled plan (fs ++ f ∷ []) (tour n) (on n) state) l.shows.missed_is first_on)
 
   -- what is noted of give-ups
   gave : gaves_noted s'.notes ≡ map gave_of (map run_lead behind)
@@ -290,10 +323,13 @@ module _ (s s' : SessionState) (m : MasterNode) (f : Exchanged) (result : Next) 
 
   goes : Serving plan s' (fs ++ f ∷ [])
   goes = record {
-    leading = record { missed = missed; serves = behind; lives = lives; shows = subst (λ (n : ℕ). ServedShows lens plan.recover plan.retry s'.master missed n behind) (one_more fs f) shown; toured = toured };
+    leading = record { missed = missed; serves = behind; lives = lives; shows = subst (λ (n : ℕ). ServedShows lens plan.recover plan.retry s'.master missed n behind) (one_more fs f) shown; toured = remembered.0 };
     gave = gave;
     asked = behind_mails lens plan.recover plan.retry gives (length fs) f made.0 ∙ turned_mails lens (length fs) made.1.datagrams l.serves made.0 made.1.each ∙ old.asked ∙ sym asked;
     waiting = shown_wait lens plan.recover plan.retry missed (suc (length fs)) s'.master behind shown ∙ sym waiting;
+    rows = old.rows ++ (m.lan.happened ++ s'.master.lan.happened);
+    forwarded = served_forwarded_on plan fs l.missed l.serves l.lives f made.0 made.1 s.master m s'.master made.2 made.4 returned switch old.rows old.forwarded;
+    remembers = remembered.1;
   }
 
   pub on_frame : ServesOn plan s s' fs f old
@@ -313,10 +349,10 @@ pub serving_on : (t s s' : SessionState) (m : MasterNode) (f : SentFrame) (resul
     (vs : List ServedTurn) × IsServedFrame lens made f.sent ws vs × ServedUnder lens recover retry m f.sent missed made vs × ServedBegin (λ k. forwards_at t.master.posts.items k) ws vs m × IsServedVisit lens f.sent ws vs t.master m) →
     ((lens : ℕ → Lens) (recover retry missed made : ℕ) (vs : List ServedTurn) → ServedUnder lens recover retry m f.sent missed made vs → (f.fate ≡ Fates.Pass → Returns (seen lens f.sent) (seen lens f.back)) →
     ServedShows lens recover retry s'.master (missed_behind lens recover retry f.fate missed) (suc made) (map (served_behind lens recover retry (gives_up_at lens recover retry missed) made (exchanged f)) vs)) →
-    ((lens : ℕ → Lens) (recover : ℕ) (as' : List Leads) → HasLives lens recover s'.master (map lived_of as') → tour_of s'.master ≡ tour_behind m.tour.retry f.fate as' (tour_of m) m.tour.visit.items) →
+    ((lens : ℕ → Lens) (recover : ℕ) (as' : List Leads) → HasLives lens recover s'.master (map lived_of as') → tour_of s'.master ≡ tour_behind m.tour.retry f.fate as' (tour_of m) m.tour.visit.items) → FrameTells t.master m s'.master (exchanged f) →
     listed s'.master.list.rows.items s'.master.list.count ≡ events_in m ++ events_in s'.master → TellsBehind f.fate f.back m s'.master →
     IsRecorded t.ring f → suc t.ring.number < 2 ^ 32 → s'.asked ≡ t.asked → s'.waiting ≡ map waiting_of s'.master.posts.items →
-    (r r' : Log) → r.recover ≡ t.recover → gaves_noted r.notes ≡ gaves_noted t.notes → s'.notes ≡ r'.notes → GaveBy f.fate t.ring.number s'.master r r' → ServingGoesOn s s' f
-serving_on t s s' m f result view idle serves served tours whole told recorded few asked waiting r r' same before after noted =
+    (r r' : Log) → r.recover ≡ t.recover → gaves_noted r.notes ≡ gaves_noted t.notes → s'.notes ≡ r'.notes → GaveBy f.fate t.ring.number s'.master r r' → s'.ring ≡ behind_ring t.ring f.sent → ServingGoesOn s s' f
+serving_on t s s' m f result view idle serves served tours switch whole told recorded few asked waiting r r' same before after noted ring =
     subst (λ (z : SessionState). ServingGoesOn z s' f) view
-    (λ plan fs recover number live old. on_frame t s' m (exchanged f) result idle serves served tours whole told recorded.fate recorded.back few asked waiting r r' same before after noted plan fs recover number live old)
+    (λ plan fs recover number live busy old. on_frame t s' m (exchanged f) result idle serves served tours switch whole told recorded.fate recorded.back few asked waiting r r' same before after noted plan fs recover number live busy ring old)

@@ -5,14 +5,18 @@ use Rattle.mailbox_mail.specs.declared.mail.Mail.{Mail}
 use Rattle.master_node.specs.Begins.{begun_of}
 use Rattle.master_node.specs.Events.{served_tells}
 use Rattle.master_node.specs.Gateways.{is_gateway, lives_told}
+use Rattle.master_node.specs.Happened.{HasHappened, events_of}
+use Rattle.master_node.specs.Joined.{HasUnfinished, stand_before}
 use Rattle.master_node.specs.Lifetold.{lost_at}
 use Rattle.master_node.specs.Listed.{listed}
 use Rattle.master_node.specs.Listing.{events_in, told_in}
 use Rattle.master_node.specs.Origins.{forwards_at}
+use Rattle.master_node.specs.Ports.{ports_behind, ports_of}
 use Rattle.master_node.specs.Serving.{IsAsked, ServedShows, ServedUnder, run_lead, run_turn}
 use Rattle.master_node.specs.Shows.{is_carried}
 use Rattle.master_node.specs.Wants.{gave_of, IsServedOut}
 use Rattle.master_node.specs.declared.event.Event.{Event}
+use Rattle.master_node.specs.declared.happened.Happening.{Happening}
 use Rattle.master_node.specs.declared.node.MasterNode.{MasterNode}
 use Rattle.master_node.specs.of_frame_view.Seen.{seen}
 use Rattle.master_node.specs.of_frame_view.View.{Lens}
@@ -23,13 +27,17 @@ use Rattle.master_node.specs.of_master_tour.Made.{is_in}
 use Rattle.master_node.specs.of_master_tour.Orders.{AreOnce}
 use Rattle.master_node.specs.of_master_tour.Toured.{Tour}
 use Rattle.master_node.specs.Toured.{tour_of}
+use Rattle.packets_heard.specs.Listed.{unfinished_of}
 use Rattle.packets_heard.specs.Served.{IsTourServed}
 use Rattle.master_node.specs.of_segment_model.Returned.{Returns}
+use Rattle.packets_heard.specs.ServedRecalled.{ServedRecalledIn}
+use Rattle.packets_heard.specs.Servings.{AreServedBegun, ServedListed, served_joined}
 use Rattle.run_book.specs.declared.book.SentFrame.{SentFrame}
 use Rattle.run_notes.specs.declared.standing.AskedMail.{AskedMail}
 use Rattle.run_notes.specs.Slaves.{gaves_noted, home_of}
 use Rattle.run_record.specs.Led.{exchanged}
-use Rattle.run_record.specs.Session.{SessionState, has_live}
+use Rattle.run_record.specs.Recalling.{state_of}
+use Rattle.run_record.specs.Session.{IsDone, SessionState, has_live}
 use Rattle.segment_plan.specs.Sound.{IsPlan}
 use Rattle.segment_plan.specs.declared.plan.Scenario.{Scenario}
 use Rattle.segment_ring.specs.declared.wire.Fate.{Fate}
@@ -52,17 +60,30 @@ pub record ServedLeading (plan : Scenario) (m : MasterNode) (fs : List Exchanged
   pub shows : ServedShows (lens_of plan.slaves) plan.recover plan.retry m missed (length fs) serves
   pub toured : ServedTouredTo plan fs (tour_of m) serves
 
+-- THE SWITCH OF A SERVING behind these frames, by all that happened there: its slaves have the ports of the plan, what is unfinished of their packets is by their
+-- lives, and just those packets came in and began, and just those ports went down, that the frames list
+pub record IsServedForwarded (plan : Scenario) (m : MasterNode) {fs : List Exchanged} {missed : ℕ} {ws : List Serves} (lives : ServeTo plan fs missed ws) (rows : List Happening) : Type 0 where
+  pub ports : m.lan.ports.items ≡ ports_behind 0 plan.slaves
+  pub unfinished : HasUnfinished m (map stand_before (map run_lead ws)) (unfinished_of (served_joined lives))
+  pub listed : ServedListed (ports_behind 0 plan.slaves) lives (events_of rows)
+  pub begun : AreServedBegun (ports_behind 0 plan.slaves) (ports_of plan.slaves) lives (events_of rows)
+  pub happened : HasHappened (ports_of plan.slaves) plan.host rows m.lan
+
 -- a mail as the session has it, with the key of its asker
 abbrev pub as_asked : Keyed → AskedMail
 as_asked k = record { key = k.key; kind = k.mail.kind; body = k.mail.body.items }
 
 -- HOW A SERVING STANDS behind these frames: its master leads; so often each slave was given up as is noted; the mails that were asked of each are just those
--- that the session has, in order, and so many of them still wait
+-- that the session has, in order, and so many of them still wait; and what happened at its switch is by their lives. None of
+-- its master's visits was in vain, by what it remembers
 pub record Serving (plan : Scenario) (s : SessionState) (fs : List Exchanged) : Type 0 where
   pub leading : ServedLeading plan s.master fs
   pub gave : gaves_noted s.notes ≡ map gave_of (map run_lead leading.serves)
   pub asked : map (λ w. map as_asked w.asked) leading.serves ≡ s.asked
   pub waiting : map (λ w. length w.waits) leading.serves ≡ s.waiting
+  pub rows : List Happening
+  pub forwarded : IsServedForwarded plan s.master leading.lives rows
+  pub remembers : ServedRecalledIn plan leading.toured (state_of s.master (events_of rows) s.ring)
 
 -- before its first frame
 abbrev pub ServingBegins : Scenario → SessionState → Type 0
@@ -102,9 +123,9 @@ pub record ServesOn (plan : Scenario) (s s' : SessionState) (fs : List Exchanged
   pub serves : new.leading.serves ≡ map (served_behind (lens_of plan.slaves) plan.recover plan.retry (gives_up_at (lens_of plan.slaves) plan.recover plan.retry old.leading.missed) (length fs) f) turns
   pub tells : TellsFrame (lens_of plan.slaves) (λ k. forwards_at s.master.posts.items k) old.leading.serves f turns new.leading.serves s'.master
 
--- so a step goes, where some slave is live: a serving that is led goes on
+-- so a step goes, where some slave is live and not all is done: a serving that is led goes on
 abbrev pub ServingGoesOn : SessionState → SessionState → SentFrame → Type 0
-ServingGoesOn s s' f = (plan : Scenario) (fs : List Exchanged) → s.recover ≡ plan.recover → length fs ≡ s.ring.number → has_live s.master ≡ true → (old : Serving plan s fs) → ServesOn plan s s' fs (exchanged f) old
+ServingGoesOn s s' f = (plan : Scenario) (fs : List Exchanged) → s.recover ≡ plan.recover → length fs ≡ s.ring.number → has_live s.master ≡ true → (IsDone s → ⊥) → (old : Serving plan s fs) → ServesOn plan s s' fs (exchanged f) old
 
 -- SOME SLAVE IS LIVE, where a serving is led
 abbrev pub ServingLives : SessionState → Type 0

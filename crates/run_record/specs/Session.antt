@@ -16,6 +16,7 @@ use Rattle.run_book.specs.declared.book.SlaveBook.{SlaveBook}
 use Rattle.run_notes.specs.declared.notes.Notes.{Notes}
 use Rattle.mailbox_mail.specs.declared.mail.Mail.{Mail}
 use Rattle.run_notes.specs.declared.standing.AskedMail.{AskedMail}
+use Rattle.master_node.specs.Entering.{IsIdle}
 use Rattle.master_node.specs.declared.node.MasterNode.{MasterNode}
 use Rattle.master_node.specs.Eager.{recalls}
 use Rattle.master_node.specs.Resting.{AllRest}
@@ -118,6 +119,11 @@ SwitchesOn s b s' b' = (host : List (ArrayVec ℕ)) → IsSwitched s.ports host 
 abbrev pub StillWants : SessionState → Type 0
 StillWants s = (lens : ℕ → Lens) (recover retry missed : ℕ) (leads : List Leads) → MasterShows lens recover retry s.master missed leads → AllRest lens s.master.lan 0 (recalls s.master) leads →
     nat_lt s.master.lan.entered (length s.master.lan.host) ≡ false → are_at_rest (session_rows s) ≡ true → ⊥
+
+-- ALL IS DONE, for the master and at each live slave
+pub record IsDone (s : SessionState) : Type 0 where
+  pub idle : IsIdle s.master
+  pub at_rest : are_at_rest (session_rows s) ≡ true
 
 -- ONE FRAME MORE IS LED, where some slave is live and not all is done: a master that leads goes on so, what is noted of give-ups goes with it, and so do the events
 -- of its switch; and it makes no visit in vain, by what it remembers

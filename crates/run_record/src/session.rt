@@ -21,8 +21,10 @@ ghost use Rattle.master_node.specs.Listed.{listed};
 ghost use Rattle.master_node.specs.Listing.{events_in};
 ghost use Rattle.master_node.specs.Origins.{forwards_at};
 ghost use Rattle.master_node.specs.Recalled.{AllRecall};
-ghost use Rattle.master_node.specs.Serving.{ServedShows, ServedUnder};
-ghost use Rattle.master_node.specs.Shows.{MasterShows, MasterUnder, lived_of};
+ghost use Rattle.master_node.specs.ServedEager.{AllServedAsk, AllServedRecall};
+ghost use Rattle.master_node.specs.Serving.{ServedShows, ServedUnder, run_lead, run_turn};
+ghost use Rattle.packets_heard.specs.Served.{serves_behind};
+ghost use Rattle.master_node.specs.Shows.{IsUnderWay, MasterShows, MasterUnder, lived_of};
 ghost use Rattle.master_node.specs.Told.{HasLives};
 ghost use Rattle.master_node.specs.Toured.{tour_of};
 ghost use Rattle.master_node.specs.of_segment_model.Returned.{Returns};
@@ -34,7 +36,7 @@ ghost use Rattle.run_record.specs.Recalling.{RunBegins};
 ghost use Rattle.run_notes.specs.Switched.{SameSwitch};
 ghost use Rattle.run_record.specs.Replay.{first_ring};
 ghost use Rattle.run_record.specs.Served.{ServingAsks, ServingBegins, ServingGoesOn, ServingLives, ServingRests, TellsBehind};
-ghost use Rattle.run_record.specs.Session.{budget_of, smaller_bound, rests_at, session_rows, first_session, are_at_rest, some_given_up, has_live, IsLeftBy, StillWants, Steps, Stops, Asks};
+ghost use Rattle.run_record.specs.Session.{budget_of, smaller_bound, rests_at, session_rows, first_session, are_at_rest, some_given_up, has_live, IsDone, IsLeftBy, StillWants, Steps, Stops, Asks};
 ghost use Rattle.run_notes.specs.Slaves.{slave_row, slave_rows, KeepsRest};
 
 use datagrams::FrameBuf;
@@ -227,12 +229,21 @@ fn tell(master: &mut MasterNode, fate: Fate, back: &FrameBuf)
         AllVisit (seen lens octets) (recalls master.old) us → AllRecall lens (seen lens back.now.items) us (recalls master.old) (recalls master.new) }
     ensures kept { (after : ℕ) → fate ≡ Fates.Lost after → (lens : ℕ → Lens) (recover retry missed : ℕ) (octets : List ℕ) (us : List Turn) → MasterUnder lens recover retry master.old octets missed us →
         AllRecall lens [] us (recalls master.old) (recalls master.new) }
+    ensures remembers { fate ≡ Fates.Pass → (lens : ℕ → Lens) (recover retry missed made : ℕ) (vs : List ServedTurn) (f : Exchanged) → f.fate ≡ fate → f.back ≡ back.now.items → ServedUnder lens recover retry master.old f.sent missed made vs → Returns (seen lens f.sent) (seen lens back.now.items) →
+        AllServedAsk (seen lens f.sent) (recalls master.old) (map run_turn vs) → AllServedRecall lens (seen lens back.now.items) (λ v. served_behind lens recover retry (gives_up_at lens recover retry missed) made f v) vs (recalls master.old) (recalls master.new) }
+    ensures stays { (after : ℕ) → fate ≡ Fates.Lost after → (lens : ℕ → Lens) (recover retry missed made : ℕ) (vs : List ServedTurn) (f : Exchanged) → ServedUnder lens recover retry master.old f.sent missed made vs →
+        AllServedRecall lens [] (λ v. served_behind lens recover retry (gives_up_at lens recover retry missed) made f v) vs (recalls master.old) (recalls master.new) }
     ensures happened { HappensSo master.old.lan master.new.lan }
     ensures joined { (lens : ℕ → Lens) (recover retry missed number : ℕ) (us : List Turn) (js : List Joined) (f : Exchanged) → f.fate ≡ fate → f.back ≡ back.now.items → MasterUnder lens recover retry master.old f.sent missed us → (fate ≡ Fates.Pass → Returns (seen lens f.sent) (seen lens back.now.items)) →
         HasUnfinished master.old (map stand_under us) (unfinished_of js) → HasUnfinished master.new (map stand_before (lives_behind lens recover retry missed number f us)) (unfinished_after (λ u. mails_by lens f f.fate u) us (unfinished_of js)) }
-    ensures arrivals { fate ≡ Fates.Pass → (lens : ℕ → Lens) (recover retry missed : ℕ) (octets : List ℕ) (us : List Turn) (js : List Joined) → MasterUnder lens recover retry master.old octets missed us → Returns (seen lens octets) (seen lens back.now.items) →
+    ensures arrivals { fate ≡ Fates.Pass → (lens : ℕ → Lens) (recover : ℕ) (octets : List ℕ) (us : List Turn) (js : List Joined) → IsUnderWay lens recover master.old octets us → Returns (seen lens octets) (seen lens back.now.items) →
         HasUnfinished master.old (map stand_under us) (unfinished_of js) → ComeIn master.old (λ k. completed_at (seen lens back.now.items) us (unfinished_of js) k) master.new }
     ensures downs { (after : ℕ) → fate ≡ Fates.Lost after → (lens : ℕ → Lens) (recover retry missed number : ℕ) (us : List Turn) (f : Exchanged) → f.fate ≡ fate → MasterUnder lens recover retry master.old f.sent missed us → GoDown master.old us (lives_behind lens recover retry missed number f us) master.new }
+    ensures joins { (lens : ℕ → Lens) (recover retry missed made : ℕ) (vs : List ServedTurn) (js : List Joined) (f : Exchanged) → f.fate ≡ fate → f.back ≡ back.now.items → ServedUnder lens recover retry master.old f.sent missed made vs → (fate ≡ Fates.Pass → Returns (seen lens f.sent) (seen lens back.now.items)) →
+        HasUnfinished master.old (map stand_under (map run_turn vs)) (unfinished_of js) →
+        HasUnfinished master.new (map stand_before (map run_lead (serves_behind lens recover retry missed made f vs))) (unfinished_after (λ u. mails_by lens f f.fate u) (map run_turn vs) (unfinished_of js)) }
+    ensures leaves { (after : ℕ) → fate ≡ Fates.Lost after → (lens : ℕ → Lens) (recover retry missed made : ℕ) (vs : List ServedTurn) (f : Exchanged) → f.fate ≡ fate → ServedUnder lens recover retry master.old f.sent missed made vs →
+        GoDown master.old (map run_turn vs) (map run_lead (serves_behind lens recover retry missed made f vs)) master.new }
     ensures counts { (k : ℕ) → forwards_at master.new.posts.items k ≡ forwards_at master.old.posts.items k }
     ensures served { (lens : ℕ → Lens) (recover retry missed made : ℕ) (vs : List ServedTurn) (f : Exchanged) → f.fate ≡ fate → f.back ≡ back.now.items → ServedUnder lens recover retry master.old f.sent missed made vs → (fate ≡ Fates.Pass → Returns (seen lens f.sent) (seen lens back.now.items)) →
         ServedShows lens recover retry master.new (missed_behind lens recover retry f.fate missed) (suc made) (map (served_behind lens recover retry (gives_up_at lens recover retry missed) made f) vs) }
@@ -273,6 +284,7 @@ impl Session {
         ensures left { OnTrue result (IsLeftBy self.now.master) }
         ensures wants { OnFalse result (StillWants self.now) }
         ensures lives { OnFalse result (ServingLives self.now) }
+        ensures done { OnFalse result (IsDone self.now → ⊥) }
         ensures served { OnTrue result (ServingRests self.now) }
         ensures busy { OnFalse result ((are_at_rest (session_rows self.now) ≡ false) ⊎ (has_live self.now.master ≡ true)) }
     {
@@ -346,6 +358,7 @@ impl Session {
         ensures full { OnOk result ((result ≡ Ok false) ↔ (slice_get self.old.waiting slave ≡ Some 64)) }
         ensures serves { IfOk result (ServingAsks slave key mail.now self.old self.new) }
         ensures live { has_live self.new.master ≡ has_live self.old.master }
+        ensures done { IfOk result (λ asked. IsDone self.new → IsDone self.old) }
         ensures err { OnErr result (self.new ≡ self.old) }
     {
         let body = Octets::copy_of(alloc, mail.body.as_slice())?;

@@ -1,10 +1,14 @@
+mod Accepted
 pub mod Alone
 mod Answered
 mod Clocks
 pub mod Comes
 mod Counted
+mod Dues
 pub mod Fits
 pub mod Heard
+pub mod Hears
+mod Known
 pub mod Last
 pub mod Led
 pub mod Left
@@ -17,6 +21,7 @@ pub mod Returned
 pub mod Rows
 pub mod Said
 mod Seats
+pub mod Seen
 pub mod SeenRows
 pub mod SeenSpent
 pub mod SeenStands
@@ -31,7 +36,9 @@ pub mod Stands
 mod Stations
 mod Stays
 mod Tells
+mod Ties
 pub mod Told
 pub mod Turns
 mod Unread
 mod Walk
+pub mod WholeHears

@@ -12,7 +12,7 @@ untag_nil : {M Q : Type 0} (ts : List (Tagged M Q)) → untag ts ≡ [] → ts �
 untag_nil [] e = refl
 untag_nil (t ∷ ts) e = absurd (let no : t.mail ∷ untag ts ≡ [] = e in cc)
 
-and_left : (a b : Bool) → (a && b) ≡ true → a ≡ true
+pub and_left : (a b : Bool) → (a && b) ≡ true → a ≡ true
 and_left true b e = refl
 and_left false b e = e
 
@@ -30,7 +30,7 @@ drop_told q (suc n) [] e = refl
 drop_told {M} {Q} q (suc n) (m ∷ ms) e = drop_more Q n ms e
 
 -- a first part of what is told is what is told of a first part
-told_of : {M Q : Type 0} (q : Q) (ms : List M) (p : List (Tagged M Q)) → CutTold q ms p → p ≡ told q (untag p)
+pub told_of : {M Q : Type 0} (q : Q) (ms : List M) (p : List (Tagged M Q)) → CutTold q ms p → p ≡ told q (untag p)
 told_of q ms p (CutTold.nothing e) = e ∙ ap (λ l. told q (untag l)) (sym e)
 told_of q ms p (CutTold.some m front rest whole e) = e ∙ ap (λ (l : List _). told q l) (sym (untag-told q (m ∷ front))) ∙ ap (λ l. told q (untag l)) (sym e)
 

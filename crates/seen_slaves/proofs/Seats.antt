@@ -15,7 +15,7 @@ use Rattle.served_rings.specs.Led.{LedEra}
 use Rattle.served_rings.specs.Lives.{LedKept, LedLeft, LedYet}
 use Rattle.served_rings.specs.LedRings.{AllLedMembers, LedMember}
 use Rattle.life_model.specs.Eras.{planned}
-use Rattle.life_model.specs.Lives.{Life, Spot, Stand}
+use Rattle.life_model.specs.Lives.{Era, Life, Spot, Stand}
 use Rattle.life_runs.specs.First.{lens_of, spot_of}
 use Rattle.life_runs.specs.Led.{speech_at}
 use Rattle.link_mails.specs.Body.{Body}
@@ -70,9 +70,21 @@ record ByMaster (lens : ℕ → Lens) (s : SlaveSpec) (l : Life Body Asked Reply
   first : (q : Asked) → y.valid q ≡ true → y.planned q [] ≢ []
 
 -- any mail is fair to it
-all_fair : (p : Profile) (ts : List (Started Asked)) → AllFair (any_speaker p) ts
+pub all_fair : (p : Profile) (ts : List (Started Asked)) → AllFair (any_speaker p) ts
 all_fair p [] = tt
 all_fair p (t ∷ ts) = ((λ q m is named. refl), all_fair p ts)
+
+-- an epoch as its master leads it is planned for where it is seen what is meant by its mails
+pub plan_seen : (lens : ℕ → Lens) (s : SlaveSpec) (spot : Spot) (from : InState Server) (counts : Bool) (e : Era Body Asked Reply) (gs : List (Frame Body)) (n : Node Serving) (era : LedEra (serves (profile_of s) s.boot lens) is_followed is_passed spot from counts e gs n) →
+    IsTaskPlan (seeing (any_speaker (profile_of s))) (seeing_states (any_speaker (profile_of s))) (seer_of (profile_of s) s.boot) (table_of s.boot) (planned spot (between era.server) era.registers ∷ [])
+plan_seen lens s spot from counts e gs n era =
+    let plain = era.plan in
+    record {
+      plan = record { stations = plain.plan.stations; ready = (ap₂ (λ (a b : Bool). a && b) plain.plan.ready.0 refl, tt) };
+      apart = plain.apart;
+      tells = λ state v. refl;
+      brought = ((plain.brought.0.0, λ answers. let b = plain.brought.0.1 answers in record { control = b.control; refused = b.refused; sits = b.sits; state = b.state }), tt);
+    }
 
 module _ (laws : Laws) (plan : Scenario) (gs : List (Frame Body)) where
   abbrev lens : ℕ → Lens
@@ -102,18 +114,8 @@ module _ (laws : Laws) (plan : Scenario) (gs : List (Frame Body)) where
     speech_is = (λ j. hand_speech (record { out = sym out j; back = sym back j })) ∙ ap (speech_at lens) (sym at.spot)
 
     -- its epoch is seen with what is meant by its mails
-    plan_seen : IsTaskPlan (seeing (any_speaker p)) (seeing_states (any_speaker p)) (seer_of p s.boot) (table_of s.boot) (planned (spot_of place s) (between era.server) era.registers ∷ [])
-    plan_seen =
-        let plain = era.plan in
-        record {
-          plan = record { stations = plain.plan.stations; ready = (ap₂ (λ (a b : Bool). a && b) plain.plan.ready.0 refl, tt) };
-          apart = plain.apart;
-          tells = λ state v. refl;
-          brought = ((plain.brought.0.0, λ answers. let b = plain.brought.0.1 answers in record { control = b.control; refused = b.refused; sits = b.sits; state = b.state }), tt);
-        }
-
     seen : IsSeen (any_speaker p) (seer_of p s.boot) (table_of s.boot) (spot_of place s) era.opened era.server era.registers gs counts l.era (node_seen (serves p s.boot lens) n)
-    seen = epoch_seen (any_speaker p) (laws.speaks p profile) (spoken p) (processor_of s.boot) (seer_of p s.boot) (table_of s.boot) (spot_of place s) (laws.runs p s.boot s.station) era.opened era.server era.registers plan_seen era.answers
+    seen = epoch_seen (any_speaker p) (laws.speaks p profile) (spoken p) (processor_of s.boot) (seer_of p s.boot) (table_of s.boot) (spot_of place s) (laws.runs p s.boot s.station) era.opened era.server era.registers (plan_seen lens s (spot_of place s) from counts l.era gs n era) era.answers
         gs counts l.era (node_seen (serves p s.boot lens) n) era.led (all_fair p l.era.account.started)
 
     so : FitsSo (spoken p) (processor_of s.boot) (table_of s.boot s.station) x acknowledged is_followed is_passed l.era (node_seen (serves p s.boot lens) n)
@@ -161,12 +163,12 @@ module _ (laws : Laws) (plan : Scenario) (gs : List (Frame Body)) where
         }
 
   -- by how its master stands to it
-  abbrev Lives : ℕ → SlaveSpec → Serves → InState Server → Stand → Node Serving → Type 0
+  abbrev pub Lives : ℕ → SlaveSpec → Serves → InState Server → Stand → Node Serving → Type 0
   Lives place s w from stand n = StandsBy (serves (profile_of s) s.boot lens) (λ a e hs m. LedKept (serves (profile_of s) s.boot lens) is_followed is_passed (spot_of place s) w.kept w.counts a e hs m)
       (λ a e hs m. LedYet (serves (profile_of s) s.boot lens) is_followed is_passed (spot_of place s) a e hs m) (λ a e hs z. LedLeft (serves (profile_of s) s.boot lens) is_followed is_passed (spot_of place s) a e z)
       (plan_of s) (spot_of place s) from w.lead.lived.life.era gs stand n
 
-  open_lives : (place : ℕ) (s : SlaveSpec) (w : Serves) (n : Node Serving) (from : InState Server) (stand : Stand) → stand ≡ Stand.Open → Lives place s w from stand n →
+  pub open_lives : (place : ℕ) (s : SlaveSpec) (w : Serves) (n : Node Serving) (from : InState Server) (stand : Stand) → stand ≡ Stand.Open → Lives place s w from stand n →
       LivesOpenBy (serves (profile_of s) s.boot lens) from w.lead.lived.life.era (λ a e hs m. LedKept (serves (profile_of s) s.boot lens) is_followed is_passed (spot_of place s) w.kept w.counts a e hs m) gs n
   open_lives place s w n from (Stand.Opens o) e now = absurd (let no : Stand.Opens o ≡ Stand.Open = e in cc)
   open_lives place s w n from Stand.Open e now = now

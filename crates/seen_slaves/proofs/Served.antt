@@ -31,11 +31,11 @@ elements_tell o p al false false v q hs = refl
 
 module _ {T F I : Type 0} (o : Parts T F I) (law : ArePartsLawful o) (files : AreFilesServed o) (p : Profile) (is : IsProfile p) where
   -- the server without a join
-  abbrev alone : Server T F I → Server T F I
+  abbrev pub alone : Server T F I → Server T F I
   alone j = record j { join = None }
 
   -- the mails of a service are the same, over the whole server
-  full_same : (al : ℕ) (i : Protocol) (b : Bool) (v : Seat T F I i) (q : ServiceOf i) → (gated b (served o p al i) (refusal o p al i)).full v q ≡ (gated_whole b (served_whole o p al i) (refusal o p al i)).full v q
+  pub full_same : (al : ℕ) (i : Protocol) (b : Bool) (v : Seat T F I i) (q : ServiceOf i) → (gated b (served o p al i) (refusal o p al i)).full v q ≡ (gated_whole b (served_whole o p al i) (refusal o p al i)).full v q
   full_same al Protocol.CoE true v q = refl
   full_same al Protocol.FoE true v q = refl
   full_same al Protocol.SoE true v q = refl
@@ -43,7 +43,7 @@ module _ {T F I : Type 0} (o : Parts T F I) (law : ArePartsLawful o) (files : Ar
   full_same al i false v q = refl
 
   -- and what was heard for a first part of them, of a protocol that sees no join
-  heard_same : (al : ℕ) (i : Protocol) (j : Server T F I) → seat i (alone j) ≡ seat i j → (q : ServiceOf i) → is_fine o p al j ≡ true → (side_whole o p al i).speech.valid q ≡ true → (ms r : List Body) → (side_whole o p al i).full (seat i j) q ≡ ms ++ r →
+  pub heard_same : (al : ℕ) (i : Protocol) (j : Server T F I) → seat i (alone j) ≡ seat i j → (q : ServiceOf i) → is_fine o p al j ≡ true → (side_whole o p al i).speech.valid q ≡ true → (ms r : List Body) → (side_whole o p al i).full (seat i j) q ≡ ms ++ r →
       plain emission (given (product o p).serve (record { inner = alone j; state = al }) ms) ≡ plain emission (given (product_whole o p).serve (record { inner = j; state = al }) ms)
   heard_same al i j same q ready valid ms r e =
       let mine = mine_part (slave_whole o p al) (side_whole o p al i) (core_of T F I i) (seat i) (reseated i) (side_of o law files p is al i) j q ready valid ms r e in

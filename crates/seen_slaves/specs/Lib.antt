@@ -1,5 +1,7 @@
 pub use Rattle.idle_slaves.specs as of_idle_slaves
 pub use Rattle.never_waits.specs as of_never_waits
+pub mod Brings
+pub mod Dues
 pub mod Eager
 pub mod Fits
 pub mod Last

@@ -14,6 +14,7 @@ ghost use Rattle.serving_model.specs.Erasing.{slave_as};
 ghost use Rattle.state_model.specs.States.{Phase, Table};
 ghost use Rattle.std.specs.Prelude.{◌≡◌, ℕ, List, [], map};
 
+pub mod seen_dues;
 pub mod seen_spent;
 pub mod seen_steps;
 pub mod served_rows;

@@ -1,4 +1,4 @@
-//! While the frames of a serving gain nothing some slave waits yet; and what its slaves answer. Definitions and laws, no running code: the functions here do
+//! While the frames of a serving gain nothing some slave waits yet; what its slaves answer; and that what they send is due. Definitions and laws, no running code: the functions here do
 //! nothing, and their contracts state the laws.
 
 ghost use Rattle.std.specs.Prelude.{ℕ, List, Option};
@@ -18,6 +18,7 @@ ghost use Rattle.segment_plan.specs.declared.plan.Scenario.{Scenario};
 ghost use Rattle.served_places.specs.Answered.{ServedAnswers, ServedAsks, ServedWaits};
 ghost use Rattle.served_places.specs.Toured.{IsServedToured};
 ghost use Rattle.served_runs.specs.Served.{Serves, all_serve};
+ghost use Rattle.seen_slaves.specs.Dues.{ServedMailsAreDue};
 ghost use Rattle.seen_slaves.specs.Eager.{ServedEagerIn};
 
 /// SOME SLAVE OF A PLAN'S SERVING WAITS YET behind each frame that came back and gained nothing, with nothing to repair, before which no mail was asked since the
@@ -42,4 +43,16 @@ pub fn served_answers_law()
 {
     frame_view::seen_is();
     served_rings::served_ring_law();
+}
+
+/// EACH MAIL THAT A FRAME BRINGS of an open slave of a plan's serving is due as the frame finds it: it replies to nothing, or it is a reply to the service in hand
+/// or to the mail that is passed on, of which nothing is left to tell, and which has no answer yet.
+pub fn served_due_law()
+    ensures { (plan : Scenario) → IsPlan plan → IsKnown plan → ServedMailsAreDue plan }
+{
+    frame_view::seen_is();
+    served_rings::served_ring_law();
+    served_rings::plan_speakers::any_law();
+    crate::tagged_waits::parts_never();
+    crate::tagged_waits::parts_hear();
 }

@@ -1,8 +1,9 @@
-//! A client that never waits in vain, beside mails that are passed on, and from whatever server. Laws, no running code: the functions here do nothing, and
-//! their contracts state the laws.
+//! A client that never waits in vain and hears first, beside mails that are passed on, and from whatever server. Laws, no running code: the functions here do
+//! nothing, and their contracts state the laws.
 
 ghost use Rattle.exchange_model.specs.Exchange.{Exchange};
 ghost use Rattle.few_replies.specs.Calm.{calm_tagged};
+ghost use Rattle.never_waits.specs.Hears.{HearsFirst};
 ghost use Rattle.never_waits.specs.Waits.{NeverWaits};
 ghost use Rattle.serving_model.specs.Tagged.{IsServed, tagged};
 ghost use Rattle.slave_model.specs.Profile.{Profile, IsProfile};
@@ -20,6 +21,19 @@ pub fn tagged_never<V, M, Q, R, C>()
 /// FROM WHATEVER SERVER a slave's client never does: with unfinished transfers of any protocol that a mail of another sender left.
 pub fn parts_never()
     ensures { (p : Profile) → IsProfile p → NeverWaits (product_whole parts p) }
+{
+    slave_parts::parts_are_lawful();
+    slave_served::parts_served::files_are_served();
+}
+
+/// A CLIENT THAT HEARS FIRST does so over calm servers, with fair mails passed on beside its services: behind such a mail none is told.
+pub fn tagged_hears<V, M, Q, R, C>()
+    ensures { (x : Exchange V V M Q R) (core : V → C) → IsServed x core → HearsFirst x → (calm : V → Bool) (fair : M → Bool) → HearsFirst (calm_tagged x calm fair) }
+{}
+
+/// So a slave's client does, from whatever server.
+pub fn parts_hear()
+    ensures { (p : Profile) → IsProfile p → HearsFirst (product_whole parts p) }
 {
     slave_parts::parts_are_lawful();
     slave_served::parts_served::files_are_served();

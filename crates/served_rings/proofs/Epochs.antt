@@ -1,5 +1,5 @@
 -- AN EPOCH THAT ITS MASTER LED AND ITS NODE LIVED: what its slave carried out of it, and what was heard for the mail that is passed on.
-use Rattle.std.proofs.Common.{◌≡◌, ◌&&◌, ℕ, Bool, true, is_some, Option, None, Some, option_map, List, [], ◌∷◌, ◌++◌, map, length, take, refl, ap, ap₂, sym, ◌∙◌, subst, arith, Ok}
+use Rattle.std.proofs.Common.{◌≡◌, ◌&&◌, ℕ, Bool, true, is_some, Option, None, Some, option_map, List, [], ◌∷◌, ◌++◌, map, length, take, refl, ap, sym, ◌∙◌, subst, arith, Ok}
 use Rattle.std.proofs.lemmas.List.{length-map, map-append, take-map}
 use Rattle.exchange_model.specs.Exchange.{plain}
 use Rattle.exchange_model.specs.Rows.{Row}
@@ -36,7 +36,7 @@ use Rattle.life_counts.specs.Foreseen as Foreseen
 use Rattle.life_counts.proofs.TaggedWhole.{epoch_seen}
 use Rattle.task_model.specs.Accounts.{Started}
 use Rattle.task_model.specs.Promise.{services_in}
-use Rattle.served_rings.specs.Served.{IsHeardOf, IsHeardSo, IsServedEra, WasServed, replies_to, server_behind}
+use Rattle.served_rings.specs.Served.{IsHeardOf, IsServedEra, WasServed, replies_to, server_behind}
 use Rattle.served_rings.proofs.Mails.{AllNamed, IsNamedMail, Snoc, all_mails, behind_named, is_mail, mailer, mailer_runs, mailer_speaks, map_snoc, named_front, named_mail, named_mails, named_take, services_named, start_named}
 use Rattle.served_rings.proofs.Newest as Newest
 use Rattle.served_rings.proofs.Newest.{exec_is}

@@ -1,16 +1,14 @@
 -- A SLAVE AND ITS MASTER, of which it is seen what is meant by its mails, where any mail is passed on that is one; and their names for what came into hand.
-use Rattle.std.proofs.Common.{◌≡◌, ℕ, zero, suc, Bool, true, false, Option, None, Some, option_map, List, [], ◌∷◌, ◌++◌, map, take, refl, ap, ap₂, sym, ◌∙◌, Ok, Err}
-use Rattle.exchange_model.specs.Exchange.{IsLawful}
+use Rattle.std.proofs.Common.{◌≡◌, ℕ, zero, suc, Bool, true, false, List, [], ◌∷◌, ◌++◌, map, take, refl, ap, ap₂, sym, ◌∙◌, Ok, Err}
 use Rattle.few_replies.specs.Calm.{calm_tagged}
 use Rattle.life_counts.specs.Seen.{service_seen}
 use Rattle.link_mails.specs.Body.{Body}
 use Rattle.mailbox_mail.specs.declared.mail.Mail.{Mail}
-use Rattle.mailbox_mail.specs.Mail.{error_of}
 use Rattle.master_hand.specs.Spoken as Spoken
 use Rattle.served_rings.specs.Speakers.{naming_of, processor_of, seer_of, speaker, spoken, table_of, whole_states}
 use Rattle.served_rings.proofs.Any.{any_lawful}
 use Rattle.run_work.specs.Sessions.{OwnService, Wanted, named_wanted}
-use Rattle.slave_model.specs.Profile.{Protocol, Profile, areas_of}
+use Rattle.slave_model.specs.Profile.{Protocol, Profile}
 use Rattle.slave_model.specs.Server.{Reply}
 use Rattle.slave_parts.specs.Parts.{Core, Server, parts}
 use Rattle.slave_parts.specs.of_eoe_model.Network.{Station}

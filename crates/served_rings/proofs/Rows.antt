@@ -1,8 +1,7 @@
 -- WORKED ROWS: a mail of a protocol that its slave doesn't serve.
-use Rattle.std.proofs.Common.{◌≡◌, ◌&&◌, not, ◌==◌, ℕ, suc, Bool, false, List, [], ◌∷◌, refl, ap, ◌∙◌, Ok}
+use Rattle.std.proofs.Common.{◌≡◌, ◌&&◌, not, ◌==◌, ℕ, suc, Bool, false, [], ◌∷◌, ap, ◌∙◌, Ok}
 use Rattle.exchange_model.specs.Exchange.{plain}
 use Rattle.exchange_sum.specs.Refusing.{gated}
-use Rattle.link_mails.specs.Body.{Body}
 use Rattle.mailbox_mail.specs.declared.mail.Kind.{Kind}
 use Rattle.mailbox_mail.specs.declared.mail.Mail.{Mail}
 use Rattle.master_hand.specs.Spoken.{emission, passed}

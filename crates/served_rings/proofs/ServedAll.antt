@@ -6,8 +6,7 @@ use Rattle.frame_view.specs.View.{Lens}
 use Rattle.served_rings.specs.LedRings.{AllLedMembers}
 use Rattle.life_runs.specs.First.{lens_of, spot_of}
 use Rattle.link_mails.specs.Body.{Body}
-use Rattle.master_duty.specs.Reply.{Reply}
-use Rattle.master_hand.specs.Spoken.{Asked, is_followed, is_passed}
+use Rattle.master_hand.specs.Spoken.{is_followed, is_passed}
 use Rattle.passed_whole.specs.Clearing.{Forgets}
 use Rattle.plan_ring.specs.Plan.{AllMacs, plan_of}
 use Rattle.served_rings.specs.Speakers.{cleared_whole, speaker}

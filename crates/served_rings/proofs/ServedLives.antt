@@ -1,5 +1,5 @@
 -- EPOCH BY EPOCH: what a slave of a serving did in its life.
-use Rattle.std.proofs.Common.{◌≡◌, ℕ, Bool, false, List, [], ◌∷◌, ◌++◌, refl, ap, sym, ◌∙◌}
+use Rattle.std.proofs.Common.{◌≡◌, ℕ, Bool, false, List, refl, ap, sym, ◌∙◌}
 use Rattle.frame_view.specs.View.{Lens}
 use Rattle.frames_seen.specs.Slaves.{registers_seen}
 use Rattle.served_rings.specs.Lives.{LedKept, LedYet, LedLeft, AllLeds, IsLedLived}
@@ -22,7 +22,7 @@ use Rattle.slave_steps.specs.Node.{Node}
 use Rattle.state_exchange.specs.Families.{InState}
 use Rattle.life_counts.specs.Epochs.{IsSpeaker}
 use Rattle.whole_ring.specs.Whole.{OpensBy, StandsBy}
-use Rattle.served_rings.specs.Served.{AreServedEras, IsServedNewest, IsServedLife, WasServed}
+use Rattle.served_rings.specs.Served.{AreServedEras, IsServedNewest, IsServedLife}
 use Rattle.served_rings.proofs.Epochs.{era_served}
 
 module _ (p : Profile) (k : IsSpeaker (speaker p)) (forgets : Forgets (speaker p).exchange (speaker p).core cleared_whole) (boot : Bool) (lens : ℕ → Lens) (spot : Spot) where

@@ -4,7 +4,6 @@ use Rattle.exchange_model.specs.Exchange.{Exchange, plain}
 use Rattle.exchange_model.specs.Prefix.{IsPrefixOf}
 use Rattle.exchange_model.specs.Rows.{Row}
 use Rattle.exchange_model.proofs.Lists.{append_none}
-use Rattle.passed_whole.specs.Silent.{IsForeseenRight}
 use Rattle.serving_model.specs.Passing.{ends_told, LastTells}
 use Rattle.serving_model.specs.Tagged.{Tagged, Asked, untag, no_reply}
 use Rattle.std.specs.Prelude.{Option}

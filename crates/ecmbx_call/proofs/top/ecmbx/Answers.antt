@@ -2,7 +2,7 @@ use Rattle.ec_outside.specs.Faults.{Rose}
 use Rattle.gateway_run.specs.Serving.{told}
 use Rattle.ecmbx_call.specs.Course.{words_of}
 use Rattle.ecmbx_call.proofs.Causes.{usage_cause, absent_cause, long_cause, refused_cause, broken_cause, given_up_cause, spent_cause, file_fault_cause, port_cause, ending_is, runs_to, saves_to, serves_to, shows_to, audits_to, makes_to}
-use Rattle.ecmbx_call.proofs.Complete.{completes_to}
+use Rattle.ecmbx_call.proofs.Complete.{completes_serving, completes_to}
 use Rattle.ecmbx_call.proofs.top.ecmbx.Goals as goal
 
 pub returns-clause-runs : goal.returns-clause-runs
@@ -21,6 +21,12 @@ returns-clause-completes g c =
     (runs_to (words_of c.args.words.now) (g.F.Files.table c.args.files.now) (g.F.Files.table c.carry_out.new.files) (Rose (g.F.Files.file_faults c.args.files.now) (g.F.Files.file_faults c.carry_out.new.files)) (told g.P.Port.heard g.P.Port.sent g.P.Port.over g.P.Port.port_faults c.args.port.now) (told g.P.Port.heard g.P.Port.sent g.P.Port.over g.P.Port.port_faults c.carry_out.new.port) c.carry_out.new.book
     (g.O.Sink.written c.args.out.now) (g.O.Sink.written c.carry_out.new.out) c.carry_out.result c.carry_out.ensures.course calm plan)
     (saves_to (words_of c.args.words.now) (g.F.Files.table c.args.files.now) (g.F.Files.table c.carry_out.new.files) (Rose (g.F.Files.file_faults c.args.files.now) (g.F.Files.file_faults c.carry_out.new.files)) (told g.P.Port.heard g.P.Port.sent g.P.Port.over g.P.Port.port_faults c.args.port.now) (told g.P.Port.heard g.P.Port.sent g.P.Port.over g.P.Port.port_faults c.carry_out.new.port) c.carry_out.new.book
+    (g.O.Sink.written c.args.out.now) (g.O.Sink.written c.carry_out.new.out) c.carry_out.result c.carry_out.ensures.course calm plan)
+
+pub returns-clause-completes_serving : goal.returns-clause-completes_serving
+returns-clause-completes_serving g c =
+    λ plan calm quiet. completes_serving (words_of c.args.words.now) (g.F.Files.table c.args.files.now) (Rose (g.O.Sink.sink_faults c.args.out.now) (g.O.Sink.sink_faults c.carry_out.new.out)) (told g.P.Port.heard g.P.Port.sent g.P.Port.over g.P.Port.port_faults c.args.port.now) (told g.P.Port.heard g.P.Port.sent g.P.Port.over g.P.Port.port_faults c.carry_out.new.port) plan c.carry_out.new.book (g.O.Sink.written c.args.out.now) (g.O.Sink.written c.carry_out.new.out) c.carry_out.result c.carry_out.ensures.sink quiet
+    (serves_to (words_of c.args.words.now) (g.F.Files.table c.args.files.now) (g.F.Files.table c.carry_out.new.files) (Rose (g.F.Files.file_faults c.args.files.now) (g.F.Files.file_faults c.carry_out.new.files)) (told g.P.Port.heard g.P.Port.sent g.P.Port.over g.P.Port.port_faults c.args.port.now) (told g.P.Port.heard g.P.Port.sent g.P.Port.over g.P.Port.port_faults c.carry_out.new.port) c.carry_out.new.book
     (g.O.Sink.written c.args.out.now) (g.O.Sink.written c.carry_out.new.out) c.carry_out.result c.carry_out.ensures.course calm plan)
 
 pub returns-clause-serves : goal.returns-clause-serves

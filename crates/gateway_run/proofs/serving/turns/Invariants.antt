@@ -2,7 +2,7 @@ use Rattle.std.proofs.Common.{◌≡◌, ℕ, [], true}
 use Rattle.std.specs.Bool.{OnTrue, OnFalse}
 use Rattle.segment_plan.specs.declared.plan.Scenario.{Scenario}
 use Rattle.run_record.specs.Served.{ServingLives, ServingRests}
-use Rattle.run_record.specs.Session.{session_rows, are_at_rest}
+use Rattle.run_record.specs.Session.{IsDone, session_rows, are_at_rest}
 use Rattle.gateway_run.specs.Serving.{Told, told, IsServing, left}
 use Rattle.gateway_run.proofs.serving.turns.Given as goal
 
@@ -12,6 +12,7 @@ invariant-loop-settled g l = record {
   empty : l.serving.desk.outbox.items ≡ [];
   at_rest : OnTrue l.settled (are_at_rest (session_rows l.serving.session) ≡ true);
   lives : OnFalse l.settled (ServingLives l.serving.session);
+  done : OnFalse l.settled (IsDone l.serving.session → ⊥);
   rests : OnTrue l.settled (ServingRests l.serving.session);
 }
 

@@ -1,13 +1,29 @@
+use Rattle.std.proofs.Common.{refl}
+use Rattle.gateway_run.specs.Serving.{told}
 use Rattle.life_runs.specs.First.{first_leads, lens_of}
+use Rattle.promised_run.proofs.ServedBounded.{bounded}
 use Rattle.promised_run.proofs.Through.{through}
 use Rattle.promised_run.proofs.Whole.{whole}
 use Rattle.promised_run.proofs.promised_serving.serve.Goals as goal
+use Rattle.run_book.specs.of_master_node.Happened.{events_of}
+use Rattle.run_promises.proofs.Known.{known}
+use Rattle.run_record.specs.Recalling.{state_of}
 
 pub returns-clause-through : goal.returns-clause-through
 returns-clause-through g c =
     let plan = c.args.plan.now in
     through plan c.args.count c.serve.new.book c.requires.plan c.requires.told c.served_replies_law.ensures
     (c.told_law.ensures (lens_of plan.slaves) plan.recover plan.retry plan.paces (first_leads plan)) (c.asked_law.ensures (lens_of plan.slaves) plan.recover plan.retry plan.paces (first_leads plan)) c.serve.ensures.frames
+
+pub returns-clause-bounded : goal.returns-clause-bounded
+returns-clause-bounded g c =
+    let plan = c.args.plan.now in
+    bounded plan c.args.count (told g.P.Port.heard g.P.Port.sent g.P.Port.over g.P.Port.port_faults c.args.port.now) (told g.P.Port.heard g.P.Port.sent g.P.Port.over g.P.Port.port_faults c.serve.new.port) c.serve.new.book c.serve.result
+    (λ ending stops a fair heard enough.
+    let v = a.answers.serving in
+    c.uncut_law.ensures plan c.args.count c.serve.new.book ending c.requires.plan (known plan c.requires.told) (c.room_law.ensures.told plan c.requires.plan c.requires.told) c.serve.ensures.frames stops a
+    (state_of a.session.master (events_of v.rows) a.session.ring) v.remembers refl fair heard enough)
+    c.serve.ensures.frames c.serve.ensures.served c.serve.ensures.ending
 
 pub returns-clause-whole : goal.returns-clause-whole
 returns-clause-whole g c = whole c.args.plan.now c.serve.new.book

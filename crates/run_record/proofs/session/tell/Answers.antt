@@ -8,6 +8,8 @@ use Rattle.segment_ring.specs.declared.wire.Fate.{Fate}
 use Rattle.segment_ring.specs.declared.wire.Fate.TheVariants as Fates
 use Rattle.served_runs.specs.Served.{served_behind}
 use Rattle.packets_heard.specs.Toured.{tour_behind, lives_behind}
+use Rattle.packets_heard.specs.Served.{serves_behind}
+use Rattle.master_node.specs.Serving.{run_lead, run_turn}
 use Rattle.master_node.specs.of_frame_view.Seen.{seen}
 use Rattle.master_node.specs.Joined.{HasUnfinished, stand_before, unfinished_after, mails_back}
 use Rattle.packets_heard.specs.Listed.{unfinished_of}
@@ -58,7 +60,7 @@ returns-in-Lost-clause-joined c = λ lens recover retry missed number us js f fa
     (c.lost.ensures.joined lens recover retry missed number c.in-Lost.after f.sent us (unfinished_of js) f lost refl under h)
 
 pub returns-in-Pass-clause-arrivals : goal.returns-in-Pass-clause-arrivals
-returns-in-Pass-clause-arrivals c = λ pass lens recover retry missed octets us js under back h. c.returned.ensures.arrivals lens recover retry missed octets us (unfinished_of js) under back h
+returns-in-Pass-clause-arrivals c = λ pass lens recover octets us js under back h. c.returned.ensures.arrivals lens recover octets us (unfinished_of js) under back h
 
 pub returns-in-Lost-clause-arrivals : goal.returns-in-Lost-clause-arrivals
 returns-in-Lost-clause-arrivals c = λ pass. absurd (let bad : Fates.Lost c.in-Lost.after ≡ Fates.Pass = sym c.in-Lost.is ∙ pass in cc)
@@ -69,6 +71,27 @@ returns-in-Pass-clause-downs c = λ after lost. absurd (let bad : Fates.Pass ≡
 pub returns-in-Lost-clause-downs : goal.returns-in-Lost-clause-downs
 returns-in-Lost-clause-downs c = λ after lost lens recover retry missed number us f fate under.
     c.lost.ensures.downs lens recover retry missed number after f.sent us f (fate ∙ lost) refl under
+
+pub returns-in-Pass-clause-joins : goal.returns-in-Pass-clause-joins
+returns-in-Pass-clause-joins c = λ lens recover retry missed made vs js f fate back under returns h.
+    let pass : f.fate ≡ Fates.Pass = fate ∙ c.in-Pass.is in
+    let behind = map stand_before (map run_lead (serves_behind lens recover retry missed made f vs)) in
+    subst (λ (k : Fate). HasUnfinished c.returned.new.self behind (unfinished_after (λ u. mails_by lens f k u) (map run_turn vs) (unfinished_of js))) (sym pass)
+    (subst (λ (o : List ℕ). HasUnfinished c.returned.new.self behind (unfinished_after (mails_back (seen lens o)) (map run_turn vs) (unfinished_of js))) (sym back)
+    (c.returned.ensures.joins lens recover retry missed made f.sent vs (unfinished_of js) f pass back under (returns c.in-Pass.is) h).1)
+
+pub returns-in-Lost-clause-joins : goal.returns-in-Lost-clause-joins
+returns-in-Lost-clause-joins c = λ lens recover retry missed made vs js f fate back under returns h.
+    let lost : f.fate ≡ Fates.Lost c.in-Lost.after = fate ∙ c.in-Lost.is in
+    subst (λ (k : Fate). HasUnfinished c.lost.new.self (map stand_before (map run_lead (serves_behind lens recover retry missed made f vs))) (unfinished_after (λ u. mails_by lens f k u) (map run_turn vs) (unfinished_of js))) (sym lost)
+    (c.lost.ensures.joins lens recover retry missed made c.in-Lost.after f.sent vs (unfinished_of js) f lost refl under h)
+
+pub returns-in-Pass-clause-leaves : goal.returns-in-Pass-clause-leaves
+returns-in-Pass-clause-leaves c = λ after lost. absurd (let bad : Fates.Pass ≡ Fates.Lost after = sym c.in-Pass.is ∙ lost in cc)
+
+pub returns-in-Lost-clause-leaves : goal.returns-in-Lost-clause-leaves
+returns-in-Lost-clause-leaves c = λ after lost lens recover retry missed made vs f fate under.
+    c.lost.ensures.leaves lens recover retry missed made after f.sent vs f (fate ∙ lost) refl under
 
 pub returns-in-Pass-clause-counts : goal.returns-in-Pass-clause-counts
 returns-in-Pass-clause-counts c = c.returned.ensures.counts
@@ -115,3 +138,15 @@ returns-in-Pass-clause-whole c = c.returned.ensures.whole
 
 pub returns-in-Lost-clause-whole : goal.returns-in-Lost-clause-whole
 returns-in-Lost-clause-whole c = c.lost.ensures.whole
+
+pub returns-in-Pass-clause-remembers : goal.returns-in-Pass-clause-remembers
+returns-in-Pass-clause-remembers c = λ pass lens recover retry missed made vs f fate back under returns asks. c.returned.ensures.remembers lens recover retry missed made f.sent vs f (fate ∙ c.in-Pass.is) back under returns asks
+
+pub returns-in-Lost-clause-remembers : goal.returns-in-Lost-clause-remembers
+returns-in-Lost-clause-remembers c = λ pass. absurd (let bad : Fates.Lost c.in-Lost.after ≡ Fates.Pass = sym c.in-Lost.is ∙ pass in cc)
+
+pub returns-in-Pass-clause-stays : goal.returns-in-Pass-clause-stays
+returns-in-Pass-clause-stays c = λ after lost. absurd (let bad : Fates.Pass ≡ Fates.Lost after = sym c.in-Pass.is ∙ lost in cc)
+
+pub returns-in-Lost-clause-stays : goal.returns-in-Lost-clause-stays
+returns-in-Lost-clause-stays c = λ after lost lens recover retry missed made vs f under. c.lost.ensures.remembers lens recover retry missed made f.sent vs f under

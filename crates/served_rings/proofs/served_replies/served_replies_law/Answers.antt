@@ -1,6 +1,6 @@
-use Rattle.std.proofs.Common.{ap, sym, ◌∙◌, subst}
+use Rattle.std.proofs.Common.{sym, ◌∙◌, subst}
 use Rattle.life_runs.specs.First.{lens_of}
-use Rattle.plan_ring.specs.Round.{all_seen, ring_after, ring_of}
+use Rattle.plan_ring.specs.Round.{all_seen}
 use Rattle.plan_ring.proofs.Known.{macs_in}
 use Rattle.served_rings.specs.Served.{AllServeSo}
 use Rattle.served_rings.proofs.ServedAll.{all_serve_so, nodes_of}

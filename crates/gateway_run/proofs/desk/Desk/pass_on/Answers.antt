@@ -4,7 +4,7 @@ use Rattle.mailbox_mail.specs.Mail.{error_of}
 use Rattle.mailbox_mail.specs.declared.mail.Mail.{Mail}
 use Rattle.run_book.specs.declared.book.GramOut.{GramOut}
 use Rattle.run_record.specs.Served.{ServingAsks}
-use Rattle.run_record.specs.Session.{Asks}
+use Rattle.run_record.specs.Session.{Asks, IsDone}
 use Rattle.gateway_run.specs.Account.{owing, others}
 use Rattle.gateway_run.specs.Desk.{Owes}
 use Rattle.gateway_run.proofs.Accounts.{others_push}
@@ -41,3 +41,6 @@ returns-then-branch-clause-passes c = λ heard o free.
       refl,
       subst (λ (b : Bool). ServingAsks r.slave r.key c.args.mail.now c.args.session.now c.ask.new.self b) some c.in_ok-ask.ensures.serves,
     )
+
+pub returns-in_err-ask-clause-busy : goal.returns-in_err-ask-clause-busy
+returns-in_err-ask-clause-busy c = λ done. subst IsDone c.in_err-ask.ensures.err done

@@ -2,7 +2,7 @@ use Rattle.std.proofs.Common.{◌≡◌, true, false, refl, ap, ◌∙◌, rules
 use Rattle.std.proofs.lemmas.Bool.{OnFalse_at}
 use Rattle.std.specs.Prelude.{Err}
 use Rattle.std.proofs.lemmas.Result.{err_from_is_err_and}
-use Rattle.run_record.specs.Session.{has_live}
+use Rattle.run_record.specs.Session.{IsDone, has_live}
 use Rattle.gateway_run.proofs.Cut.{frames_stepped}
 use Rattle.gateway_run.proofs.Turns.{stepped, frames_cut, goes_without}
 use Rattle.gateway_run.proofs.turn.Serving.frame.Goals as goal
@@ -10,8 +10,8 @@ use Rattle.gateway_run.proofs.turn.Serving.frame.Goals as goal
 pub returns-clause-goes : goal.returns-clause-goes
 returns-clause-goes c = λ plan count first now live h.
     let goes : c.args.rests ≡ false = search rules in
-    let is : has_live c.args.self.now.session.master ≡ true = OnFalse_at goes live in
-    stepped plan count first now c.args.self.now _ c.args.book.now c.step.new.book c.in_ok-step.ensures.ok.0 h c.if-spent.ensures.left c.in_ok-step.ensures.ok.1 c.in_ok-step.ensures.ok.2 is c.in_ok-note_all.ensures refl refl
+    let is : (has_live c.args.self.now.session.master ≡ true) × (IsDone c.args.self.now.session → ⊥) = OnFalse_at goes live in
+    stepped plan count first now c.args.self.now _ c.args.book.now c.step.new.book c.in_ok-step.ensures.ok.0 h c.if-spent.ensures.left c.in_ok-step.ensures.ok.1 c.in_ok-step.ensures.ok.2 is.0 is.1 c.in_ok-note_all.ensures refl refl
 
 pub returns-in_err-step-clause-goes : goal.returns-in_err-step-clause-goes
 returns-in_err-step-clause-goes c = λ plan count first now live h.

@@ -34,5 +34,6 @@ loop-self-preserved g c = record {
       c.in_ok-take.ensures.goes plan count first _ _ (not_full c.loop-self.self.desk c.is_full.result c.is_full.ensures c.if-not-is_full.true) (same_gram plan count first _ c.loop-self.self _ c.loop-self.book refl refl refl refl (c.loop-self.invariant.goes plan count first h))
       (record { hears = c.in_ok-heard.ensures.hears; sent = c.in_ok-heard.ensures.sends; over = c.in_ok-heard.ensures.ended; later = c.in_ok-heard.ensures.later });
   live = c.in_ok-take.ensures.live ∙ c.loop-self.invariant.live;
+  busy = λ done. c.loop-self.invariant.busy (c.in_ok-take.ensures.busy done);
   most = let a = c.in_ok-take.ensures.most in let b = c.loop-self.invariant.most in omega (arith, a, b);
 }

@@ -24,8 +24,8 @@ returns-in_err-on-clause-goes g c = λ plan count first live none h.
     let now = told g.P.Port.heard g.P.Port.sent g.P.Port.over g.P.Port.port_faults c.hear.new.port in
     let heard : IsServing plan count first now c.hear.new.self c.hear.new.book = c.in_ok-hear.ensures.goes plan count first none h in
     let lives : LivesUnless c.if-settled.rests c.hear.new.self.session = elim c.if-settled.branch [
-      | then-settled v ↦ lives_on plan count c.hear.new.self c.hear.new.book heard.on c.if-settled.rests v.settled-rests.result v.rests-is v.settled-rests.ensures.lives
-      | else-settled v ↦ lives_still c.args.self.now.session c.hear.new.self.session c.in_ok-hear.ensures.live c.if-settled.rests c.args.settled v.if-settled.false live
+      | then-settled v ↦ lives_on plan count c.hear.new.self c.hear.new.book heard.on c.if-settled.rests v.settled-rests.result v.rests-is v.settled-rests.ensures.lives v.settled-rests.ensures.done
+      | else-settled v ↦ lives_still c.args.self.now.session c.hear.new.self.session c.in_ok-hear.ensures.live c.in_ok-hear.ensures.busy c.if-settled.rests c.args.settled v.if-settled.false live
     ] in
     goes_so plan count first now c.frame.new.self c.frame.new.book c.in_err-on.field-0.0 c.frame.result c.from_residual-in_err-on.result c.in_err-on.was same (c.frame.ensures.goes plan count first now lives heard)
 
@@ -38,8 +38,8 @@ returns-in_err-send-clause-goes g c = λ plan count first live none h.
     let now = told g.P.Port.heard g.P.Port.sent g.P.Port.over g.P.Port.port_faults c.hear.new.port in
     let heard : IsServing plan count first now c.hear.new.self c.hear.new.book = c.in_ok-hear.ensures.goes plan count first none h in
     let lives : LivesUnless c.if-settled.rests c.hear.new.self.session = elim c.if-settled.branch [
-      | then-settled v ↦ lives_on plan count c.hear.new.self c.hear.new.book heard.on c.if-settled.rests v.settled-rests.result v.rests-is v.settled-rests.ensures.lives
-      | else-settled v ↦ lives_still c.args.self.now.session c.hear.new.self.session c.in_ok-hear.ensures.live c.if-settled.rests c.args.settled v.if-settled.false live
+      | then-settled v ↦ lives_on plan count c.hear.new.self c.hear.new.book heard.on c.if-settled.rests v.settled-rests.result v.rests-is v.settled-rests.ensures.lives v.settled-rests.ensures.done
+      | else-settled v ↦ lives_still c.args.self.now.session c.hear.new.self.session c.in_ok-hear.ensures.live c.in_ok-hear.ensures.busy c.if-settled.rests c.args.settled v.if-settled.false live
     ] in
     goes_so plan count first _ _ _ c.in_err-send.field-0.0 c.send.result c.from_residual-in_err-send.result c.in_err-send.was same
     (c.send.ensures.goes plan count first (c.in_ok-on.ensures.goes plan count first now lives heard))
@@ -49,7 +49,7 @@ returns-clause-goes g c = λ plan count first live none h.
     let now = told g.P.Port.heard g.P.Port.sent g.P.Port.over g.P.Port.port_faults c.hear.new.port in
     let heard : IsServing plan count first now c.hear.new.self c.hear.new.book = c.in_ok-hear.ensures.goes plan count first none h in
     let lives : LivesUnless c.if-settled.rests c.hear.new.self.session = elim c.if-settled.branch [
-      | then-settled v ↦ lives_on plan count c.hear.new.self c.hear.new.book heard.on c.if-settled.rests v.settled-rests.result v.rests-is v.settled-rests.ensures.lives
-      | else-settled v ↦ lives_still c.args.self.now.session c.hear.new.self.session c.in_ok-hear.ensures.live c.if-settled.rests c.args.settled v.if-settled.false live
+      | then-settled v ↦ lives_on plan count c.hear.new.self c.hear.new.book heard.on c.if-settled.rests v.settled-rests.result v.rests-is v.settled-rests.ensures.lives v.settled-rests.ensures.done
+      | else-settled v ↦ lives_still c.args.self.now.session c.hear.new.self.session c.in_ok-hear.ensures.live c.in_ok-hear.ensures.busy c.if-settled.rests c.args.settled v.if-settled.false live
     ] in
     c.in_ok-send.ensures.goes plan count first (c.in_ok-on.ensures.goes plan count first now lives heard)

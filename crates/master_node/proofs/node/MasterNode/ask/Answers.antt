@@ -1,4 +1,6 @@
-use Rattle.std.proofs.Common.{◌≡◌, ◌<◌, ◌∙◌, sym, arith, length}
+use Rattle.std.proofs.Common.{◌≡◌, ◌<◌, ◌∙◌, [], sym, arith, length}
+use Rattle.std.specs.Prelude.{slice_get}
+use Rattle.master_node.proofs.Restings.{if_less, none_before}
 use Rattle.master_tour.proofs.Walks.{steps_both, steps_set}
 use Rattle.master_node.specs.Appends.{AppendsMail}
 use Rattle.master_node.proofs.Places.{waiting_here}
@@ -53,6 +55,13 @@ returns-clause-served c = λ lens recover retry missed made ws r f h.
         numbered = numbers_asked c.args.key c.args.mail.now a.asks c.args.slave ws m.posts.items _ (steps_both _ _ c.args.slave m.posts.items _ (returns-clause-waits c r) stays) h.numbered;
       },
     )
+
+pub returns-clause-idle : goal.returns-clause-idle
+returns-clause-idle c = λ idle.
+    let m = c.args.self.now in
+    let l : c.args.slave < length m.posts.items = omega (arith, c.requires, m.posts.ok.0) in
+    let goes = steps_set (λ p q. q.mails.items ≡ [] → p.mails.items ≡ []) c.args.slave m.posts.items c.index_mut.result.now c.ask.new.self l c.index_mut.ensures.value c.ask.ensures.empty in
+    record { rest = λ k. if_less _ _ (slice_get m.tour.stops.items k) (λ s p. (p.0, λ o. none_before c.args.slave m.posts.items _ goes k (p.1 o))) (idle.rest k); come = idle.come }
 
 pub returns-clause-counts : goal.returns-clause-counts
 returns-clause-counts c =

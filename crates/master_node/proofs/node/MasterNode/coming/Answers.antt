@@ -1,9 +1,11 @@
-use Rattle.std.proofs.Common.{◌≡◌, ◌<◌, Option, Some, None, true, false, sym, ◌∙◌, arith, length}
+use Rattle.std.proofs.Common.{◌≡◌, ◌<◌, Option, Some, None, [], true, false, sym, ◌∙◌, arith, length}
 use Rattle.std.specs.Prelude.{IfSome, is_some, slice_get}
 use Rattle.master_side.specs.Free.{is_free_side}
 use Rattle.master_tour.specs.declared.stop.Stand.{Stand}
 use Rattle.master_node.specs.Coming.{next_of}
 use Rattle.master_node.specs.Starts.{NoneComes, SideFrees}
+use Rattle.master_node.specs.Passes.{waits_in}
+use Rattle.master_node.specs.Serving.{mails_in}
 use Rattle.master_node.proofs.Lists.{some_here}
 use Rattle.master_node.proofs.node.MasterNode.coming.Goals as goal
 
@@ -12,16 +14,16 @@ some_both P Q R None f p q = tt
 some_both P Q R (Some t) f p q = f t p q
 
 pub returns-in-Gone-clause-none : goal.returns-in-Gone-clause-none
-returns-in-Gone-clause-none c = λ w e.
+returns-in-Gone-clause-none c = λ e.
     let m = c.args.self.now in
     let l : c.args.place < length m.tour.stops.items = omega (arith, c.requires, m.paired, m.tour.stops.ok.0) in
-    some_here (λ s. s.stand ≡ Stand.Open → SideFrees s.side → NoneComes m.lan c.args.place (next_of s)) m.tour.stops.items c.args.place c.index-stop.result.now l c.index-stop.ensures (λ o f. absurd (let t = sym c.in-Gone.is ∙ o in cc))
+    some_here (λ s. s.stand ≡ Stand.Open → SideFrees s.side → NoneComes m.lan c.args.place (next_of s) × (waits_in (mails_in m) c.args.place ≡ [])) m.tour.stops.items c.args.place c.index-stop.result.now l c.index-stop.ensures (λ o f. absurd (let t = sym c.in-Gone.is ∙ o in cc))
 
 pub returns-in-Opening-clause-none : goal.returns-in-Opening-clause-none
-returns-in-Opening-clause-none c = λ w e.
+returns-in-Opening-clause-none c = λ e.
     let m = c.args.self.now in
     let l : c.args.place < length m.tour.stops.items = omega (arith, c.requires, m.paired, m.tour.stops.ok.0) in
-    some_here (λ s. s.stand ≡ Stand.Open → SideFrees s.side → NoneComes m.lan c.args.place (next_of s)) m.tour.stops.items c.args.place c.index-stop.result.now l c.index-stop.ensures (λ o f. absurd (let t = sym c.in-Opening.is ∙ o in cc))
+    some_here (λ s. s.stand ≡ Stand.Open → SideFrees s.side → NoneComes m.lan c.args.place (next_of s) × (waits_in (mails_in m) c.args.place ≡ [])) m.tour.stops.items c.args.place c.index-stop.result.now l c.index-stop.ensures (λ o f. absurd (let t = sym c.in-Opening.is ∙ o in cc))
 
 pub returns-in-Gone-clause-free : goal.returns-in-Gone-clause-free
 returns-in-Gone-clause-free c =
@@ -48,3 +50,6 @@ returns-in-Open-clause-states c = c.coming_open.ensures.states
 
 pub returns-in-Open-clause-oldest : goal.returns-in-Open-clause-oldest
 returns-in-Open-clause-oldest c = c.coming_open.ensures.oldest
+
+pub returns-in-Open-clause-last : goal.returns-in-Open-clause-last
+returns-in-Open-clause-last c = c.coming_open.ensures.last

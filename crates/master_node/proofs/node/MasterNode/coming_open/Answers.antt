@@ -1,4 +1,4 @@
-use Rattle.std.proofs.Common.{◌≡◌, ◌<◌, true, false, Some, sym, ◌∙◌, arith, length, rules}
+use Rattle.std.proofs.Common.{◌≡◌, ◌<◌, true, false, Some, [], sym, ◌∙◌, arith, length, rules}
 use Rattle.std.specs.Prelude.{is_some}
 use Rattle.master_side.specs.Free.{is_free_side}
 use Rattle.master_tour.specs.declared.stop.Stand.{Stand}
@@ -8,16 +8,17 @@ use Rattle.master_node.specs.declared.coming.Coming.{Coming}
 use Rattle.master_node.proofs.Lists.{some_here}
 use Rattle.master_node.proofs.Restings.{never}
 use Rattle.master_node.proofs.Starts.{none_waiting, some_waiting, waits_other}
-use Rattle.master_node.specs.Passes.{IsNextState}
-use Rattle.master_node.proofs.Mailings.{mail_waits, next_state, none_waits, waits_here}
+use Rattle.master_node.specs.Passes.{IsNextState, waits_in}
+use Rattle.master_node.specs.Serving.{mails_in}
+use Rattle.master_node.proofs.Mailings.{mail_waits, next_state, none_left, none_waits, script_last, waits_here}
 use Rattle.master_node.proofs.node.MasterNode.coming_open.Goals as goal
 
 pub returns-then-not-is_free-clause-none : goal.returns-then-not-is_free-clause-none
-returns-then-not-is_free-clause-none c = λ w e.
+returns-then-not-is_free-clause-none c = λ e.
     let m = c.args.self.now in
     let l : c.args.place < length m.tour.stops.items = omega (arith, c.requires, m.paired, m.tour.stops.ok.0) in
     let free : c.is_free.result ≡ false = search rules in
-    some_here (λ s. s.stand ≡ Stand.Open → SideFrees s.side → NoneComes m.lan c.args.place (next_of s)) m.tour.stops.items c.args.place c.index-stop.result.now l c.index-stop.ensures
+    some_here (λ s. s.stand ≡ Stand.Open → SideFrees s.side → NoneComes m.lan c.args.place (next_of s) × (waits_in (mails_in m) c.args.place ≡ [])) m.tour.stops.items c.args.place c.index-stop.result.now l c.index-stop.ensures
     (λ o f. absurd (never (sym free ∙ c.is_free.ensures.may f.speech f.side f.account f.known f.shows f.hand f.unpassed f.free f.done)))
 
 pub returns-then-waits-clause-waits : goal.returns-then-waits-clause-waits
@@ -32,12 +33,21 @@ returns-clause-comes c = λ w.
     some_here (λ s. IsComing (next_of s) c.scripted.result) m.tour.stops.items c.args.place c.index-stop.result.now l c.index-stop.ensures c.scripted.ensures.comes
 
 pub returns-clause-none : goal.returns-clause-none
-returns-clause-none c = λ w e.
+returns-clause-none c = λ e.
     let m = c.args.self.now in
     let l : c.args.place < length m.tour.stops.items = omega (arith, c.requires, m.paired, m.tour.stops.ok.0) in
     let no : c.waits.result ≡ false = search rules in
-    some_here (λ s. s.stand ≡ Stand.Open → SideFrees s.side → NoneComes m.lan c.args.place (next_of s)) m.tour.stops.items c.args.place c.index-stop.result.now l c.index-stop.ensures
-    (λ o f. (none_waiting _ (sym c.waits.ensures ∙ no), c.scripted.ensures.none e))
+    let k : c.args.place < length m.posts.items = omega (arith, c.requires, m.posts.ok.0) in
+    let without : c.has_mail.result ≡ false = search rules in
+    some_here (λ s. s.stand ≡ Stand.Open → SideFrees s.side → NoneComes m.lan c.args.place (next_of s) × (waits_in (mails_in m) c.args.place ≡ [])) m.tour.stops.items c.args.place c.index-stop.result.now l c.index-stop.ensures
+    (λ o f. ((none_waiting _ (sym c.waits.ensures ∙ no), c.scripted.ensures.none e), none_left m.posts.items c.args.place c.index.result.now k c.index.ensures (c.has_mail.ensures.0 without)))
+
+pub returns-clause-last : goal.returns-clause-last
+returns-clause-last c =
+    let m = c.args.self.now in
+    let k : c.args.place < length m.posts.items = omega (arith, c.requires, m.posts.ok.0) in
+    let without : c.has_mail.result ≡ false = search rules in
+    script_last (waits_in (mails_in m) c.args.place) c.scripted.result (none_left m.posts.items c.args.place c.index.result.now k c.index.ensures (c.has_mail.ensures.0 without))
 
 pub returns-clause-mails : goal.returns-clause-mails
 returns-clause-mails c =

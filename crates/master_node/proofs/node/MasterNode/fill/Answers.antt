@@ -71,9 +71,9 @@ loop-init c = (
   (λ b short. (visiting_first c.args.into.now.items c.args.self.now short b, b.count)),
   happens_none 0 _ _ refl,
   makes_none _ _ refl,
-  (λ quiet b short. (quiet, each_same (λ s t. StopGoes s t) c.args.self.now.tour.stops.items (λ s. (refl, λ h. h)))),
+  (λ b short. each_same (λ s t. StopGoes s t) c.args.self.now.tour.stops.items (λ s. (refl, λ h. h))),
   omega arith,
-  (λ lens recover made forwards ws d f b. rounds_first (map run_lead ws) (λ left m octets. IsPassing lens recover made forwards left m octets ws) (λ left m octets g. many_serve lens recover made forwards ws left m octets g) (λ left m n octets k g. passing_same lens recover made forwards ws left m n octets k g) c.args.self.now c.args.into.now.items f b),
+  (λ lens recover made from ws d f b. rounds_first (map run_lead ws) (λ left m octets. IsPassing lens recover made from left m octets ws) (λ left m octets g. many_serve lens recover made from ws left m octets g) (λ left m n octets k g. passing_same lens recover made from ws left m n octets k g) c.args.self.now c.args.into.now.items f b),
   refl,
   (λ few base x. x),
 )
@@ -114,30 +114,27 @@ loop-preserved c = (
       )),
   happens_then c.loop.counter 1 _ _ _ c.loop.invariant.6 c.visit.ensures.lan,
   makes_then _ _ _ c.loop.invariant.7 c.visit.ensures.made,
-  (λ quiet b short.
+  (λ b short.
       let e = c.due.ensures in
       let v = c.visit.ensures in
       let p = c.in-Some.place in
       let is : c.due.result ≡ Some p = cc in
-      let was = c.loop.invariant.8 quiet b short in
       let none = unvisited c.loop.into.items c.visit.new.into.items c.args.self.now c.loop.self c.visit.new.self c.due.new.self p (c.loop.invariant.5 b short).0 c.loop.invariant.2
-      (record { stops = e.stops; count = e.kept.0; again = e.kept.1; visit = e.kept.2 }) (e.order p is).1 (c.in-Some.ensures.few) v.on.1 v.visits v.shares v.takes in (
-        v.quiet was.0,
-        each_trans (λ s t. StopGoes s t) c.args.self.now.tour.stops.items c.loop.self.tour.stops.items c.visit.new.self.tour.stops.items (λ x y z a h. (h.0 ∙ a.0, λ g. h.1 (a.1 g))) was.1
-            (subst (λ z. EachPair (λ s t. StopGoes s t) z.items c.visit.new.self.tour.stops.items) e.stops (v.eager was.0 none)),
-      )),
+      (record { stops = e.stops; count = e.kept.0; again = e.kept.1; visit = e.kept.2 }) (e.order p is).1 (c.in-Some.ensures.few) v.on.1 v.visits v.shares v.takes in
+      each_trans (λ s t. StopGoes s t) c.args.self.now.tour.stops.items c.loop.self.tour.stops.items c.visit.new.self.tour.stops.items (λ x y z a h. (h.0 ∙ a.0, λ g. h.1 (a.1 g))) (c.loop.invariant.8 b short)
+      (subst (λ z. EachPair (λ s t. StopGoes s t) z.items c.visit.new.self.tour.stops.items) e.stops (v.eager none))),
   (let h = c.loop.invariant.9 in let v = c.visit.ensures.events in omega (arith, h, v)),
-  (λ lens recover made forwards ws d f b.
+  (λ lens recover made from ws d f b.
       let e = c.due.ensures in
       let v = c.visit.ensures in
-      let r = c.loop.invariant.10 lens recover made forwards ws d f b in
+      let r = c.loop.invariant.10 lens recover made from ws d f b in
       let p = c.in-Some.place in
       let is : c.due.result ≡ Some p = cc in
       let yes : c.visit.result ≡ true = cc in
-      rounds_more (map run_lead ws) (λ left m octets. IsPassing lens recover made forwards left m octets ws) (λ left m octets g. many_serve lens recover made forwards ws left m octets g) (λ left m n octets k g. passing_same lens recover made forwards ws left m n octets k g)
+      rounds_more (map run_lead ws) (λ left m octets. IsPassing lens recover made from left m octets ws) (λ left m octets g. many_serve lens recover made from ws left m octets g) (λ left m n octets k g. passing_same lens recover made from ws left m n octets k g)
       c.loop.counter c.loop.self _ c.visit.new.self c.loop.into.items c.visit.new.into.items p r (record { stops = e.stops; count = e.kept.0; again = e.kept.1; visit = e.kept.2; opened = e.kept.3; last = e.kept.4; made = refl; posts = refl; list = refl; lan = refl }) (λ a. e.left p is a) (λ a b g h. passes_at (λ s. is_live s.stand) c.loop.self.tour.stops.items c.due.result p is (e.first a b g h))
       (c.in-Some.ensures.few) v.on.0 v.on.1 v.visits v.counts (λ a b. (v.first a b).1)
-      (λ left other a o s g. subst (λ (z : Bool). IsPassing lens recover made forwards (if z then other else left) c.visit.new.self c.visit.new.into.items ws) yes (v.serves lens recover made forwards left other ws (let u = c.loop.invariant.9 in let e = b.listed in let t = c.loop-test.true in omega (arith, u, e, t)) d a o s g))),
+      (λ left other a o s g. subst (λ (z : Bool). IsPassing lens recover made from (if z then other else left) c.visit.new.self c.visit.new.into.items ws) yes (v.serves lens recover made from left other ws (let w = b.room in let h = c.loop.invariant.6.few in let t = c.loop-test.true in omega (arith, w, h, t)) (let u = c.loop.invariant.9 in let e = b.listed in let t = c.loop-test.true in omega (arith, u, e, t)) d a o s g))),
   c.visit.ensures.head ∙ c.loop.invariant.11,
   (λ few base x. c.visit.ensures.answers (let h = c.loop.invariant.9 in let t = c.loop-test.true in omega (arith, few, h, t)) base (c.loop.invariant.12 few base x)),
 )
@@ -235,83 +232,83 @@ pub returns-clause-made : goal.returns-clause-made
 returns-clause-made c = c.loop.invariant.7
 
 pub returns-in_default-clause-eager : goal.returns-in_default-clause-eager
-returns-in_default-clause-eager c = λ quiet b short.
-    subst (λ z. EachPair (λ s t. StopGoes s t) c.args.self.now.tour.stops.items z.items) (sym c.due.ensures.stops) (c.loop.invariant.8 quiet b short).1
+returns-in_default-clause-eager c = λ b short.
+    subst (λ z. EachPair (λ s t. StopGoes s t) c.args.self.now.tour.stops.items z.items) (sym c.due.ensures.stops) (c.loop.invariant.8 b short)
 
 pub returns-then-not-visit-clause-eager : goal.returns-then-not-visit-clause-eager
-returns-then-not-visit-clause-eager c = λ quiet b short.
+returns-then-not-visit-clause-eager c = λ b short.
     let e = c.due.ensures in
     let v = c.visit.ensures in
     let p = c.in-Some.place in
     let is : c.due.result ≡ Some p = cc in
-    let was = c.loop.invariant.8 quiet b short in
+    let was = c.loop.invariant.8 b short in
     let none = unvisited c.loop.into.items c.visit.new.into.items c.args.self.now c.loop.self c.visit.new.self c.due.new.self p (c.loop.invariant.5 b short).0 c.loop.invariant.2
     (record { stops = e.stops; count = e.kept.0; again = e.kept.1; visit = e.kept.2 }) (e.order p is).1 (c.in-Some.ensures.few) v.on.1 v.visits v.shares v.takes in
-    each_trans (λ s t. StopGoes s t) c.args.self.now.tour.stops.items c.loop.self.tour.stops.items c.visit.new.self.tour.stops.items (λ x y z a h. (h.0 ∙ a.0, λ g. h.1 (a.1 g))) was.1
-    (subst (λ z. EachPair (λ s t. StopGoes s t) z.items c.visit.new.self.tour.stops.items) e.stops (v.eager was.0 none))
+    each_trans (λ s t. StopGoes s t) c.args.self.now.tour.stops.items c.loop.self.tour.stops.items c.visit.new.self.tour.stops.items (λ x y z a h. (h.0 ∙ a.0, λ g. h.1 (a.1 g))) was
+    (subst (λ z. EachPair (λ s t. StopGoes s t) z.items c.visit.new.self.tour.stops.items) e.stops (v.eager none))
 
 pub returns-then-self-count-clause-eager : goal.returns-then-self-count-clause-eager
-returns-then-self-count-clause-eager c = λ quiet b short.
+returns-then-self-count-clause-eager c = λ b short.
     let e = c.due.ensures in
     let v = c.visit.ensures in
     let p = c.in-Some.place in
     let is : c.due.result ≡ Some p = cc in
-    let was = c.loop.invariant.8 quiet b short in
+    let was = c.loop.invariant.8 b short in
     let none = unvisited c.loop.into.items c.visit.new.into.items c.args.self.now c.loop.self c.visit.new.self c.due.new.self p (c.loop.invariant.5 b short).0 c.loop.invariant.2
     (record { stops = e.stops; count = e.kept.0; again = e.kept.1; visit = e.kept.2 }) (e.order p is).1 (c.in-Some.ensures.few) v.on.1 v.visits v.shares v.takes in
-    each_trans (λ s t. StopGoes s t) c.args.self.now.tour.stops.items c.loop.self.tour.stops.items c.visit.new.self.tour.stops.items (λ x y z a h. (h.0 ∙ a.0, λ g. h.1 (a.1 g))) was.1
-    (subst (λ z. EachPair (λ s t. StopGoes s t) z.items c.visit.new.self.tour.stops.items) e.stops (v.eager was.0 none))
+    each_trans (λ s t. StopGoes s t) c.args.self.now.tour.stops.items c.loop.self.tour.stops.items c.visit.new.self.tour.stops.items (λ x y z a h. (h.0 ∙ a.0, λ g. h.1 (a.1 g))) was
+    (subst (λ z. EachPair (λ s t. StopGoes s t) z.items c.visit.new.self.tour.stops.items) e.stops (v.eager none))
 
 pub returns-clause-eager : goal.returns-clause-eager
-returns-clause-eager c = λ quiet b short. (c.loop.invariant.8 quiet b short).1
+returns-clause-eager c = c.loop.invariant.8
 
 pub returns-in_default-clause-serves : goal.returns-in_default-clause-serves
-returns-in_default-clause-serves c = λ lens recover made forwards ws d f b.
+returns-in_default-clause-serves c = λ lens recover made from ws d f b.
     let e = c.due.ensures in
-    let r = c.loop.invariant.10 lens recover made forwards ws d f b in
+    let r = c.loop.invariant.10 lens recover made from ws d f b in
     let none : c.due.result ≡ None = cc in
-    let x = rounds_same (map run_lead ws) (λ left m octets. IsPassing lens recover made forwards left m octets ws) (λ left m octets g. many_serve lens recover made forwards ws left m octets g) (λ left m n octets k g. passing_same lens recover made forwards ws left m n octets k g)
+    let x = rounds_same (map run_lead ws) (λ left m octets. IsPassing lens recover made from left m octets ws) (λ left m octets g. many_serve lens recover made from ws left m octets g) (λ left m n octets k g. passing_same lens recover made from ws left m n octets k g)
     c.loop.counter c.loop.self _ c.loop.into.items (record { stops = e.stops; count = e.kept.0; again = e.kept.1; visit = e.kept.2; opened = e.kept.3; last = e.kept.4; made = refl; posts = refl; list = refl; lan = refl }) r
     (some_count c.loop.counter (λ z. let y = r.none z in passes_some (λ s. is_live s.stand) c.loop.self.tour.stops.items c.due.result none (e.first y.count y.passed y.begins y.some))) in
     (x.left, x.filling, x.ends)
 
 pub returns-then-not-visit-clause-serves : goal.returns-then-not-visit-clause-serves
-returns-then-not-visit-clause-serves c = λ lens recover made forwards ws d f b.
+returns-then-not-visit-clause-serves c = λ lens recover made from ws d f b.
     let e = c.due.ensures in
     let v = c.visit.ensures in
-    let r = c.loop.invariant.10 lens recover made forwards ws d f b in
+    let r = c.loop.invariant.10 lens recover made from ws d f b in
     let p = c.in-Some.place in
     let is : c.due.result ≡ Some p = cc in
     let no : c.visit.result ≡ false = cc in
     let next = e.left p is (λ a. r.once) in
-    let x = rounds_still (map run_lead ws) (λ left m octets. IsPassing lens recover made forwards left m octets ws) (λ left m octets g. many_serve lens recover made forwards ws left m octets g) (λ left m n octets k g. passing_same lens recover made forwards ws left m n octets k g)
+    let x = rounds_still (map run_lead ws) (λ left m octets. IsPassing lens recover made from left m octets ws) (λ left m octets g. many_serve lens recover made from ws left m octets g) (λ left m n octets k g. passing_same lens recover made from ws left m n octets k g)
     c.loop.counter c.loop.self _ c.visit.new.self c.loop.into.items c.visit.new.into.items p
     (some_count c.loop.counter (λ z.
     let y = r.none z in
     let yes = (v.first y.short (subst (λ w. holds_at (λ s. is_live s.stand) w.items p ≡ true) (sym e.stops) (passes_at (λ s. is_live s.stand) c.loop.self.tour.stops.items c.due.result p is (e.first y.count y.passed y.begins y.some)))).0 in
     (let w : true ≡ false = sym yes ∙ no in cc)))
     r (record { stops = e.stops; count = e.kept.0; again = e.kept.1; visit = e.kept.2; opened = e.kept.3; last = e.kept.4; made = refl; posts = refl; list = refl; lan = refl }) (r.most p next.among) v.on.0 (v.still no).0 (v.still no).1
-    (λ left other a o s g. subst (λ (z : Bool). IsPassing lens recover made forwards (if z then other else left) c.visit.new.self c.visit.new.into.items ws) no (v.serves lens recover made forwards left other ws (let u = c.loop.invariant.9 in let e = b.listed in let t = c.loop-test.true in omega (arith, u, e, t)) d a o s g)) in
+    (λ left other a o s g. subst (λ (z : Bool). IsPassing lens recover made from (if z then other else left) c.visit.new.self c.visit.new.into.items ws) no (v.serves lens recover made from left other ws (let w = b.room in let h = c.loop.invariant.6.few in let t = c.loop-test.true in omega (arith, w, h, t)) (let u = c.loop.invariant.9 in let e = b.listed in let t = c.loop-test.true in omega (arith, u, e, t)) d a o s g)) in
     (x.left, x.filling, x.ends)
 
 pub returns-clause-serves : goal.returns-clause-serves
-returns-clause-serves c = λ lens recover made forwards ws d f b.
-    let x = rounds_last (map run_lead ws) (λ left m octets. IsPassing lens recover made forwards left m octets ws) (λ left m octets g. many_serve lens recover made forwards ws left m octets g) (λ left m n octets k g. passing_same lens recover made forwards ws left m n octets k g) c.loop.counter c.loop.self c.loop.into.items (let t = c.loop-test.false in omega (arith, t)) (c.loop.invariant.10 lens recover made forwards ws d f b) in
+returns-clause-serves c = λ lens recover made from ws d f b.
+    let x = rounds_last (map run_lead ws) (λ left m octets. IsPassing lens recover made from left m octets ws) (λ left m octets g. many_serve lens recover made from ws left m octets g) (λ left m n octets k g. passing_same lens recover made from ws left m n octets k g) c.loop.counter c.loop.self c.loop.into.items (let t = c.loop-test.false in omega (arith, t)) (c.loop.invariant.10 lens recover made from ws d f b) in
     (x.left, x.filling, x.ends)
 
 pub returns-then-self-count-clause-serves : goal.returns-then-self-count-clause-serves
-returns-then-self-count-clause-serves c = λ lens recover made forwards ws d f b.
+returns-then-self-count-clause-serves c = λ lens recover made from ws d f b.
     let e = c.due.ensures in
     let v = c.visit.ensures in
-    let r = c.loop.invariant.10 lens recover made forwards ws d f b in
+    let r = c.loop.invariant.10 lens recover made from ws d f b in
     let p = c.in-Some.place in
     let is : c.due.result ≡ Some p = cc in
     let yes : c.visit.result ≡ true = cc in
-    let x = rounds_last (map run_lead ws) (λ left m octets. IsPassing lens recover made forwards left m octets ws) (λ left m octets g. many_serve lens recover made forwards ws left m octets g) (λ left m n octets k g. passing_same lens recover made forwards ws left m n octets k g) (c.loop.counter + 1) c.visit.new.self c.visit.new.into.items (omega arith)
-    (rounds_more (map run_lead ws) (λ left m octets. IsPassing lens recover made forwards left m octets ws) (λ left m octets g. many_serve lens recover made forwards ws left m octets g) (λ left m n octets k g. passing_same lens recover made forwards ws left m n octets k g)
+    let x = rounds_last (map run_lead ws) (λ left m octets. IsPassing lens recover made from left m octets ws) (λ left m octets g. many_serve lens recover made from ws left m octets g) (λ left m n octets k g. passing_same lens recover made from ws left m n octets k g) (c.loop.counter + 1) c.visit.new.self c.visit.new.into.items (omega arith)
+    (rounds_more (map run_lead ws) (λ left m octets. IsPassing lens recover made from left m octets ws) (λ left m octets g. many_serve lens recover made from ws left m octets g) (λ left m n octets k g. passing_same lens recover made from ws left m n octets k g)
     c.loop.counter c.loop.self _ c.visit.new.self c.loop.into.items c.visit.new.into.items p r (record { stops = e.stops; count = e.kept.0; again = e.kept.1; visit = e.kept.2; opened = e.kept.3; last = e.kept.4; made = refl; posts = refl; list = refl; lan = refl }) (λ a. e.left p is a) (λ a b g h. passes_at (λ s. is_live s.stand) c.loop.self.tour.stops.items c.due.result p is (e.first a b g h))
     (c.in-Some.ensures.few) v.on.0 v.on.1 v.visits v.counts (λ a b. (v.first a b).1)
-    (λ left other a o s g. subst (λ (z : Bool). IsPassing lens recover made forwards (if z then other else left) c.visit.new.self c.visit.new.into.items ws) yes (v.serves lens recover made forwards left other ws (let u = c.loop.invariant.9 in let e = b.listed in let t = c.loop-test.true in omega (arith, u, e, t)) d a o s g))) in
+    (λ left other a o s g. subst (λ (z : Bool). IsPassing lens recover made from (if z then other else left) c.visit.new.self c.visit.new.into.items ws) yes (v.serves lens recover made from left other ws (let w = b.room in let h = c.loop.invariant.6.few in let t = c.loop-test.true in omega (arith, w, h, t)) (let u = c.loop.invariant.9 in let e = b.listed in let t = c.loop-test.true in omega (arith, u, e, t)) d a o s g))) in
     (x.left, x.filling, x.ends)
 
 pub returns-in_default-clause-head : goal.returns-in_default-clause-head

@@ -10,7 +10,7 @@ use Rattle.master_node.specs.Happened.{Happens}
 use Rattle.master_node.specs.Kept.{TourOn}
 use Rattle.master_node.specs.Joined.{JoinsKept}
 use Rattle.master_node.specs.Eager.{EagerOn}
-use Rattle.master_node.specs.Shows.{WaitsNone, lived_of}
+use Rattle.master_node.specs.Shows.{lived_of}
 use Rattle.master_node.proofs.Filleds.{Fills}
 use Rattle.master_node.specs.Toured.{IsBare}
 use Rattle.master_node.proofs.Toureds.{Visiting}
@@ -30,9 +30,9 @@ invariant-loop l =
     × JoinsKept l.initial.self l.self
     × (IsBare l.initial.self → length l.initial.into.items ≡ 16 → Visiting l.into.items l.initial.self l.self × (l.self.tour.count ≡ l.counter))
     × Happens l.counter l.initial.self.lan l.self.lan × Makes l.initial.self.lan l.self.lan
-    × (All WaitsNone l.initial.self.posts.items → IsBare l.initial.self → length l.initial.into.items ≡ 16 → All WaitsNone l.self.posts.items × EagerOn l.initial.self l.self)
+    × (IsBare l.initial.self → length l.initial.into.items ≡ 16 → EagerOn l.initial.self l.self)
     × (l.self.list.count ≤ l.initial.self.list.count + l.counter)
-    × ((lens : ℕ → Lens) (recover made : ℕ) (forwards : ℕ → ℕ) (ws : List Serves) → AreDistinct (map (λ w. lived_of (run_lead w)) ws) → ((left : List ℕ) → IsPassing lens recover made forwards left l.initial.self l.initial.into.items ws) → BeginsFrame l.initial.self l.initial.into.items (map run_lead ws) →
-    Rounds (map run_lead ws) (λ left m octets. IsPassing lens recover made forwards left m octets ws) l.counter l.self l.into.items)
+    × ((lens : ℕ → Lens) (recover made : ℕ) (from : Before) (ws : List Serves) → AreDistinct (map (λ w. lived_of (run_lead w)) ws) → ((left : List ℕ) → IsPassing lens recover made from left l.initial.self l.initial.into.items ws) → BeginsFrame l.initial.self l.initial.into.items (map run_lead ws) →
+    Rounds (map run_lead ws) (λ left m octets. IsPassing lens recover made from left m octets ws) l.counter l.self l.into.items)
     × (events_before l.self ≡ events_before l.initial.self)
     × (l.initial.self.list.count ≤ 81 → AnswersOn l.initial.self l.self)

@@ -1,7 +1,7 @@
 use Rattle.std.proofs.Common.{◌≡◌, ◌<◌, ◌∙◌, sym, ap, length, arith}
 use Rattle.std.proofs.lemmas.Bool.{OnFalse_from}
 use Rattle.master_node.specs.Shows.{WaitsNone}
-use Rattle.master_node.proofs.Lists.{all_at}
+use Rattle.master_node.proofs.Mailings.{none_waits, waits_here}
 use Rattle.master_node.proofs.Places.{waiting_here}
 use Rattle.master_node.proofs.Starts.{none_waiting, some_waiting}
 use Rattle.master_node.proofs.Quiets.{quiet_here}
@@ -14,7 +14,7 @@ pub returns-clause-rests : goal.returns-clause-rests
 returns-clause-rests c = λ w none.
     let m = c.args.self.now in
     let l : c.args.place < length m.posts.items = omega (arith, c.requires, m.posts.ok.0) in
-    c.has_mail.ensures.1 (all_at WaitsNone m.posts.items c.args.place c.index.result.now l c.index.ensures w)
+    c.has_mail.ensures.1 (none_waits c.index.result.now (sym (waits_here m.posts.items c.args.place c.index.result.now l c.index.ensures) ∙ w))
 
 pub returns-clause-none : goal.returns-clause-none
 returns-clause-none c =

@@ -35,9 +35,9 @@ pub returns-clause-mails : goal.returns-clause-mails
 returns-clause-mails c = λ k l. c.loop-place.invariant.mails k (omega (arith, l, c.loop-place-test.false, c.len-place-end.ensures))
 
 pub returns-then-wants_at-clause-rests : goal.returns-then-wants_at-clause-rests
-returns-then-wants_at-clause-rests c = λ w r.
+returns-then-wants_at-clause-rests c = λ r.
     let yes : c.wants_at.result ≡ true = search rules in
-    absurd (never (sym (c.wants_at.ensures.rests w (r c.loop-place.place)) ∙ yes))
+    absurd (never (sym (c.wants_at.ensures.rests (r c.loop-place.place)) ∙ yes))
 
 pub returns-clause-waits : goal.returns-clause-waits
 returns-clause-waits c = λ k live.

@@ -17,8 +17,12 @@ use Rattle.life_runs.specs.of_life_frames.Shares.{Lived}
 use Rattle.master_duty.specs.Reply.{Reply}
 use Rattle.master_hand.specs.Joins.{unfinished_behind}
 use Rattle.master_tour.specs.Joins.{join_at}
-use Rattle.master_node.specs.Shows.{IsUnder}
-use Rattle.master_node.specs.Joined.{IsUnfinished, stand_before, stand_under, mails_lost}
+use Rattle.master_node.specs.Shows.{IsOnFrame, IsUnder}
+use Rattle.master_node.specs.Joined.{IsUnfinished, stand_before, stand_under, mails_lost, unfinished_after}
+use Rattle.master_node.proofs.ServedJoins.{holds_map, lost_life, on_frame, served_after}
+use Rattle.master_node.proofs.ServedSents.{map_map}
+use Rattle.master_side.specs.of_link_mails.Body.{Body}
+use Rattle.master_tour.specs.of_life_model.Lives.{Life}
 use Rattle.master_node.proofs.Joineds.{lost_unfinished, three_on, three_kept, three_of, three_after, unfinished_kept}
 use Rattle.master_node.specs.Rooms.{FitAgain}
 use Rattle.master_node.proofs.Fits.{again_lost}
@@ -28,13 +32,15 @@ use Rattle.master_node.specs.Downs.{downs_in, gives_at, goes_down, is_given_up}
 use Rattle.master_node.specs.Shows.{is_led, is_live_turn, is_live_lead, side_shows}
 use Rattle.master_tour.specs.Goes.{is_live}
 use Rattle.master_node.proofs.Downs.{lists_all, lists_as, downs_few, downs_same, goes_at, gone_is, live_is, under_live, both_true}
-use Rattle.master_node.proofs.Recalled.{recalls_lost}
+use Rattle.master_node.proofs.OnFrames.{all_run}
+use Rattle.master_node.proofs.Recalled.{recalls_lost, recalls_run}
+use Rattle.master_node.specs.Eager.{recalls}
 use Rattle.std.proofs.Common.{suc}
 use Rattle.counters_kept.proofs.Lives.{stands_kept}
 use Rattle.life_runs.specs.of_life_frames.Shares.{AllThree}
 use Rattle.master_tour.specs.Stands.{StandShows}
 use Rattle.served_runs.specs.Served.{served_behind}
-use Rattle.master_node.specs.Serving.{IsServed, IsServedUnder, mails_in, run_lead}
+use Rattle.master_node.specs.Serving.{IsServed, IsServedUnder, mails_in, run_lead, run_turn}
 use Rattle.master_node.specs.Shows.{GoesOn}
 use Rattle.master_node.proofs.Downs.{given_is}
 use Rattle.master_node.proofs.Joineds.{pair_both}
@@ -106,6 +112,64 @@ returns-clause-toured c = λ lens recover as' h.
     (k.tour.opened ∙ e.opened ∙ ap (λ z. if comes then m.tour.opened else z) (opens_behind lens recover as' m.tour.opened ts n.tour.stops.items k.each h))
     (k.tour.last ∙ e.last ∙ ap (λ z. if comes then m.tour.last else last_behind m.tour.opened z m.tour.last m.tour.visit.items) long)
 
+pub returns-clause-joins : goal.returns-clause-joins
+returns-clause-joins c = λ lens recover retry missed made after octets vs befores f p b u h.
+    let m = c.args.self.now in
+    let ss = m.tour.stops.items in
+    let ts = c.lost.new.self.stops.items in
+    let zs = c.all_given_up.new.self.tour.stops.items in
+    let gives = not (nat_lt missed retry) in
+    let given = not (nat_lt m.tour.missed m.tour.retry) in
+    let same : gives ≡ given = λ i. not (nat_lt (sym u.missed_is i) (sym u.retry_is i)) in
+    let behind = served_behind lens recover retry gives made f in
+    let there = three_on (λ v s. IsOnFrame lens recover octets (run_turn v) s) (λ v j s. IsUnfinished (stand_under (run_turn v)) s.side.hand.found.join j) _
+    (λ v j t. IsUnfinished (stand_before (run_lead (behind v))) t.side.hand.found.join (join_at None unfinished_behind (stand_under (run_turn v)) j []))
+    (λ v j s t i w q.
+    let l = v.turn.lived.life in
+    let spot = v.turn.lived.spot in
+    subst (λ (a : Life Body Asked Reply). IsUnfinished a.stand t.side.hand.found.join (join_at None unfinished_behind l.stand j [])) (lost_life lens recover retry gives made f octets given after v s p b same i)
+    (lost_unfinished (speech_at lens spot) acknowledged is_followed is_passed recover made spot (news_lost spot.station v.kept (seen lens octets)) (seen lens octets) (given && s.under) l t.side.hand.found.join s.side.hand.found.join j w q))
+    vs befores ss ts (on_frame lens recover retry gives made f octets vs m.posts.items ss u.each)
+    (three_of (λ v. stand_under (run_turn v)) (λ z j s. IsUnfinished z s.side.hand.found.join j) vs befores ss (subst (λ z. AllThree (λ y j s. IsUnfinished y s.side.hand.found.join j) z befores ss) (map_map stand_under run_turn vs) h)) c.lost.ensures.join in
+    subst (λ z. AllThree (λ y j s. IsUnfinished y s.side.hand.found.join j) (map stand_before z) (unfinished_after mails_lost (map run_turn vs) befores) zs) (sym (map_map run_lead behind vs))
+    (served_after stand_before (λ v. run_lead (behind v)) mails_lost (λ z j s. IsUnfinished z s.side.hand.found.join j) vs befores zs
+    (three_kept _ _ (λ v j s t x k. unfinished_kept (stand_before (run_lead (behind v))) (join_at None unfinished_behind (stand_under (run_turn v)) j []) s t x k) vs befores ts zs there c.all_given_up.ensures.kept.each))
+
+pub returns-clause-leaves : goal.returns-clause-leaves
+returns-clause-leaves c = λ lens recover retry missed made after octets vs f p b u.
+    let m = c.args.self.now in
+    let ss = m.tour.stops.items in
+    let ts = c.lost.new.self.stops.items in
+    let gives = not (nat_lt missed retry) in
+    let given = not (nat_lt m.tour.missed m.tour.retry) in
+    let same : gives ≡ given = λ i. not (nat_lt (sym u.missed_is i) (sym u.retry_is i)) in
+    let behind = served_behind lens recover retry gives made f in
+    let us = map run_turn vs in
+    let as' = map run_lead (map behind vs) in
+    let goes = goes_at (λ v s. IsOnFrame lens recover octets (run_turn v) s) _ (λ v. run_lead (behind v)) (λ v. is_live_turn (run_turn v)) is_live_lead (λ t. is_given_up t.news) (λ t. not (is_live t.stand))
+    (λ v s t i q.
+    let l = v.turn.lived.life in
+    let spot = v.turn.lived.spot in
+    let x = speech_at lens spot in
+    let news = news_lost spot.station v.kept (seen lens octets) in
+    let follows = q.0 x is_followed is_passed made recover spot news l i.lives.planned.stands i.way i.lives.shown in
+    subst (λ (a : Life Body Asked Reply). (is_given_up t.news && not (is_live t.stand)) ≡ (is_led l.stand && not (is_led a.stand))) (lost_life lens recover retry gives made f octets given after v s p b same i)
+    (gone_is x recover made spot news (seen lens octets) (given && s.under) l t.news (is_live t.stand)
+    (λ e. under_live _ spot lens s.side.station s.at s.under s.side.carried s.stand l (seen lens octets) i.lives.shown.stood i.way (both_true given s.under e))
+    follows.told (live_is _ spot t.stand _ follows.shown.stood)))
+    vs ss ts (on_frame lens recover retry gives made f octets vs m.posts.items ss u.each) (c.lost.ensures.lives lens octets) in
+    let ports = c.begins.ensures.ports in
+    let visit = c.lost.ensures.tour.0 in
+    let listed = c.all_given_up.ensures.listed in
+    let down = λ (k : ℕ). goes_down us as' k in
+    let turned = λ (k : ℕ). goes k ∙ (λ i. sym (holds_map is_live_turn run_turn vs k) i && not (holds_at is_live_lead (sym (map_map run_lead behind vs) i) k)) in
+    let all : downs_in c.begins.new.self.ports.items (λ k. gives_at ts k) c.lost.new.self.visit.items ≡ downs_in m.lan.ports.items down m.tour.visit.items =
+    (λ i. downs_in (ports i).items (λ k. gives_at ts k) (visit i).items) ∙ downs_same m.lan.ports.items (λ k. gives_at ts k) down turned m.tour.visit.items in
+    record {
+      ports = listed.ports ∙ ports;
+      events = lists_all _ _ _ (omega (arith, downs_few m.lan.ports.items down m.tour.visit.items, u.fits.few)) c.begins.ensures.none (lists_as _ _ _ _ (sym all) listed);
+    }
+
 pub returns-clause-happened : goal.returns-clause-happened
 returns-clause-happened c = happens_so 16 _ _ _ (omega arith) c.begins.ensures.so c.begins.ensures.none c.all_given_up.ensures.lan
 
@@ -125,7 +189,7 @@ returns-clause-downs c = λ lens recover retry missed number after octets us f p
     let x = speech_at lens spot in
     let follows = q.0 x is_followed is_passed number recover spot [] l i.lead.lives.planned.stands i.way i.lead.lives.shown in
     subst (λ (a : Lived Asked Reply). (is_given_up t.news && not (is_live t.stand)) ≡ (is_led l.stand && not (is_led a.life.stand))) (life_lost_is lens recover retry gives given number f octets after v s p b (ap not (sym comes)) i)
-    (gone_is x recover number spot (seen lens octets) (given && s.under) l t.news (is_live t.stand)
+    (gone_is x recover number spot [] (seen lens octets) (given && s.under) l t.news (is_live t.stand)
     (λ e. under_live _ spot lens s.side.station s.at s.under s.side.carried s.stand l (seen lens octets) i.lead.lives.shown.stood i.way (both_true given s.under e))
     follows.told (live_is _ spot t.stand _ follows.shown.stood)))
     us ss ts u.each (c.lost.ensures.lives lens octets) in
@@ -143,7 +207,16 @@ returns-clause-downs c = λ lens recover retry missed number after octets us f p
 pub returns-clause-recalls : goal.returns-clause-recalls
 returns-clause-recalls c = λ lens recover retry missed octets us u.
     let m = c.args.self.now in
-    recalls_lost lens recover octets (not (nat_lt m.tour.missed m.tour.retry)) us m.tour.stops.items c.lost.new.self.stops.items c.all_given_up.new.self.tour.stops.items u.each c.lost.ensures.recalled c.all_given_up.ensures.kept.each
+    let gives = not (nat_lt m.tour.missed m.tour.retry) in
+    recalls_run lens recover octets [] us m.tour.stops.items (recalls m) (recalls c.all_given_up.new.self) u.each
+    (recalls_lost (λ v. v) (λ v. None) lens recover octets gives us m.tour.stops.items c.lost.new.self.stops.items c.all_given_up.new.self.tour.stops.items (all_run lens recover octets us m.tour.stops.items u.each) c.lost.ensures.recalled c.all_given_up.ensures.kept.each)
+
+pub returns-clause-remembers : goal.returns-clause-remembers
+returns-clause-remembers c = λ lens recover retry missed made octets vs f u.
+    let m = c.args.self.now in
+    let gives = gives_up_at lens recover retry missed in
+    recalls_lost run_turn (λ v. (served_behind lens recover retry gives made f v).lead.lived.life.era.passing) lens recover octets (not (nat_lt m.tour.missed m.tour.retry)) vs m.tour.stops.items c.lost.new.self.stops.items c.all_given_up.new.self.tour.stops.items
+    (on_frame lens recover retry gives made f octets vs m.posts.items m.tour.stops.items u.each) c.lost.ensures.recalled c.all_given_up.ensures.kept.each
 
 pub returns-clause-served : goal.returns-clause-served
 returns-clause-served c = λ lens recover retry missed made after octets vs f p b u.
@@ -164,7 +237,7 @@ returns-clause-served c = λ lens recover retry missed made after octets vs f p 
     let l = v.turn.lived.life in
     let spot = v.turn.lived.spot in
     let follows = y.0 (speech_at lens spot) is_followed is_passed made recover spot [] l i.served.lives.planned.stands i.way i.served.lives.shown in
-    given_is (speech_at lens spot) recover made spot (seen lens octets) (given && s.under) l t.news follows.told) vs m.posts.items ss ts u.each (e.lives lens octets) in
+    given_is (speech_at lens spot) recover made spot [] (seen lens octets) (given && s.under) l t.news follows.told) vs m.posts.items ss ts u.each (e.lives lens octets) in
     let drops = k.mails in
     let waits = λ (j : ℕ). drops.each j ∙ Losts.waits_lost given (gave_at ts j) (is_in j t1.visit.items) (holds_at (λ s. s.under) ss j) (waits_in (mails_in m) j) (gave j) (λ y. ap (λ z. is_in j z.items) e.tour.0 ∙ u.carried j y) in
     let works = λ (j : ℕ). k.works.each j ∙ Losts.works_lost given (gave_at ts j) (is_in j t1.visit.items) (holds_at (λ s. s.under) ss j) (work_at m.posts.items j) (gave j) (λ y. ap (λ z. is_in j z.items) e.tour.0 ∙ u.carried j y) in

@@ -30,18 +30,19 @@ use Rattle.master_node.proofs.Toureds.{each_none, tour_same, of_tour}
 use Rattle.std.proofs.Common.{[]}
 use Rattle.master_node.specs.Begins.{begun_for}
 use Rattle.master_node.specs.Starts.{HasStarted}
-use Rattle.master_node.proofs.Starts.{all_start}
+use Rattle.master_node.proofs.Starts.{all_start, from_both, serves_start}
 use Rattle.life_runs.specs.of_life_frames.Shares.{AreDistinct}
 use Rattle.master_hand.specs.Shown.{awaits_reply}
-use Rattle.master_node.specs.Serving.{IsServed, run_lead}
+use Rattle.master_node.specs.Serving.{IsServed, IsServedUnder, run_lead, run_turn}
 use Rattle.life_runs.specs.of_life_frames.Shares.{AllFrom, AllThree}
 use Rattle.master_hand.specs.Laying.{scripted}
-use Rattle.master_node.specs.Shows.{IsLived}
+use Rattle.master_node.specs.Shows.{IsLived, IsUnder}
 use Rattle.master_node.proofs.Serveds.{long_served, three_both}
 use Rattle.master_node.proofs.ServedSents as Served
+use Rattle.master_node.proofs.Threes.{three_from}
 use Rattle.master_node.specs.Events.{served_tells}
 use Rattle.master_node.proofs.ServedTells.{served_begin}
-use Rattle.master_node.proofs.ServedVisits.{Alike}
+use Rattle.master_node.proofs.Alikes.{Alike}
 use Rattle.master_node.proofs.node.MasterNode.make.Goals as goal
 
 pub returns-clause-led : goal.returns-clause-led
@@ -68,7 +69,7 @@ returns-clause-led c = λ lens recover retry missed number from as' room taken u
         listing = listed_nothing (run_tells as') from.forwards left as' _ (record { few = unlisted.few; none = unlisted.none; counts = unlisted.counts });
         starts = record {
           visited = [];
-          each = both_from (λ a s. IsLead lens recover a s) _ (λ i a s. HasStarted lens m.lan [] i (begun_for nothing as' i) a s)
+          each = both_from (λ a s. IsLead lens recover a s) _ (λ i a s. HasStarted lens m.lan [] i (begun_for nothing as' i) a [] s)
               (λ i a s t l p. record { under = λ u. absurd (true_false t.under u p.5); ends = λ w. absurd (let z : false ≡ true = w in cc); unvisited = λ w. nothing_for as' i }) 0 as' ss ts x.each e.each;
         };
       };
@@ -106,7 +107,9 @@ returns-clause-led c = λ lens recover retry missed number from as' room taken u
     let begun = f.filling.begun in
     let areas = areas_from lens (λ i a s. StopFills lens recover number begun (c.fill.new.self.made % 256) f.left f.filling.frame.datagrams i a s) (λ i a s w. area_planned lens a.spot s w.lives.planned) 0 as' t2.stops.items f.filling.frame.each in
     let bare = Steps.from_map _ (λ n a s. is_in n f.left ≡ true → s.under ≡ false) (λ i a s w. w.bare) 0 as' t2.stops.items (from_map lived_of (λ i a s. StopFills lens recover number begun (c.fill.new.self.made % 256) f.left f.filling.frame.datagrams i a s) 0 as' t2.stops.items f.filling.frame.each) in
-    let starts = all_start lens recover octets c.fill.new.self.lan f.filling.starts.visited (λ k. begun_for begun as' k) as' (turns lens recover number begun octets z.datagrams is as' z.lives t2.stops.items) t2.stops.items f.filling.starts.each
+    let starts = all_start lens c.fill.new.self.lan f.filling.starts.visited (λ k. begun_for begun as' k) (λ u s. IsUnder lens recover octets u s) (λ u s x. x.under) (λ j a s. HasStarted lens c.fill.new.self.lan f.filling.starts.visited j (begun_for begun as' j) a [] s × IsAmong lens begun f.left j a s) (λ j a s x. (x.0, x.1.own)) as'
+    (turns lens recover number begun octets z.datagrams is as' z.lives t2.stops.items) t2.stops.items
+    (from_both (λ j a s. HasStarted lens c.fill.new.self.lan f.filling.starts.visited j (begun_for begun as' j) a [] s) (λ j a s. IsAmong lens begun f.left j a s) 0 as' t2.stops.items f.filling.starts.each f.filling.among)
     (under_all lens recover number begun octets z.datagrams is f.left 0 as' z.lives t2.stops.items f.filling.among z.each) (λ k. begun_turns lens recover number begun octets z.datagrams is as' z.lives t2.stops.items z.each k) in (
       turns lens recover number begun octets z.datagrams is as' z.lives t2.stops.items,
       record { datagrams = z.datagrams; frame = z.frame; each = turns_all lens recover number begun octets z.datagrams is f.left 0 as' z.lives t2.stops.items f.filling.among z.each },
@@ -136,14 +139,14 @@ returns-clause-joins c =
     each_trans (λ s t. t.side.hand.found.join ≡ s.side.hand.found.join) s0 s1 c.fill.new.self.tour.stops.items (λ x y z a b. b ∙ a) (each_map _ _ s0 s1 (λ s t p. ap (λ z. z.hand.found.join) p.0) c.begin.ensures.each) c.fill.ensures.joins
 
 pub returns-clause-eager : goal.returns-clause-eager
-returns-clause-eager c = λ lens recover retry missed as' x.
+returns-clause-eager c = λ as' stands fits.
     let m = c.args.self.now in
     let e = c.begin.ensures in
     let t1 = c.begin.new.self in
     let ss = m.tour.stops.items in
     let ts = t1.stops.items in
-    let goes = goes_begun m.tour.again t1.again m.tour.visit.items t1.visit.items m.tour.opened t1.opened as' e.tour.0 e.tour.1 (λ a. ap (λ z. z.items) (e.again a)) x.goes in
-    let on = c.fill.ensures.eager x.quiet (record {
+    let goes = goes_begun m.tour.again t1.again m.tour.visit.items t1.visit.items m.tour.opened t1.opened as' e.tour.0 e.tour.1 (λ a. ap (λ z. z.items) (e.again a)) stands in
+    let on = c.fill.ensures.eager (record {
       count = e.count;
       passed = e.tour.5;
       under = each_none _ (λ s. s.under) (λ s t p. p.5) ss ts e.each;
@@ -151,12 +154,12 @@ returns-clause-eager c = λ lens recover retry missed as' x.
       anew = λ a. e.anew (sym e.tour.0 ∙ a);
       fits = λ a.
           let was = sym e.tour.0 ∙ a in
-          subst (λ z. FitAgain z ts) (sym (ap (λ z. z.items) (e.again was))) (again_on _ (λ s t p. side_sends s t p.0 p.1) ss ts m.tour.visit.items e.each (x.again was));
+          subst (λ z. FitAgain z ts) (sym (ap (λ z. z.items) (e.again was))) (again_on _ (λ s t p. side_sends s t p.0 p.1) ss ts m.tour.visit.items e.each (fits was));
     }) e.empty in
-    each_comp _ _ (λ s t. (recall_of t ≡ recall_of s) × StopTakesUp t) (λ s t u p q. (q.0 ∙ ap (λ z. recall_by z.paused z.duty z.turn (knows z.hand.course)) p.0, q.1 (λ v. absurd (true_false t.under v p.5)))) ss ts c.fill.new.self.tour.stops.items e.each on
+    each_comp _ _ (λ s t. (recall_of t ≡ recall_of s) × StopTakesUp t) (λ s t u p q. (q.0 ∙ ap (λ z. recall_by z.paused z.duty z.passing z.turn (knows z.hand.course)) p.0, q.1 (λ v. absurd (true_false t.under v p.5)))) ss ts c.fill.new.self.tour.stops.items e.each on
 
 pub returns-clause-serves : goal.returns-clause-serves
-returns-clause-serves c = λ lens recover retry missed made forwards ws some small unlisted x.
+returns-clause-serves c = λ lens recover retry missed made from ws some small room taken unlisted x.
     let m = c.args.self.now in
     let e = c.begin.ensures in
     let t1 = c.begin.new.self in
@@ -184,14 +187,20 @@ returns-clause-serves c = λ lens recover retry missed made forwards ws some sma
       out = ap (λ z. z.out.len) p.0;
       known = ap (λ z. knows z.hand.course) p.0;
     }) e.each in
-    let f = c.fill.ensures.serves lens recover made forwards ws x.distinct
+    let f = c.fill.ensures.serves lens recover made from ws x.distinct
     (λ left. record {
       begun = nothing;
       frame = subst (λ n. FrameMade (λ ds i a s. StopFills lens recover made nothing index left ds i a s) c.begin.new.frame.items n lives ts) (sym e.count) (e.made (speech_at lens) is_followed is_passed made recover index lens left lives nothing (λ k. refl) before);
       each = Served.firsts_serving lens recover made left 0 ws m.posts.items ss ts x.each alike;
       handed = Served.firsts_handing lens recover made 0 ws m.posts.items ss ts x.each alike;
       numbered = x.numbered;
-      listing = listed_nothing (served_tells ws) forwards left as' _ (record { few = unlisted.few; none = unlisted.none; counts = unlisted.counts });
+      packets = begun_nothing from.switch left as' m.lan taken;
+      listing = listed_nothing (served_tells ws) from.forwards left as' _ (record { few = unlisted.few; none = unlisted.none; counts = unlisted.counts });
+      starts = record {
+        visited = [];
+        each = three_from (λ w p s. IsServed lens recover made w p s) _ (λ i w s. HasStarted lens m.lan [] i (begun_for nothing as' i) w.lead w.waits s)
+            (λ i w p s t h q. record { under = λ u. absurd (true_false t.under u q.5); ends = λ y. absurd (let n : false ≡ true = y in cc); unvisited = λ y. nothing_for as' i }) 0 ws m.posts.items ss ts x.each e.each;
+      };
     })
     (record {
       count = e.count;
@@ -202,6 +211,7 @@ returns-clause-serves c = λ lens recover retry missed made forwards ws some sma
       lives = alive;
       again = goes.comes;
       anew = λ a. e.anew (sym e.tour.0 ∙ a);
+      room = room;
       listed = unlisted.few;
     }) in
     let left = f.0 in
@@ -231,6 +241,9 @@ returns-clause-serves c = λ lens recover retry missed made forwards ws some sma
     let sends = subst (λ y. AllThree (λ a b s. Served.Sends lens recover made begun octets z.datagrams is a b s) y z.lives t2.stops.items) (sym flat) z.each in
     let fills = subst (λ y. AllFrom (λ i a s. StopFills lens recover made begun (c.fill.new.self.made % 256) left filling.frame.datagrams i a s) 0 y t2.stops.items) (sym flat) filling.frame.each in
     let areas = areas_from lens (λ i a s. StopFills lens recover made begun (c.fill.new.self.made % 256) left filling.frame.datagrams i a s) (λ i a s w. area_planned lens a.spot s w.lives.planned) 0 as' t2.stops.items fills in
+    let came = Served.sent_begun us sent.sent sent.turns_are (λ k. begun_for begun as' k) (λ k. begun_turns lens recover made begun octets z.datagrams is as' z.lives t2.stops.items sends k) in
+    let shares = three_both (λ v p s. IsServedUnder lens recover octets made v p s) (λ u s. u.share.under ≡ s.under) run_turn (λ v p s h. h.under) sent.sent c.fill.new.self.posts.items t2.stops.items sent.under in
+    let starts = serves_start lens c.fill.new.self.lan filling.starts.visited (λ k. begun_for begun as' k) (λ u s. u.share.under ≡ s.under) (λ u s x. x) ws (map run_turn sent.sent) t2.stops.items filling.starts.each shares came in
     let bare = Steps.from_map _ (λ n a s. is_in n left ≡ true → s.under ≡ false) (λ i a s w. w.bare) 0 as' t2.stops.items
     (from_map lived_of (λ i a s. StopFills lens recover made begun (c.fill.new.self.made % 256) left filling.frame.datagrams i a s) 0 as' t2.stops.items fills) in (
       sent.sent,
@@ -251,8 +264,11 @@ returns-clause-serves c = λ lens recover retry missed made forwards ws some sma
         numbered = sent.numbered;
       },
       on.made ∙ x.made_is,
-      served_begin forwards left begun ws sent.sent c.fill.new.self _ (Served.sent_begun us sent.sent sent.turns_are (λ k. begun_for begun as' k) (λ k. begun_turns lens recover made begun octets z.datagrams is as' z.lives t2.stops.items sends k)) refl refl filling.listing,
+      served_begin from.forwards left begun ws sent.sent c.fill.new.self _ came refl refl filling.listing,
       tour_same into m _ c.fill.new.self v e.tour.0 visits e.tour.1 e.tour.2 e.tour.3 on,
+      packets_begin from.switch left begun as' (map run_turn sent.sent) c.fill.new.self.lan came filling.packets,
+      starts.0,
+      starts.1,
       of_tour into m _ c.fill.new.self v e.tour.0 visits e.tour.1 e.tour.2 e.tour.3 on (λ k. holds_at is_live_lead as' k) alive (λ k. v.alive k ∙ alive k) (frame_size octets) (λ k. area_at lens as' k) (c.finish-some.ensures.size yes) areas (length (seen lens octets)) (sent_many lens octets filling.frame.datagrams (c.finish-some.ensures.reads yes filling.frame.datagrams filling.frame.begun filling.frame.long filling.frame.named) ∙ filling.frame.long) ends.some,
     )
 

@@ -12,9 +12,9 @@ use Rattle.master_node.proofs.Asking.{all_ask}
 use Rattle.master_node.proofs.OnFrames.{all_run, all_served}
 use Rattle.master_node.specs.Serving.{run_lead, run_turn}
 use Rattle.std.specs.Prelude.{map, nat_lt}
-use Rattle.master_node.specs.Eager.{recall_of}
+use Rattle.master_node.specs.Eager.{recall_of, recalls}
 use Rattle.master_node.proofs.Eagers.{all_take, each_recalls}
-use Rattle.master_node.proofs.Visitings.{all_visit, sent_at}
+use Rattle.master_node.proofs.Visitings.{all_asked, all_visit, sent_at}
 use Rattle.master_node.proofs.Toureds.{turns_tour, tour_by}
 use Rattle.master_node.specs.Shows.{is_live_lead}
 use Rattle.master_node.specs.Toured.{stop_share, tour_of}
@@ -27,7 +27,8 @@ use Rattle.master_node.specs.Happened.{NoneWaits}
 use Rattle.master_node.specs.Shows.{IsLead}
 use Rattle.master_node.proofs.Entering.{all_opened, first_more, rests_same}
 use Rattle.master_node.proofs.Lists.{both_length}
-use Rattle.master_node.proofs.Restings.{all_rest}
+use Rattle.master_node.proofs.Restings.{all_rest, all_still, rest_leads, serves_rest}
+use Rattle.master_node.proofs.Serveds.{long_served}
 use Rattle.std.proofs.Common.{◌+◌, ◌%◌, ◌^◌, suc}
 use Rattle.std.proofs.Math.Nat.{mod-eq_of_lt}
 use Rattle.master_node.proofs.ServedSents.{served_same}
@@ -91,17 +92,21 @@ returns-clause-visits c = λ h lens recover retry missed as' us x y.
     let none = ap length c.begins.ensures.none in
     let admitted = c.admit.ensures.lan in
     let w = c.make.ensures.led lens recover retry missed 0 (record { switch = m.lan.switch; forwards = λ k. forwards_at m.posts.items k }) as' (omega (arith, admitted.few, none)) (c.admit.ensures.takes.takes _ [] (omega (arith, none)) (has_none _ _ c.begins.ensures.switch c.begins.ensures.none)) (unlisted (record c.args.self.now { list = c.clear.new.self; lan = c.begins.new.self }) c.admit.new.self c.clear.ensures.none c.clear.ensures.last c.admit.ensures.list c.admit.ensures.same.0) (subst (λ z. list_any (λ s. is_live s.stand) z.stops.items ≡ true) (sym c.admit.ensures.same.1) (sym c.has_live.ensures ∙ live)) (shows_same lens recover retry missed as' _ n c.admit.ensures.same.1 c.admit.ensures.same.0 x) in
-    all_visit lens recover c.make.new.into.items us c.make.new.self.tour.stops.items (sent_at _ _ _ _ c.make.new.self.tour.stops.items _ _ w.5 y.fits.fit) y.each
+    let octets = c.make.new.into.items in
+    let stops = c.make.new.self.tour.stops.items in
+    all_visit lens recover octets (seen lens octets) us stops (recalls c.make.new.self) y.each (all_asked lens recover octets us stops (sent_at _ _ _ _ stops _ _ w.5 y.fits.fit) (all_run lens recover octets us stops y.each))
 
 pub returns-clause-takes : goal.returns-clause-takes
 returns-clause-takes c = λ h lens recover retry missed as' us x y.
     let n = c.admit.new.self in
-    all_take lens recover c.make.new.into.items us n.tour.stops.items c.make.new.self.tour.stops.items (c.make.ensures.eager lens recover retry missed as' (shows_same lens recover retry missed as' _ n c.admit.ensures.same.1 c.admit.ensures.same.0 x)) y.each
+    let z = shows_same lens recover retry missed as' _ n c.admit.ensures.same.1 c.admit.ensures.same.0 x in
+    all_take lens recover c.make.new.into.items us n.tour.stops.items c.make.new.self.tour.stops.items (c.make.ensures.eager as' z.goes z.again) (all_run lens recover c.make.new.into.items us c.make.new.self.tour.stops.items y.each)
 
 pub returns-clause-recalled : goal.returns-clause-recalled
 returns-clause-recalled c = λ h lens recover retry missed as' x.
     let n = c.admit.new.self in
-    each_recalls n.tour.stops.items c.make.new.self.tour.stops.items (c.make.ensures.eager lens recover retry missed as' (shows_same lens recover retry missed as' _ n c.admit.ensures.same.1 c.admit.ensures.same.0 x))
+    let z = shows_same lens recover retry missed as' _ n c.admit.ensures.same.1 c.admit.ensures.same.0 x in
+    each_recalls n.tour.stops.items c.make.new.self.tour.stops.items (c.make.ensures.eager as' z.goes z.again)
     ∙ ap (λ z. map (λ s. recall_of s) z.stops.items) c.admit.ensures.same.1
 
 pub returns-clause-enters : goal.returns-clause-enters
@@ -124,7 +129,10 @@ returns-clause-services c = λ h lens recover retry missed made ws small x.
     let m = c.args.self.now in
     let live : c.has_live.result ≡ true = cc in
     let same = c.admit.ensures.same in
-    let w = c.make.ensures.serves lens recover retry missed made (λ k. forwards_at m.posts.items k) ws (subst (λ z. list_any (λ s. is_live s.stand) z.stops.items ≡ true) (sym same.1) (sym c.has_live.ensures ∙ live)) small
+    let none = ap length c.begins.ensures.none in
+    let admitted = c.admit.ensures.lan in
+    let w = c.make.ensures.serves lens recover retry missed made (record { switch = m.lan.switch; forwards = λ k. forwards_at m.posts.items k }) ws (subst (λ z. list_any (λ s. is_live s.stand) z.stops.items ≡ true) (sym same.1) (sym c.has_live.ensures ∙ live)) small
+    (omega (arith, admitted.few, none)) (c.admit.ensures.takes.takes _ [] (omega (arith, none)) (has_none _ _ c.begins.ensures.switch c.begins.ensures.none))
     (unlisted (record m { list = c.clear.new.self; lan = c.begins.new.self }) c.admit.new.self c.clear.ensures.none c.clear.ensures.last c.admit.ensures.list c.admit.ensures.same.0)
     (served_same lens recover retry missed made ws m c.admit.new.self same.1 same.0 c.admit.ensures.number x) in
     let u = w.2 in
@@ -142,11 +150,32 @@ returns-clause-services c = λ h lens recover retry missed made ws small x.
           let visit = c.make.new.self.tour.visit.items in
           let many = length (seen lens octets) in
           let each = all_served lens recover octets made w.0 c.make.new.self.posts.items stops u.each in
+          let stands = served_same lens recover retry missed made ws m c.admit.new.self same.1 same.0 c.admit.ensures.number x in
+          let eager = c.make.ensures.eager as' stands.goes stands.again in
           record {
             tour = w.5 ∙ toured;
             visits = turns_tour lens recover octets (λ k. holds_at is_live_lead as' k) (frame_size octets) (λ k. area_at lens as' k) (tour_of m) us stops many visit each
-                (subst (λ z. IsOfTour (λ s. stop_share s) (λ k. holds_at is_live_lead as' k) (frame_size octets) (λ k. area_at lens as' k) z stops many visit) toured w.6);
+                (subst (λ z. IsOfTour (λ s. stop_share s) (λ k. holds_at is_live_lead as' k) (frame_size octets) (λ k. area_at lens as' k) z stops many visit) toured w.9);
             asks = all_ask lens recover octets us stops each;
+            packets = w.6;
+            takes = all_take lens recover octets us c.admit.new.self.tour.stops.items stops eager each;
+            recalled = each_recalls c.admit.new.self.tour.stops.items stops eager ∙ ap (λ z. map (λ s. recall_of s) z.stops.items) same.1;
+            asked = all_asked lens recover octets us stops (sent_at _ _ _ _ stops _ _ w.9 u.fits.fit) each;
+            begins = w.7;
+            unvisited = w.8;
+            still = all_still lens recover made ws m.posts.items m.tour.stops.items x.each;
+            enters = λ rests may.
+                let l = c.begins.new.self in
+                let e = c.begins.ensures in
+                let length_is = sym (long_served lens recover retry made ws m.posts.items m.tour.stops.items x.each) in
+                let entered = c.admit.ensures.enters
+                (record {
+                  opened = subst (λ n. n ≤ m.tour.opened) length_is (all_opened lens m.lan _ as' m.tour.opened (rest_leads lens m.lan 0 (recalls m) ws rests) x.goes.ahead);
+                  rest = λ k. rests_same m.lan l e.switch e.ports k _ (serves_rest lens recover m.lan made ws m.posts.items m.tour.stops.items x.each rests k);
+                })
+                (record { left = (λ i. nat_lt (e.host.1 i) (length (e.host.0 i))) ∙ may.left; quiet = subst (λ s. NoneWaits s) (sym e.switch) may.quiet })
+                e.none in
+                first_more _ _ c.make.ensures.made.more.0 entered c.make.ensures.made.more.1;
           }),
     )
 

@@ -9,7 +9,7 @@ use Rattle.master_node.proofs.Behinds.{opens_behind, behind_long}
 use Rattle.master_hand.specs.Spoken.{Asked, acknowledged, is_followed, is_passed}
 use Rattle.master_node.specs.Brought.{StopBrought}
 use Rattle.master_node.specs.Kept.{StopStays}
-use Rattle.master_node.specs.Shows.{IsUnder, turned_of}
+use Rattle.master_node.specs.Shows.{IsOnFrame, IsUnder, turned_of}
 use Rattle.master_node.proofs.Broughts.{brought_kept}
 use Rattle.master_node.proofs.Lists.{both_each, both_map, each_length}
 use Rattle.master_node.proofs.Behinds.{life_back_is, lead_behind, all_led, goes_behind, behind_shows}
@@ -19,7 +19,11 @@ use Rattle.master_duty.specs.Reply.{Reply}
 use Rattle.master_hand.specs.Joins.{unfinished_behind}
 use Rattle.master_tour.specs.Joins.{join_at}
 use Rattle.master_tour.specs.Stands.{StandShows, came_at}
-use Rattle.master_node.specs.Joined.{IsUnfinished, StopCompleted, stand_before, stand_under, mails_back}
+use Rattle.master_node.specs.Joined.{IsUnfinished, StopCompleted, stand_before, stand_under, mails_back, unfinished_after}
+use Rattle.master_node.proofs.ServedJoins.{back_life, on_frame, served_after, three_as}
+use Rattle.master_node.proofs.ServedSents.{map_map}
+use Rattle.master_side.specs.of_link_mails.Body.{Body}
+use Rattle.master_tour.specs.of_life_model.Lives.{Life}
 use Rattle.master_node.proofs.Joineds.{back_unfinished, completed_at as completed_at_stop, three_on, three_kept, three_map, three_of, three_after, pair_both, completed_kept}
 use Rattle.master_node.proofs.Lefts.{true_false}
 use Rattle.master_node.proofs.Happenings.{happens_so}
@@ -29,7 +33,9 @@ use Rattle.master_node.proofs.Arrivals.{arrivals_few, arrivals_same, heard_few, 
 use Rattle.master_node.proofs.Downs.{lists_all, lists_as}
 use Rattle.master_tour.proofs.Backs.{seen_aims}
 use Rattle.master_tour.proofs.Walks.{each_map}
-use Rattle.master_node.proofs.Recalled.{recalls_back}
+use Rattle.master_node.proofs.Recalled.{came_so, recalls_back, recalls_run, runs_came}
+use Rattle.master_node.proofs.ServedPasses.{all_pass}
+use Rattle.master_node.proofs.Visitings.{visit_asks}
 use Rattle.std.proofs.Common.{◌+◌, ◌-◌, ◌%◌, ◌^◌, suc}
 use Rattle.counters_kept.proofs.Lives.{stands_kept}
 use Rattle.life_runs.specs.of_life_frames.Shares.{AllThree}
@@ -39,7 +45,7 @@ use Rattle.master_tour.specs.Counting.{CountsOn}
 use Rattle.master_tour.specs.Passing.{StandPassing}
 use Rattle.master_tour.specs.of_life_model.Lives.{life_back}
 use Rattle.served_runs.specs.Served.{served_behind}
-use Rattle.master_node.specs.Serving.{IsServed, run_lead}
+use Rattle.master_node.specs.Serving.{IsServed, run_lead, run_turn}
 use Rattle.master_node.specs.Shows.{GoesOn, side_shows}
 use Rattle.master_node.proofs.Serveds.{back_made, served_back, all_served, distinct_served, back_spot, goes_served, opens_served, long_served, passes_behind, three_both}
 use Rattle.master_node.proofs.Unread.{behind_inhand}
@@ -60,7 +66,7 @@ use Rattle.master_node.proofs.Filtered.{filter_told, gateway_by, place_asked}
 use Rattle.master_node.proofs.Gateways.{all_told}
 use Rattle.master_node.proofs.Backtolds.{back_all}
 use Rattle.master_node.specs.Backtold.{returned_at}
-use Rattle.master_node.specs.Eager.{recall_of}
+use Rattle.master_node.specs.Eager.{recall_of, recalls}
 use Rattle.master_node.proofs.Listing.{listed_whole, told_same}
 use Rattle.master_node.specs.Answered.{answer_at, answer_behind}
 use Rattle.master_node.proofs.node.MasterNode.returned.Goals as goal
@@ -130,16 +136,16 @@ pub returns-clause-happened : goal.returns-clause-happened
 returns-clause-happened c = happens_so 16 _ _ _ (omega arith) c.begins.ensures.so c.begins.ensures.none c.all_back.ensures.lan
 
 pub returns-clause-arrivals : goal.returns-clause-arrivals
-returns-clause-arrivals c = λ lens recover retry missed octets us befores u r h.
+returns-clause-arrivals c = λ lens recover octets us befores u r h.
     let m = c.args.self.now in
     let ss = m.tour.stops.items in
     let ts = c.returned.new.self.stops.items in
     let back = seen lens c.args.frame.now.items in
-    let there = three_on (λ v s. IsUnder lens recover octets v s) (λ v j s. IsUnfinished (stand_under v) s.side.hand.found.join j) _ (λ v j t. StopCompleted back v j t)
+    let there = three_on (λ v s. IsOnFrame lens recover octets v s) (λ v j s. IsUnfinished (stand_under v) s.side.hand.found.join j) _ (λ v j t. StopCompleted back v j t)
     (λ v j s t i w q.
     let l = v.lived.life in
     let spot = v.lived.spot in
-    let joins = q (speech_at lens spot) recover spot l i.lead.lives.planned.stands i.way i.lead.lives.shown in
+    let joins = q (speech_at lens spot) recover spot l i.lives.planned.stands i.way i.lives.shown in
     completed_at_stop t.side.hand.found t.side.heard spot.station l.era.side.halves back l.stand s.side.hand.found.join j (mails_back back v) refl w joins.completes)
     us befores ss ts u.each (three_of stand_under (λ z j s. IsUnfinished z s.side.hand.found.join j) us befores ss h) (c.returned.ensures.joined lens (seen lens octets) r u.sent) in
     let ports = c.begins.ensures.ports in
@@ -150,7 +156,7 @@ returns-clause-arrivals c = λ lens recover retry missed octets us befores u r h
     (λ i. arrivals_in (ports i).items (λ k. heard_at ts k) (visit i).items) ∙ arrivals_same m.lan.ports.items (λ k. heard_at ts k) packets (λ k. heard_completed back us befores ts there k) m.tour.visit.items in
     record {
       ports = listed.ports ∙ ports;
-      events = lists_all _ _ _ (omega (arith, arrivals_few m.lan.ports.items (λ k. heard_at ts k) (λ k. heard_few ts k) m.tour.visit.items, ap length (arrivals_same m.lan.ports.items (λ k. heard_at ts k) packets (λ k. heard_completed back us befores ts there k) m.tour.visit.items), u.fits.few))
+      events = lists_all _ _ _ (omega (arith, arrivals_few m.lan.ports.items (λ k. heard_at ts k) (λ k. heard_few ts k) m.tour.visit.items, ap length (arrivals_same m.lan.ports.items (λ k. heard_at ts k) packets (λ k. heard_completed back us befores ts there k) m.tour.visit.items), u.few))
           c.begins.ensures.none (lists_as _ _ _ _ (sym same) listed);
     }
 
@@ -159,8 +165,45 @@ returns-clause-recalls c = λ lens recover retry missed octets us u r a.
     let back = seen lens c.args.frame.now.items in
     let ss = c.args.self.now.tour.stops.items in
     let ts = c.returned.new.self.stops.items in
-    recalls_back lens recover octets back us ss ts c.all_back.new.self.tour.stops.items r (λ s. seen_aims lens c.args.frame.now.items s.side.station s.named) u.each a
-    (each_map _ _ ss ts (λ s t p v i. p (speech_at lens v.lived.spot) recover v.lived.spot v.lived.life i.lead.lives.planned.stands i.way i.lead.lives.shown) (c.returned.ensures.recalls lens (seen lens octets) r u.sent)) c.all_back.ensures.kept.each
+    let zs = c.all_back.new.self.tour.stops.items in
+    let came = each_map _ _ ss ts (λ s t p v i. p (speech_at lens v.lived.spot) recover v.lived.spot v.lived.life i.lives.planned.stands i.way i.lives.shown) (c.returned.ensures.recalls lens (seen lens octets) r u.sent) in
+    let asks = visit_asks lens recover octets (seen lens octets) us ss (recalls c.args.self.now) u.each a in
+    recalls_run lens recover octets back us ss (recalls c.args.self.now) (recalls c.all_back.new.self) u.each
+    (recalls_back (λ v. v) (λ v. None) lens recover octets back us ss zs r (λ s. seen_aims lens c.args.frame.now.items s.side.station s.named)
+    (runs_came lens recover octets back us ss ts zs u.each asks came c.all_back.ensures.kept.each))
+
+pub returns-clause-joins : goal.returns-clause-joins
+returns-clause-joins c = λ lens recover retry missed made octets vs befores f p b u r h.
+    let m = c.args.self.now in
+    let ss = m.tour.stops.items in
+    let ts = c.returned.new.self.stops.items in
+    let zs = c.all_back.new.self.tour.stops.items in
+    let items = c.args.frame.now.items in
+    let back = seen lens items in
+    let gives = gives_up_at lens recover retry missed in
+    let e = c.returned.ensures in
+    let behind = served_behind lens recover retry gives made f in
+    let there = three_on (λ v s. IsOnFrame lens recover octets (run_turn v) s) (λ v j s. IsUnfinished (stand_under (run_turn v)) s.side.hand.found.join j) _
+    (λ v j t. StopCompleted back (run_turn v) j t × IsUnfinished (stand_before (run_lead (behind v))) t.side.hand.found.join (join_at None unfinished_behind (stand_under (run_turn v)) j (mails_back back (run_turn v))))
+    (λ v j s t i w q.
+    let l = v.turn.lived.life in
+    let spot = v.turn.lived.spot in
+    let ms = mails_back back (run_turn v) in
+    let news = news_back spot.station v.kept v.counts back in
+    let joins = q.1 (speech_at lens spot) recover spot l i.lives.planned.stands i.way i.lives.shown in
+    let follows = q.0.0 (speech_at lens spot) is_followed is_passed made recover spot news l i.lives.planned.stands i.way i.lives.shown in (
+      completed_at_stop t.side.hand.found t.side.heard spot.station l.era.side.halves back l.stand s.side.hand.found.join j ms refl w joins.completes,
+      subst (λ (a : Life Body Asked Reply). IsUnfinished a.stand t.side.hand.found.join (join_at None unfinished_behind l.stand j ms)) (back_life lens recover retry gives made f octets items v s p b i)
+          (back_unfinished (speech_at lens spot) acknowledged is_followed is_passed made spot news back (came_at s.under s.at back) l l.stand t.news t.side.hand.found.join s.side.hand.found.join j ms refl refl w joins.join follows.told),
+    ))
+    vs befores ss ts (on_frame lens recover retry gives made f octets vs m.posts.items ss u.each)
+    (three_of (λ v. stand_under (run_turn v)) (λ z j s. IsUnfinished z s.side.hand.found.join j) vs befores ss (subst (λ z. AllThree (λ y j s. IsUnfinished y s.side.hand.found.join j) z befores ss) (map_map stand_under run_turn vs) h))
+    (pair_both _ _ ss ts (e.lives lens (seen lens octets) r u.sent) (e.joined lens (seen lens octets) r u.sent)) in
+    let kept = three_kept _ _ (λ v j s t x k. completed_kept back (run_turn v) j s t (join_at None unfinished_behind (stand_under (run_turn v)) j (mails_back back (run_turn v))) (stand_before (run_lead (behind v))) x k) vs befores ts zs there c.all_back.ensures.kept.each in (
+      three_as run_turn (λ v j s. StopCompleted back v j s) vs befores zs (three_map _ _ (λ v j s x. x.0) vs befores zs kept),
+      subst (λ z. AllThree (λ y j s. IsUnfinished y s.side.hand.found.join j) (map stand_before z) (unfinished_after (mails_back back) (map run_turn vs) befores) zs) (sym (map_map run_lead behind vs))
+          (served_after stand_before (λ v. run_lead (behind v)) (mails_back back) (λ z j s. IsUnfinished z s.side.hand.found.join j) vs befores zs (three_map _ _ (λ v j s x. x.1) vs befores zs kept)),
+    )
 
 pub returns-clause-served : goal.returns-clause-served
 returns-clause-served c = λ lens recover retry missed made octets vs f p b u r.
@@ -288,3 +331,19 @@ returns-clause-answers c = λ once few k.
     let most = c.all_back.ensures.few in
     let told = c.all_back.ensures.told (subst (λ z. AreOnce z.items) (sym c.returned.ensures.tour.0) once) in
     told.answers k ∙ ap (λ z. answer_behind k z (answer_at m.posts.items k)) (sym (just_told (told_in tells visit) m.list.before told few c.ends.ensures.few c.ends.ensures.last (omega (arith, told_five tells (λ j. back_few m.posts.items ts j) visit, most))))
+
+pub returns-clause-remembers : goal.returns-clause-remembers
+returns-clause-remembers c = λ lens recover retry missed made octets vs f p b u r a.
+    let m = c.args.self.now in
+    let n = c.all_back.new.self in
+    let back = seen lens c.args.frame.now.items in
+    let ss = m.tour.stops.items in
+    let ts = c.returned.new.self.stops.items in
+    let zs = n.tour.stops.items in
+    let gives = gives_up_at lens recover retry missed in
+    let on = on_frame lens recover retry gives made f octets vs m.posts.items ss u.each in
+    let came = each_map _ _ ss ts (λ s t p v i. p (speech_at lens v.lived.spot) recover v.lived.spot v.lived.life i.lives.planned.stands i.way i.lives.shown) (c.returned.ensures.recalls lens (seen lens octets) r u.sent) in
+    let served = returns-clause-served c lens recover retry missed made octets vs f p b u r in
+    recalls_back run_turn (λ v. (served_behind lens recover retry gives made f v).lead.lived.life.era.passing) lens recover octets back vs ss zs r (λ s. seen_aims lens c.args.frame.now.items s.side.station s.named)
+    (came_so run_turn (λ v. (served_behind lens recover retry gives made f v).lead.lived.life.era.passing) lens recover octets back vs ss ts zs on a came c.all_back.ensures.kept.each
+    (all_pass lens recover retry gives made f octets c.args.frame.now.items p b (suc made) vs n.posts.items ss zs on served.each))

@@ -40,7 +40,7 @@ use Rattle.master_node.specs.Eager.{StopGoes, recall_of}
 use Rattle.master_tour.proofs.Walks.{each_map}
 use Rattle.master_node.proofs.Happenings.{happens_none, happens_from}
 use Rattle.master_node.proofs.Made.{makes_none, makes_then}
-use Rattle.std.proofs.Common.{◌∷◌}
+use Rattle.std.proofs.Common.{[], ◌∷◌}
 use Rattle.master_hand.specs.Shown.{Shows, knows}
 use Rattle.master_hand.specs.Spoken.{acknowledged}
 use Rattle.master_side.specs.Shown.{SideShows}
@@ -49,21 +49,25 @@ use Rattle.master_node.specs.Begins.{begun_for}
 use Rattle.master_node.specs.Starts.{HasStarted}
 use Rattle.master_node.proofs.Begins.{at_other, at_place}
 use Rattle.master_node.proofs.Fills.{from_each, from_map}
-use Rattle.master_node.proofs.Lists.{steps_got, steps_some}
-use Rattle.master_node.proofs.Starts.{Asks, ComesSo, LeavesNone, Readies, from_both, from_steps, leaves_none, readies, some_so, started_here, started_same, started_there, waits_yet}
+use Rattle.master_node.proofs.Lists.{steps_got, steps_mid, steps_some}
+use Rattle.master_node.proofs.Starts.{Asks, ComesSo, LeavesNone, Readies, from_both, from_steps, leaves_none, mail_none, readies, some_so, started_here, started_same, started_there, waits_yet}
 use Rattle.std.specs.Prelude.{None}
 use Rattle.master_tour.specs.First.{FitsFirst}
 use Rattle.master_tour.specs.declared.stop.Stand.{Stand}
 use Rattle.master_node.proofs.Unvisited.{Lacking, Roomed, Roomy, Went, roomy, some_wish, steps_behind, without}
 use Rattle.master_hand.specs.Shown.{awaits_reply}
 use Rattle.master_side.specs.Free.{is_free_side}
-use Rattle.master_node.specs.Coming.{wish_of}
+use Rattle.master_node.specs.Coming.{IsComing, next_of, wish_of}
+use Rattle.master_hand.specs.Laying.{Scripted}
 use Rattle.master_node.specs.Handed.{IsHanding}
 use Rattle.master_node.specs.Kept.{StopKept}
 use Rattle.master_node.specs.Passes.{IsNextState, IsServing, waits_in}
 use Rattle.master_node.specs.Serving.{mails_in, run_lead}
 use Rattle.master_node.specs.Passes.{ThreeFrom}
 use Rattle.master_node.proofs.ServedVisits as Served
+use Rattle.master_node.proofs.Alikes.{Alike, alike_same, serving_alike}
+use Rattle.master_node.proofs.MailsReady.{mail_ready}
+use Rattle.master_node.proofs.ServedStarts.{all_without, leaves_all, serves_started}
 use Rattle.master_node.proofs.Threes.{three_each}
 use Rattle.master_node.proofs.FreeKept as Frees
 use Rattle.std.proofs.Common.{length}
@@ -92,8 +96,8 @@ returns-then-not-fits-clause-led c = λ lens recover made from left next as' roo
       listing = listed_on (run_tells as') from.forwards left f.begun as' m _ refl refl f.listing;
       starts = record {
         visited = f.starts.visited;
-        each = from_each (λ i a s. HasStarted lens m.lan f.starts.visited i (begun_for f.begun as' i) a s) (λ s t. (t.under ≡ s.under) × (recall_of t ≡ recall_of s)) (λ i a s. HasStarted lens m.lan f.starts.visited i (begun_for f.begun as' i) a s)
-            (λ i a s t p q. started_same lens m.lan f.starts.visited i (begun_for f.begun as' i) a s t q.0 q.1 p) 0 as' s0 s1 f.starts.each
+        each = from_each (λ i a s. HasStarted lens m.lan f.starts.visited i (begun_for f.begun as' i) a [] s) (λ s t. (t.under ≡ s.under) × (recall_of t ≡ recall_of s)) (λ i a s. HasStarted lens m.lan f.starts.visited i (begun_for f.begun as' i) a [] s)
+            (λ i a s t p q. started_same lens m.lan f.starts.visited i (begun_for f.begun as' i) a [] s t q.0 q.1 p) 0 as' s0 s1 f.starts.each
             (steps_each _ (λ s t. (t.under ≡ s.under) × (recall_of t ≡ recall_of s)) c.args.place s0 s1 (λ s. (refl, refl)) (λ s t p. (p.0.3, p.1)) (steps_both _ _ c.args.place s0 s1 e.lives e.recalled));
       };
     }
@@ -162,13 +166,15 @@ returns-clause-led c = λ lens recover made from left next as' room rows quiet d
             let fewer_on = subst (λ z. NoneMore z l2) c.lay.ensures.lan c.came.ensures.fewer in
             let asks = steps_map _ (λ s t. Asks s t) place s0 s1
             (λ s t p. ((λ lens recover made a k h. p.0.0 (speech_at lens a.lived.spot) is_followed is_passed made recover a.lived.spot k h), p.1.0.2, p.1.0.0.out_is, ap (λ z. slice_get z.script z.number) p.1.0.3, p.1.1)) (steps_both _ _ place s0 s1 e.lives (steps_both _ _ place s0 s1 e.step e.recalled)) in
-            let so = steps_some (λ s. ComesSo l place coming s) (λ s t. Asks s t) place s0 s1 asks
-            (some_so l place coming (slice_get s0 place) c.coming-coming.ensures.first coms (c.coming-coming.ensures.none quiet) c.coming-coming.ensures.mails) in
-            let ready = steps_trans _ _ (λ s u. Readies lens recover made l place coming s u) place s0 s1 s2 (λ s t u a b. readies lens recover made l place coming s t u a.0 a.1 b.0.0 b.0.1 b.1) so
+            let got = waits_in (mails_in m) place in
+            let so = steps_some (λ s. ComesSo l place got coming s × IsComing (next_of s) coming) (λ s t. Asks s t) place s0 s1 asks
+            (Served.some_pair _ _ (slice_get s0 place) (some_so l place got coming (slice_get s0 place) c.coming-coming.ensures.first c.coming-coming.ensures.last c.coming-coming.ensures.none c.coming-coming.ensures.mails) coms) in
+            let ready = steps_trans _ _ (λ s u. Readies lens recover made l place got coming s u) place s0 s1 s2
+            (λ s t u a b. readies lens recover made l place got coming s t u a.0.0 a.1 b.0.0 b.0.1 b.1 (mail_none (next_of s) coming u.side.hand.laying a.0.1)) so
             (steps_both _ _ place s1 s2 laid (c.lay.ensures.sure c.coming-coming.ensures.waits)) in
             let begins = subst (λ z. StepsAt (λ s t. Begins s.stand r (knows s.side.hand.course) s.side.duty s.side.passing acknowledged (λ x d a. SideShows (Shows s.side.hand.course s.side.hand.which s.side.hand.clients x) s.side.out s.side.inn s.side.fresh s.side.duty d a) z (ready_of s.side.hand.laying)) place s2 s3) c.wish_of-wish.ensures v.begins in
-            let left_none = steps_trans _ _ (λ s u. LeavesNone lens recover made l place what_here s u) place s0 s2 s3
-            (λ s t u a b. subst (λ z. LeavesNone lens recover made l place z s u) (what_is coming r place s0 s1 s2 s3 s4 rooms coms fitted laid began came t b.0) (leaves_none lens recover made l place coming r s t u (rooms t) a b.1.0 b.1.1)) ready
+            let left_none = steps_trans _ _ (λ s u. LeavesNone lens recover made l place got what_here s u) place s0 s2 s3
+            (λ s t u a b. subst (λ z. LeavesNone lens recover made l place got z s u) (what_is coming r place s0 s1 s2 s3 s4 rooms coms fitted laid began came t b.0) (leaves_none lens recover made l place got coming r s t u (rooms t) a b.1.0 b.1.1)) ready
             (steps_got _ place s2 s3 (steps_both _ _ place s2 s3 begins v.recalled)) in
             let wish = c.wish_of-wish.result in
             let octets = c.args.into.now.items in
@@ -185,11 +191,11 @@ returns-clause-led c = λ lens recover made from left next as' room rows quiet d
             (λ a s u p w n. none_here coming r place s0 s1 s2 s3 s4 rooms coms fitted laid began came w.between w.is (without lens recover made octets (wish_of coming) r begun index next visited_frame.datagrams place a s w.between u p w.roomed w.lacking
             (now_here coming r place s0 s1 s2 s3 s4 rooms coms fitted laid began came f.begun w.between u a.spot.place w.is w.place p.lives.planned.stands.place_is) n)) visited_frame.each went in
             let before = from_both _ _ 0 as' s0 (from_both _ _ 0 as' s0 (from_map lived_of (λ i a s. StopFills lens recover made f.begun index left f.frame.datagrams i a s) 0 as' s0 f.frame.each) f.among) f.starts.each in
-            let third = from_steps _ (λ i a s. HasStarted lens l2 (place ∷ visited) i (begun_for begun as' i) a s) (λ s u. LeavesNone lens recover made l place what_here s u × (u.under ≡ false → what_here ≡ None)) 0 place place as' s0 s3 (omega arith)
-            (λ a s u p q. started_here lens recover made l l2 visited place (begun_for begun as' place) what_here a s u fewer_on (at_place f.begun here_is what_here as' place at_spot) (waits_yet lens recover made f.begun index left f.frame.datagrams place a s at p.0.0 p.0.1) q.0 q.1)
-            (λ j a s n p. started_there lens l l2 visited place j (begun_for f.begun as' j) (begun_for begun as' j) a s fewer_on n (at_other f.begun here_is what_here as' place j d at_spot n) p.1) before (steps_both _ _ place s0 s3 left_none without_one) in
-            from_each (λ i a s. HasStarted lens l2 (place ∷ visited) i (begun_for begun as' i) a s) (λ s t. SomeKept s t) (λ i a s. HasStarted lens l2 (place ∷ visited) i (begun_for begun as' i) a s)
-            (λ i a s t p k. started_same lens l2 (place ∷ visited) i (begun_for begun as' i) a s t k.kept.under (recall_kept k.number s t k.kept) p) 0 as' s3 s4 third (Visited.kept coming r place s0 s1 s2 s3 s4 rooms coms fitted laid began came);
+            let third = from_steps _ (λ i a s. HasStarted lens l2 (place ∷ visited) i (begun_for begun as' i) a [] s) (λ s u. LeavesNone lens recover made l place got what_here s u × (u.under ≡ false → what_here ≡ None)) 0 place place as' s0 s3 (omega arith)
+            (λ a s u p q. started_here lens recover made l l2 visited place got (begun_for begun as' place) what_here a [] s u fewer_on (at_place f.begun here_is what_here as' place at_spot) (waits_yet lens recover made f.begun index left f.frame.datagrams place a s at p.0.0 p.0.1) (λ z. refl) q.0 q.1)
+            (λ j a s n p. started_there lens l l2 visited place j (begun_for f.begun as' j) (begun_for begun as' j) a [] s fewer_on n (at_other f.begun here_is what_here as' place j d at_spot n) p.1) before (steps_both _ _ place s0 s3 left_none without_one) in
+            from_each (λ i a s. HasStarted lens l2 (place ∷ visited) i (begun_for begun as' i) a [] s) (λ s t. SomeKept s t) (λ i a s. HasStarted lens l2 (place ∷ visited) i (begun_for begun as' i) a [] s)
+            (λ i a s t p k. started_same lens l2 (place ∷ visited) i (begun_for begun as' i) a [] s t k.kept.under (recall_kept k.number s t k.kept) p) 0 as' s3 s4 third (Visited.kept coming r place s0 s1 s2 s3 s4 rooms coms fitted laid began came);
       };
     }
 
@@ -316,7 +322,7 @@ pub returns-clause-made : goal.returns-clause-made
 returns-clause-made c = makes_then _ _ _ (makes_none _ _ c.lay.ensures.lan) c.came.ensures.made
 
 pub returns-then-not-fits-clause-eager : goal.returns-then-not-fits-clause-eager
-returns-then-not-fits-clause-eager c = λ quiet under.
+returns-then-not-fits-clause-eager c = λ under.
     let e = c.fits.ensures in
     let s0 = c.args.self.now.tour.stops.items in
     let s1 = c.fits.new.self.stops.items in
@@ -324,7 +330,7 @@ returns-then-not-fits-clause-eager c = λ quiet under.
     (steps_tested (λ s. s.under) false _ c.args.place s0 s1 under (steps_both _ _ c.args.place s0 s1 e.recalled e.lives))
 
 pub returns-clause-eager : goal.returns-clause-eager
-returns-clause-eager c = λ quiet under.
+returns-clause-eager c = λ under.
     let e = c.fits.ensures in
     let v = c.visit-began.ensures in
     let place = c.args.place in
@@ -335,11 +341,12 @@ returns-clause-eager c = λ quiet under.
     let s2 = c.lay.new.self.tour.stops.items in
     let s3 = c.visit-began.new.self.stops.items in
     let s4 = c.came.new.self.tour.stops.items in
-    let fitted = steps_map _ (λ s t. Fitted s t) place s0 s1 (λ s t p. record { place = p.0.1; passing = p.1.2; script = p.1.3; out = p.1.0.out_is }) (steps_both _ _ place s0 s1 e.lives e.step) in
+    let first_next = steps_map _ (λ s t. IsNextState (next_of t) coming) place s0 s1 (λ s t p. subst (λ (z : Scripted). IsNextState (slice_get z.script z.number) coming) (sym p.1.3) p.0) (steps_some (λ s. IsNextState (next_of s) coming) _ place s0 s1 e.step c.coming-coming.ensures.states) in
+    let second_next = steps_mid (λ s t. IsNextState (next_of t) coming) _ (λ s t. IsNextState (next_of t) coming) place s0 s1 s2
+    (λ r s t a b. subst (λ (z : Scripted). IsNextState (slice_get z.script z.number) coming) (sym (λ i. record { script = b.0.side.script i; number = b.0.side.number i })) a) first_next c.lay.ensures.laid in
     let began = subst (λ z. StepsAt (λ s t. Began r z s t) place s2 s3) c.wish_of-wish.ensures
     (steps_map _ (λ s t. Began r c.wish_of-wish.result s t) place s2 s3 (λ s t p. record { place = p.0.4; out = p.1.0.0.out_is; ready = p.1.1.0; script = p.1.1.1; unpassed = p.1.1.2 }) (steps_both _ _ place s2 s3 v.lives (steps_both _ _ place s2 s3 v.step v.began))) in
-    let rooms : (s : Stop InHand Impl.ghosts) → s.side.out.len ≡ s.side.hand.laying.areas.out = λ s. s.side.room ∙ ap (λ z. z.out) (sym s.side.hand.one_slave) in
-    let kept = Visited.kept coming r place s0 s1 s2 s3 s4 rooms (c.coming-coming.ensures.comes quiet) fitted c.lay.ensures.laid began c.came.ensures.came in
+    let kept = Served.kept_by coming r place s2 s3 s4 (steps_mid (λ s t. IsNextState (next_of t) coming) _ _ place s1 s2 s3 (λ r s t a b. (a, b.script)) second_next began) c.came.ensures.came in
     let same = λ (s t : Stop InHand Impl.ghosts). recall_of t ≡ recall_of s in
     let first = steps_trans same same same place s0 s1 s2 (λ x y z a b. b ∙ a) e.recalled (steps_map _ same place s1 s2 (λ s t p. recall_kept _ s t p.0) c.lay.ensures.laid) in
     let second = steps_trans same _ (λ s t. StopGoes s t) place s0 s2 s3 (λ x y z a b. (b.0 ∙ a, λ h u. b.1)) first (steps_both _ _ place s2 s3 v.recalled v.takes) in
@@ -353,27 +360,37 @@ pub returns-clause-events : goal.returns-clause-events
 returns-clause-events c = let e = ap (λ z. z.count) c.lay.ensures.list in let f = c.came.ensures.events in omega (arith, e, f)
 
 pub returns-then-not-fits-clause-serves : goal.returns-then-not-fits-clause-serves
-returns-then-not-fits-clause-serves c = λ lens recover made forwards left next ws few d at over fewer f.
+returns-then-not-fits-clause-serves c = λ lens recover made from left next ws room few d at over fewer f.
     let m = c.args.self.now in
     let e = c.fits.ensures in
     let s0 = m.tour.stops.items in
     let s1 = c.fits.new.self.stops.items in
-    let alike = steps_each _ (λ s t. Served.Alike s t) c.args.place s0 s1 (λ s. Served.alike_same s)
+    let alike = steps_each _ (λ s t. Alike s t) c.args.place s0 s1 (λ s. alike_same s)
     (λ s t p. record { script = p.1.0.3; place = p.0.1; stand = p.1.0.1; passing = p.1.0.2; awaits = p.1.1.0.1; read = p.1.1.0.0; out = p.1.0.0.out_is; known = ap (λ z. z.knows) p.1.1.1 }) (steps_both _ _ c.args.place s0 s1 e.lives (steps_both _ _ c.args.place s0 s1 e.step (steps_both _ _ c.args.place s0 s1 e.read e.recalled))) in
     record {
       begun = f.begun;
       frame = subst (λ n. FrameMade (λ ds i a s. StopFills lens recover made f.begun (m.made % 256) left ds i a s) c.args.into.now.items n (map (λ w. lived_of (run_lead w)) ws) s1) (sym e.count)
           (e.made (speech_at lens) is_followed is_passed made recover (m.made % 256) m.tour.count lens left (map (λ w. lived_of (run_lead w)) ws) c.args.into.now.items f.begun d at f.frame);
-      each = three_each (λ i w ks s. IsServing lens f.begun made left i w ks s) (λ i w ks s. IsServing lens f.begun made left i w ks s) (λ s t. Served.Alike s t) (λ i w ks s t h k. Served.serving_alike lens f.begun made left i w ks s t h k)
+      each = three_each (λ i w ks s. IsServing lens f.begun made left i w ks s) (λ i w ks s. IsServing lens f.begun made left i w ks s) (λ s t. Alike s t) (λ i w ks s t h k. serving_alike lens f.begun made left i w ks s t h k)
           0 ws (mails_in m) s0 s1 f.each alike;
-      handed = three_each (λ i w p s. IsHanding lens f.begun w p.work (knows s.side.hand.course)) (λ i w p s. IsHanding lens f.begun w p.work (knows s.side.hand.course)) (λ s t. Served.Alike s t)
+      handed = three_each (λ i w p s. IsHanding lens f.begun w p.work (knows s.side.hand.course)) (λ i w p s. IsHanding lens f.begun w p.work (knows s.side.hand.course)) (λ s t. Alike s t)
           (λ i w p s t h k. subst (λ z. IsHanding lens f.begun w p.work z) (sym k.known) h) 0 ws m.posts.items s0 s1 f.handed alike;
       numbered = f.numbered;
-      listing = listed_on (served_tells ws) forwards left f.begun (map run_lead ws) m _ refl refl f.listing;
+      packets = f.packets;
+      listing = listed_on (served_tells ws) from.forwards left f.begun (map run_lead ws) m _ refl refl f.listing;
+      starts = record {
+        visited = f.starts.visited;
+        each = from_each (λ i w s. HasStarted lens m.lan f.starts.visited i (begun_for f.begun (map run_lead ws) i) w.lead w.waits s) (λ s t. (t.under ≡ s.under) × (recall_of t ≡ recall_of s))
+            (λ i w s. HasStarted lens m.lan f.starts.visited i (begun_for f.begun (map run_lead ws) i) w.lead w.waits s)
+            (λ i w s t p q. started_same lens m.lan f.starts.visited i (begun_for f.begun (map run_lead ws) i) w.lead w.waits s t q.0 q.1 p) 0 ws s0 s1 f.starts.each
+            (steps_each _ (λ s t. (t.under ≡ s.under) × (recall_of t ≡ recall_of s)) c.args.place s0 s1 (λ s. (refl, refl)) (λ s t p. (p.0.3, p.1)) (steps_both _ _ c.args.place s0 s1 e.lives e.recalled));
+      };
     }
 
 pub returns-clause-serves : goal.returns-clause-serves
-returns-clause-serves c = λ lens recover made forwards left next ws few d at over fewer f.
+returns-clause-serves c =
+    let fit : c.fits.result ≡ true = cc in
+    λ lens recover made from left next ws room few d at over fewer f.
     let m = c.args.self.now in
     let e = c.fits.ensures in
     let v = c.visit-began.ensures in
@@ -390,7 +407,7 @@ returns-clause-serves c = λ lens recover made forwards left next ws few d at ov
     let index = m.made % 256 in
     let rooms : (s : Stop InHand Impl.ghosts) → s.side.out.len ≡ s.side.hand.laying.areas.out = λ s. s.side.room ∙ ap (λ z. z.out) (sym s.side.hand.one_slave) in
     let frees : (n : ℕ) (s t : Stop InHand Impl.ghosts) → StopKept n s t → is_free_side t.side ≡ is_free_side s.side = λ n s t k. Frees.free_kept n s t k in
-    let alike = steps_each _ (λ s t. Served.Alike s t) place s0 s1 (λ s. Served.alike_same s)
+    let alike = steps_each _ (λ s t. Alike s t) place s0 s1 (λ s. alike_same s)
     (λ s t p. record { script = p.1.0.3; place = p.0.1; stand = p.1.0.1; passing = p.1.0.2; awaits = p.1.1.0.1; read = p.1.1.0.0; out = p.1.0.0.out_is; known = ap (λ z. z.knows) p.1.1.1 }) (steps_both _ _ place s0 s1 e.lives (steps_both _ _ place s0 s1 e.step (steps_both _ _ place s0 s1 e.read e.recalled))) in
     let ahead = steps_map _ (λ s t. Served.Ahead coming t) place s0 s1
     (λ s t p. record {
@@ -417,12 +434,13 @@ returns-clause-serves c = λ lens recover made forwards left next ws few d at ov
     let begun = Served.now lens recover made coming r place got s0 s1 s2 s3 s4 rooms frees ahead readied visited came f.begun in
     let same = ap (λ n. n % 256) (c.came.ensures.kept.0.made ∙ c.lay.ensures.kept.0.made) in
     let before = e.made (speech_at lens) is_followed is_passed made recover index m.tour.count lens left lives c.args.into.now.items f.begun d at f.frame in
-    let made_frame = Served.frame lens recover made coming r place got s0 s1 s2 s3 s4 rooms frees ahead readied visited came index f.begun left next lives c.args.into.now.items c.visit-began.new.frame.items m.tour.count c.lay.new.self.tour.count c.visit-began.new.self.count
+    let visited_frame = Served.frame lens recover made coming r place got s0 s1 s2 s3 s4 rooms frees ahead readied visited came index f.begun left next lives c.args.into.now.items c.visit-began.new.frame.items m.tour.count c.lay.new.self.tour.count c.visit-began.new.self.count
     (c.lay.ensures.kept.0.count ∙ e.count) before
     (λ g. v.made (speech_at lens) is_followed is_passed made recover lens left next lives f.begun begun d at over fewer (subst (λ z. IfSome (slice_get s2 place) (λ s. ComesAt f.begun begun s.place (wish_begun r z (ready_of s.side.hand.laying)))) (sym c.wish_of-wish.ensures) (Served.comes lens recover made coming r place got s0 s1 s2 s3 s4 rooms frees ahead readied visited came f.begun)) g) in
-    let all = three_each (λ i w ks s. IsServing lens f.begun made left i w ks s) (λ i w ks s. IsServing lens f.begun made left i w ks s) (λ s t. Served.Alike s t) (λ i w ks s t h k. Served.serving_alike lens f.begun made left i w ks s t h k) 0 ws (mails_in m) s0 s1 f.each alike in
+    let made_frame = Served.frame_kept lens recover made coming r place got s0 s1 s2 s3 s4 rooms frees ahead readied visited came index f.begun next lives c.visit-began.new.frame.items c.visit-began.new.self.count visited_frame in
+    let all = three_each (λ i w ks s. IsServing lens f.begun made left i w ks s) (λ i w ks s. IsServing lens f.begun made left i w ks s) (λ s t. Alike s t) (λ i w ks s t h k. serving_alike lens f.begun made left i w ks s t h k) 0 ws (mails_in m) s0 s1 f.each alike in
     let served = Served.serving lens recover made coming r place got s0 s1 s2 s3 s4 rooms frees ahead readied visited came f.begun index left next before.datagrams fewer c.coming-coming.ensures.oldest ws (mails_in m) (mails_in c.lay.new.self) at over d before.each all c.lay.ensures.mails refl in
-    let handed = three_each (λ i w p s. IsHanding lens f.begun w p.work (knows s.side.hand.course)) (λ i w p s. IsHanding lens f.begun w p.work (knows s.side.hand.course)) (λ s t. Served.Alike s t)
+    let handed = three_each (λ i w p s. IsHanding lens f.begun w p.work (knows s.side.hand.course)) (λ i w p s. IsHanding lens f.begun w p.work (knows s.side.hand.course)) (λ s t. Alike s t)
     (λ i w p s t h k. subst (λ z. IsHanding lens f.begun w p.work z) (sym k.known) h) 0 ws m.posts.items s0 s1 f.handed alike in
     let moved = steps_trans _ _ (λ p q. Served.Moved lens recover made coming r place got s0 s1 s2 s3 s4 rooms frees ahead readied visited came f.begun index left next before.datagrams fewer c.coming-coming.ensures.oldest p q) place m.posts.items c.lay.new.self.posts.items c.came.new.self.posts.items
     (λ p x q a b. record { mid = x; lays = a; works = b }) c.lay.ensures.works c.came.ensures.works in
@@ -430,6 +448,7 @@ returns-clause-serves c = λ lens recover made forwards left next ws few d at ov
     let stands = Served.all_here lens recover made coming r place got s0 s1 s2 s3 s4 rooms frees ahead readied visited came in
     let here_is = Served.here lens recover made coming r place got s0 s1 s2 s3 s4 rooms frees ahead readied visited came in
     let what_is = Served.what lens recover made coming r place got s0 s1 s2 s3 s4 rooms frees ahead readied visited came in
+    let apart = subst (λ z. AreDistinct z) (sym (map_map lived_of run_lead ws)) d in
     let told = told_visit lens recover made coming r place got (slice_get s2 place) here_is what_is (λ t z. ap (λ y. Served.came_of lens recover made coming r place got s0 s1 s2 s3 s4 rooms frees ahead readied visited came y) z) f.begun left c.coming-coming.ensures.oldest
     ws m.posts.items c.lay.new.self.posts.items s1 s2 s4 at all f.numbered refl goes stands c.lay.ensures.origins in
     record {
@@ -443,8 +462,44 @@ returns-clause-serves c = λ lens recover made forwards left next ws few d at ov
       numbered = both_each _ _ (λ w p. IsNumbered (length w.asked) p) (λ w p q h k. k (length w.asked) h) ws m.posts.items c.came.new.self.posts.items f.numbered
           (each_trans (λ p q. StaysNumbered p q) m.posts.items c.lay.new.self.posts.items c.came.new.self.posts.items (λ p q u y z n h. z n (y n h)) (steps_each _ (λ p q. StaysNumbered p q) place m.posts.items c.lay.new.self.posts.items (λ p n h. h) (λ p q h. h.numbered) told.2)
           (steps_each _ (λ p q. StaysNumbered p q) place c.lay.new.self.posts.items c.came.new.self.posts.items (λ p n h. h) (λ p q h. h.numbered) c.came.ensures.lists));
-      listing = listed_step (served_tells ws) forwards left next f.begun (map run_lead ws) m c.came.new.self place here_is what_is (subst (λ z. AreDistinct z) (sym (map_map lived_of run_lead ws)) d) told.0 at over fewer
+      packets = begun_step from.switch left next f.begun (map run_lead ws) m.lan c.came.new.self.lan place here_is what_is (taken_where r m.lan place coming) apart told.0 room at over fewer
+          (Served.leaves lens recover made coming r place got s0 s1 s2 s3 s4 rooms frees ahead readied visited came m.lan c.lay.ensures.oldest (mail_ready lens f.begun made left coming place ws (mails_in m) s1 s2 at all c.coming-coming.ensures.oldest readied))
+          (subst (λ z. TakesOn (taken_where r z place coming) z c.came.new.self.lan) c.lay.ensures.lan c.came.ensures.takes) (subst (λ z. NoneMore z c.came.new.self.lan) c.lay.ensures.lan c.came.ensures.fewer)
+          (Served.waits_none lens recover made coming r place got s0 s1 s2 s3 s4 rooms frees ahead readied visited came m.lan c.coming-coming.ensures.first) f.packets;
+      listing = listed_step (served_tells ws) from.forwards left next f.begun (map run_lead ws) m c.came.new.self place here_is what_is apart told.0 at over fewer
           (listed_visit (served_tells ws) place (where_began r coming) what_is m _ c.came.new.self c.lay.ensures.list few told.1 c.came.ensures.lists) f.listing;
+      starts = record {
+        visited = place ∷ f.starts.visited;
+        each =
+            let l = m.lan in
+            let l2 = c.came.new.self.lan in
+            let past = f.starts.visited in
+            let fewer_on = subst (λ z. NoneMore z l2) c.lay.ensures.lan c.came.ensures.fewer in
+            let asks = steps_map _ (λ s t. Asks s t) place s0 s1
+            (λ s t p. ((λ lens recover made a k h. p.0.0 (speech_at lens a.lived.spot) is_followed is_passed made recover a.lived.spot k h), p.1.0.2, p.1.0.0.out_is, ap (λ z. slice_get z.script z.number) p.1.0.3, p.1.1)) (steps_both _ _ place s0 s1 e.lives (steps_both _ _ place s0 s1 e.step e.recalled)) in
+            let so = steps_some (λ s. ComesSo l place got coming s) (λ s t. Asks s t) place s0 s1 asks
+            (some_so l place got coming (slice_get s0 place) c.coming-coming.ensures.first c.coming-coming.ensures.last c.coming-coming.ensures.none c.coming-coming.ensures.mails) in
+            let mail = mail_ready lens f.begun made left coming place ws (mails_in m) s1 s2 at all c.coming-coming.ensures.oldest readied in
+            let ready = steps_trans _ _ (λ s u. Readies lens recover made l place got coming s u) place s0 s1 s2 (λ s t u a b. readies lens recover made l place got coming s t u a.0 a.1 b.0.0.0 b.0.0.1 b.0.1 b.1) so
+            (steps_both _ _ place s1 s2 (steps_both _ _ place s1 s2 c.lay.ensures.laid (c.lay.ensures.sure c.coming-coming.ensures.waits)) mail) in
+            let begins = subst (λ z. StepsAt (λ s t. Begins s.stand r (knows s.side.hand.course) s.side.duty s.side.passing acknowledged (λ x d a. SideShows (Shows s.side.hand.course s.side.hand.which s.side.hand.clients x) s.side.out s.side.inn s.side.fresh s.side.duty d a) z (ready_of s.side.hand.laying)) place s2 s3) c.wish_of-wish.ensures v.begins in
+            let seen_is = Served.what_seen lens recover made coming r place got s0 s1 s2 s3 s4 rooms frees ahead readied visited came in
+            let left_none = leaves_all lens recover made l place got coming r what_is s0 s2 s3 rooms seen_is ready begins v.recalled in
+            let wish = c.wish_of-wish.result in
+            let octets = c.args.into.now.items in
+            let roomed = steps_map _ (λ s t. Roomed octets wish s t × (t.stand ≡ s.stand)) place s0 s1
+            (λ s t p. (record { free = λ w. p.0.0.0 (some_wish coming (sym (ap (λ z. is_some z) c.wish_of-wish.ensures) ∙ w)); fits = p.0.0.1; still = p.0.1 }, p.1.1))
+            (steps_both _ _ place s0 s1 (steps_both _ _ place s0 s1 (steps_some (λ s. is_some coming ≡ true → (s.stand ≡ Stand.Open) × (is_free_side s.side ≡ true)) (λ s t. FitsFirst octets wish s) place s0 s1 (e.begins fit) c.coming-coming.ensures.free) e.still) e.step) in
+            let room_kept = steps_trans _ _ (λ s u. Roomy octets wish s u) place s0 s1 s2 (λ s t u a b. roomy octets wish s t u a.1 a.0 b.0) roomed c.lay.ensures.laid in
+            let lacking = steps_map _ (λ t u. Lacking octets wish r t u × (u.place ≡ t.place)) place s2 s3 (λ t u p. (record { lacks = p.0.0; takes = p.0.1; stand = p.1.1.0.1; recalled = p.1.1.1 }, p.1.0.4))
+            (steps_both _ _ place s2 s3 (steps_both _ _ place s2 s3 v.lacks v.takes) (steps_both _ _ place s2 s3 v.lives (steps_both _ _ place s2 s3 v.step v.recalled))) in
+            let went = subst (λ z. StepsAt (λ s u. Went octets z r (slice_get s2 place) s u) place s0 s3) c.wish_of-wish.ensures
+            (steps_trans _ _ (λ s u. Went octets wish r (slice_get s2 place) s u) place s0 s2 s3 (λ s t u a b. record { between = t; is = b.0; roomed = a; lacking = b.1.0; place = b.1.1 }) room_kept (steps_got _ place s2 s3 lacking)) in
+            let here_so = Served.now_here lens recover made coming r place got s0 s1 s2 s3 s4 rooms frees ahead readied visited came f.begun in
+            let without_one = all_without lens recover made index octets (wish_of coming) r begun next visited_frame.datagrams place (slice_get s2 place) what_is seen_is here_so lives s0 s3 visited_frame.each went in
+            serves_started lens recover made f.begun index left past f.frame.datagrams l l2 place here_is got what_is ws (mails_in m) s0 s3 s4 at fewer_on refl apart told.0 f.frame.each f.each f.starts.each left_none without_one
+            (Served.kept lens recover made coming r place got s0 s1 s2 s3 s4 rooms frees ahead readied visited came);
+      };
     }
 
 pub returns-then-not-fits-clause-head : goal.returns-then-not-fits-clause-head

@@ -1,6 +1,9 @@
-use Rattle.std.proofs.Common.{◌≡◌, ◌∙◌, Bool, refl, sym, true, false, rules, arith}
-use Rattle.std.specs.Prelude.{◌&&◌}
-use Rattle.master_node.proofs.Restings.{never, all_rest}
+use Rattle.std.proofs.Common.{◌≡◌, ◌∙◌, Bool, [], refl, sym, true, false, rules, arith}
+use Rattle.std.specs.Prelude.{◌&&◌, slice_get}
+use Rattle.master_tour.specs.declared.stop.Stand.{Stand}
+use Rattle.master_node.specs.Passes.{waits_in}
+use Rattle.master_node.specs.Serving.{mails_in}
+use Rattle.master_node.proofs.Restings.{never, all_rest, if_with, quiet_in}
 use Rattle.std.proofs.lemmas.Bool.{OnFalse_at, OnFalse_from}
 use Rattle.master_node.proofs.Mailless.{all_out}
 use Rattle.master_node.proofs.Quiets.{all_left}
@@ -23,7 +26,16 @@ returns-clause-served c =
 pub returns-then-has_wanting-clause-rests : goal.returns-then-has_wanting-clause-rests
 returns-then-has_wanting-clause-rests c = λ lens recover retry missed as' shown rests come.
     let yes : c.has_wanting.result ≡ true = search rules in
-    absurd (never (sym (c.has_wanting.ensures.rests shown.quiet (all_rest lens recover c.args.self.now.lan as' c.args.self.now.tour.stops.items shown.each rests)) ∙ yes))
+    let m = c.args.self.now in
+    absurd (never (sym (c.has_wanting.ensures.rests (λ k. if_with _ (λ s. s.stand ≡ Stand.Open → waits_in (mails_in m) k ≡ []) (slice_get m.tour.stops.items k) (λ s o. quiet_in m.posts.items shown.quiet k) (all_rest lens recover m.lan as' m.tour.stops.items shown.each rests k))) ∙ yes))
+
+pub returns-then-has_wanting-clause-idle : goal.returns-then-has_wanting-clause-idle
+returns-then-has_wanting-clause-idle c = λ idle.
+    let yes : c.has_wanting.result ≡ true = search rules in
+    absurd (never (sym (c.has_wanting.ensures.rests idle.rest) ∙ yes))
+
+pub returns-clause-idle : goal.returns-clause-idle
+returns-clause-idle c = λ idle. c.has_coming.ensures.none idle.come
 
 pub returns-clause-rests : goal.returns-clause-rests
 returns-clause-rests c = λ lens recover retry missed as' shown rests come. c.has_coming.ensures.none come

@@ -1,4 +1,4 @@
-use Rattle.std.proofs.Common.{◌≡◌, ◌<◌, ◌∙◌, true, false, sym, ap, subst, length, rules, arith}
+use Rattle.std.proofs.Common.{◌≡◌, ◌<◌, ◌∙◌, true, false, [], sym, ap, subst, length, rules, arith}
 use Rattle.std.specs.Prelude.{slice_get}
 use Rattle.std.proofs.lemmas.Bool.{OnTrue_from, OnFalse_from, OnFalse_at}
 use Rattle.master_tour.specs.Goes.{is_live}
@@ -8,7 +8,9 @@ use Rattle.master_node.proofs.Mailless.{gone_mailless, open_mailless, within}
 use Rattle.master_node.proofs.Places.{tested_here}
 use Rattle.master_node.proofs.Quiets.{quiet_here}
 use Rattle.master_node.proofs.Restings.{if_here, never}
+use Rattle.master_node.specs.Passes.{waits_in}
 use Rattle.master_node.specs.Resting.{StandRests, StopRests}
+use Rattle.master_node.specs.Serving.{mails_in}
 use Rattle.master_node.proofs.node.MasterNode.wants_at.Goals as goal
 
 pub returns-in-Opening-clause-live : goal.returns-in-Opening-clause-live
@@ -59,26 +61,26 @@ returns-else-is_wanting-clause-mails c =
     (open_mailless post s.stand s.side.passing c.in-Open.is (OnFalse_at no c.is_wanting.ensures.unpassed) (OnFalse_at e c.has_waiting.ensures.mails)))
 
 pub returns-in-Opening-clause-rests : goal.returns-in-Opening-clause-rests
-returns-in-Opening-clause-rests c = λ w p.
+returns-in-Opening-clause-rests c = λ p.
     let m = c.args.self.now in
     let l : c.args.place < length m.tour.stops.items = omega (arith, c.requires, m.paired, m.tour.stops.ok.0) in
-    let r = if_here (λ s. StopRests m.lan c.args.place s) m.tour.stops.items c.args.place c.index-stop.result.now l c.index-stop.ensures p in
-    absurd (subst (λ (k : Stand). StandRests m.lan c.args.place k c.index-stop.result.now.side) c.in-Opening.is r)
+    let r = if_here (λ s. StopRests m.lan c.args.place s × (s.stand ≡ Stand.Open → waits_in (mails_in m) c.args.place ≡ [])) m.tour.stops.items c.args.place c.index-stop.result.now l c.index-stop.ensures p in
+    absurd (subst (λ (k : Stand). StandRests m.lan c.args.place k c.index-stop.result.now.side) c.in-Opening.is r.0)
 
 pub returns-then-is_wanting-clause-rests : goal.returns-then-is_wanting-clause-rests
-returns-then-is_wanting-clause-rests c = λ w p.
+returns-then-is_wanting-clause-rests c = λ p.
     let m = c.args.self.now in
     let l : c.args.place < length m.tour.stops.items = omega (arith, c.requires, m.paired, m.tour.stops.ok.0) in
-    let r = if_here (λ s. StopRests m.lan c.args.place s) m.tour.stops.items c.args.place c.index-stop.result.now l c.index-stop.ensures p in
+    let r = if_here (λ s. StopRests m.lan c.args.place s × (s.stand ≡ Stand.Open → waits_in (mails_in m) c.args.place ≡ [])) m.tour.stops.items c.args.place c.index-stop.result.now l c.index-stop.ensures p in
     let yes : c.is_wanting.result ≡ true = search rules in
-    absurd (never (sym (c.is_wanting.ensures.rests (subst (λ (k : Stand). StandRests m.lan c.args.place k c.index-stop.result.now.side) c.in-Open.is r).0) ∙ yes))
+    absurd (never (sym (c.is_wanting.ensures.rests (subst (λ (k : Stand). StandRests m.lan c.args.place k c.index-stop.result.now.side) c.in-Open.is r.0).0) ∙ yes))
 
 pub returns-else-is_wanting-clause-rests : goal.returns-else-is_wanting-clause-rests
-returns-else-is_wanting-clause-rests c = λ w p.
+returns-else-is_wanting-clause-rests c = λ p.
     let m = c.args.self.now in
     let l : c.args.place < length m.tour.stops.items = omega (arith, c.requires, m.paired, m.tour.stops.ok.0) in
-    let r = if_here (λ s. StopRests m.lan c.args.place s) m.tour.stops.items c.args.place c.index-stop.result.now l c.index-stop.ensures p in
-    c.has_waiting.ensures.rests w (subst (λ (k : Stand). StandRests m.lan c.args.place k c.index-stop.result.now.side) c.in-Open.is r).1
+    let r = if_here (λ s. StopRests m.lan c.args.place s × (s.stand ≡ Stand.Open → waits_in (mails_in m) c.args.place ≡ [])) m.tour.stops.items c.args.place c.index-stop.result.now l c.index-stop.ensures p in
+    c.has_waiting.ensures.rests (r.1 c.in-Open.is) (subst (λ (k : Stand). StandRests m.lan c.args.place k c.index-stop.result.now.side) c.in-Open.is r.0).1
 
 pub returns-in-Gone-clause-waits : goal.returns-in-Gone-clause-waits
 returns-in-Gone-clause-waits c = λ live.

@@ -72,3 +72,12 @@ pub returns-in-State-clause-first : goal.returns-in-State-clause-first
 returns-in-State-clause-first g c = λ b w e held h.
     let is : c.args.wish ≡ Some (Wish.State c.in-State.target) = c.in-Some.is ∙ ap Some c.in-State.is in
     c.begin_state.ensures.first refl w (sym is ∙ e) held h
+
+pub returns-in-Mails-clause-recalled : goal.returns-in-Mails-clause-recalled
+returns-in-Mails-clause-recalled g c =
+    let free = c.if-not-is_free.false in
+    let f = c.is_free.ensures.bare free in
+    c.begin_mails.ensures.recalled f.0 f.1 (c.is_free.ensures.knows free)
+
+pub returns-in-State-clause-recalled : goal.returns-in-State-clause-recalled
+returns-in-State-clause-recalled g c = let f = c.is_free.ensures.bare c.if-not-is_free.false in c.begin_state.ensures.recalled f.0 f.1

@@ -2,7 +2,7 @@ use Rattle.std.proofs.Common.{◌≡◌, sym, subst, ◌∙◌, true, false, Boo
 use Rattle.std.specs.Prelude.{if◌then◌else◌}
 use Rattle.master_side.proofs.Agains.{mails_most, never}
 use Rattle.master_side.proofs.Begins.{begins_ready, none_passed}
-use Rattle.master_side.proofs.Recalls.{idle_recall}
+use Rattle.master_side.proofs.Recalls.{begun_recall}
 use Rattle.std.specs.Prelude.{Some, None, Option}
 use Rattle.master_side.specs.Passing.{PassingShows, passing_behind}
 use Rattle.master_side.specs.Shown.{wish_begun}
@@ -62,9 +62,9 @@ returns-clause-passing g c =
     ]
 
 pub returns-clause-recalled : goal.returns-clause-recalled
-returns-clause-recalled g c = λ n k.
+returns-clause-recalled g c = λ n p k.
     let old = c.args.self.now in
-    idle_recall old.paused old.turn false (g.H.Hand.knows old.hand) (g.H.Hand.knows c.begin-began.new.self) old.duty n (c.begin-began.ensures.knows ∙ same c.begin-began.result (g.H.Hand.knows old.hand) k)
+    begun_recall old.paused old.turn (g.H.Hand.knows old.hand) (g.H.Hand.knows c.begin-began.new.self) old.duty old.duty old.passing c.if-passed.passing n p (c.begin-began.ensures.knows ∙ same c.begin-began.result (g.H.Hand.knows old.hand) k)
   where
     same : (b known : Bool) → known ≡ true → (if b then true else known) ≡ known
     same true known e = sym e

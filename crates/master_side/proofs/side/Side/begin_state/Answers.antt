@@ -1,8 +1,8 @@
-use Rattle.std.proofs.Common.{Some}
+use Rattle.std.proofs.Common.{Some, refl}
 use Rattle.master_duty.specs.declared.stage.Met.{Met}
 use Rattle.master_side.proofs.Agains.{drains_most}
 use Rattle.master_side.proofs.Begins.{begins_state}
-use Rattle.master_side.proofs.Recalls.{state_recall}
+use Rattle.master_side.proofs.Recalls.{begun_recall}
 use Rattle.std.proofs.Common.{ap, ◌∙◌}
 use Rattle.mailbox_master.specs.Any.{in_half_of}
 use Rattle.master_side.specs.Sent.{gram_len}
@@ -18,7 +18,10 @@ pub returns-clause-again : goal.returns-clause-again
 returns-clause-again g c = λ n p r held h. drains_most c.args.self.now c.new-duty.result c.new-duty.ensures.stage n p r held
 
 pub returns-clause-recalled : goal.returns-clause-recalled
-returns-clause-recalled g c = λ n. let old = c.args.self.now in state_recall old.paused old.turn (g.H.Hand.knows old.hand) old.duty (Some (Met.On c.new-duty.result)) n
+returns-clause-recalled g c = λ n p.
+    let old = c.args.self.now in
+    let knows = g.H.Hand.knows old.hand in
+    begun_recall old.paused old.turn knows knows old.duty (Some (Met.On c.new-duty.result)) old.passing old.passing n p refl
 
 pub returns-clause-first : goal.returns-clause-first
 returns-clause-first g c = λ b w e held h.

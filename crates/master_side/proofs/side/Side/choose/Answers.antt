@@ -1,4 +1,5 @@
-use Rattle.std.proofs.Common.{sym, subst}
+use Rattle.std.proofs.Common.{sym, subst, ◌∙◌}
+use Rattle.master_side.specs.Recall.{recall_by}
 use Rattle.master_side.specs.Shown.{SideShows}
 use Rattle.master_side.proofs.Begins.{picked}
 use Rattle.master_side.proofs.Agains.{holds_most}
@@ -23,3 +24,8 @@ returns-clause-passing g c = λ p s.
 
 pub returns-clause-first : goal.returns-clause-first
 returns-clause-first g c = holds_first c.args.self.now c.begin-began.new.self c.hold_next.new.self _ _ c.hold_next.ensures.on c.begin-began.ensures.first
+
+pub returns-clause-recalled : goal.returns-clause-recalled
+returns-clause-recalled g c =
+    let on = c.hold_next.ensures.on in
+    (λ i. recall_by (on.paused i) (on.duty i) (on.passing i) (on.turn i) (c.hold_next.ensures.knows i)) ∙ c.begin-began.ensures.recalled

@@ -1,4 +1,4 @@
-use Rattle.std.proofs.Common.{◌≡◌, sym, ◌∙◌}
+use Rattle.std.proofs.Common.{◌≡◌, ap, is_some, sym, ◌∙◌}
 use Rattle.master_side.specs.declared.carried.Carried.{Carried}
 use Rattle.master_side.proofs.Agains.{kept_lost}
 use Rattle.std.proofs.Common.{subst, Option}
@@ -9,6 +9,7 @@ use Rattle.master_side.specs.Carried.{Meant, one}
 use Rattle.master_side.specs.Passes.{told_by}
 use Rattle.master_side.specs.Passing.{PassingShows, news_lost}
 use Rattle.master_side.proofs.Passings.{lost_shows}
+use Rattle.master_side.proofs.Recalls.{told_some}
 use Rattle.master_side.proofs.Tellings.{lost_write_seen}
 use Rattle.master_side.proofs.side.Side.lost.Goals as goal
 
@@ -27,3 +28,9 @@ returns-in-Write-clause-passing g c = λ x kept p b d a s k h w.
     subst (λ (o : Option Passing). PassingShows (g.H.Hand.awaits new.hand) o life) (sym l.way.2)
     (subst (λ z. PassingShows (g.H.Hand.awaits z) (told_by args.passing args.fresh) life) (sym l.kept.2)
     (lost_shows args.passing args.fresh (g.H.Hand.awaits args.hand) p life (lost_write_seen x g.H.Hand.acknowledged g.H.Hand.more g.H.Hand.passed args.station kept b d a args.passing args.fresh p s.unsent k meant h.is) h))
+
+pub returns-in-Write-clause-recalled : goal.returns-in-Write-clause-recalled
+returns-in-Write-clause-recalled g c =
+    let old = c.args.self.now in
+    let k = c.write_lost.ensures in
+    (k.way.1, k.way.0, k.kept.3, ap (λ h. g.H.Hand.knows h) k.kept.2, ap (λ (p : Option Passing). is_some p) k.way.2 ∙ told_some old.passing old.fresh)

@@ -115,7 +115,7 @@ pub returns-in-Open-clause-recalls : goal.returns-in-Open-clause-recalls
 returns-in-Open-clause-recalls g c = λ x recover spot lens sent l sp r u sh.
     let q = c.open_met.ensures.recalls c.in-Open.is x recover spot lens sent l sp r u sh in
     record {
-      visited = λ o v b n. let w = q.visited o v b n in record { counter = w.counter; octets = w.octets; back = w.back; paused = w.paused; turn = w.turn; duty = w.duty };
+      visited = λ o v b n. let w = q.visited o v b n in record { counter = w.counter; octets = w.octets; back = w.back; paused = w.paused; turn = w.turn; duty = w.duty; unpassed = w.unpassed };
       unvisited = q.unvisited;
       known = q.known;
       sure = q.sure;

@@ -77,10 +77,10 @@ returns-in-Open-clause-passing g c = λ x recover spot lens kept octets l sp u s
     (c.open_lost.ensures.passing x kept l.era.passing sent l.era.side l.era.account stood.1 (subst (λ z. StandKept z kept l) c.in-Open.is k) (subst (λ z. StandPassing z (g.H.Hand.awaits w.hand) w.passing l) c.in-Open.is h) (subst (λ z. StandUnder lens w.station t.at t.under w.carried z l sent) c.in-Open.is u))
 
 pub returns-in-Gone-clause-recalled : goal.returns-in-Gone-clause-recalled
-returns-in-Gone-clause-recalled g c = (refl, refl, refl, refl)
+returns-in-Gone-clause-recalled g c = (refl, refl, refl, refl, refl)
 
 pub returns-in-Opening-clause-recalled : goal.returns-in-Opening-clause-recalled
-returns-in-Opening-clause-recalled g c = (refl, refl, refl, refl)
+returns-in-Opening-clause-recalled g c = (refl, refl, refl, refl, refl)
 
 pub returns-in-Open-clause-recalled : goal.returns-in-Open-clause-recalled
 returns-in-Open-clause-recalled g c = c.open_lost.ensures.recalled

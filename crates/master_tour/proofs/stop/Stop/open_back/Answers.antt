@@ -183,6 +183,7 @@ returns-then-seek-clause-met g c = λ r x lens back d a e s u b n.
       paused = c.returned.ensures.paused;
       turn = c.returned.ensures.turn;
       duty = λ frame. (c.returned.ensures.shown x frame b d a s k.0 k.1).state;
+      unpassed = c.returned.ensures.unpassed;
     }
 
 pub returns-then-not-self-clause-unmet : goal.returns-then-not-self-clause-unmet

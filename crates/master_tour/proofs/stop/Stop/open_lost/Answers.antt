@@ -42,4 +42,4 @@ pub returns-then-self-clause-recalled : goal.returns-then-self-clause-recalled
 returns-then-self-clause-recalled g c = c.lost.ensures.recalled
 
 pub returns-else-self-clause-recalled : goal.returns-else-self-clause-recalled
-returns-else-self-clause-recalled g c = (refl, refl, refl, refl)
+returns-else-self-clause-recalled g c = (refl, refl, refl, refl, refl)

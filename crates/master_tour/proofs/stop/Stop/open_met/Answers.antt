@@ -1,5 +1,5 @@
 use Rattle.std.proofs.Common.{ℕ, sym, subst, ap, ◌∙◌, refl}
-use Rattle.std.specs.Prelude.{nat_lt}
+use Rattle.std.specs.Prelude.{is_some, nat_lt}
 use Rattle.datagrams.specs.Frame.{parts_of}
 use Rattle.life_frames.specs.of_frame_view.Seen.{seen}
 use Rattle.life_frames.specs.of_segment_model.Seats
@@ -144,7 +144,7 @@ returns-clause-recalls g c = λ o x recover spot lens sent l sp r u sh.
       visited = λ q v b n. subst (λ z. VisitBack l.era.account b w z) (sym c.reopen.ensures.side) (c.open_back.ensures.met v x lens back l.era.side l.era.account refl stood.1 under b n);
       unvisited = λ q v.
           let e = c.reopen.ensures.side ∙ c.open_back.ensures.unmet v in
-          (ap (λ z. z.paused) e, ap (λ z. z.turn) e, ap (λ z. z.duty) e, ap (λ z. g.H.Hand.knows z.hand) e);
+          (ap (λ z. z.paused) e, ap (λ z. z.turn) e, ap (λ z. z.duty) e, ap (λ z. g.H.Hand.knows z.hand) e, ap (λ z. is_some z.passing) e);
       known = λ k due.
           let own = subst (λ (z : Lives.Stand). EachDue x now (accepted_at spot.station h back z)) stood.0 (due stood.0) in
           let here = subst (λ (z : ℕ). EachDue x now (all_accepted z h (grams (Own.own z back)))) (sym sp.station_is) own in

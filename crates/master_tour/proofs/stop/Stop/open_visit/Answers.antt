@@ -56,8 +56,8 @@ returns-clause-room g c = λ r.
 pub returns-clause-recalled : goal.returns-clause-recalled
 returns-clause-recalled g c =
     let e = c.add_datagram-placed.ensures in
-    let same : recall_by c.add_datagram-placed.new.self.paused c.add_datagram-placed.new.self.duty c.add_datagram-placed.new.self.turn (g.H.Hand.knows c.add_datagram-placed.new.self.hand) ≡ recall_by c.choose-began.new.self.paused c.choose-began.new.self.duty c.choose-began.new.self.turn (g.H.Hand.knows c.choose-began.new.self.hand) =
-    (λ i. recall_by (e.recalled.0 i) (e.kept.duty_is i) (e.recalled.1 i) (g.H.Hand.knows (e.hand.0 i))) in
+    let same : recall_by c.add_datagram-placed.new.self.paused c.add_datagram-placed.new.self.duty c.add_datagram-placed.new.self.passing c.add_datagram-placed.new.self.turn (g.H.Hand.knows c.add_datagram-placed.new.self.hand) ≡ recall_by c.choose-began.new.self.paused c.choose-began.new.self.duty c.choose-began.new.self.passing c.choose-began.new.self.turn (g.H.Hand.knows c.choose-began.new.self.hand) =
+    (λ i. recall_by (e.recalled.0 i) (e.kept.duty_is i) (e.hand.1 i) (e.recalled.1 i) (g.H.Hand.knows (e.hand.0 i))) in
     same ∙ c.choose-began.ensures.recalled
 
 pub returns-clause-takes : goal.returns-clause-takes

@@ -108,7 +108,7 @@ returns-in-Open-clause-passing g c = λ x made recover spot hold l sh h counts.
     counts (k.passing l.era.passing was)
 
 pub returns-else-access_len-room-clause-recalled : goal.returns-else-access_len-room-clause-recalled
-returns-else-access_len-room-clause-recalled g c = ap (λ z. recall_by z.paused z.duty z.turn (g.H.Hand.knows z.hand)) c.opening_visit.ensures.side
+returns-else-access_len-room-clause-recalled g c = ap (λ z. recall_by z.paused z.duty z.passing z.turn (g.H.Hand.knows z.hand)) c.opening_visit.ensures.side
 
 pub returns-in-Gone-clause-takes : goal.returns-in-Gone-clause-takes
 returns-in-Gone-clause-takes g c = λ o. absurd (let e = sym c.in-Gone.is ∙ o in cc)

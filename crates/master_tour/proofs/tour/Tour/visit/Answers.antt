@@ -111,8 +111,8 @@ returns-clause-passing g c =
 
 pub returns-clause-recalled : goal.returns-clause-recalled
 returns-clause-recalled g c =
-    subst (λ z. StepsAt (λ s t. recall_by t.side.paused t.side.duty t.side.turn (g.H.Hand.knows t.side.hand) ≡ recall_by s.side.paused s.side.duty s.side.turn (g.H.Hand.knows s.side.hand)) c.args.place c.args.self.now.stops.items z.items) (sym c.carry_where.ensures.stops)
-    (steps_set (λ s t. recall_by t.side.paused t.side.duty t.side.turn (g.H.Hand.knows t.side.hand) ≡ recall_by s.side.paused s.side.duty s.side.turn (g.H.Hand.knows s.side.hand)) c.args.place c.args.self.now.stops.items c.index_mut.result.now c.visit-began.new.self c.requires.inside c.index_mut.ensures.value c.visit-began.ensures.recalled)
+    subst (λ z. StepsAt (λ s t. recall_by t.side.paused t.side.duty t.side.passing t.side.turn (g.H.Hand.knows t.side.hand) ≡ recall_by s.side.paused s.side.duty s.side.passing s.side.turn (g.H.Hand.knows s.side.hand)) c.args.place c.args.self.now.stops.items z.items) (sym c.carry_where.ensures.stops)
+    (steps_set (λ s t. recall_by t.side.paused t.side.duty t.side.passing t.side.turn (g.H.Hand.knows t.side.hand) ≡ recall_by s.side.paused s.side.duty s.side.passing s.side.turn (g.H.Hand.knows s.side.hand)) c.args.place c.args.self.now.stops.items c.index_mut.result.now c.visit-began.new.self c.requires.inside c.index_mut.ensures.value c.visit-began.ensures.recalled)
 
 pub returns-clause-takes : goal.returns-clause-takes
 returns-clause-takes g c =

@@ -2,7 +2,7 @@ use Rattle.std.proofs.Common.{◌≡◌, ◌<◌, ◌+◌, ℕ, List, length, ma
 use Rattle.std.specs.Prelude.{slice_get}
 use Rattle.master_node.specs.Lives.{waiting_of}
 use Rattle.run_notes.specs.declared.standing.AskedMail.{AskedMail}
-use Rattle.run_record.specs.Session.{SessionState, asked_more, asked_mail}
+use Rattle.run_record.specs.Session.{IsDone, SessionState, asked_more, asked_mail}
 use Rattle.run_record.proofs.Asking.{full_so, asked_on, taken_back}
 use Rattle.run_record.proofs.Servings.{serving_asks, serving_stays}
 use Rattle.run_record.proofs.session.Session.ask.Goals as goal
@@ -45,10 +45,16 @@ returns-clause-full c =
 
 pub returns-then-ask-clause-serves : goal.returns-then-ask-clause-serves
 returns-then-ask-clause-serves c =
-    serving_asks _ _ _ c.args.slave c.args.key c.args.mail.now c.self.view_is c.if-ask.ensures.served (λ full. (let bad : true ≡ false = c.if-ask.ensures.full.1 full in cc)) c.if-ask.ensures.kept.0
+    serving_asks _ _ _ c.args.slave c.args.key c.args.mail.now c.self.view_is c.if-ask.ensures.served (λ full. (let bad : true ≡ false = c.if-ask.ensures.full.1 full in cc)) c.if-ask.ensures.kept.0 c.if-ask.ensures.kept.1 refl
     (ap (λ (s : SessionState). s.asked) (returns-then-ask-clause-asked c)) refl refl
 
 pub returns-clause-serves : goal.returns-clause-serves
 returns-clause-serves c =
-    serving_stays _ _ _ c.args.slave c.args.key c.args.mail.now c.self.view_is c.if-ask.ensures.kept.0 c.if-ask.ensures.kept.2 (c.if-ask.ensures.stays refl)
+    serving_stays _ _ _ c.args.slave c.args.key c.args.mail.now c.self.view_is c.if-ask.ensures.kept.0 c.if-ask.ensures.kept.1 refl c.if-ask.ensures.kept.2 (c.if-ask.ensures.stays refl)
     (ap (λ (s : SessionState). s.asked) (returns-clause-asked c)) refl refl
+
+pub returns-then-ask-clause-done : goal.returns-then-ask-clause-done
+returns-then-ask-clause-done c = λ d. subst (λ (s : SessionState). IsDone s) c.self.view_is (record { idle = c.if-ask.ensures.idle d.idle; at_rest = d.at_rest })
+
+pub returns-clause-done : goal.returns-clause-done
+returns-clause-done c = λ d. subst (λ (s : SessionState). IsDone s) c.self.view_is (record { idle = c.if-ask.ensures.idle d.idle; at_rest = d.at_rest })

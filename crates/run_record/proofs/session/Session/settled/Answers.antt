@@ -2,7 +2,7 @@ use Rattle.std.proofs.Common.{◌≡◌, inl, inr, true, false, sym, ap, ◌∙�
 use Rattle.std.proofs.lemmas.Bool.{OnTrue_at, OnTrue_from, OnFalse_at, OnFalse_from}
 use Rattle.master_node.specs.of_life_runs.First.{lens_of}
 use Rattle.run_record.specs.Served.{ServingRests}
-use Rattle.run_record.specs.Session.{SessionState, has_live, IsLeftBy, StillWants}
+use Rattle.run_record.specs.Session.{IsDone, SessionState, has_live, IsLeftBy, StillWants}
 use Rattle.run_record.proofs.ServedGaves.{serving_live}
 use Rattle.run_record.proofs.session.Session.settled.Goals as goal
 
@@ -42,3 +42,11 @@ returns-then-wants-clause-lives c = λ plan fs recover s. serving_live plan c.ar
 
 pub returns-clause-lives : goal.returns-clause-lives
 returns-clause-lives c = OnFalse_from c.are_at_rest.result _ (λ e. λ plan fs recover s. serving_live plan c.args.self.now fs s.leading recover s.gave (inl (sym c.are_at_rest.ensures ∙ e)))
+
+pub returns-then-wants-clause-done : goal.returns-then-wants-clause-done
+returns-then-wants-clause-done c =
+    let yes : c.wants.result ≡ true = search rules in
+    subst (λ (s : SessionState). IsDone s → ⊥) c.self.view_is (λ d. (let no : true ≡ false = sym yes ∙ c.wants.ensures.idle d.idle in cc))
+
+pub returns-clause-done : goal.returns-clause-done
+returns-clause-done c = OnFalse_from c.are_at_rest.result _ (λ e. (λ d. (let no : true ≡ false = sym d.at_rest ∙ (sym c.are_at_rest.ensures ∙ e) in cc)))

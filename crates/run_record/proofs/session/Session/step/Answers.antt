@@ -17,6 +17,7 @@ use Rattle.run_record.proofs.Servings.{serving_on}
 use Rattle.run_record.specs.Recalling.{RunStands}
 use Rattle.master_node.specs.Wants.{AllCounted}
 use Rattle.master_node.proofs.Counts.{counted}
+use Rattle.master_node.proofs.OnFrames.{run_way}
 use Rattle.run_record.specs.Replay.{behind, IsRecorded}
 use Rattle.run_record.specs.Session.{SessionState, StillWants, has_live}
 use Rattle.run_notes.specs.Slaves.{GaveBy, SameFrames, KeepsRest}
@@ -111,7 +112,7 @@ returns-clause-ok c =
             (λ pass us frame. returned (lens_of plan.slaves) c.self.inside.ring (exchanged f) (length fs) l.leads us c.exchange-fate.ensures.fate c.exchange-fate.ensures.back frame pass)
             (λ us js frame under h. c.tell.ensures.joined (lens_of plan.slaves) plan.recover plan.retry l.missed (length fs) us js (exchanged f) refl refl under
             (λ pass. returned (lens_of plan.slaves) c.self.inside.ring (exchanged f) (length fs) l.leads us c.exchange-fate.ensures.fate c.exchange-fate.ensures.back frame pass) h)
-            (λ pass us js frame under h. c.tell.ensures.arrivals pass (lens_of plan.slaves) plan.recover plan.retry l.missed c.next.new.into.items us js under
+            (λ pass us js frame under h. c.tell.ensures.arrivals pass (lens_of plan.slaves) plan.recover c.next.new.into.items us js (run_way (lens_of plan.slaves) plan.recover plan.retry l.missed c.next.new.into.items c.next.new.self us under)
             (returned (lens_of plan.slaves) c.self.inside.ring (exchanged f) (length fs) l.leads us c.exchange-fate.ensures.fate c.exchange-fate.ensures.back frame pass) h)
             (λ after lost us under. c.tell.ensures.downs after lost (lens_of plan.slaves) plan.recover plan.retry l.missed (length fs) us (exchanged f) refl under)
             (switch_grown ports host c.self.inside.number c.self.inside.master.lan c.next.new.self.lan c.tell.new.master.lan c.args.book.now c.note_before.new.book c.put_frame.new.book c.note_behind.new.book
@@ -135,11 +136,22 @@ returns-clause-ok c =
       },
       serving_on _ _ _ c.next.new.self f c.next.result c.self.view_is c.next.ensures.idle c.next.ensures.services (λ lens recover retry missed made vs under back. c.tell.ensures.served lens recover retry missed made vs (exchanged f) refl refl under back)
           (λ lens recover as' h. c.tell.ensures.toured lens recover as' h)
+          (record {
+            joins = c.next.ensures.joins;
+            making = c.next.ensures.made;
+            makes = c.next.ensures.happened;
+            tells = c.tell.ensures.happened;
+            joined = λ lens recover retry missed made vs js under back h. c.tell.ensures.joins lens recover retry missed made vs js (exchanged f) refl refl under back h;
+            arrivals = λ pass lens recover us js way back h. c.tell.ensures.arrivals pass lens recover c.next.new.into.items us js way back h;
+            remembers = λ pass lens recover retry missed made vs under back asks. c.tell.ensures.remembers pass lens recover retry missed made vs (exchanged f) refl refl under back asks;
+            stays = λ after lost lens recover retry missed made vs under. c.tell.ensures.stays after lost lens recover retry missed made vs (exchanged f) under;
+            leaves = λ after lost lens recover retry missed made vs under. c.tell.ensures.leaves after lost lens recover retry missed made vs (exchanged f) refl under;
+          })
           (c.tell.ensures.whole ∙ ap (λ (es : List Event). es ++ events_in c.tell.new.master) c.next.ensures.whole.1) (c.tell.ensures.told c.next.ensures.few)
           (record { fate = c.exchange-fate.ensures.fate; back = c.exchange-fate.ensures.back }) (let n = c.self.invariant.0 in let b = c.self.invariant.1 in let most = c.self.invariant.2 in omega (arith, n, b, most))
           (c.note_behind.ensures.slaves.asked ∙ c.note_before.ensures.slaves.asked) refl
           c.note_before.new.self c.note_behind.new.self c.note_before.ensures.slaves.recover c.in_ok-note_before.ensures.gave refl
-          (subst (λ (n : ℕ). GaveBy f.fate n c.tell.new.master c.note_before.new.self c.note_behind.new.self) c.self.invariant.0 both.0),
+          (subst (λ (n : ℕ). GaveBy f.fate n c.tell.new.master c.note_before.new.self c.note_behind.new.self) c.self.invariant.0 both.0) c.exchange-fate.ensures.wire,
     ))
     (on_ok_both _ _ c.note_behind.result c.note_behind.ensures.gave (on_ok_both _ _ c.note_behind.result c.note_behind.ensures.told (on_ok_both _ _ c.note_behind.result c.note_behind.ensures.heard (on_ok_both _ _ c.note_behind.result c.note_behind.ensures.switch c.note_behind.ensures.rows))))
 

@@ -1,0 +1,88 @@
+-- All slaves of a serving rest, as the count of frames has it and as their master does.
+use Rattle.std.proofs.Common.{◌≡◌, ℕ, suc, true, false, List, [], ◌∷◌, refl, ◌∙◌, inl, inr, length}
+use Rattle.std.specs.Prelude.{⊤}
+use Rattle.promised_run.specs.Runs.{is_waiting, waiting_at}
+use Rattle.promised_run.proofs.Rests.{at_port, none_waiting}
+use Rattle.promised_run.proofs.Settled.{settled_back}
+use Rattle.promised_run.specs.Eager.{has_mail, remembers}
+use Rattle.eoe_switch.specs.declared.switching.SwitchEvent.{SwitchEvent}
+use Rattle.frame_view.specs.View.{Lens}
+use Rattle.idle_slaves.specs.WaitEager.{AllRest, IsResting}
+use Rattle.life_runs.specs.First.{lens_of}
+use Rattle.master_node.specs.Recalled.{AllKnow}
+use Rattle.master_node.specs.Resting as Resting
+use Rattle.master_node.specs.ServedEager.{AllServedRest}
+use Rattle.master_node.specs.declared.lan.Lan.{Lan}
+use Rattle.master_side.specs.Recall.{Recall}
+use Rattle.packets_heard.specs.Recalled.{AllSettled, IsLanOf}
+use Rattle.plan_ring.specs.Asked.{asked}
+use Rattle.plan_ring.specs.Plan.{FitsPlan, new_members, step}
+use Rattle.segment_plan.specs.declared.plan.Scenario.{Scenario}
+use Rattle.segment_plan.specs.declared.slave.SlaveSpec.{SlaveSpec}
+use Rattle.served_runs.specs.Served.{Keyed, Serves}
+use Rattle.seen_slaves.specs.Eager.{leads_of}
+use Rattle.slave_lives.specs.Lived.{IsBehind}
+use Rattle.slave_server.specs.Serving.{Serving, next_mail}
+use Rattle.slave_server.specs.Spec.{profile_of}
+use Rattle.slave_steps.specs.Node.{Node, is_settled}
+use Rattle.whole_ring.specs.Members.{AllLived}
+
+no_mail : (ks : List Keyed) → has_mail ks ≡ false → ks ≡ []
+no_mail [] e = refl
+no_mail (k ∷ ks) e = absurd (cc)
+
+module _ (plan : Scenario) (es : List SwitchEvent) (l : Lan) (is : IsLanOf plan l es) where
+  rests_one : (place : ℕ) (s : SlaveSpec) (m : Recall) (w : Serves) (n : Node Serving) → m.knows ≡ true →
+      IsResting (lens_of plan.slaves) s (record { memory = record { paused = m.paused; turn = m.turn }; packet = is_waiting (waiting_at plan es place); asked = has_mail w.waits }) w.lead n → Resting.Rests (lens_of plan.slaves) l place m w.lead
+  rests_one place s m w n known r = record {
+    known = known;
+    free = record { stands = r.clear.stands; free = r.free.free; done = r.free.done; hand = r.free.hand };
+    held = r.held;
+    clear = r.clear.clear;
+    script = r.end.script;
+    packet = at_port plan [] es l is place ∙ none_waiting (waiting_at plan es place) r.end.packet;
+  }
+
+  pub rests_so : (place : ℕ) (ss : List SlaveSpec) (ms : List Recall) (ws : List Serves) (ns : List (Node Serving)) → AllKnow ms → AllRest (lens_of plan.slaves) ss (remembers plan es place ms ws) (leads_of ws) ns → AllServedRest (lens_of plan.slaves) l place ms ws
+  rests_so place [] [] [] [] k r = tt
+  rests_so place [] [] [] (n ∷ ns) k r = absurd r
+  rests_so place [] [] (w ∷ ws) ns k r = absurd r
+  rests_so place [] (m ∷ ms) [] ns k r = absurd r
+  rests_so place [] (m ∷ ms) (w ∷ ws) ns k r = absurd r
+  rests_so place (s ∷ ss) [] ws ns k r = absurd r
+  rests_so place (s ∷ ss) (m ∷ ms) [] ns k r = absurd r
+  rests_so place (s ∷ ss) (m ∷ ms) (w ∷ ws) [] k r = absurd r
+  rests_so place (s ∷ ss) (m ∷ ms) (w ∷ ws) (n ∷ ns) k r = (
+    elim r.0 [ inl gone ↦ inl gone | inr rest ↦ inr (rests_one place s m w n k.0 rest, rest.free.passing, no_mail w.waits rest.end.asked) ],
+    rests_so (suc place) ss ms ws ns k.1 r.1,
+  )
+
+-- ---- and their nodes are settled: each is behind the services of its slave
+abbrev pub AllBehind : (ℕ → Lens) → List SlaveSpec → Type 0
+AllBehind lens [] = ⊤
+AllBehind lens (s ∷ ss) = IsBehind (asked (profile_of s) s.boot lens) × AllBehind lens ss
+
+pub all_behind : (lens : ℕ → Lens) (all : List SlaveSpec) (place : ℕ) (ss : List SlaveSpec) (paces : List ℕ) → length paces ≡ length ss → AllLived lens step (FitsPlan all) [] place (new_members lens place ss paces) → AllBehind lens ss
+all_behind lens all place [] paces e lived = tt
+all_behind lens all place (s ∷ ss) [] e lived = absurd (cc)
+all_behind lens all place (s ∷ ss) (pace ∷ paces) e lived = (lived.0.whole.behind, all_behind lens all (suc place) ss paces (let f : length paces ≡ length ss = cc in f) lived.1)
+
+module _ (plan : Scenario) (es : List SwitchEvent) where
+  settled_one : (place : ℕ) (s : SlaveSpec) (m : Recall) (w : Serves) (n : Node Serving) → IsBehind (asked (profile_of s) s.boot (lens_of plan.slaves)) →
+      IsResting (lens_of plan.slaves) s (record { memory = record { paused = m.paused; turn = m.turn }; packet = is_waiting (waiting_at plan es place); asked = has_mail w.waits }) w.lead n →
+      is_settled next_mail n ≡ true
+  settled_one place s m w n behind r = settled_back (asked (profile_of s) s.boot (lens_of plan.slaves)) behind n r.settled r.offered r.control
+
+  pub settled_so : (place : ℕ) (ss : List SlaveSpec) (ms : List Recall) (ws : List Serves) (ns : List (Node Serving)) → AllBehind (lens_of plan.slaves) ss → AllRest (lens_of plan.slaves) ss (remembers plan es place ms ws) (leads_of ws) ns → AllSettled (leads_of ws) ns
+  settled_so place [] [] [] [] o r = tt
+  settled_so place [] [] [] (n ∷ ns) o r = absurd r
+  settled_so place [] [] (w ∷ ws) ns o r = absurd r
+  settled_so place [] (m ∷ ms) [] ns o r = absurd r
+  settled_so place [] (m ∷ ms) (w ∷ ws) ns o r = absurd r
+  settled_so place (s ∷ ss) [] ws ns o r = absurd r
+  settled_so place (s ∷ ss) (m ∷ ms) [] ns o r = absurd r
+  settled_so place (s ∷ ss) (m ∷ ms) (w ∷ ws) [] o r = absurd r
+  settled_so place (s ∷ ss) (m ∷ ms) (w ∷ ws) (n ∷ ns) o r = (
+    elim r.0 [ inl gone ↦ inl gone | inr rest ↦ inr (settled_one place s m w n o.0 rest) ],
+    settled_so (suc place) ss ms ws ns o.1 r.1,
+  )

@@ -1,0 +1,33 @@
+//! A serving is never cut off by a budget of as many frames as the bound. Definitions and a law, no running code: the function here does nothing, and its contract
+//! states the law.
+
+ghost use Rattle.gateway_run.specs.Served.{HasAccount};
+ghost use Rattle.master_node.specs.Happened.{events_of};
+ghost use Rattle.packets_heard.specs.Recalled.{State};
+ghost use Rattle.packets_heard.specs.ServedRecalled.{ServedRecalledIn};
+ghost use Rattle.plan_ring.specs.Lives.{IsKnown};
+ghost use Rattle.plan_ring.specs.PlanRooms.{HasRoom};
+ghost use Rattle.run_book.specs.declared.book.Book.{Book};
+ghost use Rattle.run_book.specs.declared.book.Ending.{Ending};
+ghost use Rattle.run_book.specs.declared.book.Ending.TheVariants as endings;
+ghost use Rattle.run_book.specs.declared.book.GramIn.{GramIn};
+ghost use Rattle.run_record.specs.Ran.{HasSent, StopsAs};
+ghost use Rattle.run_record.specs.Session.{budget_of};
+ghost use Rattle.run_work.specs.Fair.{AreFairGrams};
+ghost use Rattle.segment_plan.specs.Bound.{bound_of};
+ghost use Rattle.segment_plan.specs.Sound.{IsPlan};
+ghost use Rattle.segment_plan.specs.declared.plan.Scenario.{Scenario};
+ghost use Rattle.std.specs.Prelude.{◌≡◌, ◌≢◌, ◌≤◌, ℕ, length, map};
+
+/// NO SERVING OF A PLAN IS CUT OFF by a budget of as many frames as the bound for so many datagrams, whatever frames are lost, where no datagram's mail begins a
+/// download to 2F01:01 and each service of the plan has room: its master makes no visit in vain by what it remembers, and its slaves send no mail that isn't due.
+pub fn uncut_law()
+    ensures { (plan : Scenario) (count : ℕ) (book : Book) (ending : Ending) → IsPlan plan → IsKnown plan → HasRoom plan → HasSent plan count book → StopsAs plan count book ending → (a : HasAccount plan count book ending) →
+        (s : State) → ServedRecalledIn plan a.answers.serving.leading.toured s → s.events ≡ events_of a.answers.serving.rows → AreFairGrams (map (λ (g : GramIn). g.bytes) book.grams) → length book.grams ≤ count →
+        bound_of plan count ≤ budget_of plan count → ending ≢ endings.BudgetSpent }
+{
+    crate::served_books::asked_law();
+    crate::bounded_servings::bounded_serving_law();
+    crate::eager_servings::eager_serving_law();
+    seen_slaves::served_waits::served_due_law();
+}

@@ -1,0 +1,31 @@
+use Rattle.std.proofs.Common.{◌≡◌, ℕ, List, [], ◌∷◌, ◌++◌, length, sym, ◌∙◌, subst}
+use Rattle.std.proofs.lemmas.List.{length-map}
+use Rattle.datagrams.specs.Frame.{chained}
+use Rattle.frame_view.specs.Seen.{seen}
+use Rattle.frame_view.proofs.Octets.{seen_chained}
+use Rattle.life_runs.specs.First.{lens_of}
+use Rattle.plan_ring.specs.PlanMet.{AllMet}
+use Rattle.plan_ring.specs.Round.{all_seen, frame_seen, ring_after, ring_of}
+use Rattle.plan_ring.proofs.Known.{macs_in}
+use Rattle.plan_ring.proofs.Lives.{front_round, last_round}
+use Rattle.served_runs.specs.Served.{AllServedTurn}
+use Rattle.seen_slaves.specs.Eager.{leads_of}
+use Rattle.seen_slaves.proofs.Dues.{all_due}
+use Rattle.seen_slaves.proofs.Meets.{served_met}
+use Rattle.seen_slaves.proofs.Seats.{Laws, nodes_are}
+use Rattle.seen_slaves.proofs.served_waits.served_due_law.Goals as goal
+use Rattle.slave_server.specs.Serving.{Serving}
+use Rattle.slave_steps.specs.Node.{Node}
+
+pub returns : goal.returns
+returns c = λ plan is known fs missed ws f vs led frame round pass.
+    let lens = lens_of plan.slaves in
+    let laws : Laws = record { speaks = c.any_law.ensures.speaks; runs = c.any_law.ensures.runs; never = c.parts_never.ensures } in
+    let x = c.served_ring_law.ensures plan is known fs missed ws led (front_round (ring_of plan) fs f round) in
+    let many : length (all_seen lens fs) ≡ length fs = length-map fs (frame_seen lens) in
+    let turns : AllServedTurn lens (length (all_seen lens fs)) frame.datagrams ws vs = subst (λ (n : ℕ). AllServedTurn lens n frame.datagrams ws vs) (sym many) frame.each in
+    let met : AllMet lens (seen lens f.sent) (seen lens f.back) (length fs) plan.slaves (leads_of ws) plan.paces x.nodes (ring_after (ring_of plan) (fs ++ f ∷ [])).nodes =
+    subst (λ (ns : List (Node Serving)). AllMet lens (seen lens f.sent) (seen lens f.back) (length fs) plan.slaves (leads_of ws) plan.paces ns (ring_after (ring_of plan) (fs ++ f ∷ [])).nodes) (x.lives.nodes ∙ nodes_are plan 0 plan.slaves ws x.nodes x.at)
+    (served_met plan is known fs ws f vs x frame (last_round (ring_of plan) fs f round) pass) in
+    all_due laws c.parts_hear.ensures plan (all_seen lens fs) f.sent (seen lens f.back) frame.datagrams (c.seen_is.ensures lens f.sent (chained frame.datagrams) frame.frame ∙ seen_chained lens frame.datagrams)
+    0 (length fs) plan.slaves ws vs plan.paces x.nodes (ring_after (ring_of plan) (fs ++ f ∷ [])).nodes is.laid.slaves (macs_in plan.slaves known.macs) x.led x.lives.each x.at turns met

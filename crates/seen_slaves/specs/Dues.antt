@@ -1,0 +1,15 @@
+-- What a frame that came back brings of a serving's slaves is due.
+use Rattle.std.specs.Prelude.{◌≡◌, ℕ, List, [], ◌∷◌, ◌++◌, length, map}
+use Rattle.frame_view.specs.Seen.{seen}
+use Rattle.life_runs.specs.First.{first_leads, lens_of}
+use Rattle.life_runs.specs.Led.{Exchanged}
+use Rattle.plan_ring.specs.Dues.{AllDue}
+use Rattle.plan_ring.specs.Round.{AllRound, ring_of}
+use Rattle.segment_plan.specs.declared.plan.Scenario.{Scenario}
+use Rattle.segment_ring.specs.declared.wire.Fate.TheVariants.{Pass}
+use Rattle.served_runs.specs.Served.{Serves, ServedTurn, IsServedFrame, IsServedLed, all_serve}
+
+-- THE SLAVES OF A PLAN SEND NO MAIL THAT ISN'T DUE, by each frame of a serving that came back
+abbrev pub ServedMailsAreDue : Scenario → Type 0
+ServedMailsAreDue plan = (fs : List Exchanged) (missed : ℕ) (ws : List Serves) (f : Exchanged) (vs : List ServedTurn) → IsServedLed (lens_of plan.slaves) plan.recover plan.retry (all_serve plan.paces (first_leads plan)) fs missed ws →
+    IsServedFrame (lens_of plan.slaves) (length fs) f.sent ws vs → AllRound (ring_of plan) (fs ++ f ∷ []) → f.fate ≡ Pass → AllDue (lens_of plan.slaves) (seen (lens_of plan.slaves) f.back) (map (λ (v : ServedTurn). v.turn) vs)
