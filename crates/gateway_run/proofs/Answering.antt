@@ -80,7 +80,7 @@ first_desk i w b e = record {
   newest = λ p f. absurd (let bad : None ≡ Some p = sym b.hand ∙ f in cc);
   new = All-nil (IsNew []);
   many = sym (ap length b.rows);
-  known = All-nil (λ (n : ℕ). n < 0);
+  ours = All-nil (IsOurs [] i);
   rising = tt;
   late = subst (λ rows. AllBoth (IsLate []) [] rows) (sym b.rows) tt;
 }

@@ -41,7 +41,7 @@ module _ (gs : List GramIn) (slave : ℕ) (w v : Serves) (os more : List Owing) 
       newest = λ p e. absurd (let bad : None ≡ Some p = sym after ∙ e in cc);
       new = λ k r less. same_owed _ (All-filter _ (λ (r : Request). IsOurs gs slave r.gram) rs ours k r less) ∙ kept.new k r less;
       many = kept.many;
-      known = kept.known;
+      ours = kept.ours;
       rising = kept.rising;
       late = kept.late;
     };

@@ -23,12 +23,6 @@ use Rattle.gateway_run.proofs.Hands.{all_among, all_in, among_at, at_last, in_he
 use Rattle.gateway_run.proofs.Behind.{InHand, done_none, done_one, finished, in_hand, owes, told_of}
 use Rattle.gateway_run.proofs.Given.{IsTold, desk_told, fares_told, last_same}
 
--- A DATAGRAM OF THIS SLAVE
-pub record IsOurs (gs : List GramIn) (slave n : ℕ) : Type 0 where
-  pub gram : GramIn
-  pub there : slice_get gs n ≡ Some gram
-  pub queued : gram.queued ≡ Some slave
-
 -- what these events make owed besides, and which rows they end, of the datagrams of this slave
 pub record OwesBesides (gs : List GramIn) (slave : ℕ) (os more : List Owing) (rs : List Request) (es : List Event) (done done' : ℕ → Bool) : Type 0 where
   pub owed : (n : ℕ) → IsOurs gs slave n → owed_for n (os ++ more) ≡ owed_for n os ++ owed_for n (owed_by_all es rs)

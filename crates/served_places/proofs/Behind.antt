@@ -35,12 +35,12 @@ cleared_same frame l o = append-nil (eras_rows (l.past ++ l.era ∷ [])) ∙ era
 
 -- what clearing, opening and a step of an opening keep
 pub opening_keeps : {T : Type 0} (g : Life Body Asked Reply → T) (frame : ℕ) (l : Life Body Asked Reply) (o : Opening) (done : Bool) (found : Option Found) → g (clears frame l o) ≡ g l → g (opens frame l) ≡ g l → g (steps_on l o) ≡ g l → g (opening_back frame l o done found) ≡ g l
-opening_keeps g frame l o done found clear open on = go (shows_clear o) (done && is_shown 1 found) (o.step == last_step o) (done && is_shown o.state found)
+opening_keeps g frame l o done found cleared opened on = go (shows_clear o) (done && is_shown 1 found) (o.step == last_step o) (done && is_shown o.state found)
   where
     go : (a b c d : Bool) → g (if a then (if b then clears frame l o else l) else if c then (if d then opens frame l else l) else steps_on l o) ≡ g l
-    go true true c d = clear
+    go true true c d = cleared
     go true false c d = refl
-    go false b true true = open
+    go false b true true = opened
     go false b true false = refl
     go false b false d = on
 

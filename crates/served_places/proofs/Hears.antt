@@ -7,7 +7,7 @@ use Rattle.std.proofs.lemmas.List.Elements.{filter-append}
 use Rattle.exchange_model.proofs.Words.{plain-append}
 use Rattle.life_frames.specs.of_exchange_model.Exchange.{Speech, plain}
 use Rattle.life_frames.specs.of_exchange_model.Rows.{Row, row_heard}
-use Rattle.life_frames.specs.of_life_model.Lives.{Era, Life, Opening, Spot, Stand, clears, era_back, era_lost, life_back, life_lost, passes}
+use Rattle.life_frames.specs.of_life_model.Lives.{Era, Life, Opening, Spot, Stand, clears, era_back, era_lost, life_back, life_lost, passes, reopens}
 use Rattle.life_frames.specs.of_life_model.Own.{own}
 use Rattle.life_frames.specs.of_link_model.Frames.{all_accepted}
 use Rattle.life_frames.specs.of_segment_model.Ends.{Passing}
@@ -25,9 +25,8 @@ use Rattle.life_runs.specs.of_segment_ring.declared.wire.Fate.{Fate}
 use Rattle.life_runs.specs.of_segment_ring.declared.wire.Fate.TheVariants.{Pass, Lost}
 use Rattle.life_runs.specs.Led.{Exchanged, speech_at}
 use Rattle.master_tour.specs.Brings.{accepted_at, accepted_in}
-use Rattle.served_runs.proofs.Tells.{HasPassed}
 use Rattle.served_runs.specs.Served.{ServedTurn, accepted_by, served_behind, served_life}
-use Rattle.served_runs.specs.Told.{Passed}
+use Rattle.served_runs.specs.Told.{Passed, TellsOwn}
 use Rattle.served_places.specs.Rows.{HearsNoMore, eras_passings, eras_rows, is_passed_row, last_more, life_rows, now_passing, passed_rows, passings, replies_of, told_besides}
 use Rattle.served_places.proofs.Behind.{SameRows, given_same, lost_same, opening_keeps, opening_same, reopens_keeps}
 use Rattle.served_places.proofs.Stay.{Listed, StaysOver, both_append, overs, passings_append, same_over}
@@ -80,7 +79,7 @@ module _ (x : Speech Body Asked Reply) (frame : ℕ) where
         go : (z : Bool) → is_passed r.service ≡ z → Grows (cond (is_passed r.service) (r ∷ []) []) (cond (is_passed r.service) (row_heard x frame ms r ∷ []) [])
         go z e = subst (λ y. Grows (cond y (r ∷ []) []) (cond y (row_heard x frame ms r ∷ []) [])) (sym e) (by z e)
 
-  module _ (spot : Spot) (l : Life Body Asked Reply) (hand : Option Passed) (had : (p : Passed) → hand ≡ Some p → HasPassed p l) (free : hand ≡ None → l.stand ≡ Stand.Open → l.era.passing ≡ None) where
+  module _ (spot : Spot) (l : Life Body Asked Reply) (hand : Option Passed) (had : (p : Passed) → hand ≡ Some p → TellsOwn p l.era.passing l.era.side.now) (free : hand ≡ None → l.stand ≡ Stand.Open → l.era.passing ≡ None) where
     -- where the rows stay nothing is told
     abbrev Hears : List Body → Life Body Asked Reply → Type 0
     Hears ms m = replies_of (passed_rows m) ≡ last_more (told_besides hand l.era.passing ms) (replies_of (passed_rows l))
@@ -93,12 +92,12 @@ module _ (x : Speech Body Asked Reply) (frame : ℕ) where
     module _ (ms : List Body) (opened : l.stand ≡ Stand.Open) (quiet : l.era.passing ≡ None → (r : Row Body Asked Reply) → l.era.side.now ≡ Some r → is_passed r.service ≡ true → plain emission ms ≡ []) where
       none_there : (h : Option Passed) → hand ≡ h → (o : Option Passing) → l.era.side.now ≡ None → told_besides h o ms ≡ []
       none_there None e o n = refl
-      none_there (Some p) e o n = absurd (let t = (had p e).tells in let bad : None ≡ Some t.row = sym n ∙ t.is in cc)
+      none_there (Some p) e o n = absurd (let t = had p e in let bad : None ≡ Some t.row = sym n ∙ t.is in cc)
 
       other_there : (h : Option Passed) → hand ≡ h → (o : Option Passing) → (r : Row Body Asked Reply) → l.era.side.now ≡ Some r → is_passed r.service ≡ false → told_besides h o ms ≡ []
       other_there None e o r n off = refl
       other_there (Some p) e o r n off = absurd (
-          let t = (had p e).tells in
+          let t = had p e in
           let same : t.row ≡ r = (let all : Some t.row ≡ Some r = sym t.is ∙ n in cc) in
           let bad : true ≡ false = ap is_passed (sym t.service) ∙ ap (λ (z : Row Body Asked Reply). is_passed z.service) same ∙ off in
           cc)
@@ -117,26 +116,23 @@ module _ (x : Speech Body Asked Reply) (frame : ℕ) where
           ∙ ap (λ rs. last_more (told_besides hand l.era.passing ms) (replies_of rs)) (sym (passed_now l.past l.era.side.past l.era.side.now))
 
     -- BEHIND A FRAME THAT CAME BACK
-    back_heard : (ns : List (News Body)) (back : List (Datagram Body)) (came : Option (Bool × Option Found)) (stand : Stand) → l.stand ≡ stand →
-        (l.era.passing ≡ None → (r : Row Body Asked Reply) → l.era.side.now ≡ Some r → is_passed r.service ≡ true → plain emission (accepted_at spot.station l.era.side.halves back stand) ≡ []) →
-        Hears (accepted_at spot.station l.era.side.halves back stand) (life_back x acknowledged is_followed is_passed frame spot ns back came l stand)
-    back_heard ns back None (Stand.Opens o) s quiet = same_heard l refl
-    back_heard ns back (Some came) (Stand.Opens o) s quiet = same_heard (opening_back_of came) (opening_same frame l o came.0 came.1)
-      where
-        opening_back_of : Bool × Option Found → Life Body Asked Reply
-        opening_back_of c = life_back x acknowledged is_followed is_passed frame spot ns back (Some c) l (Stand.Opens o)
-    back_heard ns back came Stand.Gone s quiet = same_heard l refl
-    back_heard ns back None Stand.Open s quiet = base
-      where
-        era : Era Body Asked Reply
-        era = era_back x acknowledged is_followed is_passed spot.station frame ns back l.era
+    module _ (ns : List (News Body)) (back : List (Datagram Body)) where
+      abbrev IsQuiet : Stand → Type 0
+      IsQuiet stand = l.era.passing ≡ None → (r : Row Body Asked Reply) → l.era.side.now ≡ Some r → is_passed r.service ≡ true → plain emission (accepted_at spot.station l.era.side.halves back stand) ≡ []
 
-        ms : List Body
-        ms = all_accepted spot.station l.era.side.halves (grams (own spot.station back))
+      reopened : l.stand ≡ Stand.Open → IsQuiet Stand.Open →
+          let era = era_back x acknowledged is_followed is_passed spot.station frame ns back l.era in Hears (accepted_at spot.station l.era.side.halves back Stand.Open) (reopens (record l { era = era }) era.account.hand)
+      reopened s quiet =
+          let era = era_back x acknowledged is_followed is_passed spot.station frame ns back l.era in
+          ap (λ rs. replies_of (filter is_passed_row rs)) (reopens_keeps life_rows (λ l stand. refl) (record l { era = era }) era.account.hand)
+          ∙ open_heard (accepted_at spot.station l.era.side.halves back Stand.Open) s quiet era refl refl
 
-        base : Hears ms (life_back x acknowledged is_followed is_passed frame spot ns back None l Stand.Open)
-        base = ap (λ rs. replies_of (filter is_passed_row rs)) (reopens_keeps life_rows (λ l stand. refl) (record l { era = era }) era.account.hand) ∙ open_heard ms s quiet era refl refl
-    back_heard ns back (Some came) Stand.Open s quiet = back_heard ns back None Stand.Open s quiet
+      back_heard : (came : Option (Bool × Option Found)) (stand : Stand) → l.stand ≡ stand → IsQuiet stand → Hears (accepted_at spot.station l.era.side.halves back stand) (life_back x acknowledged is_followed is_passed frame spot ns back came l stand)
+      back_heard None (Stand.Opens o) s quiet = same_heard l refl
+      back_heard (Some came) (Stand.Opens o) s quiet = same_heard (life_back x acknowledged is_followed is_passed frame spot ns back (Some came) l (Stand.Opens o)) (opening_same frame l o came.0 came.1)
+      back_heard came Stand.Gone s quiet = same_heard l refl
+      back_heard None Stand.Open s quiet = reopened s quiet
+      back_heard (Some came) Stand.Open s quiet = reopened s quiet
 
 -- HOW FAR MAILS HAVE COME
 passes_over : (x : Speech Body Asked Reply) (ns : List (News Body)) (p : Option Passing) → p ≡ None → passes x acknowledged is_followed is_passed p ns ≡ None
@@ -201,7 +197,7 @@ module _ (lens : ℕ → Lens) (recover retry : ℕ) (gives : Bool) (made : ℕ)
   pub behind_over : AllBoth StaysOver (passings v.turn.lived.life) (passings (served_behind lens recover retry gives made f v).lead.lived.life)
   behind_over = over_by f.fate
 
-  module _ (had : (p : Passed) → v.hand ≡ Some p → HasPassed p v.turn.lived.life) (free : v.hand ≡ None → v.turn.lived.life.stand ≡ Stand.Open → v.turn.lived.life.era.passing ≡ None) where
+  module _ (had : (p : Passed) → v.hand ≡ Some p → TellsOwn p v.turn.lived.life.era.passing v.turn.lived.life.era.side.now) (free : v.hand ≡ None → v.turn.lived.life.stand ≡ Stand.Open → v.turn.lived.life.era.passing ≡ None) where
     abbrev HearsBy : Fate → Type 0
     HearsBy fate =
         (v.turn.lived.life.era.passing ≡ None → (r : Row Body Asked Reply) → v.turn.lived.life.era.side.now ≡ Some r → is_passed r.service ≡ true → plain emission (accepted_by lens recover retry f fate v) ≡ []) →

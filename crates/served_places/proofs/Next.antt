@@ -58,7 +58,10 @@ fresh_over made (Service.Mails q) = go (is_passed q)
     go true = (λ e. e, tt)
     go false = tt
 
-one_over : (r : Row Body Asked Reply) (z : Bool) → map (λ (r : Row Body Asked Reply). None {T = Passing}) (cond z (r ∷ []) []) ≡ (if z then None ∷ [] else [])
+abbrev none_of : Row Body Asked Reply → Option Passing
+none_of r = None
+
+one_over : (r : Row Body Asked Reply) (z : Bool) → map none_of (cond z (r ∷ []) []) ≡ (if z then None ∷ [] else [])
 one_over r true = refl
 one_over r false = refl
 
