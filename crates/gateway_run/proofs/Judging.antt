@@ -9,6 +9,7 @@ use Rattle.served_places.specs.of_served_runs.Served.{Keyed, MayAsk, Serves, ask
 use Rattle.mailbox_mail.specs.Mail.{error_of}
 use Rattle.mailbox_mail.specs.declared.mail.Mail.{Mail}
 use Rattle.master_node.specs.of_frame_view.View.{Lens}
+use Rattle.master_node.specs.of_life_frames.Shares.{AllBoth}
 use Rattle.master_node.specs.of_life_runs.First.{lens_of}
 use Rattle.master_node.specs.of_life_runs.Led.{Exchanged}
 use Rattle.master_node.specs.of_master_tour.Made.{is_in}
@@ -20,10 +21,11 @@ use Rattle.segment_plan.specs.Sound.{IsPlan}
 use Rattle.segment_plan.specs.declared.plan.Scenario.{Scenario}
 use Rattle.gateway_run.specs.Account.{IsFree, Judges, Judges.ignored as is_ignored, Judges.refused as is_refused, Judges.too_many, Judges.queues, Owing, waits_at}
 use Rattle.gateway_run.specs.Rooms.{begun_of, grams_of, owed_for, waiting_of}
-use Rattle.gateway_run.specs.Replies.{AllDesk, AllGot, Answers, Fares, Fares.waits, Got, Got.ignored, Got.queued, Got.refused, IsFor, IsHeard, IsUndone}
+use Rattle.gateway_run.specs.Replies.{AllDesk, AllGot, Answers, Fares, Fares.waits, GivesAll, Got, Got.ignored, Got.queued, Got.refused, IsFor, IsHeard, IsUndone}
 use Rattle.gateway_run.specs.declared.desk.Request.{Request}
 use Rattle.gateway_run.proofs.Accounts.{apart_push, unlike_push}
 use Rattle.gateway_run.proofs.Comes.{known_at}
+use Rattle.gateway_run.proofs.Gives.{all_give, asked_give}
 use Rattle.gateway_run.proofs.Hands.{among_at, at_last, both_many}
 use Rattle.gateway_run.proofs.Hearing.{asked_lookup, asked_told, below_out, desks_asked, desks_more, fares_asked, grams_push, heard_more, longer, none_owed, waits_push}
 use Rattle.gateway_run.proofs.Rooms.{owed_append, owed_one, owed_other}
@@ -105,6 +107,7 @@ module _ (plan : Scenario) (s s' : SessionState) (fs : List Exchanged) (gs : Lis
       got = subst (λ z. AllGot z old.came rs dones (os ++ more) 0 (gs ++ g ∷ [])) (sym same)
           (got_push ws old.came rs dones (os ++ more) 0 n gs g (omega arith)
           (got_each ws ws old.came rs rs dones os (os ++ more) 0 gs (λ j m h e at b. subst (Got ws old.came rs dones m h) (sym (quiet m (let less = known_at gs j h at in omega (arith, less, e)))) b) old.got) got);
+      whole = λ none. subst (λ z. AllBoth (GivesAll (os ++ more) (λ m. is_in m dones)) z old.came) (sym same) (all_give gs rs os (os ++ more) (λ m. is_in m dones) quiet 0 ws old.came old.desk (old.whole none));
     }
 
   -- one error is owed by it at once
@@ -172,6 +175,9 @@ module _ (plan : Scenario) (s s' : SessionState) (fs : List Exchanged) (gs : Lis
       owed = All-append (λ (o : Owing). o.gram < length (gs ++ g ∷ [])) os [] (All-weaker (λ (o : Owing). o.gram < length gs) (λ (o : Owing). o.gram < length (gs ++ g ∷ [])) (λ o less. longer gs g os [] quiet o.gram less) os old.owed) (All-nil (λ (o : Owing). o.gram < length (gs ++ g ∷ [])));
       got = subst (λ z. AllGot z old.came (rs ++ r ∷ []) dones (os ++ []) 0 (gs ++ g ∷ [])) (sym on.serves)
           (got_push (asked_at slave k ws) old.came (rs ++ r ∷ []) dones (os ++ []) 0 n gs g (omega arith) (got_each ws (asked_at slave k ws) old.came rs (rs ++ r ∷ []) dones os (os ++ []) 0 gs got_old old.got) got_new);
+      whole = λ none.
+          subst (λ z. AllBoth (GivesAll (os ++ []) (λ m. is_in m dones)) z old.came) (sym on.serves)
+          (asked_give (os ++ []) (λ m. is_in m dones) slave k ws old.came (all_give gs rs os (os ++ []) (λ m. is_in m dones) quiet 0 ws old.came old.desk (old.whole none)));
     }
 
   -- WHATEVER BECOMES OF IT

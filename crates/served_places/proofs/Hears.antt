@@ -43,7 +43,7 @@ last_push more x (y ∷ []) = refl
 last_push more x (y ∷ (z ∷ xs)) = ap (λ l. y ∷ l) (last_push more x (z ∷ xs))
 
 -- nothing is told where nothing is accepted
-told_none : (hand : Option Passed) (passing : Option Passing) → told_besides hand passing [] ≡ []
+pub told_none : (hand : Option Passed) (passing : Option Passing) → told_besides hand passing [] ≡ []
 told_none None passing = refl
 told_none (Some p) None = refl
 told_none (Some p) (Some q) = refl

@@ -41,9 +41,13 @@ passed_row made None = refl
 passed_row made (Some (Service.Mails q)) = refl
 passed_row made (Some (Service.State target)) = refl
 
+-- the mail of such a row waits to be sent
+abbrev pub waiting_row : Row Body Asked Reply → Option Passing
+waiting_row r = Some Passing.Waiting
+
 -- how far the mail of such a row has come
-abbrev pub fresh_passings : ℕ → Option (Service Asked) → List (Option Passing)
-fresh_passings made b = map (λ (r : Row Body Asked Reply). Some Passing.Waiting) (row_begun made b)
+abbrev fresh_passings : ℕ → Option (Service Asked) → List (Option Passing)
+fresh_passings made b = map waiting_row (row_begun made b)
 
 -- as it is when it comes into hand where no mail is there that is passed on
 abbrev began_passings : ℕ → Service Asked → List (Option Passing)
@@ -54,7 +58,7 @@ fresh_over : (made : ℕ) (s : Service Asked) → AllBoth StaysOver (fresh_passi
 fresh_over made (Service.State target) = tt
 fresh_over made (Service.Mails q) = go (is_passed q)
   where
-    go : (z : Bool) → AllBoth StaysOver (map (λ (r : Row Body Asked Reply). Some Passing.Waiting) (if z then begun q made ∷ [] else [])) (if z then (if z then Some Passing.Waiting else None) ∷ [] else [])
+    go : (z : Bool) → AllBoth StaysOver (map waiting_row (if z then begun q made ∷ [] else [])) (if z then (if z then Some Passing.Waiting else None) ∷ [] else [])
     go true = (λ e. e, tt)
     go false = tt
 

@@ -11,7 +11,7 @@ use Rattle.life_runs.specs.of_life_frames.Shares.{AllBoth}
 use Rattle.life_runs.specs.of_link_mails.Body.{Body}
 use Rattle.life_runs.specs.of_master_duty.Reply.{Reply}
 use Rattle.life_runs.specs.of_master_hand.Spoken.{Asked, emission, is_passed}
-use Rattle.served_places.specs.Rows.{Stays, era_passings, eras_passings, eras_rows, is_passed_row, life_rows, now_passing, passed_rows, replies_of}
+use Rattle.served_places.specs.Rows.{Stays, era_passings, eras_passings, eras_rows, is_passed_row, life_rows, now_passing, passed_rows, passings, replies_of}
 
 -- a list of rows
 abbrev pub Listed : Type 0
@@ -136,3 +136,12 @@ holds_passings d (m ∷ ms) p = ap (λ l. overs d.past ++ l) (go d.now)
 pub passings_append : (es : List (Era Body Asked Reply)) (e : Era Body Asked Reply) → eras_passings (es ++ e ∷ []) ≡ eras_passings es ++ era_passings e
 passings_append [] e = append-nil (era_passings e)
 passings_append (d ∷ es) e = ap (λ l. era_passings d ++ l) (passings_append es e) ∙ sym (append_assoc (era_passings d) (eras_passings es) (era_passings e))
+
+-- where the newest row is of a mail that is passed on
+pub passings_last : (l : Life Body Asked Reply) (row : Row Body Asked Reply) → l.era.side.now ≡ Some row → is_passed row.service ≡ true → (front : List (Option Passing)) × (passings l ≡ front ++ l.era.passing ∷ [])
+passings_last l row e p = (
+  eras_passings l.past ++ overs l.era.side.past,
+  ap (λ n. eras_passings l.past ++ (overs l.era.side.past ++ now_passing n l.era.passing)) e
+      ∙ ap (λ b. eras_passings l.past ++ (overs l.era.side.past ++ cond b (l.era.passing ∷ []) [])) p
+      ∙ sym (append_assoc (eras_passings l.past) (overs l.era.side.past) (l.era.passing ∷ [])),
+)
