@@ -36,6 +36,16 @@ got_push : (serves : List Serves) (came : List (List ℕ)) (rs : List Request) (
 got_push serves came rs dones os n m [] g e a b = (subst (λ k. Got serves came rs dones k g (owed_for k os)) (let same : m ≡ n = omega (arith, e) in same) b, tt)
 got_push serves came rs dones os n m (h ∷ gs) g e a b = (a.0, got_push serves came rs dones os (suc n) m gs g (omega (arith, e)) a.1 b)
 
+-- what one of them got
+pub got_at : (serves : List Serves) (came : List (List ℕ)) (rs : List Request) (dones : List ℕ) (os : List Owing) (k : ℕ) (gs : List GramIn) → AllGot serves came rs dones os k gs → (j m : ℕ) (g : GramIn) → m ≡ k + j → slice_get gs j ≡ Some g →
+    Got serves came rs dones m g (owed_for m os)
+got_at serves came rs dones os k [] a j m g e at = absurd (cc)
+got_at serves came rs dones os k (x ∷ gs) a zero m g e at =
+    let same : x ≡ g = cc in
+    let here : k ≡ m = omega (arith, e) in
+    subst (λ i. Got serves came rs dones i g (owed_for i os)) here (subst (λ z. Got serves came rs dones k z (owed_for k os)) same a.0)
+got_at serves came rs dones os k (x ∷ gs) a (suc j) m g e at = got_at serves came rs dones os (suc k) gs a.1 j m g (omega (arith, e)) at
+
 -- each of the earlier ones, by what it got
 got_each : (serves new : List Serves) (came : List (List ℕ)) (rs rs' : List Request) (dones : List ℕ) (os now : List Owing) (n : ℕ) (gs : List GramIn) →
     ((j m : ℕ) (g : GramIn) → m ≡ n + j → slice_get gs j ≡ Some g → Got serves came rs dones m g (owed_for m os) → Got new came rs' dones m g (owed_for m now)) → AllGot serves came rs dones os n gs → AllGot new came rs' dones now n gs
