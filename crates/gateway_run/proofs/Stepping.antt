@@ -260,7 +260,7 @@ module _ (plan : Scenario) (s s' : SessionState) (fs : List Exchanged) (f : Exch
   all_lively : All IsLively ws
   all_lively =
       lively lens plan.recover (length fs) ws s.master.posts.items s.master.tour.stops.items old.serving.leading.shows.each
-      (all_held lens plan.recover plan.retry plan.paces (first_leads plan) fs old.serving.leading.missed ws old.serving.leading.lives) old.told
+      (all_has lens plan.recover plan.retry plan.paces (first_leads plan) fs old.serving.leading.missed ws old.serving.leading.lives) old.told
 
   own : All TellsSo (map goes on.turns)
   own = subst (All TellsSo) on.serves (serves_tell lens plan.recover plan.retry plan.paces (first_leads plan) (fs ++ f ∷ []) on.new.leading.missed on.new.leading.serves on.new.leading.lives)

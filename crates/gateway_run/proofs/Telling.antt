@@ -200,6 +200,12 @@ module _ (gs : List GramIn) (slave : ℕ) (w v : Serves) (os more : List Owing) 
             dones : (number : ℕ) → is_in number (done_by_all es rs) ≡ is_in number (grams_of (begun_of slave rs))
             dones number = ap (λ l. is_in number (done_by_all l rs)) tells ∙ ap (is_in number) (done_one gs slave w v os more came rs p new apart i) ∙ ap (λ bs. is_in number (grams_of bs)) (sym i.is)
 
+            in_done : (number : ℕ) → is_in number (grams_of (begun_of slave rs)) ≡ true → is_in number (done_by_all es rs) ≡ true
+            in_done number e = dones number ∙ e
+
+            not_done : (number : ℕ) → is_in number (grams_of (begun_of slave rs)) ≡ false → is_in number (done_by_all es rs) ≡ false
+            not_done number e = dones number ∙ e
+
             -- of the others none is done by it, and the last is over
             same_before : All (λ n. done' n ≡ done n) last.before
             same_before = All-weaker (λ n. IsOurs gs slave n × (i.request.gram ≢ n)) (λ n. done' n ≡ done n) (λ n o. b.owes.ended n o.0 ∙ ap (λ z. if z then true else done n) (not_done n (off_begun n o.1))) last.before ours_before
@@ -224,12 +230,6 @@ module _ (gs : List GramIn) (slave : ℕ) (w v : Serves) (os more : List Owing) 
 
                 last_over : slice_get (passings v.lead.lived.life) (length last.before) ≡ Some None
                 last_over = ap (slice_get (passings v.lead.lived.life)) place ∙ ap (λ ps. slice_get ps (length newest.0)) newest.1 ∙ at_last newest.0 v.lead.lived.life.era.passing ∙ ap Some over
-
-            in_done : (number : ℕ) → is_in number (grams_of (begun_of slave rs)) ≡ true → is_in number (done_by_all es rs) ≡ true
-            in_done number e = dones number ∙ e
-
-            not_done : (number : ℕ) → is_in number (grams_of (begun_of slave rs)) ≡ false → is_in number (done_by_all es rs) ≡ false
-            not_done number e = dones number ∙ e
 
             none_keyed : AllBoth (IsFor gs) [] (keyed_in v.hand v.lead.lived.life.era.passing)
             none_keyed = subst (AllBoth (IsFor gs) []) (λ k. keyed_in ((sym b.behind) k) ((sym over) k)) tt
