@@ -75,6 +75,29 @@ came_by (Some (Coming.State target)) true room w s n r c l i e b =
     let at = b (subst (λ z. z.number < length z.script) (sym e) (got_inside w.script w.number (Plan.Service.State c.0) c.1)) ∙ ap (λ z. suc z.number) e in
     subst (λ z. Comes room w.script w.number (Some (Stated.Service.State z)) n) (sym c.2) (subst (λ z. Comes room w.script w.number (Some (Stated.Service.State (c.0 % 16))) z) (sym at) (Comes.state c.0 c.1))
 
+-- no mail that is passed on
+abbrev IsOwn : Option Asked → Type 0
+IsOwn None = ⊤
+IsOwn (Some q) = is_passed q ≡ false
+
+asked_own : (room : ℕ) (s : Service) → IsOwn (asked_of room s)
+asked_own room (Plan.Service.Sdo service) = refl
+asked_own room (Plan.Service.ReadFile name pass) = refl
+asked_own room (Plan.Service.WriteFile name pass bytes) = refl
+asked_own room (Plan.Service.ReadIdn number idn elements) = refl
+asked_own room (Plan.Service.WriteIdn number idn elements bytes) = refl
+asked_own room (Plan.Service.SetIp block) = go (nat_lt room (length block + 10))
+  where
+    go : (z : Bool) → IsOwn (if z then None else Some (net (EoeClient.set_ip block)))
+    go true = tt
+    go false = refl
+asked_own room Plan.Service.GetIp = refl
+asked_own room (Plan.Service.State state) = tt
+asked_own room (Plan.Service.Forward packet) = tt
+
+pub asked_unpassed : (room : ℕ) (s : Service) (q : Asked) → asked_of room s ≡ Some q → is_passed q ≡ false
+asked_unpassed room s q e = subst IsOwn e (asked_own room s)
+
 next_own : (room : ℕ) (next : Option Service) → IsOwn (asked_next room next)
 next_own room None = tt
 next_own room (Some s) = asked_own room s
