@@ -10,6 +10,7 @@ pub mod Dones
 pub mod Ended
 pub mod Frames
 pub mod Given
+pub mod Gives
 pub mod Gones
 pub mod Hands
 pub mod Hearing
