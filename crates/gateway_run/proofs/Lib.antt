@@ -19,6 +19,7 @@ pub mod Judging
 pub mod Leds
 pub mod Losts
 pub mod Places
+pub mod Rested
 pub mod Room
 pub mod Rooms
 pub mod Rounds
