@@ -1,5 +1,6 @@
 pub mod All
 pub mod Any
+mod Before
 pub mod Begins
 mod Calms
 mod Carried
@@ -10,6 +11,7 @@ pub mod Epochs
 pub mod Fair
 pub mod Frames
 pub mod Gifts
+mod Heard
 pub mod Kept
 pub mod Led
 pub mod LedLives
@@ -34,7 +36,9 @@ pub mod Sessions
 pub mod Singles
 pub mod Slaves
 pub mod Speakers
+mod States
 pub mod Told
+mod Turned
 pub mod Whole
 mod Within
 pub mod Words

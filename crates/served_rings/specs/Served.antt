@@ -14,6 +14,7 @@ use Rattle.plan_ring.specs.Round.{ring_after, ring_of}
 use Rattle.served_rings.specs.Speakers.{cleared_whole, spoken, table_of}
 use Rattle.run_work.specs.Lives.{first_server}
 use Rattle.segment_model.specs.Ends.{Passing}
+use Rattle.segment_model.specs.Seats.{rows_of}
 use Rattle.segment_plan.specs.declared.plan.Scenario.{Scenario}
 use Rattle.segment_plan.specs.declared.slave.SlaveSpec.{SlaveSpec}
 use Rattle.served_runs.specs.Served.{Serves}
@@ -25,7 +26,6 @@ use Rattle.slave_steps.specs.Node.{Node}
 use Rattle.state_exchange.specs.Families.{InState}
 use Rattle.state_exchange.specs.Stated.{Service}
 use Rattle.state_model.specs.Promises.{state_behind}
-use Rattle.task_model.specs.Accounts.{Started}
 use Rattle.task_model.specs.Promise.{services_in}
 
 module _ (p : Profile) (boot : Bool) (station : ℕ) where
@@ -45,11 +45,26 @@ module _ (p : Profile) (boot : Bool) (station : ℕ) where
     pub begin : IsPrefixOf (plain emission r.heard) (replies_to v m)
     pub all : passing ≡ None → plain emission r.heard ≡ replies_to v m
 
-  -- of the newest row of an epoch, where it is the newest that came into hand: the server is the one behind the rows before it
+  -- a service that others came into hand behind is over, and how far the newest has come is told
+  abbrev pub passing_before : List (Service Asked) → Option Passing → Option Passing
+  passing_before [] passing = passing
+  passing_before (q ∷ qs) passing = None
+
+  -- ONE ROW: it is of this service, and where that passes a mail on it heard just the replies of this server's step
+  abbrev pub IsHeardOne : InState Server → Asked → Option Passing → Row Body Asked Reply → Type 0
+  IsHeardOne v q passing r = (r.service ≡ q) × ((m : Mail) → q ≡ passed m → IsHeardOf v m passing r)
+
+  -- ALL ROWS of services that came into hand, of which the newest has come so far: those by mails have one each, in order, and the server of a row is the one
+  -- behind the services before it
+  abbrev pub AllHeard : Option Passing → InState Server → List (Service Asked) → List (Row Body Asked Reply) → Type 0
+  AllHeard passing v [] [] = ⊤
+  AllHeard passing v (Service.Mails q ∷ qs) (r ∷ rs) = IsHeardOne v q (passing_before qs passing) r × AllHeard passing ((spoken p).exec v q) qs rs
+  AllHeard passing v (Service.State target ∷ qs) rs = AllHeard passing (record v { state = state_behind (table_of boot station) v.state target }) qs rs
+  AllHeard passing v _ _ = ⊥
+
+  -- of an epoch
   abbrev pub IsHeardSo : InState Server → Era Body Asked Reply → Type 0
-  IsHeardSo from e =
-      (before : List (Started Asked)) (m : Mail) (frame : ℕ) (r : Row Body Asked Reply) → e.account.started ≡ before ++ record { service = Service.Mails (passed m); frame = frame } ∷ []
-      → e.side.now ≡ Some r → r.service ≡ passed m → IsHeardOf (server_behind from (services_in before)) m e.passing r
+  IsHeardSo from e = AllHeard e.passing from (services_in e.account.started) (rows_of e.side)
 
   -- AN EPOCH, from this server: its slave carried out just the first so many of its rows, each once and in order; its objects, files, IDNs and addresses, its AL
   -- state and the number of services that it counts are those of the server behind these rows; at most the two newest rows aren't among them
