@@ -13,7 +13,7 @@ use Rattle.life_model.proofs.Eras.{frames_length, frames_push, of_one, session_o
 use Rattle.life_model.specs.Eras.{EraIs, OpenEra, era_frames, planned}
 use Rattle.life_model.specs.Lives.{Spot, Era}
 use Rattle.life_model.specs.Own.{own_frame}
-use Rattle.passed_whole.specs.Led.{IsLed, frame_in, news_in}
+use Rattle.passed_whole.specs.Led.{IsLed, frame_in, news_in, turn_next}
 use Rattle.segment_model.proofs.Answers.{Open, OpenNow, news_each-push}
 use Rattle.segment_model.proofs.News.{mails_heard-append}
 use Rattle.segment_model.specs.Ends.{Outcome}
@@ -36,7 +36,7 @@ use Rattle.task_model.specs.Tasks.{IsTaskPlan}
 use Rattle.life_counts.proofs.Steps.{started_services}
 use Rattle.served_rings.proofs.Newest.{snoc_same}
 use Rattle.served_rings.proofs.Sessions.{led_later, led_session}
-use Rattle.served_rings.proofs.Turned.{NowGoes, by_mails, comes_split, goes_split, none_behind, none_front, turned}
+use Rattle.served_rings.proofs.Turned.{NowGoes, accepted_of, by_mails, comes_split, goes_split, none_behind, none_front, turned}
 
 -- the mails accepted in the frames before the one with this number
 abbrev pub accepted_before : {M : Type 0} → ℕ → ℕ → List (Frame M) → List M
@@ -278,11 +278,11 @@ module _ {V A M Q R : Type 0} (x : Exchange V A M Q R) (law : IsLawful x) (s : S
       at fs counts e n l = moment_of fs e n (led_session x s processor table more passed spot opened v r plan answers fs counts e n l)
 
       -- the row that went on
-      gone : (old : Option (Row M Q R)) (now : Option (Row M Q R)) (row : Row M Q R) → now ≡ Some row → NowGoes old now → (was : Row M Q R) × (old ≡ Some was) × (row.frame ≡ was.frame)
-      gone None None row e g = absurd (let no : None ≡ Some row = e in cc)
-      gone None (Some n) row e g = absurd g
-      gone (Some o) None row e g = absurd g
-      gone (Some o) (Some n) row e g = (o, refl, (let same : n ≡ row = cc in ap (λ (z : Row M Q R). z.frame) (sym same) ∙ g.frame))
+      gone : (ms : List M) (old : Option (Row M Q R)) (now : Option (Row M Q R)) (row : Row M Q R) → now ≡ Some row → NowGoes ms old now → (was : Row M Q R) × (old ≡ Some was) × (row.frame ≡ was.frame)
+      gone ms None None row e g = absurd (let no : None ≡ Some row = e in cc)
+      gone ms None (Some n) row e g = absurd g
+      gone ms (Some o) None row e g = absurd g
+      gone ms (Some o) (Some n) row e g = (o, refl, (let same : n ≡ row = cc in ap (λ (z : Row M Q R). z.frame) (sym same) ∙ g.frame))
 
       -- BEFORE IT just the replies to the services before it were accepted
       led_before : (fs : List (Frame M)) (counts : Bool) (e : Era M Q R) (n : Slave V M) → Led fs counts e n → (before : List (Started Q)) (q : Q) (f : ℕ) (states : List (Started Q)) → e.account.started ≡ before ++ by_mails q f ∷ states → mails_in (services_in states) ≡ 0 →
@@ -292,7 +292,7 @@ module _ {V A M Q R : Type 0} (x : Exchange V A M Q R) (law : IsLawful x) (s : S
           elim (turned x.speech s.acknowledged more passed spot.station (length gs) (news_in spot opened gs k t) t.sent t.fate t.back d t.pick) [
             | inl g ↦
                 let cut = goes_split d.account.started g.added before states q f (sym g.started ∙ started) g.states in
-                let old = gone d.side.now e.side.now row now g.now in
+                let old = gone (accepted_of spot.station t.fate t.back (turn_next x s.acknowledged processor more passed spot opened gs d t).side) d.side.now e.side.now row now g.now in
                 let before_none : mails_in (services_in cut.0) ≡ 0 = none_front cut.0 g.added (ap (λ l. mails_in (services_in l)) (sym cut.2) ∙ none) in
                 let was = led_before gs k d m l before q f cut.0 cut.1 before_none old.0 old.1 in
                 let pushed : framed (gs ++ frame_in t ∷ []) ≡ framed gs ++ own_frame spot.station spot.place (frame_in t) ∷ [] =

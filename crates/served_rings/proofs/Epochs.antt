@@ -27,7 +27,7 @@ use Rattle.task_model.specs.Promise.{services_in}
 use Rattle.served_rings.specs.Served.{IsServedEra, WasServed, server_behind}
 use Rattle.served_rings.proofs.Mails.{AllNamed, behind_named, is_mail, mailer, mailer_speaks, named_take, services_named, start_named}
 use Rattle.served_rings.proofs.Newest.{exec_is}
-use Rattle.served_rings.proofs.Heard.{all_heard, seen_so}
+use Rattle.served_rings.proofs.Heard.{all_heard, newest_there, seen_so}
 use Rattle.served_rings.proofs.Seen.{clears_so, promised, valid}
 
 module _ (p : Profile) (k : IsSpeaker (speaker p)) (forgets : Forgets (speaker p).exchange (speaker p).core cleared_whole) (boot : Bool) (lens : ℕ → Lens) (spot : Spot) (from : InState Server) (counts : Bool) (e : Era Body Asked Reply) (fs : List (Frame Body)) (n : Node Serving)
@@ -66,20 +66,21 @@ module _ (p : Profile) (k : IsSpeaker (speaker p)) (forgets : Forgets (speaker p
     -- WHAT ITS SLAVE DID
     pub served_era : IsServedEra p boot spot.station l.server e left done
     served_era =
-        let k = promised (mailer p) speaks (seer_of p boot) (table_of boot) spot l.opened l.server l.registers fs counts e seen_node i in
+        let did = promised (mailer p) speaks (seer_of p boot) (table_of boot) spot l.opened l.server l.registers fs counts e seen_node i in
         let long : length e.account.started ≡ length i.era.account.started = ap length started_is ∙ length-map i.era.account.started start_named in
         record {
-          count = k.count;
-          prefix = omega (arith, long, k.prefix);
-          behind = omega (arith, long, k.behind);
-          done_is = k.app
-              ∙ exec_is (product_whole parts p) (λ v. true) is_mail whole_states (table_of boot spot.station) l.server 0 (take k.count (services_in i.era.account.started))
-              ∙ behind_named p boot spot.station l.server (take k.count (services_in i.era.account.started)) (named_take p k.count (services_in i.era.account.started) all_valid)
-              ∙ ap (server_behind p boot spot.station l.server) (sym (take-map (λ q. service_seen named_wanted q) k.count (services_in i.era.account.started)) ∙ ap (take k.count) (sym services_is));
+          count = did.count;
+          prefix = omega (arith, long, did.prefix);
+          behind = omega (arith, long, did.behind);
+          done_is = did.app
+              ∙ exec_is (product_whole parts p) (λ v. true) is_mail whole_states (table_of boot spot.station) l.server 0 (take did.count (services_in i.era.account.started))
+              ∙ behind_named p boot spot.station l.server (take did.count (services_in i.era.account.started)) (named_take p did.count (services_in i.era.account.started) all_valid)
+              ∙ ap (server_behind p boot spot.station l.server) (sym (take-map (λ q. service_seen named_wanted q) did.count (services_in i.era.account.started)) ∙ ap (take did.count) (sym services_is));
           app = ap (λ (v : InState Server). v.inner.app.app) cleared_so;
           handled = ap (λ (v : InState Server). v.inner.handled) cleared_so;
-          state = ap (λ (s : Slave (InState Server) Body). s.registers.state) (sym i.stands) ∙ k.state;
+          state = ap (λ (s : Slave (InState Server) Body). s.registers.state) (sym i.stands) ∙ did.state;
           heard = all_heard p k boot lens spot l.opened l.server l.registers l.plan l.answers fs counts e seen_node l.led;
+          newest = newest_there p k boot lens spot l.opened l.server l.registers l.plan l.answers fs counts e seen_node l.led;
         }
 
   -- OF THE EPOCH, from another server with the same parts

@@ -1,13 +1,19 @@
 -- WHAT WAS HEARD OF EACH MAIL THAT WAS PASSED ON, over an epoch as its master leads it: just the replies of its server's one step.
-use Rattle.std.proofs.Common.{◌≡◌, ◌⊎◌, inl, inr, ◌&&◌, ℕ, suc, ◌+◌, Bool, true, false, is_some, Option, None, Some, option_map, List, [], ◌∷◌, ◌++◌, map, length, refl, ap, ap₂, sym, ◌∙◌, subst, append_assoc, append-nil, Ok, Err}
+use Rattle.std.proofs.Common.{◌≡◌, ◌⊎◌, inl, inr, ◌&&◌, ℕ, suc, ◌+◌, Bool, true, false, is_some, Option, None, Some, option_map, List, [], ◌∷◌, ◌++◌, map, length, refl, ap, ap₂, sym, ◌∙◌, subst, append_assoc, append-nil, length-append, arith, Ok, Err, if◌then◌else◌}
+use Rattle.std.specs.Prelude.{nat_lt}
+use Rattle.std.proofs.lemmas.Bool.Decides.{nat_tests}
 use Rattle.std.proofs.lemmas.List.{map-append}
 use Rattle.exchange_model.specs.Exchange.{plain}
-use Rattle.exchange_model.specs.Rows.{Row}
-use Rattle.exchange_model.proofs.Lists.{append_none}
+use Rattle.exchange_model.specs.Rows.{Row, row_heard}
+use Rattle.exchange_model.proofs.Lists.{append_cancel}
+use Rattle.exchange_model.proofs.Words.{plain-append}
 use Rattle.frame_view.specs.View.{Lens}
 use Rattle.life_counts.specs.Seen.{service_seen}
 use Rattle.life_model.specs.Eras.{planned}
-use Rattle.life_model.specs.Lives.{Spot, Era}
+use Rattle.life_model.specs.Lives.{Spot, Era, era_after, granted, passes, passing_begins}
+use Rattle.life_model.specs.Own.{own}
+use Rattle.link_model.specs.Frames.{all_accepted}
+use Rattle.link_model.specs.Segment.{RingFate}
 use Rattle.link_mails.specs.Body.{Body}
 use Rattle.mailbox_mail.specs.declared.mail.Mail.{Mail}
 use Rattle.master_duty.specs.Reply.{Reply}
@@ -15,14 +21,14 @@ use Rattle.master_hand.specs.Spoken as Spoken
 use Rattle.master_hand.specs.Spoken.{Asked, emission, is_followed, is_passed, passed}
 use Rattle.passed_whole.specs.Client.{ByContents}
 use Rattle.passed_whole.specs.Erased.{OfRow, PlanOne, row_seen}
-use Rattle.passed_whole.specs.Led.{IsLed, news_in}
+use Rattle.passed_whole.specs.Led.{IsLed, EraTurn, MayTurn, counts_behind, frame_in, news_in, turn_after, turn_next}
 use Rattle.passed_whole.proofs.Clients.{plain_untag}
 use Rattle.served_rings.specs.Speakers.{naming_of, processor_of, seer_of, speaker, spoken, spoken_states, table_of, whole_states}
 use Rattle.run_work.specs.Sessions.{OwnService, Wanted, named_wanted}
 use Rattle.segment_model.specs.Ends.{Passing}
-use Rattle.segment_model.specs.Record.{Frame}
+use Rattle.segment_model.specs.Record.{Frame, News}
 use Rattle.segment_model.specs.Seats.{newest, rows_of}
-use Rattle.segment_model.specs.Slaves.{Registers, Slave}
+use Rattle.segment_model.specs.Slaves.{Registers, Slave, grams}
 use Rattle.served_rings.specs.Serves.{serves}
 use Rattle.serving_model.specs.Tagged as Tagged
 use Rattle.serving_model.specs.Tagged.{Tagged, untag}
@@ -37,7 +43,8 @@ use Rattle.state_model.specs.Promises.{state_behind}
 use Rattle.life_counts.specs.Epochs.{IsSpeaker, IsSeen, seeing}
 use Rattle.life_counts.specs.Foreseen as Foreseen
 use Rattle.life_counts.proofs.TaggedWhole.{epoch_seen}
-use Rattle.task_model.specs.Accounts.{Started}
+use Rattle.task_model.proofs.Completed.{started_back}
+use Rattle.task_model.specs.Accounts.{Account, Pick, Started}
 use Rattle.task_model.specs.Promise.{mails_in, services_in}
 use Rattle.task_model.specs.Tasks.{IsTaskPlan}
 use Rattle.served_rings.specs.Served.{AllHeard, IsHeardOf, IsHeardOne, passing_before, replies_to, server_behind}
@@ -46,7 +53,7 @@ use Rattle.served_rings.proofs.Newest as Newest
 use Rattle.served_rings.proofs.Seen.{heard, valid}
 use Rattle.served_rings.proofs.States.{heard_whole}
 use Rattle.served_rings.proofs.Told.{row_whole}
-use Rattle.served_rings.proofs.Turned.{Comes, GoesOn, NowGoes, by_mails, mails_both, turned}
+use Rattle.served_rings.proofs.Turned.{Comes, Goes, GoesOn, NowGoes, accepted_of, by_mails, mails_both, turned}
 
 -- what is there of a row that is seen otherwise
 record SeenRow (now : Option (Row (Tagged Body OwnService) Wanted (Option SlaveReply.Reply))) (r : Row Body Asked Reply) : Type 0 where
@@ -289,39 +296,54 @@ module _ (p : Profile) (k : IsSpeaker (speaker p)) (boot : Bool) (lens : ℕ →
       (subst (AllHeard p boot spot.station e.passing server (services_in k.before ++ Service.Mails k.service ∷ services_in k.states)) (ap (λ z. e.side.past ++ newest z) (sym k.now))
       (more_heard p boot spot.station e.passing server (services_in k.before) k.service (services_in k.states) e.side.past k.row k.none k.past one))
 
-  no_now : (old now : Option (Row Body Asked Reply)) → old ≡ None → NowGoes old now → now ≡ None
-  no_now None None e g = refl
-  no_now None (Some s) e g = absurd g
-  no_now (Some r) now e g = absurd (let no : Some r ≡ None = e in cc)
+  no_now : (ms : List Body) (old now : Option (Row Body Asked Reply)) → old ≡ None → NowGoes ms old now → now ≡ None
+  no_now ms None None e g = refl
+  no_now ms None (Some s) e g = absurd g
+  no_now ms (Some r) now e g = absurd (let no : Some r ≡ None = e in cc)
 
-  some_now : (old now : Option (Row Body Asked Reply)) (row : Row Body Asked Reply) → old ≡ Some row → NowGoes old now → (next : Row Body Asked Reply) × (now ≡ Some next) × (next.service ≡ row.service)
-  some_now None now row e g = absurd (let no : None ≡ Some row = e in cc)
-  some_now (Some r) None row e g = absurd g
-  some_now (Some r) (Some s) row e g = (s, refl, g.service ∙ (let same : r ≡ row = cc in ap (λ (z : Row Body Asked Reply). z.service) same))
+  -- the row that goes on
+  record NextRow (ms : List Body) (now : Option (Row Body Asked Reply)) (row : Row Body Asked Reply) : Type 0 where
+    next : Row Body Asked Reply
+    is : now ≡ Some next
+    goes : Goes ms row next
 
-  goes_on : (d e : Era Body Asked Reply) → GoesOn d.account.started d.side e.account.started e.side → NoRow d ⊎ Newer d → NoRow e ⊎ Newer e
-  goes_on d e g (inl k) = inl (record {
-    none = ap (λ l. mails_in (services_in l)) g.started ∙ mails_both d.account.started g.added ∙ ap₂ (λ (a b : ℕ). a + b) k.none g.states;
-    past = g.past ∙ k.past;
-    now = no_now d.side.now e.side.now k.now g.now;
-  })
-  goes_on d e g (inr k) =
-      let next = some_now d.side.now e.side.now k.row k.now g.now in
-      inr (record {
+  some_now : (ms : List Body) (old now : Option (Row Body Asked Reply)) (row : Row Body Asked Reply) → old ≡ Some row → NowGoes ms old now → NextRow ms now row
+  some_now ms None now row e g = absurd (let no : None ≡ Some row = e in cc)
+  some_now ms (Some r) None row e g = absurd g
+  some_now ms (Some r) (Some s) row e g = record { next = s; is = refl; goes = (let same : r ≡ row = cc in subst (λ z. Goes ms z s) same g) }
+
+  started_on : (ms : List Body) (d e : Era Body Asked Reply) (g : GoesOn ms d.account.started d.side e.account.started e.side) (k : Newer d) → e.account.started ≡ k.before ++ by_mails k.service k.frame ∷ (k.states ++ g.added)
+  started_on ms d e g k = g.started ∙ ap (λ l. l ++ g.added) k.started ∙ append_assoc k.before (by_mails k.service k.frame ∷ k.states) g.added
+
+  none_on : (ms : List Body) (d e : Era Body Asked Reply) (g : GoesOn ms d.account.started d.side e.account.started e.side) (k : Newer d) → mails_in (services_in (k.states ++ g.added)) ≡ 0
+  none_on ms d e g k = mails_both k.states g.added ∙ ap₂ (λ (a b : ℕ). a + b) k.none g.states
+
+  newer_on : (ms : List Body) (d e : Era Body Asked Reply) → GoesOn ms d.account.started d.side e.account.started e.side → Newer d → Newer e
+  newer_on ms d e g k =
+      let next = some_now ms d.side.now e.side.now k.row k.now g.now in
+      record {
         before = k.before;
         service = k.service;
         frame = k.frame;
         states = k.states ++ g.added;
-        row = next.0;
-        started = g.started ∙ ap (λ l. l ++ g.added) k.started ∙ append_assoc k.before (by_mails k.service k.frame ∷ k.states) g.added;
-        none = mails_both k.states g.added ∙ ap₂ (λ (a b : ℕ). a + b) k.none g.states;
-        now = next.1;
-        is = next.2 ∙ k.is;
+        row = next.next;
+        started = started_on ms d e g k;
+        none = none_on ms d e g k;
+        now = next.is;
+        is = next.goes.service ∙ k.is;
         past = subst (AllHeard p boot spot.station None server (services_in k.before)) (sym g.past) k.past;
-      })
+      }
 
-  comes : (d e : Era Body Asked Reply) → Heard d → Comes d.passing d.account.started d.side e.account.started e.side → Newer e
-  comes d e all c = record {
+  goes_on : (ms : List Body) (d e : Era Body Asked Reply) → GoesOn ms d.account.started d.side e.account.started e.side → NoRow d ⊎ Newer d → NoRow e ⊎ Newer e
+  goes_on ms d e g (inl k) = inl (record {
+    none = ap (λ l. mails_in (services_in l)) g.started ∙ mails_both d.account.started g.added ∙ ap₂ (λ (a b : ℕ). a + b) k.none g.states;
+    past = g.past ∙ k.past;
+    now = no_now ms d.side.now e.side.now k.now g.now;
+  })
+  goes_on ms d e g (inr k) = inr (newer_on ms d e g k)
+
+  comes : (wish : Option (Service Asked)) (d e : Era Body Asked Reply) → Heard d → Comes d.passing wish d.account.started d.side e.account.started e.side → Newer e
+  comes wish d e all c = record {
     before = d.account.started;
     service = c.service;
     frame = c.frame;
@@ -339,10 +361,105 @@ module _ (p : Profile) (k : IsSpeaker (speaker p)) (boot : Bool) (lens : ℕ →
   rows_led fs counts e n (IsLed.goes_on gs c d m l t may) =
       let before = rows_led gs c d m l in
       elim (turned (spoken p).speech Spoken.acknowledged is_followed is_passed spot.station (length gs) (news_in spot opened gs c t) t.sent t.fate t.back d t.pick) [
-        | inl g ↦ goes_on d e g before
-        | inr k ↦ inr (comes d e (heard_from gs c d m l before) k)
+        | inl g ↦ goes_on (accepted_of spot.station t.fate t.back (turn_next (spoken p) Spoken.acknowledged (processor_of boot) is_followed is_passed spot opened gs d t).side) d e g before
+        | inr k ↦ inr (comes (granted d.passing t.pick).begin d e (heard_from gs c d m l before) k)
       ]
 
   -- OF EACH ROW of the epoch
   pub all_heard : (fs : List (Frame Body)) (counts : Bool) (e : Era Body Asked Reply) (n : Slave (InState Server) Body) → Led fs counts e n → Heard e
   all_heard fs counts e n l = heard_from fs counts e n l (rows_led fs counts e n l)
+
+  -- and where there is a row, there is a newest
+  pub newest_there : (fs : List (Frame Body)) (counts : Bool) (e : Era Body Asked Reply) (n : Slave (InState Server) Body) → Led fs counts e n → e.side.now ≡ None → e.side.past ≡ []
+  newest_there fs counts e n l none = elim (rows_led fs counts e n l) [ inl k ↦ k.past | inr k ↦ absurd (let no : None ≡ Some k.row = sym none ∙ k.now in cc) ]
+
+  -- ---- BY A FRAME
+  -- the services that pass a mail on
+  passed_of : (q : Asked) → is_passed q ≡ true → (m : Mail) × (q ≡ passed m)
+  passed_of (Spoken.sdo q) e = absurd (let no : false ≡ true = e in cc)
+  passed_of (Spoken.file q) e = absurd (let no : false ≡ true = e in cc)
+  passed_of (Spoken.drive q) e = absurd (let no : false ≡ true = e in cc)
+  passed_of (Spoken.net q) e = absurd (let no : false ≡ true = e in cc)
+  passed_of (Spoken.passed m) e = (m, refl)
+
+  one_less : (a b : ℕ) → b ≡ a + 1 → nat_lt a b ≡ true
+  one_less a b e = grind (arith, nat_tests, e)
+
+  module _ (fs : List (Frame Body)) (counts : Bool) (e : Era Body Asked Reply) (n : Slave (InState Server) Body) (l : Led fs counts e n) (t : EraTurn (InState Server) Body Asked)
+      (may : MayTurn (spoken p) Spoken.acknowledged (processor_of boot) is_followed is_passed spot opened fs e n t) where
+    -- the epoch before the frame, and behind it
+    abbrev next : Era Body Asked Reply
+    next = turn_next (spoken p) Spoken.acknowledged (processor_of boot) is_followed is_passed spot opened fs e t
+
+    abbrev behind : Era Body Asked Reply
+    behind = turn_after (spoken p) Spoken.acknowledged (processor_of boot) is_followed is_passed spot opened fs counts e t
+
+    abbrev news : List (News Body)
+    news = news_in spot opened fs counts t
+
+    abbrev wish : Option (Service Asked)
+    wish = (granted e.passing t.pick).begin
+
+    abbrev ms : List Body
+    ms = accepted_of spot.station t.fate t.back next.side
+
+    -- no mail was passed on before it
+    was_over : (passing : Option Passing) (pick : Pick Asked) (new : Account Asked Reply) → passing_begins (spoken p).speech Spoken.acknowledged is_followed is_passed passing e.account new (granted passing pick).begin ≡ None → passing ≡ None
+    was_over None pick new none = refl
+    was_over (Some o) pick new none = none
+
+    stays_over : (fate : RingFate) → next.passing ≡ None → (era_after (spoken p).speech Spoken.acknowledged is_followed is_passed spot.station (length fs) news t.sent fate t.back next).passing ≡ None
+    stays_over RingFate.Back none = ap (λ o. passes (spoken p).speech Spoken.acknowledged is_followed is_passed o news) none
+    stays_over (RingFate.Lost after) none = ap (λ o. passes (spoken p).speech Spoken.acknowledged is_followed is_passed o news) none
+
+    started_by : (fate : RingFate) → (era_after (spoken p).speech Spoken.acknowledged is_followed is_passed spot.station (length fs) news t.sent fate t.back next).account.started ≡ next.account.started
+    started_by RingFate.Back = started_back spot.station (length fs) next.account (own spot.station t.back)
+    started_by (RingFate.Lost after) = refl
+
+    -- one that comes into hand then waits to be sent
+    waits : (q : Asked) (f : ℕ) → is_passed q ≡ true → wish ≡ Some (Service.Mails q) → next.account.started ≡ e.account.started ++ by_mails q f ∷ [] → next.passing ≡ None → ⊥
+    waits q f pass wished grown none =
+        let less : nat_lt (length e.account.started) (length next.account.started) ≡ true = one_less (length e.account.started) (length next.account.started) (ap length grown ∙ length-append e.account.started (by_mails q f ∷ [])) in
+        let some : next.passing ≡ Some Passing.Waiting = ap (λ b. passing_begins (spoken p).speech Spoken.acknowledged is_followed is_passed e.passing e.account next.account b) wished ∙ ap₂ (λ (a b : Bool). if a && b then Some Passing.Waiting else e.passing) pass less in
+        let no : None ≡ Some Passing.Waiting = sym none ∙ some in cc
+
+    -- A MAIL THAT IS OVER gets no reply more
+    pub no_more : next.passing ≡ None → (r : Row Body Asked Reply) → next.side.now ≡ Some r → is_passed r.service ≡ true → t.fate ≡ RingFate.Back → plain emission (all_accepted spot.station next.side.halves (grams (own spot.station t.back))) ≡ []
+    no_more none r now pass fate = subst (λ z. plain emission (accepted_of spot.station z t.back next.side) ≡ []) fate
+        (elim (turned (spoken p).speech Spoken.acknowledged is_followed is_passed spot.station (length fs) news t.sent t.fate t.back e t.pick) [ | inl g ↦ on g | inr c ↦ absurd (new c) ])
+      where
+        -- the row behind the frame
+        row_behind : behind.side.now ≡ Some (row_heard (spoken p).speech (length fs) (all_accepted spot.station next.side.halves (grams (own spot.station t.back))) r)
+        row_behind = ap (λ z. (era_after (spoken p).speech Spoken.acknowledged is_followed is_passed spot.station (length fs) news t.sent z t.back next).side.now) fate
+            ∙ ap (option_map (λ z. row_heard (spoken p).speech (length fs) (all_accepted spot.station next.side.halves (grams (own spot.station t.back))) z)) now
+
+        new : Comes e.passing wish e.account.started e.side behind.account.started behind.side → ⊥
+        new c =
+            let same : Some c.row ≡ Some (row_heard (spoken p).speech (length fs) (all_accepted spot.station next.side.halves (grams (own spot.station t.back))) r) = sym c.now ∙ row_behind in
+            let service : c.row.service ≡ r.service = (let row : c.row ≡ row_heard (spoken p).speech (length fs) (all_accepted spot.station next.side.halves (grams (own spot.station t.back))) r = cc in ap (λ (z : Row Body Asked Reply). z.service) row) in
+            waits c.service c.frame (ap is_passed (sym c.is ∙ service) ∙ pass) c.wished (sym (started_by t.fate) ∙ c.started) none
+
+        on : GoesOn ms e.account.started e.side behind.account.started behind.side → plain emission ms ≡ []
+        on g = elim (rows_led fs counts e n l) [
+          | inl k ↦ absurd (let no : None ≡ Some (row_heard (spoken p).speech (length fs) (all_accepted spot.station next.side.halves (grams (own spot.station t.back))) r) = sym (no_now ms e.side.now behind.side.now k.now g.now) ∙ row_behind in cc)
+          | inr k ↦ both g k
+        ]
+          where
+            both : GoesOn ms e.account.started e.side behind.account.started behind.side → Newer e → plain emission ms ≡ []
+            both g k =
+                let to = some_now ms e.side.now behind.side.now k.row k.now g.now in
+                let same : Some to.next ≡ Some (row_heard (spoken p).speech (length fs) (all_accepted spot.station next.side.halves (grams (own spot.station t.back))) r) = sym to.is ∙ row_behind in
+                let service : to.next.service ≡ r.service =
+                (let row : to.next ≡ row_heard (spoken p).speech (length fs) (all_accepted spot.station next.side.halves (grams (own spot.station t.back))) r = cc in ap (λ (z : Row Body Asked Reply). z.service) row) in
+                let mine : to.next.service ≡ k.service = to.goes.service ∙ k.is in
+                let mail = passed_of k.service (ap is_passed (sym mine ∙ service) ∙ pass) in
+                let over : e.passing ≡ None = was_over e.passing t.pick next.account none in
+                let later = IsLed.goes_on fs counts e n l t may in
+                let counted = counts_behind spot.station t.steps (own spot.station t.back) counts in
+                let gs = fs ++ frame_in t ∷ [] in
+                let first = (heard_here fs counts e n l (seen_so fs counts e n l) k.before mail.0 k.frame k.states k.row (k.started ∙ ap (λ q. k.before ++ by_mails q k.frame ∷ k.states) mail.1) k.none k.now (k.is ∙ mail.1)).all
+                (ap (passing_before p boot spot.station (services_in k.states)) over ∙ passing_none p boot spot.station (services_in k.states)) in
+                let then = (heard_here gs counted behind t.slave later (seen_so gs counted behind t.slave later) k.before mail.0 k.frame (k.states ++ g.added) to.next (started_on ms e behind g k ∙ ap (λ q. k.before ++ by_mails q k.frame ∷ (k.states ++ g.added)) mail.1)
+                (none_on ms e behind g k) to.is (mine ∙ mail.1)).all (ap (passing_before p boot spot.station (services_in (k.states ++ g.added))) (stays_over t.fate none) ∙ passing_none p boot spot.station (services_in (k.states ++ g.added))) in
+                append_cancel (plain emission k.row.heard) (plain emission ms) []
+                (sym (plain-append emission k.row.heard ms) ∙ ap (plain emission) (sym to.goes.heard) ∙ then ∙ sym first ∙ sym (append-nil (plain emission k.row.heard)))

@@ -11,6 +11,7 @@ pub mod Epochs
 pub mod Fair
 pub mod Frames
 pub mod Gifts
+mod Given
 mod Heard
 pub mod Kept
 pub mod Led
@@ -21,6 +22,7 @@ pub mod Lives
 pub mod Mails
 pub mod Newest
 pub mod Octets
+mod NoMore
 pub mod OfCoe
 pub mod One
 pub mod Others

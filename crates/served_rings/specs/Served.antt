@@ -28,6 +28,11 @@ use Rattle.state_exchange.specs.Stated.{Service}
 use Rattle.state_model.specs.Promises.{state_behind}
 use Rattle.task_model.specs.Promise.{services_in}
 
+-- nothing came into hand of an epoch
+pub record NothingCame (e : Era Body Asked Reply) : Type 0 where
+  pub started : e.account.started ≡ []
+  pub rows : rows_of e.side ≡ []
+
 module _ (p : Profile) (boot : Bool) (station : ℕ) where
   -- THE SERVER BEHIND ROWS, one after the other: a service acts by its meaning and ends the unfinished transfer of its protocol, a mail that was passed on acts by
   -- the one step that the server takes for it, and a change of the AL state by the slave's table
@@ -67,7 +72,8 @@ module _ (p : Profile) (boot : Bool) (station : ℕ) where
   IsHeardSo from e = AllHeard e.passing from (services_in e.account.started) (rows_of e.side)
 
   -- AN EPOCH, from this server: its slave carried out just the first so many of its rows, each once and in order; its objects, files, IDNs and addresses, its AL
-  -- state and the number of services that it counts are those of the server behind these rows; at most the two newest rows aren't among them
+  -- state and the number of services that it counts are those of the server behind these rows; at most the two newest rows aren't among them; and where there is a
+  -- row, there is a newest
   pub record IsServedEra (from : InState Server) (e : Era Body Asked Reply) (left done : InState Server) : Type 0 where
     pub count : ℕ
     pub prefix : count ≤ length e.account.started
@@ -77,6 +83,7 @@ module _ (p : Profile) (boot : Bool) (station : ℕ) where
     pub handled : left.inner.handled ≡ done.inner.handled
     pub state : left.state ≡ done.state
     pub heard : IsHeardSo from e
+    pub newest : e.side.now ≡ None → e.side.past ≡ []
 
   -- one that was opened: it began with this server, in the first epoch in the state of the plan, and its slave left that one
   pub record WasServed (start : ℕ) (from : InState Server) (e : Era Body Asked Reply) (left done : InState Server) : Type 0 where
@@ -87,13 +94,13 @@ module _ (p : Profile) (boot : Bool) (station : ℕ) where
   -- ALL EPOCHS THAT ARE OVER: each begins with what the one before carried out, cleared, and so does one behind an epoch that was never opened
   pub data AreServedEras (start : ℕ) (first : InState Server) : List (Era Body Asked Reply) → InState Server → Type 0 where
     none : AreServedEras start first [] first
-    unopened : (es : List (Era Body Asked Reply)) (b : InState Server) (e : Era Body Asked Reply) → AreServedEras start first es b → e.account.started ≡ [] → AreServedEras start first (es ++ e ∷ []) (cleared_whole b)
+    unopened : (es : List (Era Body Asked Reply)) (b : InState Server) (e : Era Body Asked Reply) → AreServedEras start first es b → NothingCame e → AreServedEras start first (es ++ e ∷ []) (cleared_whole b)
     opened : (es : List (Era Body Asked Reply)) (b : InState Server) (e : Era Body Asked Reply) (left done : InState Server) → AreServedEras start first es b → WasServed start b e left done → AreServedEras start first (es ++ e ∷ []) (cleared_whole done)
 
   -- THE NEWEST: it is open, and what its slave left is what the node has, its AL state among it; or nothing began in it; or it is over
   pub data IsServedNewest (start : ℕ) (from : InState Server) (e : Era Body Asked Reply) (n : Node Serving) : Stand → Type 0 where
     lives : (left done : InState Server) → left.inner ≡ n.server.server → left.state ≡ (registers_seen n.registers).state → WasServed start from e left done → IsServedNewest start from e n Stand.Open
-    unopened : (stand : Stand) → e.account.started ≡ [] → IsServedNewest start from e n stand
+    unopened : (stand : Stand) → NothingCame e → IsServedNewest start from e n stand
     over : (stand : Stand) (left done : InState Server) → WasServed start from e left done → IsServedNewest start from e n stand
 
   -- THE WHOLE LIFE of a slave with this node, from the server with which it was switched on
