@@ -70,6 +70,9 @@ of_row : {N Q R : Type 0} (P : Row N Q R → Type 0) (now : Option (Row N Q R)) 
 of_row P None row e k = absurd (let no : None ≡ Some row = e in cc)
 of_row P (Some r) row e k = let same : r ≡ row = cc in subst P same k
 
+one_less : (n m : ℕ) → m ≡ n + 1 → nat_lt n m ≡ true
+one_less n m e = grind (arith, nat_tests, e)
+
 -- a list seen otherwise, about one of its places
 record Parts {X Y : Type 0} (f : X → Y) (xs : List X) (before : List Y) (y : Y) (behind : List Y) : Type 0 where
   front : List X
@@ -382,9 +385,6 @@ module _ (p : Profile) (k : IsSpeaker (speaker p)) (boot : Bool) (lens : ℕ →
   passed_of (Spoken.net q) e = absurd (let no : false ≡ true = e in cc)
   passed_of (Spoken.passed m) e = (m, refl)
 
-  one_less : (a b : ℕ) → b ≡ a + 1 → nat_lt a b ≡ true
-  one_less a b e = grind (arith, nat_tests, e)
-
   module _ (fs : List (Frame Body)) (counts : Bool) (e : Era Body Asked Reply) (n : Slave (InState Server) Body) (l : Led fs counts e n) (t : EraTurn (InState Server) Body Asked)
       (may : MayTurn (spoken p) Spoken.acknowledged (processor_of boot) is_followed is_passed spot opened fs e n t) where
     -- the epoch before the frame, and behind it
@@ -459,7 +459,7 @@ module _ (p : Profile) (k : IsSpeaker (speaker p)) (boot : Bool) (lens : ℕ →
                 let gs = fs ++ frame_in t ∷ [] in
                 let first = (heard_here fs counts e n l (seen_so fs counts e n l) k.before mail.0 k.frame k.states k.row (k.started ∙ ap (λ q. k.before ++ by_mails q k.frame ∷ k.states) mail.1) k.none k.now (k.is ∙ mail.1)).all
                 (ap (passing_before p boot spot.station (services_in k.states)) over ∙ passing_none p boot spot.station (services_in k.states)) in
-                let then = (heard_here gs counted behind t.slave later (seen_so gs counted behind t.slave later) k.before mail.0 k.frame (k.states ++ g.added) to.next (started_on ms e behind g k ∙ ap (λ q. k.before ++ by_mails q k.frame ∷ (k.states ++ g.added)) mail.1)
+                let last = (heard_here gs counted behind t.slave later (seen_so gs counted behind t.slave later) k.before mail.0 k.frame (k.states ++ g.added) to.next (started_on ms e behind g k ∙ ap (λ q. k.before ++ by_mails q k.frame ∷ (k.states ++ g.added)) mail.1)
                 (none_on ms e behind g k) to.is (mine ∙ mail.1)).all (ap (passing_before p boot spot.station (services_in (k.states ++ g.added))) (stays_over t.fate none) ∙ passing_none p boot spot.station (services_in (k.states ++ g.added))) in
                 append_cancel (plain emission k.row.heard) (plain emission ms) []
-                (sym (plain-append emission k.row.heard ms) ∙ ap (plain emission) (sym to.goes.heard) ∙ then ∙ sym first ∙ sym (append-nil (plain emission k.row.heard)))
+                (sym (plain-append emission k.row.heard ms) ∙ ap (plain emission) (sym to.goes.heard) ∙ last ∙ sym first ∙ sym (append-nil (plain emission k.row.heard)))

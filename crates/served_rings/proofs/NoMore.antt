@@ -179,13 +179,13 @@ module _ (plan : Scenario) (speaks : (p : Profile) → IsProfile p → IsSpeaker
       Told = next.passing ≡ None → (r : Row Body Asked Reply) → next.side.now ≡ Some r → is_passed r.service ≡ true → seen_frame.fate ≡ RingFate.Back → plain emission (all_accepted m.spot.station next.side.halves (grams (own m.spot.station seen_frame.back))) ≡ []
 
       module _ (x : TurnsFor is_followed is_passed lens (length gs) ds m a) (k : Counters) (led : LedMember is_followed is_passed gs m k) (told : a.news ≡ news_of m.spot.station k.kept k.counts seen_frame) where
-        abbrev at : RingFrame Serving
-        at = t lens step (FitsPlan plan.slaves) is_followed is_passed gs ring f.sent ds framed all r meet bs m cs a whole is x k led told
+        abbrev mine : RingFrame Serving
+        mine = t lens step (FitsPlan plan.slaves) is_followed is_passed gs ring f.sent ds framed all r meet bs m cs a whole is x k led told
 
-        tells : (from : _) (counted : Bool) → LedEra m.services is_followed is_passed m.spot from counted m.life.era gs at.node → LedFrame m.services is_followed is_passed m.spot m.life.era gs at a.pick → Told
+        tells : (from : _) (counted : Bool) → LedEra m.services is_followed is_passed m.spot from counted m.life.era gs mine.node → LedFrame m.services is_followed is_passed m.spot m.life.era gs mine a.pick → Told
         tells from counted l o = λ none row now pass fate.
-            no_more (profile_of s) slave s.boot lens m.spot l.opened l.server l.registers l.plan l.answers gs counted m.life.era (node_seen m.services at.node) l.led (turn_of m.services is_followed is_passed m.spot at a.pick)
-            (LedLives.may m.services is.whole.behind is_followed is_passed m.spot from counted m.life.era gs at l a.pick o) none row now pass fate
+            no_more (profile_of s) slave s.boot lens m.spot l.opened l.server l.registers l.plan l.answers gs counted m.life.era (node_seen m.services mine.node) l.led (turn_of m.services is_followed is_passed m.spot mine a.pick)
+            (LedLives.may m.services is.whole.behind is_followed is_passed m.spot from counted m.life.era gs mine l a.pick o) none row now pass fate
 
         told_here : m.life.stand ≡ Stand.Open → Told
         told_here opened = told_member lens step (FitsPlan plan.slaves) is_followed is_passed gs ring f.sent ds framed all r meet bs m cs a whole is x k led told Told tells opened

@@ -56,7 +56,7 @@ module _ (p : Profile) (k : IsSpeaker (speaker p)) (forgets : Forgets (speaker p
       let rest = past_served before in
       record {
         at = cleared_whole rest.at;
-        all = AreServedEras.unopened es rest.at e rest.all (nothing e at is_new);
+        all = AreServedEras.unopened es rest.at e rest.all (nothing e cleared is_new);
         same = clears_inner b rest.at rest.same;
       }
   past_served (AllLeds.opened a es b e s before left) =
