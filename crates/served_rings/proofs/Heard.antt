@@ -292,8 +292,8 @@ module _ (p : Profile) (k : IsSpeaker (speaker p)) (boot : Bool) (lens : ℕ →
   heard_from fs counts e n l (inr k) =
       let services : services_in e.account.started ≡ services_in k.before ++ Service.Mails k.service ∷ services_in k.states = ap services_in k.started ∙ map-append (λ (s : Started Asked). s.service) k.before (by_mails k.service k.frame ∷ k.states) in
       let one : IsHeardOne p boot spot.station (Behind (services_in k.before)) k.service (passing_before p boot spot.station (services_in k.states) e.passing) k.row = (
-      k.is,
-      λ m is. heard_here fs counts e n l (seen_so fs counts e n l) k.before m k.frame k.states k.row (k.started ∙ ap (λ q. k.before ++ by_mails q k.frame ∷ k.states) is) k.none k.now (k.is ∙ is),
+        k.is,
+        λ m is. heard_here fs counts e n l (seen_so fs counts e n l) k.before m k.frame k.states k.row (k.started ∙ ap (λ q. k.before ++ by_mails q k.frame ∷ k.states) is) k.none k.now (k.is ∙ is),
       ) in
       subst (λ qs. AllHeard p boot spot.station e.passing server qs (rows_of e.side)) (sym services)
       (subst (AllHeard p boot spot.station e.passing server (services_in k.before ++ Service.Mails k.service ∷ services_in k.states)) (ap (λ z. e.side.past ++ newest z) (sym k.now))
@@ -426,7 +426,7 @@ module _ (p : Profile) (k : IsSpeaker (speaker p)) (boot : Bool) (lens : ℕ →
     -- A MAIL THAT IS OVER gets no reply more
     pub no_more : next.passing ≡ None → (r : Row Body Asked Reply) → next.side.now ≡ Some r → is_passed r.service ≡ true → t.fate ≡ RingFate.Back → plain emission (all_accepted spot.station next.side.halves (grams (own spot.station t.back))) ≡ []
     no_more none r now pass fate = subst (λ z. plain emission (accepted_of spot.station z t.back next.side) ≡ []) fate
-        (elim (turned (spoken p).speech Spoken.acknowledged is_followed is_passed spot.station (length fs) news t.sent t.fate t.back e t.pick) [ | inl g ↦ on g | inr c ↦ absurd (new c) ])
+        (elim (turned (spoken p).speech Spoken.acknowledged is_followed is_passed spot.station (length fs) news t.sent t.fate t.back e t.pick) [ inl g ↦ on g | inr c ↦ absurd (new c) ])
       where
         -- the row behind the frame
         row_behind : behind.side.now ≡ Some (row_heard (spoken p).speech (length fs) (all_accepted spot.station next.side.halves (grams (own spot.station t.back))) r)
