@@ -1,6 +1,6 @@
 -- WHAT WAS ACCEPTED BEFORE THE NEWEST SERVICE BY MAILS CAME INTO HAND: of an epoch as its master leads it, just all replies to the services before it; so, where a
 -- state service came behind it, just all its own replies were heard.
-use Rattle.std.proofs.Common.{◌≡◌, inl, inr, ℕ, suc, ◌≤◌, Bool, true, false, Option, Some, None, List, [], ◌∷◌, ◌++◌, map, take, drop, length, refl, ap, ap₂, sym, ◌∙◌, subst, append_assoc, append-nil, arith, length-append}
+use Rattle.std.proofs.Common.{◌≡◌, inl, inr, ℕ, suc, ◌≤◌, Bool, true, false, Option, Some, None, List, [], ◌∷◌, ◌++◌, take, drop, length, refl, ap, ap₂, sym, ◌∙◌, subst, append_assoc, append-nil, arith, length-append}
 use Rattle.std.proofs.lemmas.List.{append_cancel_right, take-append-drop, take-append-le}
 use Rattle.exchange_model.specs.Exchange.{Exchange, IsLawful, after, given, plain}
 use Rattle.exchange_model.specs.Prefix.{IsPrefixOf}
@@ -9,7 +9,7 @@ use Rattle.exchange_model.proofs.Lists.{append_cancel, filter-append, prefix_nil
 use Rattle.exchange_model.proofs.Nows.{heard_begins}
 use Rattle.exchange_model.proofs.Settles.{heard_all-append, settled_front, settled_heard}
 use Rattle.exchange_model.proofs.Words.{after-append}
-use Rattle.life_model.proofs.Eras.{frames_length, frames_push, of_one, session_of}
+use Rattle.life_model.proofs.Eras.{frames_push, of_one, session_of}
 use Rattle.life_model.specs.Eras.{EraIs, OpenEra, era_frames, planned}
 use Rattle.life_model.specs.Lives.{Spot, Era}
 use Rattle.life_model.specs.Own.{own_frame}

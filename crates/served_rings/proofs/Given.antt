@@ -6,14 +6,13 @@ use Rattle.exchange_model.specs.Rows.{Row}
 use Rattle.exchange_model.proofs.Lists.{append_none}
 use Rattle.life_model.specs.Lives.{Era, Life, Stand}
 use Rattle.link_mails.specs.Body.{Body}
-use Rattle.mailbox_mail.specs.declared.mail.Mail.{Mail}
 use Rattle.master_duty.specs.Reply.{Reply}
 use Rattle.master_hand.specs.Spoken.{Asked, drive, file, is_passed, net, passed, sdo}
 use Rattle.segment_model.specs.Ends.{Passing}
 use Rattle.segment_model.specs.Seats.{newest, rows_of}
-use Rattle.served_places.specs.Rows.{era_passings, eras_passings, eras_rows, is_passed_row, life_rows, now_passing, passed_rows, passings}
+use Rattle.served_places.specs.Rows.{era_passings, eras_passings, eras_rows, is_passed_row, now_passing, passed_rows, passings}
 use Rattle.served_rings.specs.Given.{AllGiven, Given, IsGiven, given, given_eras, given_in, given_newest, given_one}
-use Rattle.served_rings.specs.Served.{AllHeard, AreServedEras, IsHeardOf, IsHeardOne, IsHeardSo, IsServedEra, IsServedLife, IsServedNewest, NothingCame, WasServed, passing_before}
+use Rattle.served_rings.specs.Served.{AllHeard, AreServedEras, IsHeardOne, IsServedEra, IsServedLife, IsServedNewest, NothingCame, passing_before}
 use Rattle.served_rings.specs.Speakers.{spoken, table_of}
 use Rattle.slave_model.specs.Profile.{Profile}
 use Rattle.slave_parts.specs.Parts.{Server}

@@ -1,5 +1,5 @@
 -- A SLAVE AND ITS MASTER, of which it is seen what is meant by its mails, where any mail is passed on that is one; and their names for what came into hand.
-use Rattle.std.proofs.Common.{◌≡◌, ℕ, zero, suc, Bool, true, false, List, [], ◌∷◌, ◌++◌, map, take, refl, ap, ap₂, sym, ◌∙◌, Ok, Err}
+use Rattle.std.proofs.Common.{◌≡◌, ℕ, zero, suc, Bool, true, false, List, [], ◌∷◌, ◌++◌, map, take, refl, ap, sym, ◌∙◌, Ok, Err}
 use Rattle.few_replies.specs.Calm.{calm_tagged}
 use Rattle.life_counts.specs.Seen.{service_seen}
 use Rattle.link_mails.specs.Body.{Body}

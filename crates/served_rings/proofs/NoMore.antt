@@ -1,6 +1,6 @@
 -- BY A FRAME of a serving no reply more comes of a mail that was passed on and is over.
 use Rattle.std.proofs.Common.{◌≡◌, ℕ, suc, Bool, true, List, [], ◌∷◌, ◌++◌, length, map, refl, ap, sym, ◌∙◌, subst, arith}
-use Rattle.std.specs.Prelude.{Option, None, Some, All}
+use Rattle.std.specs.Prelude.{None, Some, All}
 use Rattle.std.proofs.lemmas.List.{length-map}
 use Rattle.std.proofs.lemmas.List.Elements.{All-cons, All-head, All-nil, All-tail}
 use Rattle.datagrams.specs.Datagram as Raw
@@ -11,9 +11,9 @@ use Rattle.frame_view.specs.Seen.{seen}
 use Rattle.frame_view.specs.View.{Lens}
 use Rattle.life_counts.specs.Epochs.{IsSpeaker}
 use Rattle.life_model.specs.Eras.{Clearing}
-use Rattle.life_model.specs.Lives.{Spot, Era, Life, Opening, Stand, era_next, life_next}
+use Rattle.life_model.specs.Lives.{Spot, Era, Life, Stand, era_next, life_next}
 use Rattle.life_model.specs.Own.{own}
-use Rattle.life_runs.specs.First.{lens_of, spot_of}
+use Rattle.life_runs.specs.First.{lens_of}
 use Rattle.life_runs.specs.Led.{Exchanged}
 use Rattle.link_mails.specs.Body.{Body}
 use Rattle.link_model.specs.Frames.{all_accepted}
@@ -46,7 +46,7 @@ use Rattle.served_rings.specs.Rings.{AllServedAt, AreServedLived, IsServedAt, Se
 use Rattle.served_rings.specs.Speakers.{speaker}
 use Rattle.served_runs.specs.Served.{AllServedTurn, IsServedFrame, IsServedTurn, Serves, ServedTurn, accepted_by}
 use Rattle.slave_lives.proofs.AllSeats.{all_meet_first}
-use Rattle.slave_lives.specs.Lived.{Behind, RingFrame, frame_of, node_behind, node_seen}
+use Rattle.slave_lives.specs.Lived.{Behind, RingFrame, frame_of, node_seen}
 use Rattle.slave_lives.specs.Opening.{Plan}
 use Rattle.slave_lives.specs.Rings.{fate_seen}
 use Rattle.slave_lives.specs.Seats.{AllMeet}
@@ -57,12 +57,11 @@ use Rattle.slave_steps.specs.Node.{Node}
 use Rattle.task_model.specs.Accounts.{Pick}
 use Rattle.whole_ring.proofs.Keeps.{Keeps}
 use Rattle.whole_ring.proofs.Members as Members
-use Rattle.whole_ring.proofs.Members.{all_come, fate_in, joined, many, one_more, seat_of, seats_distinct, seats_known}
+use Rattle.whole_ring.proofs.Members.{all_come, joined, many, one_more, seat_of, seats_distinct, seats_known}
 use Rattle.whole_ring.proofs.Open.{open_on}
 use Rattle.whole_ring.proofs.Turning as Turning
 use Rattle.whole_ring.specs.Members.{AllLived, IsRing, Member, MemberIs}
 use Rattle.whole_ring.specs.Turning.{AllTurn, Turn, TurnsFor, frame_at, next_life}
-use Rattle.whole_ring.specs.Turns as Whole
 use Rattle.whole_ring.specs.Turns.{AsksFor, FrameComes, TurnsAs}
 use Rattle.whole_ring.specs.Whole.{IsWhole, Leaving, Living, Passing, LivesOpenBy, StandsBy}
 

@@ -13,7 +13,7 @@ use Rattle.segment_model.specs.Record.{News}
 use Rattle.segment_model.specs.Seats.{Side, is_over, newest, next_mail, rows_of, side_back, side_begins, side_holds, side_lost, side_next}
 use Rattle.segment_model.specs.Slaves.{Datagram, grams}
 use Rattle.state_exchange.specs.Stated.{Service}
-use Rattle.task_model.specs.Accounts.{Account, Duty, Pick, Started, account_back, account_begins, account_next, is_acknowledged, is_free, mails_begin, mails_choice, starts, state_begins}
+use Rattle.task_model.specs.Accounts.{Account, Duty, Pick, Started, account_begins, account_next, is_acknowledged, is_free, mails_begin, mails_choice, starts, state_begins}
 use Rattle.task_model.specs.Promise.{mails_in, services_in}
 use Rattle.task_model.proofs.Completed.{started_back}
 

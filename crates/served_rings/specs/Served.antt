@@ -1,5 +1,5 @@
 -- WHAT THE SLAVES OF A SERVING DID, epoch by epoch, of the rows that came into hand of them: services of the script, packets, and mails that were passed on.
-use Rattle.std.specs.Prelude.{◌≡◌, ℕ, ◌+◌, ◌≤◌, Bool, Option, None, Some, Ok, List, [], ◌∷◌, ◌++◌, length, take, ⊤}
+use Rattle.std.specs.Prelude.{◌≡◌, ℕ, ◌+◌, ◌≤◌, Bool, Option, None, Ok, List, [], ◌∷◌, ◌++◌, length, take, ⊤}
 use Rattle.exchange_model.specs.Exchange.{plain}
 use Rattle.exchange_model.specs.Prefix.{IsPrefixOf}
 use Rattle.exchange_model.specs.Rows.{Row}
