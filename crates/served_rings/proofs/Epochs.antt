@@ -22,7 +22,7 @@ use Rattle.segment_model.specs.Slaves.{Slave}
 use Rattle.served_rings.specs.Serves.{serves}
 use Rattle.serving_model.specs.Tagged as Tagged
 use Rattle.serving_model.specs.Tagged.{Tagged, ideal, real, untag}
-use Rattle.slave_lives.specs.Lived.{node_seen}
+use Rattle.slave_lives.specs.Lived.{IsBehind, node_seen}
 use Rattle.slave_model.specs.Profile.{Profile}
 use Rattle.slave_model.specs.Server as SlaveReply
 use Rattle.slave_parts.specs.Parts.{Server, parts}
@@ -36,10 +36,12 @@ use Rattle.life_counts.specs.Foreseen as Foreseen
 use Rattle.life_counts.proofs.TaggedWhole.{epoch_seen}
 use Rattle.task_model.specs.Accounts.{Started}
 use Rattle.task_model.specs.Promise.{services_in}
-use Rattle.served_rings.specs.Served.{IsHeardOf, IsServedEra, WasServed, replies_to, server_behind}
+use Rattle.served_rings.specs.Served.{IsHeardOf, IsServedEra, NothingLeft, RestsIf, WasServed, replies_to, server_behind}
 use Rattle.served_rings.proofs.Mails.{AllNamed, IsNamedMail, Snoc, all_mails, behind_named, is_mail, mailer, mailer_runs, mailer_speaks, map_snoc, named_front, named_mail, named_mails, named_take, services_named, start_named}
+use Rattle.plan_ring.proofs.Settled.{settled_seen}
 use Rattle.served_rings.proofs.Newest as Newest
 use Rattle.served_rings.proofs.Newest.{exec_is}
+use Rattle.served_rings.proofs.Rested.{left_so}
 use Rattle.served_rings.proofs.Seen.{clears_so, heard, promised, valid}
 use Rattle.served_rings.proofs.Told.{row_whole}
 
@@ -161,9 +163,10 @@ module _ (p : Profile) (k : IsSpeaker (speaker p)) (forgets : Forgets (speaker p
     pub done : InState Server
     pub was : WasServed p boot spot.station spot.start at e seen_node.node.server.server done
     pub cleared : cleared_whole seen_node.node.server.server ≡ cleared_whole done
+    pub rests : RestsIf p boot spot.station (record at { state = was.state }) e done n
 
-  pub era_served : (at : InState Server) → from.inner ≡ at.inner → EraServed at
-  era_served at same =
+  pub era_served : IsBehind (serves p boot lens) → (at : InState Server) → from.inner ≡ at.inner → EraServed at
+  era_served behind at same =
       let i = seen in
       let begins : l.server ≡ record at { state = l.registers.state } = l.begins ∙ (λ j. record { inner = same j; state = l.registers.state }) in
       record {
@@ -174,4 +177,6 @@ module _ (p : Profile) (k : IsSpeaker (speaker p)) (forgets : Forgets (speaker p
           era = subst (λ z. IsServedEra p boot spot.station z e seen_node.node.server.server (ideal (product_whole parts p) i.slave.node.server.server)) begins (served_era i);
         };
         cleared = cleared_so i;
+        rests = λ settled wants hand over. subst (λ z. NothingLeft p boot spot.station z e (ideal (product_whole parts p) i.slave.node.server.server)) begins
+            (left_so p speaks boot spot l.opened l.server l.registers fs counts e seen_node i (settled_seen (serves p boot lens) behind n l.stands settled) wants hand over);
       }

@@ -1,3 +1,4 @@
+mod AccountsSeen
 pub mod All
 pub mod Any
 pub mod Begins
@@ -5,6 +6,7 @@ mod Calms
 mod Carried
 pub mod Chains
 pub mod Counted
+mod Ended
 pub mod Ends
 pub mod Epochs
 pub mod Fair
@@ -23,10 +25,14 @@ pub mod OfCoe
 pub mod One
 pub mod Others
 pub mod Passed
+mod RestAll
+mod Rested
 pub mod Rings
 pub mod Rows
 pub mod Seen
+mod SeenRests
 pub mod SeenRows
+pub mod SeenSettled
 pub mod SeenWhole
 pub mod ServedAll
 pub mod ServedLives

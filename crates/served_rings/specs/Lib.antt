@@ -3,6 +3,7 @@ pub mod Counters
 pub mod Led
 pub mod LedRings
 pub mod Lives
+pub mod Rests
 pub mod Rings
 pub mod SeenLed
 pub mod Served

@@ -1,5 +1,5 @@
 -- WHAT THE SLAVES OF A SERVING DID, epoch by epoch, of the rows that came into hand of them: services of the script, packets, and mails that were passed on.
-use Rattle.std.specs.Prelude.{◌≡◌, ℕ, ◌+◌, ◌≤◌, Bool, Option, None, Some, Ok, List, [], ◌∷◌, ◌++◌, length, take, ⊤}
+use Rattle.std.specs.Prelude.{◌≡◌, ◌≢◌, ℕ, ◌+◌, ◌≤◌, Bool, true, false, is_some, Option, None, Some, Ok, List, [], ◌∷◌, ◌++◌, length, take, ⊤}
 use Rattle.exchange_model.specs.Exchange.{plain}
 use Rattle.exchange_model.specs.Prefix.{IsPrefixOf}
 use Rattle.exchange_model.specs.Rows.{Row}
@@ -14,19 +14,21 @@ use Rattle.plan_ring.specs.Round.{ring_after, ring_of}
 use Rattle.served_rings.specs.Speakers.{cleared_whole, spoken, table_of}
 use Rattle.run_work.specs.Lives.{first_server}
 use Rattle.segment_model.specs.Ends.{Passing}
+use Rattle.segment_model.specs.Laws.{WantsNothing}
+use Rattle.segment_model.specs.Seats.{rows_of}
 use Rattle.segment_plan.specs.declared.plan.Scenario.{Scenario}
 use Rattle.segment_plan.specs.declared.slave.SlaveSpec.{SlaveSpec}
 use Rattle.served_runs.specs.Served.{Serves}
 use Rattle.slave_model.specs.Profile.{Profile}
 use Rattle.slave_parts.specs.Parts.{Server}
-use Rattle.slave_server.specs.Serving.{Serving}
+use Rattle.slave_server.specs.Serving.{Serving, next_mail}
 use Rattle.slave_server.specs.Spec.{profile_of}
-use Rattle.slave_steps.specs.Node.{Node}
+use Rattle.slave_steps.specs.Node.{Node, is_settled}
 use Rattle.state_exchange.specs.Families.{InState}
 use Rattle.state_exchange.specs.Stated.{Service}
 use Rattle.state_model.specs.Promises.{state_behind}
 use Rattle.task_model.specs.Accounts.{Started}
-use Rattle.task_model.specs.Promise.{services_in}
+use Rattle.task_model.specs.Promise.{services_in, mails_started, rows_started, states_started, changes_in}
 
 module _ (p : Profile) (boot : Bool) (station : ℕ) where
   -- THE SERVER BEHIND ROWS, one after the other: a service acts by its meaning and ends the unfinished transfer of its protocol, a mail that was passed on acts by
@@ -75,11 +77,29 @@ module _ (p : Profile) (boot : Bool) (station : ℕ) where
     unopened : (es : List (Era Body Asked Reply)) (b : InState Server) (e : Era Body Asked Reply) → AreServedEras start first es b → e.account.started ≡ [] → AreServedEras start first (es ++ e ∷ []) (cleared_whole b)
     opened : (es : List (Era Body Asked Reply)) (b : InState Server) (e : Era Body Asked Reply) (left done : InState Server) → AreServedEras start first es b → WasServed start b e left done → AreServedEras start first (es ++ e ∷ []) (cleared_whole done)
 
+  -- each of these rows whose service has a reply has it
+  abbrev pub AreReplied : List (Row Body Asked Reply) → Type 0
+  AreReplied [] = ⊤
+  AreReplied (r ∷ rs) = ((spoken p).speech.handed r.service ≡ false → is_some r.answer ≡ true) × AreReplied rs
+
+  -- NOTHING IS LEFT of an epoch that began with this server: all its rows are carried out, each once and in order; the master has the reply of each service by
+  -- mails that has one, and each change of the AL state is over
+  pub record NothingLeft (from : InState Server) (e : Era Body Asked Reply) (done : InState Server) : Type 0 where
+    pub all : done ≡ server_behind from (services_in e.account.started)
+    pub mails : mails_started e.account.started ≡ rows_started (rows_of e.side)
+    pub replied : AreReplied (rows_of e.side)
+    pub states : states_started e.account.started ≡ changes_in e.account.over
+
+  -- so it is where the slave is settled, and the master wants nothing of it and passes no mail on to it
+  abbrev pub RestsIf : InState Server → Era Body Asked Reply → InState Server → Node Serving → Type 0
+  RestsIf from e done n = is_settled next_mail n ≡ true → WantsNothing (spoken p).speech e.side → e.account.hand ≡ None → e.passing ≡ None → NothingLeft from e done
+
   -- THE NEWEST: it is open, and what its slave left is what the node has, its AL state among it; or nothing began in it; or it is over
   pub data IsServedNewest (start : ℕ) (from : InState Server) (e : Era Body Asked Reply) (n : Node Serving) : Stand → Type 0 where
-    lives : (left done : InState Server) → left.inner ≡ n.server.server → left.state ≡ (registers_seen n.registers).state → WasServed start from e left done → IsServedNewest start from e n Stand.Open
-    unopened : (stand : Stand) → e.account.started ≡ [] → IsServedNewest start from e n stand
-    over : (stand : Stand) (left done : InState Server) → WasServed start from e left done → IsServedNewest start from e n stand
+    lives : (left done : InState Server) → left.inner ≡ n.server.server → left.state ≡ (registers_seen n.registers).state →
+        (was : WasServed start from e left done) → RestsIf (record from { state = was.state }) e done n → IsServedNewest start from e n Stand.Open
+    unopened : (stand : Stand) → stand ≢ Stand.Open → e.account.started ≡ [] → IsServedNewest start from e n stand
+    over : (stand : Stand) → stand ≢ Stand.Open → (left done : InState Server) → WasServed start from e left done → IsServedNewest start from e n stand
 
   -- THE WHOLE LIFE of a slave with this node, from the server with which it was switched on
   pub record IsServedLife (start : ℕ) (first : InState Server) (l : Life Body Asked Reply) (n : Node Serving) : Type 0 where
