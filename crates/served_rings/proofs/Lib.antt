@@ -1,4 +1,3 @@
-mod AccountsSeen
 pub mod All
 pub mod Any
 pub mod Begins
@@ -29,6 +28,7 @@ mod RestAll
 mod Rested
 pub mod Rings
 pub mod Rows
+mod RowsSeen
 pub mod Seen
 mod SeenRests
 pub mod SeenRows

@@ -1,9 +1,10 @@
 -- WHERE A SLAVE OF A SERVING RESTS nothing is left of its epoch: all its rows are carried out, and each has its reply.
-use Rattle.std.proofs.Common.{◌≡◌, ◌&&◌, ℕ, Bool, true, false, not, is_none, is_some, Option, None, Some, option_map, inl, inr, List, [], ◌∷◌, ◌++◌, map, length, refl, ap, ap₂, sym, ◌∙◌, subst, append-nil, Ok, Err, if◌then◌else◌}
+use Rattle.std.proofs.Common.{◌≡◌, ◌&&◌, ℕ, suc, Bool, true, false, not, is_none, is_some, Option, None, Some, option_map, inl, inr, List, [], ◌∷◌, ◌++◌, map, length, refl, ap, ap₂, sym, ◌∙◌, subst, append-nil, Ok, Err, if◌then◌else◌}
 use Rattle.exchange_model.specs.Rows.{Row}
 use Rattle.life_counts.proofs.Eras.{era_knows}
 use Rattle.life_counts.proofs.TaggedWhole.{seeing_lawful, seeing_stated}
-use Rattle.life_counts.specs.Epochs.{IsSpeaker, IsSeen, between, era_named, seeing}
+use Rattle.life_counts.specs.Epochs.{IsSpeaker, IsSeen, between, era_named, seeing, seeing_states}
+use Rattle.life_counts.specs.Seen.{change_seen, outcome_seen, service_seen}
 use Rattle.life_model.specs.Lives.{Spot, Era}
 use Rattle.link_mails.specs.Body.{Body}
 use Rattle.link_model.specs.Mails.{LinkMail}
@@ -13,28 +14,33 @@ use Rattle.passed_whole.proofs.Naturals.{none_of}
 use Rattle.passed_whole.specs.Erased.{OfRow, PlanOne, row_seen, side_seen}
 use Rattle.run_work.specs.Sessions.{Meant, OwnService, Wanted, named_wanted}
 use Rattle.segment_model.proofs.Overs.{over_parts}
+use Rattle.segment_model.specs.Ends.{Outcome}
 use Rattle.segment_model.specs.Laws.{IsSettled, NothingInHand, WantsNothing}
 use Rattle.segment_model.specs.Record.{Frame}
 use Rattle.segment_model.specs.Seats.{Side, is_none_left, is_over, rows_of}
 use Rattle.segment_model.specs.Slaves.{Registers, Slave}
-use Rattle.served_rings.proofs.AccountsSeen.{changes_seen, mails_are, rows_seen, states_seen}
-use Rattle.served_rings.proofs.Ended.{HaveReplies, replied}
-use Rattle.served_rings.proofs.Mails.{AllNamed, behind_named, is_mail, mailer, services_named}
+use Rattle.served_rings.proofs.Ended as Ended
+use Rattle.served_rings.proofs.Ended.{all_answered}
+use Rattle.served_rings.proofs.Mails.{AllNamed, acts_named, behind_named, is_mail, mailer, services_named}
 use Rattle.served_rings.proofs.Newest.{exec_is}
-use Rattle.served_rings.proofs.Seen.{valid}
+use Rattle.served_rings.proofs.RowsSeen.{rows_seen}
+use Rattle.served_rings.proofs.Seen.{promised, valid}
 use Rattle.served_rings.proofs.SeenRests.{answered, frames, rested}
 use Rattle.served_rings.proofs.SeenSettled.{none_box, settled_back}
 use Rattle.served_rings.proofs.Speakers.{script}
-use Rattle.served_rings.specs.Served.{AreReplied, NothingLeft, server_behind}
+use Rattle.served_rings.specs.Served.{AreAnswered, IsReplied, NothingLeft, server_behind}
 use Rattle.served_rings.specs.Speakers.{naming_of, seer_of, spoken, table_of, whole_states}
 use Rattle.serving_model.specs.Erasing.{box_as}
 use Rattle.serving_model.specs.Tagged as Tagged
-use Rattle.serving_model.specs.Tagged.{ideal, real}
-use Rattle.slave_model.specs.Profile.{Profile}
+use Rattle.serving_model.specs.Tagged.{asked_exec, asked_reply, ideal, real}
+use Rattle.slave_model.specs.Profile.{Profile, Protocol}
 use Rattle.slave_model.specs.Server as SlaveReply
 use Rattle.slave_parts.specs.Parts.{Server, parts}
 use Rattle.slave_served.specs.Served.{product_whole}
 use Rattle.state_exchange.specs.Families.{InState}
+use Rattle.state_exchange.specs.Stated.{Service, service_valid}
+use Rattle.state_model.specs.Promises.{state_behind}
+use Rattle.task_model.specs.Accounts.{Change}
 use Rattle.task_model.specs.Promise.{changes_in, duty_in, services_in}
 
 module _ (p : Profile) where
@@ -63,9 +69,51 @@ module _ (p : Profile) where
   some_same None = refl
   some_same (Some a) = refl
 
-  rows_replied : (boot : Bool) (station : ℕ) (rs : List RowHere) → HaveReplies (seeing (mailer p)).speech rs → AreReplied p boot station (map (λ r. seen_row r) rs)
-  rows_replied boot station [] have = tt
-  rows_replied boot station (r ∷ rs) have = ((λ replies. some_same r.answer ∙ have.0 (unhanded r.service replies)), rows_replied boot station rs have.1)
+  -- it replies by its name
+  replies_named : (v : InState Server) (q : Wanted) → service_valid (seeing (mailer p)).speech (Service.Mails q) ≡ true → asked_reply (product_whole parts p) v q ≡ (spoken p).reply v (named_wanted q)
+  replies_named v (Tagged.Asked.Script (Protocol.CoE, q)) valid = refl
+  replies_named v (Tagged.Asked.Script (Protocol.FoE, q)) valid = refl
+  replies_named v (Tagged.Asked.Script (Protocol.SoE, q)) valid = refl
+  replies_named v (Tagged.Asked.Script (Protocol.EoE, q)) valid = refl
+  replies_named v (Tagged.Asked.Passed (Ok m) answers) valid = refl
+  replies_named v (Tagged.Asked.Passed (Err fault) answers) valid = absurd (let no : false ≡ true = valid in cc)
+
+  outcome_same : (o : Outcome (Option SlaveReply.Reply)) → outcome_seen same o ≡ o
+  outcome_same (Outcome.Replied r) = refl
+  outcome_same Outcome.Handed = refl
+  outcome_same Outcome.Reached = refl
+  outcome_same (Outcome.Refused code) = refl
+
+  module _ (boot : Bool) (station : ℕ) where
+    abbrev answered_there : InState Server × ℕ → List (Service Wanted) → List RowHere → List (Change (Option SlaveReply.Reply)) → Type 0
+    answered_there a qs rs cs = Ended.AreAnswered (seeing (mailer p)) (seeing_states (mailer p)) (table_of boot station) a qs rs cs
+
+    replied_named : (v : InState Server) (q : Wanted) (r : RowHere) → service_valid (seeing (mailer p)).speech (Service.Mails q) ≡ true → Ended.IsReplied (seeing (mailer p)) (seeing_states (mailer p)) (table_of boot station) v q r → IsReplied p boot station v (named_wanted q) (seen_row r)
+    replied_named v q r valid is = (
+      ap named_wanted is.0,
+      λ replies.
+      let one = is.1 (unhanded q replies) in
+      (one.0, ap (λ (a : Option (Option SlaveReply.Reply × ℕ)). option_map (λ k. (same k.0, k.1)) a) one.1 ∙ ap (λ (a : Option SlaveReply.Reply). Some (a, one.0)) (replies_named v q valid)),
+    )
+
+    -- SO EACH SERVICE HAS ITS ANSWER by its name
+    answered_named : (v : InState Server) (k : ℕ) (qs : List (Service Wanted)) (rs : List RowHere) (cs : List (Change (Option SlaveReply.Reply))) → AllNamed p qs → answered_there (v, k) qs rs cs →
+        AreAnswered p boot station v (map (λ q. service_seen named_wanted q) qs) (map (λ r. seen_row r) rs) (map (λ c. change_seen mail named_wanted same c) cs)
+    answered_named v k [] [] [] valid all = tt
+    answered_named v k [] [] (c ∷ cs) valid all = absurd all
+    answered_named v k [] (r ∷ rs) cs valid all = absurd all
+    answered_named v k (Service.Mails q ∷ qs) [] cs valid all = absurd all
+    answered_named v k (Service.Mails q ∷ qs) (r ∷ rs) cs valid all = (
+      replied_named v q r valid.0 all.0,
+      subst (λ u. AreAnswered p boot station u (map (λ q. service_seen named_wanted q) qs) (map (λ r. seen_row r) rs) (map (λ c. change_seen mail named_wanted same c) cs)) (acts_named p v q valid.0)
+          (answered_named (asked_exec (product_whole parts p) v q) k qs rs cs valid.1 all.1),
+    )
+    answered_named v k (Service.State target ∷ qs) rs [] valid all = absurd all
+    answered_named v k (Service.State target ∷ qs) rs (c ∷ cs) valid all = (
+      all.0,
+      outcome_same c.answer ∙ ap (λ (o : Outcome (Option SlaveReply.Reply)). o) all.1,
+      answered_named (record v { state = state_behind (table_of boot station) v.state target }) (suc k) qs rs cs valid.1 all.2,
+    )
 
   -- A ROW IS OVER where it is over by its name: no mail is held, and a mail that is passed on has its answer where it was foreseen to have one
   module _ (r : RowHere) (fresh : Bool) (new : fresh ≡ false) (plans : PlanOne mail named_wanted same (seeing (mailer p)).speech (spoken p).speech r.service r.heard)
@@ -139,12 +187,13 @@ module _ (p : Profile) (k : IsSpeaker (mailer p)) (boot : Bool) (spot : Spot) (o
         record {
           all = rest.app ∙ exec_is (product_whole parts p) (λ a. true) is_mail whole_states (table_of boot spot.station) v 0 (services_in started)
               ∙ behind_named p boot spot.station v (services_in started) all_valid ∙ ap (server_behind p boot spot.station v) (sym (services_named p started));
-          mails = mails_are (mail p) named_wanted (same p) started i.era.side has.mails;
-          replied = subst (AreReplied p boot spot.station) (sym (rows_seen (mail p) named_wanted (same p) i.era.side))
-              (rows_replied p boot spot.station (rows_of i.era.side)
-              (replied (seeing (mailer p)).speech (λ m. false) spot.station (frames (mailer p) k (seer_of p boot) (table_of boot) spot opened v r fs counts e n i) started (rows_of i.era.side) has.mails has.answers rest.ended));
-          states = states_seen (mail p) named_wanted (same p) started ∙ has.states ∙ ap (λ l. changes_in i.era.account.over ++ l) (ap duty_in hand_there) ∙ append-nil (changes_in i.era.account.over)
-              ∙ sym (changes_seen (mail p) named_wanted (same p) i.era.account.over);
+          answered = subst (λ l. AreAnswered p boot spot.station v (services_in named.account.started) l named.account.over) (sym (rows_seen (mail p) named_wanted (same p) i.era.side))
+              (subst (λ qs. AreAnswered p boot spot.station v qs (map (λ h. seen_row p h) (rows_of i.era.side)) named.account.over) (sym (services_named p started))
+              (answered_named p boot spot.station v 0 (services_in started) (rows_of i.era.side) i.era.account.over all_valid
+              (all_answered (seeing (mailer p)) (seeing_states (mailer p)) (table_of boot spot.station) (λ m. false) spot.station (frames (mailer p) k (seer_of p boot) (table_of boot) spot opened v r fs counts e n i) (v, 0) started (rows_of i.era.side) i.era.account.over
+              has.mails (has.states ∙ ap (λ l. changes_in i.era.account.over ++ l) (ap duty_in hand_there) ∙ append-nil (changes_in i.era.account.over)) has.answers has.over rest.ended
+              (promised (mailer p) k (seer_of p boot) (table_of boot) spot opened v r fs counts e n i).replied)));
+          emissions = ?;
         }
 
     -- NOTHING IS LEFT of it

@@ -1,8 +1,8 @@
 -- WHAT THE SLAVES OF A SERVING DID, epoch by epoch, of the rows that came into hand of them: services of the script, packets, and mails that were passed on.
-use Rattle.std.specs.Prelude.{◌≡◌, ◌≢◌, ℕ, ◌+◌, ◌≤◌, Bool, true, false, is_some, Option, None, Some, Ok, List, [], ◌∷◌, ◌++◌, length, take, ⊤}
-use Rattle.exchange_model.specs.Exchange.{plain}
+use Rattle.std.specs.Prelude.{◌≡◌, ◌≢◌, ℕ, ◌+◌, ◌≤◌, Bool, true, false, Option, None, Some, Ok, List, [], ◌∷◌, ◌++◌, length, take, ⊤}
+use Rattle.exchange_model.specs.Exchange.{emitted, plain}
 use Rattle.exchange_model.specs.Prefix.{IsPrefixOf}
-use Rattle.exchange_model.specs.Rows.{Row}
+use Rattle.exchange_model.specs.Rows.{Row, heard_all}
 use Rattle.frames_seen.specs.Slaves.{registers_seen}
 use Rattle.life_model.specs.Lives.{Era, Life, Stand}
 use Rattle.life_runs.specs.Led.{Exchanged}
@@ -26,9 +26,9 @@ use Rattle.slave_server.specs.Spec.{profile_of}
 use Rattle.slave_steps.specs.Node.{Node, is_settled}
 use Rattle.state_exchange.specs.Families.{InState}
 use Rattle.state_exchange.specs.Stated.{Service}
-use Rattle.state_model.specs.Promises.{state_behind}
-use Rattle.task_model.specs.Accounts.{Started}
-use Rattle.task_model.specs.Promise.{services_in, mails_started, rows_started, states_started, changes_in}
+use Rattle.state_model.specs.Promises.{answer_of, state_behind}
+use Rattle.task_model.specs.Accounts.{Change, Started}
+use Rattle.task_model.specs.Promise.{services_in}
 
 module _ (p : Profile) (boot : Bool) (station : ℕ) where
   -- THE SERVER BEHIND ROWS, one after the other: a service acts by its meaning and ends the unfinished transfer of its protocol, a mail that was passed on acts by
@@ -77,18 +77,29 @@ module _ (p : Profile) (boot : Bool) (station : ℕ) where
     unopened : (es : List (Era Body Asked Reply)) (b : InState Server) (e : Era Body Asked Reply) → AreServedEras start first es b → e.account.started ≡ [] → AreServedEras start first (es ++ e ∷ []) (cleared_whole b)
     opened : (es : List (Era Body Asked Reply)) (b : InState Server) (e : Era Body Asked Reply) (left done : InState Server) → AreServedEras start first es b → WasServed start b e left done → AreServedEras start first (es ++ e ∷ []) (cleared_whole done)
 
-  -- each of these rows whose service has a reply has it
-  abbrev pub AreReplied : List (Row Body Asked Reply) → Type 0
-  AreReplied [] = ⊤
-  AreReplied (r ∷ rs) = ((spoken p).speech.handed r.service ≡ false → is_some r.answer ≡ true) × AreReplied rs
+  -- a service by mails that has a reply has the one of this server
+  abbrev pub IsReplied : InState Server → Asked → Row Body Asked Reply → Type 0
+  IsReplied v q r = (r.service ≡ q) × ((spoken p).speech.handed q ≡ false → (frame : ℕ) × (r.answer ≡ Some ((spoken p).reply v q, frame)))
 
-  -- NOTHING IS LEFT of an epoch that began with this server: all its rows are carried out, each once and in order; the master has the reply of each service by
-  -- mails that has one, and each change of the AL state is over
+  -- EACH SERVICE HAS ITS ANSWER, from a server on: one by mails the reply of the server behind those before it, and a change of the AL state that of its table
+  abbrev pub AreAnswered : InState Server → List (Service Asked) → List (Row Body Asked Reply) → List (Change Reply) → Type 0
+  AreAnswered v [] [] [] = ⊤
+  AreAnswered v (Service.Mails q ∷ qs) (r ∷ rs) cs = IsReplied v q r × AreAnswered ((spoken p).exec v q) qs rs cs
+  AreAnswered v (Service.State target ∷ qs) rs (c ∷ cs) =
+      (c.target ≡ target) × (c.answer ≡ answer_of (table_of boot station v.state target)) × AreAnswered (record v { state = state_behind (table_of boot station) v.state target }) qs rs cs
+  AreAnswered v _ _ _ = ⊥
+
+  -- what rows emit, one after the other: of a mail that was passed on what the server sends of itself in its one step
+  abbrev pub emitted_behind : InState Server → List (Service Asked) → List Body
+  emitted_behind v [] = []
+  emitted_behind v (Service.Mails q ∷ qs) = (spoken p).emits v q ++ emitted_behind ((spoken p).exec v q) qs
+  emitted_behind v (Service.State target ∷ qs) = emitted_behind (record v { state = state_behind (table_of boot station) v.state target }) qs
+
+  -- NOTHING IS LEFT of an epoch that began with this server: all its rows are carried out, each once and in order, and answered; and all that they emit was heard
   pub record NothingLeft (from : InState Server) (e : Era Body Asked Reply) (done : InState Server) : Type 0 where
     pub all : done ≡ server_behind from (services_in e.account.started)
-    pub mails : mails_started e.account.started ≡ rows_started (rows_of e.side)
-    pub replied : AreReplied (rows_of e.side)
-    pub states : states_started e.account.started ≡ changes_in e.account.over
+    pub answered : AreAnswered from (services_in e.account.started) (rows_of e.side) e.account.over
+    pub emissions : emitted emission (heard_all (rows_of e.side)) ≡ emitted_behind from (services_in e.account.started)
 
   -- so it is where the slave is settled, and the master wants nothing of it and passes no mail on to it
   abbrev pub RestsIf : InState Server → Era Body Asked Reply → InState Server → Node Serving → Type 0
