@@ -10,9 +10,10 @@ use Rattle.life_model.specs.Lives.{Spot, Era}
 use Rattle.link_mails.specs.Body.{Body}
 use Rattle.mailbox_mail.specs.declared.mail.Mail.{Mail}
 use Rattle.master_duty.specs.Reply.{Reply}
-use Rattle.master_hand.specs.Spoken.{Asked, emission, is_followed, is_passed, passed}
+use Rattle.master_hand.specs.Spoken.{Asked, acknowledged, emission, is_followed, is_passed, passed}
 use Rattle.passed_whole.specs.Clearing.{Forgets}
 use Rattle.passed_whole.specs.Client.{ByContents}
+use Rattle.passed_whole.specs.Led.{IsLed}
 use Rattle.passed_whole.specs.Erased.{OfRow, PlanOne, row_seen}
 use Rattle.passed_whole.proofs.Clients.{plain_untag}
 use Rattle.served_rings.specs.Speakers.{cleared_whole, naming_of, processor_of, seer_of, speaker, spoken, table_of, whole_states}
@@ -68,9 +69,10 @@ module _ (p : Profile) (k : IsSpeaker (speaker p)) (forgets : Forgets (speaker p
   abbrev seen_node : Slave (InState Server) Body
   seen_node = node_seen (serves p boot lens) n
 
-  -- IT IS SEEN with what is meant by its mails
-  seen : IsSeen (mailer p) (seer_of p boot) (table_of boot) spot l.opened l.server l.registers fs counts e seen_node
-  seen =
+  -- IT IS SEEN with what is meant by its mails, at each moment
+  seen_at : (gs : List (Frame Body)) (counted : Bool) (d : Era Body Asked Reply) (m : Slave (InState Server) Body) → IsLed (spoken p) acknowledged (processor_of boot) is_followed is_passed spot l.opened l.server l.registers gs counted d m →
+      IsSeen (mailer p) (seer_of p boot) (table_of boot) spot l.opened l.server l.registers gs counted d m
+  seen_at gs counted d m led =
       let plan = l.plan in
       epoch_seen (mailer p) speaks (spoken p) (processor_of boot) (seer_of p boot) (table_of boot) spot (mailer_runs p boot spot.station) l.opened l.server l.registers
       (record {
@@ -78,7 +80,10 @@ module _ (p : Profile) (k : IsSpeaker (speaker p)) (forgets : Forgets (speaker p
         apart = plan.apart;
         tells = λ state v. refl;
         brought = ((plan.brought.0.0, λ answers. let b = plan.brought.0.1 answers in record { control = b.control; refused = b.refused; sits = b.sits; state = b.state }), tt);
-      }) l.answers fs counts e seen_node l.led (all_mails p e.account.started)
+      }) l.answers gs counted d m led (all_mails p d.account.started)
+
+  seen : IsSeen (mailer p) (seer_of p boot) (table_of boot) spot l.opened l.server l.registers fs counts e seen_node
+  seen = seen_at fs counts e seen_node l.led
 
   module _ (i : IsSeen (mailer p) (seer_of p boot) (table_of boot) spot l.opened l.server l.registers fs counts e seen_node) where
     abbrev left : InState Server
@@ -178,5 +183,6 @@ module _ (p : Profile) (k : IsSpeaker (speaker p)) (forgets : Forgets (speaker p
         };
         cleared = cleared_so i;
         rests = λ settled wants hand over. subst (λ z. NothingLeft p boot spot.station z e (ideal (product_whole parts p) i.slave.node.server.server)) begins
-            (left_so p speaks boot spot l.opened l.server l.registers fs counts e seen_node i (settled_seen (serves p boot lens) behind n l.stands settled) wants hand over);
+            (left_so p speaks boot spot l.opened l.server l.registers fs counts e seen_node i (settled_seen (serves p boot lens) behind n l.stands settled) wants hand over
+            (λ gs counted d m led. seen_at gs counted d m led) l.led);
       }

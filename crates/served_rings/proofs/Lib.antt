@@ -5,12 +5,14 @@ mod Calms
 mod Carried
 pub mod Chains
 pub mod Counted
+mod Emitted
 mod Ended
 pub mod Ends
 pub mod Epochs
 pub mod Fair
 pub mod Frames
 pub mod Gifts
+pub mod HeardSeen
 pub mod Kept
 pub mod Led
 pub mod LedLives
@@ -28,6 +30,7 @@ mod RestAll
 mod Rested
 pub mod Rings
 pub mod Rows
+mod RowsHeard
 mod RowsSeen
 pub mod Seen
 mod SeenRests

@@ -1,15 +1,14 @@
 -- WHERE A SLAVE OF A SERVING RESTS nothing is left of its epoch: all its rows are carried out, and each has its reply.
 use Rattle.std.proofs.Common.{◌≡◌, ◌&&◌, ℕ, suc, Bool, true, false, not, is_none, is_some, Option, None, Some, option_map, inl, inr, List, [], ◌∷◌, ◌++◌, map, length, refl, ap, ap₂, sym, ◌∙◌, subst, append-nil, Ok, Err, if◌then◌else◌}
-use Rattle.exchange_model.specs.Rows.{Row}
-use Rattle.life_counts.proofs.Eras.{era_knows}
-use Rattle.life_counts.proofs.TaggedWhole.{seeing_lawful, seeing_stated}
-use Rattle.life_counts.specs.Epochs.{IsSpeaker, IsSeen, between, era_named, seeing, seeing_states}
+use Rattle.exchange_model.specs.Exchange.{emitted}
+use Rattle.exchange_model.specs.Rows.{Row, heard_all}
+use Rattle.life_counts.specs.Epochs.{IsSpeaker, IsSeen, era_named, seeing, seeing_states}
 use Rattle.life_counts.specs.Seen.{change_seen, outcome_seen, service_seen}
 use Rattle.life_model.specs.Lives.{Spot, Era}
 use Rattle.link_mails.specs.Body.{Body}
 use Rattle.link_model.specs.Mails.{LinkMail}
 use Rattle.master_duty.specs.Reply.{Reply}
-use Rattle.master_hand.specs.Spoken.{Asked}
+use Rattle.master_hand.specs.Spoken.{Asked, emission}
 use Rattle.passed_whole.proofs.Naturals.{none_of}
 use Rattle.passed_whole.specs.Erased.{OfRow, PlanOne, row_seen, side_seen}
 use Rattle.run_work.specs.Sessions.{Meant, OwnService, Wanted, named_wanted}
@@ -19,6 +18,7 @@ use Rattle.segment_model.specs.Laws.{IsSettled, NothingInHand, WantsNothing}
 use Rattle.segment_model.specs.Record.{Frame}
 use Rattle.segment_model.specs.Seats.{Side, is_none_left, is_over, rows_of}
 use Rattle.segment_model.specs.Slaves.{Registers, Slave}
+use Rattle.served_rings.proofs.Emitted.{LedHere, SeenHere, emits_named, knows, sent_in_rows, sent_is}
 use Rattle.served_rings.proofs.Ended as Ended
 use Rattle.served_rings.proofs.Ended.{all_answered}
 use Rattle.served_rings.proofs.Mails.{AllNamed, acts_named, behind_named, is_mail, mailer, services_named}
@@ -28,11 +28,11 @@ use Rattle.served_rings.proofs.Seen.{promised, valid}
 use Rattle.served_rings.proofs.SeenRests.{answered, frames, rested}
 use Rattle.served_rings.proofs.SeenSettled.{none_box, settled_back}
 use Rattle.served_rings.proofs.Speakers.{script}
-use Rattle.served_rings.specs.Served.{AreAnswered, IsReplied, NothingLeft, server_behind}
-use Rattle.served_rings.specs.Speakers.{naming_of, seer_of, spoken, table_of, whole_states}
+use Rattle.served_rings.specs.Served.{AreAnswered, IsReplied, NothingLeft, emitted_behind, server_behind}
+use Rattle.served_rings.specs.Speakers.{seer_of, spoken, table_of, whole_states}
 use Rattle.serving_model.specs.Erasing.{box_as}
 use Rattle.serving_model.specs.Tagged as Tagged
-use Rattle.serving_model.specs.Tagged.{asked_exec, asked_reply, ideal, real}
+use Rattle.serving_model.specs.Tagged.{asked_exec, asked_reply, ideal, real, untag}
 use Rattle.slave_model.specs.Profile.{Profile, Protocol}
 use Rattle.slave_model.specs.Server as SlaveReply
 use Rattle.slave_parts.specs.Parts.{Server, parts}
@@ -111,7 +111,7 @@ module _ (p : Profile) where
     answered_named v k (Service.State target ∷ qs) rs [] valid all = absurd all
     answered_named v k (Service.State target ∷ qs) rs (c ∷ cs) valid all = (
       all.0,
-      outcome_same c.answer ∙ ap (λ (o : Outcome (Option SlaveReply.Reply)). o) all.1,
+      outcome_same c.answer ∙ all.1,
       answered_named (record v { state = state_behind (table_of boot station) v.state target }) (suc k) qs rs cs valid.1 all.2,
     )
 
@@ -153,7 +153,8 @@ module _ (p : Profile) (k : IsSpeaker (mailer p)) (boot : Bool) (spot : Spot) (o
       subst (λ (box : Option (LinkMail Meant)). is_over (seeing (mailer p)).speech box d.fresh h ≡ true) (sym held)
       (over_here p h d.fresh new plans answers (subst (λ (box : Option (LinkMail Meant)). is_over (spoken p).speech (box_as (mail p) box) d.fresh (seen_row p h) ≡ true) held over))
 
-  module _ (settled : IsSettled n) (wants : WantsNothing (spoken p).speech e.side) (hand : e.account.hand ≡ None) (over : e.passing ≡ None) where
+  module _ (settled : IsSettled n) (wants : WantsNothing (spoken p).speech e.side) (hand : e.account.hand ≡ None) (over : e.passing ≡ None)
+      (seen : (gs : List (Frame Body)) (counted : Bool) (d : Era Body Asked Reply) (m : Slave (InState Server) Body) → LedHere p k boot spot opened v r gs counted d m → SeenHere p k boot spot opened v r gs counted d m) (led : LedHere p k boot spot opened v r fs counts e n) where
     abbrev named : Era Body Asked Reply
     named = era_named (mailer p) i.era
 
@@ -161,9 +162,7 @@ module _ (p : Profile) (k : IsSpeaker (mailer p)) (boot : Bool) (spot : Spot) (o
     held_there = none_box (mail p) (real (product_whole parts p)) i.slave i.era.side.halves.out.holding (ap (λ (d : Era Body Asked Reply). d.side.halves.out.holding) i.named ∙ wants.idle)
 
     new_there : i.era.side.fresh ≡ false
-    new_there =
-        (era_knows (product_whole parts p) (mailer p).core k.served (λ a. true) is_mail whole_states k.stated (seeing_lawful (mailer p) k) (seeing_stated (mailer p) k) (seer_of p boot) (table_of boot) spot i.era opened (length i.frames) i.frames (between v) r i.slave i.is
-        refl i.right (naming_of p).more k.last).idle (ap is_none held_there)
+    new_there = (knows p k boot spot opened v r fs counts e n i).idle (ap is_none held_there)
 
     wants_there : WantsNothing (seeing (mailer p)).speech i.era.side
     wants_there = record {
@@ -193,7 +192,8 @@ module _ (p : Profile) (k : IsSpeaker (mailer p)) (boot : Bool) (spot : Spot) (o
               (all_answered (seeing (mailer p)) (seeing_states (mailer p)) (table_of boot spot.station) (λ m. false) spot.station (frames (mailer p) k (seer_of p boot) (table_of boot) spot opened v r fs counts e n i) (v, 0) started (rows_of i.era.side) i.era.account.over
               has.mails (has.states ∙ ap (λ l. changes_in i.era.account.over ++ l) (ap duty_in hand_there) ∙ append-nil (changes_in i.era.account.over)) has.answers has.over rest.ended
               (promised (mailer p) k (seer_of p boot) (table_of boot) spot opened v r fs counts e n i).replied)));
-          emissions = ?;
+          emissions = ap (λ (d : Era Body Asked Reply). emitted emission (heard_all (rows_of d.side))) i.named ∙ sym (sent_in_rows p k boot spot opened v r seen fs counts e n led) ∙ sent_is p k boot spot opened v r fs counts e n i
+              ∙ ap untag rest.emissions ∙ emits_named p boot spot.station v 0 (services_in started) all_valid i.right ∙ ap (emitted_behind p boot spot.station v) (sym (services_named p started));
         }
 
     -- NOTHING IS LEFT of it
