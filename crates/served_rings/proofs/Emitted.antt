@@ -28,6 +28,7 @@ use Rattle.served_rings.proofs.RowsHeard.{Led, all_in_rows, none_yet}
 use Rattle.served_rings.proofs.RowsSeen.{rows_seen}
 use Rattle.served_rings.proofs.Seen.{promised}
 use Rattle.served_rings.proofs.SeenRests.{answered, frames}
+use Rattle.served_rings.proofs.SeenSettled.{unmapped}
 use Rattle.served_rings.specs.Served.{emitted_behind}
 use Rattle.served_rings.specs.Speakers.{naming_of, processor_of, seer_of, spoken, table_of, whole_states}
 use Rattle.serving_model.proofs.TaggedLaw.{untag-append}
@@ -148,10 +149,6 @@ module _ (p : Profile) (k : IsSpeaker (mailer p)) (boot : Bool) (spot : Spot) (o
         let none_there : mails_started i.era.account.started ≡ [] = has.mails ∙ ap rows_started (unmapped (λ h. row_seen mail named_wanted (λ (a : Option SlaveReply.Reply). a) h) (rows_of i.era.side) none_named) in
         let begin = subst (λ l. IsPrefixOf (emitted (λ (t : Meant). is_own t.meant) (heard spot.station seen_frames)) (mails l)) (states_emit p boot spot.station t.count (v, 0) i.era.account.started none_there) t.emissions in
         sent_is ∙ ap untag (none_begins (emitted (λ (t : Meant). is_own t.meant) (heard spot.station seen_frames)) begin)
-      where
-        unmapped : {X Y : Type 0} (f : X → Y) (xs : List X) → map f xs ≡ [] → xs ≡ []
-        unmapped f [] e = refl
-        unmapped f (x ∷ xs) e = absurd (let no : f x ∷ map f xs ≡ [] = e in cc)
 
   module _ (seen : (fs : List (Frame Body)) (counts : Bool) (e : Era Body Asked Reply) (n : Slave (InState Server) Body) → LedHere fs counts e n → SeenHere fs counts e n) where
     -- ALL THAT IT SENT OF ITSELF was heard in its rows

@@ -1,4 +1,4 @@
--- WHERE A SLAVE OF A SERVING RESTS nothing is left of its epoch: all its rows are carried out, and each has its reply.
+-- WHERE A SLAVE OF A SERVING RESTS nothing is left of its epoch: all its rows are carried out and answered, and all that they emit was heard.
 use Rattle.std.proofs.Common.{◌≡◌, ◌&&◌, ℕ, suc, Bool, true, false, not, is_none, is_some, Option, None, Some, option_map, inl, inr, List, [], ◌∷◌, ◌++◌, map, length, refl, ap, ap₂, sym, ◌∙◌, subst, append-nil, Ok, Err, if◌then◌else◌}
 use Rattle.exchange_model.specs.Exchange.{emitted}
 use Rattle.exchange_model.specs.Rows.{Row, heard_all}
@@ -13,7 +13,6 @@ use Rattle.passed_whole.proofs.Naturals.{none_of}
 use Rattle.passed_whole.specs.Erased.{OfRow, PlanOne, row_seen, side_seen}
 use Rattle.run_work.specs.Sessions.{Meant, OwnService, Wanted, named_wanted}
 use Rattle.segment_model.proofs.Overs.{over_parts}
-use Rattle.segment_model.specs.Ends.{Outcome}
 use Rattle.segment_model.specs.Laws.{IsSettled, NothingInHand, WantsNothing}
 use Rattle.segment_model.specs.Record.{Frame}
 use Rattle.segment_model.specs.Seats.{Side, is_none_left, is_over, rows_of}
@@ -39,7 +38,7 @@ use Rattle.slave_parts.specs.Parts.{Server, parts}
 use Rattle.slave_served.specs.Served.{product_whole}
 use Rattle.state_exchange.specs.Families.{InState}
 use Rattle.state_exchange.specs.Stated.{Service, service_valid}
-use Rattle.state_model.specs.Promises.{state_behind}
+use Rattle.state_model.specs.Promises.{answer_of, state_behind}
 use Rattle.task_model.specs.Accounts.{Change}
 use Rattle.task_model.specs.Promise.{changes_in, duty_in, services_in}
 
@@ -78,11 +77,9 @@ module _ (p : Profile) where
   replies_named v (Tagged.Asked.Passed (Ok m) answers) valid = refl
   replies_named v (Tagged.Asked.Passed (Err fault) answers) valid = absurd (let no : false ≡ true = valid in cc)
 
-  outcome_same : (o : Outcome (Option SlaveReply.Reply)) → outcome_seen same o ≡ o
-  outcome_same (Outcome.Replied r) = refl
-  outcome_same Outcome.Handed = refl
-  outcome_same Outcome.Reached = refl
-  outcome_same (Outcome.Refused code) = refl
+  answer_same : (found : Option ℕ) → outcome_seen same (answer_of found) ≡ answer_of found
+  answer_same None = refl
+  answer_same (Some code) = refl
 
   module _ (boot : Bool) (station : ℕ) where
     abbrev answered_there : InState Server × ℕ → List (Service Wanted) → List RowHere → List (Change (Option SlaveReply.Reply)) → Type 0
@@ -111,7 +108,7 @@ module _ (p : Profile) where
     answered_named v k (Service.State target ∷ qs) rs [] valid all = absurd all
     answered_named v k (Service.State target ∷ qs) rs (c ∷ cs) valid all = (
       all.0,
-      outcome_same c.answer ∙ all.1,
+      ap (outcome_seen same) all.1 ∙ answer_same (table_of boot station v.state target),
       answered_named (record v { state = state_behind (table_of boot station) v.state target }) (suc k) qs rs cs valid.1 all.2,
     )
 
