@@ -7,7 +7,9 @@ use Rattle.scenario_keys.specs.declared.refusal.Refusal.{Refusal}
 use Rattle.scenario.specs.Document.{plan_of}
 use Rattle.run_book.specs.declared.book.Book.{Book}
 use Rattle.run_book.specs.Book.{IsNew}
+use Rattle.promised_run.specs.Given.{IsServedGiven}
 use Rattle.promised_run.specs.Ran.{HasSent}
+use Rattle.promised_run.specs.Rested.{IsServedRested}
 use Rattle.promised_run.specs.ServedBounded.{IsServedBounded}
 use Rattle.promised_run.specs.Through.{IsServedThrough, IsServedWhole}
 use Rattle.run_report.specs.Report.{report_lines}
@@ -25,13 +27,16 @@ use Rattle.ecmbx_call.specs.Ends.{status_of}
 
 -- what the serving of a plan left in its book, by what its port told before it and behind it: its frames, its datagrams, and an ending with
 -- its cause; at each moment what its slaves did and replied to the mails that were passed on, by the server's one step for each, and what was told of each mail,
--- which behind the frame by which it is over is all that was heard for it; and a budget of as many frames as the bound for so many datagrams didn't cut it off, and
--- where few frames in a row were lost all is done
+-- which behind the frame by which it is over is all that was heard for it; behind all of it each datagram that was queued at a slave and is done has all mails of the
+-- one step of its slave's server, and where nothing was left to do all is done of each slave that wasn't given up for good; and a budget of as many frames as the
+-- bound for so many datagrams didn't cut it off, and where few frames in a row were lost all is done
 pub record HasServed (plan : Scenario) (count : ℕ) (first last : Told) (book : Book) : Type 0 where
   pub frames : HasSent plan count book
   pub served : IsServed plan count first last book book.ending
   pub through : IsServedThrough plan book
   pub whole : IsServedWhole plan book
+  pub given : IsServedGiven plan count book
+  pub rests : IsServedRested plan count book
   pub bounded : IsServedBounded plan count book
 
 -- a serving of so many datagrams: refused, or the report of what it came to

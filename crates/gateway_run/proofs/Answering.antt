@@ -1,13 +1,14 @@
 -- ALL ALONG A COURSE each desk is what the lives have, and each datagram got what is its own.
-use Rattle.std.proofs.Common.{◌≡◌, ◌<◌, ◌≤◌, ℕ, zero, suc, Some, None, List, [], ◌∷◌, ◌++◌, length, map, refl, sym, ap, ◌∙◌, subst, arith}
+use Rattle.std.proofs.Common.{◌≡◌, ◌<◌, ◌≤◌, ℕ, zero, suc, true, Some, None, List, [], ◌∷◌, ◌++◌, length, map, refl, sym, ap, ◌∙◌, subst, arith}
 use Rattle.std.specs.Prelude.{replicate, All}
 use Rattle.std.proofs.lemmas.List.{length-map, map-append}
 use Rattle.std.proofs.lemmas.List.Elements.{All-nil, All-cons, All-head, All-tail}
-use Rattle.served_places.specs.Rows.{ToldAll, passed_rows}
+use Rattle.served_places.specs.Rows.{ToldAll, passed_rows, passings, replies_of}
 use Rattle.served_places.specs.of_served_runs.Served.{IsServedLed, Keyed, Serves, all_serve, asked_at, new_serves}
 use Rattle.master_node.specs.of_life_frames.Shares.{AllBoth}
 use Rattle.master_node.specs.of_life_runs.First.{first_leads, leads_from, lens_of}
 use Rattle.master_node.specs.of_life_runs.Led.{Exchanged, Leads}
+use Rattle.master_node.specs.of_master_tour.Made.{is_in}
 use Rattle.master_node.specs.of_life_runs.of_segment_plan.declared.service.Service as Plan
 use Rattle.run_book.specs.declared.book.GramIn.{GramIn}
 use Rattle.run_book.specs.declared.book.SentFrame.{SentFrame}
@@ -20,7 +21,7 @@ use Rattle.segment_plan.specs.declared.slave.SlaveSpec.{SlaveSpec}
 use Rattle.gateway_run.specs.Account.{Course, Course.begins, Course.hears, Course.steps, Owing, left_by_all, owed_by_all}
 use Rattle.gateway_run.specs.Events.{events_of}
 use Rattle.gateway_run.specs.Rooms.{done_by_all}
-use Rattle.gateway_run.specs.Replies.{AllDesk, Answers, IsDesk, IsFor, IsHeard, IsLate, IsNew, IsUndone, dones_of, keyed_in}
+use Rattle.gateway_run.specs.Replies.{AllDesk, Answers, GivesAll, IsDesk, IsFor, IsHeard, IsLate, IsNew, IsOurs, IsUndone, dones_of, keyed_in, mails_told}
 use Rattle.gateway_run.specs.declared.desk.Request.{Request}
 use Rattle.gateway_run.proofs.Judging.{answers_heard}
 use Rattle.gateway_run.proofs.Leds.{course_led}
@@ -30,23 +31,28 @@ use Rattle.gateway_run.proofs.Stepping.{answers_on}
 record IsNewborn (w : Serves) : Type 0 where
   hand : w.hand ≡ None
   rows : passed_rows w.lead.lived.life ≡ []
+  stands : passings w.lead.lived.life ≡ []
 
-born : (rows : List (ℕ × Plan.Service)) (place : ℕ) (ss : List SlaveSpec) → All (λ (a : Leads). passed_rows a.lived.life ≡ []) (leads_from rows place ss)
-born rows place [] = All-nil (λ (a : Leads). passed_rows a.lived.life ≡ [])
-born rows place (s ∷ ss) = All-cons (λ (a : Leads). passed_rows a.lived.life ≡ []) _ (leads_from rows (suc place) ss) refl (born rows (suc place) ss)
+abbrev IsEmpty : Leads → Type 0
+IsEmpty a = (passed_rows a.lived.life ≡ []) × (passings a.lived.life ≡ [])
 
-all_born : (paces : List ℕ) (as' : List Leads) → All (λ (a : Leads). passed_rows a.lived.life ≡ []) as' → All IsNewborn (all_serve paces as')
+born : (rows : List (ℕ × Plan.Service)) (place : ℕ) (ss : List SlaveSpec) → All IsEmpty (leads_from rows place ss)
+born rows place [] = All-nil IsEmpty
+born rows place (s ∷ ss) = All-cons IsEmpty _ (leads_from rows (suc place) ss) (refl, refl) (born rows (suc place) ss)
+
+new_born : (pace : ℕ) (a : Leads) → IsEmpty a → IsNewborn (new_serves pace a)
+new_born pace a e = record { hand = refl; rows = e.0; stands = e.1 }
+
+all_born : (paces : List ℕ) (as' : List Leads) → All IsEmpty as' → All IsNewborn (all_serve paces as')
 all_born paces [] h = All-nil IsNewborn
-all_born [] (a ∷ as') h =
-    All-cons IsNewborn (new_serves 1 a) (all_serve [] as') (record { hand = refl; rows = All-head (λ (a : Leads). passed_rows a.lived.life ≡ []) a as' h }) (all_born [] as' (All-tail (λ (a : Leads). passed_rows a.lived.life ≡ []) a as' h))
-all_born (pace ∷ paces) (a ∷ as') h =
-    All-cons IsNewborn (new_serves pace a) (all_serve paces as') (record { hand = refl; rows = All-head (λ (a : Leads). passed_rows a.lived.life ≡ []) a as' h }) (all_born paces as' (All-tail (λ (a : Leads). passed_rows a.lived.life ≡ []) a as' h))
+all_born [] (a ∷ as') h = All-cons IsNewborn (new_serves 1 a) (all_serve [] as') (new_born 1 a (All-head IsEmpty a as' h)) (all_born [] as' (All-tail IsEmpty a as' h))
+all_born (pace ∷ paces) (a ∷ as') h = All-cons IsNewborn (new_serves pace a) (all_serve paces as') (new_born pace a (All-head IsEmpty a as' h)) (all_born paces as' (All-tail IsEmpty a as' h))
 
 -- so it stays where mails are asked
 asked_born : (place : ℕ) (k : Keyed) (ws : List Serves) → All IsNewborn ws → All IsNewborn (asked_at place k ws)
 asked_born place k [] h = All-nil IsNewborn
 asked_born zero k (w ∷ ws) h =
-    (let b = All-head IsNewborn w ws h in All-cons IsNewborn (record w { asked = w.asked ++ k ∷ []; waits = w.waits ++ k ∷ [] }) ws (record { hand = b.hand; rows = b.rows }) (All-tail IsNewborn w ws h))
+    (let b = All-head IsNewborn w ws h in All-cons IsNewborn (record w { asked = w.asked ++ k ∷ []; waits = w.waits ++ k ∷ [] }) ws (record { hand = b.hand; rows = b.rows; stands = b.stands }) (All-tail IsNewborn w ws h))
 asked_born (suc place) k (w ∷ ws) h = All-cons IsNewborn w (asked_at place k ws) (All-head IsNewborn w ws h) (asked_born place k ws (All-tail IsNewborn w ws h))
 
 some_last : (fs : List Exchanged) (f : Exchanged) → fs ++ f ∷ [] ≡ [] → ⊥
@@ -80,7 +86,7 @@ first_desk i w b e = record {
   newest = λ p f. absurd (let bad : None ≡ Some p = sym b.hand ∙ f in cc);
   new = All-nil (IsNew []);
   many = sym (ap length b.rows);
-  known = All-nil (λ (n : ℕ). n < 0);
+  ours = All-nil (IsOurs [] i);
   rising = tt;
   late = subst (λ rows. AllBoth (IsLate []) [] rows) (sym b.rows) tt;
 }
@@ -92,6 +98,17 @@ first_desks i (w ∷ ws) b e = (first_desk i w (All-head IsNewborn w ws b) (All-
 first_told : (ws : List Serves) → All IsNewborn ws → All ToldAll ws
 first_told [] b = All-nil ToldAll
 first_told (w ∷ ws) b = All-cons ToldAll w ws (λ p f. absurd (let bad : None ≡ Some p = sym (All-head IsNewborn w ws b).hand ∙ f in cc)) (first_told ws (All-tail IsNewborn w ws b))
+
+first_gives : (ws : List Serves) → All IsNewborn ws → AllBoth (GivesAll [] (λ n. is_in n [])) ws (map (λ (w : Serves). []) ws)
+first_gives [] b = tt
+first_gives (w ∷ ws) b =
+    let new = All-head IsNewborn w ws b in (
+      record {
+        heard = ap (λ rs. map mails_told (replies_of rs)) (sym new.rows);
+        over = subst (λ ps. AllBoth (λ n p. is_in n [] ≡ true → p ≡ None) [] ps) (sym new.stands) tt;
+      },
+      first_gives ws (All-tail IsNewborn w ws b),
+    )
 
 first_answers : (plan : Scenario) (count : ℕ) (s : SessionState) → s ≡ first_session plan count s.master → (serving : ServingBegins plan s) → Answers plan s [] [] [] [] []
 first_answers plan count s first serving =
@@ -111,6 +128,7 @@ first_answers plan count s first serving =
       ended = All-nil (λ (n : ℕ). n < 0);
       owed = All-nil (λ (o : Owing). o.gram < 0);
       got = tt;
+      whole = λ quiet. first_gives ws b;
     }
 
 -- ALL ALONG

@@ -1,11 +1,12 @@
 -- BEFORE A FRAME what comes into hand of a slave is what its desk has: one slave's requests behind what is listed of it.
 use Rattle.std.proofs.Common.{◌≡◌, ℕ, ◌≤◌, Bool, true, false, Option, Some, None, List, [], ◌∷◌, ◌++◌, refl, sym, ap, ◌∙◌, subst, append-nil, eqb-true}
-use Rattle.std.specs.Prelude.{◌==◌, if◌then◌else◌, not, slice_get, All, Ok}
-use Rattle.std.proofs.lemmas.List.Elements.{All-head, filter_passes}
+use Rattle.std.specs.Prelude.{◌==◌, if◌then◌else◌, map, not, slice_get, All, Ok}
+use Rattle.std.proofs.lemmas.List.Elements.{All-filter, All-head, filter_passes}
 use Rattle.master_node.specs.of_life_frames.of_exchange_model.Rows.{begun}
 use Rattle.gateway_core.specs.Framing.{request_in}
-use Rattle.served_places.specs.Rows.{Stays, passed_rows, row_begun}
-use Rattle.served_places.proofs.Next.{next_free, next_passing, next_stays}
+use Rattle.served_places.specs.Rows.{Stays, passed_rows, passings, replies_of, row_begun}
+use Rattle.served_places.proofs.Next.{next_free, next_heard, next_over, next_passing, next_stays, waiting_row}
+use Rattle.served_places.proofs.Stay.{StaysOver}
 use Rattle.served_places.specs.of_served_runs.Served.{Keyed, Serves, ServedComes, ServedTurn, IsServedTurn}
 use Rattle.served_places.specs.of_served_runs.Told.{Passed}
 use Rattle.mailbox_mail.specs.declared.mail.Mail.{Mail}
@@ -26,10 +27,11 @@ use Rattle.master_node.specs.of_master_side.Passing.{passing_behind}
 use Rattle.run_book.specs.declared.book.GramIn.{GramIn}
 use Rattle.gateway_run.specs.Account.{Owing, begun_first, left_by, left_by_all, waits_at}
 use Rattle.gateway_run.specs.Rooms.{begun_of, owed_for, waiting_of}
-use Rattle.gateway_run.specs.Replies.{Fares, IsDesk, IsFor, WasGivenUp, keyed_in}
+use Rattle.gateway_run.specs.Replies.{Fares, GivesAll, IsDesk, IsFor, IsNew, WasGivenUp, keyed_in}
 use Rattle.gateway_run.specs.declared.desk.Request.{Request}
 use Rattle.gateway_run.proofs.Rooms.{both_left}
 use Rattle.gateway_run.proofs.Desking.{comes_here}
+use Rattle.gateway_run.proofs.Gives.{gives_mail, gives_same}
 use Rattle.gateway_run.proofs.Hands.{desk_same, fares_same, keyed_none}
 use Rattle.gateway_run.proofs.Comes.{MailComes, desk_mail, fares_mail, none_begun, oldest}
 
@@ -54,10 +56,18 @@ module _ (lens : ℕ → Lens) (made : ℕ) (ds : List Raw.Datagram) (w : Serves
     pub desk : IsDesk gs os slave (serves_of v) comes (waiting_of slave qs) (begun_of slave qs)
     pub fares : (done : Bool) (number : ℕ) (asked : Mail) (gram : GramIn) → slice_get gs number ≡ Some gram → request_in gram.bytes ≡ Ok asked →
         Fares w came (waiting_of slave rs) (begun_of slave rs) done number asked (owed_for number os) → Fares (serves_of v) comes (waiting_of slave qs) (begun_of slave qs) done number asked (owed_for number os)
+    pub whole : (done : ℕ → Bool) → All (λ (r : Request). done r.gram ≡ false) rs → GivesAll os done w came → GivesAll os done (serves_of v) comes
 
   module _ (given : WasGivenUp w → WasGivenUp (serves_of v)) (early : All (λ (g : GramIn). g.frame ≤ made) gs) (d : IsDesk gs os slave w came (waiting_of slave rs) (begun_of slave rs)) where
     stays : row_begun made v.turn.begun ≡ [] → AllBoth Stays (passed_rows w.lead.lived.life) (passed_rows v.turn.lived.life)
     stays e = subst (λ z. AllBoth Stays z (passed_rows v.turn.lived.life)) (append-nil (passed_rows w.lead.lived.life)) (subst (λ z. AllBoth Stays (passed_rows w.lead.lived.life ++ z) (passed_rows v.turn.lived.life)) e (next_stays lens made ds w v t))
+
+    heard_none : row_begun made v.turn.begun ≡ [] → replies_of (passed_rows v.turn.lived.life) ≡ replies_of (passed_rows w.lead.lived.life)
+    heard_none e = next_heard lens made ds w v t ∙ ap (λ rs. replies_of (passed_rows w.lead.lived.life) ++ replies_of rs) e ∙ append-nil (replies_of (passed_rows w.lead.lived.life))
+
+    over_none : row_begun made v.turn.begun ≡ [] → AllBoth StaysOver (passings w.lead.lived.life) (passings v.turn.lived.life)
+    over_none e =
+        subst (λ ps. AllBoth StaysOver ps (passings v.turn.lived.life)) (ap (λ rs. passings w.lead.lived.life ++ map waiting_row rs) e ∙ append-nil (passings w.lead.lived.life)) (next_over lens made ds w v t)
 
     -- nothing that is passed on
     quiet : v.waits ≡ w.waits → keyed_in v.hand v.turn.lived.life.era.passing ≡ keyed_in w.hand w.lead.lived.life.era.passing → ((p : Passed) → v.hand ≡ Some p → w.hand ≡ Some p) → row_begun made v.turn.begun ≡ [] → HasBegun rs
@@ -65,6 +75,7 @@ module _ (lens : ℕ → Lens) (made : ℕ) (ds : List Raw.Datagram) (w : Serves
       comes = came;
       desk = desk_same gs slave w (serves_of v) came (waiting_of slave rs) (begun_of slave rs) os same keyed hand (stays none) d;
       fares = λ done number asked gram there request f. fares_same gs slave w (serves_of v) came (waiting_of slave rs) (begun_of slave rs) done number asked (owed_for number os) given (stays none) f;
+      whole = λ done undone all. gives_same os done w (serves_of v) came (heard_none none) (over_none none) all;
     }
 
     -- a mail that is passed on
@@ -96,6 +107,11 @@ module _ (lens : ℕ → Lens) (made : ℕ) (ds : List Raw.Datagram) (w : Serves
               (subst (λ z. Fares (serves_of v) (came ++ o.request.gram ∷ []) o.rest z done number asked (owed_for number os)) (sym after.1)
               (fares_mail gs slave w (serves_of v) came k rest (begun (passed k.mail) made) os comes o.request o.rest (begun_of slave rs) old done number asked (owed_for number os) gram there request given
               (subst (λ z. Fares w came z (begun_of slave rs) done number asked (owed_for number os)) o.is f)));
+          whole = λ done undone all.
+              gives_mail os done w (serves_of v) came o.request.gram (All-head (IsNew os) o.request o.rest (subst (All (IsNew os)) o.is d.new))
+              (All-head (λ (r : Request). done r.gram ≡ false) o.request o.rest (subst (All (λ (r : Request). done r.gram ≡ false)) o.is (All-filter (waits_at slave) (λ (r : Request). done r.gram ≡ false) rs undone)))
+              (next_heard lens made ds w v t ∙ ap (λ b. replies_of (passed_rows w.lead.lived.life) ++ replies_of (row_begun made b)) e)
+              (subst (λ b. AllBoth StaysOver (passings w.lead.lived.life ++ map waiting_row (row_begun made b)) (passings v.turn.lived.life)) e (next_over lens made ds w v t)) all;
         }
 
     by_comes : (number forwards first_of room n m : ℕ) (script : List Plan.Service) (waits rest : List Keyed) (hand after : Option Passed) (b : Option (Service Asked)) → ServedComes room script waits hand n b m rest after → w.waits ≡ waits → w.hand ≡ hand → v.waits ≡ rest → v.hand ≡ after → v.turn.begun ≡ b →

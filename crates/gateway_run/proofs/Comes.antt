@@ -1,7 +1,7 @@
 -- A MAIL COMES INTO HAND of a slave: the oldest of its requests that wait is the one whose mail is in hand.
 use Rattle.std.proofs.Common.{◌≡◌, ℕ, zero, suc, ◌+◌, ◌<◌, ◌≤◌, Bool, true, false, inl, inr, Option, Some, None, List, [], ◌∷◌, ◌++◌, length, refl, sym, ap, ◌∙◌, subst, eqb-true, append_assoc, length-append, arith}
 use Rattle.std.specs.Prelude.{◌==◌, slice_get, All, Ok}
-use Rattle.std.proofs.lemmas.List.Elements.{All-head, All-tail, All-push}
+use Rattle.std.proofs.lemmas.List.Elements.{All-head, All-tail, All-push, All-weaker}
 use Rattle.master_node.specs.of_life_frames.of_exchange_model.Exchange.{plain}
 use Rattle.master_node.specs.of_life_frames.of_exchange_model.Rows.{Row, begun}
 use Rattle.gateway_core.specs.Framing.{request_in}
@@ -18,7 +18,7 @@ use Rattle.master_node.specs.of_segment_model.Ends.{Passing}
 use Rattle.run_book.specs.declared.book.GramIn.{GramIn}
 use Rattle.gateway_run.specs.Account.{Owing}
 use Rattle.gateway_run.specs.Rooms.{AreRising, grams_of}
-use Rattle.gateway_run.specs.Replies.{Fares, Fares.dropped, Fares.replies, Fares.waits, HasRow, IsDesk, IsFor, IsLate, IsNew, IsNewest, StandsSo, WasGivenUp, keyed_in}
+use Rattle.gateway_run.specs.Replies.{Fares, Fares.dropped, Fares.replies, Fares.waits, HasRow, IsDesk, IsFor, IsLate, IsNew, IsNewest, IsOurs, StandsSo, WasGivenUp, keyed_in}
 use Rattle.gateway_run.specs.declared.desk.Request.{Request}
 use Rattle.gateway_run.proofs.Hands.{all_got, at_last, both_at, both_many, both_push, in_append, in_head, late_stays, row_stays}
 
@@ -51,6 +51,10 @@ pub known_at : (gs : List GramIn) (n : ℕ) (g : GramIn) → slice_get gs n ≡ 
 known_at [] n g e = absurd (cc)
 known_at (h ∷ gs) zero g e = omega arith
 known_at (h ∷ gs) (suc n) g e = (let l = known_at gs n g e in omega (arith, l))
+
+-- each of a slave's was heard
+pub ours_known : (gs : List GramIn) (slave : ℕ) (came : List ℕ) → All (IsOurs gs slave) came → All (λ (n : ℕ). n < length gs) came
+ours_known gs slave came a = All-weaker (IsOurs gs slave) (λ (n : ℕ). n < length gs) (λ n o. known_at gs n o.gram o.there) came a
 
 pub none_begun : (gs : List GramIn) (w : Serves) (begun : List Request) → w.lead.lived.life.era.passing ≡ None → AllBoth (IsFor gs) begun (keyed_in w.hand w.lead.lived.life.era.passing) → begun ≡ []
 none_begun gs w begun free a = by w.hand (subst (λ p. AllBoth (IsFor gs) begun (keyed_in w.hand p)) free a)
@@ -103,7 +107,7 @@ module _ (gs : List GramIn) (slave : ℕ) (w v : Serves) (came : List ℕ) (k : 
           }));
       new = All-tail (IsNew os) r more d.new;
       many = many;
-      known = All-push (λ n. n < length gs) came r.gram d.known (known_at gs r.gram is_for.of_gram.gram is_for.of_gram.there);
+      ours = All-push (IsOurs gs slave) came r.gram d.ours (record { gram = is_for.of_gram.gram; there = is_for.of_gram.there; queued = is_for.of_gram.queued ∙ ap Some here });
       rising = subst AreRising (sym (append_assoc came (r.gram ∷ []) (grams_of more))) d.rising;
       late = late_stays gs (came ++ r.gram ∷ []) (passed_rows w.lead.lived.life ++ row ∷ []) (passed_rows v.lead.lived.life)
           (both_push (IsLate gs) came (passed_rows w.lead.lived.life) r.gram row d.late (λ g e. all_got (λ (g : GramIn). g.frame ≤ row.frame) gs r.gram g c.early e)) c.stay;

@@ -11,6 +11,7 @@ use Rattle.served_places.specs.of_served_runs.Told.{Passed}
 use Rattle.mailbox_mail.specs.declared.mail.Mail.{Mail}
 use Rattle.master_node.specs.Serving.{run_lead}
 use Rattle.master_node.specs.Wants.{AllCounted, IsCounted, IsServedOut, gave_of}
+use Rattle.master_node.specs.of_frame_view.View.{Lens}
 use Rattle.master_node.specs.of_life_frames.Shares.{AllBoth}
 use Rattle.master_node.specs.of_life_model.Lives.{Stand}
 use Rattle.master_node.specs.of_life_runs.First.{first_leads, lens_of}
@@ -70,16 +71,16 @@ some_left r more none over = go r.begun refl
         let bad : r ∷ waiting_of r.slave more ≡ [] = sym (ap (λ (z : Bool). cond z (r ∷ waiting_of r.slave more) (waiting_of r.slave more)) here) ∙ none in
         cc
 
-module _ (recover : ℕ) (all : List GramIn) (rs : List Request) (os : List Owing) (dones : List ℕ) where
+module _ (lens : ℕ → Lens) (recover : ℕ) (all : List GramIn) (rs : List Request) (os : List Owing) (dones : List ℕ) where
   -- WHAT STANDS AT A PLACE
   record IsOut (slave : ℕ) (w : Serves) (numbers : List ℕ) : Type 0 where
     desk : IsDesk all os slave w numbers (waiting_of slave rs) (begun_of slave rs)
-    out : IsServedOut w
+    out : IsServedOut lens w
     counted : IsCounted recover w.lead.lived.life.stand (length (gave_of w.lead))
     held : IsHeld w
     quiet : NoneWaits recover w
 
-  out_at : (i : ℕ) (ws : List Serves) (nss : List (List ℕ)) → AllDesk all rs os i ws nss → All IsServedOut ws → AllCounted recover (map run_lead ws) → All IsHeld ws → All (NoneWaits recover) ws → (j slave : ℕ) (w : Serves) (numbers : List ℕ) →
+  out_at : (i : ℕ) (ws : List Serves) (nss : List (List ℕ)) → AllDesk all rs os i ws nss → All (IsServedOut lens) ws → AllCounted recover (map run_lead ws) → All IsHeld ws → All (NoneWaits recover) ws → (j slave : ℕ) (w : Serves) (numbers : List ℕ) →
       slave ≡ i + j → slice_get ws j ≡ Some w → slice_get nss j ≡ Some numbers → IsOut slave w numbers
   out_at i [] nss d o c h n j slave w numbers e at came = absurd (cc)
   out_at i (u ∷ ws) [] d o c h n j slave w numbers e at came = absurd d
@@ -88,15 +89,15 @@ module _ (recover : ℕ) (all : List GramIn) (rs : List Request) (os : List Owin
       let its : ns ≡ numbers = cc in
       let here : i ≡ slave = omega (arith, e) in
       subst (λ k. IsOut k w numbers) here (subst (λ z. IsOut i z numbers) same
-      (subst (λ z. IsOut i u z) its (record { desk = d.0; out = All-head IsServedOut u ws o; counted = c.0; held = All-head IsHeld u ws h; quiet = All-head (NoneWaits recover) u ws n })))
+      (subst (λ z. IsOut i u z) its (record { desk = d.0; out = All-head (IsServedOut lens) u ws o; counted = c.0; held = All-head IsHeld u ws h; quiet = All-head (NoneWaits recover) u ws n })))
   out_at i (u ∷ ws) (ns ∷ nss) d o c h n (suc j) slave w numbers e at came =
-      out_at (suc i) ws nss d.1 (All-tail IsServedOut u ws o) c.1 (All-tail IsHeld u ws h) (All-tail (NoneWaits recover) u ws n) j slave w numbers (omega (arith, e)) at came
+      out_at (suc i) ws nss d.1 (All-tail (IsServedOut lens) u ws o) c.1 (All-tail IsHeld u ws h) (All-tail (NoneWaits recover) u ws n) j slave w numbers (omega (arith, e)) at came
 
   -- no request is of it
   none_here : (slave : ℕ) (w : Serves) (numbers : List ℕ) → IsOut slave w numbers → (waiting_of slave rs ≡ []) × (begun_of slave rs ≡ [])
   none_here slave w numbers h = go h.out
     where
-      go : IsServedOut w → (waiting_of slave rs ≡ []) × (begun_of slave rs ≡ [])
+      go : IsServedOut lens w → (waiting_of slave rs ≡ []) × (begun_of slave rs ≡ [])
       go (inl gone) =
           let often : length (gave_of w.lead) ≡ suc recover = subst (λ (st : Stand). IsCounted recover st (length (gave_of w.lead))) gone h.counted in (
             none_both (IsFor all) (waiting_of slave rs) (subst (AllBoth (IsFor all) (waiting_of slave rs)) (h.quiet (omega (arith, often))) h.desk.waits),
@@ -105,7 +106,7 @@ module _ (recover : ℕ) (all : List GramIn) (rs : List Request) (os : List Owin
           )
       go (inr out) = (none_both (IsFor all) (waiting_of slave rs) (subst (AllBoth (IsFor all) (waiting_of slave rs)) out.waits h.desk.waits), none_begun all w (begun_of slave rs) out.over h.desk.in_hand)
 
-  module _ (ws : List Serves) (nss : List (List ℕ)) (d : AllDesk all rs os 0 ws nss) (o : All IsServedOut ws) (c : AllCounted recover (map run_lead ws)) (h : All IsHeld ws) (n : All (NoneWaits recover) ws) where
+  module _ (ws : List Serves) (nss : List (List ℕ)) (d : AllDesk all rs os 0 ws nss) (o : All (IsServedOut lens) ws) (c : AllCounted recover (map run_lead ws)) (h : All IsHeld ws) (n : All (NoneWaits recover) ws) where
     -- what a datagram got
     got_at : (k : ℕ) (gs : List GramIn) → AllGot ws nss rs dones os k gs → (j m : ℕ) (g : GramIn) → m ≡ k + j → slice_get gs j ≡ Some g → Got ws nss rs dones m g (owed_for m os)
     got_at k [] a j m g e at = absurd (cc)
@@ -134,18 +135,18 @@ module _ (recover : ℕ) (all : List GramIn) (rs : List Request) (os : List Owin
             let none = none_of r is (owed_for r.gram os) (got_at 0 all got r.gram r.gram is.gram (omega arith) is.there) in
             absurd (some_left r more (sym (ap (waiting_of r.slave) e) ∙ none.0) (sym (ap (begun_of r.slave) e) ∙ none.1))
 
-pub no_request : (plan : Scenario) (s : SessionState) (fs : List Exchanged) (gs : List GramIn) (rs : List Request) (os : List Owing) (dones : List ℕ) (a : Answers plan s fs gs rs os dones) → IsLed plan s fs → All IsServedOut a.serving.leading.serves → rs ≡ []
+pub no_request : (plan : Scenario) (s : SessionState) (fs : List Exchanged) (gs : List GramIn) (rs : List Request) (os : List Owing) (dones : List ℕ) (a : Answers plan s fs gs rs os dones) → IsLed plan s fs → All (IsServedOut (lens_of plan.slaves)) a.serving.leading.serves → rs ≡ []
 no_request plan s fs gs rs os dones a led out =
     let l = a.serving.leading in
     let held = all_held (lens_of plan.slaves) plan.recover plan.retry plan.paces (first_leads plan) fs l.missed l.serves l.lives in
     let quiet = same_none plan.recover led.serving.leading.serves l.serves (led.serving.waiting ∙ sym a.serving.waiting) (sym led.serving.gave ∙ a.serving.gave) led.waits in
-    none_left plan.recover gs rs os dones l.serves a.came a.desk out (served_counted plan fs l.missed l.serves l.lives) held quiet a.got a.heard
+    none_left (lens_of plan.slaves) plan.recover gs rs os dones l.serves a.came a.desk out (served_counted plan fs l.missed l.serves l.lives) held quiet a.got a.heard
 
 -- so it is with a serving that rests
 pub none_unfinished : (plan : Scenario) (count : ℕ) (v : Serving) (b : Book) → IsOn plan count v b → ServingRests v.session → v.desk.requests.items ≡ []
 none_unfinished plan count v b on rests =
     let a = course_answers plan count on.is_plan v.session b.frames b.grams v.desk.requests.items on.owed on.course in
-    no_request plan v.session (map exchanged b.frames) b.grams v.desk.requests.items on.owed (dones_of plan count v.session b.frames b.grams v.desk.requests.items on.owed on.course) a (on_led plan count v b on) (rests plan (map exchanged b.frames) a.serving)
+    no_request plan v.session (map exchanged b.frames) b.grams v.desk.requests.items on.owed (dones_of plan count v.session b.frames b.grams v.desk.requests.items on.owed on.course) a (on_led plan count v b on) (rests.slaves plan (map exchanged b.frames) a.serving)
 
 -- the same, where the segment is settled
 pub empty_on : (plan : Scenario) (count : ℕ) (v : Serving) (b : Book) → IsOn plan count v b → (settled : Bool) → OnTrue settled (ServingRests v.session) → EmptyWhere settled v

@@ -5,6 +5,8 @@ use Rattle.slab.specs.Slab.{slab_len}
 use Rattle.gateway_run.specs.declared.stop.Stop.{Stop}
 use Rattle.gateway_run.specs.declared.stop.Stop.TheVariants as stops
 use Rattle.std.proofs.lemmas.List.Elements.{All-nil}
+use Rattle.master_node.specs.Happened.{HasHappened}
+use Rattle.master_node.specs.Ports.{ports_of}
 use Rattle.segment_plan.specs.Sound.{IsPlan}
 use Rattle.segment_plan.specs.Bound.{bound_of}
 use Rattle.segment_plan.specs.declared.plan.Scenario.{Scenario}
@@ -14,14 +16,15 @@ use Rattle.run_book.specs.declared.book.Ending.{Ending}
 use Rattle.run_book.specs.declared.book.Ending.TheVariants as endings
 use Rattle.run_book.specs.declared.book.GramIn.{GramIn}
 use Rattle.run_book.specs.declared.book.GramOut.{GramOut}
-use Rattle.run_record.specs.Led.{exchanged}
+use Rattle.run_record.specs.Led.{LeavesNone, exchanged}
 use Rattle.run_record.specs.Served.{ServingBegins, ServingRests}
-use Rattle.run_record.specs.Session.{first_session, session_rows}
+use Rattle.run_record.specs.Session.{are_at_rest, first_session, session_rows}
 use Rattle.run_record.specs.of_run_notes.Slaves.{home_of}
+use Rattle.run_record.specs.of_run_notes.Switched.{SameSwitch}
 use Rattle.run_record.specs.Ran.{HasSent, EndsSo, StopsSo, StopsAs}
 use Rattle.gateway_run.proofs.Room.{small_budget}
-use Rattle.run_record.proofs.Underway.{begun, has_frames, ended}
-use Rattle.gateway_run.specs.Done.{LeavesNone}
+use Rattle.run_record.proofs.Underway.{begun, has_frames, ended, many as many_sent}
+use Rattle.run_record.proofs.of_run_notes.Switched.{has_packets}
 use Rattle.gateway_run.specs.Heard.{heard_as, AreHeard, AreSent, AreSentBut, IsOwed, IsRightly}
 use Rattle.gateway_run.specs.Account.{Course, Course.begins}
 use Rattle.gateway_run.specs.Desk.{HasNone, IsOpen, AreApart}
@@ -31,15 +34,16 @@ use Rattle.gateway_run.specs.Served.{HasGrams, HasAccount, IsBroken, IsServed}
 use Rattle.gateway_run.specs.declared.turn.Serving.{Serving}
 use Rattle.gateway_run.proofs.Answering.{course_answers}
 use Rattle.gateway_run.proofs.Dones.{all_done, none_unfinished}
+use Rattle.gateway_run.proofs.Rested.{all_rest, no_packet}
 use Rattle.gateway_run.proofs.Strays.{course_falls, course_strays}
 use Rattle.gateway_run.proofs.Turns.{heard_none, sent_none, course_same, spelled_same}
 
 -- before the first turn
-pub first_serving : (plan : Scenario) (count : ℕ) (now : Told) (v : Serving) (b : Book) → v.session ≡ first_session plan count v.session.master → ServingBegins plan v.session → HasNone v.desk → v.desk.outbox.items ≡ [] → v.count ≡ count → v.over ≡ false → IsNew b → count < 4294967296 → IsPlan plan →
+pub first_serving : (plan : Scenario) (count : ℕ) (now : Told) (v : Serving) (b : Book) → v.session ≡ first_session plan count v.session.master → ServingBegins plan v.session → HasHappened (ports_of plan.slaves) plan.host [] v.session.master.lan → HasNone v.desk → v.desk.outbox.items ≡ [] → v.count ≡ count → v.over ≡ false → IsNew b → count < 4294967296 → IsPlan plan →
     IsServing plan count now now v b
-first_serving plan count now v b session serves none outbox counts over new fits sound = let requests = none.0 in record {
+first_serving plan count now v b session serves switch none outbox counts over new fits sound = let requests = none.0 in record {
   on = record {
-    underway = begun plan count v.session b session new;
+    underway = begun plan count v.session b session new switch;
     counts = counts;
     few = let none = ap length new.grams in omega (arith, none);
     fits = fits;
@@ -82,9 +86,9 @@ spent_some (inl e) = cc
 spent_some (inr e) = cc
 
 module _ (plan : Scenario) (count : ℕ) (first now : Told) (v : Serving) (b b' : Book) (some : 0 < count) (on : IsOn plan count v b) (heard : AreHeard first.heard now.heard b.grams)
-    (frames : b'.frames ≡ b.frames) (switch : b'.switch ≡ b.switch) (grams : b'.grams ≡ b.grams) (replies : b'.replies ≡ b.replies) (serving : b'.serving ≡ v.session.serving) (many : length v.session.notes ≡ length v.session.ring.nodes) where
+    (frames : b'.frames ≡ b.frames) (kept : SameSwitch b b') (grams : b'.grams ≡ b.grams) (replies : b'.replies ≡ b.replies) (serving : b'.serving ≡ v.session.serving) (many : length v.session.notes ≡ length v.session.ring.nodes) where
   pub sent_frames : HasSent plan count b'
-  sent_frames = has_frames plan count v.session b b' on.underway frames switch
+  sent_frames = has_frames plan count v.session b b' on.underway frames kept.switch
 
   has_grams : HasGrams plan count first now b'
   has_grams = record {
@@ -98,7 +102,7 @@ module _ (plan : Scenario) (count : ℕ) (first now : Told) (v : Serving) (b b' 
   stops_as : (ending : Ending) → b'.slaves ≡ session_rows v.session → StopsSo v.session ending → StopsAs plan count b' ending
   stops_as ending rows so = ended plan count v.session b b' on.underway frames rows many ending so
 
-  has_account : (ending : Ending) → b'.slaves ≡ session_rows v.session → (ending ≢ endings.PortFault → v.desk.outbox.items ≡ []) → (LeavesNone ending → ServingRests v.session) → HasAccount plan count b' ending
+  has_account : (ending : Ending) → b'.slaves ≡ session_rows v.session → (ending ≢ endings.PortFault → v.desk.outbox.items ≡ []) → (LeavesNone ending → ServingRests v.session × (are_at_rest (session_rows v.session) ≡ true)) → HasAccount plan count b' ending
   has_account ending rows all rests = record {
     session = v.session;
     requests = v.desk.requests.items;
@@ -107,9 +111,12 @@ module _ (plan : Scenario) (count : ℕ) (first now : Told) (v : Serving) (b b' 
     course = course';
     spelled = spelled_same (map heard_as b.grams) (map heard_as b'.grams) on.owed (b.replies ++ v.desk.outbox.items) (b'.replies ++ v.desk.outbox.items) (ap (map heard_as) grams) (ap (λ (l : List GramOut). l ++ v.desk.outbox.items) replies) on.spelled;
     answers = answers';
-    none = λ none. none_unfinished plan count v b on (rests none);
-    done = λ none. all_done plan v.session (map exchanged b'.frames) b'.grams v.desk.requests.items on.owed (dones_of plan count v.session b'.frames b'.grams v.desk.requests.items on.owed course') answers' (none_unfinished plan count v b on (rests none));
+    none = λ none. none_unfinished plan count v b on (rests none).0;
+    done = λ none. all_done plan v.session (map exchanged b'.frames) b'.grams v.desk.requests.items on.owed (dones_of plan count v.session b'.frames b'.grams v.desk.requests.items on.owed course') answers' (none_unfinished plan count v b on (rests none).0);
     rows = rows;
+    rests = λ none. all_rest plan count v.session b b' on.underway answers'.serving (rests none).0 rows many (rests none).1;
+    packets = has_packets plan v.session.ports v.session.ring.number v.session.master.lan b b' on.underway.ports (sym (ap length frames ∙ many_sent plan count v.session b on.underway)) kept on.underway.switched;
+    come = λ none. no_packet plan count v.session b b' on.underway answers'.serving (rests none).0 kept;
     steady = course_falls plan count on.is_plan v.session b'.frames b'.grams v.desk.requests.items on.owed course';
     stray = course_strays plan count on.is_plan v.session b'.frames b'.grams v.desk.requests.items on.owed course' b'.slaves rows;
     all = all;
@@ -134,10 +141,10 @@ module _ (plan : Scenario) (count : ℕ) (first now : Told) (v : Serving) (b b' 
   through_so ending result rows (inr is) so over rests empty sent = subst (IsServed plan count first now b') (sym is) tt
   through_so endings.Done result rows (inl is) so over rests empty sent =
       let apart : result ≢ endings.NoMemory = λ e. absurd (cc) in
-      subst (IsServed plan count first now b') (sym is) (stops_as endings.Done (rows apart) so, has_grams, record { over = over (λ e. absurd (cc)); sent = sent }, has_account endings.Done (rows apart) (λ other. empty) (λ none. rests (λ e. absurd (cc))))
+      subst (IsServed plan count first now b') (sym is) (stops_as endings.Done (rows apart) so, has_grams, record { over = over (λ e. absurd (cc)); sent = sent }, has_account endings.Done (rows apart) (λ other. empty) (λ none. (rests (λ e. absurd (cc)), so.0)))
   through_so endings.GivenUp result rows (inl is) so over rests empty sent =
       let apart : result ≢ endings.NoMemory = λ e. absurd (cc) in
-      subst (IsServed plan count first now b') (sym is) (stops_as endings.GivenUp (rows apart) so, has_grams, record { over = over (λ e. absurd (cc)); sent = sent }, has_account endings.GivenUp (rows apart) (λ other. empty) (λ none. rests (λ e. absurd (cc))))
+      subst (IsServed plan count first now b') (sym is) (stops_as endings.GivenUp (rows apart) so, has_grams, record { over = over (λ e. absurd (cc)); sent = sent }, has_account endings.GivenUp (rows apart) (λ other. empty) (λ none. (rests (λ e. absurd (cc)), so.0)))
   through_so endings.BudgetSpent result rows (inl is) so over rests empty sent =
       let apart : result ≢ endings.NoMemory = λ e. absurd (cc) in
       subst (IsServed plan count first now b') (sym is) (stops_as endings.BudgetSpent (rows apart) so, has_grams, sent, has_account endings.BudgetSpent (rows apart) (λ other. empty) (λ none. absurd (spent_some none)))
@@ -146,11 +153,11 @@ module _ (plan : Scenario) (count : ℕ) (first now : Told) (v : Serving) (b b' 
   through_so endings.Unfinished result rows (inl is) so over rests empty sent = absurd so
 
 -- what a serving that ended leaves
-pub served : (plan : Scenario) (count : ℕ) (first now : Told) (v : Serving) (b b' : Book) (ending result : Ending) → 0 < count → IsServing plan count first now v b → b'.frames ≡ b.frames → b'.switch ≡ b.switch → b'.grams ≡ b.grams → b'.replies ≡ b.replies →
+pub served : (plan : Scenario) (count : ℕ) (first now : Told) (v : Serving) (b b' : Book) (ending result : Ending) → 0 < count → IsServing plan count first now v b → b'.frames ≡ b.frames → SameSwitch b b' → b'.grams ≡ b.grams → b'.replies ≡ b.replies →
     b'.serving ≡ v.session.serving → length v.session.notes ≡ length v.session.ring.nodes → (result ≢ endings.NoMemory → b'.slaves ≡ session_rows v.session) → (result ≡ ending) ⊎ (result ≡ endings.NoMemory) → EndsSo v.session ending →
     (ending ≢ endings.BudgetSpent → can_hear v b ≡ false) → (ending ≢ endings.BudgetSpent → ServingRests v.session) → v.desk.outbox.items ≡ [] → IsServed plan count first now b' result
-served plan count first now v b b' ending result some h frames switch grams replies serving many rows is so whole rests empty =
-    through_so plan count first now v b b' some h.on h.heard frames switch grams replies serving many ending result rows is so
+served plan count first now v b b' ending result some h frames kept grams replies serving many rows is so whole rests empty =
+    through_so plan count first now v b b' some h.on h.heard frames kept grams replies serving many ending result rows is so
     (λ apart.
     let counts = h.on.counts in
     let few = h.on.few in
@@ -162,10 +169,10 @@ served plan count first now v b b' ending result some h frames switch grams repl
     (subst (AreSent first.sent now.sent) (sym replies) h.sent)
 
 -- what one leaves whose port failed
-pub faulted : (plan : Scenario) (count : ℕ) (first now : Told) (v : Serving) (b b' : Book) (result : Ending) → 0 < count → IsFaulted plan count first now v b → b'.frames ≡ b.frames → b'.switch ≡ b.switch → b'.grams ≡ b.grams → b'.replies ≡ b.replies →
+pub faulted : (plan : Scenario) (count : ℕ) (first now : Told) (v : Serving) (b b' : Book) (result : Ending) → 0 < count → IsFaulted plan count first now v b → b'.frames ≡ b.frames → SameSwitch b b' → b'.grams ≡ b.grams → b'.replies ≡ b.replies →
     b'.serving ≡ v.session.serving → length v.session.notes ≡ length v.session.ring.nodes → (result ≢ endings.NoMemory → b'.slaves ≡ session_rows v.session) → (result ≡ endings.PortFault) ⊎ (result ≡ endings.NoMemory) → IsServed plan count first now b' result
-faulted plan count first now v b b' result some h frames switch grams replies serving many rows is =
-    faulted_so plan count first now v b b' some h.on h.heard frames switch grams replies serving many result rows is
+faulted plan count first now v b b' result some h frames kept grams replies serving many rows is =
+    faulted_so plan count first now v b b' some h.on h.heard frames kept grams replies serving many result rows is
     (record { rose = h.rose; sent = subst (AreSentBut first.sent now.sent) (sym replies) h.sent })
 
 -- the port failed, or memory ran out

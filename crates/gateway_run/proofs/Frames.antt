@@ -1,9 +1,9 @@
 -- BEHIND A FRAME OF EITHER FATE one slave's desk is what its life has.
 use Rattle.std.proofs.Common.{◌≡◌, ℕ, Bool, true, false, Option, Some, None, List, [], ◌++◌, refl, sym, ap, ◌∙◌, subst, append-nil}
 use Rattle.std.specs.Prelude.{if◌then◌else◌, is_some, All}
-use Rattle.std.proofs.lemmas.List.Elements.{All-filter}
+use Rattle.std.proofs.lemmas.List.Elements.{All-filter, All-weaker}
 use Rattle.served_places.proofs.Behind.{behind_stays, unpassed_behind}
-use Rattle.served_places.specs.Rows.{AreAll, Stays, passed_rows}
+use Rattle.served_places.specs.Rows.{AreAll, Stays, passed_rows, passings, told_besides}
 use Rattle.served_places.specs.of_served_runs.Served.{Serves, ServedTurn, TellsSo, served_behind}
 use Rattle.served_places.specs.of_served_runs.Told.{Passed, replies_in, told_on}
 use Rattle.master_node.specs.Gateways.{done_told, life_told, replies_told}
@@ -23,16 +23,17 @@ use Rattle.run_book.specs.declared.book.GramIn.{GramIn}
 use Rattle.gateway_run.specs.Account.{Owing, left_by_all}
 use Rattle.gateway_run.specs.Desk.{AreApart}
 use Rattle.gateway_run.specs.Rooms.{begun_of, owed_for, waiting_of}
-use Rattle.gateway_run.specs.Replies.{Fares, IsDesk, IsFor, WasGivenUp, keyed_in}
+use Rattle.gateway_run.specs.Replies.{Fares, IsDesk, IsFor, IsOurs, WasGivenUp, keyed_in}
 use Rattle.gateway_run.specs.declared.desk.Request.{Request}
 use Rattle.gateway_run.proofs.Behind.{ends, stays, in_hand, told_of}
+use Rattle.gateway_run.proofs.Gives.{gives_told, over_same, owed_none_more}
 use Rattle.gateway_run.proofs.Hands.{desk_same, fares_same, keyed_none}
-use Rattle.gateway_run.proofs.Telling.{HasTold, IsBehind, IsOurs, OwesBesides, tells_nothing, tells_on, tells_over}
+use Rattle.gateway_run.proofs.Telling.{HasTold, IsBehind, OwesBesides, tells_nothing, tells_on, tells_over}
 
 -- NO MAIL WAS PASSED ON LAST: nothing is told
 module _ (gs : List GramIn) (slave : ℕ) (w v : Serves) (os more : List Owing) (came : List ℕ) (rs : List Request) (done done' : ℕ → Bool) where
   pub tells_none : w.hand ≡ None → v.hand ≡ None → v.waits ≡ w.waits → AllBoth Stays (passed_rows w.lead.lived.life) (passed_rows v.lead.lived.life) → (WasGivenUp w → WasGivenUp v) → OwesBesides gs slave os more rs [] done done' →
-      All (λ (r : Request). IsOurs gs slave r.gram) rs → IsDesk gs os slave w came (waiting_of slave rs) (begun_of slave rs) → HasTold gs slave w v os more came rs done done' rs
+      All (λ (r : Request). IsOurs gs slave r.gram) rs → IsDesk gs os slave w came (waiting_of slave rs) (begun_of slave rs) → HasTold gs slave w v os more came rs done done' [] rs
   tells_none none after same stay gone besides ours d = record {
     desk = record {
       waits = kept.waits;
@@ -41,7 +42,7 @@ module _ (gs : List GramIn) (slave : ℕ) (w v : Serves) (os more : List Owing) 
       newest = λ p e. absurd (let bad : None ≡ Some p = sym after ∙ e in cc);
       new = λ k r less. same_owed _ (All-filter _ (λ (r : Request). IsOurs gs slave r.gram) rs ours k r less) ∙ kept.new k r less;
       many = kept.many;
-      known = kept.known;
+      ours = kept.ours;
       rising = kept.rising;
       late = kept.late;
     };
@@ -49,6 +50,9 @@ module _ (gs : List GramIn) (slave : ℕ) (w v : Serves) (os more : List Owing) 
         subst (λ z. Fares v came (waiting_of slave rs) (begun_of slave rs) z number asked (owed_for number (os ++ more))) (sym (besides.ended number o))
         (subst (λ ms. Fares v came (waiting_of slave rs) (begun_of slave rs) (done number) number asked ms) (sym (same_owed number o))
         (fares_same gs slave w v came (waiting_of slave rs) (begun_of slave rs) (done number) number asked (owed_for number os) gone stay f));
+    whole = λ heard over all.
+        gives_told os done w v came (os ++ more) done' [] (owed_none_more os (os ++ more) came [] refl (All-weaker (IsOurs gs slave) (λ n. owed_for n (os ++ more) ≡ owed_for n os) same_owed came d.ours))
+        (λ a. over_same done done' came (passings w.lead.lived.life) (passings v.lead.lived.life) (All-weaker (IsOurs gs slave) (λ n. done' n ≡ done n) besides.ended came d.ours) a over) heard all;
   }
     where
       kept : IsDesk gs os slave v came (waiting_of slave rs) (begun_of slave rs)
@@ -87,8 +91,8 @@ module _ (lens : ℕ → Lens) (recover retry : ℕ) (gives : Bool) (made : ℕ)
     pub undone : All (λ (r : Request). done r.gram ≡ false) rs
 
   module _ (k : IsKnown) (d : IsDesk gs os slave before came (waiting_of slave rs) (begun_of slave rs)) where
-    abbrev Told : List Request → Type 0
-    Told qs = HasTold gs slave before (behind Pass) os more came rs done done' qs
+    abbrev Told : List Body → List Request → Type 0
+    Told told qs = HasTold gs slave before (behind Pass) os more came rs done done' told qs
 
     stay : AllBoth Stays (passed_rows v.turn.lived.life) (passed_rows (behind Pass).lead.lived.life)
     stay = behind_stays lens recover retry gives made (record { sent = sent; fate = Pass; back = back }) v
@@ -120,32 +124,32 @@ module _ (lens : ℕ → Lens) (recover retry : ℕ) (gives : Bool) (made : ℕ)
           ∙ ap (λ s. if is_left s then [] else replies_told p.key new ++ done_told p.key (is_some v.turn.lived.life.era.passing) (is_some (behind Pass).lead.lived.life.era.passing)) (k.opened p e)
           ∙ (λ i. replies_told p.key new ++ done_told p.key (is_some (g i)) (is_some (f i)))
 
-      by_passing : (o : Option Passing) → v.turn.lived.life.era.passing ≡ o → (q : Option Passing) → (behind Pass).lead.lived.life.era.passing ≡ q → Told (left_by_all tells rs)
+      by_passing : (o : Option Passing) → v.turn.lived.life.era.passing ≡ o → (q : Option Passing) → (behind Pass).lead.lived.life.era.passing ≡ q → Told new (left_by_all tells rs)
       by_passing None g q f =
           let none : new ≡ [] = ap (λ o. replies_in o accepted) g in
           let quiet : tells ≡ [] = tells_so q f None g ∙ ap (λ l. replies_told p.key l ++ []) none in
           let over = unpassed_behind lens recover retry gives made (record { sent = sent; fate = Pass; back = back }) v g in
           let keyed : AllBoth (IsFor gs) (begun_of slave rs) (keyed_in (behind Pass).hand (behind Pass).lead.lived.life.era.passing) =
           subst (AllBoth (IsFor gs) (begun_of slave rs)) (ap (keyed_in v.hand) g ∙ keyed_none v.hand ∙ sym (ap (keyed_in (behind Pass).hand) over ∙ keyed_none (behind Pass).hand)) d.in_hand in
-          subst Told (sym (ap (λ l. left_by_all l rs) quiet))
+          subst (Told new) (sym (ap (λ l. left_by_all l rs) quiet))
           (tells_nothing gs slave before (behind Pass) os more came rs [] done done' p new (known [] quiet) d false (λ n. refl) (λ n. refl) none keyed)
       by_passing (Some x) g (Some y) f =
           let t = tells_so (Some y) f (Some x) g in
           let i = in_hand gs slave before (behind Pass) os more came rs p new e x g d in
-          subst Told (sym (ap (λ l. left_by_all l rs) t ∙ stays gs slave before (behind Pass) os more came rs p new k.apart i))
+          subst (Told new) (sym (ap (λ l. left_by_all l rs) t ∙ stays gs slave before (behind Pass) os more came rs p new k.apart i))
           (tells_on gs slave before (behind Pass) os more came rs (told_of gs slave before (behind Pass) os more came rs p new true true) done done' p new (known _ t) d k.apart x g y f refl)
       by_passing (Some x) g None f =
           let t = tells_so None f (Some x) g in
           let i = in_hand gs slave before (behind Pass) os more came rs p new e x g d in
-          subst Told (sym (ap (λ l. left_by_all l rs) t ∙ ends gs slave before (behind Pass) os more came rs p new k.apart i))
+          subst (Told new) (sym (ap (λ l. left_by_all l rs) t ∙ ends gs slave before (behind Pass) os more came rs p new k.apart i))
           (tells_over gs slave before (behind Pass) os more came rs (told_of gs slave before (behind Pass) os more came rs p new true false) done done' p new (known _ t) d k.apart x g f (k.all p e x g f) refl)
 
-    by_hand : (h : Option Passed) → v.hand ≡ h → Told (left_by_all tells rs)
+    by_hand : (h : Option Passed) → v.hand ≡ h → Told (told_besides h v.turn.lived.life.era.passing accepted) (left_by_all tells rs)
     by_hand None e =
         let quiet : tells ≡ [] = ap (λ h. life_told h accepted v.turn.lived.life (behind Pass).lead.lived.life) e in
-        subst Told (sym (ap (λ l. left_by_all l rs) quiet))
+        subst (Told []) (sym (ap (λ l. left_by_all l rs) quiet))
         (tells_none gs slave before (behind Pass) os more came rs done done' e (ap (told_on v.turn.lived.life.era.passing accepted) e) refl stay k.gone (subst (λ l. OwesBesides gs slave os more rs l done done') quiet k.besides) k.ours d)
     by_hand (Some p) e = by_passing p e v.turn.lived.life.era.passing refl (behind Pass).lead.lived.life.era.passing refl
 
-    pub slave_back : Told (left_by_all tells rs)
+    pub slave_back : Told (told_besides v.hand v.turn.lived.life.era.passing accepted) (left_by_all tells rs)
     slave_back = by_hand v.hand refl

@@ -24,7 +24,7 @@ use Rattle.gateway_run.specs.Replies.{Fares, Fares.dropped, Fares.replies, Fares
 use Rattle.gateway_run.specs.declared.desk.Request.{Request}
 use Rattle.gateway_run.proofs.Hands.{all_in, among_at, at_last, both_many, late_stays, rises_apart, rises_first, row_stays}
 
-told_append : (as' bs : List Body) → mails_told (as' ++ bs) ≡ mails_told as' ++ mails_told bs
+pub told_append : (as' bs : List Body) → mails_told (as' ++ bs) ≡ mails_told as' ++ mails_told bs
 told_append [] bs = refl
 told_append (Ok m ∷ as') bs = ap (λ l. record m { address = 0; counter = 0 } ∷ l) (told_append as' bs)
 told_append (Err fault ∷ as') bs = told_append as' bs
@@ -63,7 +63,7 @@ module _ (gs : List GramIn) (slave : ℕ) (w v : Serves) (came : List ℕ) (wait
         }));
     new = λ k r less. t.others k r less ∙ d.new k r less;
     many = d.many ∙ both_many Stays (passed_rows w.lead.lived.life) (passed_rows v.lead.lived.life) t.stay;
-    known = d.known;
+    ours = d.ours;
     rising = d.rising;
     late = late_stays gs came (passed_rows w.lead.lived.life) (passed_rows v.lead.lived.life) d.late t.stay;
   }
@@ -78,7 +78,7 @@ module _ (gs : List GramIn) (slave : ℕ) (w v : Serves) (came : List ℕ) (wait
     newest = λ p e. absurd (let bad : None ≡ Some p = sym hand ∙ e in cc);
     new = All-nil (IsNew (os ++ more));
     many = d.many ∙ both_many Stays (passed_rows w.lead.lived.life) (passed_rows v.lead.lived.life) stay;
-    known = d.known;
+    ours = d.ours;
     rising = subst AreRising (sym (append-nil came)) (rises_first came (grams_of waiting) d.rising);
     late = late_stays gs came (passed_rows w.lead.lived.life) (passed_rows v.lead.lived.life) d.late stay;
   }

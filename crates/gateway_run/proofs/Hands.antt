@@ -63,7 +63,7 @@ pub rises_on : (ns : List ℕ) (n : ℕ) → AreRising ns → All (λ m. m < n) 
 rises_on [] n r below = (All-nil (λ m. n < m), tt)
 rises_on (m ∷ ns) n r below = (All-push (λ k. m < k) ns n r.0 (All-head (λ k. k < n) m ns below), rises_on ns n r.1 (All-tail (λ k. k < n) m ns below))
 
-all_left : (P : ℕ → Type 0) (ns ms : List ℕ) → All P (ns ++ ms) → All P ns
+pub all_left : (P : ℕ → Type 0) (ns ms : List ℕ) → All P (ns ++ ms) → All P ns
 all_left P [] ms a = All-nil P
 all_left P (n ∷ ns) ms a = All-cons P n ns (All-head P n (ns ++ ms) a) (all_left P ns ms (All-tail P n (ns ++ ms) a))
 
@@ -99,7 +99,7 @@ in_front n (m ∷ ns) ms e = go (n == m) refl (λ f. in_front n ns ms f)
     go true f on = in_head n m true f (ns ++ ms)
     go false f on = in_head n m false f (ns ++ ms) ∙ on (sym (in_head n m false f ns) ∙ e)
 
-in_back : (n : ℕ) (ns ms : List ℕ) → is_in n ms ≡ true → is_in n (ns ++ ms) ≡ true
+pub in_back : (n : ℕ) (ns ms : List ℕ) → is_in n ms ≡ true → is_in n (ns ++ ms) ≡ true
 in_back n ns ms e = go (is_in n ns) refl
   where
     go : (b : Bool) → is_in n ns ≡ b → is_in n (ns ++ ms) ≡ true
@@ -167,7 +167,7 @@ module _ (gs : List GramIn) (slave : ℕ) (w v : Serves) (came : List ℕ) (wait
     newest = λ p e. d.newest p (hand p e);
     new = d.new;
     many = d.many ∙ both_many Stays (passed_rows w.lead.lived.life) (passed_rows v.lead.lived.life) stay;
-    known = d.known;
+    ours = d.ours;
     rising = d.rising;
     late = late_stays gs came (passed_rows w.lead.lived.life) (passed_rows v.lead.lived.life) d.late stay;
   }

@@ -16,10 +16,10 @@ use Rattle.master_node.specs.of_master_tour.Made.{is_in}
 use Rattle.run_book.specs.declared.book.GramIn.{GramIn}
 use Rattle.gateway_run.specs.Account.{Owing, waits_at}
 use Rattle.gateway_run.specs.Rooms.{AreRising, begun_of, grams_of, has_begun, owed_for, waiting_of}
-use Rattle.gateway_run.specs.Replies.{AllDesk, Fares, Fares.dropped, Fares.replies, Fares.waits, HasRow, IsDesk, IsFor, IsHeard, IsLate, IsNew, IsNewest, StandsSo, keyed_in}
+use Rattle.gateway_run.specs.Replies.{AllDesk, Fares, Fares.dropped, Fares.replies, Fares.waits, HasRow, IsDesk, IsFor, IsHeard, IsLate, IsNew, IsNewest, IsOurs, StandsSo, keyed_in}
 use Rattle.gateway_run.specs.declared.desk.Request.{Request}
 use Rattle.gateway_run.proofs.Accounts.{get_on}
-use Rattle.gateway_run.proofs.Comes.{known_at}
+use Rattle.gateway_run.proofs.Comes.{known_at, ours_known}
 use Rattle.gateway_run.proofs.Hands.{both_push, in_head, rises_on}
 use Rattle.gateway_run.proofs.Rooms.{not_same}
 
@@ -148,9 +148,9 @@ module _ (gs : List GramIn) (g : GramIn) (os more : List Owing) (quiet : (n : �
     newest = λ p e. newest_more slave came p (d.newest p e);
     new = λ k r less. quiet (slice_index_or waiting k r).gram (known_waiting waiting w.waits d.waits k r less) ∙ d.new k r less;
     many = d.many;
-    known = All-weaker (λ (n : ℕ). n < length gs) (λ (n : ℕ). n < length all) longer came d.known;
+    ours = All-weaker (IsOurs gs slave) (IsOurs all slave) (λ n o. record { gram = o.gram; there = get_on gs (g ∷ []) n o.gram o.there; queued = o.queued }) came d.ours;
     rising = d.rising;
-    late = late_more gs g came (passed_rows w.lead.lived.life) d.known d.late;
+    late = late_more gs g came (passed_rows w.lead.lived.life) (ours_known gs slave came d.ours) d.late;
   }
 
   -- one at which a mail more waits
@@ -165,10 +165,10 @@ module _ (gs : List GramIn) (g : GramIn) (os more : List Owing) (quiet : (n : �
         newest = old.newest;
         new = All-push (IsNew now) waiting r old.new (ap (λ n. owed_for n now) at ∙ none);
         many = old.many;
-        known = old.known;
+        ours = old.ours;
         rising = subst AreRising (append_assoc came (grams_of waiting) (r.gram ∷ []) ∙ ap (λ l. came ++ l) (sym (grams_push waiting r)))
             (rises_on (came ++ grams_of waiting) r.gram d.rising (subst (λ n. All (λ (m : ℕ). m < n) (came ++ grams_of waiting)) (sym at)
-            (All-append (λ (m : ℕ). m < length gs) came (grams_of waiting) d.known (All-map (λ (m : ℕ). m < length gs) (λ (q : Request). q.gram) waiting (known_waiting waiting w.waits d.waits)))));
+            (All-append (λ (m : ℕ). m < length gs) came (grams_of waiting) (ours_known gs slave came d.ours) (All-map (λ (m : ℕ). m < length gs) (λ (q : Request). q.gram) waiting (known_waiting waiting w.waits d.waits)))));
         late = old.late;
       }
 

@@ -9,6 +9,7 @@ use Rattle.served_places.specs.of_served_runs.Served.{Keyed, MayAsk, Serves, ask
 use Rattle.mailbox_mail.specs.Mail.{error_of}
 use Rattle.mailbox_mail.specs.declared.mail.Mail.{Mail}
 use Rattle.master_node.specs.of_frame_view.View.{Lens}
+use Rattle.master_node.specs.of_life_frames.Shares.{AllBoth}
 use Rattle.master_node.specs.of_life_runs.First.{lens_of}
 use Rattle.master_node.specs.of_life_runs.Led.{Exchanged}
 use Rattle.master_node.specs.of_master_tour.Made.{is_in}
@@ -20,10 +21,11 @@ use Rattle.segment_plan.specs.Sound.{IsPlan}
 use Rattle.segment_plan.specs.declared.plan.Scenario.{Scenario}
 use Rattle.gateway_run.specs.Account.{IsFree, Judges, Judges.ignored as is_ignored, Judges.refused as is_refused, Judges.too_many, Judges.queues, Owing, waits_at}
 use Rattle.gateway_run.specs.Rooms.{begun_of, grams_of, owed_for, waiting_of}
-use Rattle.gateway_run.specs.Replies.{AllDesk, AllGot, Answers, Fares, Fares.waits, Got, Got.ignored, Got.queued, Got.refused, IsFor, IsHeard, IsUndone}
+use Rattle.gateway_run.specs.Replies.{AllDesk, AllGot, Answers, Fares, Fares.waits, GivesAll, Got, Got.ignored, Got.queued, Got.refused, IsFor, IsHeard, IsUndone}
 use Rattle.gateway_run.specs.declared.desk.Request.{Request}
 use Rattle.gateway_run.proofs.Accounts.{apart_push, unlike_push}
 use Rattle.gateway_run.proofs.Comes.{known_at}
+use Rattle.gateway_run.proofs.Gives.{all_give, asked_give}
 use Rattle.gateway_run.proofs.Hands.{among_at, at_last, both_many}
 use Rattle.gateway_run.proofs.Hearing.{asked_lookup, asked_told, below_out, desks_asked, desks_more, fares_asked, grams_push, heard_more, longer, none_owed, waits_push}
 use Rattle.gateway_run.proofs.Rooms.{owed_append, owed_one, owed_other}
@@ -33,6 +35,16 @@ got_push : (serves : List Serves) (came : List (List ℕ)) (rs : List Request) (
     AllGot serves came rs dones os n (gs ++ g ∷ [])
 got_push serves came rs dones os n m [] g e a b = (subst (λ k. Got serves came rs dones k g (owed_for k os)) (let same : m ≡ n = omega (arith, e) in same) b, tt)
 got_push serves came rs dones os n m (h ∷ gs) g e a b = (a.0, got_push serves came rs dones os (suc n) m gs g (omega (arith, e)) a.1 b)
+
+-- what one of them got
+pub got_at : (serves : List Serves) (came : List (List ℕ)) (rs : List Request) (dones : List ℕ) (os : List Owing) (k : ℕ) (gs : List GramIn) → AllGot serves came rs dones os k gs → (j m : ℕ) (g : GramIn) → m ≡ k + j → slice_get gs j ≡ Some g →
+    Got serves came rs dones m g (owed_for m os)
+got_at serves came rs dones os k [] a j m g e at = absurd (cc)
+got_at serves came rs dones os k (x ∷ gs) a zero m g e at =
+    let same : x ≡ g = cc in
+    let here : k ≡ m = omega (arith, e) in
+    subst (λ i. Got serves came rs dones i g (owed_for i os)) here (subst (λ z. Got serves came rs dones k z (owed_for k os)) same a.0)
+got_at serves came rs dones os k (x ∷ gs) a (suc j) m g e at = got_at serves came rs dones os (suc k) gs a.1 j m g (omega (arith, e)) at
 
 -- each of the earlier ones, by what it got
 got_each : (serves new : List Serves) (came : List (List ℕ)) (rs rs' : List Request) (dones : List ℕ) (os now : List Owing) (n : ℕ) (gs : List GramIn) →
@@ -105,6 +117,7 @@ module _ (plan : Scenario) (s s' : SessionState) (fs : List Exchanged) (gs : Lis
       got = subst (λ z. AllGot z old.came rs dones (os ++ more) 0 (gs ++ g ∷ [])) (sym same)
           (got_push ws old.came rs dones (os ++ more) 0 n gs g (omega arith)
           (got_each ws ws old.came rs rs dones os (os ++ more) 0 gs (λ j m h e at b. subst (Got ws old.came rs dones m h) (sym (quiet m (let less = known_at gs j h at in omega (arith, less, e)))) b) old.got) got);
+      whole = λ none. subst (λ z. AllBoth (GivesAll (os ++ more) (λ m. is_in m dones)) z old.came) (sym same) (all_give gs rs os (os ++ more) (λ m. is_in m dones) quiet 0 ws old.came old.desk (old.whole none));
     }
 
   -- one error is owed by it at once
@@ -172,6 +185,9 @@ module _ (plan : Scenario) (s s' : SessionState) (fs : List Exchanged) (gs : Lis
       owed = All-append (λ (o : Owing). o.gram < length (gs ++ g ∷ [])) os [] (All-weaker (λ (o : Owing). o.gram < length gs) (λ (o : Owing). o.gram < length (gs ++ g ∷ [])) (λ o less. longer gs g os [] quiet o.gram less) os old.owed) (All-nil (λ (o : Owing). o.gram < length (gs ++ g ∷ [])));
       got = subst (λ z. AllGot z old.came (rs ++ r ∷ []) dones (os ++ []) 0 (gs ++ g ∷ [])) (sym on.serves)
           (got_push (asked_at slave k ws) old.came (rs ++ r ∷ []) dones (os ++ []) 0 n gs g (omega arith) (got_each ws (asked_at slave k ws) old.came rs (rs ++ r ∷ []) dones os (os ++ []) 0 gs got_old old.got) got_new);
+      whole = λ none.
+          subst (λ z. AllBoth (GivesAll (os ++ []) (λ m. is_in m dones)) z old.came) (sym on.serves)
+          (asked_give (os ++ []) (λ m. is_in m dones) slave k ws old.came (all_give gs rs os (os ++ []) (λ m. is_in m dones) quiet 0 ws old.came old.desk (old.whole none)));
     }
 
   -- WHATEVER BECOMES OF IT

@@ -10,6 +10,7 @@ pub mod Dones
 pub mod Ended
 pub mod Frames
 pub mod Given
+pub mod Gives
 pub mod Gones
 pub mod Hands
 pub mod Hearing
@@ -18,6 +19,7 @@ pub mod Judging
 pub mod Leds
 pub mod Losts
 pub mod Places
+pub mod Rested
 pub mod Room
 pub mod Rooms
 pub mod Rounds

@@ -3,9 +3,10 @@ use Rattle.std.proofs.Common.{◌≡◌, ℕ, ◌≤◌, Bool, true, false, Some
 use Rattle.std.specs.Prelude.{◌==◌, cond, if◌then◌else◌, slice_get, slice_index_or, All, Ok}
 use Rattle.std.proofs.lemmas.List.Elements.{All-filter, filter-append, filter_passes}
 use Rattle.gateway_core.specs.Framing.{request_in}
-use Rattle.served_places.specs.Rows.{AreAll}
-use Rattle.served_places.specs.of_served_runs.Served.{Serves, ServedTurn, IsServedTurn, TellsSo, gives_it, served_behind}
-use Rattle.served_places.specs.of_served_runs.Told.{Passed, replies_in}
+use Rattle.served_places.proofs.Hears.{behind_heard, behind_over}
+use Rattle.served_places.specs.Rows.{AreAll, HearsNoMore, told_besides}
+use Rattle.served_places.specs.of_served_runs.Served.{Serves, ServedTurn, IsServedTurn, TellsSo, accepted_by, gives_it, served_behind}
+use Rattle.served_places.specs.of_served_runs.Told.{Passed, TellsOwn, replies_in}
 use Rattle.mailbox_mail.specs.declared.mail.Mail.{Mail}
 use Rattle.master_node.specs.Events.{begun_told}
 use Rattle.master_node.specs.Serving.{serves_of}
@@ -14,6 +15,7 @@ use Rattle.master_node.specs.Listing.{told_in}
 use Rattle.master_node.specs.of_datagrams.Datagram as Raw
 use Rattle.master_node.specs.of_frame_view.View.{Lens}
 use Rattle.master_node.specs.of_life_model.Lives.{Stand}
+use Rattle.master_node.specs.of_life_runs.Led.{Exchanged}
 use Rattle.master_node.specs.of_master_tour.Made.{is_in}
 use Rattle.master_node.specs.of_master_tour.Orders.{AreOnce}
 use Rattle.master_node.specs.of_segment_model.Ends.{Passing}
@@ -23,14 +25,14 @@ use Rattle.run_book.specs.declared.book.GramIn.{GramIn}
 use Rattle.gateway_run.specs.Account.{Owing, is_of, left_by_all, owed_by, owed_by_all, waits_at}
 use Rattle.gateway_run.specs.Desk.{AreApart}
 use Rattle.gateway_run.specs.Rooms.{AreFiled, begun_of, done_by, done_by_all, only, owed_for, requests_of, waiting_of}
-use Rattle.gateway_run.specs.Replies.{Fares, IsDesk, IsHeard, IsUndone, WasGivenUp}
+use Rattle.gateway_run.specs.Replies.{Fares, GivesAll, IsDesk, IsHeard, IsOurs, IsUndone, WasGivenUp}
 use Rattle.gateway_run.specs.declared.desk.Request.{Request}
 use Rattle.gateway_run.proofs.Accounts.{unlike_filter}
 use Rattle.gateway_run.proofs.Rooms.{begun_here, owed_append, waits_here}
 use Rattle.gateway_run.proofs.Views.{AreOf, done_is_here, done_none, events_keep, events_unlike, owed_is, owed_is_here, owed_none}
 use Rattle.gateway_run.proofs.Places.{IsAlone, places_give, places_leave, told_where}
 use Rattle.gateway_run.proofs.Begins.{HasBegun, slave_begins}
-use Rattle.gateway_run.proofs.Telling.{HasTold, IsOurs, OwesBesides}
+use Rattle.gateway_run.proofs.Telling.{HasTold, OwesBesides}
 use Rattle.gateway_run.proofs.Frames.{accepted, slave_back, tells}
 use Rattle.gateway_run.proofs.Losts.{given, slave_lost, tells_lost}
 
@@ -107,6 +109,8 @@ module _ (lens : ℕ → Lens) (recover retry : ℕ) (gives : Bool) (made : ℕ)
       pub shows_is : told_where shows i second ≡ tells_by fate
       pub opened : (p : Passed) → v.hand ≡ Some p → v.turn.lived.life.stand ≡ Stand.Open
       pub own : TellsSo (slave_by fate)
+      pub had : (p : Passed) → v.hand ≡ Some p → TellsOwn p v.turn.lived.life.era.passing v.turn.lived.life.era.side.now
+      pub free : v.hand ≡ None → v.turn.lived.life.stand ≡ Stand.Open → v.turn.lived.life.era.passing ≡ None
       pub all : fate ≡ Pass → (p : Passed) → v.hand ≡ Some p → (x : Passing) → v.turn.lived.life.era.passing ≡ Some x → (slave_by Pass).lead.lived.life.era.passing ≡ None → AreAll (p.told ++ replies_in v.turn.lived.life.era.passing (accepted lens recover retry gives made sent back v gs i os more came rs1 (λ n. is_in n dones) (λ n. is_in n (dones ++ ended))))
       pub gone_next : WasGivenUp w → WasGivenUp (serves_of v)
       pub gone : WasGivenUp (serves_of v) → WasGivenUp (slave_by fate)
@@ -118,6 +122,7 @@ module _ (lens : ℕ → Lens) (recover retry : ℕ) (gives : Bool) (made : ℕ)
       pub desk : IsDesk gs (os ++ more) i (slave_by fate) comes (waiting_of i rs2) (begun_of i rs2)
       pub fares : (number : ℕ) (asked : Mail) (o : IsOurs gs i number) → request_in o.gram.bytes ≡ Ok asked →
           Fares w came (waiting_of i rs) (begun_of i rs) (is_in number dones) number asked (owed_for number os) → Fares (slave_by fate) comes (waiting_of i rs2) (begun_of i rs2) (is_in number (dones ++ ended)) number asked (owed_for number (os ++ more))
+      pub whole : HearsNoMore lens recover retry (record { sent = sent; fate = fate; back = back }) v → GivesAll os (λ n. is_in n dones) w came → GivesAll (os ++ more) (λ n. is_in n (dones ++ ended)) (slave_by fate) comes
 
     -- what is said of the slave's own requests is said of all
     to_all : (P : List Request → List Request → Type 0) (qs all : List Request) → requests_of i all ≡ qs → P (waiting_of i qs) (begun_of i qs) → P (waiting_of i all) (begun_of i all)
@@ -174,17 +179,23 @@ module _ (lens : ℕ → Lens) (recover retry : ℕ) (gives : Bool) (made : ℕ)
       }
 
       module _ (fate : Fate) (s : SlaveSteps fate) (d : IsDesk gs os i w came (waiting_of i rs) (begun_of i rs)) where
+        abbrev exchanged : Exchanged
+        exchanged = record { sent = sent; fate = fate; back = back }
+
         begun1 : HasBegun lens made s.datagrams w v s.turn gs i os came (requests_of i rs) (requests_of i rs1)
         begun1 = slave_first a.once1 a.own1 s.datagrams s.turn s.number s.forwards s.oldest s.begins_is s.gone_next a.early d
 
         -- behind the frame
-        stepped : HasTold gs i (serves_of v) (slave_by fate) os more begun1.comes (requests_of i rs1) (λ n. is_in n dones) (λ n. is_in n (dones ++ ended)) (left_by_all (tells_by fate) (requests_of i rs1)) → HasStepped fate
+        stepped : HasTold gs i (serves_of v) (slave_by fate) os more begun1.comes (requests_of i rs1) (λ n. is_in n dones) (λ n. is_in n (dones ++ ended)) (told_besides v.hand v.turn.lived.life.era.passing (accepted_by lens recover retry exchanged fate v)) (left_by_all (tells_by fate) (requests_of i rs1)) → HasStepped fate
         stepped t = record {
           comes = begun1.comes;
           desk = to_all (IsDesk gs (os ++ more) i (slave_by fate) begun1.comes) (left_by_all (tells_by fate) (requests_of i rs1)) rs2 left2 t.desk;
           fares = λ number asked o request f.
               to_all (λ ws bs. Fares (slave_by fate) begun1.comes ws bs (is_in number (dones ++ ended)) number asked (owed_for number (os ++ more))) (left_by_all (tells_by fate) (requests_of i rs1)) rs2 left2
               (t.fares number asked o request (begun1.fares (is_in number dones) number asked o.gram o.there request (to_own (λ ws bs. Fares w came ws bs (is_in number dones) number asked (owed_for number os)) rs f)));
+          whole = λ quiet all.
+              t.whole (behind_heard lens recover retry gives made exchanged v s.had s.free quiet) (behind_over lens recover retry gives made exchanged v)
+              (begun1.whole (λ n. is_in n dones) (All-filter (is_of i) (IsUndone dones) rs a.undone) all);
         }
           where
             left2 : requests_of i rs2 ≡ left_by_all (tells_by fate) (requests_of i rs1)

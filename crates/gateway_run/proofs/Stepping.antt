@@ -1,31 +1,37 @@
 -- ONE FRAME MORE OF A SERVING: its desks and its datagrams behind that.
-use Rattle.std.proofs.Common.{◌≡◌, ◌<◌, ◌≤◌, ℕ, suc, ◌+◌, Bool, true, false, Some, None, List, [], ◌∷◌, ◌++◌, length, map, refl, sym, ap, ◌∙◌, subst, append-nil, length-append, eqb-true, arith}
-use Rattle.std.specs.Prelude.{◌≢◌, ◌==◌, cond, filter, find, if◌then◌else◌, nat_le, not, slice_get, slice_index_or, All}
+use Rattle.std.proofs.Common.{◌≡◌, ◌<◌, ◌≤◌, ℕ, suc, ◌+◌, Bool, true, false, Option, Some, None, List, [], ◌∷◌, ◌++◌, length, map, refl, sym, ap, ◌∙◌, subst, append-nil, append_assoc, length-append, eqb-true, arith}
+use Rattle.std.specs.Prelude.{◌≢◌, ◌==◌, cond, filter, find, if◌then◌else◌, is_some, nat_le, not, slice_get, slice_index_or, All}
 use Rattle.std.proofs.lemmas.Bool.{leb-true}
 use Rattle.std.proofs.lemmas.List.Elements.{All-nil, All-append, All-cons, All-filter, All-head, All-map, All-tail, All-weaker}
-use Rattle.served_places.proofs.Held.{all_held}
+use Rattle.served_places.proofs.Held.{all_has}
+use Rattle.served_places.proofs.of_served_runs.Tells.{HasPassed}
 use Rattle.served_places.proofs.of_served_runs.Telling.{serves_tell}
-use Rattle.served_places.specs.Rows.{IsHeld, ToldAll}
+use Rattle.served_places.specs.Rows.{ToldAll}
 use Rattle.served_places.specs.of_served_runs.Served.{Serves, ServedTurn, TellsSo}
+use Rattle.served_places.specs.of_served_runs.Told.{Passed}
 use Rattle.mailbox_mail.specs.Mail.{error_of}
 use Rattle.mailbox_mail.specs.declared.mail.Mail.{Mail}
 use Rattle.master_node.specs.Begins.{begun_of as began_of}
 use Rattle.master_node.specs.Events.{oldest_in}
 use Rattle.master_node.specs.Gateways.{is_gateway}
 use Rattle.master_node.specs.Listing.{number_at, told_in}
+use Rattle.master_node.specs.Named.{IsHanded, is_left}
 use Rattle.master_node.specs.Origins.{forwards_at}
 use Rattle.master_node.specs.Serving.{IsServed, run_lead, run_turn}
 use Rattle.master_node.specs.declared.event.Event.{Event}
 use Rattle.master_node.specs.declared.event.Event.TheVariants as events
 use Rattle.master_node.specs.declared.post.Post.{Post}
+use Rattle.master_node.specs.declared.post.Work.{Work}
 use Rattle.master_node.specs.of_frame_view.View.{Lens}
-use Rattle.master_node.specs.of_life_frames.Shares.{AllThree}
+use Rattle.master_node.specs.of_life_frames.Shares.{AllBoth, AllThree}
+use Rattle.master_node.specs.of_life_model.Lives.{Stand}
 use Rattle.master_node.specs.of_life_runs.First.{first_leads, lens_of}
 use Rattle.master_node.specs.of_life_runs.Led.{Exchanged, gives_up_at}
 use Rattle.master_node.specs.of_master_hand.declared.hand.InHand.{InHand}
 use Rattle.master_node.specs.of_master_side.declared.hand.Hand.{Ghosts}
 use Rattle.master_node.specs.of_master_tour.Made.{is_in}
 use Rattle.master_node.specs.of_master_tour.declared.stop.Stop.{Stop}
+use Rattle.master_node.specs.of_segment_model.Ends.{Passing}
 use Rattle.run_book.specs.declared.book.GramIn.{GramIn}
 use Rattle.run_record.specs.Served.{ServesOn, told_behind}
 use Rattle.run_record.specs.Session.{SessionState}
@@ -33,7 +39,7 @@ use Rattle.segment_plan.specs.declared.plan.Scenario.{Scenario}
 use Rattle.gateway_run.specs.Account.{Owing, has_key, is_other, left_by, left_by_all, owed_by, owed_by_all, owed_to, owing, replied, waits_at}
 use Rattle.gateway_run.specs.Events.{events_of}
 use Rattle.gateway_run.specs.Rooms.{AreFiled, done_by, done_by_all, grams_of, owed_for}
-use Rattle.gateway_run.specs.Replies.{AllDesk, AllGot, Answers, Got, Got.ignored, Got.queued, Got.refused, IsHeard, IsUndone}
+use Rattle.gateway_run.specs.Replies.{AllDesk, AllGot, Answers, GivesAll, Got, Got.ignored, Got.queued, Got.refused, HearNoMore, IsHeard, IsOurs, IsUndone}
 use Rattle.gateway_run.specs.declared.desk.Request.{Request}
 use Rattle.gateway_run.proofs.Comes.{known_at}
 use Rattle.gateway_run.proofs.Rooms.{owed_append}
@@ -44,7 +50,22 @@ use Rattle.gateway_run.proofs.Turnings.{IsLively}
 use Rattle.gateway_run.proofs.Views.{event_keeps, event_unlike, events_keep, events_unlike, given_both, given_none, left_append, owed_both, owed_is, owed_none}
 
 -- WHAT IS KNOWN OF EACH SLAVE between frames, by what the master has of it
-pub lively : {G : Ghosts InHand} (lens : ℕ → Lens) (recover made : ℕ) (ws : List Serves) (ps : List Post) (ss : List (Stop InHand G)) → AllThree (λ w p s. IsServed lens recover made w p s) ws ps ss → All IsHeld ws → All ToldAll ws → All IsLively ws
+-- while no mail is in hand that was passed on, none is under way of an open slave
+none_handed : (work : Work) (w : Serves) → IsHanded work w.hand w.lead.lived.life → w.hand ≡ None → w.lead.lived.life.stand ≡ Stand.Open → w.lead.lived.life.era.passing ≡ None
+none_handed work w h none opened = go w.lead.lived.life.era.passing refl
+  where
+    go : (p : Option Passing) → w.lead.lived.life.era.passing ≡ p → p ≡ None
+    go None e = refl
+    go (Some p) e = absurd (
+        let key = h.only (ap is_left opened) (ap (λ (o : Option Passing). is_some o) e) in
+        let named = h.named key.0 key.1 in
+        let bad : None ≡ Some named.passed = sym none ∙ named.is in
+        cc)
+
+abbrev Had : Serves → Type 0
+Had w = (p : Passed) → w.hand ≡ Some p → HasPassed p w.lead.lived.life
+
+pub lively : {G : Ghosts InHand} (lens : ℕ → Lens) (recover made : ℕ) (ws : List Serves) (ps : List Post) (ss : List (Stop InHand G)) → AllThree (λ w p s. IsServed lens recover made w p s) ws ps ss → All Had ws → All ToldAll ws → All IsLively ws
 lively lens recover made [] [] [] h a b = All-nil IsLively
 lively lens recover made [] [] (s ∷ ss) h a b = absurd h
 lively lens recover made [] (p ∷ ps) [] h a b = absurd h
@@ -55,12 +76,14 @@ lively lens recover made (w ∷ ws) (p ∷ ps) [] h a b = absurd h
 lively lens recover made (w ∷ ws) (p ∷ ps) (s ∷ ss) h a b =
     All-cons IsLively w ws
     (record {
-      held = All-head IsHeld w ws a;
+      held = λ p e. (All-head Had w ws a p e).opened;
+      had = All-head Had w ws a;
+      free = none_handed p.work w h.0.handed;
       told = All-head ToldAll w ws b;
       named = leb-true 1 w.lead.lived.spot.station (subst (λ z. nat_le 1 z ≡ true) h.0.lives.planned.stands.station_is s.named);
       kept = h.0.kept;
     })
-    (lively lens recover made ws ps ss h.1 (All-tail IsHeld w ws a) (All-tail ToldAll w ws b))
+    (lively lens recover made ws ps ss h.1 (All-tail Had w ws a) (All-tail ToldAll w ws b))
 
 -- A ROW THAT AN EVENT ENDS has no request behind it
 module _ (key : ℕ) where
@@ -265,6 +288,10 @@ module _ (plan : Scenario) (s s' : SessionState) (fs : List Exchanged) (f : Exch
   got_all n [] front a = tt
   got_all n (g ∷ gs') front a = (got_on n g (front 0 n (omega arith)) a.0, got_all (suc n) gs' (λ j m e. front (suc j) m (omega (arith, e))) a.1)
 
+  -- what holds of these frames holds of those before the last
+  fewer : HearNoMore plan (fs ++ f ∷ []) → HearNoMore plan fs
+  fewer quiet = λ front back g e. quiet front (back ++ f ∷ []) g (ap (λ l. l ++ f ∷ []) e ∙ append_assoc front (g ∷ back) (f ∷ []))
+
   abbrev Behind : List Request → List Owing → List ℕ → Type 0
   Behind qs ps ds = Answers plan s' (fs ++ f ∷ []) gs qs ps ds
 
@@ -285,6 +312,9 @@ module _ (plan : Scenario) (s s' : SessionState) (fs : List Exchanged) (f : Exch
     owed = All-append (λ (o : Owing). o.gram < length gs) os more old.owed (events_owe (λ n. n < length gs) (told_in shows second) rs1 known1);
     got = subst (λ z. AllGot z turned.comes rs2 (dones ++ ended) (os ++ more) 0 gs) (sym on.serves)
         (got_all 0 gs (λ j m e. ap (slice_get gs) (let same : m ≡ j = omega (arith, e) in same)) old.got);
+    whole = λ quiet.
+        subst (λ z. AllBoth (GivesAll (os ++ more) (λ n. is_in n (dones ++ ended))) z turned.comes) (sym on.serves)
+        (turned.whole (quiet fs [] f refl old.serving.leading.missed ws old.serving.leading.lives on.turns on.frame) (old.whole (fewer quiet)));
   }
 
   -- WHAT IS LISTED of the frame is just what the lives tell

@@ -3,12 +3,16 @@ use Rattle.std.proofs.Common.{◌≡◌, ◌≤◌, ℕ, zero, suc, ◌+◌, Boo
 use Rattle.std.specs.Prelude.{◌≢◌, ◌&&◌, cond, filter, if◌then◌else◌, slice_get, All, Ok}
 use Rattle.std.proofs.lemmas.List.Elements.{All-nil, All-cons, All-head, All-tail, All-filter, All-weaker}
 use Rattle.gateway_core.specs.Framing.{request_in}
-use Rattle.served_places.proofs.All.{goes_told, turn_held}
-use Rattle.served_places.specs.Rows.{AreAll, IsHeld, StandsTold, ToldAll}
-use Rattle.served_places.specs.of_served_runs.Served.{AllServedTurn, IsServedTurn, Serves, ServedTurn, TellsSo, gives_it}
+use Rattle.served_places.proofs.All.{goes_told, same_stand, turn_held}
+use Rattle.served_places.proofs.Held.{next_has}
+use Rattle.served_places.proofs.Next.{next_free, next_passing}
+use Rattle.served_places.proofs.of_served_runs.Tells.{HasPassed}
+use Rattle.served_places.specs.Rows.{AreAll, HearsNoMore, IsHeld, StandsTold, ToldAll}
+use Rattle.served_places.specs.of_served_runs.Served.{AllServedTurn, IsServedTurn, Keyed, ServedComes, Serves, ServedTurn, TellsSo, gives_it}
 use Rattle.served_places.specs.of_served_runs.Told.{Passed, replies_in, told_on}
 use Rattle.mailbox_mail.specs.declared.mail.Mail.{Mail}
 use Rattle.master_node.proofs.Counts.{lost_gave}
+use Rattle.master_node.proofs.Handeds.{comes_own}
 use Rattle.master_node.specs.Begins.{begun_of as began_of}
 use Rattle.master_node.specs.Events.{begun_told, oldest_in, served_tells}
 use Rattle.master_node.specs.Listing.{number_at, told_in}
@@ -21,13 +25,15 @@ use Rattle.master_node.specs.of_datagrams.Datagram as Raw
 use Rattle.master_node.specs.of_datagrams.Frame.{IsFrame, chained}
 use Rattle.master_node.specs.of_frame_view.Seen.{seen}
 use Rattle.master_node.specs.of_frame_view.View.{Lens}
-use Rattle.master_node.specs.of_life_frames.Shares.{given_where}
-use Rattle.master_node.specs.of_life_model.Lives.{Life, Spot, life_lost}
+use Rattle.master_node.specs.of_life_frames.Shares.{AllBoth, given_where}
+use Rattle.master_node.specs.of_life_model.Lives.{Life, Spot, Stand, life_lost}
 use Rattle.master_node.specs.of_life_runs.Led.{speech_at}
 use Rattle.master_node.specs.of_life_runs.of_link_mails.Body.{Body}
+use Rattle.master_node.specs.of_life_runs.of_segment_plan.declared.service.Service as Plan
+use Rattle.master_node.specs.of_master_duty.of_state_exchange.Stated.{Service}
 use Rattle.master_node.specs.of_master_duty.Reply.{Reply}
 use Rattle.master_node.specs.of_master_hand.Spoken.{Asked, acknowledged, is_followed, is_passed}
-use Rattle.master_node.specs.of_master_side.Passing.{news_back, news_lost}
+use Rattle.master_node.specs.of_master_side.Passing.{news_back, news_lost, passing_behind}
 use Rattle.master_node.specs.of_master_tour.Brings.{accepted_in}
 use Rattle.master_node.specs.of_master_tour.Goes.{holds_at}
 use Rattle.master_node.specs.of_master_tour.Made.{is_in}
@@ -42,7 +48,7 @@ use Rattle.run_record.proofs.Noted.{next_gives, pass_gives}
 use Rattle.gateway_run.specs.Account.{Owing, left_by_all, owed_by_all}
 use Rattle.gateway_run.specs.Desk.{AreApart}
 use Rattle.gateway_run.specs.Rooms.{AreFiled, begun_of, done_by_all, has_begun, owed_for, requests_of, waiting_of}
-use Rattle.gateway_run.specs.Replies.{AllDesk, Fares, IsDesk, IsHeard, IsUndone, WasGivenUp}
+use Rattle.gateway_run.specs.Replies.{AllDesk, Fares, GivesAll, IsDesk, IsHeard, IsOurs, IsUndone, WasGivenUp}
 use Rattle.gateway_run.specs.declared.desk.Request.{Request}
 use Rattle.gateway_run.proofs.Behind.{in_hand}
 use Rattle.gateway_run.proofs.Begins.{HasBegun}
@@ -50,7 +56,6 @@ use Rattle.gateway_run.proofs.Losts.{tells_lost}
 use Rattle.gateway_run.proofs.Places.{told_where}
 use Rattle.gateway_run.proofs.Rooms.{IsOwnKey, begun_here, not_same, waits_here}
 use Rattle.gateway_run.proofs.Rounds.{AllKnown, HasStepped, SlaveSteps, slave_first, slave_steps, tells_by}
-use Rattle.gateway_run.proofs.Telling.{IsOurs}
 use Rattle.gateway_run.proofs.Tolds.{begun_at, begun_own, frame_so, goes_so, shown, shown_none, shown_own, shows, shows_at, shows_beyond, where_all}
 use Rattle.gateway_run.proofs.Views.{AreOf, events_unlike}
 
@@ -98,10 +103,31 @@ some_gave : (b : Bool) (recover made : ℕ) (spot : Spot) (l m : Life Body Asked
 some_gave true recover made spot l m e h f = some_last m.gave made f
 some_gave false recover made spot l m e h f = h (sym e ∙ f)
 
+-- WHERE NO MAIL IS IN HAND that was passed on, none is under way of an open slave, before a frame too
+module _ (lens : ℕ → Lens) (made : ℕ) (ds : List Raw.Datagram) (w : Serves) (v : ServedTurn) (t : IsServedTurn lens made ds w v) (free : w.hand ≡ None → w.lead.lived.life.stand ≡ Stand.Open → w.lead.lived.life.era.passing ≡ None) where
+  turn_free : v.hand ≡ None → v.turn.lived.life.stand ≡ Stand.Open → v.turn.lived.life.era.passing ≡ None
+  turn_free none opened = go (lens w.lead.lived.spot.station).out w.lead.number v.turn.number w.lead.script w.waits v.waits w.hand v.hand v.turn.begun t.comes refl refl none
+    where
+      is : (b : Option (Service Asked)) → v.turn.begun ≡ b → v.turn.lived.life.era.passing ≡ passing_behind is_passed w.lead.lived.life.era.passing b
+      is b e = next_passing lens made ds w v t ∙ ap (passing_behind is_passed w.lead.lived.life.era.passing) e
+
+      own_passing : (s : Service Asked) → ((q : Asked) → s ≡ Service.Mails q → is_passed q ≡ false) → (p : Option Passing) → passing_behind is_passed p (Some s) ≡ p
+      own_passing (Service.State target) own p = refl
+      own_passing (Service.Mails q) own p = ap (λ z. if z then Some Passing.Waiting else p) (own q refl)
+
+      go : (room n m : ℕ) (script : List Plan.Service) (waits rest : List Keyed) (hand after : Option Passed) (b : Option (Service Asked)) → ServedComes room script waits hand n b m rest after → w.hand ≡ hand → v.turn.begun ≡ b → after ≡ None →
+          v.turn.lived.life.era.passing ≡ None
+      go _ _ _ _ _ _ _ _ _ ServedComes.none h e a = is None e ∙ free (h ∙ a) (sym (same_stand lens made ds w v t) ∙ opened)
+      go room n _ script _ _ _ _ _ (ServedComes.own s m own) h e a =
+          is (Some s) e ∙ own_passing s (λ q z. comes_own room script n m (Some s) own q (ap Some z)) w.lead.lived.life.era.passing ∙ next_free lens made ds w v t s e
+      go _ _ _ _ _ _ _ _ _ (ServedComes.mail k rest q) h e a = absurd (let bad : Some (record { key = k.key; mail = k.mail; told = [] }) ≡ None = a in cc)
+
 -- WHAT IS KNOWN OF A SLAVE between frames: it is open while the mail passed on last is its newest, what was told of that are all its replies where it is over; it
 -- has a station, and the record its counters
 pub record IsLively (w : Serves) : Type 0 where
   pub held : IsHeld w
+  pub had : (p : Passed) → w.hand ≡ Some p → HasPassed p w.lead.lived.life
+  pub free : w.hand ≡ None → w.lead.lived.life.stand ≡ Stand.Open → w.lead.lived.life.era.passing ≡ None
   pub told : ToldAll w
   pub named : 1 ≤ w.lead.lived.spot.station
   pub kept : LifeKept w.kept w.lead.lived.life
@@ -283,6 +309,8 @@ module _ (lens : ℕ → Lens) (recover retry : ℕ) (gives : Bool) (made : ℕ)
           shows_is = shown_is i w v ns at_v turn l ∙ shown_as fate;
           opened = turn_held lens made k.datagrams w v turn l.held;
           own = own;
+          had = λ p e. (next_has lens made k.datagrams w v turn l.had p e).tells;
+          free = turn_free lens made k.datagrams w v turn l.free;
           all = λ s p e x g n. all_so fate told_all s p e n;
           gone_next = gone_next i w v ns at_v turn l;
           gone = gone fate;
@@ -305,11 +333,12 @@ module _ (lens : ℕ → Lens) (recover retry : ℕ) (gives : Bool) (made : ℕ)
         pub comes : List (List ℕ)
         pub desks : AllDesk gs after_all (os ++ besides) i (map goes vs') comes
         pub told : All ToldAll (map goes vs')
+        pub whole : All (HearsNoMore lens recover retry (frame_so lens recover retry gives made sent back fate)) vs' → AllBoth (GivesAll os (λ n. is_in n dones)) ws' nss → AllBoth (GivesAll (os ++ besides) (λ n. is_in n (dones ++ ends))) (map goes vs') comes
         pub at : (j n : ℕ) (w : Serves) (ns : List ℕ) → n ≡ i + j → slice_get ws' j ≡ Some w → slice_get nss j ≡ Some ns → AtPlace n w ns (slice_get (map goes vs') j) (slice_get comes j)
 
       all_stepped : (i : ℕ) (ws' : List Serves) (vs' : List ServedTurn) (nss : List (List ℕ)) → ((j n : ℕ) → n ≡ i + j → slice_get vs n ≡ slice_get vs' j) → AllServedTurn lens made k.datagrams ws' vs' → All IsLively ws' → All TellsSo (map goes vs') →
           AllDesk gs rs os i ws' nss → AllStepped i ws' vs' nss
-      all_stepped i [] [] [] front t l o d = record { comes = []; desks = tt; told = All-nil ToldAll; at = λ j n w ns e a b. absurd (let bad : None ≡ Some w = a in cc) }
+      all_stepped i [] [] [] front t l o d = record { comes = []; desks = tt; told = All-nil ToldAll; whole = λ quiet all. tt; at = λ j n w ns e a b. absurd (let bad : None ≡ Some w = a in cc) }
       all_stepped i [] [] (ns ∷ nss) front t l o d = absurd d
       all_stepped i [] (v ∷ vs') nss front t l o d = absurd t
       all_stepped i (w ∷ ws') [] nss front t l o d = absurd t
@@ -325,6 +354,10 @@ module _ (lens : ℕ → Lens) (recover retry : ℕ) (gives : Bool) (made : ℕ)
             comes = s.comes ∷ later.comes;
             desks = (s.desk, later.desks);
             told = All-cons ToldAll (goes v) (map goes vs') (told_all i w v ns here t.0 lively_here own_here) later.told;
+            whole = λ quiet all. (
+              s.whole (All-head (HearsNoMore lens recover retry (frame_so lens recover retry gives made sent back fate)) v vs' quiet) all.0,
+              later.whole (All-tail (HearsNoMore lens recover retry (frame_so lens recover retry gives made sent back fate)) v vs' quiet) all.1,
+            );
             at = places i w ws' (goes v) (map goes vs') ns nss s.comes later.comes one later.at;
           }
         where

@@ -19,11 +19,12 @@ use Rattle.gateway_run.specs.Events.{events_of}
 use Rattle.run_record.specs.Served.{ServingGoesOn}
 use Rattle.run_record.specs.Session.{SessionState, IsDone, Steps, Stops, has_live}
 use Rattle.run_record.specs.of_run_notes.Slaves.{home_of}
+use Rattle.run_record.specs.of_run_notes.Switched.{SameSwitch}
 use Rattle.run_record.specs.Ran.{HasSent, IsUnderway}
 use Rattle.run_record.proofs.Underway.{same_on, has_frames, stepped_on, stopped}
 use Rattle.gateway_run.specs.Heard.{heard_as, sent_as, AreHeard, AreSent, AreSentBut, IsOwed, IsRightly}
 use Rattle.gateway_run.specs.Account.{Owing, Course, Course.hears, Course.steps, AreSpelled, left_by_all, owed_by_all}
-use Rattle.gateway_run.specs.Desk.{IsSound, AsksMails, Owes, NotesAll, Takes, TakesSo}
+use Rattle.gateway_run.specs.Desk.{IsSound, AsksMails, SameLan, Owes, NotesAll, Takes, TakesSo}
 use Rattle.gateway_run.specs.declared.desk.Request.{Request}
 use Rattle.gateway_run.specs.Serving.{Told, IsOn, IsServing, IsFaulted, Listens, PutsOne, SentOne, FailedOne, SendsOne, Goes, left}
 use Rattle.gateway_run.specs.declared.desk.Desk.{Desk}
@@ -116,6 +117,10 @@ rose_since first now next le (inr most) later = since (ltb first next) refl
 session_same : (s s' : SessionState) → s' ≡ s → AsksMails s s'
 session_same s s' same = subst (λ (t : SessionState). AsksMails s t) (sym same) refl
 
+-- a book in which something else was put
+switch_same : {b b' c : Book} → b' ≡ c → c.switch ≡ b.switch → c.switched ≡ b.switched → c.host ≡ b.host → SameSwitch b b'
+switch_same is switch switched host = record { switch = ap (λ (x : Book). x.switch) is ∙ switch; switched = ap (λ (x : Book). x.switched) is ∙ switched; host = ap (λ (x : Book). x.host) is ∙ host }
+
 -- what is left to do, by what it depends on
 abbrev pub left_of : SessionState → ℕ → ℕ → Bool → ℕ
 left_of s heard count over = (s.budget - s.ring.number) + (count - heard) + (if over then 0 else 1)
@@ -179,9 +184,9 @@ module _ (plan : Scenario) (count : ℕ) (first : Told) where
   module _ (now next : Told) (v v' : Serving) (b b' : Book) (h : IsServing plan count first now v b) where
     -- a datagram was taken
     pub took : (peer : Peer) (octets : List ℕ) → length v.desk.requests.items < 64 → Listens now next (heards.From peer) octets → length b.grams < v.count → Takes v.session.homes peer octets b b' →
-        (IsSound (map heard_as b.grams) v.desk → IsSound (map heard_as b'.grams) v'.desk) → TakesSo v.session v'.session v.desk v'.desk b b' → b' ≡ record b { grams = b'.grams } → AsksMails v.session v'.session → v'.count ≡ v.count → v'.over ≡ v.over →
+        (IsSound (map heard_as b.grams) v.desk → IsSound (map heard_as b'.grams) v'.desk) → TakesSo v.session v'.session v.desk v'.desk b b' → b' ≡ record b { grams = b'.grams } → AsksMails v.session v'.session → SameLan v.session v'.session → v'.count ≡ v.count → v'.over ≡ v.over →
         IsServing plan count first next v' b'
-    took peer octets few l room t sound so same asks counts over =
+    took peer octets few l room t sound so same asks lan counts over =
         let g = t.gram in
         let grams : map heard_as b'.grams ≡ map heard_as b.grams ++ heard_as g ∷ [] = ap (map heard_as) t.put ∙ map_push heard_as b.grams g in
         let frames = ap (λ (x : Book). x.frames) same in
@@ -190,7 +195,7 @@ module _ (plan : Scenario) (count : ℕ) (first : Told) where
         let told : heard_as g ≡ record { from = peer; bytes = octets } = ap (λ (p : Peer). record { from = p; bytes = g.bytes }) t.from_peer ∙ ap (λ (o : List ℕ). record { from = peer; bytes = o }) t.with_octets in
         record {
           on = record {
-            underway = same_on plan count v.session v'.session b b' h.on.underway asks (ap (λ (x : Book). x.frames) same) (ap (λ (x : Book). x.switch) same) (ap (λ (x : Book). x.slaves) same);
+            underway = same_on plan count v.session v'.session b b' h.on.underway asks lan (ap (λ (x : Book). x.frames) same) (switch_same same refl refl refl) (ap (λ (x : Book). x.slaves) same);
             counts = counts ∙ h.on.counts;
             few = let n = ap length t.put ∙ length-append b.grams (g ∷ []) in let c = h.on.counts in omega (arith, n, c, room);
             fits = h.on.fits;
@@ -304,7 +309,7 @@ module _ (plan : Scenario) (count : ℕ) (first : Told) where
       let replies : b'.replies ≡ b.replies ++ r ∷ [] = ap (λ (x : Book). x.replies) put in
       let owed : All (IsOwed (map heard_as b.grams)) (r ∷ v'.desk.outbox.items) = subst (All (IsOwed (map heard_as b.grams))) outbox h.sound.owed in
       record {
-        underway = same_on plan count v.session v'.session b b' h.underway (session_same v.session v'.session session) (ap (λ (x : Book). x.frames) put) (ap (λ (x : Book). x.switch) put) (ap (λ (x : Book). x.slaves) put);
+        underway = same_on plan count v.session v'.session b b' h.underway (session_same v.session v'.session session) (ap (λ (s : SessionState). s.master.lan) session) (ap (λ (x : Book). x.frames) put) (switch_same put refl refl refl) (ap (λ (x : Book). x.slaves) put);
         counts = counts ∙ h.counts;
         few = subst (λ (l : List GramIn). length l ≤ count) (sym grams) h.few;
         fits = h.fits;

@@ -62,6 +62,10 @@ AsksMails s s' = s' ≡ record s { asked = s'.asked; waiting = s'.waiting; maste
 abbrev pub SameLive : SessionState → SessionState → Type 0
 SameLive s s' = has_live s'.master ≡ has_live s.master
 
+-- the switch of its master stays as it is
+abbrev pub SameLan : SessionState → SessionState → Type 0
+SameLan s s' = s'.master.lan ≡ s.master.lan
+
 -- a session at which something is left to do stays such a one
 abbrev pub StaysBusy : SessionState → SessionState → Type 0
 StaysBusy s s' = IsDone s' → IsDone s

@@ -1,16 +1,17 @@
 -- WHAT EACH DATAGRAM OF A SERVING GOT, by the lives of the slaves: nothing, one error, or the first of the replies of its own row, and all of them where that is
 -- done.
-use Rattle.std.specs.Prelude.{◌≡◌, ◌≢◌, ◌<◌, ◌≤◌, ◌⊎◌, ℕ, suc, Bool, true, false, Option, Some, None, List, [], ◌∷◌, ◌++◌, length, slice_get, All, Ok, Err, ⊤}
+use Rattle.std.specs.Prelude.{◌≡◌, ◌≢◌, ◌<◌, ◌≤◌, ◌⊎◌, ℕ, suc, Bool, true, false, Option, Some, None, List, [], ◌∷◌, ◌++◌, length, map, slice_get, All, Ok, Err, ⊤}
 use Rattle.master_node.specs.of_life_frames.of_exchange_model.Exchange.{plain}
 use Rattle.master_node.specs.of_life_frames.of_exchange_model.Rows.{Row}
 use Rattle.gateway_core.specs.Framing.{request_in}
 use Rattle.gateway_core.specs.declared.framing.GatewayFault.{GatewayFault}
-use Rattle.served_places.specs.Rows.{AreAll, ToldAll, passed_rows}
-use Rattle.served_places.specs.of_served_runs.Served.{Keyed, Serves}
+use Rattle.served_places.specs.Rows.{AreAll, HearsNoMore, ToldAll, passed_rows, passings, replies_of}
+use Rattle.served_places.specs.of_served_runs.Served.{IsServedFrame, Keyed, ServedTurn, Serves}
 use Rattle.served_places.specs.of_served_runs.Told.{Passed}
 use Rattle.mailbox_mail.specs.Mail.{error_of}
 use Rattle.mailbox_mail.specs.declared.mail.Mail.{Mail}
 use Rattle.master_node.specs.of_life_frames.Shares.{AllBoth}
+use Rattle.master_node.specs.of_life_runs.First.{lens_of}
 use Rattle.master_node.specs.of_life_runs.Led.{Exchanged}
 use Rattle.master_node.specs.of_life_runs.of_link_mails.Body.{Body}
 use Rattle.master_node.specs.of_master_duty.Reply.{Reply}
@@ -19,7 +20,7 @@ use Rattle.master_node.specs.of_master_tour.Made.{is_in}
 use Rattle.master_node.specs.of_segment_model.Ends.{Passing}
 use Rattle.run_book.specs.declared.book.GramIn.{GramIn}
 use Rattle.run_book.specs.declared.book.SentFrame.{SentFrame}
-use Rattle.run_record.specs.Served.{Serving}
+use Rattle.run_record.specs.Served.{ServeTo, Serving}
 use Rattle.run_record.specs.Session.{SessionState}
 use Rattle.segment_plan.specs.declared.plan.Scenario.{Scenario}
 use Rattle.gateway_run.specs.Account.{Course, Course.begins, Course.hears, Course.steps, Owing}
@@ -90,6 +91,12 @@ pub record IsHeard (gs : List GramIn) (r : Request) : Type 0 where
   pub there : slice_get gs r.gram ≡ Some gram
   pub queued : gram.queued ≡ Some r.slave
 
+-- A DATAGRAM OF THIS SLAVE was heard, and passed on to it
+pub record IsOurs (gs : List GramIn) (slave n : ℕ) : Type 0 where
+  pub gram : GramIn
+  pub there : slice_get gs n ≡ Some gram
+  pub queued : gram.queued ≡ Some slave
+
 -- A MAIL STANDS FOR A REQUEST: it was asked under its key, and is the one that its datagram asks
 pub record IsFor (gs : List GramIn) (r : Request) (k : Keyed) : Type 0 where
   pub key : k.key ≡ r.key
@@ -135,7 +142,7 @@ pub record IsDesk (gs : List GramIn) (os : List Owing) (slave : ℕ) (w : Serves
   pub newest : (p : Passed) → w.hand ≡ Some p → IsNewest gs slave came os p
   pub new : All (IsNew os) waiting
   pub many : length came ≡ length (passed_rows w.lead.lived.life)
-  pub known : All (λ (n : ℕ). n < length gs) came
+  pub ours : All (IsOurs gs slave) came
   pub rising : AreRising (came ++ grams_of waiting)
   pub late : AllBoth (IsLate gs) came (passed_rows w.lead.lived.life)
 
@@ -148,6 +155,21 @@ AllDesk gs rs os slave _ _ = ⊥
 -- its row isn't done
 abbrev pub IsUndone : List ℕ → Request → Type 0
 IsUndone dones r = is_in r.gram dones ≡ false
+
+-- NO FRAME OF THESE BRINGS A REPLY MORE to a mail that was passed on and is over, by whatever lives they lead
+abbrev pub HearNoMore : Scenario → List Exchanged → Type 0
+HearNoMore plan fs =
+    (front back : List Exchanged) (f : Exchanged) → fs ≡ front ++ f ∷ back → (missed : ℕ) (ws : List Serves) → ServeTo plan front missed ws → (vs : List ServedTurn) → IsServedFrame (lens_of plan.slaves) (length front) f.sent ws vs →
+    All (HearsNoMore (lens_of plan.slaves) plan.recover plan.retry f) vs
+
+-- what was owed for each of these datagrams
+abbrev pub owed_in : List Owing → List ℕ → List (List Mail)
+owed_in os came = map (λ (n : ℕ). owed_for n os) came
+
+-- WHAT WAS OWED for each datagram whose mail came into hand of a slave are all replies that were heard in its row; and where that is done, the mail is over
+pub record GivesAll (os : List Owing) (done : ℕ → Bool) (w : Serves) (came : List ℕ) : Type 0 where
+  pub heard : owed_in os came ≡ map mails_told (replies_of (passed_rows w.lead.lived.life))
+  pub over : AllBoth (λ n p. done n ≡ true → p ≡ None) came (passings w.lead.lived.life)
 
 -- THE COURSE OF A SERVING by the lives of its slaves: its session is led by these frames, each desk is what the lives have, and each datagram got what is its own
 pub record Answers (plan : Scenario) (s : SessionState) (fs : List Exchanged) (gs : List GramIn) (rs : List Request) (os : List Owing) (dones : List ℕ) : Type 0 where
@@ -166,6 +188,8 @@ pub record Answers (plan : Scenario) (s : SessionState) (fs : List Exchanged) (g
   pub ended : All (λ (n : ℕ). n < length gs) dones
   pub owed : All (λ (o : Owing). o.gram < length gs) os
   pub got : AllGot serving.leading.serves came rs dones os 0 gs
+  -- so many replies as were heard, where frames bring none more to a mail that is over
+  pub whole : HearNoMore plan fs → AllBoth (GivesAll os (λ (n : ℕ). is_in n dones)) serving.leading.serves came
 
 -- THE DATAGRAMS WHOSE ROWS WERE DONE in a course, as its session told
 abbrev pub dones_of : (plan : Scenario) (count : ℕ) (s : SessionState) (fs : List SentFrame) (gs : List GramIn) (rs : List Request) (os : List Owing) → Course plan count s fs gs rs os → List ℕ

@@ -7,13 +7,17 @@ use Rattle.run_book.specs.declared.book.Ending.{Ending}
 use Rattle.run_book.specs.declared.book.Ending.TheVariants as endings
 use Rattle.run_book.specs.declared.book.GramIn.{GramIn}
 use Rattle.run_book.specs.declared.book.GramOut.{GramOut}
-use Rattle.run_record.specs.Led.{exchanged}
+use Rattle.master_node.specs.Serving.{run_lead}
+use Rattle.master_node.specs.of_life_frames.Shares.{AllBoth}
+use Rattle.master_node.specs.of_life_runs.First.{lens_of}
+use Rattle.run_record.specs.Led.{LeavesNoPacket, LeavesNone, exchanged}
 use Rattle.run_record.specs.Session.{SessionState, session_rows}
 use Rattle.run_record.specs.of_run_notes.Slaves.{home_of}
+use Rattle.run_record.specs.of_run_notes.Switched.{HasPackets}
 use Rattle.run_record.specs.Ran.{StopsAs}
 use Rattle.gateway_run.specs.declared.desk.Request.{Request}
 use Rattle.gateway_run.specs.Account.{Owing, Course, AreSpelled}
-use Rattle.gateway_run.specs.Done.{AllDone, LeavesNone}
+use Rattle.gateway_run.specs.Done.{AllDone, ServedRestsSo}
 use Rattle.gateway_run.specs.Heard.{heard_as, AreHeard, AreSent, AreSentBut, IsOwed, IsRightly}
 use Rattle.gateway_run.specs.Replies.{Answers, dones_of}
 use Rattle.gateway_run.specs.Serving.{Told}
@@ -39,7 +43,8 @@ pub record IsBroken (first last : Told) (book : Book) : Type 0 where
   pub sent : AreSentBut first.sent last.sent book.replies
 
 -- WHAT WAS SENT IS WHAT WAS OWED, in order: the datagrams of the book, and behind them those that are still owed, which are none unless the port
--- failed, are those of a course of the plan's session over the frames and the datagrams heard of the book; and these frames lead that session
+-- failed, are those of a course of the plan's session over the frames and the datagrams heard of the book; and these frames lead that session. The packets
+-- of the host are those that the events of the switch make. Where the serving is over nothing is left of any slave, and no packet
 pub record HasAccount (plan : Scenario) (count : ℕ) (book : Book) (ending : Ending) : Type 0 where
   pub session : SessionState
   pub requests : List Request
@@ -53,6 +58,9 @@ pub record HasAccount (plan : Scenario) (count : ℕ) (book : Book) (ending : En
   pub none : LeavesNone ending → requests ≡ []
   pub done : LeavesNone ending → AllDone answers.serving.leading.serves (dones_of plan count session book.frames book.grams requests owed course) 0 book.grams
   pub rows : book.slaves ≡ session_rows session
+  pub rests : LeavesNone ending → AllBoth (ServedRestsSo (lens_of plan.slaves)) answers.serving.leading.serves book.slaves
+  pub packets : HasPackets plan book
+  pub come : LeavesNone ending → LeavesNoPacket plan (map run_lead answers.serving.leading.serves) book.switch
   -- the frames before which the datagrams were heard don't fall; and one that wasn't passed on gets error 5 only where no slave stands under its station
   pub steady : DontFall book.grams
   pub stray : (n : ℕ) (g : GramIn) → slice_get book.grams n ≡ Some g → IsStray (map home_of plan.slaves) book.slaves owed n g

@@ -5,7 +5,7 @@ ghost use Rattle.master_node.specs.declared.event.Event.TheVariants as events;
 ghost use Rattle.gateway_run.specs.Events.{events_of};
 ghost use Rattle.gateway_run.specs.Account.{has_key, is_of, others, elsewhere, begun_first, cut_off, replied, left_by, owed_by};
 ghost use Rattle.gateway_run.specs.Heard.{heard_as, IsJudged};
-ghost use Rattle.gateway_run.specs.Desk.{HasNone, IsOpen, IsSound, AsksMails, SameLive, StaysBusy, Tells, NotesAll, cut_one, Answers, PassesSoundly, PassesSo, IsTakenSo, Takes, TakesSoundly};
+ghost use Rattle.gateway_run.specs.Desk.{HasNone, IsOpen, IsSound, AsksMails, SameLan, SameLive, StaysBusy, Tells, NotesAll, cut_one, Answers, PassesSoundly, PassesSo, IsTakenSo, Takes, TakesSoundly};
 
 use ec_fields::{NoMemory, Octets};
 use ec_outside::{Gram, Peer};
@@ -252,6 +252,7 @@ impl Desk {
         ensures slave { IfOk result (λ queued. IfSome queued (λ slave. slave ≡ request.slave)) }
         ensures session { AsksMails session.old session.new }
         ensures live { SameLive session.old session.new }
+        ensures switch { SameLan session.old session.new }
         ensures busy { StaysBusy session.old session.new }
     {
         self.requests.push(request)?;
@@ -277,6 +278,7 @@ impl Desk {
         ensures judged { IfOk result (IsJudged session.old.homes bytes.now) }
         ensures session { AsksMails session.old session.new }
         ensures live { SameLive session.old session.new }
+        ensures switch { SameLan session.old session.new }
         ensures busy { StaysBusy session.old session.new }
     {
         match self.gateway.request(peer, bytes, session.stations())? {
@@ -313,6 +315,7 @@ impl Desk {
         ensures book { book.new ≡ record book.old { grams = book.new.grams } }
         ensures session { AsksMails session.old session.new }
         ensures live { SameLive session.old session.new }
+        ensures switch { SameLan session.old session.new }
         ensures busy { StaysBusy session.old session.new }
     {
         let gram = count(book.grams.len());

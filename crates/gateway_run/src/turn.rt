@@ -1,6 +1,8 @@
 ghost use Rattle.std.specs.Prelude.{◌≡◌, ◌≢◌, ◌<◌, ◌≤◌, [], ℕ, length, true, false, IfOk, OnOk};
 ghost use Rattle.std.specs.Bool.{OnTrue, OnFalse};
 ghost use Rattle.ec_outside.specs.declared.port.Heard.TheVariants as heards;
+ghost use Rattle.master_node.specs.Happened.{HasHappened};
+ghost use Rattle.master_node.specs.Ports.{ports_of};
 ghost use Rattle.segment_plan.specs.Sound.{IsPlan};
 ghost use Rattle.segment_plan.specs.declared.plan.Scenario.{Scenario as Plan};
 ghost use Rattle.run_record.specs.Served.{ServingBegins};
@@ -46,6 +48,7 @@ impl Serving {
         requires { IsPlan plan.now }
         ensures session { IfOk result (λ v. v.session ≡ first_session plan.now count v.session.master) }
         ensures serves { IfOk result (λ v. ServingBegins plan.now v.session) }
+        ensures switch { IfOk result (λ v. HasHappened (ports_of plan.now.slaves) plan.now.host [] v.session.master.lan) }
         ensures requests { IfOk result (λ v. HasNone v.desk) }
         ensures outbox { IfOk result (λ v. v.desk.outbox.items ≡ []) }
         ensures count { IfOk result (λ v. v.count ≡ count) }

@@ -12,6 +12,7 @@ use Rattle.master_side.specs.declared.carried.Wish.{Wish}
 use Rattle.segment_plan.specs.declared.service.Service as Plan
 use Rattle.segment_plan.specs.declared.service.Service.{Service}
 use Rattle.master_duty.specs.of_state_exchange.Stated as Stated
+use Rattle.served_runs.proofs.Quiet.{none_in, passed_in}
 use Rattle.master_node.specs.Coming.{IsComing, IsLaid, wish_of}
 use Rattle.master_node.specs.declared.coming.Coming.{Coming}
 
@@ -76,34 +77,12 @@ came_by (Some (Coming.State target)) true room w s n r c l i e b =
     subst (λ z. Comes room w.script w.number (Some (Stated.Service.State z)) n) (sym c.2) (subst (λ z. Comes room w.script w.number (Some (Stated.Service.State (c.0 % 16))) z) (sym at) (Comes.state c.0 c.1))
 
 -- no mail that is passed on
-abbrev IsOwn : Option Asked → Type 0
-IsOwn None = ⊤
-IsOwn (Some q) = is_passed q ≡ false
+next_own : (room : ℕ) (next : Option Service) → passed_in (asked_next room next) ≡ false
+next_own room None = refl
+next_own room (Some s) = none_in room s
 
-asked_own : (room : ℕ) (s : Service) → IsOwn (asked_of room s)
-asked_own room (Plan.Service.Sdo service) = refl
-asked_own room (Plan.Service.ReadFile name pass) = refl
-asked_own room (Plan.Service.WriteFile name pass bytes) = refl
-asked_own room (Plan.Service.ReadIdn number idn elements) = refl
-asked_own room (Plan.Service.WriteIdn number idn elements bytes) = refl
-asked_own room (Plan.Service.SetIp block) = go (nat_lt room (length block + 10))
-  where
-    go : (z : Bool) → IsOwn (if z then None else Some (net (EoeClient.set_ip block)))
-    go true = tt
-    go false = refl
-asked_own room Plan.Service.GetIp = refl
-asked_own room (Plan.Service.State state) = tt
-asked_own room (Plan.Service.Forward packet) = tt
-
-pub asked_unpassed : (room : ℕ) (s : Service) (q : Asked) → asked_of room s ≡ Some q → is_passed q ≡ false
-asked_unpassed room s q e = subst IsOwn e (asked_own room s)
-
-next_own : (room : ℕ) (next : Option Service) → IsOwn (asked_next room next)
-next_own room None = tt
-next_own room (Some s) = asked_own room s
-
-ready_own : (w : Waiting) (laid : Laid) → (laid ≡ Laid.Mail → ⊥) → IsOwn (ready_by laid w)
-ready_own w Laid.Nothing n = tt
+ready_own : (w : Waiting) (laid : Laid) → (laid ≡ Laid.Mail → ⊥) → passed_in (ready_by laid w) ≡ false
+ready_own w Laid.Nothing n = refl
 ready_own w Laid.Script n = next_own w.areas.out (slice_get w.script w.number)
 ready_own w Laid.Packet n = refl
 ready_own w Laid.Mail n = absurd (n refl)
@@ -118,4 +97,4 @@ laid_own (Some Coming.Script) next true laid c l t m = absurd (let e = sym l ∙
 laid_own (Some (Coming.State target)) next true laid c l t m = cc
 
 pub ready_unpassed : (coming : Option Coming) (result : Bool) (w : Waiting) → IsComing (slice_get w.script w.number) coming → IsLaid coming w.laid → takes_ready result (wish_of coming) ≡ true → (q : Asked) → ready_of w ≡ Some q → is_passed q ≡ false
-ready_unpassed coming result w c l t q e = subst IsOwn e (ready_own w w.laid (laid_own coming (slice_get w.script w.number) result w.laid c l t))
+ready_unpassed coming result w c l t q e = ap passed_in (sym e) ∙ ready_own w w.laid (laid_own coming (slice_get w.script w.number) result w.laid c l t)

@@ -131,6 +131,13 @@ given_counted recover n m start few e = by (nat_lt n recover) refl
     by true lt = let below = ltb-true n recover lt in omega (arith, below, e)
     by false ge = let over = ltb-false n recover ge in omega (arith, over, few, e)
 
+-- no more came into hand than the script has
+pub one_placed : (room : ℕ) (script : List Plan.Service) (n : ℕ) (b : Option (Rattle.master_duty.specs.of_state_exchange.Stated.Service Asked)) (k : ℕ) → Comes room script n b k → n ≤ length script → k ≤ length script
+one_placed room script n _ _ Comes.none few = few
+one_placed room script n _ _ (Comes.mails s q at asked) few = let inside = slice_get_within script n s at in omega (arith, inside)
+one_placed room script n _ _ (Comes.state target at) few = let inside = slice_get_within script n (Plan.Service.State target) at in omega (arith, inside)
+one_placed room script n _ _ (Comes.packet octets frame) few = few
+
 module _ (lens : ℕ → Lens) (recover retry : ℕ) (gives : Bool) (made : ℕ) (f : Exchanged) where
   -- the frame has nothing of one that was given up for good
   not_under : (spot : Spot) (stand : Stand) (share : Share) (ds : List Raw.Datagram) → stand ≡ Stand.Gone → FrameFor lens spot stand share ds → share.under ≡ false
@@ -175,13 +182,6 @@ module _ (lens : ℕ → Lens) (recover retry : ℕ) (gives : Bool) (made : ℕ)
     all_counted [] (u ∷ us) t h = absurd t
     all_counted (a ∷ as') [] t h = absurd t
     all_counted (a ∷ as') (u ∷ us) t h = (one_counted a u t.0 h.0, all_counted as' us t.1 h.1)
-
-    -- no more came into hand than the script has
-    one_placed : (room : ℕ) (script : List Plan.Service) (n : ℕ) (b : Option (Rattle.master_duty.specs.of_state_exchange.Stated.Service Asked)) (k : ℕ) → Comes room script n b k → n ≤ length script → k ≤ length script
-    one_placed room script n _ _ Comes.none few = few
-    one_placed room script n _ _ (Comes.mails s q at asked) few = let inside = slice_get_within script n s at in omega (arith, inside)
-    one_placed room script n _ _ (Comes.state target at) few = let inside = slice_get_within script n (Plan.Service.State target) at in omega (arith, inside)
-    one_placed room script n _ _ (Comes.packet octets frame) few = few
 
     all_placed : (as' : List Leads) (us : List Turn) → AllTurn lens made ds as' us → AllPlaced as' → AllPlaced (map (led_behind lens recover retry gives made f) us)
     all_placed [] [] t h = tt

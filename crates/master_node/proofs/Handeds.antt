@@ -24,38 +24,13 @@ use Rattle.master_tour.specs.of_life_model.Lives.{Life, Spot, granted, life_back
 use Rattle.master_tour.specs.of_life_model.Own.{own}
 use Rattle.segment_plan.specs.declared.service.Service as Plan
 use Rattle.served_runs.specs.Served.{Keyed, ServedComes}
+pub use Rattle.served_runs.proofs.Quiet.{comes_own}
 use Rattle.served_runs.specs.Told.{Passed, told_on}
 use Rattle.master_node.specs.Handed.{HasBegun, IsDuty, IsHanded, StaysNamed, hand_behind, is_left, newest}
 use Rattle.master_node.specs.Passes.{BeginsFree}
 use Rattle.master_node.specs.declared.post.Work.{Work}
 use Rattle.master_node.proofs.Changes.{none_back}
 use Rattle.master_node.proofs.Mailed.{next_passing, next_stands}
-
--- no script passes a mail on
-abbrev pub passed_in : Option Asked → Bool
-passed_in None = false
-passed_in (Some q) = is_passed q
-
-none_set : (b : Bool) (block : List ℕ) → passed_in (if b then None else Some (net (EoeClient.set_ip block))) ≡ false
-none_set true block = refl
-none_set false block = refl
-
-pub none_in : (room : ℕ) (s : Plan.Service) → passed_in (asked_of room s) ≡ false
-none_in room (Plan.Service.Sdo service) = refl
-none_in room (Plan.Service.ReadFile name pass) = refl
-none_in room (Plan.Service.WriteFile name pass bytes) = refl
-none_in room (Plan.Service.ReadIdn drive idn elements) = refl
-none_in room (Plan.Service.WriteIdn drive idn elements bytes) = refl
-none_in room (Plan.Service.SetIp block) = none_set (nat_lt room (length block + 10)) block
-none_in room Plan.Service.GetIp = refl
-none_in room (Plan.Service.State target) = refl
-none_in room (Plan.Service.Forward packet) = refl
-
-pub comes_own : (room : ℕ) (script : List Plan.Service) (n m : ℕ) (b : Option (Service Asked)) → Comes room script n b m → (q : Asked) → b ≡ Some (Service.Mails q) → is_passed q ≡ false
-comes_own room script n m _ Comes.none q e = absurd (cc)
-comes_own room script n m _ (Comes.mails s p at asked) q e = (let same : p ≡ q = cc in ap is_passed (sym same) ∙ ap passed_in (sym asked) ∙ none_in room s)
-comes_own room script n m _ (Comes.state target at) q e = absurd (cc)
-comes_own room script n m _ (Comes.packet octets frame) q e = (let same : net (EoeClient.packet octets frame) ≡ q = cc in ap is_passed (sym same))
 
 -- THE MAIL IN HAND is the one that came
 pub hand_is : (room : ℕ) (script : List Plan.Service) (waits left : List Keyed) (hand behind : Option Passed) (n m : ℕ) (b : Option (Service Asked)) → ServedComes room script waits hand n b m left behind → behind ≡ hand_behind waits hand b

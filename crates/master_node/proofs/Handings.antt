@@ -34,7 +34,7 @@ use Rattle.master_node.specs.declared.coming.Coming.{Coming}
 use Rattle.master_node.specs.declared.post.Asked as Queue
 use Rattle.master_node.specs.declared.post.Post.{Post}
 use Rattle.master_node.specs.declared.post.Work.{Work}
-use Rattle.master_node.proofs.Handeds.{none_in, passed_in}
+use Rattle.served_runs.proofs.Quiet.{none_in, passed_in}
 use Rattle.master_node.proofs.Servings.{keyed, none_some}
 
 -- THE OLDEST IS LAID READY under the key of its asker

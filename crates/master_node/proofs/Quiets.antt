@@ -46,13 +46,13 @@ at_end (x ∷ xs) zero e few = absurd (let bad : Some x ≡ None = e in cc)
 at_end (x ∷ xs) (suc n) e few = ap suc (at_end xs n e (omega (arith, few)))
 
 module _ {G : Ghosts InHand} (lens : ℕ → Lens) (recover : ℕ) where
-  quiet_idle : (a : Leads) (s : Stop InHand G) → IsLead lens recover a s → a.number ≤ length a.script → IsQuiet s.side → s.stand ≡ Stand.Open → IsIdle lens a
-  quiet_idle a s l few q stands =
+  pub quiet_idle : (a : Leads) (s : Stop InHand G) → IsLived lens recover a.lived s → s.side.hand.laying.script ≡ a.script → s.side.hand.laying.number ≡ a.number → a.number ≤ length a.script → IsQuiet s.side → s.stand ≡ Stand.Open → IsIdle lens a
+  quiet_idle a s lives script number few q stands =
       let shown : (a.lived.life.stand ≡ Lives.Stand.Open) × SideShows (Shows s.side.hand.course s.side.hand.which s.side.hand.clients (speech_at lens a.lived.spot)) s.side.out s.side.inn s.side.fresh s.side.duty a.lived.life.era.side a.lived.life.era.account =
-      subst (λ (k : Stand). StandShows (λ d b. side_shows lens recover s a.lived.spot d b) a.lived.spot k a.lived.life) stands l.lives.shown.stood in
+      subst (λ (k : Stand). StandShows (λ d b. side_shows lens recover s a.lived.spot d b) a.lived.spot k a.lived.life) stands lives.shown.stood in
       let free = q.free (speech_at lens a.lived.spot) a.lived.life.era.side a.lived.life.era.account shown.1 in
       let end : slice_get a.script a.number ≡ None =
-      subst (λ n. slice_get a.script n ≡ None) l.number (subst (λ sc. slice_get sc s.side.hand.laying.number ≡ None) l.script q.script) in
+      subst (λ n. slice_get a.script n ≡ None) number (subst (λ sc. slice_get sc s.side.hand.laying.number ≡ None) script q.script) in
       record {
         stand = shown.0;
         side = record {
@@ -66,7 +66,7 @@ module _ {G : Ghosts InHand} (lens : ℕ → Lens) (recover : ℕ) where
 
   one_left : (a : Leads) (s : Stop InHand G) (stand : Stand) → s.stand ≡ stand → IsLead lens recover a s → a.number ≤ length a.script → IsQuietBy stand s.side → IsLeft lens a
   one_left a s (Stand.Opening up) e l few q = absurd q
-  one_left a s Stand.Open e l few q = inr (quiet_idle a s l few q e)
+  one_left a s Stand.Open e l few q = inr (quiet_idle a s l.lives l.script l.number few q e)
   one_left a s Stand.Gone e l few q = inl (subst (λ (k : Stand). StandShows (λ d b. side_shows lens recover s a.lived.spot d b) a.lived.spot k a.lived.life) e l.lives.shown.stood)
 
   -- NOTHING IS WANTED

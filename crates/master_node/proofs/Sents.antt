@@ -38,7 +38,7 @@ use Rattle.master_node.specs.Filling.{IsAmong}
 use Rattle.master_node.specs.declared.node.MasterNode.{MasterNode}
 use Rattle.master_node.specs.Shows.{MasterShows, WaitsNone, is_led, lived_of, turned_of, is_live_lead, is_opening_lead, is_live_turn, is_opening_turn, is_carried, side_shows, HoldsFirst, ComeAgain, GoesOn, GoesUnder, IsLived, IsLead, IsUnder}
 use Rattle.master_tour.specs.Stands.{is_opening}
-use Rattle.master_node.proofs.Cames.{asked_unpassed}
+use Rattle.served_runs.proofs.Quiet.{comes_own}
 use Rattle.master_node.proofs.Lists.{both_holds, both_length}
 use Rattle.master_node.proofs.Mailed.{next_stands}
 
@@ -105,12 +105,6 @@ lead_among lens recover left i a s t l e p =
     }
 
 -- BEHIND THE LAST VISIT
-comes_own : (room : ℕ) (script : List Plan.Service) (n m : ℕ) (b : Option (Service Asked)) → Comes room script n b m → (q : Asked) → b ≡ Some (Service.Mails q) → is_passed q ≡ false
-comes_own room script n m b Comes.none q e = absurd (cc)
-comes_own room script n m b (Comes.mails s p g a) q e = let f : p ≡ q = cc in ap is_passed (sym f) ∙ asked_unpassed room s p a
-comes_own room script n m b (Comes.state target g) q e = absurd (cc)
-comes_own room script n m b (Comes.packet octets frame) q e = let f : net (EoeClient.packet octets frame) ≡ q = cc in ap is_passed (sym f)
-
 pub took_of : (made : ℕ) (old new : Account Asked Reply) (p b : Option (Service Asked)) → p ≡ b → new.started ≡ old.started ++ started_by made p → Took made old new b
 took_of made old new p None e s = tt
 took_of made old new None (Some b) e s = absurd (cc)

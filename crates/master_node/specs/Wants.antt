@@ -94,15 +94,15 @@ pub record NoneToCome (m : MasterNode) : Type 0 where
   pub slaves : (k : ℕ) → holds_at (λ s. is_live s.stand) m.tour.stops.items k ≡ true → NoneWaiting m k
   pub host : list_any (λ s. is_live s.stand) m.tour.stops.items ≡ true → nat_lt m.lan.entered (length m.lan.host) ≡ false
 
--- A SLAVE OF A SERVING TO WHICH NO MAIL IS PASSED ON ANY MORE: it is open, none waits for it, and none that is passed on is in hand
-pub record IsMailless (w : Serves) : Type 0 where
-  pub stand : w.lead.lived.life.stand ≡ Lives.Stand.Open
+-- THE MASTER WANTS NOTHING of a slave of a serving: nothing as in a run, and of the mails that are passed on to it none waits, and none is in hand
+pub record IsMailless (lens : ℕ → Lens) (w : Serves) : Type 0 where
+  pub idle : IsIdle lens w.lead
   pub waits : w.waits ≡ []
   pub over : w.lead.lived.life.era.passing ≡ None
 
 -- or it was given up for good
-abbrev pub IsServedOut : Serves → Type 0
-IsServedOut w = (w.lead.lived.life.stand ≡ Lives.Stand.Gone) ⊎ IsMailless w
+abbrev pub IsServedOut : (ℕ → Lens) → Serves → Type 0
+IsServedOut lens w = (w.lead.lived.life.stand ≡ Lives.Stand.Gone) ⊎ IsMailless lens w
 
 -- by what the master has of it: it was given up for good, or it is open, with none in hand and none that waits
 abbrev pub IsMaillessBy : Stand → Option Passing → Post → Type 0

@@ -65,7 +65,7 @@ impl MasterNode {
     ghost use Rattle.master_node.specs.Eager.{recalls};
     ghost use Rattle.master_node.specs.Forwards.{forwarded};
     ghost use Rattle.master_node.specs.Resting.{AllRest, StopRests};
-    ghost use Rattle.master_node.specs.Serving.{ServedShows};
+    ghost use Rattle.master_node.specs.Serving.{ServedShows, run_lead};
     ghost use Rattle.master_node.specs.Shows.{WaitsNone};
     ghost use Rattle.master_node.specs.Wants.{gave_of, IsCounted, AllPlaced, AllLeft, IsQuietBy, IsServedOut, MaillessAt, NoneToCome, NoneWaiting};
     ghost use Rattle.served_runs.specs.Served.{Serves};
@@ -137,7 +137,7 @@ impl MasterNode {
         ensures live { OnTrue result (list_any (λ s. is_live s.stand) self.now.tour.stops.items ≡ true) }
         ensures left { OnFalse result ((lens : ℕ → Lens) (recover retry missed : ℕ) (as' : List Leads) → MasterShows lens recover retry self.now missed as' → AllPlaced as' → AllLeft lens as') }
         ensures come { OnFalse result (NoneToCome self.now) }
-        ensures served { OnFalse result ((lens : ℕ → Lens) (recover retry missed made : ℕ) (ws : List Serves) → ServedShows lens recover retry self.now missed made ws → All IsServedOut ws) }
+        ensures served { OnFalse result ((lens : ℕ → Lens) (recover retry missed made : ℕ) (ws : List Serves) → ServedShows lens recover retry self.now missed made ws → AllPlaced (map run_lead ws) → All (IsServedOut lens) ws) }
         ensures rests { (lens : ℕ → Lens) (recover retry missed : ℕ) (as' : List Leads) → MasterShows lens recover retry self.now missed as' → AllRest lens self.now.lan 0 (recalls self.now) as' → nat_lt self.now.lan.entered (length self.now.lan.host) ≡ false → result ≡ false }
         ensures idle { IsIdle self.now → result ≡ false }
     {

@@ -94,6 +94,9 @@ module _ {N M : Type 0} (f : N → M) where
       two true = answered_of h g.ask g
       two false = refl
 
+  pub accepted_as : (station : ℕ) (h : Halves N) (ds : List (Datagram N)) → map f (all_accepted station h (grams ds)) ≡ all_accepted station (halves_as f h) (grams (all_as f ds))
+  accepted_as station h ds = accepted_of station h (grams ds) ∙ ap (all_accepted station (halves_as f h)) (sym (grams_of ds))
+
   without_of : (station : ℕ) (h : Halves N) (gs : List (Gram N)) → halves_as f (halves_without station h gs) ≡ halves_without station (halves_as f h) (grams_as gs)
   without_of station h [] = refl
   without_of station h (g ∷ gs) =
@@ -144,8 +147,7 @@ module _ {N M : Type 0} (f : N → M) where
     pub back_side : (frame station : ℕ) (back : List (Datagram N)) (d : Side N P S) → OfRow (λ r. r.answer ≡ None → EndOne f g h y x r.service (r.heard ++ all_accepted station d.halves (grams back))) d.now →
         side_of (side_back y frame station back d) ≡ side_back x frame station (all_as f back) (side_of d)
     back_side frame station back d same =
-        let ms : map f (all_accepted station d.halves (grams back)) ≡ all_accepted station (halves_as f d.halves) (grams (all_as f back)) =
-        accepted_of station d.halves (grams back) ∙ ap (all_accepted station (halves_as f d.halves)) (sym (grams_of back)) in
+        let ms = accepted_as station d.halves back in
         let halves = after_of station d.halves (grams back) ∙ ap (halves_after station (halves_as f d.halves)) (sym (grams_of back)) in
         let wrote = writes_of station (grams back) ∙ ap (writes station) (sym (grams_of back)) in
         let now = row d.now same ∙ ap (λ l. option_map (λ r. row_heard x frame l r) (option_map row_of d.now)) ms in

@@ -15,6 +15,7 @@ mod Epochs
 pub mod Few
 mod First
 pub mod Frames
+mod Given
 pub mod Maps
 pub mod News
 mod Numbers
@@ -25,6 +26,7 @@ mod Quiet
 mod Ranks
 pub mod Recalled
 mod Reported
+mod Rested
 pub mod Rests
 pub mod Rounds
 mod Rows

@@ -12,7 +12,7 @@ use Rattle.link_mails.specs.Body.{Body}
 use Rattle.master_duty.specs.Reply.{Reply}
 use Rattle.master_hand.specs.Spoken.{Asked, acknowledged, is_followed, is_passed}
 use Rattle.master_side.specs.Passing.{news_back, news_lost}
-use Rattle.promised_run.proofs.Unpassed.{comes_own}
+use Rattle.served_runs.proofs.Quiet.{comes_own}
 use Rattle.run_work.specs.ServedGained.{asked_in}
 use Rattle.segment_model.specs.Ends.{Passing, passing_after}
 use Rattle.segment_model.specs.Record.{News}

@@ -17,32 +17,7 @@ use Rattle.segment_ring.specs.declared.wire.Fate.{Fate}
 use Rattle.segment_ring.specs.declared.wire.Fate.TheVariants.{Pass, Lost}
 use Rattle.state_exchange.specs.Stated.{Service}
 use Rattle.idle_slaves.specs.WaitEager.{AllUnpassed}
-
--- no script passes a mail on
-abbrev passed_in : Option Asked → Bool
-passed_in None = false
-passed_in (Some q) = is_passed q
-
-none_set : (b : Bool) (block : List ℕ) → passed_in (if b then None else Some (net (EoeClient.set_ip block))) ≡ false
-none_set true block = refl
-none_set false block = refl
-
-none_in : (room : ℕ) (s : Plan.Service) → passed_in (asked_of room s) ≡ false
-none_in room (Plan.Service.Sdo service) = refl
-none_in room (Plan.Service.ReadFile name pass) = refl
-none_in room (Plan.Service.WriteFile name pass bytes) = refl
-none_in room (Plan.Service.ReadIdn drive idn elements) = refl
-none_in room (Plan.Service.WriteIdn drive idn elements bytes) = refl
-none_in room (Plan.Service.SetIp block) = none_set (nat_lt room (length block + 10)) block
-none_in room Plan.Service.GetIp = refl
-none_in room (Plan.Service.State target) = refl
-none_in room (Plan.Service.Forward packet) = refl
-
-pub comes_own : (room : ℕ) (script : List Plan.Service) (n m : ℕ) (b : Option (Service Asked)) → Comes room script n b m → (q : Asked) → b ≡ Some (Service.Mails q) → is_passed q ≡ false
-comes_own room script n m _ Comes.none q e = absurd (cc)
-comes_own room script n m _ (Comes.mails s p at asked) q e = (let same : p ≡ q = cc in ap is_passed (sym same) ∙ ap passed_in (sym asked) ∙ none_in room s)
-comes_own room script n m _ (Comes.state target at) q e = absurd (cc)
-comes_own room script n m _ (Comes.packet octets frame) q e = (let same : net (EoeClient.packet octets frame) ≡ q = cc in ap is_passed (sym same))
+use Rattle.served_runs.proofs.Quiet.{comes_own}
 
 -- of slaves before a frame
 abbrev pub TurnsUnpassed : List Turn → Type 0

@@ -5,11 +5,13 @@ pub mod Eager
 pub mod Emergencies
 pub mod Epochs
 pub mod Few
+pub mod Given
 pub mod Numbers
 pub mod Packets
 pub mod Ports
 pub mod Promised
 pub mod Reported
+pub mod Rested
 pub mod Runs
 pub mod ServedBounded
 pub mod Through

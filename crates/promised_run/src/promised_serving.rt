@@ -8,6 +8,8 @@ ghost use Rattle.run_record.specs.Ran.{HasSent};
 ghost use Rattle.gateway_run.specs.Serving.{told};
 ghost use Rattle.gateway_run.specs.Served.{IsServed};
 ghost use Rattle.promised_run.specs.ServedBounded.{IsServedBounded};
+ghost use Rattle.promised_run.specs.Given.{IsServedGiven};
+ghost use Rattle.promised_run.specs.Rested.{IsServedRested};
 ghost use Rattle.promised_run.specs.Through.{IsServedThrough, IsServedWhole};
 
 use crate::uncut_servings::uncut_law;
@@ -15,14 +17,19 @@ use ec_outside::Port;
 use plan_ring::plan_rooms::room_law;
 use run_book::{Book, Ending};
 use segment_plan::Scenario;
+use served_rings::given_rows::given_law;
+use served_rings::heard_stays::heard_stays;
 use served_rings::served_replies::served_replies_law;
+use served_rings::served_rests::served_rests_law;
 use served_runs::{asked_law, told_law};
 use std::alloc::Global;
 
 /// Serves a plan that was read, as `gateway_run` does. At each moment, whatever frames are lost, each slave has carried out in each epoch just the first of the
 /// rows that came into hand of it, a request's mail by the one step that its application takes for it; and the replies that were heard for the mail in hand are the
 /// first of that step's, in order, and all of them where it is over. What is told of it are the first of those that were heard, and behind the frame by which it is
-/// over all of them. A budget of as many frames as the bound for so many datagrams never cuts it off, where none of
+/// over all of them. Behind all frames each datagram that was queued at a slave got the first mails of the one step that its slave's server takes for its mail, and
+/// where it is done all of them; and where nothing was left to do each slave that wasn't given up for good has carried out its whole script and all mails, and
+/// nothing waits. A budget of as many frames as the bound for so many datagrams never cuts it off, where none of
 /// them asks for a download to 2F01:01; and where no more frames in a row are lost than the retry limit, no slave is given up and it ends as done.
 pub fn serve<P: Port>(
     alloc: Global,
@@ -39,10 +46,15 @@ pub fn serve<P: Port>(
     ensures served { IsServed plan.now count (told P.heard P.sent P.over P.port_faults port.old) (told P.heard P.sent P.over P.port_faults port.new) book.new result }
     ensures through { IsServedThrough plan.now book.new }
     ensures whole { IsServedWhole plan.now book.new }
+    ensures given { IsServedGiven plan.now count book.new }
+    ensures rests { IsServedRested plan.now count book.new }
     ensures bounded { IsServedBounded plan.now count book.new }
     ensures ending { book.new.ending ≡ result }
 {
     served_replies_law();
+    served_rests_law();
+    heard_stays();
+    given_law();
     asked_law();
     told_law();
     room_law();

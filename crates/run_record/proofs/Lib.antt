@@ -13,6 +13,7 @@ pub mod Gones
 pub mod Heads
 pub mod Leads
 pub mod Nexts
+pub mod NoPackets
 pub mod Noted
 pub mod Numbered
 pub mod Overs
@@ -22,6 +23,7 @@ pub mod Replays
 pub mod Rows
 pub mod ServedForwards
 pub mod ServedGaves
+pub mod ServedPlaced
 pub mod ServedRecalls
 pub mod ServedTold
 pub mod Servings

@@ -11,6 +11,7 @@ use Rattle.master_node.specs.of_life_runs.Led.{Leads}
 use Rattle.master_node.specs.Toured.{tour_of}
 use Rattle.master_node.specs.Wants.{AllCounted, AllLeft, gave_of}
 use Rattle.master_node.proofs.Counts.{counted, placed}
+use Rattle.master_node.proofs.Quiets.{lead_lives}
 use Rattle.packets_heard.specs.Numbers.{frames_begun}
 use Rattle.packets_heard.specs.Recalled.{RecalledIn}
 use Rattle.run_book.specs.declared.book.Begun.{Begun}
@@ -23,7 +24,7 @@ use Rattle.run_book.specs.declared.book.SlaveBook.{SlaveBook}
 use Rattle.segment_plan.specs.declared.plan.Scenario.{Scenario}
 use Rattle.run_record.specs.Forwarded.{Forwards}
 use Rattle.run_record.specs.Recalling.{RunStands, state_of}
-use Rattle.run_record.specs.Led.{exchanged, Leading, LeadTo, ListsAll, BeginsAll, NumbersAll, TouredTo, RestsSo, RestBy, RecalledBook, LedBook}
+use Rattle.run_record.specs.Led.{exchanged, Leading, LeadTo, LeavesNoPacket, LeavesNone, ListsAll, BeginsAll, NumbersAll, TouredTo, RestsSo, RestBy, RecalledBook, LedBook}
 use Rattle.run_notes.specs.Slaves.{gaves_in}
 use Rattle.run_record.specs.Ran.{IsUnderway, EndsSo}
 use Rattle.run_record.specs.Session.{SessionState, session_rows, are_at_rest, some_given_up, IsLeftBy}
@@ -31,13 +32,14 @@ use Rattle.run_notes.specs.Reports.{IsBooked}
 use Rattle.run_notes.specs.Epochs.{HasEpochs}
 use Rattle.run_notes.specs.Heard.{emergencies_noted, emergencies_in}
 use Rattle.run_notes.specs.Packets.{AreNumbered, begun_in, begun_noted}
-use Rattle.run_notes.specs.Switched.{IsSwitched, SameSwitch}
+use Rattle.run_notes.specs.Switched.{SameSwitch}
 use Rattle.run_notes.specs.Unsent.{IsSpent}
 use Rattle.run_notes.proofs.Reporting.{all_booked, all_spent, all_epochs}
 use Rattle.run_record.proofs.Ends.{rest_so, all_done, gaves_of_rows}
 use Rattle.run_notes.proofs.Heard.{heard_of_rows}
 use Rattle.run_notes.proofs.Packets.{begun_of_rows}
-use Rattle.run_notes.proofs.Switched.{has_packets}
+use Rattle.run_notes.proofs.Switched.{has_packets, switched_same}
+use Rattle.run_record.proofs.NoPackets.{none_left}
 use Rattle.run_record.proofs.Underway.{many}
 
 -- the lives that frames lead to, with the emergencies that are noted of them and the events that they list, each with its number
@@ -50,7 +52,16 @@ not_done e = absurd (cc)
 not_given : endings.GivenUp ≡ endings.NoMemory → ⊥
 not_given e = absurd (cc)
 
-module _ (plan : Scenario) (s : SessionState) (b b' : Book) (h : IsUnderway plan 0 s b) (stands : RunStands plan s.master s.notes (map exchanged b.frames) b s.ring) (switched : IsSwitched s.ports plan.host s.ring.number s.master.lan b) (frames : b'.frames ≡ b.frames) (kept : SameSwitch b b') (same : length s.notes ≡ length s.ring.nodes) where
+-- where the budget was spent or memory ran out something may be left
+not_spent : LeavesNone endings.BudgetSpent → ⊥
+not_spent (inl e) = absurd (cc)
+not_spent (inr e) = absurd (cc)
+
+not_out : LeavesNone endings.NoMemory → ⊥
+not_out (inl e) = absurd (cc)
+not_out (inr e) = absurd (cc)
+
+module _ (plan : Scenario) (s : SessionState) (b b' : Book) (h : IsUnderway plan 0 s b) (stands : RunStands plan s.master s.notes (map exchanged b.frames) b s.ring) (frames : b'.frames ≡ b.frames) (kept : SameSwitch b b') (same : length s.notes ≡ length s.ring.nodes) where
   abbrev lens : ℕ → Lens
   lens = lens_of plan.slaves
 
@@ -69,7 +80,7 @@ module _ (plan : Scenario) (s : SessionState) (b b' : Book) (h : IsUnderway plan
   -- nothing is left
   all_rest : b'.slaves ≡ session_rows s → are_at_rest (session_rows s) ≡ true → IsLeftBy s.master → AllBoth (RestsSo lens) l.leads b'.slaves
   all_rest rows rest left =
-      let none : AllLeft lens l.leads = left lens plan.recover plan.retry l.missed l.leads l.shows (placed lens plan plan.retry (map exchanged b.frames) l.missed l.leads l.lives) in
+      let none : AllLeft lens l.leads = left.slaves lens plan.recover plan.retry l.missed l.leads l.shows (placed lens plan plan.retry (map exchanged b.frames) l.missed l.leads l.lives) in
       subst (λ (rs : List SlaveBook). AllBoth (RestsSo lens) l.leads rs) (sym rows) (rest_so lens s.recover l.leads s.ring.nodes s.notes same all l.gave rest none)
 
   rest_by : (ending : Ending) (settled : Bool) → EndsSo s ending → OnTrue settled (IsLeftBy s.master) → OnFalse settled (ending ≡ endings.BudgetSpent) → (ending ≢ endings.NoMemory → b'.slaves ≡ session_rows s) → RestBy lens ending l.leads b'.slaves
@@ -81,6 +92,14 @@ module _ (plan : Scenario) (s : SessionState) (b b' : Book) (h : IsUnderway plan
   rest_by endings.NoMemory settled so left cut rows = tt
   rest_by endings.PortFault settled so left cut rows = tt
   rest_by endings.Unfinished settled so left cut rows = tt
+
+  -- nor a packet
+  no_packet : (ending result : Ending) (settled : Bool) → OnTrue settled (IsLeftBy s.master) → OnFalse settled (ending ≡ endings.BudgetSpent) → (result ≡ ending) ⊎ (result ≡ endings.NoMemory) → LeavesNone result → LeavesNoPacket plan l.leads b'.switch
+  no_packet ending result true left cut answers none =
+      none_left lens plan.recover plan s.master l.leads s.ports s.ring.number b' (lead_lives lens plan.recover l.leads s.master.tour.stops.items l.shows.each) w.forwarded.ports h.ports
+      (switched_same s.ports plan.host s.ring.number s.master.lan b b' kept h.switched) left.come
+  no_packet ending result false left cut (inl is) none = absurd (not_spent (subst LeavesNone (is ∙ cut) none))
+  no_packet ending result false left cut (inr is) none = absurd (not_out (subst LeavesNone is none))
 
   -- the lives, by the frames of the book
   both : HeardLives plan l.missed l.leads (emergencies_noted s.notes) (begun_noted s.notes) b.switch b.switched b'.frames
@@ -106,7 +125,8 @@ module _ (plan : Scenario) (s : SessionState) (b b' : Book) (h : IsUnderway plan
     unsent = λ ok. subst (λ (rs : List SlaveBook). AllBoth IsSpent l.leads rs) (sym (rows ok)) (all_spent s.recover l.leads s.ring.nodes s.notes same l.told);
     epochs = λ ok. subst (λ (rs : List SlaveBook). AllBoth HasEpochs l.leads rs) (sym (rows ok)) (all_epochs s.recover l.leads s.ring.nodes s.notes same l.told);
     heard = λ ok. ap emergencies_in (rows ok) ∙ heard_of_rows s.recover s.ring.nodes s.notes same ∙ both.1;
-    packets = λ ok. has_packets plan s.ports s.ring.number s.master.lan b b' h.ports (sym (ap length frames ∙ many plan 0 s b h)) kept switched;
+    packets = λ ok. has_packets plan s.ports s.ring.number s.master.lan b b' h.ports (sym (ap length frames ∙ many plan 0 s b h)) kept h.switched;
+    come = no_packet ending result settled left cut answers;
     listed = λ ok. subst (λ (es : List SwitchEvent). ListsAll plan both.0 es) (sym kept.switch) both.2;
     begun = λ ok. subst (λ (es : List SwitchEvent). BeginsAll plan both.0 es) (sym kept.switch) both.3;
     numbered = λ ok. subst (λ (ns : List ℕ). NumbersAll plan both.0 b'.switch ns) (sym kept.switched) (subst (λ (es : List SwitchEvent). NumbersAll plan both.0 es b.switched) (sym kept.switch) both.4);

@@ -2,6 +2,8 @@
 use Rattle.std.proofs.Common.{◌≡◌, ℕ, suc, ◌+◌, ◌<◌, ◌≤◌, inl, inr, [], ◌∷◌, ◌++◌, length, map, Bool, false, ap, sym, ◌∙◌, subst, length-append, false-eqb, arith}
 use Rattle.std.specs.Prelude.{All, ◌==◌}
 use Rattle.std.proofs.lemmas.List.Elements.{All-nil, All-cons, All-append}
+use Rattle.master_node.specs.Happened.{HasHappened}
+use Rattle.master_node.specs.declared.lan.Lan.{Lan}
 use Rattle.segment_plan.specs.declared.plan.Scenario.{Scenario}
 use Rattle.segment_ring.specs.Ring.{RingState}
 use Rattle.slave_node.specs.of_slave_steps.Node.{Node}
@@ -15,15 +17,18 @@ use Rattle.run_book.specs.declared.book.Ending.{Ending}
 use Rattle.run_book.specs.declared.book.Ending.TheVariants as endings
 use Rattle.run_book.specs.declared.book.SentFrame.{SentFrame}
 use Rattle.run_book.specs.declared.book.SlaveBook.{SlaveBook}
+use Rattle.run_notes.proofs.Switched.{switched_same}
+use Rattle.run_notes.specs.Switched.{IsSwitched, SameSwitch}
 use Rattle.run_record.specs.Replay.{first_ring, behind, ring_after, IsRecorded, AreRecorded}
 use Rattle.run_record.specs.Session.{SessionState, first_session, session_rows, are_at_rest, some_given_up, Steps, Stops}
 use Rattle.run_record.specs.Ran.{HasSent, IsUnderway, IsGivenUp, HasRows, EndsSo, EndsAs, StopsSo, StopsAs}
 use Rattle.run_record.proofs.Replays.{after_more, recorded_more, number_after, length_after}
 use Rattle.run_record.proofs.Rows.{nodes_of_rows, rows_given_up}
+use Rattle.run_record.proofs.SwitchFirst.{switched_new}
 
 -- before the first frame
-pub begun : (plan : Scenario) (grams : ℕ) (s : SessionState) (b : Book) → s ≡ first_session plan grams s.master → IsNew b → IsUnderway plan grams s b
-begun plan grams s b first new = record {
+pub begun : (plan : Scenario) (grams : ℕ) (s : SessionState) (b : Book) → s ≡ first_session plan grams s.master → IsNew b → HasHappened (ports_of plan.slaves) plan.host [] s.master.lan → IsUnderway plan grams s b
+begun plan grams s b first new none = record {
   ring = ap (λ (t : SessionState). t.ring) first ∙ ap (ring_after (first_ring plan)) (sym new.frames);
   recorded = subst (AreRecorded (first_ring plan)) (sym new.frames) tt;
   short = subst (All IsShort) (sym new.frames) (All-nil IsShort);
@@ -33,8 +38,9 @@ begun plan grams s b first new = record {
   recover = ap (λ (t : SessionState). t.recover) first;
   budget = ap (λ (t : SessionState). t.budget) first;
   serves = ap (λ (t : SessionState). t.serving) first;
-  few = let none = ap (λ (t : SessionState). t.ring.number) first in omega (arith, none);
+  few = let number = ap (λ (t : SessionState). t.ring.number) first in omega (arith, number);
   slaves = new.slaves;
+  switched = switched_new plan grams s b first new none;
 }
 
 -- frames with one more
@@ -64,6 +70,7 @@ stepped_on plan grams s b s' b' f h left step = record {
   serves = step.serving ∙ h.serves;
   few = let number = ap (λ (r : RingState (Node SlaveServer)). r.number) step.ring in let same = step.budget in omega (arith, number, same, left);
   slaves = step.rest.slaves ∙ h.slaves;
+  switched = step.switch plan.host h.switched;
 }
 
 -- how many frames there are
@@ -106,20 +113,26 @@ pub one_more : (s : SessionState) (b : Book) (s' : SessionState) (b' : Book) (f 
 one_more s b s' b' f step = ap (λ (r : RingState (Node SlaveServer)). r.number) step.ring
 
 -- mails were passed on, and datagrams put into the book
-pub same_on : (plan : Scenario) (grams : ℕ) (s s' : SessionState) (b b' : Book) → IsUnderway plan grams s b → s' ≡ record s { asked = s'.asked; waiting = s'.waiting; master = s'.master } → b'.frames ≡ b.frames → b'.switch ≡ b.switch → b'.slaves ≡ b.slaves → IsUnderway plan grams s' b'
-same_on plan grams s s' b b' h same frames switch slaves = record {
-  ring = ap (λ (t : SessionState). t.ring) same ∙ h.ring ∙ ap (ring_after (first_ring plan)) (sym frames);
-  recorded = subst (AreRecorded (first_ring plan)) (sym frames) h.recorded;
-  short = subst (All IsShort) (sym frames) h.short;
-  homes = ap (λ (t : SessionState). t.homes) same ∙ h.homes;
-  ports = ap (λ (t : SessionState). t.ports) same ∙ h.ports;
-  at_port = subst (All (IsAtPort (ports_of plan.slaves))) (sym switch) h.at_port;
-  recover = ap (λ (t : SessionState). t.recover) same ∙ h.recover;
-  budget = ap (λ (t : SessionState). t.budget) same ∙ h.budget;
-  serves = ap (λ (t : SessionState). t.serving) same ∙ h.serves;
-  few = let n = ap (λ (t : SessionState). t.ring.number) same in let b = ap (λ (t : SessionState). t.budget) same in let few = h.few in omega (arith, n, b, few);
-  slaves = slaves ∙ h.slaves;
-}
+pub same_on : (plan : Scenario) (grams : ℕ) (s s' : SessionState) (b b' : Book) → IsUnderway plan grams s b → s' ≡ record s { asked = s'.asked; waiting = s'.waiting; master = s'.master } → s'.master.lan ≡ s.master.lan → b'.frames ≡ b.frames → SameSwitch b b' → b'.slaves ≡ b.slaves → IsUnderway plan grams s' b'
+same_on plan grams s s' b b' h same lan frames kept slaves =
+    let ports : s'.ports ≡ s.ports = ap (λ (t : SessionState). t.ports) same in
+    let number : s'.ring.number ≡ s.ring.number = ap (λ (t : SessionState). t.ring.number) same in
+    record {
+      ring = ap (λ (t : SessionState). t.ring) same ∙ h.ring ∙ ap (ring_after (first_ring plan)) (sym frames);
+      recorded = subst (AreRecorded (first_ring plan)) (sym frames) h.recorded;
+      short = subst (All IsShort) (sym frames) h.short;
+      homes = ap (λ (t : SessionState). t.homes) same ∙ h.homes;
+      ports = ports ∙ h.ports;
+      at_port = subst (All (IsAtPort (ports_of plan.slaves))) (sym kept.switch) h.at_port;
+      recover = ap (λ (t : SessionState). t.recover) same ∙ h.recover;
+      budget = ap (λ (t : SessionState). t.budget) same ∙ h.budget;
+      serves = ap (λ (t : SessionState). t.serving) same ∙ h.serves;
+      few = let b = ap (λ (t : SessionState). t.budget) same in let few = h.few in omega (arith, number, b, few);
+      slaves = slaves ∙ h.slaves;
+      switched = switched_same s'.ports plan.host s'.ring.number s'.master.lan b b' kept
+          (subst (λ (l : Lan). IsSwitched s'.ports plan.host s'.ring.number l b) (sym lan)
+          (subst (λ (n : ℕ). IsSwitched n plan.host s'.ring.number s.master.lan b) (sym ports) (subst (λ (n : ℕ). IsSwitched s.ports plan.host n s.master.lan b) (sym number) h.switched)));
+    }
 
 -- the rows at the end
 module _ (plan : Scenario) (grams : ℕ) (s : SessionState) (b b' : Book) (h : IsUnderway plan grams s b) (frames : b'.frames ≡ b.frames) (rows : b'.slaves ≡ session_rows s) (same : length s.notes ≡ length s.ring.nodes) where

@@ -1,7 +1,11 @@
 -- THE FRAMES OF A RUN ARE LED by its master: each is just what the lives of the slaves ask for, from the plan's new lives on; and what the book says of
 -- give-ups and of the end is what those lives have.
 use Rattle.std.specs.Prelude.{◌≡◌, ◌≢◌, ◌⊎◌, ℕ, true, List, [], map, ⊤}
+use Rattle.std.specs.List.{list_any}
+use Rattle.eoe_switch.specs.Switch.{switched}
 use Rattle.eoe_switch.specs.declared.switching.SwitchEvent.{SwitchEvent}
+use Rattle.master_node.specs.Forwards.{forwarded}
+use Rattle.master_node.specs.Happened.{arrivals_at}
 use Rattle.master_node.specs.of_frame_view.View.{Lens}
 use Rattle.master_node.specs.of_life_frames.Shares.{AllBoth}
 use Rattle.life_heard.specs.Heard.{AllNoted, heard_in}
@@ -9,10 +13,11 @@ use Rattle.master_node.specs.of_life_model.Lives.{Stand}
 use Rattle.master_node.specs.of_life_runs.First.{lens_of, first_leads}
 use Rattle.master_node.specs.of_life_runs.Led.{Exchanged, Leads, IsLed}
 use Rattle.master_node.specs.Ports.{ports_behind, ports_of}
-use Rattle.master_node.specs.Shows.{MasterShows}
+use Rattle.master_node.specs.Shows.{MasterShows, is_live_lead}
 use Rattle.master_node.specs.Toured.{tour_of}
 use Rattle.master_node.specs.Wants.{gave_of, IsIdle}
 use Rattle.master_node.specs.declared.node.MasterNode.{MasterNode}
+use Rattle.master_node.specs.of_master_tour.Goes.{holds_at}
 use Rattle.master_node.specs.of_master_tour.Toured.{Tour}
 use Rattle.packets_heard.specs.Numbers.{Numbered, frames_begun}
 use Rattle.packets_heard.specs.Over.{AreBegun}
@@ -91,6 +96,15 @@ pub record DoneSo (lens : ℕ → Lens) (a : Leads) (row : SlaveBook) : Type 0 w
   pub settled : is_settled next_mail row.node ≡ true
   pub stayed : gave_of a ≡ []
 
+-- NOTHING IS LEFT TO DO where a run or a serving ended so
+abbrev pub LeavesNone : Ending → Type 0
+LeavesNone ending = (ending ≡ endings.Done) ⊎ (ending ≡ endings.GivenUp)
+
+-- NO PACKET IS LEFT of a plan's switch, by its events: none waits at the port of a slave that wasn't given up for good, and where there is one all of the host's came in
+pub record LeavesNoPacket (plan : Scenario) (leads : List Leads) (es : List SwitchEvent) : Type 0 where
+  pub slaves : (k : ℕ) → holds_at is_live_lead leads k ≡ true → forwarded (switched (ports_of plan.slaves) es).switch (ports_behind 0 plan.slaves) k ≡ []
+  pub host : list_any is_live_lead leads ≡ true → arrivals_at 0 es ≡ plan.host
+
 -- HOW A RUN'S LIVES END: with nothing left of any slave, and none given up where all is done; anywhere where the budget or memory ends
 abbrev pub RestBy : (ℕ → Lens) → Ending → List Leads → List SlaveBook → Type 0
 RestBy lens endings.Done leads rows = AllBoth (DoneSo lens) leads rows
@@ -114,7 +128,7 @@ pub record RecalledBook (plan : Scenario) (book : Book) (missed : ℕ) (leads : 
 -- stand there, each with the frame that brought it; and nothing is left of it where the run is over. The frames are the visits of one tour. And the packets of
 -- the host are those that the events of the switch make, and these events are just those that the frames list; of the slaves' ports just the packets began that
 -- came into hand; and each event has its number, by the frame that made it; and just the packets that came into hand stand in the book of each slave, numbered.
--- And no visit of the tour is in vain, by what the master remembered
+-- Where the run is over no packet is left. And no visit of the tour is in vain, by what the master remembered
 pub record LedBook (plan : Scenario) (book : Book) (ending : Ending) : Type 0 where
   pub missed : ℕ
   pub leads : List Leads
@@ -128,6 +142,7 @@ pub record LedBook (plan : Scenario) (book : Book) (ending : Ending) : Type 0 wh
   pub heard : ending ≢ endings.NoMemory → AllNoted (heard_in lives) (emergencies_in book.slaves)
   pub rests : RestBy (lens_of plan.slaves) ending leads book.slaves
   pub packets : ending ≢ endings.NoMemory → HasPackets plan book
+  pub come : LeavesNone ending → LeavesNoPacket plan leads book.switch
   pub listed : ending ≢ endings.NoMemory → ListsAll plan lives book.switch
   pub begun : ending ≢ endings.NoMemory → BeginsAll plan lives book.switch
   pub numbered : ending ≢ endings.NoMemory → NumbersAll plan lives book.switch book.switched

@@ -10,6 +10,7 @@ use Rattle.run_book.specs.declared.book.SlaveBook.{SlaveBook}
 use Rattle.run_record.specs.Replay.{first_ring, ring_after, AreRecorded}
 use Rattle.run_record.specs.Session.{SessionState, session_rows, budget_of, are_at_rest, some_given_up}
 use Rattle.run_notes.specs.Slaves.{home_of}
+use Rattle.run_notes.specs.Switched.{IsSwitched}
 
 -- the frames of a serving that hears so many datagrams, or of a run, which hears none: each as the ring of the plan's new slaves gives it,
 -- and no more than the budget; and each event at a port of the switch
@@ -36,6 +37,7 @@ pub record IsUnderway (plan : Scenario) (grams : ℕ) (s : SessionState) (b : Bo
   pub serves : s.serving ≡ nat_lt 0 grams
   pub few : s.ring.number ≤ s.budget
   pub slaves : b.slaves ≡ []
+  pub switched : IsSwitched s.ports plan.host s.ring.number s.master.lan b
 
 -- the frame at which a slave was given up for good
 abbrev pub IsGivenUp : ℕ → SlaveBook → Type 0

@@ -14,7 +14,7 @@ use Rattle.master_node.specs.Origins.{forwards_at}
 use Rattle.master_node.specs.Ports.{ports_behind, ports_of}
 use Rattle.master_node.specs.Serving.{IsAsked, ServedShows, ServedUnder, run_lead, run_turn}
 use Rattle.master_node.specs.Shows.{is_carried}
-use Rattle.master_node.specs.Wants.{gave_of, IsServedOut}
+use Rattle.master_node.specs.Wants.{gave_of, IsServedOut, NoneToCome}
 use Rattle.master_node.specs.declared.event.Event.{Event}
 use Rattle.master_node.specs.declared.happened.Happening.{Happening}
 use Rattle.master_node.specs.declared.node.MasterNode.{MasterNode}
@@ -131,9 +131,10 @@ ServingGoesOn s s' f = (plan : Scenario) (fs : List Exchanged) → s.recover ≡
 abbrev pub ServingLives : SessionState → Type 0
 ServingLives s = (plan : Scenario) (fs : List Exchanged) → s.recover ≡ plan.recover → Serving plan s fs → has_live s.master ≡ true
 
--- NO MAIL IS LEFT, where a serving is led: each slave was given up for good, or it is open, none waits for it, and none that is passed on is in hand
-abbrev pub ServingRests : SessionState → Type 0
-ServingRests s = (plan : Scenario) (fs : List Exchanged) (old : Serving plan s fs) → All IsServedOut old.leading.serves
+-- NOTHING IS LEFT, where a serving is led: each slave was given up for good, or nothing is wanted of it; and nothing is still to come for one that is live
+pub record ServingRests (s : SessionState) : Type 0 where
+  pub slaves : (plan : Scenario) (fs : List Exchanged) (old : Serving plan s fs) → All (IsServedOut (lens_of plan.slaves)) old.leading.serves
+  pub come : NoneToCome s.master
 
 -- A MAIL IS ASKED, as it is, under the key of its asker: it waits behind those of its slave, and nothing else of the lives changes
 pub record AsksOn (plan : Scenario) (slave key : ℕ) (mail : Mail) (s s' : SessionState) (fs : List Exchanged) (old : Serving plan s fs) : Type 0 where

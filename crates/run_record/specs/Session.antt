@@ -21,7 +21,7 @@ use Rattle.master_node.specs.declared.node.MasterNode.{MasterNode}
 use Rattle.master_node.specs.Eager.{recalls}
 use Rattle.master_node.specs.Resting.{AllRest}
 use Rattle.master_node.specs.Shows.{MasterShows}
-use Rattle.master_node.specs.Wants.{AllPlaced, AllLeft}
+use Rattle.master_node.specs.Wants.{AllPlaced, AllLeft, NoneToCome}
 use Rattle.master_node.specs.of_master_tour.Goes.{is_live}
 use Rattle.master_node.specs.of_life_runs.Led.{Exchanged, Leads}
 use Rattle.master_node.specs.of_frame_view.View.{Lens}
@@ -103,9 +103,10 @@ some_given_up rows = list_any has_given_up rows
 abbrev pub has_live : MasterNode → Bool
 has_live m = list_any (λ s. is_live s.stand) m.tour.stops.items
 
--- each slave that it leads was given up for good, or it wants nothing of it
-abbrev pub IsLeftBy : MasterNode → Type 0
-IsLeftBy m = (lens : ℕ → Lens) (recover retry missed : ℕ) (leads : List Leads) → MasterShows lens recover retry m missed leads → AllPlaced leads → AllLeft lens leads
+-- NOTHING IS LEFT, for the master of a run: each slave that it leads was given up for good, or it wants nothing of it; and nothing is still to come for one that is live
+pub record IsLeftBy (m : MasterNode) : Type 0 where
+  pub slaves : (lens : ℕ → Lens) (recover retry missed : ℕ) (leads : List Leads) → MasterShows lens recover retry m missed leads → AllPlaced leads → AllLeft lens leads
+  pub come : NoneToCome m
 
 -- it is led, whatever is noted of it
 abbrev pub LedOn : SessionState → SentFrame → Type 0

@@ -278,7 +278,7 @@ impl Session {
     }
 
     /// Whether nothing is left to do, for the master and at each live slave. Where a serving is led and something is, some slave is live; where nothing is, no
-    /// mail is left that was passed on to a slave, unless that was given up for good.
+    /// service and no packet is left of a slave, and no mail that was passed on to it, unless that was given up for good.
     pub fn settled(&self) -> bool
         ensures rest { OnTrue result (are_at_rest (session_rows self.now) ≡ true) }
         ensures left { OnTrue result (IsLeftBy self.now.master) }
@@ -358,6 +358,7 @@ impl Session {
         ensures full { OnOk result ((result ≡ Ok false) ↔ (slice_get self.old.waiting slave ≡ Some 64)) }
         ensures serves { IfOk result (ServingAsks slave key mail.now self.old self.new) }
         ensures live { has_live self.new.master ≡ has_live self.old.master }
+        ensures switch { self.new.master.lan ≡ self.old.master.lan }
         ensures done { IfOk result (λ asked. IsDone self.new → IsDone self.old) }
         ensures err { OnErr result (self.new ≡ self.old) }
     {

@@ -1,4 +1,3 @@
-mod Accepted
 pub mod Alone
 mod Answered
 mod Clocks

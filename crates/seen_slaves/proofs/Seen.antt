@@ -19,7 +19,7 @@ use Rattle.plan_ring.proofs.Eras.{era_due}
 use Rattle.segment_model.specs.Record.{Frame}
 use Rattle.segment_model.specs.Slaves.{Datagram, Processor, Registers, Slave, frame_after, grams, slave_after}
 use Rattle.seen_slaves.specs.Brings.{AllAreFair, SeenBringsDue}
-use Rattle.seen_slaves.proofs.Accepted.{accepted_as}
+use Rattle.passed_whole.proofs.Naturals.{accepted_as}
 use Rattle.seen_slaves.proofs.Known.{HasRest, each_due}
 use Rattle.seen_slaves.proofs.Ties.{tied}
 use Rattle.serving_model.specs.Erasing.{all_as, slave_as}

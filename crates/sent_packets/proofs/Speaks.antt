@@ -12,6 +12,7 @@ use Rattle.master_hand.specs.Spoken.{Asked, passed, net, is_passed}
 use Rattle.master_hand.specs.of_eoe_model.Client as EoeClient
 use Rattle.served_rings.specs.Speakers.{naming_of, speaker}
 use Rattle.served_rings.proofs.Any.{fewer_lawful}
+use Rattle.served_rings.proofs.Fair.{each_append, each_behind, each_front, never_passed}
 use Rattle.run_work.specs.Sessions.{OwnService}
 use Rattle.run_work.proofs.Counted.{passes, none_passes}
 use Rattle.segment_plan.specs.declared.service.Service as Plan
@@ -52,26 +53,6 @@ quiet_speaks p k =
     }
 
 -- ---- what came into hand
-module _ {X : Type 0} (P : X → Type 0) where
-  each_append : (xs ys : List X) → EachOf P xs → EachOf P ys → EachOf P (xs ++ ys)
-  each_append [] ys a b = b
-  each_append (x ∷ xs) ys a b = (a.0, each_append xs ys a.1 b)
-
-  each_front : (xs ys : List X) → EachOf P (xs ++ ys) → EachOf P xs
-  each_front [] ys a = tt
-  each_front (x ∷ xs) ys a = (a.0, each_front xs ys a.1)
-
-  each_behind : (xs ys : List X) → EachOf P (xs ++ ys) → EachOf P ys
-  each_behind [] ys a = a
-  each_behind (x ∷ xs) ys a = each_behind xs ys a.1
-
--- what comes into hand of a script is no mail that is passed on
-never_passed : (room : ℕ) (script : List Plan.Service) (n m : ℕ) (b : Option (Service Asked)) → Comes room script n b m → (q : Asked) → b ≡ Some (Service.Mails q) → is_passed q ≡ false
-never_passed room script n m _ Comes.none q e = absurd (cc)
-never_passed room script n m _ (Comes.mails s p at asked) q e = (let same : p ≡ q = cc in ap is_passed (sym same) ∙ ap passes (sym asked) ∙ none_passes room s)
-never_passed room script n m _ (Comes.state target at) q e = absurd (cc)
-never_passed room script n m _ (Comes.packet octets frame) q e = (let same : net (EoeClient.packet octets frame) ≡ q = cc in ap is_passed (sym same))
-
 abbrev IsQuietKeyed : Keyed → Type 0
 IsQuietKeyed k = is_quiet (Ok k.mail) ≡ true
 

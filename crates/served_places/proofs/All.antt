@@ -191,7 +191,7 @@ same_many station (s ∷ sent) (b ∷ back) r = ap (λ (z : Bool). length (if z 
 -- A SLAVE BEFORE A FRAME
 module _ (lens : ℕ → Lens) (made : ℕ) (ds : List Raw.Datagram) (w : Serves) (v : ServedTurn) (t : IsServedTurn lens made ds w v) where
   -- it stands as it did
-  same_stand : v.turn.lived.life.stand ≡ w.lead.lived.life.stand
+  pub same_stand : v.turn.lived.life.stand ≡ w.lead.lived.life.stand
   same_stand = ap (λ (l : Life Body Asked Reply). l.stand) t.next.life ∙ still_stands (speech_at lens w.lead.lived.spot) acknowledged is_followed is_passed made w.lead.lived.life w.lead.lived.life.stand t.next.pick
 
   pub turn_held : IsHeld w → (p : Passed) → v.hand ≡ Some p → v.turn.lived.life.stand ≡ Stand.Open

@@ -27,21 +27,25 @@ use Rattle.served_places.specs.Rows.{Stays, eras_rows, life_rows, passed_rows}
 use Rattle.served_places.proofs.Stay.{all_append, all_itself, all_same, eras_append, lives_stay, newest_heard}
 
 -- the rows of a life stay as they are
-abbrev SameRows : Life Body Asked Reply → Life Body Asked Reply → Type 0
+abbrev pub SameRows : Life Body Asked Reply → Life Body Asked Reply → Type 0
 SameRows l m = life_rows m ≡ life_rows l
 
 cleared_same : (frame : ℕ) (l : Life Body Asked Reply) (o : Opening) → SameRows l (clears frame l o)
 cleared_same frame l o = append-nil (eras_rows (l.past ++ l.era ∷ [])) ∙ eras_append l.past l.era
 
-opening_same : (frame : ℕ) (l : Life Body Asked Reply) (o : Opening) (done : Bool) (found : Option Found) → SameRows l (opening_back frame l o done found)
-opening_same frame l o done found = go (shows_clear o) (done && is_shown 1 found) (o.step == last_step o) (done && is_shown o.state found)
+-- what clearing, opening and a step of an opening keep
+pub opening_keeps : {T : Type 0} (g : Life Body Asked Reply → T) (frame : ℕ) (l : Life Body Asked Reply) (o : Opening) (done : Bool) (found : Option Found) → g (clears frame l o) ≡ g l → g (opens frame l) ≡ g l → g (steps_on l o) ≡ g l → g (opening_back frame l o done found) ≡ g l
+opening_keeps g frame l o done found cleared opened on = go (shows_clear o) (done && is_shown 1 found) (o.step == last_step o) (done && is_shown o.state found)
   where
-    go : (a b c d : Bool) → SameRows l (if a then (if b then clears frame l o else l) else if c then (if d then opens frame l else l) else steps_on l o)
-    go true true c d = cleared_same frame l o
+    go : (a b c d : Bool) → g (if a then (if b then clears frame l o else l) else if c then (if d then opens frame l else l) else steps_on l o) ≡ g l
+    go true true c d = cleared
     go true false c d = refl
-    go false b true true = refl
+    go false b true true = opened
     go false b true false = refl
-    go false b false d = refl
+    go false b false d = on
+
+pub opening_same : (frame : ℕ) (l : Life Body Asked Reply) (o : Opening) (done : Bool) (found : Option Found) → SameRows l (opening_back frame l o done found)
+opening_same frame l o done found = opening_keeps life_rows frame l o done found (cleared_same frame l o) refl refl
 
 -- where a state service is in hand nothing but its stand may change
 pub reopens_keeps : {T : Type 0} (g : Life Body Asked Reply → T) → ((l : Life Body Asked Reply) (stand : Stand) → g (record l { stand = stand }) ≡ g l) → (l : Life Body Asked Reply) (hand : Option Duty) → g (reopens l hand) ≡ g l
@@ -74,7 +78,7 @@ module _ (x : Speech Body Asked Reply) (frame : ℕ) (spot : Spot) (l : Life Bod
   lost_same ns sent Stand.Open = refl
   lost_same ns sent Stand.Gone = refl
 
-given_same : (b : Bool) (recover frame : ℕ) (spot : Spot) (m : Life Body Asked Reply) → SameRows m (given_where b recover spot frame m)
+pub given_same : (b : Bool) (recover frame : ℕ) (spot : Spot) (m : Life Body Asked Reply) → SameRows m (given_where b recover spot frame m)
 given_same true recover frame spot m = refl
 given_same false recover frame spot m = refl
 

@@ -4,6 +4,7 @@ pub use Rattle.served_runs.proofs as of_served_runs
 pub mod All
 pub mod Behind
 pub mod Each
+pub mod Hears
 pub mod Held
 pub mod News
 pub mod Next

@@ -1,16 +1,19 @@
 -- THE ROWS OF THE MAILS THAT ARE PASSED ON to a slave, in the order in which they came into its hand, all along its life.
-use Rattle.std.specs.Prelude.{◌≡◌, ◌⊎◌, ℕ, Bool, true, Option, Some, None, List, [], ◌∷◌, ◌++◌, filter, if◌then◌else◌, All}
+use Rattle.std.specs.Prelude.{◌≡◌, ◌⊎◌, ℕ, Bool, true, Option, Some, None, List, [], ◌∷◌, ◌++◌, filter, map, if◌then◌else◌, All}
+use Rattle.life_frames.specs.of_exchange_model.Exchange.{plain}
 use Rattle.life_frames.specs.of_exchange_model.Rows.{Row, begun}
 use Rattle.life_frames.specs.of_life_model.Lives.{Era, Life, Stand}
 use Rattle.life_frames.specs.of_segment_model.Ends.{Passing}
 use Rattle.life_frames.specs.of_segment_model.Seats.{rows_of}
 use Rattle.life_frames.specs.of_state_exchange.Stated.{Service}
+use Rattle.life_runs.specs.of_frame_view.View.{Lens}
 use Rattle.life_runs.specs.of_link_mails.Body.{Body}
+use Rattle.life_runs.specs.Led.{Exchanged}
 use Rattle.life_runs.specs.of_master_duty.Reply.{Reply}
-use Rattle.life_runs.specs.of_master_hand.Spoken.{Asked, is_followed, is_passed}
+use Rattle.life_runs.specs.of_master_hand.Spoken.{Asked, emission, is_followed, is_passed}
 use Rattle.serving_model.specs.Passing.{ends_told}
-use Rattle.served_runs.specs.Served.{Serves}
-use Rattle.served_runs.specs.Told.{Passed}
+use Rattle.served_runs.specs.Served.{Serves, ServedTurn, accepted_by}
+use Rattle.served_runs.specs.Told.{Passed, replies_in}
 
 -- the rows of its services by mails, over these epochs
 abbrev pub eras_rows : List (Era Body Asked Reply) → List (Row Body Asked Reply)
@@ -29,6 +32,34 @@ is_passed_row r = is_passed r.service
 abbrev pub passed_rows : Life Body Asked Reply → List (Row Body Asked Reply)
 passed_rows l = filter is_passed_row (life_rows l)
 
+-- the replies that were heard in each of these rows
+abbrev pub replies_of : List (Row Body Asked Reply) → List (List Body)
+replies_of rs = map (λ (r : Row Body Asked Reply). plain emission r.heard) rs
+
+-- what is had besides in the last of these
+abbrev pub last_more : {T : Type 0} → List T → List (List T) → List (List T)
+last_more more [] = []
+last_more more (x ∷ []) = (x ++ more) ∷ []
+last_more more (x ∷ (y ∷ xs)) = x ∷ last_more more (y ∷ xs)
+
+-- how far the mail of the newest row of an epoch has come, where that row is one of them
+abbrev pub now_passing : Option (Row Body Asked Reply) → Option Passing → List (Option Passing)
+now_passing None passing = []
+now_passing (Some r) passing = if is_passed_row r then passing ∷ [] else []
+
+-- of an epoch: the mails of the rows before its newest are over
+abbrev pub era_passings : Era Body Asked Reply → List (Option Passing)
+era_passings e = map (λ (r : Row Body Asked Reply). None) (filter is_passed_row e.side.past) ++ now_passing e.side.now e.passing
+
+-- over these epochs
+abbrev pub eras_passings : List (Era Body Asked Reply) → List (Option Passing)
+eras_passings [] = []
+eras_passings (e ∷ es) = era_passings e ++ eras_passings es
+
+-- HOW FAR THE MAIL OF EACH OF THESE ROWS HAS COME
+abbrev pub passings : Life Body Asked Reply → List (Option Passing)
+passings l = eras_passings l.past ++ era_passings l.era
+
 -- A ROW STAYS: its service and the frame before which that came into hand; more may be heard in it
 pub record Stays (r s : Row Body Asked Reply) : Type 0 where
   pub service : s.service ≡ r.service
@@ -41,6 +72,16 @@ abbrev pub row_begun : ℕ → Option (Service Asked) → List (Row Body Asked R
 row_begun made None = []
 row_begun made (Some (Service.Mails q)) = if is_passed q then begun q made ∷ [] else []
 row_begun made (Some (Service.State target)) = []
+
+-- what is told of the mail that was passed on last, where these mails are accepted
+abbrev pub told_besides : Option Passed → Option Passing → List Body → List Body
+told_besides None passing ms = []
+told_besides (Some p) passing ms = replies_in passing ms
+
+-- A FRAME BRINGS NO REPLY MORE to a mail that was passed on and is over, while no other service by mails came into hand of its slave
+abbrev pub HearsNoMore : (ℕ → Lens) → ℕ → ℕ → Exchanged → ServedTurn → Type 0
+HearsNoMore lens recover retry f v =
+    v.turn.lived.life.era.passing ≡ None → (r : Row Body Asked Reply) → v.turn.lived.life.era.side.now ≡ Some r → is_passed r.service ≡ true → plain emission (accepted_by lens recover retry f f.fate v) ≡ []
 
 -- a slave of which a mail was passed on last, and no other service came into hand since, is open
 abbrev pub IsHeld : Serves → Type 0

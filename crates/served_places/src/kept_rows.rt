@@ -3,7 +3,7 @@
 
 ghost use Rattle.std.specs.Prelude.{◌≡◌, ◌≤◌, ◌++◌, ℕ, Bool, List, Some, None, All};
 ghost use Rattle.counters_kept.specs.Lives.{LifeKept};
-ghost use Rattle.served_places.specs.Rows.{IsHeld, Stays, ToldAll, passed_rows, row_begun};
+ghost use Rattle.served_places.specs.Rows.{HearsNoMore, IsHeld, Stays, ToldAll, last_more, passed_rows, passings, replies_of, row_begun, told_besides};
 ghost use Rattle.life_runs.specs.of_datagrams.Datagram as Raw;
 ghost use Rattle.life_runs.specs.of_datagrams.Frame.{IsFrame, chained};
 ghost use Rattle.life_runs.specs.of_frame_view.Seen.{seen};
@@ -15,7 +15,9 @@ ghost use Rattle.life_runs.specs.of_segment_ring.declared.wire.Fate.TheVariants.
 ghost use Rattle.life_runs.specs.Led.{Exchanged, Leads};
 ghost use Rattle.life_frames.specs.of_segment_model.Returned.{Returns};
 ghost use Rattle.life_frames.specs.of_state_exchange.Stated.{Service};
-ghost use Rattle.served_runs.specs.Served.{Serves, ServedTurn, IsServedLed, IsServedTurn, all_serve, new_serves, served_behind};
+ghost use Rattle.served_runs.specs.Served.{Serves, ServedTurn, IsServedLed, IsServedTurn, accepted_by, all_serve, new_serves, served_behind};
+ghost use Rattle.served_runs.specs.Told.{Passed, TellsOwn};
+ghost use Rattle.life_frames.specs.of_life_model.Lives.{Stand};
 
 /// A ROW OF A MAIL THAT WAS PASSED ON STAYS in its place among them, over all epochs of its slave's life: its service, and the frame before which it came into
 /// hand; more may be heard in it. Before a frame there is one more where such a mail comes into hand, behind the others, and behind it there is none more.
@@ -24,6 +26,18 @@ pub fn rows_law()
         AllBoth Stays (passed_rows w.lead.lived.life ++ row_begun made v.turn.begun) (passed_rows v.turn.lived.life) }
     ensures behind { (lens : ℕ → Lens) (recover retry : ℕ) (gives : Bool) (made : ℕ) (f : Exchanged) (v : ServedTurn) →
         AllBoth Stays (passed_rows v.turn.lived.life) (passed_rows (served_behind lens recover retry gives made f v).lead.lived.life) }
+{}
+
+/// WHAT IS HEARD IN THESE ROWS, where a frame brings no reply more to a mail that is over: before it the same, and nothing in the row of a mail that comes into
+/// hand; behind it just the replies that are told besides, in the row of the mail in hand. And a mail that was over is so before the frame and behind it.
+pub fn heard_law()
+    ensures next { (lens : ℕ → Lens) (made : ℕ) (ds : List Raw.Datagram) (w : Serves) (v : ServedTurn) → IsServedTurn lens made ds w v →
+        replies_of (passed_rows v.turn.lived.life) ≡ replies_of (passed_rows w.lead.lived.life) ++ replies_of (row_begun made v.turn.begun) }
+    ensures behind { (lens : ℕ → Lens) (recover retry : ℕ) (gives : Bool) (made : ℕ) (f : Exchanged) (v : ServedTurn) → ((p : Passed) → v.hand ≡ Some p → TellsOwn p v.turn.lived.life.era.passing v.turn.lived.life.era.side.now) →
+        (v.hand ≡ None → v.turn.lived.life.stand ≡ Stand.Open → v.turn.lived.life.era.passing ≡ None) → HearsNoMore lens recover retry f v →
+        replies_of (passed_rows (served_behind lens recover retry gives made f v).lead.lived.life) ≡ last_more (told_besides v.hand v.turn.lived.life.era.passing (accepted_by lens recover retry f f.fate v)) (replies_of (passed_rows v.turn.lived.life)) }
+    ensures over { (lens : ℕ → Lens) (recover retry : ℕ) (gives : Bool) (made : ℕ) (f : Exchanged) (v : ServedTurn) →
+        AllBoth (λ p q. p ≡ None → q ≡ None) (passings v.turn.lived.life) (passings (served_behind lens recover retry gives made f v).lead.lived.life) }
 {}
 
 /// WHAT COMES INTO HAND finds no mail there that is passed on; and such a mail waits to be sent then.

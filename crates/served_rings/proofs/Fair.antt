@@ -26,20 +26,20 @@ use Rattle.task_model.specs.Promise.{services_in}
 use Rattle.served_rings.specs.Speakers.{naming_of, speaker}
 
 module _ {X : Type 0} (P : X → Type 0) where
-  each_append : (xs ys : List X) → EachOf P xs → EachOf P ys → EachOf P (xs ++ ys)
+  pub each_append : (xs ys : List X) → EachOf P xs → EachOf P ys → EachOf P (xs ++ ys)
   each_append [] ys a b = b
   each_append (x ∷ xs) ys a b = (a.0, each_append xs ys a.1 b)
 
-  each_front : (xs ys : List X) → EachOf P (xs ++ ys) → EachOf P xs
+  pub each_front : (xs ys : List X) → EachOf P (xs ++ ys) → EachOf P xs
   each_front [] ys a = tt
   each_front (x ∷ xs) ys a = (a.0, each_front xs ys a.1)
 
-  each_behind : (xs ys : List X) → EachOf P (xs ++ ys) → EachOf P ys
+  pub each_behind : (xs ys : List X) → EachOf P (xs ++ ys) → EachOf P ys
   each_behind [] ys a = a
   each_behind (x ∷ xs) ys a = each_behind xs ys a.1
 
 -- what comes into hand of a script is no mail that is passed on
-never_passed : (room : ℕ) (script : List Plan.Service) (n m : ℕ) (b : Option (Service Asked)) → Comes room script n b m → (q : Asked) → b ≡ Some (Service.Mails q) → is_passed q ≡ false
+pub never_passed : (room : ℕ) (script : List Plan.Service) (n m : ℕ) (b : Option (Service Asked)) → Comes room script n b m → (q : Asked) → b ≡ Some (Service.Mails q) → is_passed q ≡ false
 never_passed room script n m _ Comes.none q e = absurd (cc)
 never_passed room script n m _ (Comes.mails s p at asked) q e = (let same : p ≡ q = cc in ap is_passed (sym same) ∙ ap passes (sym asked) ∙ none_passes room s)
 never_passed room script n m _ (Comes.state target at) q e = absurd (cc)

@@ -27,7 +27,7 @@ use Rattle.served_runs.specs.Told.{Passed}
 use Rattle.served_runs.specs.Served.{Serves, ServedTurn, ServedComes, IsServedTurn, AllServedTurn, IsServedLed, IsQuiet, IsRunOf, all_serve, gives_it, served_behind, served_life}
 
 -- no script passes a mail on
-abbrev passed_in : Option Asked → Bool
+abbrev pub passed_in : Option Asked → Bool
 passed_in None = false
 passed_in (Some q) = is_passed q
 
@@ -35,7 +35,7 @@ none_set : (b : Bool) (block : List ℕ) → passed_in (if b then None else Some
 none_set true block = refl
 none_set false block = refl
 
-none_in : (room : ℕ) (s : Plan.Service) → passed_in (asked_of room s) ≡ false
+pub none_in : (room : ℕ) (s : Plan.Service) → passed_in (asked_of room s) ≡ false
 none_in room (Plan.Service.Sdo service) = refl
 none_in room (Plan.Service.ReadFile name pass) = refl
 none_in room (Plan.Service.WriteFile name pass bytes) = refl
@@ -46,7 +46,7 @@ none_in room Plan.Service.GetIp = refl
 none_in room (Plan.Service.State target) = refl
 none_in room (Plan.Service.Forward packet) = refl
 
-comes_own : (room : ℕ) (script : List Plan.Service) (n m : ℕ) (b : Option (Service Asked)) → Comes room script n b m → (q : Asked) → b ≡ Some (Service.Mails q) → is_passed q ≡ false
+pub comes_own : (room : ℕ) (script : List Plan.Service) (n m : ℕ) (b : Option (Service Asked)) → Comes room script n b m → (q : Asked) → b ≡ Some (Service.Mails q) → is_passed q ≡ false
 comes_own room script n m _ Comes.none q e = absurd (cc)
 comes_own room script n m _ (Comes.mails s p at asked) q e = (let same : p ≡ q = cc in ap is_passed (sym same) ∙ ap passed_in (sym asked) ∙ none_in room s)
 comes_own room script n m _ (Comes.state target at) q e = absurd (cc)

@@ -1,6 +1,8 @@
 use Rattle.std.proofs.Common.{refl}
 use Rattle.gateway_run.specs.Serving.{told}
 use Rattle.life_runs.specs.First.{first_leads, lens_of}
+use Rattle.promised_run.proofs.Given.{all_given}
+use Rattle.promised_run.proofs.Rested.{rested}
 use Rattle.promised_run.proofs.ServedBounded.{bounded}
 use Rattle.promised_run.proofs.Through.{through}
 use Rattle.promised_run.proofs.Whole.{whole}
@@ -27,3 +29,12 @@ returns-clause-bounded g c =
 
 pub returns-clause-whole : goal.returns-clause-whole
 returns-clause-whole g c = whole c.args.plan.now c.serve.new.book
+
+pub returns-clause-given : goal.returns-clause-given
+returns-clause-given g c =
+    all_given c.args.plan.now c.args.count c.serve.new.book c.requires.plan c.requires.told c.served_replies_law.ensures c.heard_stays.ensures c.given_law.ensures.all c.given_law.ensures.at c.serve.ensures.frames
+
+pub returns-clause-rests : goal.returns-clause-rests
+returns-clause-rests g c =
+    rested c.args.plan.now c.args.count (told g.P.Port.heard g.P.Port.sent g.P.Port.over g.P.Port.port_faults c.args.port.now) (told g.P.Port.heard g.P.Port.sent g.P.Port.over g.P.Port.port_faults c.serve.new.port) c.serve.new.book c.serve.result
+    c.requires.plan c.requires.told c.served_rests_law.ensures c.serve.ensures.frames c.serve.ensures.served c.serve.ensures.ending

@@ -14,7 +14,6 @@ use Rattle.std.proofs.lemmas.List.{length-map}
 use Rattle.run_record.proofs.Ends.{some_live}
 use Rattle.run_record.proofs.Overs.{led_book}
 use Rattle.run_notes.proofs.Ways.{any_err}
-use Rattle.run_record.proofs.SwitchFirst.{switched_new}
 use Rattle.master_node.proofs.Counts.{counted}
 use Rattle.master_node.specs.of_life_runs.First.{lens_of}
 use Rattle.run_record.proofs.running.run_through.Goals as goal
@@ -54,14 +53,13 @@ loop-settled-init c =
     let begins = c.in_ok-session.ensures in
     let new = c.requires.new in
     record {
-      underway = begun plan 0 s c.args.book.now begins.session new;
+      underway = begun plan 0 s c.args.book.now begins.session new begins.switch;
       serving = new.serving;
       grams = new.grams;
       replies = new.replies;
       settled = c.settled-settled.ensures.rest;
       left = c.settled-settled.ensures.left;
       busy = c.settled-settled.ensures.busy;
-      switched = switched_new plan 0 s c.args.book.now begins.session new begins.switch;
       wants = c.settled-settled.ensures.wants;
       stands = stands_first plan s.master s.notes s.ring c.args.book.now.frames c.args.book.now new.frames (ap (λ (z : SessionState). z.ring) begins.session) (begins.begins c.args.book.now new.switch new.switched);
     }
@@ -81,11 +79,10 @@ loop-settled-preserved c =
       settled = c.settled-settled-in-loop-settled.ensures.rest;
       left = c.settled-settled-in-loop-settled.ensures.left;
       busy = c.settled-settled-in-loop-settled.ensures.busy;
-      switched = step.1.switch c.args.plan.now.host c.loop-settled.invariant.switched;
       wants = c.settled-settled-in-loop-settled.ensures.wants;
       stands = stands_more c.args.plan.now c.step.new.self.master c.step.new.self.notes c.step.new.self.ring c.loop-settled.book.frames step.0 c.step.new.book.frames c.step.new.book step.1.put
           (step.1.goes_on c.args.plan.now (map exchanged c.loop-settled.book.frames) c.args.plan.now.host under.recover under.ports (length-map c.loop-settled.book.frames exchanged ∙ many c.args.plan.now 0 s c.loop-settled.book under)
-          (live_so c.args.plan.now s c.loop-settled.book c.loop-settled.settled under c.loop-settled.invariant.stands.forwards.leading goes c.loop-settled.invariant.busy) (OnFalse_at goes c.loop-settled.invariant.wants) c.loop-settled.invariant.switched
+          (live_so c.args.plan.now s c.loop-settled.book c.loop-settled.settled under c.loop-settled.invariant.stands.forwards.leading goes c.loop-settled.invariant.busy) (OnFalse_at goes c.loop-settled.invariant.wants) under.switched
           c.loop-settled.invariant.stands);
     }
 
@@ -108,5 +105,5 @@ pub returns-clause-led : goal.returns-clause-led
 returns-clause-led c =
     let s = c.loop-settled.session in
     let invariant = c.loop-settled.invariant in
-    led_book c.args.plan.now s c.loop-settled.book c.finish.new.book invariant.underway invariant.stands invariant.switched c.finish.ensures.frames c.finish.ensures.same c.finish.ensures.many c.ending_of-ending.result c.finish.result c.loop-settled.settled
+    led_book c.args.plan.now s c.loop-settled.book c.finish.new.book invariant.underway invariant.stands c.finish.ensures.frames c.finish.ensures.same c.finish.ensures.many c.ending_of-ending.result c.finish.result c.loop-settled.settled
     c.ending_of-ending.ensures.ends invariant.left c.ending_of-ending.ensures.cut c.finish.ensures.answers c.finish.ensures.rows

@@ -4,7 +4,6 @@ use Rattle.run_record.specs.Session.{session_rows, are_at_rest, has_live, IsLeft
 use Rattle.run_record.specs.Recalling.{RunStands}
 use Rattle.run_record.specs.Led.{exchanged}
 use Rattle.run_record.specs.Ran.{IsUnderway}
-use Rattle.run_notes.specs.Switched.{IsSwitched}
 use Rattle.run_record.proofs.running.run_through.Given as goal
 
 abbrev pub invariant-loop-settled : goal.invariant-loop-settled
@@ -16,7 +15,6 @@ invariant-loop-settled l = record {
   settled : OnTrue l.settled (are_at_rest (session_rows l.session) ≡ true);
   left : OnTrue l.settled (IsLeftBy l.session.master);
   busy : OnFalse l.settled ((are_at_rest (session_rows l.session) ≡ false) ⊎ (has_live l.session.master ≡ true));
-  switched : IsSwitched l.session.ports l.plan.host l.session.ring.number l.session.master.lan l.book;
   wants : OnFalse l.settled (StillWants l.session);
   stands : RunStands l.plan l.session.master l.session.notes (map exchanged l.book.frames) l.book l.session.ring;
 }

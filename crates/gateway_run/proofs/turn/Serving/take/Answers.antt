@@ -18,7 +18,7 @@ returns-in_ok-take-in-From-clause-goes c = λ plan count first now next free h l
     took plan count first now next c.args.self.now _ c.args.book.now c.take.new.book h c.in-From.peer c.args.self.now.gram.items free
     (subst (λ (x : Heard). Listens now next x c.args.self.now.gram.items) c.in-From.is l) r
     (subst (λ (o : List ℕ). Takes c.args.self.now.session.homes c.in-From.peer o c.args.book.now c.take.new.book) c.as_slice-bytes.ensures.value e.heard)
-    (e.sound (omega (arith, fits, few))) (e.taken (omega (arith, fits, few)) h.on.sound) e.book e.session refl refl
+    (e.sound (omega (arith, fits, few))) (e.taken (omega (arith, fits, few)) h.on.sound) e.book e.session e.switch refl refl
 
 pub returns-in_err-take-in-From-clause-goes : goal.returns-in_err-take-in-From-clause-goes
 returns-in_err-take-in-From-clause-goes c = λ plan count first now next free h l.

@@ -19,9 +19,9 @@ pub returns-clause-served : goal.returns-clause-served
 returns-clause-served c =
     let no : c.has_wanting.result ≡ false = search rules in
     OnFalse_from c.has_coming.result _
-    (λ none lens recover retry missed made ws shown.
+    (λ none lens recover retry missed made ws shown placed.
     let m = c.args.self.now in
-    all_out lens recover made ws m.posts.items m.tour.stops.items shown.each (λ k l. OnFalse_at no c.has_wanting.ensures.mails k (omega (arith, l, m.posts.ok.0))))
+    all_out lens recover made ws m.posts.items m.tour.stops.items shown.each placed (OnFalse_at no c.has_wanting.ensures.quiet) (λ k l. OnFalse_at no c.has_wanting.ensures.mails k (omega (arith, l, m.posts.ok.0))))
 
 pub returns-then-has_wanting-clause-rests : goal.returns-then-has_wanting-clause-rests
 returns-then-has_wanting-clause-rests c = λ lens recover retry missed as' shown rests come.

@@ -4,6 +4,7 @@ use Rattle.master_node.specs.of_life_runs.First.{lens_of}
 use Rattle.run_record.specs.Served.{ServingRests}
 use Rattle.run_record.specs.Session.{IsDone, SessionState, has_live, IsLeftBy, StillWants}
 use Rattle.run_record.proofs.ServedGaves.{serving_live}
+use Rattle.run_record.proofs.ServedPlaced.{served_placed}
 use Rattle.run_record.proofs.session.Session.settled.Goals as goal
 
 pub returns-then-wants-clause-busy : goal.returns-then-wants-clause-busy
@@ -14,14 +15,18 @@ returns-then-wants-clause-busy c =
 pub returns-clause-left : goal.returns-clause-left
 returns-clause-left c =
     let no : c.wants.result ≡ false = search rules in
-    OnTrue_from c.are_at_rest.result _ (λ e. subst (λ (s : SessionState). IsLeftBy s.master) c.self.view_is (OnFalse_at no c.wants.ensures.left))
+    OnTrue_from c.are_at_rest.result _ (λ e. subst (λ (s : SessionState). IsLeftBy s.master) c.self.view_is (record { slaves = OnFalse_at no c.wants.ensures.left; come = OnFalse_at no c.wants.ensures.come }))
 
 pub returns-clause-served : goal.returns-clause-served
 returns-clause-served c =
     let no : c.wants.result ≡ false = search rules in
     OnTrue_from c.are_at_rest.result _
-    (λ e. subst ServingRests c.self.view_is
-    (λ plan fs old. OnFalse_at no c.wants.ensures.served (lens_of plan.slaves) plan.recover plan.retry old.leading.missed (length fs) old.leading.serves old.leading.shows))
+    (λ e. subst ServingRests c.self.view_is (record {
+      slaves = λ plan fs old.
+          OnFalse_at no c.wants.ensures.served (lens_of plan.slaves) plan.recover plan.retry old.leading.missed (length fs) old.leading.serves old.leading.shows
+          (served_placed plan fs old.leading.missed old.leading.serves old.leading.lives);
+      come = OnFalse_at no c.wants.ensures.come;
+    }))
 
 pub returns-clause-rest : goal.returns-clause-rest
 returns-clause-rest c = OnTrue_from c.are_at_rest.result _ (λ e. sym c.are_at_rest.ensures ∙ e)

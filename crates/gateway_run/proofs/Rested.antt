@@ -1,0 +1,69 @@
+-- WHERE NOTHING IS LEFT of a serving each slave of its book rests, and no packet is left.
+use Rattle.std.proofs.Common.{◌≡◌, inl, inr, ℕ, true, List, [], ◌∷◌, map, length, sym, subst}
+use Rattle.std.specs.Prelude.{All}
+use Rattle.std.proofs.lemmas.List.Elements.{All-head, All-tail}
+use Rattle.master_node.specs.Serving.{run_lead}
+use Rattle.master_node.specs.Wants.{AllCounted, AllLeft, IsLeft, IsServedOut}
+use Rattle.master_node.specs.of_frame_view.View.{Lens}
+use Rattle.master_node.specs.of_life_frames.Shares.{AllBoth}
+use Rattle.master_node.specs.of_life_runs.First.{lens_of}
+use Rattle.run_book.specs.declared.book.Book.{Book}
+use Rattle.run_book.specs.declared.book.SlaveBook.{SlaveBook}
+use Rattle.run_record.proofs.Ends.{rest_so}
+use Rattle.run_record.proofs.NoPackets.{none_left}
+use Rattle.run_record.proofs.ServedGaves.{has_lives, served_counted}
+use Rattle.run_record.proofs.of_run_notes.Switched.{switched_same}
+use Rattle.run_record.specs.Led.{LeavesNoPacket, RestsSo, exchanged}
+use Rattle.run_record.specs.Ran.{IsUnderway}
+use Rattle.run_record.specs.Served.{Serving, ServingRests}
+use Rattle.run_record.specs.Session.{SessionState, are_at_rest, session_rows}
+use Rattle.run_record.specs.of_run_notes.Switched.{SameSwitch}
+use Rattle.segment_plan.specs.declared.plan.Scenario.{Scenario}
+use Rattle.served_places.specs.of_served_runs.Served.{Serves}
+use Rattle.gateway_run.specs.Done.{ServedRestsSo}
+
+module _ (lens : ℕ → Lens) where
+  -- nothing is left of it as of a slave of a run
+  one_left : (w : Serves) → IsServedOut lens w → IsLeft lens w.lead
+  one_left w (inl gone) = inl gone
+  one_left w (inr out) = inr out.idle
+
+  all_left : (ws : List Serves) → All (IsServedOut lens) ws → AllLeft lens (map run_lead ws)
+  all_left [] out = tt
+  all_left (w ∷ ws) out = (one_left w (All-head (IsServedOut lens) w ws out), all_left ws (All-tail (IsServedOut lens) w ws out))
+
+  -- so it rests by its row, where one of a run does
+  one_rests : (w : Serves) (row : SlaveBook) → IsServedOut lens w → RestsSo lens w.lead row → ServedRestsSo lens w row
+  one_rests w row (inl gone) rests = inl gone
+  one_rests w row (inr out) (inl gone) = inl gone
+  one_rests w row (inr out) (inr rests) = inr (out, rests.1)
+
+  each_rests : (ws : List Serves) (rows : List SlaveBook) → All (IsServedOut lens) ws → AllBoth (RestsSo lens) (map run_lead ws) rows → AllBoth (ServedRestsSo lens) ws rows
+  each_rests [] [] out rests = tt
+  each_rests [] (row ∷ rows) out rests = absurd rests
+  each_rests (w ∷ ws) [] out rests = absurd rests
+  each_rests (w ∷ ws) (row ∷ rows) out rests = (one_rests w row (All-head (IsServedOut lens) w ws out) rests.0, each_rests ws rows (All-tail (IsServedOut lens) w ws out) rests.1)
+
+module _ (plan : Scenario) (count : ℕ) (s : SessionState) (b b' : Book) (h : IsUnderway plan count s b) (serving : Serving plan s (map exchanged b'.frames)) (rests : ServingRests s) where
+  abbrev ws : List Serves
+  ws = serving.leading.serves
+
+  out : All (IsServedOut (lens_of plan.slaves)) ws
+  out = rests.slaves plan (map exchanged b'.frames) serving
+
+  counted : AllCounted s.recover (map run_lead ws)
+  counted = subst (λ (n : ℕ). AllCounted n (map run_lead ws)) (sym h.recover) (served_counted plan (map exchanged b'.frames) serving.leading.missed ws serving.leading.lives)
+
+  -- EACH SLAVE RESTS
+  pub all_rest : b'.slaves ≡ session_rows s → length s.notes ≡ length s.ring.nodes → are_at_rest (session_rows s) ≡ true → AllBoth (ServedRestsSo (lens_of plan.slaves)) ws b'.slaves
+  all_rest rows many rest =
+      let lens = lens_of plan.slaves in
+      each_rests lens ws b'.slaves out
+      (subst (λ (rs : List SlaveBook). AllBoth (RestsSo lens) (map run_lead ws) rs) (sym rows) (rest_so lens s.recover (map run_lead ws) s.ring.nodes s.notes many counted serving.gave rest (all_left lens ws out)))
+
+  -- NO PACKET IS LEFT
+  pub no_packet : SameSwitch b b' → LeavesNoPacket plan (map run_lead ws) b'.switch
+  no_packet kept =
+      none_left (lens_of plan.slaves) plan.recover plan s.master (map run_lead ws) s.ports s.ring.number b'
+      (has_lives (lens_of plan.slaves) plan.recover plan.retry serving.leading.missed (length (map exchanged b'.frames)) s.master ws serving.leading.shows) serving.forwarded.ports h.ports
+      (switched_same s.ports plan.host s.ring.number s.master.lan b b' kept h.switched) rests.come

@@ -1,0 +1,67 @@
+-- WHAT EACH DATAGRAM OF A SERVING GOT, by what the servers of the slaves give for its mail.
+use Rattle.std.specs.Prelude.{◌≡◌, ℕ, zero, suc, Bool, true, false, Some, List, [], ◌∷◌, slice_get, Ok}
+use Rattle.exchange_model.specs.Prefix.{IsPrefixOf}
+use Rattle.gateway_core.specs.Framing.{request_in}
+use Rattle.gateway_run.specs.Replies.{IsSame, dones_of, mails_told}
+use Rattle.gateway_run.specs.Rooms.{owed_for}
+use Rattle.gateway_run.specs.Served.{HasAccount}
+use Rattle.mailbox_mail.specs.Mail.{error_of}
+use Rattle.mailbox_mail.specs.declared.mail.Mail.{Mail}
+use Rattle.run_book.specs.declared.book.Book.{Book}
+use Rattle.run_book.specs.declared.book.Ending.{Ending}
+use Rattle.run_book.specs.declared.book.GramIn.{GramIn}
+use Rattle.run_book.specs.of_master_tour.Made.{is_in}
+use Rattle.run_record.specs.Replay.{first_ring, ring_after}
+use Rattle.run_work.specs.Lives.{first_server}
+use Rattle.segment_plan.specs.declared.plan.Scenario.{Scenario}
+use Rattle.segment_plan.specs.declared.slave.SlaveSpec.{SlaveSpec}
+use Rattle.served_rings.specs.Given.{Given, given}
+use Rattle.served_rings.specs.Served.{AllServeSo, replies_to}
+use Rattle.served_runs.specs.Served.{Serves}
+use Rattle.slave_server.specs.Serving.{Serving}
+use Rattle.slave_server.specs.Spec.{profile_of}
+use Rattle.slave_steps.specs.Node.{Node}
+
+-- the mails that a slave's server gives for a mail in its one step, as they are told
+abbrev pub mails_given : SlaveSpec → Given → List Mail
+mails_given s step = mails_told (replies_to (profile_of s) s.boot s.station step.server step.mail)
+
+-- ITS MAIL CAME INTO HAND: it is the one at its place among those that came to the slave's server; what was owed for it are the first of the mails of the one step
+-- that this server takes for it, in order, and where it is done all of them
+pub record IsStepOf (s : SlaveSpec) (steps : List Given) (came : List ℕ) (number : ℕ) (asked : Mail) (done : Bool) (mails : List Mail) : Type 0 where
+  pub index : ℕ
+  pub its : slice_get came index ≡ Some number
+  pub step : Given
+  pub is : slice_get steps index ≡ Some step
+  pub same : IsSame asked step.mail
+  pub first : IsPrefixOf mails (mails_given s step)
+  pub all : done ≡ true → mails ≡ mails_given s step
+
+-- WHAT A DATAGRAM GOT that was queued at a slave: nothing while its mail waits; error 5 where that never came into hand; or what its slave's server gives for it
+pub data IsGivenTo (s : SlaveSpec) (steps : List Given) (came : List ℕ) (number : ℕ) (asked : Mail) (done : Bool) (mails : List Mail) : Type 0 where
+  waits : done ≡ false → mails ≡ [] → IsGivenTo s steps came number asked done mails
+  dropped : done ≡ false → mails ≡ error_of 5 ∷ [] → IsGivenTo s steps came number asked done mails
+  takes : IsStepOf s steps came number asked done mails → IsGivenTo s steps came number asked done mails
+
+-- of one that was queued at the slave at this place, by what the slaves did
+abbrev pub IsGivenAt : (ss : List SlaveSpec) (ws : List Serves) (ns : List (Node Serving)) → AllServeSo ss ws ns → List (List ℕ) → ℕ → ℕ → Mail → Bool → List Mail → Type 0
+IsGivenAt [] ws ns d cames place number asked done mails = ⊥
+IsGivenAt (s ∷ ss) [] ns d cames place number asked done mails = ⊥
+IsGivenAt (s ∷ ss) (w ∷ ws) [] d cames place number asked done mails = ⊥
+IsGivenAt (s ∷ ss) (w ∷ ws) (n ∷ ns) d [] place number asked done mails = ⊥
+IsGivenAt (s ∷ ss) (w ∷ ws) (n ∷ ns) d (came ∷ cames) zero number asked done mails =
+    IsGivenTo s (given (profile_of s) s.boot s.station s.start (first_server s) w.lead.lived.life n d.0) came number asked done mails
+IsGivenAt (s ∷ ss) (w ∷ ws) (n ∷ ns) d (came ∷ cames) (suc place) number asked done mails = IsGivenAt ss ws ns d.1 cames place number asked done mails
+
+-- EACH DATAGRAM THAT WAS QUEUED AT A SLAVE got what that gives for its mail, by the lives that the frames of the book lead, which the slaves of the ring behind all
+-- of them served
+pub record IsGiven (plan : Scenario) (count : ℕ) (book : Book) (ending : Ending) (a : HasAccount plan count book ending) : Type 0 where
+  pub served : AllServeSo plan.slaves a.answers.serving.leading.serves (ring_after (first_ring plan) book.frames).nodes
+  pub each : (number : ℕ) (g : GramIn) (slave : ℕ) → slice_get book.grams number ≡ Some g → g.queued ≡ Some slave →
+      (asked : Mail) × (request_in g.bytes ≡ Ok asked)
+      × IsGivenAt plan.slaves a.answers.serving.leading.serves (ring_after (first_ring plan) book.frames).nodes served a.answers.came slave number asked
+        (is_in number (dones_of plan count a.session book.frames book.grams a.requests a.owed a.course)) (owed_for number a.owed)
+
+-- by each account of the book
+abbrev pub IsServedGiven : Scenario → ℕ → Book → Type 0
+IsServedGiven plan count book = (ending : Ending) (a : HasAccount plan count book ending) → IsGiven plan count book ending a

@@ -1,0 +1,32 @@
+-- WHAT A SERVING LEAVES OF ITS SLAVES where nothing was left to do.
+use Rattle.std.specs.Prelude.{◌≡◌, ◌⊎◌, ℕ, suc, true, List, [], ◌∷◌, ⊤}
+use Rattle.gateway_run.specs.Served.{HasAccount}
+use Rattle.life_model.specs.Lives.{Stand}
+use Rattle.life_runs.specs.First.{lens_of}
+use Rattle.run_book.specs.declared.book.Book.{Book}
+use Rattle.run_record.specs.Led.{LeavesNone}
+use Rattle.run_record.specs.Replay.{first_ring, ring_after}
+use Rattle.segment_plan.specs.declared.plan.Scenario.{Scenario}
+use Rattle.segment_plan.specs.declared.slave.SlaveSpec.{SlaveSpec}
+use Rattle.served_rings.specs.Rests.{IsServedDone, IsServedIdle}
+use Rattle.served_runs.specs.Served.{Serves}
+use Rattle.slave_server.specs.Serving.{Serving, next_mail}
+use Rattle.slave_steps.specs.Node.{Node, is_settled}
+
+-- ALL IS DONE OF A SLAVE: its master wants nothing of it, and no mail waits; it is settled; its whole script came into hand, with packets and with the mails that
+-- were asked, and all of its rows are carried out: what its node is they made of it
+pub record IsRested (plan : Scenario) (place : ℕ) (s : SlaveSpec) (w : Serves) (n : Node Serving) : Type 0 where
+  pub idle : IsServedIdle (lens_of plan.slaves) w
+  pub settled : is_settled next_mail n ≡ true
+  pub done : IsServedDone plan place s w n
+
+-- of each slave, from a place on, that wasn't given up for good
+abbrev pub AllRested : Scenario → ℕ → List SlaveSpec → List Serves → List (Node Serving) → Type 0
+AllRested plan place [] [] [] = ⊤
+AllRested plan place (s ∷ ss) (w ∷ ws) (n ∷ ns) = ((w.lead.lived.life.stand ≡ Stand.Gone) ⊎ IsRested plan place s w n) × AllRested plan (suc place) ss ws ns
+AllRested plan place _ _ _ = ⊥
+
+-- WHERE NOTHING WAS LEFT TO DO, by the lives that the frames of the book lead and the ring behind all of them
+abbrev pub IsServedRested : Scenario → ℕ → Book → Type 0
+IsServedRested plan count book =
+    LeavesNone book.ending → (a : HasAccount plan count book book.ending) → AllRested plan 0 plan.slaves a.answers.serving.leading.serves (ring_after (first_ring plan) book.frames).nodes
