@@ -107,10 +107,10 @@ module _ (p : Profile) (boot : Bool) (station : ℕ) where
       go (Service.State target) none rest = rest (both.exec a (Service.State target)) none
 
 module _ (p : Profile) (k : IsSpeaker (mailer p)) (boot : Bool) (spot : Spot) (opened : ℕ) (v : InState Server) (r : Registers) where
-  abbrev LedHere : List (Frame Body) → Bool → Era Body Asked Reply → Slave (InState Server) Body → Type 0
+  abbrev pub LedHere : List (Frame Body) → Bool → Era Body Asked Reply → Slave (InState Server) Body → Type 0
   LedHere fs counts e n = Led (spoken p) Spoken.acknowledged (processor_of boot) is_followed is_passed spot opened v r emission fs counts e n
 
-  abbrev SeenHere : List (Frame Body) → Bool → Era Body Asked Reply → Slave (InState Server) Body → Type 0
+  abbrev pub SeenHere : List (Frame Body) → Bool → Era Body Asked Reply → Slave (InState Server) Body → Type 0
   SeenHere fs counts e n = IsSeen (mailer p) (seer_of p boot) (table_of boot) spot opened v r fs counts e n
 
   abbrev frames_of : List (Frame Body) → List (Frame Body)

@@ -96,20 +96,20 @@ module _ (p : Profile) where
     -- SO EACH SERVICE HAS ITS ANSWER by its name
     answered_named : (v : InState Server) (k : ℕ) (qs : List (Service Wanted)) (rs : List RowHere) (cs : List (Change (Option SlaveReply.Reply))) → AllNamed p qs → answered_there (v, k) qs rs cs →
         AreAnswered p boot station v (map (λ q. service_seen named_wanted q) qs) (map (λ r. seen_row r) rs) (map (λ c. change_seen mail named_wanted same c) cs)
-    answered_named v k [] [] [] valid all = tt
-    answered_named v k [] [] (c ∷ cs) valid all = absurd all
-    answered_named v k [] (r ∷ rs) cs valid all = absurd all
-    answered_named v k (Service.Mails q ∷ qs) [] cs valid all = absurd all
-    answered_named v k (Service.Mails q ∷ qs) (r ∷ rs) cs valid all = (
-      replied_named v q r valid.0 all.0,
-      subst (λ u. AreAnswered p boot station u (map (λ q. service_seen named_wanted q) qs) (map (λ r. seen_row r) rs) (map (λ c. change_seen mail named_wanted same c) cs)) (acts_named p v q valid.0)
-          (answered_named (asked_exec (product_whole parts p) v q) k qs rs cs valid.1 all.1),
+    answered_named v k [] [] [] known all = tt
+    answered_named v k [] [] (c ∷ cs) known all = absurd all
+    answered_named v k [] (r ∷ rs) cs known all = absurd all
+    answered_named v k (Service.Mails q ∷ qs) [] cs known all = absurd all
+    answered_named v k (Service.Mails q ∷ qs) (r ∷ rs) cs known all = (
+      replied_named v q r known.0 all.0,
+      subst (λ u. AreAnswered p boot station u (map (λ q. service_seen named_wanted q) qs) (map (λ r. seen_row r) rs) (map (λ c. change_seen mail named_wanted same c) cs)) (acts_named p v q known.0)
+          (answered_named (asked_exec (product_whole parts p) v q) k qs rs cs known.1 all.1),
     )
-    answered_named v k (Service.State target ∷ qs) rs [] valid all = absurd all
-    answered_named v k (Service.State target ∷ qs) rs (c ∷ cs) valid all = (
+    answered_named v k (Service.State target ∷ qs) rs [] known all = absurd all
+    answered_named v k (Service.State target ∷ qs) rs (c ∷ cs) known all = (
       all.0,
       ap (outcome_seen same) all.1 ∙ answer_same (table_of boot station v.state target),
-      answered_named (record v { state = state_behind (table_of boot station) v.state target }) (suc k) qs rs cs valid.1 all.2,
+      answered_named (record v { state = state_behind (table_of boot station) v.state target }) (suc k) qs rs cs known.1 all.2,
     )
 
   -- A ROW IS OVER where it is over by its name: no mail is held, and a mail that is passed on has its answer where it was foreseen to have one
