@@ -24,7 +24,7 @@ use Rattle.segment_model.specs.Seats.{newest, rows_of}
 use Rattle.segment_model.specs.Slaves.{Registers, Slave}
 use Rattle.served_rings.proofs.HeardSeen.{emitted_untag, heard_as}
 use Rattle.served_rings.proofs.Mails.{AllNamed, acts_named, is_mail, mailer}
-use Rattle.served_rings.proofs.RowsHeard.{Led, all_in_rows, none_yet}
+use Rattle.served_rings.proofs.RowsHeard.{Led, all_in_rows}
 use Rattle.served_rings.proofs.RowsSeen.{rows_seen}
 use Rattle.served_rings.proofs.Seen.{promised}
 use Rattle.served_rings.proofs.SeenRests.{answered, frames}
@@ -150,14 +150,13 @@ module _ (p : Profile) (k : IsSpeaker (mailer p)) (boot : Bool) (spot : Spot) (o
         let begin = subst (λ l. IsPrefixOf (emitted (λ (t : Meant). is_own t.meant) (heard spot.station seen_frames)) (mails l)) (states_emit p boot spot.station t.count (v, 0) i.era.account.started none_there) t.emissions in
         sent_is ∙ ap untag (none_begins (emitted (λ (t : Meant). is_own t.meant) (heard spot.station seen_frames)) begin)
 
-  module _ (seen : (fs : List (Frame Body)) (counts : Bool) (e : Era Body Asked Reply) (n : Slave (InState Server) Body) → LedHere fs counts e n → SeenHere fs counts e n) where
+  module _ (seen : (fs : List (Frame Body)) (counts : Bool) (e : Era Body Asked Reply) (n : Slave (InState Server) Body) → LedHere fs counts e n → SeenHere fs counts e n)
+      (none : (fs : List (Frame Body)) (counts : Bool) (e : Era Body Asked Reply) (n : Slave (InState Server) Body) → LedHere fs counts e n → e.side.now ≡ None → e.side.past ≡ []) where
     -- ALL THAT IT SENT OF ITSELF was heard in its rows
     pub sent_in_rows : (fs : List (Frame Body)) (counts : Bool) (e : Era Body Asked Reply) (n : Slave (InState Server) Body) → LedHere fs counts e n → emitted emission (heard spot.station (frames_of fs)) ≡ emitted emission (heard_all (rows_of e.side))
     sent_in_rows fs counts e n led =
         all_in_rows (spoken p) Spoken.acknowledged (processor_of boot) is_followed is_passed spot opened v r emission
         (λ gs counted d m led_here.
         let i = seen gs counted d m led_here in
-        record {
-          last = last_is gs counted d m i;
-          quiet = λ none. quiet gs counted d m i (none_yet (spoken p) Spoken.acknowledged (processor_of boot) is_followed is_passed spot opened v r emission gs counted d m led_here none) none;
-        }) fs counts e n led
+        let past = none gs counted d m led_here in
+        record { last = last_is gs counted d m i; none = past; quiet = λ now. quiet gs counted d m i (past now) now }) fs counts e n led

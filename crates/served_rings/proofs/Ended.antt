@@ -78,8 +78,8 @@ module _ {V A M Q R : Type 0} (x : Exchange V A M Q R) (s : Stated V A Q) (table
         let service : r.service ≡ q = sym (ap (λ (k : Q × ℕ). k.0) same) in (
           service,
           λ one.
-          let found : as_outcome r.answer ≡ outcome (Service.Mails q) frame = has.replied (ap x.speech.handed service ∙ one) ∙ ap (λ (k : Q × ℕ). outcome (Service.Mails k.0) k.1) (sym same) in
-          reply_of (x.reply a.0 q) r.answer ended.0 (found ∙ ended.1) (replies ended.0 ended.1),
+              let found : as_outcome r.answer ≡ outcome (Service.Mails q) frame = has.replied (ap x.speech.handed service ∙ one) ∙ ap (λ (k : Q × ℕ). outcome (Service.Mails k.0) k.1) (sym same) in
+              reply_of (x.reply a.0 q) r.answer ended.0 (found ∙ ended.1) (replies ended.0 ended.1),
         )
 
     change_replied : (a : A × ℕ) (target frame : ℕ) (c : Change R) → ◌≡◌ {A = ℕ × ℕ} (target, frame) (c.target, c.frame) → state_found x.speech more station fs c.target c.frame ≡ Some (c.answer, c.completed) → Replies a (Service.State target) frame → c.answer ≡ answer_of (table (s.state a.0) target)

@@ -106,5 +106,6 @@ module _ (p : Profile) (k : IsSpeaker (speaker p)) (forgets : Forgets (speaker p
         cleared = cleared_so i;
         rests = λ settled wants hand over. subst (λ z. NothingLeft p boot spot.station z e (ideal (product_whole parts p) i.slave.node.server.server)) begins
             (left_so p speaks boot spot l.opened l.server l.registers fs counts e seen_node i (settled_seen (serves p boot lens) behind n l.stands settled) wants hand over
-            (λ gs counted d m led. seen_so p k boot lens spot l.opened l.server l.registers l.plan l.answers gs counted d m led) l.led);
+            (λ gs counted d m led. seen_so p k boot lens spot l.opened l.server l.registers l.plan l.answers gs counted d m led)
+            (λ gs counted d m led. newest_there p k boot lens spot l.opened l.server l.registers l.plan l.answers gs counted d m led) l.led);
       }

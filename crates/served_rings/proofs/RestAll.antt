@@ -1,12 +1,12 @@
 -- WHERE NOTHING IS LEFT all is done, slave by slave.
-use Rattle.std.proofs.Common.{◌≡◌, ◌≢◌, ℕ, suc, true, Option, None, List, [], ◌∷◌, ◌++◌, length, refl, ap, sym, ◌∙◌, subst, append-nil}
+use Rattle.std.proofs.Common.{◌≡◌, ℕ, suc, true, None, List, [], ◌∷◌, ◌++◌, length, ap, ◌∙◌, subst, append-nil}
 use Rattle.std.specs.Prelude.{All}
 use Rattle.std.proofs.lemmas.List.Elements.{All-head, All-tail}
 use Rattle.book_model.specs.Script.{life_started}
 use Rattle.exchange_model.specs.Exchange.{Speech}
 use Rattle.frame_view.specs.View.{Lens}
 use Rattle.life_model.specs.Lives.{Era, Spot, Stand}
-use Rattle.life_runs.specs.First.{HaveLens, lens_of, script_for, spot_of}
+use Rattle.life_runs.specs.First.{HaveLens, lens_of, script_for}
 use Rattle.life_runs.specs.Led.{speech_at}
 use Rattle.link_mails.specs.Body.{Body}
 use Rattle.master_duty.specs.Reply.{Reply}
@@ -21,8 +21,7 @@ use Rattle.served_rings.specs.Served.{AllServeSo, IsServedLife, IsServedNewest}
 use Rattle.served_rings.specs.Speakers.{spoken}
 use Rattle.run_work.specs.Lives.{first_server}
 use Rattle.served_runs.specs.Came.{AreAmong, HasServed, ServedCame}
-use Rattle.served_runs.specs.Served.{Keyed, Serves}
-use Rattle.slave_model.specs.Profile.{Profile}
+use Rattle.served_runs.specs.Served.{Serves}
 use Rattle.slave_parts.specs.Parts.{Server}
 use Rattle.slave_server.specs.Serving.{Serving, next_mail}
 use Rattle.slave_server.specs.Spec.{profile_of}

@@ -2,7 +2,7 @@
 use Rattle.std.proofs.Common.{◌≡◌, ℕ, suc, ◌<◌, ◌&&◌, Bool, true, false, Option, None, Some, option_map, List, [], ◌∷◌, ◌++◌, length, refl, ap, sym, ◌∙◌, subst, arith, append_assoc, append-nil, length-append, if◌then◌else◌}
 use Rattle.exchange_model.proofs.Lists.{filter-append}
 use Rattle.exchange_model.proofs.Settles.{heard_all_last}
-use Rattle.exchange_model.specs.Exchange.{Exchange, Speech, emitted}
+use Rattle.exchange_model.specs.Exchange.{Exchange, emitted}
 use Rattle.exchange_model.specs.Rows.{Row, begun, heard_all, row_heard, row_told}
 use Rattle.life_model.proofs.Eras.{frames_push}
 use Rattle.life_model.specs.Eras.{era_frames}
@@ -14,7 +14,7 @@ use Rattle.passed_whole.specs.Led.{IsLed, MayTurn, EraTurn, counts_behind, frame
 use Rattle.segment_model.proofs.Answers.{news_each-push}
 use Rattle.segment_model.proofs.News.{heard_frame, joined-append, mails_heard-append}
 use Rattle.segment_model.proofs.Sounds.{began_halves}
-use Rattle.segment_model.specs.Record.{Frame, News, frame_news, heard, joined, kept_all, mails_heard, news_each, nothing_kept}
+use Rattle.segment_model.specs.Record.{Frame, frame_news, heard, joined, kept_all, mails_heard, news_each, nothing_kept}
 use Rattle.segment_model.specs.Seats.{Choice, Side, is_over, newest, next_mail, rows_of, side_back, side_begins, side_holds, side_next}
 use Rattle.segment_model.specs.Slaves.{Datagram, Processor, Registers, Slave, grams, ring_back}
 use Rattle.task_model.specs.Accounts.{mails_choice}
@@ -68,37 +68,6 @@ module _ {V A M Q R : Type 0} (x : Exchange V A M Q R) where
       let e = side_begins x.speech frame d d.now c.begin in
       holds_inn e (next_mail x.speech e.now e.halves.out.holding c.hold) ∙ ap (λ h. h.inn) (began_halves x frame d d.now c.begin)
 
-  -- ---- while there is no newest row there is none
-  abbrev NoneYet : Side M Q R → Type 0
-  NoneYet d = d.now ≡ None → d.past ≡ []
-
-  begins_none : (frame : ℕ) (d : Side M Q R) (now : Option (Row M Q R)) (begin : Option Q) → NoneYet d → NoneYet (side_begins x.speech frame d now begin)
-  begins_none frame d None None none = none
-  begins_none frame d (Some r) None none = none
-  begins_none frame d None (Some q) none = go (x.speech.valid q)
-    where
-      go : (b : Bool) → NoneYet (if b then record d { now = Some (begun q frame) } else d)
-      go true = λ e. absurd (let no : Some (begun {M = M} {R = R} q frame) ≡ None = e in cc)
-      go false = none
-  begins_none frame d (Some r) (Some q) none = go (x.speech.valid q && is_over x.speech d.halves.out.holding d.fresh r)
-    where
-      go : (b : Bool) → NoneYet (if b then record d { past = d.past ++ r ∷ []; now = Some (begun q frame) } else d)
-      go true = λ e. absurd (let no : Some (begun {M = M} {R = R} q frame) ≡ None = e in cc)
-      go false = none
-
-  unmapped : (f : Row M Q R → Row M Q R) (now : Option (Row M Q R)) → option_map f now ≡ None → now ≡ None
-  unmapped f None e = refl
-  unmapped f (Some r) e = absurd (let no : Some (f r) ≡ None = e in cc)
-
-  holds_none : (d : Side M Q R) (ms : List M) → NoneYet d → NoneYet (side_holds d ms)
-  holds_none d [] none = none
-  holds_none d (m ∷ ms) none = λ e. none (unmapped (λ r. row_told m r) d.now e)
-
-  next_none : (frame : ℕ) (d : Side M Q R) (c : Choice Q) → NoneYet d → NoneYet (side_next x.speech frame d c)
-  next_none frame d c none =
-      let e = side_begins x.speech frame d d.now c.begin in
-      holds_none e (next_mail x.speech e.now e.halves.out.holding c.hold) (begins_none frame d d.now c.begin none)
-
 -- the mails heard behind one more frame
 heard_push : {M : Type 0} (station : ℕ) (fs : List (Frame M)) (f : Frame M) → heard station (fs ++ f ∷ []) ≡ heard station fs ++ mails_heard (frame_news station (kept_all station nothing_kept fs) f)
 heard_push station fs f =
@@ -116,9 +85,11 @@ module _ {V A M Q R : Type 0} (x : Exchange V A M Q R) (acknowledged : Q → Boo
   abbrev pub frames : List (Frame M) → List (Frame M)
   frames fs = era_frames spot opened (length fs) fs
 
-  -- what is known of it at a moment: its inward half has the record's counter, and while there is no row nothing that is sent of itself was heard
+  -- what is known of it at a moment: its inward half has the record's counter; and while there is no newest row there is none, and nothing that is sent of itself was
+  -- heard
   pub record Knows (fs : List (Frame M)) (e : Era M Q R) : Type 0 where
     pub last : e.side.halves.inn.last ≡ (kept_all spot.station nothing_kept (frames fs)).heard
+    pub none : e.side.now ≡ None → e.side.past ≡ []
     pub quiet : e.side.now ≡ None → emitted emission (heard spot.station (frames fs)) ≡ []
 
   abbrev after_by : List (Frame M) → Bool → Era M Q R → EraTurn V M Q → RingFate → Era M Q R
@@ -129,14 +100,6 @@ module _ {V A M Q R : Type 0} (x : Exchange V A M Q R) (acknowledged : Q → Boo
   later _ _ _ _ (IsLed.begins cleared fs long) = omega (arith, long)
   later _ _ _ _ (IsLed.goes_on fs counts e n led t may) = let k = later fs counts e n led in let l = longer fs (frame_in t) in omega (arith, k, l)
 
-  pub none_yet : (fs : List (Frame M)) (counts : Bool) (e : Era M Q R) (n : Slave V M) → Led fs counts e n → NoneYet x e.side
-  none_yet _ _ _ _ (IsLed.begins cleared fs long) = λ e. refl
-  none_yet _ _ _ _ (IsLed.goes_on fs counts e n led t may) = by t.fate (next_none x (length fs) e.side (mails_choice e.account (granted e.passing t.pick)) (none_yet fs counts e n led))
-    where
-      by : (fate : RingFate) → NoneYet x (turn_next x acknowledged processor more passed spot opened fs e t).side → NoneYet x (after_by fs counts e t fate).side
-      by RingFate.Back none = λ is. none (unmapped x _ (turn_next x acknowledged processor more passed spot opened fs e t).side.now is)
-      by (RingFate.Lost after) none = none
-
   module _ (knows : (fs : List (Frame M)) (counts : Bool) (e : Era M Q R) (n : Slave V M) → Led fs counts e n → Knows fs e) where
     abbrev IsHeard : List (Frame M) → Era M Q R → Type 0
     IsHeard fs e = emitted emission (heard spot.station (frames fs)) ≡ emitted emission (heard_all (rows_of e.side))
@@ -144,8 +107,9 @@ module _ {V A M Q R : Type 0} (x : Exchange V A M Q R) (acknowledged : Q → Boo
     -- without a row
     none_heard : (fs : List (Frame M)) (counts : Bool) (e : Era M Q R) (n : Slave V M) → Led fs counts e n → e.side.now ≡ None → IsHeard fs e
     none_heard fs counts e n led is =
-        let past = none_yet fs counts e n led is in
-        (knows fs counts e n led).quiet is ∙ sym (λ j. emitted emission (heard_all (past j ++ newest (is j))))
+        let k = knows fs counts e n led in
+        let past = k.none is in
+        k.quiet is ∙ sym (λ j. emitted emission (heard_all (past j ++ newest (is j))))
 
     module _ (fs : List (Frame M)) (counts : Bool) (e : Era M Q R) (n : Slave V M) (led : Led fs counts e n) (t : EraTurn V M Q) (may : MayTurn x acknowledged processor more passed spot opened fs e n t) (before : IsHeard fs e) where
       abbrev choice : Choice Q

@@ -1,5 +1,5 @@
 -- ALL ROWS of a side, as another sees its mails, services and replies.
-use Rattle.std.proofs.Common.{◌≡◌, Option, None, Some, List, [], ◌∷◌, ◌++◌, map, option_map, refl, ap, sym, ◌∙◌}
+use Rattle.std.proofs.Common.{◌≡◌, Option, None, Some, ◌++◌, map, option_map, refl, ap, sym, ◌∙◌}
 use Rattle.std.proofs.lemmas.List.{map-append}
 use Rattle.exchange_model.specs.Rows.{Row}
 use Rattle.passed_whole.specs.Erased.{row_seen, side_seen}
