@@ -7,6 +7,7 @@ use Rattle.eoe_switch.specs.declared.switching.SwitchEvent.{SwitchEvent}
 use Rattle.master_node.proofs.OnFrames.{served_way}
 use Rattle.master_node.specs.Arrivals.{completed_at, ComeIn}
 use Rattle.master_node.specs.Begins.{PacketsBegin}
+use Rattle.master_node.specs.Brought.{HasBrought}
 use Rattle.master_node.specs.Downs.{GoDown}
 use Rattle.master_node.specs.Eager.{recalls}
 use Rattle.master_node.specs.Happened.{HappensSo, HasHappened, events_of}
@@ -87,6 +88,7 @@ pub record FrameTells (m0 m1 m2 : MasterNode) (f : Exchanged) : Type 0 where
       HasUnfinished m1 (map stand_under (map run_turn vs)) (unfinished_of js) → HasUnfinished m2 (map stand_before (map run_lead (serves_behind lens recover retry missed made f vs))) (unfinished_after (λ u. mails_by lens f f.fate u) (map run_turn vs) (unfinished_of js))
   pub arrivals : f.fate ≡ Fates.Pass → (lens : ℕ → Lens) (recover : ℕ) (us : List Turn) (js : List Joined) → IsUnderWay lens recover m1 f.sent us → Returns (seen lens f.sent) (seen lens f.back) → HasUnfinished m1 (map stand_under us) (unfinished_of js) →
       ComeIn m1 (λ k. completed_at (seen lens f.back) us (unfinished_of js) k) m2
+  pub brought : f.fate ≡ Fates.Pass → (lens : ℕ → Lens) (recover : ℕ) (us : List Turn) → IsUnderWay lens recover m1 f.sent us → Returns (seen lens f.sent) (seen lens f.back) → HasBrought m2 us (seen lens f.back)
   pub remembers : f.fate ≡ Fates.Pass → (lens : ℕ → Lens) (recover retry missed made : ℕ) (vs : List ServedTurn) → ServedUnder lens recover retry m1 f.sent missed made vs → Returns (seen lens f.sent) (seen lens f.back) → AllServedAsk (seen lens f.sent) (recalls m1) (map run_turn vs) →
       AllServedRecall lens (seen lens f.back) (λ v. served_behind lens recover retry (gives_up_at lens recover retry missed) made f v) vs (recalls m1) (recalls m2)
   pub stays : (after : ℕ) → f.fate ≡ Fates.Lost after → (lens : ℕ → Lens) (recover retry missed made : ℕ) (vs : List ServedTurn) → ServedUnder lens recover retry m1 f.sent missed made vs →

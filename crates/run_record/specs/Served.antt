@@ -1,6 +1,7 @@
 -- THE FRAMES OF A SERVING ARE LED by its master: each is just what the lives of the slaves ask for, from the plan's new lives on, with the mails that are asked
 -- between the frames.
 use Rattle.std.specs.Prelude.{◌≡◌, ◌≤◌, ◌+◌, ℕ, Bool, true, false, None, Some, List, [], ◌∷◌, ◌++◌, length, map, filter, slice_get, All}
+use Rattle.life_heard.specs.Heard.{Accepted, AllNoted, brought_by, heard_none, heard_on}
 use Rattle.mailbox_mail.specs.declared.mail.Mail.{Mail}
 use Rattle.master_node.specs.Begins.{begun_of}
 use Rattle.master_node.specs.Events.{served_tells}
@@ -34,6 +35,7 @@ use Rattle.packets_heard.specs.ServedRecalled.{ServedRecalledIn}
 use Rattle.packets_heard.specs.Servings.{AreServedBegun, ServedListed, served_joined}
 use Rattle.run_book.specs.declared.book.SentFrame.{SentFrame}
 use Rattle.run_notes.specs.declared.standing.AskedMail.{AskedMail}
+use Rattle.run_notes.specs.Heard.{emergencies_noted}
 use Rattle.run_notes.specs.Slaves.{gaves_noted, home_of}
 use Rattle.run_record.specs.Led.{exchanged}
 use Rattle.run_record.specs.Recalling.{state_of}
@@ -69,16 +71,25 @@ pub record IsServedForwarded (plan : Scenario) (m : MasterNode) {fs : List Excha
   pub begun : AreServedBegun (ports_behind 0 plan.slaves) (ports_of plan.slaves) lives (events_of rows)
   pub happened : HasHappened (ports_of plan.slaves) plan.host rows m.lan
 
+module _ {lens : ℕ → Lens} {recover retry : ℕ} {first : List Serves} where
+  -- THE MAILS ACCEPTED OVER A SERVING, slave by slave, in order, each with the frame that brought it: as over a run, and a mail that is asked between its frames
+  -- changes nothing of them
+  abbrev pub served_heard : {fs : List Exchanged} {missed : ℕ} {ws : List Serves} → IsServedLed lens recover retry first fs missed ws → List (List Accepted)
+  served_heard IsServedLed.start = heard_none (map run_lead first)
+  served_heard (IsServedLed.asks fs missed ws place k led may) = served_heard led
+  served_heard (IsServedLed.on fs missed ws f vs led frame) = heard_on (λ u. brought_by lens (length fs) f f.fate u) (served_heard led) (map run_turn vs)
+
 -- a mail as the session has it, with the key of its asker
 abbrev pub as_asked : Keyed → AskedMail
 as_asked k = record { key = k.key; kind = k.mail.kind; body = k.mail.body.items }
 
--- HOW A SERVING STANDS behind these frames: its master leads; so often each slave was given up as is noted; the mails that were asked of each are just those
--- that the session has, in order, and so many of them still wait; and what happened at its switch is by their lives. None of
--- its master's visits was in vain, by what it remembers
+-- HOW A SERVING STANDS behind these frames: its master leads; so often each slave was given up as is noted, and just the emergencies among the mails that its life
+-- accepted are noted, each with the frame that brought it; the mails that were asked of each are just those that the session has, in order, and so many of them
+-- still wait; and what happened at its switch is by their lives. None of its master's visits was in vain, by what it remembers
 pub record Serving (plan : Scenario) (s : SessionState) (fs : List Exchanged) : Type 0 where
   pub leading : ServedLeading plan s.master fs
   pub gave : gaves_noted s.notes ≡ map gave_of (map run_lead leading.serves)
+  pub heard : AllNoted (served_heard leading.lives) (emergencies_noted s.notes)
   pub asked : map (λ w. map as_asked w.asked) leading.serves ≡ s.asked
   pub waiting : map (λ w. length w.waits) leading.serves ≡ s.waiting
   pub rows : List Happening

@@ -223,7 +223,7 @@ fn tell(master: &mut MasterNode, fate: Fate, back: &FrameBuf)
     ensures leads { (lens : ℕ → Lens) (recover retry missed number : ℕ) (us : List Turn) (f : Exchanged) → f.fate ≡ fate → f.back ≡ back.now.items → MasterUnder lens recover retry master.old f.sent missed us →
         (fate ≡ Fates.Pass → Returns (seen lens f.sent) (seen lens back.now.items)) → MasterShows lens recover retry master.new (missed_behind lens recover retry f.fate missed) (map (led_behind lens recover retry (gives_up_at lens recover retry missed) number f) us) }
     ensures toured { (lens : ℕ → Lens) (recover : ℕ) (as' : List Leads) → HasLives lens recover master.new (map lived_of as') → tour_of master.new ≡ tour_behind master.old.tour.retry fate as' (tour_of master.old) master.old.tour.visit.items }
-    ensures brought { fate ≡ Fates.Pass → (lens : ℕ → Lens) (recover retry missed : ℕ) (octets : List ℕ) (us : List Turn) → MasterUnder lens recover retry master.old octets missed us → Returns (seen lens octets) (seen lens back.now.items) →
+    ensures brought { fate ≡ Fates.Pass → (lens : ℕ → Lens) (recover : ℕ) (octets : List ℕ) (us : List Turn) → IsUnderWay lens recover master.old octets us → Returns (seen lens octets) (seen lens back.now.items) →
         HasBrought master.new us (seen lens back.now.items) }
     ensures recalls { fate ≡ Fates.Pass → (lens : ℕ → Lens) (recover retry missed : ℕ) (octets : List ℕ) (us : List Turn) → MasterUnder lens recover retry master.old octets missed us → Returns (seen lens octets) (seen lens back.now.items) →
         AllVisit (seen lens octets) (recalls master.old) us → AllRecall lens (seen lens back.now.items) us (recalls master.old) (recalls master.new) }

@@ -20,6 +20,7 @@ use Rattle.master_node.proofs.Counts.{counted}
 use Rattle.master_node.proofs.OnFrames.{run_way}
 use Rattle.run_record.specs.Replay.{behind, IsRecorded}
 use Rattle.run_record.specs.Session.{SessionState, StillWants, has_live}
+use Rattle.run_notes.specs.Heard.{HeardBy}
 use Rattle.run_notes.specs.Slaves.{GaveBy, SameFrames, KeepsRest}
 use Rattle.run_notes.proofs.Kept.{rest_more}
 use Rattle.run_notes.specs.Switched.{IsSwitched, NotesSwitch}
@@ -105,7 +106,7 @@ returns-clause-ok c =
             c.self.inside.number (counts ∙ sym (ap (λ (s : SessionState). s.ring.number) c.self.view_is) ∙ sym number) c.note_before.new.self c.note_behind.new.self
             (c.note_before.ensures.slaves.recover ∙ ap (λ (s : SessionState). s.recover) c.self.view_is ∙ recover) c.in_ok-note_before.ensures.gave both.0
             c.in_ok-note_before.ensures.told both.1.0
-            (λ pass us frame under. c.tell.ensures.brought pass (lens_of plan.slaves) plan.recover plan.retry l.missed c.next.new.into.items us under
+            (λ pass us frame under. c.tell.ensures.brought pass (lens_of plan.slaves) plan.recover c.next.new.into.items us (run_way (lens_of plan.slaves) plan.recover plan.retry l.missed c.next.new.into.items c.next.new.self us under)
             (returned (lens_of plan.slaves) c.self.inside.ring (exchanged f) (length fs) l.leads us c.exchange-fate.ensures.fate c.exchange-fate.ensures.back frame pass))
             c.in_ok-note_before.ensures.heard both.1.1.0
             c.args.book.now c.note_behind.new.book c.next.ensures.joins c.next.ensures.made
@@ -143,6 +144,7 @@ returns-clause-ok c =
             tells = c.tell.ensures.happened;
             joined = λ lens recover retry missed made vs js under back h. c.tell.ensures.joins lens recover retry missed made vs js (exchanged f) refl refl under back h;
             arrivals = λ pass lens recover us js way back h. c.tell.ensures.arrivals pass lens recover c.next.new.into.items us js way back h;
+            brought = λ pass lens recover us way back. c.tell.ensures.brought pass lens recover c.next.new.into.items us way back;
             remembers = λ pass lens recover retry missed made vs under back asks. c.tell.ensures.remembers pass lens recover retry missed made vs (exchanged f) refl refl under back asks;
             stays = λ after lost lens recover retry missed made vs under. c.tell.ensures.stays after lost lens recover retry missed made vs (exchanged f) under;
             leaves = λ after lost lens recover retry missed made vs under. c.tell.ensures.leaves after lost lens recover retry missed made vs (exchanged f) refl under;
@@ -151,7 +153,8 @@ returns-clause-ok c =
           (record { fate = c.exchange-fate.ensures.fate; back = c.exchange-fate.ensures.back }) (let n = c.self.invariant.0 in let b = c.self.invariant.1 in let most = c.self.invariant.2 in omega (arith, n, b, most))
           (c.note_behind.ensures.slaves.asked ∙ c.note_before.ensures.slaves.asked) refl
           c.note_before.new.self c.note_behind.new.self c.note_before.ensures.slaves.recover c.in_ok-note_before.ensures.gave refl
-          (subst (λ (n : ℕ). GaveBy f.fate n c.tell.new.master c.note_before.new.self c.note_behind.new.self) c.self.invariant.0 both.0) c.exchange-fate.ensures.wire,
+          (subst (λ (n : ℕ). GaveBy f.fate n c.tell.new.master c.note_before.new.self c.note_behind.new.self) c.self.invariant.0 both.0)
+          c.in_ok-note_before.ensures.heard (subst (λ (n : ℕ). HeardBy f.fate n c.tell.new.master c.note_before.new.self c.note_behind.new.self) c.self.invariant.0 both.1.1.0) c.exchange-fate.ensures.wire,
     ))
     (on_ok_both _ _ c.note_behind.result c.note_behind.ensures.gave (on_ok_both _ _ c.note_behind.result c.note_behind.ensures.told (on_ok_both _ _ c.note_behind.result c.note_behind.ensures.heard (on_ok_both _ _ c.note_behind.result c.note_behind.ensures.switch c.note_behind.ensures.rows))))
 
