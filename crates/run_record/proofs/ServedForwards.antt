@@ -11,7 +11,7 @@ use Rattle.master_node.specs.Brought.{HasBrought}
 use Rattle.master_node.specs.Downs.{GoDown}
 use Rattle.master_node.specs.Eager.{recalls}
 use Rattle.master_node.specs.Happened.{HappensSo, HasHappened, events_of}
-use Rattle.master_node.specs.Joined.{HasUnfinished, JoinsKept, stand_before, stand_under, unfinished_after}
+use Rattle.master_node.specs.Joined.{HasUnfinished, IsUnfinished, JoinsKept, stand_before, stand_under, unfinished_after}
 use Rattle.master_node.specs.Made.{AreOfMaking}
 use Rattle.master_node.specs.Ports.{ports_behind, ports_of}
 use Rattle.master_node.specs.Rooms.{area_at}
@@ -24,6 +24,7 @@ use Rattle.master_node.specs.declared.happened.Happening.{Happening}
 use Rattle.master_node.specs.declared.node.MasterNode.{MasterNode}
 use Rattle.master_node.specs.of_frame_view.Seen.{seen}
 use Rattle.master_node.specs.of_frame_view.View.{Lens}
+use Rattle.master_node.specs.of_life_frames.Shares.{AllThree}
 use Rattle.master_node.specs.of_life_runs.First.{first_leads, lens_of}
 use Rattle.master_node.specs.of_life_runs.Led.{Exchanged, Leads, Turn, gives_up_at}
 use Rattle.master_node.specs.of_master_tour.Goes.{holds_at}
@@ -62,7 +63,7 @@ served_first plan m ports none happened = record {
 pub served_stays : (plan : Scenario) (fs : List Exchanged) (missed : ℕ) (ws : List Serves) (lives : ServeTo plan fs missed ws) (m n : MasterNode) (rows : List Happening) → n.tour ≡ m.tour → n.lan ≡ m.lan → IsServedForwarded plan m lives rows → IsServedForwarded plan n lives rows
 served_stays plan fs missed ws lives m n rows tour lan w = record {
   ports = ap (λ l. l.ports.items) lan ∙ w.ports;
-  unfinished = subst (λ t. HasUnfinished (record m { tour = t }) (map stand_before (map run_lead ws)) (unfinished_of (served_joined lives))) (sym tour) w.unfinished;
+  unfinished = subst (λ z. AllThree (λ l j s. IsUnfinished l s.side.hand.found.join j) (map stand_before (map run_lead ws)) (unfinished_of (served_joined lives)) z.stops.items) (sym tour) w.unfinished;
   listed = w.listed;
   begun = w.begun;
   happened = subst (λ l. HasHappened (ports_of plan.slaves) plan.host rows l) (sym lan) w.happened;

@@ -3,12 +3,12 @@ use Rattle.std.proofs.Common.{◌≡◌, ◌+◌, ℕ, Bool, true, false, List, 
 use Rattle.std.specs.Prelude.{nat_lt}
 use Rattle.eoe_switch.specs.declared.switching.SwitchEvent.{SwitchEvent}
 use Rattle.master_node.proofs.Restings.{serves_idle}
-use Rattle.master_node.specs.Eager.{AllTakeUp, recalls}
+use Rattle.master_node.specs.Eager.{AllTakeUp, recall_of, recalls}
 use Rattle.master_node.specs.Happened.{events_of}
 use Rattle.master_node.specs.Recalled.{AllKnow}
 use Rattle.master_node.specs.ServedEager.{AllServedAsk, AllServedBegin, AllServedRecall, AllServedRest}
 use Rattle.master_node.specs.Serving.{ServedShows, ServedUnder, run_lead, run_turn}
-use Rattle.master_node.specs.Toured.{tour_of}
+use Rattle.master_node.specs.Toured.{again_of, tour_of}
 use Rattle.master_node.specs.Touring.{IsServedVisit}
 use Rattle.master_node.specs.Wants.{AllCounted, gave_of}
 use Rattle.master_node.specs.declared.happened.Happening.{Happening}
@@ -50,7 +50,10 @@ recalled_first plan m ring tour known is =
 
 -- A MAIL THAT IS ASKED changes nothing of it
 pub recalled_stays : (plan : Scenario) (fs : List Exchanged) (m n : MasterNode) (ws : List Serves) (es : List SwitchEvent) (ring ring' : RingState (Node SlaveServer)) → n.tour ≡ m.tour → ring' ≡ ring → Recalled plan fs (tour_of m) ws (state_of m es ring) → Recalled plan fs (tour_of n) ws (state_of n es ring')
-recalled_stays plan fs m n ws es ring ring' tour is r = subst (λ z. Recalled plan fs (tour_of (record m { tour = z })) ws (state_of (record m { tour = z }) es ring')) (sym tour) (subst (λ z. Recalled plan fs (tour_of m) ws (state_of m es z)) (sym is) r)
+recalled_stays plan fs m n ws es ring ring' tour is r =
+    let same : tour_of n ≡ tour_of m = λ i. record { again = again_of (tour i).again (tour i).visit.items; opened = (tour i).opened; last = (tour i).last; missed = (tour i).missed } in
+    let remembered : state_of n es ring' ≡ state_of m es ring = λ i. record { recalls = map (λ s. recall_of s) (tour i).stops.items; events = es; ring = is i } in
+    subst (λ (t : Tour). Recalled plan fs t ws (state_of n es ring')) (sym same) (subst (λ (s : State). Recalled plan fs (tour_of m) ws s) (sym remembered) r)
 
 pub recalled_asked : (plan : Scenario) (fs : List Exchanged) (t : Tour) (ws : List Serves) (place : ℕ) (k : Keyed) (s : State) → MayAsk (lens_of plan.slaves) place k ws → Recalled plan fs t ws s → Recalled plan fs t (asked_at place k ws) s
 recalled_asked plan fs t ws place k s may r = (IsTourServed.asks fs t ws place k r.0 may, r.1)
