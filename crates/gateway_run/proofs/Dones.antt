@@ -34,6 +34,7 @@ use Rattle.gateway_run.specs.declared.turn.Serving.{Serving}
 use Rattle.gateway_run.proofs.Answering.{course_answers}
 use Rattle.gateway_run.proofs.Comes.{none_begun}
 use Rattle.gateway_run.proofs.Gones.{NoneWaits, same_none}
+use Rattle.gateway_run.proofs.Judging.{got_at}
 use Rattle.gateway_run.proofs.Leds.{IsLed, on_led}
 
 -- nothing stands for nothing
@@ -107,15 +108,6 @@ module _ (lens : ℕ → Lens) (recover : ℕ) (all : List GramIn) (rs : List Re
       go (inr out) = (none_both (IsFor all) (waiting_of slave rs) (subst (AllBoth (IsFor all) (waiting_of slave rs)) out.waits h.desk.waits), none_begun all w (begun_of slave rs) out.over h.desk.in_hand)
 
   module _ (ws : List Serves) (nss : List (List ℕ)) (d : AllDesk all rs os 0 ws nss) (o : All (IsServedOut lens) ws) (c : AllCounted recover (map run_lead ws)) (h : All IsHeld ws) (n : All (NoneWaits recover) ws) where
-    -- what a datagram got
-    got_at : (k : ℕ) (gs : List GramIn) → AllGot ws nss rs dones os k gs → (j m : ℕ) (g : GramIn) → m ≡ k + j → slice_get gs j ≡ Some g → Got ws nss rs dones m g (owed_for m os)
-    got_at k [] a j m g e at = absurd (cc)
-    got_at k (x ∷ gs) a zero m g e at =
-        let same : x ≡ g = cc in
-        let here : k ≡ m = omega (arith, e) in
-        subst (λ i. Got ws nss rs dones i g (owed_for i os)) here (subst (λ z. Got ws nss rs dones k z (owed_for k os)) same a.0)
-    got_at k (x ∷ gs) a (suc j) m g e at = got_at (suc k) gs a.1 j m g (omega (arith, e)) at
-
     none_of : (r : Request) (heard : IsHeard all r) (mails : List Mail) → Got ws nss rs dones r.gram heard.gram mails → (waiting_of r.slave rs ≡ []) × (begun_of r.slave rs ≡ [])
     none_of r heard mails (ignored fault request nowhere none) = absurd (let bad : None ≡ Some r.slave = sym nowhere ∙ heard.queued in cc)
     none_of r heard mails (refused asked detail request nowhere seldom error) = absurd (let bad : None ≡ Some r.slave = sym nowhere ∙ heard.queued in cc)
@@ -132,7 +124,7 @@ module _ (lens : ℕ → Lens) (recover : ℕ) (all : List GramIn) (rs : List Re
         go [] e = e
         go (r ∷ more) e =
             let is : IsHeard all r = All-head (IsHeard all) r more (subst (All (IsHeard all)) e heard) in
-            let none = none_of r is (owed_for r.gram os) (got_at 0 all got r.gram r.gram is.gram (omega arith) is.there) in
+            let none = none_of r is (owed_for r.gram os) (got_at ws nss rs dones os 0 all got r.gram r.gram is.gram (omega arith) is.there) in
             absurd (some_left r more (sym (ap (waiting_of r.slave) e) ∙ none.0) (sym (ap (begun_of r.slave) e) ∙ none.1))
 
 pub no_request : (plan : Scenario) (s : SessionState) (fs : List Exchanged) (gs : List GramIn) (rs : List Request) (os : List Owing) (dones : List ℕ) (a : Answers plan s fs gs rs os dones) → IsLed plan s fs → All (IsServedOut (lens_of plan.slaves)) a.serving.leading.serves → rs ≡ []

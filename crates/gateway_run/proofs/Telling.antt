@@ -208,7 +208,7 @@ module _ (gs : List GramIn) (slave : ℕ) (w v : Serves) (os more : List Owing) 
 
             -- of the others none is done by it, and the last is over
             same_before : All (λ n. done' n ≡ done n) last.before
-            same_before = All-weaker (λ n. IsOurs gs slave n × (i.request.gram ≢ n)) (λ n. done' n ≡ done n) (λ n o. b.owes.ended n o.0 ∙ ap (λ z. if z then true else done n) (not_done n (off_begun n o.1))) last.before ours_before
+            same_before = All-weaker (λ n. IsOurs gs slave n × (i.request.gram ≢ n)) (λ n. done' n ≡ done n) (λ n o. b.owes.ended n o.0 ∙ ap (λ z. if z then true else done n) (not_done n (off_begun n o.1))) last.before (ours_before false tells)
               where
                 off_begun : (n : ℕ) → i.request.gram ≢ n → is_in n (grams_of (begun_of slave rs)) ≡ false
                 off_begun n off = ap (λ bs. is_in n (grams_of bs)) i.is ∙ in_head n i.request.gram false (not_same n i.request.gram (λ s. off (sym s))) []

@@ -1,5 +1,6 @@
 pub mod All
 pub mod Any
+mod Before
 pub mod Begins
 mod Calms
 mod Carried
@@ -10,6 +11,8 @@ pub mod Epochs
 pub mod Fair
 pub mod Frames
 pub mod Gifts
+mod Given
+mod Heard
 pub mod Kept
 pub mod Led
 pub mod LedLives
@@ -19,6 +22,7 @@ pub mod Lives
 pub mod Mails
 pub mod Newest
 pub mod Octets
+mod NoMore
 pub mod OfCoe
 pub mod One
 pub mod Others
@@ -34,7 +38,9 @@ pub mod Sessions
 pub mod Singles
 pub mod Slaves
 pub mod Speakers
+mod States
 pub mod Told
+mod Turned
 pub mod Whole
 mod Within
 pub mod Words

@@ -1,5 +1,5 @@
 -- A SLAVE AND ITS MASTER, of which it is seen what is meant by its mails, where any mail is passed on that is one; and their names for what came into hand.
-use Rattle.std.proofs.Common.{◌≡◌, ℕ, zero, suc, Bool, true, false, List, [], ◌∷◌, ◌++◌, map, take, refl, ap, ap₂, sym, ◌∙◌, Ok, Err}
+use Rattle.std.proofs.Common.{◌≡◌, ℕ, zero, suc, Bool, true, false, List, [], ◌∷◌, ◌++◌, map, take, refl, ap, sym, ◌∙◌, Ok, Err}
 use Rattle.few_replies.specs.Calm.{calm_tagged}
 use Rattle.life_counts.specs.Seen.{service_seen}
 use Rattle.link_mails.specs.Body.{Body}
@@ -121,21 +121,3 @@ module _ (p : Profile) where
   pub named_mails : (q : Service Wanted) (t : Spoken.Asked) → named q ≡ Service.Mails t → (d : Wanted) × (q ≡ Service.Mails d)
   named_mails (Service.Mails d) t e = (d, refl)
   named_mails (Service.State target) t e = absurd (let no : Service.State target ≡ Service.Mails t = e in cc)
-
--- a list seen otherwise with one more at its end is one with one more
-pub record Snoc {X Y : Type 0} (f : X → Y) (ys : List Y) (y : Y) (xs : List X) : Type 0 where
-  pub front : List X
-  pub last : X
-  pub is : xs ≡ front ++ last ∷ []
-  pub front_is : map f front ≡ ys
-  pub last_is : f last ≡ y
-
-pub map_snoc : {X Y : Type 0} (f : X → Y) (xs : List X) (ys : List Y) (y : Y) → map f xs ≡ ys ++ y ∷ [] → Snoc f ys y xs
-map_snoc f [] [] y e = absurd (let no : [] ≡ y ∷ [] = e in cc)
-map_snoc f [] (z ∷ ys) y e = absurd (let no : [] ≡ z ∷ (ys ++ y ∷ []) = e in cc)
-map_snoc f (x ∷ []) [] y e = record { front = []; last = x; is = refl; front_is = refl; last_is = (let l : f x ∷ [] ≡ y ∷ [] = e in cc) }
-map_snoc f (x ∷ (k ∷ xs)) [] y e = absurd (let l : f x ∷ (f k ∷ map f xs) ≡ y ∷ [] = e in let no : f k ∷ map f xs ≡ [] = cc in cc)
-map_snoc f (x ∷ xs) (z ∷ ys) y e =
-    let head : f x ≡ z = cc in
-    let rest = map_snoc f xs ys y (let tail : map f xs ≡ ys ++ y ∷ [] = cc in tail) in
-    record { front = x ∷ rest.front; last = rest.last; is = ap (λ l. x ∷ l) rest.is; front_is = ap₂ (λ a l. a ∷ l) head rest.front_is; last_is = rest.last_is }

@@ -70,11 +70,11 @@ module _ {V M Q R : Type 0} (x : Exchange V V M Q R) (more : M → Bool) where
     pub ended : answers ≡ true → is_some r.answer ≡ true → ends_told more (untag (replies r)) ≡ true
 
 module _ {V M Q R : Type 0} (x : Exchange V V M Q R) (s : Stated V V Q) (t : Table) where
-  -- the last of services is foreseen right at the server behind those before it
-  last_right : (v : V) (qs : List (Service (Asked M Q))) (m : M) (answers : Bool) → AllRight x s t v (qs ++ Service.Mails (Asked.Passed m answers) ∷ []) → IsForeseenRight x (server_behind x s t v qs) m answers
-  last_right v [] m answers all = all.0
-  last_right v (Service.Mails q ∷ qs) m answers all = last_right (asked_exec x v q) qs m answers all.1
-  last_right v (Service.State target ∷ qs) m answers all = last_right (s.tell (state_behind t (s.state v) target) v) qs m answers all
+  -- each of services is foreseen right at the server behind those before it
+  pub right_at : (v : V) (qs : List (Service (Asked M Q))) (m : M) (answers : Bool) (rest : List (Service (Asked M Q))) → AllRight x s t v (qs ++ Service.Mails (Asked.Passed m answers) ∷ rest) → IsForeseenRight x (server_behind x s t v qs) m answers
+  right_at v [] m answers rest all = all.0
+  right_at v (Service.Mails q ∷ qs) m answers rest all = right_at (asked_exec x v q) qs m answers rest all.1
+  right_at v (Service.State target ∷ qs) m answers rest all = right_at (s.tell (state_behind t (s.state v) target) v) qs m answers rest all
 
 module _ {V M Q R : Type 0} (x : Exchange V V M Q R) (calm : V → Bool) (fair : M → Bool) where
   -- ALL SERVICES that came into hand are such as the laws speak of
@@ -118,6 +118,40 @@ module _ {V M Q R C : Type 0} (x : Exchange V V M Q R) (core : V → C) (law : I
   settled_valid : (c : Counting (Rowed V M Q)) (gs : List (Ghosts.GhostRow (Tagged M Q) (Asked M Q) (Option R))) → Settled both c gs → AllValid x calm fair (services gs)
   settled_valid c [] k = tt
   settled_valid c (g ∷ gs) k = (k.0.valid, settled_valid (after both.serve c g.told) gs k.1)
+
+  -- THE SERVER BEHIND ROWS that are over stands between rows, and is the one behind their services
+  pub record Behind (start : Rowed V M Q) (gs : List (Ghosts.GhostRow (Tagged M Q) (Asked M Q) (Option R))) (v : V) : Type 0 where
+    pub stands : Between x (after both.serve (counting start) (told_all gs)).server
+    pub app : ideal x (after both.serve (counting start) (told_all gs)).server ≡ v
+    pub ready : x.ready v ≡ true
+
+  pub behind : (start : Rowed V M Q) → Between x start → y.ready start ≡ true → (gs : List (Ghosts.GhostRow (Tagged M Q) (Asked M Q) (Option R))) → Settled both (counting start) gs → (qs : List (Service (Asked M Q))) → services gs ≡ qs → Behind start gs (server_behind x s t (ideal x start) qs)
+  behind start between ready gs settled qs same =
+      let c = counting start in
+      let u = after both.serve c (told_all gs) in
+      let app : ideal x u.server ≡ server_behind x s t (ideal x start) qs =
+      ap (λ k. k.0) (settled_app both both_lawful c gs ready settled) ∙ exec_is x calm fair s t (ideal x start) 0 (services gs) ∙ ap (server_behind x s t (ideal x start)) same in
+      record {
+        stands = rows_between x core law calm fair s t lawful stated c between ready gs settled;
+        app = app;
+        ready = subst (λ v. x.ready v ≡ true) app (left_of (x.ready (ideal x u.server)) (calm (ideal x u.server)) (settled_ready both both_lawful c gs ready settled));
+      }
+
+  -- what it gives for a mail that is passed on, foreseen right, are the replies of its one step
+  pub gifts_are : (start : Rowed V M Q) (gs : List (Ghosts.GhostRow (Tagged M Q) (Asked M Q) (Option R))) (v : V) → Behind start gs v → (m : M) (answers : Bool) → IsForeseenRight x v m answers →
+      untag (plain own (y.serve (after both.serve (counting start) (told_all gs)).server (record { mail = m; meant = Meant.Alone answers })).1) ≡ plain x.speech.emission (x.serve v m).1
+  gifts_are start gs v k m answers right =
+      let u = after both.serve (counting start) (told_all gs) in
+      let one : Tagged M Q = record { mail = m; meant = Meant.Alone answers } in
+      let alone : IsRight x u.server one = IsRight.alone m answers k.stands (subst (λ z. IsForeseenRight x z m answers) (sym k.app) right) in
+      plain_untag x.speech.emission (y.serve u.server one).1 (tells x u.server one alone)
+      ∙ ap (plain x.speech.emission) ((alike x u.server one alone).gives ∙ ap (λ z. (x.serve z m).1) (sym k.stands)) ∙ ap (λ z. plain x.speech.emission (x.serve z m).1) k.app
+
+  -- what both exchanges give for it is the same
+  pub given_one : (c : Counting (Rowed V M Q)) (m : M) (answers : Bool) → plain both.speech.emission (given both.serve c (both.full c (Service.Mails (Asked.Passed m answers)))) ≡ acts (plain own (y.serve c.server (record { mail = m; meant = Meant.Alone answers })).1)
+  given_one c m answers =
+      let one : Tagged M Q = record { mail = m; meant = Meant.Alone answers } in
+      ap (plain both.speech.emission) (given_acts y (tagged_states x s) t c (one ∷ [])) ∙ plain_acts y.speech.emission (given y.serve c.server (one ∷ [])) ∙ ap (λ l. acts (plain own l)) (append-nil (y.serve c.server one).1)
 
   module _ (mores : Tagged M Q → Bool) (begun : ℕ) (is : IsTable t begun) (fs : List (Frame (Tagged M Q))) (seat : SeatHere) (a : AccountHere) (h : Holds y lawful (tagged_states x s) stated t mores begun is fs seat a) where
     abbrev RowsHere : Type 0
@@ -178,29 +212,23 @@ module _ {V M Q R C : Type 0} (x : Exchange V V M Q R) (core : V → C) (law : I
           let one : Tagged M Q = record { mail = m; meant = Meant.Alone answers } in
           let service : g.now.service ≡ Service.Mails (Asked.Passed m answers) = shows.service ∙ ap (λ z. Service.Mails z) passes in
           let asked : Service.Mails q ≡ Service.Mails (Asked.Passed m answers) = sym (ap (λ (k : Started (Asked M Q)). k.service) (last_same g).1) ∙ service in
-          let right_here : IsForeseenRight x at m answers = last_right x s t (ideal x seat.start) (services_in before) m answers
+          let right_here : IsForeseenRight x at m answers = right_at x s t (ideal x seat.start) (services_in before) m answers []
           (subst (AllRight x s t (ideal x seat.start)) (ap services_in started ∙ map-append (λ (k : Started (Asked M Q)). k.service) before (newest ∷ []) ∙ ap (λ z. services_in before ++ z ∷ []) asked) right) in
           let same : services past ≡ services_in before = sym (started_services past) ∙ ap services_in (last_same g).0 in
-          let app : ideal x u.server ≡ at = ap (λ k. k.0) (settled_app both both_lawful c past h.ready fits.settled) ∙ exec_is x calm fair s t (ideal x seat.start) 0 (services past) ∙ ap (server_behind x s t (ideal x seat.start)) same in
-          let stands : Between x u.server = rows_between x core law calm fair s t lawful stated c between h.ready past fits.settled in
-          let ready : x.ready (ideal x u.server) ≡ true = left_of (x.ready (ideal x u.server)) (calm (ideal x u.server)) (settled_ready both both_lawful c past h.ready fits.settled) in
-          let right_there : IsForeseenRight x (ideal x u.server) m answers = subst (λ v. IsForeseenRight x v m answers) (sym app) right_here in
+          let k = behind seat.start between h.ready past fits.settled (services_in before) same in
           let gifts = (y.serve u.server one).1 in
           let begins = heard_begins both both_lawful c past g.now (h.carried.taken ++ acts h.carried.rest) h.carried.taken (acts seat.accepted) fits.settled fits.all_held fits.all_accepted g.moment.order g.moment.hears fits.mine in
           let plains : plain both.speech.emission g.now.heard ≡ acts (replies x more r) = ap (plain both.speech.emission) shows.heard ∙ plain_acts y.speech.emission r.heard in
-          let part : IsPrefixOf (acts (replies x more r)) (acts (plain own (gifts ++ []))) =
-          subst (λ l. IsPrefixOf l (acts (plain own (gifts ++ [])))) plains
-          (subst (λ l. IsPrefixOf (plain both.speech.emission g.now.heard) l)
-          (ap (λ z. plain both.speech.emission (given both.serve u (both.full u z))) service ∙ ap (plain both.speech.emission) (given_acts y (tagged_states x s) t u (one ∷ [])) ∙ plain_acts y.speech.emission (given y.serve u.server (one ∷ []))) begins) in
-          let own_part : IsPrefixOf (replies x more r) (plain own gifts) = subst (λ l. IsPrefixOf (replies x more r) (plain own l)) (append-nil gifts) (begin_acts (replies x more r) (plain own (gifts ++ [])) part) in
-          let alone : IsRight x u.server one = IsRight.alone m answers stands right_there in
-          let untagged : untag (plain own gifts) ≡ plain x.speech.emission (x.serve at m).1 =
-          plain_untag x.speech.emission gifts (tells x u.server one alone) ∙ ap (plain x.speech.emission) ((alike x u.server one alone).gives ∙ ap (λ v. (x.serve v m).1) (sym stands)) ∙ ap (λ v. plain x.speech.emission (x.serve v m).1) app in
+          let part : IsPrefixOf (acts (replies x more r)) (acts (plain own gifts)) =
+          subst (λ l. IsPrefixOf l (acts (plain own gifts))) plains
+          (subst (λ l. IsPrefixOf (plain both.speech.emission g.now.heard) l) (ap (λ z. plain both.speech.emission (given both.serve u (both.full u z))) service ∙ given_one u m answers) begins) in
+          let own_part : IsPrefixOf (replies x more r) (plain own gifts) = begin_acts (replies x more r) (plain own gifts) part in
+          let untagged = gifts_are seat.start past at k m answers right_here in
           record {
-            ready = subst (λ v. x.ready v ≡ true) app ready;
+            ready = k.ready;
             right = right_here;
             begin = (untag own_part.0, sym (map-append (λ (k : Tagged M Q). k.mail) (replies x more r) own_part.0) ∙ ap untag own_part.1 ∙ untagged);
-            ended = λ yes_ some. sym (marks (ideal x u.server) ready right_there own_part yes_) ∙ answered g shows yes_ plains (some_is r.answer some);
+            ended = λ yes_ some. sym (marks (ideal x u.server) (subst (λ v. x.ready v ≡ true) (sym k.app) k.ready) (subst (λ v. IsForeseenRight x v m answers) (sym k.app) right_here) own_part yes_) ∙ answered g shows yes_ plains (some_is r.answer some);
           }
         where
           answered : (g : RowsHere) → Shows g.now r → answers ≡ true → plain both.speech.emission g.now.heard ≡ acts (replies x more r) → (found : (Option R × ℕ)) × (r.answer ≡ Some found) → ends_marked (replies x more r) ≡ true

@@ -1,15 +1,16 @@
 -- EPOCH BY EPOCH: what a slave of a serving did in its life.
-use Rattle.std.proofs.Common.{◌≡◌, ℕ, Bool, false, List, refl, ap, sym, ◌∙◌}
+use Rattle.std.proofs.Common.{◌≡◌, ℕ, Bool, false, Option, List, refl, ap, sym, ◌∙◌}
 use Rattle.frame_view.specs.View.{Lens}
 use Rattle.frames_seen.specs.Slaves.{registers_seen}
 use Rattle.served_rings.specs.Lives.{LedKept, LedYet, LedLeft, AllLeds, IsLedLived}
-use Rattle.life_model.specs.Lives.{Spot, Era, Life, Opening, Stand}
+use Rattle.life_model.specs.Lives.{Spot, Era, Life, Opening, Stand, new_era}
 use Rattle.link_mails.specs.Body.{Body}
 use Rattle.master_duty.specs.Reply.{Reply}
 use Rattle.master_hand.specs.Spoken.{Asked, is_followed, is_passed}
 use Rattle.passed_whole.specs.Clearing.{Forgets}
 use Rattle.served_rings.specs.Speakers.{cleared_whole, speaker}
 use Rattle.segment_model.specs.Record.{Frame, Kept}
+use Rattle.segment_model.specs.Seats.{rows_of}
 use Rattle.served_rings.specs.Serves.{serves}
 use Rattle.served_rings.specs.Clearing.{serves_clearing}
 use Rattle.slave_lives.specs.Lived.{Behind}
@@ -22,8 +23,12 @@ use Rattle.slave_steps.specs.Node.{Node}
 use Rattle.state_exchange.specs.Families.{InState}
 use Rattle.life_counts.specs.Epochs.{IsSpeaker}
 use Rattle.whole_ring.specs.Whole.{OpensBy, StandsBy}
-use Rattle.served_rings.specs.Served.{AreServedEras, IsServedNewest, IsServedLife}
+use Rattle.served_rings.specs.Served.{AreServedEras, IsServedNewest, IsServedLife, NothingCame}
 use Rattle.served_rings.proofs.Epochs.{era_served}
+
+-- of an epoch that is new nothing came into hand
+nothing : (e : Era Body Asked Reply) (cleared : Option ℕ) → e ≡ new_era cleared → NothingCame e
+nothing e cleared is_new = record { started = ap (λ (d : Era Body Asked Reply). d.account.started) is_new; rows = ap (λ (d : Era Body Asked Reply). rows_of d.side) is_new }
 
 module _ (p : Profile) (k : IsSpeaker (speaker p)) (forgets : Forgets (speaker p).exchange (speaker p).core cleared_whole) (boot : Bool) (lens : ℕ → Lens) (spot : Spot) where
   abbrev w : Behind Serving (InState Server) (InState Server) Asked Reply
@@ -51,7 +56,7 @@ module _ (p : Profile) (k : IsSpeaker (speaker p)) (forgets : Forgets (speaker p
       let rest = past_served before in
       record {
         at = cleared_whole rest.at;
-        all = AreServedEras.unopened es rest.at e rest.all (ap (λ (d : Era Body Asked Reply). d.account.started) is_new);
+        all = AreServedEras.unopened es rest.at e rest.all (nothing e cleared is_new);
         same = clears_inner b rest.at rest.same;
       }
   past_served (AllLeds.opened a es b e s before left) =
@@ -70,7 +75,7 @@ module _ (p : Profile) (k : IsSpeaker (speaker p)) (forgets : Forgets (speaker p
       let x = still.lives.epoch in
       let one = era_served p k forgets boot lens spot from x.led e fs n x.era at same in
       IsServedNewest.over stand _ one.done one.was
-  opens_served plan from at same e fs stand n o (OpensBy.anew closing x start) = IsServedNewest.unopened stand (ap (λ (d : Era Body Asked Reply). d.account.started) x.is_new)
+  opens_served plan from at same e fs stand n o (OpensBy.anew closing x start) = IsServedNewest.unopened stand (nothing e x.cleared x.is_new)
   opens_served plan from at same e fs stand n o (OpensBy.over closing again early x) =
       let y = x.left in
       let one = era_served p k forgets boot lens spot from y.led e y.frames y.node y.era at same in

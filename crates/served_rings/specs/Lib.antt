@@ -1,5 +1,6 @@
 pub mod Clearing
 pub mod Counters
+pub mod Given
 pub mod Led
 pub mod LedRings
 pub mod Lives

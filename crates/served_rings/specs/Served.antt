@@ -1,5 +1,5 @@
 -- WHAT THE SLAVES OF A SERVING DID, epoch by epoch, of the rows that came into hand of them: services of the script, packets, and mails that were passed on.
-use Rattle.std.specs.Prelude.{◌≡◌, ℕ, ◌+◌, ◌≤◌, Bool, Option, None, Some, Ok, List, [], ◌∷◌, ◌++◌, length, take, ⊤}
+use Rattle.std.specs.Prelude.{◌≡◌, ℕ, ◌+◌, ◌≤◌, Bool, Option, None, Ok, List, [], ◌∷◌, ◌++◌, length, take, ⊤}
 use Rattle.exchange_model.specs.Exchange.{plain}
 use Rattle.exchange_model.specs.Prefix.{IsPrefixOf}
 use Rattle.exchange_model.specs.Rows.{Row}
@@ -14,6 +14,7 @@ use Rattle.plan_ring.specs.Round.{ring_after, ring_of}
 use Rattle.served_rings.specs.Speakers.{cleared_whole, spoken, table_of}
 use Rattle.run_work.specs.Lives.{first_server}
 use Rattle.segment_model.specs.Ends.{Passing}
+use Rattle.segment_model.specs.Seats.{rows_of}
 use Rattle.segment_plan.specs.declared.plan.Scenario.{Scenario}
 use Rattle.segment_plan.specs.declared.slave.SlaveSpec.{SlaveSpec}
 use Rattle.served_runs.specs.Served.{Serves}
@@ -25,8 +26,12 @@ use Rattle.slave_steps.specs.Node.{Node}
 use Rattle.state_exchange.specs.Families.{InState}
 use Rattle.state_exchange.specs.Stated.{Service}
 use Rattle.state_model.specs.Promises.{state_behind}
-use Rattle.task_model.specs.Accounts.{Started}
 use Rattle.task_model.specs.Promise.{services_in}
+
+-- nothing came into hand of an epoch
+pub record NothingCame (e : Era Body Asked Reply) : Type 0 where
+  pub started : e.account.started ≡ []
+  pub rows : rows_of e.side ≡ []
 
 module _ (p : Profile) (boot : Bool) (station : ℕ) where
   -- THE SERVER BEHIND ROWS, one after the other: a service acts by its meaning and ends the unfinished transfer of its protocol, a mail that was passed on acts by
@@ -45,14 +50,30 @@ module _ (p : Profile) (boot : Bool) (station : ℕ) where
     pub begin : IsPrefixOf (plain emission r.heard) (replies_to v m)
     pub all : passing ≡ None → plain emission r.heard ≡ replies_to v m
 
-  -- of the newest row of an epoch, where it is the newest that came into hand: the server is the one behind the rows before it
+  -- a service that others came into hand behind is over, and how far the newest has come is told
+  abbrev pub passing_before : List (Service Asked) → Option Passing → Option Passing
+  passing_before [] passing = passing
+  passing_before (q ∷ qs) passing = None
+
+  -- ONE ROW: it is of this service, and where that passes a mail on it heard just the replies of this server's step
+  abbrev pub IsHeardOne : InState Server → Asked → Option Passing → Row Body Asked Reply → Type 0
+  IsHeardOne v q passing r = (r.service ≡ q) × ((m : Mail) → q ≡ passed m → IsHeardOf v m passing r)
+
+  -- ALL ROWS of services that came into hand, of which the newest has come so far: those by mails have one each, in order, and the server of a row is the one
+  -- behind the services before it
+  abbrev pub AllHeard : Option Passing → InState Server → List (Service Asked) → List (Row Body Asked Reply) → Type 0
+  AllHeard passing v [] [] = ⊤
+  AllHeard passing v (Service.Mails q ∷ qs) (r ∷ rs) = IsHeardOne v q (passing_before qs passing) r × AllHeard passing ((spoken p).exec v q) qs rs
+  AllHeard passing v (Service.State target ∷ qs) rs = AllHeard passing (record v { state = state_behind (table_of boot station) v.state target }) qs rs
+  AllHeard passing v _ _ = ⊥
+
+  -- of an epoch
   abbrev pub IsHeardSo : InState Server → Era Body Asked Reply → Type 0
-  IsHeardSo from e =
-      (before : List (Started Asked)) (m : Mail) (frame : ℕ) (r : Row Body Asked Reply) → e.account.started ≡ before ++ record { service = Service.Mails (passed m); frame = frame } ∷ []
-      → e.side.now ≡ Some r → r.service ≡ passed m → IsHeardOf (server_behind from (services_in before)) m e.passing r
+  IsHeardSo from e = AllHeard e.passing from (services_in e.account.started) (rows_of e.side)
 
   -- AN EPOCH, from this server: its slave carried out just the first so many of its rows, each once and in order; its objects, files, IDNs and addresses, its AL
-  -- state and the number of services that it counts are those of the server behind these rows; at most the two newest rows aren't among them
+  -- state and the number of services that it counts are those of the server behind these rows; at most the two newest rows aren't among them; and where there is a
+  -- row, there is a newest
   pub record IsServedEra (from : InState Server) (e : Era Body Asked Reply) (left done : InState Server) : Type 0 where
     pub count : ℕ
     pub prefix : count ≤ length e.account.started
@@ -62,6 +83,7 @@ module _ (p : Profile) (boot : Bool) (station : ℕ) where
     pub handled : left.inner.handled ≡ done.inner.handled
     pub state : left.state ≡ done.state
     pub heard : IsHeardSo from e
+    pub newest : e.side.now ≡ None → e.side.past ≡ []
 
   -- one that was opened: it began with this server, in the first epoch in the state of the plan, and its slave left that one
   pub record WasServed (start : ℕ) (from : InState Server) (e : Era Body Asked Reply) (left done : InState Server) : Type 0 where
@@ -72,13 +94,13 @@ module _ (p : Profile) (boot : Bool) (station : ℕ) where
   -- ALL EPOCHS THAT ARE OVER: each begins with what the one before carried out, cleared, and so does one behind an epoch that was never opened
   pub data AreServedEras (start : ℕ) (first : InState Server) : List (Era Body Asked Reply) → InState Server → Type 0 where
     none : AreServedEras start first [] first
-    unopened : (es : List (Era Body Asked Reply)) (b : InState Server) (e : Era Body Asked Reply) → AreServedEras start first es b → e.account.started ≡ [] → AreServedEras start first (es ++ e ∷ []) (cleared_whole b)
+    unopened : (es : List (Era Body Asked Reply)) (b : InState Server) (e : Era Body Asked Reply) → AreServedEras start first es b → NothingCame e → AreServedEras start first (es ++ e ∷ []) (cleared_whole b)
     opened : (es : List (Era Body Asked Reply)) (b : InState Server) (e : Era Body Asked Reply) (left done : InState Server) → AreServedEras start first es b → WasServed start b e left done → AreServedEras start first (es ++ e ∷ []) (cleared_whole done)
 
   -- THE NEWEST: it is open, and what its slave left is what the node has, its AL state among it; or nothing began in it; or it is over
   pub data IsServedNewest (start : ℕ) (from : InState Server) (e : Era Body Asked Reply) (n : Node Serving) : Stand → Type 0 where
     lives : (left done : InState Server) → left.inner ≡ n.server.server → left.state ≡ (registers_seen n.registers).state → WasServed start from e left done → IsServedNewest start from e n Stand.Open
-    unopened : (stand : Stand) → e.account.started ≡ [] → IsServedNewest start from e n stand
+    unopened : (stand : Stand) → NothingCame e → IsServedNewest start from e n stand
     over : (stand : Stand) (left done : InState Server) → WasServed start from e left done → IsServedNewest start from e n stand
 
   -- THE WHOLE LIFE of a slave with this node, from the server with which it was switched on

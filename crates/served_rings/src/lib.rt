@@ -15,6 +15,8 @@ ghost use Rattle.served_runs.specs.Served.{IsServedLed, Serves, all_serve};
 ghost use Rattle.std.specs.Prelude.{ℕ, All, List};
 
 pub mod era_counters;
+pub mod given_rows;
+pub mod heard_stays;
 pub mod last_told;
 pub mod led_eras;
 pub mod led_lives;
