@@ -140,8 +140,8 @@ module _ (plan : Scenario) (fs : List Exchanged) (missed : ℕ) (ws : List Serve
   abbrev more : List Happening
   more = rows ++ (m1.lan.happened ++ m2.lan.happened)
 
-  events : events_of more ≡ events_of rows ++ (events_of m1.lan.happened ++ events_of m2.lan.happened)
-  events = map-append (λ (r : Happening). r.event) rows (m1.lan.happened ++ m2.lan.happened) ∙ ap (λ z. events_of rows ++ z) (map-append (λ (r : Happening). r.event) m1.lan.happened m2.lan.happened)
+  pub served_events : events_of more ≡ events_of rows ++ (events_of m1.lan.happened ++ events_of m2.lan.happened)
+  served_events = map-append (λ (r : Happening). r.event) rows (m1.lan.happened ++ m2.lan.happened) ∙ ap (λ z. events_of rows ++ z) (map-append (λ (r : Happening). r.event) m1.lan.happened m2.lan.happened)
 
   made : HasHappened many plan.host (rows ++ m1.lan.happened) m1.lan
   made = x.makes many plan.host rows w.happened
@@ -156,9 +156,9 @@ module _ (plan : Scenario) (fs : List Exchanged) (missed : ℕ) (ws : List Serve
   served_forwarded_on = record {
     ports = ports_stay plan f us behind js m1 m2 lists;
     unfinished = subst (λ z. HasUnfinished m2 (map stand_before behind) z) (sym (joined_so lens f js us (as_many us js m1.tour.stops.items half))) (x.joined lens plan.recover plan.retry missed (length fs) vs js under back half);
-    listed = subst (λ (z : List SwitchEvent). ServedListed ports (IsServedLed.on fs missed ws f vs lives frame) z) (sym events)
+    listed = subst (λ (z : List SwitchEvent). ServedListed ports (IsServedLed.on fs missed ws f vs lives frame) z) (sym served_events)
         (frame_lists plan f us behind js m1 m2 lists (λ old. ServedListed ports lives old) (events_of rows) w.listed);
-    begun = subst (λ (z : List SwitchEvent). AreServedBegun ports many (IsServedLed.on fs missed ws f vs lives frame) z) (sym events)
+    begun = subst (λ (z : List SwitchEvent). AreServedBegun ports many (IsServedLed.on fs missed ws f vs lives frame) z) (sym served_events)
         (frame_begins plan f us behind js m1 m2 lists (λ old. AreServedBegun ports many lives old) (events_of rows) w.begun begins_so stands);
     happened = subst (λ z. HasHappened many plan.host z m2.lan) (append_assoc rows m1.lan.happened m2.lan.happened) (x.tells many plan.host (rows ++ m1.lan.happened) made);
   }
@@ -166,7 +166,7 @@ module _ (plan : Scenario) (fs : List Exchanged) (missed : ℕ) (ws : List Serve
   -- WHAT HAPPENED AT THE SWITCH while the frame was made, and behind it
   pub happened_so : (at : AtSwitch plan f us (events_of rows) (events_of more)) × (at.making ≡ events_of m1.lan.happened)
   happened_so =
-      at_switch plan m0 m1 m2 f us (unfinished_of js) (events_of rows) (events_of more) w.ports x.making w.happened.switch stands visit.packets (λ pass. x.arrivals pass lens plan.recover us js (served_way lens plan.recover plan.retry missed f.sent m1 (length fs) vs under) (back pass) half) events
+      at_switch plan m0 m1 m2 f us (unfinished_of js) (events_of rows) (events_of more) w.ports x.making w.happened.switch stands visit.packets (λ pass. x.arrivals pass lens plan.recover us js (served_way lens plan.recover plan.retry missed f.sent m1 (length fs) vs under) (back pass) half) served_events
 
   pub lan_before : IsLanOf plan m0.lan (events_of rows)
   lan_before = before_is plan m0 m1 m2 f us (unfinished_of js) (events_of rows) (events_of more) w.ports x.making w.happened.switch stands

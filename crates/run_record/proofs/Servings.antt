@@ -56,13 +56,13 @@ use Rattle.packets_heard.specs.Recalled.{State}
 use Rattle.packets_heard.specs.Served.{IsTourServed, serves_behind}
 use Rattle.packets_heard.specs.Toured.{tour_behind}
 use Rattle.run_record.specs.Served.{ServedLeading, ServedTouredTo, Serving, ServesOn, ServingAsks, ServingGoesOn, TellsBehind, as_asked, served_heard}
-use Rattle.run_record.specs.Session.{IsDone, SessionState, asked_mail, asked_more, has_live}
+use Rattle.run_record.specs.Session.{FrameEvents, IsDone, SessionState, asked_mail, asked_more, has_live}
 use Rattle.run_record.proofs.Fits.{has_room, home_fits}
 use Rattle.run_record.proofs.Hearings.{heard_by}
 use Rattle.run_record.proofs.Leads.{first_gaves}
 use Rattle.run_record.proofs.Nexts.{next_frame}
 use Rattle.run_record.proofs.Noted.{GivesOne, noted_by, noted_now}
-use Rattle.run_record.proofs.ServedForwards.{FrameTells, served_asked, served_first, served_forwarded_on, served_stays}
+use Rattle.run_record.proofs.ServedForwards.{FrameTells, served_asked, served_events, served_first, served_forwarded_on, served_stays}
 use Rattle.run_record.proofs.ServedGaves.{all_give, has_lives, serve_leads, served_counted}
 use Rattle.run_record.proofs.ServedRecalls.{Recalled, recalled_asked, recalled_at, recalled_first, recalled_stays}
 use Rattle.run_record.proofs.ServedTold.{tells_frame}
@@ -191,6 +191,7 @@ one_asked s s' slave key mail served apart tour lan ring asked waiting notes = �
       };
       missed = refl;
       serves = refl;
+      rows = refl;
     }
 
 pub serving_asks : (t s s' : SessionState) (slave key : ℕ) (mail : Mail) → t ≡ s →
@@ -242,6 +243,7 @@ none_asked s s' slave key mail tour lan ring number stays asked waiting notes = 
       };
       missed = refl;
       serves = refl;
+      rows = refl;
     }
 
 pub serving_stays : (t s s' : SessionState) (slave key : ℕ) (mail : Mail) → t ≡ s → s'.master.tour ≡ t.master.tour → s'.master.lan ≡ t.master.lan → s'.ring ≡ t.ring → s'.master.made ≡ t.master.made → StepsAt (λ p q. q ≡ p) slave t.master.posts.items s'.master.posts.items →
@@ -320,6 +322,10 @@ module _ (s s' : SessionState) (m : MasterNode) (f : Exchanged) (result : Next) 
   remembered =
       subst (λ (t : Tour). Recalled plan (fs ++ f ∷ []) t behind state) (sym tour_on) (subst (λ (n : ℕ). Recalled plan (fs ++ f ∷ []) (tour n) (on n) state) l.shows.missed_is first_on)
 
+  -- what happened at its switch
+  abbrev happened : FrameEvents
+  happened = record { making = events_of m.lan.happened; behind = events_of s'.master.lan.happened }
+
   -- what is noted of give-ups
   gave : gaves_noted s'.notes ≡ map gave_of (map run_lead behind)
   gave =
@@ -350,7 +356,7 @@ module _ (s s' : SessionState) (m : MasterNode) (f : Exchanged) (result : Next) 
     remembers = remembered.1;
   }
 
-  pub on_frame : ServesOn plan s s' fs f old
+  pub on_frame : ServesOn plan s s' happened fs f old
   unfolding goes
   on_frame = record {
     turns = made.0;
@@ -359,6 +365,7 @@ module _ (s s' : SessionState) (m : MasterNode) (f : Exchanged) (result : Next) 
     new = goes;
     missed = refl;
     serves = refl;
+    events = served_events plan fs l.missed l.serves l.lives f made.0 made.1 s.master m s'.master made.2 made.4 returned switch old.rows old.forwarded;
     tells = tells_frame lens plan.recover plan.retry l.missed (length fs) (λ k. forwards_at s.master.posts.items k) m s'.master f l.serves behind made.0 made.3 made.2 whole (told lens plan.recover plan.retry l.missed (length fs) made.0 f refl refl made.2 returned);
   }
 
@@ -371,7 +378,7 @@ pub serving_on : (t s s' : SessionState) (m : MasterNode) (f : SentFrame) (resul
     listed s'.master.list.rows.items s'.master.list.count ≡ events_in m ++ events_in s'.master → TellsBehind f.fate f.back m s'.master →
     IsRecorded t.ring f → suc t.ring.number < 2 ^ 32 → s'.asked ≡ t.asked → s'.waiting ≡ map waiting_of s'.master.posts.items →
     (r r' : Log) → r.recover ≡ t.recover → gaves_noted r.notes ≡ gaves_noted t.notes → s'.notes ≡ r'.notes → GaveBy f.fate t.ring.number s'.master r r' → emergencies_noted r.notes ≡ emergencies_noted t.notes → HeardBy f.fate t.ring.number s'.master r r' →
-    s'.ring ≡ behind_ring t.ring f.sent → ServingGoesOn s s' f
+    s'.ring ≡ behind_ring t.ring f.sent → ServingGoesOn s s' (record { making = events_of m.lan.happened; behind = events_of s'.master.lan.happened }) f
 serving_on t s s' m f result view idle serves served tours switch whole told recorded few asked waiting r r' same before after noted heard_before heard_behind ring =
-    subst (λ (z : SessionState). ServingGoesOn z s' f) view
+    subst (λ (z : SessionState). ServingGoesOn z s' (record { making = events_of m.lan.happened; behind = events_of s'.master.lan.happened }) f) view
     (λ plan fs recover number live busy old. on_frame t s' m (exchanged f) result idle serves served tours switch whole told recorded.fate recorded.back few asked waiting r r' same before after noted heard_before heard_behind plan fs recover number live busy ring old)

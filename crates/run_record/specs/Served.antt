@@ -39,7 +39,7 @@ use Rattle.run_notes.specs.Heard.{emergencies_noted}
 use Rattle.run_notes.specs.Slaves.{gaves_noted, home_of}
 use Rattle.run_record.specs.Led.{exchanged}
 use Rattle.run_record.specs.Recalling.{state_of}
-use Rattle.run_record.specs.Session.{IsDone, SessionState, has_live}
+use Rattle.run_record.specs.Session.{FrameEvents, IsDone, SessionState, has_live}
 use Rattle.segment_plan.specs.Sound.{IsPlan}
 use Rattle.segment_plan.specs.declared.plan.Scenario.{Scenario}
 use Rattle.segment_ring.specs.declared.wire.Fate.{Fate}
@@ -123,8 +123,9 @@ TellsBehind fate back m n =
     (lens : ℕ → Lens) (recover retry missed made : ℕ) (vs : List ServedTurn) (f : Exchanged) → f.fate ≡ fate → f.back ≡ back → ServedUnder lens recover retry m f.sent missed made vs → (fate ≡ Fates.Pass → Returns (seen lens f.sent) (seen lens back)) →
     filter is_gateway (events_in n) ≡ told_in (λ k. told_behind lens f f.fate vs (map (served_behind lens recover retry (gives_up_at lens recover retry missed) made f) vs) k) m.tour.visit.items
 
--- ONE FRAME MORE of a serving: it is just what the lives ask for, those behind it are what it leads them to, and by them who asked gets to know what the frame tells
-pub record ServesOn (plan : Scenario) (s s' : SessionState) (fs : List Exchanged) (f : Exchanged) (old : Serving plan s fs) : Type 0 where
+-- ONE FRAME MORE of a serving: it is just what the lives ask for, those behind it are what it leads them to, by them who asked gets to know what the frame tells,
+-- and just this happened at its switch
+pub record ServesOn (plan : Scenario) (s s' : SessionState) (happened : FrameEvents) (fs : List Exchanged) (f : Exchanged) (old : Serving plan s fs) : Type 0 where
   pub turns : List ServedTurn
   pub frame : IsServedFrame (lens_of plan.slaves) (length fs) f.sent old.leading.serves turns
   -- an answer has just the datagrams that were sent
@@ -133,10 +134,11 @@ pub record ServesOn (plan : Scenario) (s s' : SessionState) (fs : List Exchanged
   pub missed : new.leading.missed ≡ missed_behind (lens_of plan.slaves) plan.recover plan.retry f.fate old.leading.missed
   pub serves : new.leading.serves ≡ map (served_behind (lens_of plan.slaves) plan.recover plan.retry (gives_up_at (lens_of plan.slaves) plan.recover plan.retry old.leading.missed) (length fs) f) turns
   pub tells : TellsFrame (lens_of plan.slaves) (λ k. forwards_at s.master.posts.items k) old.leading.serves f turns new.leading.serves s'.master
+  pub events : events_of new.rows ≡ events_of old.rows ++ (happened.making ++ happened.behind)
 
 -- so a step goes, where some slave is live and not all is done: a serving that is led goes on
-abbrev pub ServingGoesOn : SessionState → SessionState → SentFrame → Type 0
-ServingGoesOn s s' f = (plan : Scenario) (fs : List Exchanged) → s.recover ≡ plan.recover → length fs ≡ s.ring.number → has_live s.master ≡ true → (IsDone s → ⊥) → (old : Serving plan s fs) → ServesOn plan s s' fs (exchanged f) old
+abbrev pub ServingGoesOn : SessionState → SessionState → FrameEvents → SentFrame → Type 0
+ServingGoesOn s s' happened f = (plan : Scenario) (fs : List Exchanged) → s.recover ≡ plan.recover → length fs ≡ s.ring.number → has_live s.master ≡ true → (IsDone s → ⊥) → (old : Serving plan s fs) → ServesOn plan s s' happened fs (exchanged f) old
 
 -- SOME SLAVE IS LIVE, where a serving is led
 abbrev pub ServingLives : SessionState → Type 0
@@ -155,12 +157,14 @@ pub record AsksOn (plan : Scenario) (slave key : ℕ) (mail : Mail) (s s' : Sess
   pub new : Serving plan s' fs
   pub missed : new.leading.missed ≡ old.leading.missed
   pub serves : new.leading.serves ≡ asked_at slave mail_asked old.leading.serves
+  pub rows : new.rows ≡ old.rows
 
 -- NONE IS ASKED: the lives stay
 pub record AsksNone (plan : Scenario) (s s' : SessionState) (fs : List Exchanged) (old : Serving plan s fs) : Type 0 where
   pub new : Serving plan s' fs
   pub missed : new.leading.missed ≡ old.leading.missed
   pub serves : new.leading.serves ≡ old.leading.serves
+  pub rows : new.rows ≡ old.rows
 
 -- so it is with a mail that fits the mailbox of its slave, by the plan; and where as many wait as may none is asked
 abbrev pub ServingAsks : ℕ → ℕ → Mail → SessionState → SessionState → Bool → Type 0

@@ -36,7 +36,7 @@ ghost use Rattle.run_record.specs.Recalling.{RunBegins};
 ghost use Rattle.run_notes.specs.Switched.{SameSwitch};
 ghost use Rattle.run_record.specs.Replay.{first_ring};
 ghost use Rattle.run_record.specs.Served.{ServingAsks, ServingBegins, ServingGoesOn, ServingLives, ServingRests, TellsBehind};
-ghost use Rattle.run_record.specs.Session.{budget_of, smaller_bound, rests_at, session_rows, first_session, are_at_rest, some_given_up, has_live, IsDone, IsLeftBy, StillWants, Steps, Stops, Asks};
+ghost use Rattle.run_record.specs.Session.{budget_of, smaller_bound, rests_at, session_rows, first_session, are_at_rest, some_given_up, has_live, FrameEvents, IsDone, IsLeftBy, StillWants, Steps, Stops, SwitchGrows, Asks};
 ghost use Rattle.run_notes.specs.Slaves.{slave_row, slave_rows, KeepsRest};
 
 use datagrams::FrameBuf;
@@ -377,7 +377,7 @@ impl Session {
     /// what the lives of a serving tell: which mails came into hand, their replies, that no more follow, and which slaves were given up.
     pub fn step(&mut self, alloc: Global, book: &mut Book) -> Result<(), NoMemory>
         requires { self.old.ring.number < self.old.budget }
-        ensures ok { OnOk result ((f : Recorded) × Steps self.old book.old self.new book.new f × ServingGoesOn self.old self.new f) }
+        ensures ok { OnOk result ((f : Recorded) × Steps self.old book.old self.new book.new f × ((happened : FrameEvents) × SwitchGrows self.old book.old happened book.new × ServingGoesOn self.old self.new happened f)) }
         ensures err { OnErr result (Stops self.old book.old book.new) }
     {
         let frame = self.number;
