@@ -17,7 +17,7 @@ use Rattle.run_book.specs.declared.book.Ending.TheVariants as endings
 use Rattle.run_book.specs.declared.book.GramIn.{GramIn}
 use Rattle.run_book.specs.declared.book.GramOut.{GramOut}
 use Rattle.run_record.specs.Led.{LeavesNone, exchanged}
-use Rattle.run_record.specs.Served.{ServingBegins, ServingRests}
+use Rattle.run_record.specs.Served.{ServedNumbered, ServingBegins, ServingRests}
 use Rattle.run_record.specs.Session.{are_at_rest, first_session, session_rows}
 use Rattle.run_record.specs.of_eoe_switch.declared.switching.SwitchEvent.{SwitchEvent}
 use Rattle.run_record.specs.of_packets_heard.Servings.{AreServedBegun, ServedListed}
@@ -30,7 +30,7 @@ use Rattle.run_record.proofs.Underway.{begun, has_frames, ended, many as many_se
 use Rattle.run_record.proofs.of_run_notes.Heard.{heard_of_rows}
 use Rattle.run_record.proofs.of_run_notes.Switched.{has_packets}
 use Rattle.gateway_run.specs.Heard.{heard_as, AreHeard, AreSent, AreSentBut, IsOwed, IsRightly}
-use Rattle.gateway_run.specs.Account.{Course, Course.begins, happened_in}
+use Rattle.gateway_run.specs.Account.{Course, Course.begins, happened_in, numbers_in}
 use Rattle.gateway_run.specs.Desk.{HasNone, IsOpen, AreApart}
 use Rattle.gateway_run.specs.Replies.{Answers, dones_of}
 use Rattle.gateway_run.specs.Serving.{Told, IsOn, IsServing, IsFaulted, Goes, can_hear}
@@ -47,7 +47,7 @@ use Rattle.gateway_run.proofs.Turns.{CourseTo, heard_none, sent_none, course_sam
 pub first_serving : (plan : Scenario) (count : ℕ) (now : Told) (v : Serving) (b : Book) → v.session ≡ first_session plan count v.session.master → ServingBegins plan v.session → HasHappened (ports_of plan.slaves) plan.host [] v.session.master.lan → HasNone v.desk → v.desk.outbox.items ≡ [] → v.count ≡ count → v.over ≡ false → IsNew b → count < 4294967296 → IsPlan plan →
     IsServing plan count now now v b
 first_serving plan count now v b session serves switch none outbox counts over new fits sound = let requests = none.0 in
-    let c = course_same plan count v.session v.session [] b.frames [] b.grams [] v.desk.requests.items [] [] b.switch refl new.frames new.grams requests new.switch (begins v.session session serves, refl) in record {
+    let c = course_same plan count v.session v.session [] b.frames [] b.grams [] v.desk.requests.items [] [] b.switch [] b.switched refl new.frames new.grams requests new.switch new.switched (begins v.session session serves, refl, refl) in record {
   on = record {
     underway = begun plan count v.session b session new switch;
     counts = counts;
@@ -66,6 +66,7 @@ first_serving plan count now v b session serves switch none outbox counts over n
     owed = [];
     course = c.0;
     switch = c.1;
+    switched = c.2;
     spelled = spelled_same (map heard_as b.grams) (map heard_as b.grams) [] [] (b.replies ++ v.desk.outbox.items) refl (ap (λ (l : List GramOut). l ++ v.desk.outbox.items) new.replies ∙ outbox) tt;
   };
   heard = subst (AreHeard now.heard now.heard) (sym new.grams) (heard_none now.heard);
@@ -124,6 +125,8 @@ module _ (plan : Scenario) (count : ℕ) (first now : Told) (v : Serving) (b b' 
     heard = ap emergencies_in rows ∙ heard_of_rows v.session.recover v.session.ring.nodes v.session.notes many ∙ answers'.serving.heard;
     listed = subst (λ (es : List SwitchEvent). ServedListed (ports_behind 0 plan.slaves) answers'.serving.leading.lives es) booked answers'.serving.forwarded.listed;
     begun = subst (λ (es : List SwitchEvent). AreServedBegun (ports_behind 0 plan.slaves) (ports_of plan.slaves) answers'.serving.leading.lives es) booked answers'.serving.forwarded.begun;
+    numbered = subst (λ (ns : List ℕ). ServedNumbered (ports_behind 0 plan.slaves) (ports_of plan.slaves) answers'.serving.leading.lives b'.switch ns) numbered'
+        (subst (λ (es : List SwitchEvent). ServedNumbered (ports_behind 0 plan.slaves) (ports_of plan.slaves) answers'.serving.leading.lives es answers'.serving.numbers) booked answers'.serving.numbered);
     rests = λ none. all_rest plan count v.session b b' on.underway answers'.serving (rests none).0 rows many (rests none).1;
     packets = has_packets plan v.session.ports v.session.ring.number v.session.master.lan b b' on.underway.ports (sym (ap length frames ∙ many_sent plan count v.session b on.underway)) kept on.underway.switched;
     come = λ none. no_packet plan count v.session b b' on.underway answers'.serving (rests none).0 kept;
@@ -132,13 +135,14 @@ module _ (plan : Scenario) (count : ℕ) (first now : Told) (v : Serving) (b b' 
     all = all;
   }
     where
-      same : CourseTo plan count v.session b'.frames b'.grams v.desk.requests.items on.owed b'.switch
-      same = course_same plan count v.session v.session b.frames b'.frames b.grams b'.grams v.desk.requests.items v.desk.requests.items on.owed b.switch b'.switch refl frames grams refl kept.switch (on.course, on.switch)
+      same : CourseTo plan count v.session b'.frames b'.grams v.desk.requests.items on.owed b'.switch b'.switched
+      same = course_same plan count v.session v.session b.frames b'.frames b.grams b'.grams v.desk.requests.items v.desk.requests.items on.owed b.switch b'.switch b.switched b'.switched refl frames grams refl kept.switch kept.switched (on.course, on.switch, on.switched)
 
       course' : Course plan count v.session b'.frames b'.grams v.desk.requests.items on.owed
       course' = same.0
 
       rowed : Rowed plan v.session (map exchanged b'.frames) b'.grams v.desk.requests.items on.owed (dones_of plan count v.session b'.frames b'.grams v.desk.requests.items on.owed course') (happened_in plan count v.session b'.frames b'.grams v.desk.requests.items on.owed course')
+          (numbers_in plan count v.session b'.frames b'.grams v.desk.requests.items on.owed course')
       rowed = course_rowed plan count on.is_plan v.session b'.frames b'.grams v.desk.requests.items on.owed course'
 
       answers' : Answers plan v.session (map exchanged b'.frames) b'.grams v.desk.requests.items on.owed (dones_of plan count v.session b'.frames b'.grams v.desk.requests.items on.owed course')
@@ -147,6 +151,9 @@ module _ (plan : Scenario) (count : ℕ) (first now : Told) (v : Serving) (b b' 
       -- the events of the book are those of the lives
       booked : events_of answers'.serving.rows ≡ b'.switch
       booked = rowed.1 ∙ same.1
+
+      numbered' : answers'.serving.numbers ≡ b'.switched
+      numbered' = rowed.2 ∙ same.2
 
   -- a serving whose port failed
   faulted_so : (result : Ending) → (result ≢ endings.NoMemory → b'.slaves ≡ session_rows v.session) → (result ≡ endings.PortFault) ⊎ (result ≡ endings.NoMemory) → IsBroken first now b' → IsServed plan count first now b' result

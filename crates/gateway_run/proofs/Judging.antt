@@ -97,7 +97,7 @@ module _ (plan : Scenario) (s s' : SessionState) (fs : List Exchanged) (gs : Lis
 
   -- with the same events at the switch
   abbrev Same : SessionState → List GramIn → List Request → List Owing → Type 0
-  Same t hs qs ps = Rowed plan t fs hs qs ps dones (switch_events old.serving.rows)
+  Same t hs qs ps = Rowed plan t fs hs qs ps dones (switch_events old.serving.rows) old.serving.numbers
 
   known : All (λ (r : Request). r.gram < length gs) rs
   known = All-weaker (IsHeard gs) (λ (r : Request). r.gram < length gs) (λ r h. known_at gs r.gram h.gram h.there) rs old.heard
@@ -107,8 +107,8 @@ module _ (plan : Scenario) (s s' : SessionState) (fs : List Exchanged) (gs : Lis
 
   -- IT ISN'T PASSED ON: the lives stay, and this is owed at once
   module _ (more : List Owing) (quiet : (m : ℕ) → m < length gs → owed_for m (os ++ more) ≡ owed_for m os) (few : All (λ (o : Owing). o.gram < length (gs ++ g ∷ [])) more) where
-    stays : (t : SessionState) (serving : Serving plan t fs) → serving.leading.serves ≡ ws → serving.rows ≡ old.serving.rows → Got ws old.came rs dones n g (owed_for n (os ++ more)) → Same t (gs ++ g ∷ []) rs (os ++ more)
-    stays t serving same rows got = (record {
+    stays : (t : SessionState) (serving : Serving plan t fs) → serving.leading.serves ≡ ws → serving.rows ≡ old.serving.rows → serving.numbers ≡ old.serving.numbers → Got ws old.came rs dones n g (owed_for n (os ++ more)) → Same t (gs ++ g ∷ []) rs (os ++ more)
+    stays t serving same rows numbers got = (record {
       serving = serving;
       came = old.came;
       desk = subst (λ z. AllDesk (gs ++ g ∷ []) rs (os ++ more) 0 z old.came) (sym same) (desks_more gs g os more quiet rs rs 0 ws old.came (λ j less. (refl, refl)) old.desk);
@@ -124,15 +124,15 @@ module _ (plan : Scenario) (s s' : SessionState) (fs : List Exchanged) (gs : Lis
           (got_push ws old.came rs dones (os ++ more) 0 n gs g (omega arith)
           (got_each ws ws old.came rs rs dones os (os ++ more) 0 gs (λ j m h e at b. subst (Got ws old.came rs dones m h) (sym (quiet m (let less = known_at gs j h at in omega (arith, less, e)))) b) old.got) got);
       whole = λ none. subst (λ z. AllBoth (GivesAll (os ++ more) (λ m. is_in m dones)) z old.came) (sym same) (all_give gs rs os (os ++ more) (λ m. is_in m dones) quiet 0 ws old.came old.desk (old.whole none));
-    }, ap switch_events rows)
+    }, ap switch_events rows, numbers)
 
   -- one error is owed by it at once
-  error_stays : (detail : ℕ) (asked : Mail) → request_in g.bytes ≡ Ok asked → g.queued ≡ None → detail ≢ 7 → (t : SessionState) (serving : Serving plan t fs) → serving.leading.serves ≡ ws → serving.rows ≡ old.serving.rows →
+  error_stays : (detail : ℕ) (asked : Mail) → request_in g.bytes ≡ Ok asked → g.queued ≡ None → detail ≢ 7 → (t : SessionState) (serving : Serving plan t fs) → serving.leading.serves ≡ ws → serving.rows ≡ old.serving.rows → serving.numbers ≡ old.serving.numbers →
       Same t (gs ++ g ∷ []) rs (os ++ record { gram = n; mail = error_of detail } ∷ [])
-  error_stays detail asked request nowhere seldom t serving same rows =
+  error_stays detail asked request nowhere seldom t serving same rows numbers =
       stays (record { gram = n; mail = error_of detail } ∷ []) (λ m less. error_quiet n m detail os less)
       (All-cons (λ (o : Owing). o.gram < length (gs ++ g ∷ [])) (record { gram = n; mail = error_of detail }) [] (let long = length-append gs (g ∷ []) in omega (arith, long)) (All-nil (λ (o : Owing). o.gram < length (gs ++ g ∷ []))))
-      t serving same rows (refused asked detail request nowhere seldom (error_alone n detail os old.owed))
+      t serving same rows numbers (refused asked detail request nowhere seldom (error_alone n detail os old.owed))
 
   -- IT IS PASSED ON: its mail waits at its slave
   module _ (slave key : ℕ) (mail : Mail) (on : AsksOn plan slave key mail s s' fs old.serving) (request : request_in g.bytes ≡ Ok mail) (there : g.queued ≡ Some slave) (free : IsFree key rs) where
@@ -194,18 +194,18 @@ module _ (plan : Scenario) (s s' : SessionState) (fs : List Exchanged) (gs : Lis
       whole = λ none.
           subst (λ z. AllBoth (GivesAll (os ++ []) (λ m. is_in m dones)) z old.came) (sym on.serves)
           (asked_give (os ++ []) (λ m. is_in m dones) slave k ws old.came (all_give gs rs os (os ++ []) (λ m. is_in m dones) quiet 0 ws old.came old.desk (old.whole none)));
-    }, ap switch_events on.rows)
+    }, ap switch_events on.rows, on.numbers)
 
   -- WHATEVER BECOMES OF IT
   pub answers_heard : IsPlan plan → s.homes ≡ map home_of plan.slaves → length rs < 64 → (rs' : List Request) (more : List Owing) → Judges s s' rs rs' (length gs) g.bytes g.queued more → Same s' (gs ++ g ∷ []) rs' (os ++ more)
   answers_heard is homes few rs' more (is_ignored i) =
       subst (λ z. Same z (gs ++ g ∷ []) rs' (os ++ more)) (sym i.session)
       (subst (λ z. Same s (gs ++ g ∷ []) z (os ++ more)) (sym i.requests) (subst (λ z. Same s (gs ++ g ∷ []) rs (os ++ z)) (sym i.nothing)
-      (stays [] (λ m less. nothing_quiet m os) (All-nil (λ (o : Owing). o.gram < length (gs ++ g ∷ []))) s old.serving refl refl (ignored i.fault i.request i.nowhere (nothing_quiet n os ∙ none_owed n os old.owed)))))
+      (stays [] (λ m less. nothing_quiet m os) (All-nil (λ (o : Owing). o.gram < length (gs ++ g ∷ []))) s old.serving refl refl refl (ignored i.fault i.request i.nowhere (nothing_quiet n os ∙ none_owed n os old.owed)))))
   answers_heard is homes few rs' more (is_refused f) =
       subst (λ z. Same z (gs ++ g ∷ []) rs' (os ++ more)) (sym f.session)
       (subst (λ z. Same s (gs ++ g ∷ []) z (os ++ more)) (sym f.requests) (subst (λ z. Same s (gs ++ g ∷ []) rs (os ++ z)) (sym f.error)
-      (error_stays f.detail f.mail f.request f.nowhere (f.seldom few) s old.serving refl refl)))
+      (error_stays f.detail f.mail f.request f.nowhere (f.seldom few) s old.serving refl refl refl)))
   answers_heard is homes few rs' more (too_many t) =
       absurd (let most = waits_least gs rs os 0 t.slave 64 ws old.came (ap (λ (l : List ℕ). slice_get l t.slave) old.serving.waiting ∙ t.full) old.desk in omega (arith, few, most))
   answers_heard is homes few rs' more (queues q) =

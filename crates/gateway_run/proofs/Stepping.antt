@@ -35,7 +35,7 @@ use Rattle.master_node.specs.of_segment_model.Ends.{Passing}
 use Rattle.run_book.specs.declared.book.GramIn.{GramIn}
 use Rattle.master_node.specs.Happened.{events_of as switch_events}
 use Rattle.run_record.specs.Served.{ServesOn, told_behind}
-use Rattle.run_record.specs.Session.{FrameEvents, SessionState}
+use Rattle.run_record.specs.Session.{FrameEvents, SessionState, numbers_over}
 use Rattle.segment_plan.specs.declared.plan.Scenario.{Scenario}
 use Rattle.gateway_run.specs.Account.{Owing, has_key, is_other, left_by, left_by_all, owed_by, owed_by_all, owed_to, owing, replied, waits_at}
 use Rattle.gateway_run.specs.Events.{events_of}
@@ -296,7 +296,7 @@ module _ (plan : Scenario) (s s' : SessionState) (fs : List Exchanged) (f : Exch
   fewer quiet = λ front back g e. quiet front (back ++ f ∷ []) g (ap (λ l. l ++ f ∷ []) e ∙ append_assoc front (g ∷ back) (f ∷ []))
 
   abbrev Behind : List Request → List Owing → List ℕ → Type 0
-  Behind qs ps ds = Rowed plan s' (fs ++ f ∷ []) gs qs ps ds (switch_events old.serving.rows ++ (happened.making ++ happened.behind))
+  Behind qs ps ds = Rowed plan s' (fs ++ f ∷ []) gs qs ps ds (switch_events old.serving.rows ++ (happened.making ++ happened.behind)) (old.serving.numbers ++ numbers_over (length fs) happened)
 
   behind : Behind rs2 (os ++ more) (dones ++ ended)
   behind = (record {
@@ -318,7 +318,7 @@ module _ (plan : Scenario) (s s' : SessionState) (fs : List Exchanged) (f : Exch
     whole = λ quiet.
         subst (λ z. AllBoth (GivesAll (os ++ more) (λ n. is_in n (dones ++ ended))) z turned.comes) (sym on.serves)
         (turned.whole (quiet fs [] f refl old.serving.leading.missed ws old.serving.leading.lives on.turns on.frame) (old.whole (fewer quiet)));
-  }, on.events)
+  }, on.events, on.numbers)
 
   -- WHAT IS LISTED of the frame is just what the lives tell
   abbrev es : List Event

@@ -19,7 +19,7 @@ use Rattle.run_record.specs.of_run_notes.Notes.{stations_of}
 use Rattle.run_record.specs.Replay.{behind, IsRecorded}
 use Rattle.gateway_run.specs.Events.{events_of}
 use Rattle.run_record.specs.Served.{ServingAsks, ServingBegins, ServingGoesOn}
-use Rattle.run_record.specs.Session.{FrameEvents, SessionState, Asks, IsDone, first_session, has_live}
+use Rattle.run_record.specs.Session.{FrameEvents, SessionState, Asks, IsDone, first_session, has_live, numbers_over}
 use Rattle.run_record.specs.of_eoe_switch.declared.switching.SwitchEvent.{SwitchEvent}
 use Rattle.gateway_run.specs.declared.desk.Request.{Request}
 
@@ -194,6 +194,12 @@ abbrev pub happened_in : (plan : Scenario) (count : ℕ) (s : SessionState) (fs 
 happened_in plan count _ _ _ _ _ (Course.begins s first serves) = []
 happened_in plan count _ _ _ _ _ (Course.hears s s' fs gs g rs rs' os more c at few judges) = happened_in plan count s fs gs rs os c
 happened_in plan count _ _ _ _ _ (Course.steps s s' fs f gs rs os c m) = happened_in plan count s fs gs rs os c ++ (m.happened.making ++ m.happened.behind)
+
+-- and each of that with its number: how many frames had been sent when it came
+abbrev pub numbers_in : (plan : Scenario) (count : ℕ) (s : SessionState) (fs : List SentFrame) (gs : List GramIn) (rs : List Request) (os : List Owing) → Course plan count s fs gs rs os → List ℕ
+numbers_in plan count _ _ _ _ _ (Course.begins s first serves) = []
+numbers_in plan count _ _ _ _ _ (Course.hears s s' fs gs g rs rs' os more c at few judges) = numbers_in plan count s fs gs rs os c
+numbers_in plan count _ _ _ _ _ (Course.steps s s' fs f gs rs os c m) = numbers_in plan count s fs gs rs os c ++ numbers_over (length fs) m.happened
 
 -- A MAIL AS IT IS SENT: to the peer of the datagram that it answers, with that datagram's station and counter
 pub record Spells (heard : List HeardGram) (o : Owing) (r : GramOut) : Type 0 where

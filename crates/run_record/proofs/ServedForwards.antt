@@ -30,7 +30,8 @@ use Rattle.master_node.specs.of_life_runs.Led.{Exchanged, Leads, Turn, gives_up_
 use Rattle.master_node.specs.of_master_tour.Goes.{holds_at}
 use Rattle.master_node.specs.of_master_tour.Sizes.{frame_size}
 use Rattle.master_node.specs.of_segment_model.Returned.{Returns}
-use Rattle.packets_heard.proofs.Carries.{carries_all, serves_asked}
+use Rattle.packets_heard.proofs.Carries.{carries_all, events_making, serves_asked}
+use Rattle.packets_heard.proofs.PacketsRuns.{begun_on}
 use Rattle.packets_heard.proofs.Steps.{at_switch, before_is, made_is}
 use Rattle.packets_heard.proofs.Unfinished.{joined_so, served_under_way}
 use Rattle.packets_heard.specs.Heard.{Joined, joined_none, mails_by}
@@ -42,7 +43,8 @@ use Rattle.run_record.proofs.Forwards.{as_many}
 use Rattle.run_record.proofs.FrameLists.{FrameLists, frame_begins, frame_lists, ports_stay}
 use Rattle.run_record.proofs.Leads.{none_unfinished}
 use Rattle.run_record.proofs.ServedGaves.{serve_leads}
-use Rattle.run_record.specs.Served.{IsServedForwarded, ServeTo}
+use Rattle.run_record.specs.Served.{IsServedForwarded, ServeTo, ServedNumbered}
+use Rattle.run_record.specs.Session.{FrameEvents, numbers_over}
 use Rattle.segment_plan.specs.declared.plan.Scenario.{Scenario}
 use Rattle.segment_ring.specs.declared.wire.Fate.TheVariants as Fates
 use Rattle.served_runs.specs.Served.{Keyed, Serves, ServedTurn, IsServedFrame, IsServedLed, MayAsk, all_serve, asked_at, served_behind}
@@ -162,6 +164,21 @@ module _ (plan : Scenario) (fs : List Exchanged) (missed : ℕ) (ws : List Serve
         (frame_begins plan f us behind js m1 m2 lists (λ old. AreServedBegun ports many lives old) (events_of rows) w.begun begins_so stands);
     happened = subst (λ z. HasHappened many plan.host z m2.lan) (append_assoc rows m1.lan.happened m2.lan.happened) (x.tells many plan.host (rows ++ m1.lan.happened) made);
   }
+
+  -- EACH EVENT HAS ITS NUMBER
+  abbrev happened : FrameEvents
+  happened = record { making = events_of m1.lan.happened; behind = events_of m2.lan.happened }
+
+  pub served_numbered_on : (ns : List ℕ) → ServedNumbered ports many lives (events_of rows) ns → ServedNumbered ports many (IsServedLed.on fs missed ws f vs lives frame) (events_of more) (ns ++ numbers_over (length fs) happened)
+  unfolding frame_begins begun_on
+  served_numbered_on ns old = subst (λ (z : List SwitchEvent). ServedNumbered ports many (IsServedLed.on fs missed ws f vs lives frame) z (ns ++ numbers_over (length fs) happened)) (sym served_events) (record {
+    step = frame_begins plan f us behind js m1 m2 lists (λ old. AreServedBegun ports many lives old) (events_of rows) w.begun begins_so stands;
+    listed_old = w.listed;
+    numbers = ns;
+    was = old;
+    only = events_making m1.lan.happened x.making.1;
+    counted = refl;
+  })
 
   -- WHAT HAPPENED AT THE SWITCH while the frame was made, and behind it
   pub happened_so : (at : AtSwitch plan f us (events_of rows) (events_of more)) × (at.making ≡ events_of m1.lan.happened)

@@ -56,13 +56,13 @@ use Rattle.packets_heard.specs.Recalled.{State}
 use Rattle.packets_heard.specs.Served.{IsTourServed, serves_behind}
 use Rattle.packets_heard.specs.Toured.{tour_behind}
 use Rattle.run_record.specs.Served.{ServedLeading, ServedTouredTo, Serving, ServesOn, ServingAsks, ServingGoesOn, TellsBehind, as_asked, served_heard}
-use Rattle.run_record.specs.Session.{FrameEvents, IsDone, SessionState, asked_mail, asked_more, has_live}
+use Rattle.run_record.specs.Session.{FrameEvents, IsDone, SessionState, asked_mail, asked_more, has_live, numbers_over}
 use Rattle.run_record.proofs.Fits.{has_room, home_fits}
 use Rattle.run_record.proofs.Hearings.{heard_by}
 use Rattle.run_record.proofs.Leads.{first_gaves}
 use Rattle.run_record.proofs.Nexts.{next_frame}
 use Rattle.run_record.proofs.Noted.{GivesOne, noted_by, noted_now}
-use Rattle.run_record.proofs.ServedForwards.{FrameTells, served_asked, served_events, served_first, served_forwarded_on, served_stays}
+use Rattle.run_record.proofs.ServedForwards.{FrameTells, served_asked, served_events, served_first, served_forwarded_on, served_numbered_on, served_stays}
 use Rattle.run_record.proofs.ServedGaves.{all_give, has_lives, serve_leads, served_counted}
 use Rattle.run_record.proofs.ServedRecalls.{Recalled, recalled_asked, recalled_at, recalled_first, recalled_stays}
 use Rattle.run_record.proofs.ServedTold.{tells_frame}
@@ -122,6 +122,8 @@ serving_begins plan s notes shown none still tour ports joined happened knows ri
       waiting = first_same left_of 0 (λ pace a. refl) plan.paces plan.services 0 plan.slaves ∙ sym still;
       rows = [];
       forwarded = served_first plan s.master ports joined happened;
+      numbers = [];
+      numbered = (refl, refl);
       remembers = r.1;
     }
 
@@ -185,6 +187,8 @@ one_asked s s' slave key mail served apart tour lan ring asked waiting notes = �
         asked = asked_rows key slave mail more.0 l.serves more.1 ∙ ap (λ z. asked_more z slave (asked_mail key mail)) old.asked ∙ sym asked;
         waiting = shown_wait lens plan.recover plan.retry l.missed (length fs) s'.master (asked_at slave more.0 l.serves) more.3 ∙ sym waiting;
         rows = old.rows;
+        numbers = old.numbers;
+        numbered = old.numbered;
         forwarded = served_asked plan fs l.missed l.serves l.lives slave more.0 more.2 s'.master old.rows (leads_same (λ a. a) slave more.0 l.serves)
             (served_stays plan fs l.missed l.serves l.lives s.master s'.master old.rows tour lan old.forwarded);
         remembers = r.1;
@@ -192,6 +196,7 @@ one_asked s s' slave key mail served apart tour lan ring asked waiting notes = �
       missed = refl;
       serves = refl;
       rows = refl;
+      numbers = refl;
     }
 
 pub serving_asks : (t s s' : SessionState) (slave key : ℕ) (mail : Mail) → t ≡ s →
@@ -238,12 +243,15 @@ none_asked s s' slave key mail tour lan ring number stays asked waiting notes = 
         asked = old.asked ∙ sym asked;
         waiting = shown_wait lens plan.recover plan.retry l.missed (length fs) s'.master l.serves shown ∙ sym waiting;
         rows = old.rows;
+        numbers = old.numbers;
+        numbered = old.numbered;
         forwarded = served_stays plan fs l.missed l.serves l.lives s.master s'.master old.rows tour lan old.forwarded;
         remembers = r.1;
       };
       missed = refl;
       serves = refl;
       rows = refl;
+      numbers = refl;
     }
 
 pub serving_stays : (t s s' : SessionState) (slave key : ℕ) (mail : Mail) → t ≡ s → s'.master.tour ≡ t.master.tour → s'.master.lan ≡ t.master.lan → s'.ring ≡ t.ring → s'.master.made ≡ t.master.made → StepsAt (λ p q. q ≡ p) slave t.master.posts.items s'.master.posts.items →
@@ -352,6 +360,8 @@ module _ (s s' : SessionState) (m : MasterNode) (f : Exchanged) (result : Next) 
     asked = behind_mails lens plan.recover plan.retry gives (length fs) f made.0 ∙ turned_mails lens (length fs) made.1.datagrams l.serves made.0 made.1.each ∙ old.asked ∙ sym asked;
     waiting = shown_wait lens plan.recover plan.retry missed (suc (length fs)) s'.master behind shown ∙ sym waiting;
     rows = old.rows ++ (m.lan.happened ++ s'.master.lan.happened);
+    numbers = old.numbers ++ numbers_over (length fs) happened;
+    numbered = served_numbered_on plan fs l.missed l.serves l.lives f made.0 made.1 s.master m s'.master made.2 made.4 returned switch old.rows old.forwarded old.numbers old.numbered;
     forwarded = served_forwarded_on plan fs l.missed l.serves l.lives f made.0 made.1 s.master m s'.master made.2 made.4 returned switch old.rows old.forwarded;
     remembers = remembered.1;
   }
@@ -366,6 +376,7 @@ module _ (s s' : SessionState) (m : MasterNode) (f : Exchanged) (result : Next) 
     missed = refl;
     serves = refl;
     events = served_events plan fs l.missed l.serves l.lives f made.0 made.1 s.master m s'.master made.2 made.4 returned switch old.rows old.forwarded;
+    numbers = refl;
     tells = tells_frame lens plan.recover plan.retry l.missed (length fs) (λ k. forwards_at s.master.posts.items k) m s'.master f l.serves behind made.0 made.3 made.2 whole (told lens plan.recover plan.retry l.missed (length fs) made.0 f refl refl made.2 returned);
   }
 

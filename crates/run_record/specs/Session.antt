@@ -123,10 +123,14 @@ pub record FrameEvents : Type 0 where
   pub making : List SwitchEvent
   pub behind : List SwitchEvent
 
--- A BOOK HAS JUST THESE EVENTS MORE, each with its number: how many frames had been sent when it came
+-- the numbers of that, where so many frames were sent before: how many had been when each event came
+abbrev pub numbers_over : ℕ → FrameEvents → List ℕ
+numbers_over frame happened = each_with frame happened.making ++ each_with (suc frame) happened.behind
+
+-- A BOOK HAS JUST THESE EVENTS MORE, each with its number
 pub record IsGrown (frame : ℕ) (happened : FrameEvents) (b b' : Book) : Type 0 where
   pub switch : b'.switch ≡ b.switch ++ (happened.making ++ happened.behind)
-  pub switched : b'.switched ≡ b.switched ++ (each_with frame happened.making ++ each_with (suc frame) happened.behind)
+  pub switched : b'.switched ≡ b.switched ++ numbers_over frame happened
 
 -- where the packets of the book are those of the master's switch
 abbrev pub SwitchGrows : SessionState → Book → FrameEvents → Book → Type 0
