@@ -5,8 +5,8 @@ use Rattle.slab.specs.Slab.{slab_len}
 use Rattle.gateway_run.specs.declared.stop.Stop.{Stop}
 use Rattle.gateway_run.specs.declared.stop.Stop.TheVariants as stops
 use Rattle.std.proofs.lemmas.List.Elements.{All-nil}
-use Rattle.master_node.specs.Happened.{HasHappened}
-use Rattle.master_node.specs.Ports.{ports_of}
+use Rattle.master_node.specs.Happened.{HasHappened, events_of}
+use Rattle.master_node.specs.Ports.{ports_behind, ports_of}
 use Rattle.segment_plan.specs.Sound.{IsPlan}
 use Rattle.segment_plan.specs.Bound.{bound_of}
 use Rattle.segment_plan.specs.declared.plan.Scenario.{Scenario}
@@ -17,31 +17,37 @@ use Rattle.run_book.specs.declared.book.Ending.TheVariants as endings
 use Rattle.run_book.specs.declared.book.GramIn.{GramIn}
 use Rattle.run_book.specs.declared.book.GramOut.{GramOut}
 use Rattle.run_record.specs.Led.{LeavesNone, exchanged}
-use Rattle.run_record.specs.Served.{ServingBegins, ServingRests}
+use Rattle.run_record.specs.Served.{ServedNumbered, ServingBegins, ServingRests}
 use Rattle.run_record.specs.Session.{are_at_rest, first_session, session_rows}
+use Rattle.run_record.specs.of_eoe_switch.declared.switching.SwitchEvent.{SwitchEvent}
+use Rattle.run_record.specs.of_packets_heard.Servings.{AreServedBegun, ServedListed}
+use Rattle.run_record.specs.of_run_notes.Heard.{emergencies_in}
 use Rattle.run_record.specs.of_run_notes.Slaves.{home_of}
 use Rattle.run_record.specs.of_run_notes.Switched.{SameSwitch}
 use Rattle.run_record.specs.Ran.{HasSent, EndsSo, StopsSo, StopsAs}
 use Rattle.gateway_run.proofs.Room.{small_budget}
 use Rattle.run_record.proofs.Underway.{begun, has_frames, ended, many as many_sent}
+use Rattle.run_record.proofs.of_run_notes.Heard.{heard_of_rows}
 use Rattle.run_record.proofs.of_run_notes.Switched.{has_packets}
 use Rattle.gateway_run.specs.Heard.{heard_as, AreHeard, AreSent, AreSentBut, IsOwed, IsRightly}
-use Rattle.gateway_run.specs.Account.{Course, Course.begins}
+use Rattle.gateway_run.specs.Account.{Course, Course.begins, happened_in, numbers_in}
 use Rattle.gateway_run.specs.Desk.{HasNone, IsOpen, AreApart}
 use Rattle.gateway_run.specs.Replies.{Answers, dones_of}
 use Rattle.gateway_run.specs.Serving.{Told, IsOn, IsServing, IsFaulted, Goes, can_hear}
 use Rattle.gateway_run.specs.Served.{HasGrams, HasAccount, IsBroken, IsServed}
 use Rattle.gateway_run.specs.declared.turn.Serving.{Serving}
-use Rattle.gateway_run.proofs.Answering.{course_answers}
+use Rattle.gateway_run.proofs.Answering.{course_rowed}
 use Rattle.gateway_run.proofs.Dones.{all_done, none_unfinished}
 use Rattle.gateway_run.proofs.Rested.{all_rest, no_packet}
 use Rattle.gateway_run.proofs.Strays.{course_falls, course_strays}
-use Rattle.gateway_run.proofs.Turns.{heard_none, sent_none, course_same, spelled_same}
+use Rattle.gateway_run.proofs.Rowed.{Rowed}
+use Rattle.gateway_run.proofs.Turns.{CourseTo, heard_none, sent_none, course_same, spelled_same}
 
 -- before the first turn
 pub first_serving : (plan : Scenario) (count : ℕ) (now : Told) (v : Serving) (b : Book) → v.session ≡ first_session plan count v.session.master → ServingBegins plan v.session → HasHappened (ports_of plan.slaves) plan.host [] v.session.master.lan → HasNone v.desk → v.desk.outbox.items ≡ [] → v.count ≡ count → v.over ≡ false → IsNew b → count < 4294967296 → IsPlan plan →
     IsServing plan count now now v b
-first_serving plan count now v b session serves switch none outbox counts over new fits sound = let requests = none.0 in record {
+first_serving plan count now v b session serves switch none outbox counts over new fits sound = let requests = none.0 in
+    let c = course_same plan count v.session v.session [] b.frames [] b.grams [] v.desk.requests.items [] [] b.switch [] b.switched refl new.frames new.grams requests new.switch new.switched (begins v.session session serves, refl, refl) in record {
   on = record {
     underway = begun plan count v.session b session new switch;
     counts = counts;
@@ -58,7 +64,9 @@ first_serving plan count now v b session serves switch none outbox counts over n
     answered = subst (All (IsOwed (map heard_as b.grams))) (sym new.replies) (All-nil (IsOwed (map heard_as b.grams)));
     judged = subst (All (IsRightly (map home_of plan.slaves))) (sym new.grams) (All-nil (IsRightly (map home_of plan.slaves)));
     owed = [];
-    course = course_same plan count v.session v.session [] b.frames [] b.grams [] v.desk.requests.items [] refl new.frames new.grams requests (begins v.session session serves);
+    course = c.0;
+    switch = c.1;
+    switched = c.2;
     spelled = spelled_same (map heard_as b.grams) (map heard_as b.grams) [] [] (b.replies ++ v.desk.outbox.items) refl (ap (λ (l : List GramOut). l ++ v.desk.outbox.items) new.replies ∙ outbox) tt;
   };
   heard = subst (AreHeard now.heard now.heard) (sym new.grams) (heard_none now.heard);
@@ -114,6 +122,11 @@ module _ (plan : Scenario) (count : ℕ) (first now : Told) (v : Serving) (b b' 
     none = λ none. none_unfinished plan count v b on (rests none).0;
     done = λ none. all_done plan v.session (map exchanged b'.frames) b'.grams v.desk.requests.items on.owed (dones_of plan count v.session b'.frames b'.grams v.desk.requests.items on.owed course') answers' (none_unfinished plan count v b on (rests none).0);
     rows = rows;
+    heard = ap emergencies_in rows ∙ heard_of_rows v.session.recover v.session.ring.nodes v.session.notes many ∙ answers'.serving.heard;
+    listed = subst (λ (es : List SwitchEvent). ServedListed (ports_behind 0 plan.slaves) answers'.serving.leading.lives es) booked answers'.serving.forwarded.listed;
+    begun = subst (λ (es : List SwitchEvent). AreServedBegun (ports_behind 0 plan.slaves) (ports_of plan.slaves) answers'.serving.leading.lives es) booked answers'.serving.forwarded.begun;
+    numbered = subst (λ (ns : List ℕ). ServedNumbered (ports_behind 0 plan.slaves) (ports_of plan.slaves) answers'.serving.leading.lives b'.switch ns) numbered'
+        (subst (λ (es : List SwitchEvent). ServedNumbered (ports_behind 0 plan.slaves) (ports_of plan.slaves) answers'.serving.leading.lives es answers'.serving.numbers) booked answers'.serving.numbered);
     rests = λ none. all_rest plan count v.session b b' on.underway answers'.serving (rests none).0 rows many (rests none).1;
     packets = has_packets plan v.session.ports v.session.ring.number v.session.master.lan b b' on.underway.ports (sym (ap length frames ∙ many_sent plan count v.session b on.underway)) kept on.underway.switched;
     come = λ none. no_packet plan count v.session b b' on.underway answers'.serving (rests none).0 kept;
@@ -122,11 +135,25 @@ module _ (plan : Scenario) (count : ℕ) (first now : Told) (v : Serving) (b b' 
     all = all;
   }
     where
+      same : CourseTo plan count v.session b'.frames b'.grams v.desk.requests.items on.owed b'.switch b'.switched
+      same = course_same plan count v.session v.session b.frames b'.frames b.grams b'.grams v.desk.requests.items v.desk.requests.items on.owed b.switch b'.switch b.switched b'.switched refl frames grams refl kept.switch kept.switched (on.course, on.switch, on.switched)
+
       course' : Course plan count v.session b'.frames b'.grams v.desk.requests.items on.owed
-      course' = course_same plan count v.session v.session b.frames b'.frames b.grams b'.grams v.desk.requests.items v.desk.requests.items on.owed refl frames grams refl on.course
+      course' = same.0
+
+      rowed : Rowed plan v.session (map exchanged b'.frames) b'.grams v.desk.requests.items on.owed (dones_of plan count v.session b'.frames b'.grams v.desk.requests.items on.owed course') (happened_in plan count v.session b'.frames b'.grams v.desk.requests.items on.owed course')
+          (numbers_in plan count v.session b'.frames b'.grams v.desk.requests.items on.owed course')
+      rowed = course_rowed plan count on.is_plan v.session b'.frames b'.grams v.desk.requests.items on.owed course'
 
       answers' : Answers plan v.session (map exchanged b'.frames) b'.grams v.desk.requests.items on.owed (dones_of plan count v.session b'.frames b'.grams v.desk.requests.items on.owed course')
-      answers' = course_answers plan count on.is_plan v.session b'.frames b'.grams v.desk.requests.items on.owed course'
+      answers' = rowed.0
+
+      -- the events of the book are those of the lives
+      booked : events_of answers'.serving.rows ≡ b'.switch
+      booked = rowed.1 ∙ same.1
+
+      numbered' : answers'.serving.numbers ≡ b'.switched
+      numbered' = rowed.2 ∙ same.2
 
   -- a serving whose port failed
   faulted_so : (result : Ending) → (result ≢ endings.NoMemory → b'.slaves ≡ session_rows v.session) → (result ≡ endings.PortFault) ⊎ (result ≡ endings.NoMemory) → IsBroken first now b' → IsServed plan count first now b' result

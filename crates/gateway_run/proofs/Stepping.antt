@@ -33,8 +33,9 @@ use Rattle.master_node.specs.of_master_tour.Made.{is_in}
 use Rattle.master_node.specs.of_master_tour.declared.stop.Stop.{Stop}
 use Rattle.master_node.specs.of_segment_model.Ends.{Passing}
 use Rattle.run_book.specs.declared.book.GramIn.{GramIn}
+use Rattle.master_node.specs.Happened.{events_of as switch_events}
 use Rattle.run_record.specs.Served.{ServesOn, told_behind}
-use Rattle.run_record.specs.Session.{SessionState}
+use Rattle.run_record.specs.Session.{FrameEvents, SessionState, numbers_over}
 use Rattle.segment_plan.specs.declared.plan.Scenario.{Scenario}
 use Rattle.gateway_run.specs.Account.{Owing, has_key, is_other, left_by, left_by_all, owed_by, owed_by_all, owed_to, owing, replied, waits_at}
 use Rattle.gateway_run.specs.Events.{events_of}
@@ -43,6 +44,7 @@ use Rattle.gateway_run.specs.Replies.{AllDesk, AllGot, Answers, GivesAll, Got, G
 use Rattle.gateway_run.specs.declared.desk.Request.{Request}
 use Rattle.gateway_run.proofs.Comes.{known_at}
 use Rattle.gateway_run.proofs.Rooms.{owed_append}
+use Rattle.gateway_run.proofs.Rowed.{Rowed}
 use Rattle.gateway_run.proofs.Rounds.{in_both}
 use Rattle.gateway_run.proofs.Tolds.{began_ends, began_owes, begins_give, known_done, known_left, known_owed}
 use Rattle.gateway_run.proofs.Turnings as Turnings
@@ -201,7 +203,8 @@ no_more n os es rs off =
     ∙ append-nil (owed_for n os)
 
 -- EACH DATAGRAM behind the frame
-module _ (plan : Scenario) (s s' : SessionState) (fs : List Exchanged) (f : Exchanged) (gs : List GramIn) (rs : List Request) (os : List Owing) (dones : List ℕ) (old : Answers plan s fs gs rs os dones) (on : ServesOn plan s s' fs f old.serving) where
+module _ (plan : Scenario) (s s' : SessionState) (fs : List Exchanged) (f : Exchanged) (gs : List GramIn) (rs : List Request) (os : List Owing) (dones : List ℕ) (old : Answers plan s fs gs rs os dones) (happened : FrameEvents)
+    (on : ServesOn plan s s' happened fs f old.serving) where
   abbrev lens : ℕ → Lens
   lens = lens_of plan.slaves
 
@@ -293,10 +296,10 @@ module _ (plan : Scenario) (s s' : SessionState) (fs : List Exchanged) (f : Exch
   fewer quiet = λ front back g e. quiet front (back ++ f ∷ []) g (ap (λ l. l ++ f ∷ []) e ∙ append_assoc front (g ∷ back) (f ∷ []))
 
   abbrev Behind : List Request → List Owing → List ℕ → Type 0
-  Behind qs ps ds = Answers plan s' (fs ++ f ∷ []) gs qs ps ds
+  Behind qs ps ds = Rowed plan s' (fs ++ f ∷ []) gs qs ps ds (switch_events old.serving.rows ++ (happened.making ++ happened.behind)) (old.serving.numbers ++ numbers_over (length fs) happened)
 
   behind : Behind rs2 (os ++ more) (dones ++ ended)
-  behind = record {
+  behind = (record {
     serving = on.new;
     came = turned.comes;
     desk = subst (λ z. AllDesk gs rs2 (os ++ more) 0 z turned.comes) (sym on.serves) turned.desks;
@@ -315,7 +318,7 @@ module _ (plan : Scenario) (s s' : SessionState) (fs : List Exchanged) (f : Exch
     whole = λ quiet.
         subst (λ z. AllBoth (GivesAll (os ++ more) (λ n. is_in n (dones ++ ended))) z turned.comes) (sym on.serves)
         (turned.whole (quiet fs [] f refl old.serving.leading.missed ws old.serving.leading.lives on.turns on.frame) (old.whole (fewer quiet)));
-  }
+  }, on.events, on.numbers)
 
   -- WHAT IS LISTED of the frame is just what the lives tell
   abbrev es : List Event

@@ -8,8 +8,7 @@ use Rattle.eoe_switch.specs.declared.switching.SwitchEvent.{SwitchEvent}
 use Rattle.master_node.specs.of_frame_view.View.{Lens}
 use Rattle.master_node.specs.of_frame_view.Seen.{seen}
 use Rattle.master_node.specs.of_life_frames.Shares.{AllBoth}
-use Rattle.life_heard.proofs.Heards.{loses}
-use Rattle.life_heard.specs.Heard.{AllNoted, brought_by, heard_in, heard_on}
+use Rattle.life_heard.specs.Heard.{heard_in}
 use Rattle.master_node.specs.of_life_runs.First.{lens_of, script_for, first_leads, leads_from}
 use Rattle.master_node.specs.of_life_runs.Led.{Exchanged, Leads, Turn, AllTurn, IsLed, IsLedFrame, IsTurn, life_behind, led_behind, gives_up_at, missed_behind, new_leads}
 use Rattle.master_node.specs.of_life_model.Lives.{Spot}
@@ -82,6 +81,7 @@ use Rattle.script_runs.proofs.Turns.{turns_so}
 use Rattle.run_record.proofs.Befores.{AllBefore, turns_before, all_before}
 use Rattle.run_record.proofs.Began.{packets_first, packets_on}
 use Rattle.run_record.proofs.Forwards.{forwarded_on}
+use Rattle.run_record.proofs.Hearings.{heard_by}
 use Rattle.run_record.proofs.Nexts.{next_frame}
 use Rattle.run_record.proofs.Noted.{GivesOne, lost_gives, next_gives, noted_by, noted_now, pass_gives}
 use Rattle.run_notes.proofs.Heard.{first_heard}
@@ -265,14 +265,6 @@ module _ (m0 m1 m2 : MasterNode) (f : Exchanged) (result : Next)
           (subst (λ (k : Fate). AllBoth (λ a b. LosesSo (length fs) a b) (map turned_lead made.0) (map (λ u. led_by lens plan.recover plan.retry gives (length fs) f k u) made.0)) (sym e) (all_lose lens plan.recover plan.retry gives (length fs) f after made.0 stood_before))
           turned_reports
 
-      heard_by : (fate : Fate) → f.fate ≡ fate → AllNoted (heard_on (λ u. brought_by lens (length fs) f fate u) (heard_in l.lives) made.0) (emergencies_noted r'.notes)
-      heard_by Fates.Pass e =
-          let by : HeardBy Fates.Pass (length fs) m2 r r' = subst (λ (n : ℕ). HeardBy Fates.Pass n m2 r r') (sym counts) (subst (λ (k : Fate). HeardBy k frame m2 r r') e heard_behind) in
-          by made.0 (seen lens f.back) (heard_in l.lives) (brings e made.0 made.1 made.2) (heard_before ∙ l.heard)
-      heard_by (Fates.Lost after) e =
-          let same : emergencies_noted r'.notes ≡ emergencies_noted r.notes = subst (λ (k : Fate). HeardBy k frame m2 r r') e heard_behind in
-          loses lens (length fs) after f (heard_in l.lives) made.0 (emergencies_noted r'.notes) (same ∙ heard_before ∙ l.heard)
-
       pub leads_on : Leading plan m2 r'.notes (fs ++ f ∷ [])
       leads_on = record {
         missed = missed_behind lens plan.recover plan.retry f.fate l.missed;
@@ -281,7 +273,7 @@ module _ (m0 m1 m2 : MasterNode) (f : Exchanged) (result : Next)
         shows = shown;
         gave = given;
         told = told_by f.fate refl;
-        heard = heard_by f.fate refl;
+        heard = heard_by lens (length fs) f m2 r r' (heard_in l.lives) made.0 (heard_before ∙ l.heard) (λ pass. brings pass made.0 made.1 made.2) (subst (λ (n : ℕ). HeardBy f.fate n m2 r r') (sym counts) heard_behind);
         toured = subst (λ (t : Tour). TouredTo plan (fs ++ f ∷ []) t (leads made.0)) (sym tour_on) toured_on;
       }
 

@@ -11,6 +11,7 @@ pub mod FrameLists
 pub mod Forwards
 pub mod Gones
 pub mod Heads
+pub mod Hearings
 pub mod Leads
 pub mod Nexts
 pub mod NoPackets

@@ -4,7 +4,9 @@ use Rattle.std.specs.Prelude.{◌↔◌, replicate}
 use Rattle.std.proofs.lemmas.List.{length-map}
 use Rattle.datagrams.specs.Datagram as Raw
 use Rattle.datagrams.specs.Frame.{chained}
+use Rattle.life_heard.specs.Heard.{AllNoted, emergencies_of, heard_none}
 use Rattle.mailbox_mail.specs.declared.mail.Mail.{Mail}
+use Rattle.master_node.proofs.OnFrames.{served_way}
 use Rattle.master_node.proofs.Servings.{keyed, leads_same}
 use Rattle.master_node.specs.Events.{ServedBegin}
 use Rattle.master_node.specs.Eager.{recalls}
@@ -18,7 +20,7 @@ use Rattle.master_node.specs.Origins.{forwards_at}
 use Rattle.master_node.specs.Ports.{ports_behind, ports_of}
 use Rattle.master_node.specs.Recalled.{AllKnow}
 use Rattle.master_node.specs.Rooms.{FitAgain}
-use Rattle.master_node.specs.Serving.{FitsAt, IsAsked, IsServed, ServedShows, ServedUnder, run_lead}
+use Rattle.master_node.specs.Serving.{FitsAt, IsAsked, IsServed, ServedShows, ServedUnder, run_lead, run_turn}
 use Rattle.master_node.specs.Shows.{GoesOn, lived_of}
 use Rattle.master_node.specs.Told.{HasLives}
 use Rattle.master_node.specs.Toured.{tour_of}
@@ -42,6 +44,8 @@ use Rattle.master_node.specs.of_master_tour.declared.stop.Stop.{Stop}
 use Rattle.master_node.specs.of_segment_model.Returned.{Returns}
 use Rattle.ring_returns.proofs.Returned as Returned
 use Rattle.run_book.specs.declared.book.SentFrame.{SentFrame}
+use Rattle.run_notes.proofs.Heard.{first_heard}
+use Rattle.run_notes.specs.Heard.{HeardBy, emergencies_noted}
 use Rattle.run_notes.specs.Slaves.{GaveBy, first_notes, gaves_noted}
 use Rattle.run_notes.specs.declared.standing.AskedMail.{AskedMail}
 use Rattle.run_notes.specs.declared.standing.Log.{Log}
@@ -51,13 +55,14 @@ use Rattle.run_record.specs.Replay.{IsRecorded, behind as behind_ring, first_rin
 use Rattle.packets_heard.specs.Recalled.{State}
 use Rattle.packets_heard.specs.Served.{IsTourServed, serves_behind}
 use Rattle.packets_heard.specs.Toured.{tour_behind}
-use Rattle.run_record.specs.Served.{ServedLeading, ServedTouredTo, Serving, ServesOn, ServingAsks, ServingGoesOn, TellsBehind, as_asked}
-use Rattle.run_record.specs.Session.{IsDone, SessionState, asked_mail, asked_more, has_live}
+use Rattle.run_record.specs.Served.{ServedLeading, ServedTouredTo, Serving, ServesOn, ServingAsks, ServingGoesOn, TellsBehind, as_asked, served_heard}
+use Rattle.run_record.specs.Session.{FrameEvents, IsDone, SessionState, asked_mail, asked_more, has_live, numbers_over}
 use Rattle.run_record.proofs.Fits.{has_room, home_fits}
+use Rattle.run_record.proofs.Hearings.{heard_by}
 use Rattle.run_record.proofs.Leads.{first_gaves}
 use Rattle.run_record.proofs.Nexts.{next_frame}
 use Rattle.run_record.proofs.Noted.{GivesOne, noted_by, noted_now}
-use Rattle.run_record.proofs.ServedForwards.{FrameTells, served_asked, served_first, served_forwarded_on, served_stays}
+use Rattle.run_record.proofs.ServedForwards.{FrameTells, served_asked, served_events, served_first, served_forwarded_on, served_numbered_on, served_stays}
 use Rattle.run_record.proofs.ServedGaves.{all_give, has_lives, serve_leads, served_counted}
 use Rattle.run_record.proofs.ServedRecalls.{Recalled, recalled_asked, recalled_at, recalled_first, recalled_stays}
 use Rattle.run_record.proofs.ServedTold.{tells_frame}
@@ -112,10 +117,13 @@ serving_begins plan s notes shown none still tour ports joined happened knows ri
         toured = r.0;
       };
       gave = ap gaves_noted notes ∙ first_gaves plan.services 0 0 plan.slaves ∙ ap (map gave_of) (sym (serve_leads plan.paces (first_leads plan)));
+      heard = ap emergencies_noted notes ∙ first_heard plan.services 0 0 plan.slaves ∙ ap (λ (as' : List Leads). map emergencies_of (heard_none as')) (sym (serve_leads plan.paces (first_leads plan)));
       asked = first_same mails_of [] (λ pace a. refl) plan.paces plan.services 0 plan.slaves ∙ sym none;
       waiting = first_same left_of 0 (λ pace a. refl) plan.paces plan.services 0 plan.slaves ∙ sym still;
       rows = [];
       forwarded = served_first plan s.master ports joined happened;
+      numbers = [];
+      numbered = (refl, refl);
       remembers = r.1;
     }
 
@@ -175,15 +183,20 @@ one_asked s s' slave key mail served apart tour lan ring asked waiting notes = �
           toured = r.0;
         };
         gave = ap gaves_noted notes ∙ old.gave ∙ ap (map gave_of) (sym (leads_same (λ a. a) slave more.0 l.serves));
+        heard = ap emergencies_noted notes ∙ old.heard;
         asked = asked_rows key slave mail more.0 l.serves more.1 ∙ ap (λ z. asked_more z slave (asked_mail key mail)) old.asked ∙ sym asked;
         waiting = shown_wait lens plan.recover plan.retry l.missed (length fs) s'.master (asked_at slave more.0 l.serves) more.3 ∙ sym waiting;
         rows = old.rows;
+        numbers = old.numbers;
+        numbered = old.numbered;
         forwarded = served_asked plan fs l.missed l.serves l.lives slave more.0 more.2 s'.master old.rows (leads_same (λ a. a) slave more.0 l.serves)
             (served_stays plan fs l.missed l.serves l.lives s.master s'.master old.rows tour lan old.forwarded);
         remembers = r.1;
       };
       missed = refl;
       serves = refl;
+      rows = refl;
+      numbers = refl;
     }
 
 pub serving_asks : (t s s' : SessionState) (slave key : ℕ) (mail : Mail) → t ≡ s →
@@ -226,14 +239,19 @@ none_asked s s' slave key mail tour lan ring number stays asked waiting notes = 
       new = record {
         leading = record { missed = l.missed; serves = l.serves; lives = l.lives; shows = shown; toured = r.0 };
         gave = ap gaves_noted notes ∙ old.gave;
+        heard = ap emergencies_noted notes ∙ old.heard;
         asked = old.asked ∙ sym asked;
         waiting = shown_wait lens plan.recover plan.retry l.missed (length fs) s'.master l.serves shown ∙ sym waiting;
         rows = old.rows;
+        numbers = old.numbers;
+        numbered = old.numbered;
         forwarded = served_stays plan fs l.missed l.serves l.lives s.master s'.master old.rows tour lan old.forwarded;
         remembers = r.1;
       };
       missed = refl;
       serves = refl;
+      rows = refl;
+      numbers = refl;
     }
 
 pub serving_stays : (t s s' : SessionState) (slave key : ℕ) (mail : Mail) → t ≡ s → s'.master.tour ≡ t.master.tour → s'.master.lan ≡ t.master.lan → s'.ring ≡ t.ring → s'.master.made ≡ t.master.made → StepsAt (λ p q. q ≡ p) slave t.master.posts.items s'.master.posts.items →
@@ -252,6 +270,7 @@ module _ (s s' : SessionState) (m : MasterNode) (f : Exchanged) (result : Next) 
     (whole : listed s'.master.list.rows.items s'.master.list.count ≡ events_in m ++ events_in s'.master) (told : TellsBehind f.fate f.back m s'.master)
     (fate : f.fate ≡ fate_at s.ring.lose s.ring.number) (back : f.back ≡ ring_returned node_passed s.ring f.sent) (few : suc s.ring.number < 2 ^ 32) (asked : s'.asked ≡ s.asked) (waiting : s'.waiting ≡ map waiting_of s'.master.posts.items)
     (r r' : Log) (same : r.recover ≡ s.recover) (before : gaves_noted r.notes ≡ gaves_noted s.notes) (after : s'.notes ≡ r'.notes) (noted : GaveBy f.fate s.ring.number s'.master r r')
+    (heard_before : emergencies_noted r.notes ≡ emergencies_noted s.notes) (heard_behind : HeardBy f.fate s.ring.number s'.master r r')
     (plan : Scenario) (fs : List Exchanged) (recover : s.recover ≡ plan.recover) (number : length fs ≡ s.ring.number) (live : has_live s.master ≡ true) (busy : IsDone s → ⊥) (on_ring : s'.ring ≡ behind_ring s.ring f.sent) (old : Serving plan s fs) where
   abbrev lens : ℕ → Lens
   lens = lens_of plan.slaves
@@ -311,6 +330,10 @@ module _ (s s' : SessionState) (m : MasterNode) (f : Exchanged) (result : Next) 
   remembered =
       subst (λ (t : Tour). Recalled plan (fs ++ f ∷ []) t behind state) (sym tour_on) (subst (λ (n : ℕ). Recalled plan (fs ++ f ∷ []) (tour n) (on n) state) l.shows.missed_is first_on)
 
+  -- what happened at its switch
+  abbrev happened : FrameEvents
+  happened = record { making = events_of m.lan.happened; behind = events_of s'.master.lan.happened }
+
   -- what is noted of give-ups
   gave : gaves_noted s'.notes ≡ map gave_of (map run_lead behind)
   gave =
@@ -321,18 +344,29 @@ module _ (s s' : SessionState) (m : MasterNode) (f : Exchanged) (result : Next) 
       ∙ noted_now f.fate s.ring.number (map gave_of (map run_lead l.serves)) (map gave_of (map run_lead behind)) (subst (λ (n : ℕ). AllBoth (λ o k. GivesOne f.fate n o k) (map gave_of (map run_lead l.serves)) (map gave_of (map run_lead behind))) number give)
       (gaves_noted r.notes) (gaves_noted r'.notes) (before ∙ old.gave) (noted_by f.fate s.ring.number s'.master r r' lens (map run_lead behind) noted here all)
 
+  -- and of emergencies
+  heard : AllNoted (served_heard lives) (emergencies_noted s'.notes)
+  heard =
+      ap emergencies_noted after
+      ∙ heard_by lens (length fs) f s'.master r r' (served_heard l.lives) (map run_turn made.0) (heard_before ∙ old.heard)
+      (λ pass. switch.brought pass lens plan.recover (map run_turn made.0) (served_way lens plan.recover plan.retry l.missed f.sent m (length fs) made.0 made.2) (returned pass))
+      (subst (λ (n : ℕ). HeardBy f.fate n s'.master r r') (sym number) heard_behind)
+
   goes : Serving plan s' (fs ++ f ∷ [])
   goes = record {
     leading = record { missed = missed; serves = behind; lives = lives; shows = subst (λ (n : ℕ). ServedShows lens plan.recover plan.retry s'.master missed n behind) (one_more fs f) shown; toured = remembered.0 };
     gave = gave;
+    heard = heard;
     asked = behind_mails lens plan.recover plan.retry gives (length fs) f made.0 ∙ turned_mails lens (length fs) made.1.datagrams l.serves made.0 made.1.each ∙ old.asked ∙ sym asked;
     waiting = shown_wait lens plan.recover plan.retry missed (suc (length fs)) s'.master behind shown ∙ sym waiting;
     rows = old.rows ++ (m.lan.happened ++ s'.master.lan.happened);
+    numbers = old.numbers ++ numbers_over (length fs) happened;
+    numbered = served_numbered_on plan fs l.missed l.serves l.lives f made.0 made.1 s.master m s'.master made.2 made.4 returned switch old.rows old.forwarded old.numbers old.numbered;
     forwarded = served_forwarded_on plan fs l.missed l.serves l.lives f made.0 made.1 s.master m s'.master made.2 made.4 returned switch old.rows old.forwarded;
     remembers = remembered.1;
   }
 
-  pub on_frame : ServesOn plan s s' fs f old
+  pub on_frame : ServesOn plan s s' happened fs f old
   unfolding goes
   on_frame = record {
     turns = made.0;
@@ -341,6 +375,8 @@ module _ (s s' : SessionState) (m : MasterNode) (f : Exchanged) (result : Next) 
     new = goes;
     missed = refl;
     serves = refl;
+    events = served_events plan fs l.missed l.serves l.lives f made.0 made.1 s.master m s'.master made.2 made.4 returned switch old.rows old.forwarded;
+    numbers = refl;
     tells = tells_frame lens plan.recover plan.retry l.missed (length fs) (λ k. forwards_at s.master.posts.items k) m s'.master f l.serves behind made.0 made.3 made.2 whole (told lens plan.recover plan.retry l.missed (length fs) made.0 f refl refl made.2 returned);
   }
 
@@ -352,7 +388,8 @@ pub serving_on : (t s s' : SessionState) (m : MasterNode) (f : SentFrame) (resul
     ((lens : ℕ → Lens) (recover : ℕ) (as' : List Leads) → HasLives lens recover s'.master (map lived_of as') → tour_of s'.master ≡ tour_behind m.tour.retry f.fate as' (tour_of m) m.tour.visit.items) → FrameTells t.master m s'.master (exchanged f) →
     listed s'.master.list.rows.items s'.master.list.count ≡ events_in m ++ events_in s'.master → TellsBehind f.fate f.back m s'.master →
     IsRecorded t.ring f → suc t.ring.number < 2 ^ 32 → s'.asked ≡ t.asked → s'.waiting ≡ map waiting_of s'.master.posts.items →
-    (r r' : Log) → r.recover ≡ t.recover → gaves_noted r.notes ≡ gaves_noted t.notes → s'.notes ≡ r'.notes → GaveBy f.fate t.ring.number s'.master r r' → s'.ring ≡ behind_ring t.ring f.sent → ServingGoesOn s s' f
-serving_on t s s' m f result view idle serves served tours switch whole told recorded few asked waiting r r' same before after noted ring =
-    subst (λ (z : SessionState). ServingGoesOn z s' f) view
-    (λ plan fs recover number live busy old. on_frame t s' m (exchanged f) result idle serves served tours switch whole told recorded.fate recorded.back few asked waiting r r' same before after noted plan fs recover number live busy ring old)
+    (r r' : Log) → r.recover ≡ t.recover → gaves_noted r.notes ≡ gaves_noted t.notes → s'.notes ≡ r'.notes → GaveBy f.fate t.ring.number s'.master r r' → emergencies_noted r.notes ≡ emergencies_noted t.notes → HeardBy f.fate t.ring.number s'.master r r' →
+    s'.ring ≡ behind_ring t.ring f.sent → ServingGoesOn s s' (record { making = events_of m.lan.happened; behind = events_of s'.master.lan.happened }) f
+serving_on t s s' m f result view idle serves served tours switch whole told recorded few asked waiting r r' same before after noted heard_before heard_behind ring =
+    subst (λ (z : SessionState). ServingGoesOn z s' (record { making = events_of m.lan.happened; behind = events_of s'.master.lan.happened }) f) view
+    (λ plan fs recover number live busy old. on_frame t s' m (exchanged f) result idle serves served tours switch whole told recorded.fate recorded.back few asked waiting r r' same before after noted heard_before heard_behind plan fs recover number live busy ring old)
