@@ -48,32 +48,32 @@ pub first_serving : (plan : Scenario) (count : ℕ) (now : Told) (v : Serving) (
     IsServing plan count now now v b
 first_serving plan count now v b session serves switch none outbox counts over new fits sound = let requests = none.0 in
     let c = course_same plan count v.session v.session [] b.frames [] b.grams [] v.desk.requests.items [] [] b.switch [] b.switched refl new.frames new.grams requests new.switch new.switched (begins v.session session serves, refl, refl) in record {
-  on = record {
-    underway = begun plan count v.session b session new switch;
-    counts = counts;
-    few = let none = ap length new.grams in omega (arith, none);
-    fits = fits;
-    bounded = small_budget (bound_of plan count) plan.budget sound.laid.budget;
-    is_plan = sound;
-    sound = record {
-      requests = subst (All (IsOpen v.desk.gateway (map heard_as b.grams))) (sym requests) (All-nil (IsOpen v.desk.gateway (map heard_as b.grams)));
-      apart = subst AreApart (sym requests) tt;
-      few = let n : slab_len v.desk.gateway ≡ 0 = ap (count_by is_some) none.1 in omega (arith, n);
-      owed = subst (All (IsOwed (map heard_as b.grams))) (sym outbox) (All-nil (IsOwed (map heard_as b.grams)));
-    };
-    answered = subst (All (IsOwed (map heard_as b.grams))) (sym new.replies) (All-nil (IsOwed (map heard_as b.grams)));
-    judged = subst (All (IsRightly (map home_of plan.slaves))) (sym new.grams) (All-nil (IsRightly (map home_of plan.slaves)));
-    owed = [];
-    course = c.0;
-    switch = c.1;
-    switched = c.2;
-    spelled = spelled_same (map heard_as b.grams) (map heard_as b.grams) [] [] (b.replies ++ v.desk.outbox.items) refl (ap (λ (l : List GramOut). l ++ v.desk.outbox.items) new.replies ∙ outbox) tt;
-  };
-  heard = subst (AreHeard now.heard now.heard) (sym new.grams) (heard_none now.heard);
-  sent = subst (AreSent now.sent now.sent) (sym new.replies) (sent_none now.sent);
-  over = λ e. absurd (cc);
-  later = omega arith;
-}
+      on = record {
+        underway = begun plan count v.session b session new switch;
+        counts = counts;
+        few = let none = ap length new.grams in omega (arith, none);
+        fits = fits;
+        bounded = small_budget (bound_of plan count) plan.budget sound.laid.budget;
+        is_plan = sound;
+        sound = record {
+          requests = subst (All (IsOpen v.desk.gateway (map heard_as b.grams))) (sym requests) (All-nil (IsOpen v.desk.gateway (map heard_as b.grams)));
+          apart = subst AreApart (sym requests) tt;
+          few = let n : slab_len v.desk.gateway ≡ 0 = ap (count_by is_some) none.1 in omega (arith, n);
+          owed = subst (All (IsOwed (map heard_as b.grams))) (sym outbox) (All-nil (IsOwed (map heard_as b.grams)));
+        };
+        answered = subst (All (IsOwed (map heard_as b.grams))) (sym new.replies) (All-nil (IsOwed (map heard_as b.grams)));
+        judged = subst (All (IsRightly (map home_of plan.slaves))) (sym new.grams) (All-nil (IsRightly (map home_of plan.slaves)));
+        owed = [];
+        course = c.0;
+        switch = c.1;
+        switched = c.2;
+        spelled = spelled_same (map heard_as b.grams) (map heard_as b.grams) [] [] (b.replies ++ v.desk.outbox.items) refl (ap (λ (l : List GramOut). l ++ v.desk.outbox.items) new.replies ∙ outbox) tt;
+      };
+      heard = subst (AreHeard now.heard now.heard) (sym new.grams) (heard_none now.heard);
+      sent = subst (AreSent now.sent now.sent) (sym new.replies) (sent_none now.sent);
+      over = λ e. absurd (cc);
+      later = omega arith;
+    }
 
 -- nothing more can be heard
 all_heard : (heard count : ℕ) (over : Bool) → (not over && nat_lt heard count) ≡ false → heard ≤ count → (heard ≡ count) ⊎ (over ≡ true)

@@ -108,23 +108,27 @@ module _ (plan : Scenario) (s s' : SessionState) (fs : List Exchanged) (gs : Lis
   -- IT ISN'T PASSED ON: the lives stay, and this is owed at once
   module _ (more : List Owing) (quiet : (m : ℕ) → m < length gs → owed_for m (os ++ more) ≡ owed_for m os) (few : All (λ (o : Owing). o.gram < length (gs ++ g ∷ [])) more) where
     stays : (t : SessionState) (serving : Serving plan t fs) → serving.leading.serves ≡ ws → serving.rows ≡ old.serving.rows → serving.numbers ≡ old.serving.numbers → Got ws old.came rs dones n g (owed_for n (os ++ more)) → Same t (gs ++ g ∷ []) rs (os ++ more)
-    stays t serving same rows numbers got = (record {
-      serving = serving;
-      came = old.came;
-      desk = subst (λ z. AllDesk (gs ++ g ∷ []) rs (os ++ more) 0 z old.came) (sym same) (desks_more gs g os more quiet rs rs 0 ws old.came (λ j less. (refl, refl)) old.desk);
-      told = subst (All ToldAll) (sym same) old.told;
-      apart = old.apart;
-      filed = old.filed;
-      heard = All-weaker (IsHeard gs) (IsHeard (gs ++ g ∷ [])) (heard_more gs g os more quiet) rs old.heard;
-      undone = old.undone;
-      early = all_early;
-      ended = All-weaker (λ (m : ℕ). m < length gs) (λ (m : ℕ). m < length (gs ++ g ∷ [])) (longer gs g os more quiet) dones old.ended;
-      owed = All-append (λ (o : Owing). o.gram < length (gs ++ g ∷ [])) os more (All-weaker (λ (o : Owing). o.gram < length gs) (λ (o : Owing). o.gram < length (gs ++ g ∷ [])) (λ o less. longer gs g os more quiet o.gram less) os old.owed) few;
-      got = subst (λ z. AllGot z old.came rs dones (os ++ more) 0 (gs ++ g ∷ [])) (sym same)
-          (got_push ws old.came rs dones (os ++ more) 0 n gs g (omega arith)
-          (got_each ws ws old.came rs rs dones os (os ++ more) 0 gs (λ j m h e at b. subst (Got ws old.came rs dones m h) (sym (quiet m (let less = known_at gs j h at in omega (arith, less, e)))) b) old.got) got);
-      whole = λ none. subst (λ z. AllBoth (GivesAll (os ++ more) (λ m. is_in m dones)) z old.came) (sym same) (all_give gs rs os (os ++ more) (λ m. is_in m dones) quiet 0 ws old.came old.desk (old.whole none));
-    }, ap switch_events rows, numbers)
+    stays t serving same rows numbers got = (
+      record {
+        serving = serving;
+        came = old.came;
+        desk = subst (λ z. AllDesk (gs ++ g ∷ []) rs (os ++ more) 0 z old.came) (sym same) (desks_more gs g os more quiet rs rs 0 ws old.came (λ j less. (refl, refl)) old.desk);
+        told = subst (All ToldAll) (sym same) old.told;
+        apart = old.apart;
+        filed = old.filed;
+        heard = All-weaker (IsHeard gs) (IsHeard (gs ++ g ∷ [])) (heard_more gs g os more quiet) rs old.heard;
+        undone = old.undone;
+        early = all_early;
+        ended = All-weaker (λ (m : ℕ). m < length gs) (λ (m : ℕ). m < length (gs ++ g ∷ [])) (longer gs g os more quiet) dones old.ended;
+        owed = All-append (λ (o : Owing). o.gram < length (gs ++ g ∷ [])) os more (All-weaker (λ (o : Owing). o.gram < length gs) (λ (o : Owing). o.gram < length (gs ++ g ∷ [])) (λ o less. longer gs g os more quiet o.gram less) os old.owed) few;
+        got = subst (λ z. AllGot z old.came rs dones (os ++ more) 0 (gs ++ g ∷ [])) (sym same)
+            (got_push ws old.came rs dones (os ++ more) 0 n gs g (omega arith)
+            (got_each ws ws old.came rs rs dones os (os ++ more) 0 gs (λ j m h e at b. subst (Got ws old.came rs dones m h) (sym (quiet m (let less = known_at gs j h at in omega (arith, less, e)))) b) old.got) got);
+        whole = λ none. subst (λ z. AllBoth (GivesAll (os ++ more) (λ m. is_in m dones)) z old.came) (sym same) (all_give gs rs os (os ++ more) (λ m. is_in m dones) quiet 0 ws old.came old.desk (old.whole none));
+      },
+      ap switch_events rows,
+      numbers,
+    )
 
   -- one error is owed by it at once
   error_stays : (detail : ℕ) (asked : Mail) → request_in g.bytes ≡ Ok asked → g.queued ≡ None → detail ≢ 7 → (t : SessionState) (serving : Serving plan t fs) → serving.leading.serves ≡ ws → serving.rows ≡ old.serving.rows → serving.numbers ≡ old.serving.numbers →
@@ -177,24 +181,28 @@ module _ (plan : Scenario) (s s' : SessionState) (fs : List Exchanged) (gs : Lis
         (fares_asked gs g os [] quiet rs r k refl is_for refl none place m w a.0 numbers (is_in m dones) asked (owed_for m os) a.2 less fares))
 
     passed : Same s' (gs ++ g ∷ []) (rs ++ r ∷ []) (os ++ [])
-    passed = (record {
-      serving = on.new;
-      came = old.came;
-      desk = subst (λ z. AllDesk (gs ++ g ∷ []) (rs ++ r ∷ []) (os ++ []) 0 z old.came) (sym on.serves) (desks_asked gs g os [] quiet rs r k refl is_for refl none 0 slave ws old.came (omega arith) old.desk);
-      told = subst (All ToldAll) (sym on.serves) (asked_told slave k ws old.told);
-      apart = apart_push rs r old.apart free;
-      filed = unlike_push (λ (q : Request). q.gram) (λ q. refl) rs r old.filed (All-weaker (λ (q : Request). q.gram < length gs) (λ (q : Request). q.gram ≢ n) (λ q less e. omega (arith, less, e)) rs known);
-      heard = All-push (IsHeard (gs ++ g ∷ [])) rs r (All-weaker (IsHeard gs) (IsHeard (gs ++ g ∷ [])) (heard_more gs g os [] quiet) rs old.heard) is_heard;
-      undone = All-push (IsUndone dones) rs r old.undone undone_new;
-      early = all_early;
-      ended = All-weaker (λ (m : ℕ). m < length gs) (λ (m : ℕ). m < length (gs ++ g ∷ [])) (longer gs g os [] quiet) dones old.ended;
-      owed = All-append (λ (o : Owing). o.gram < length (gs ++ g ∷ [])) os [] (All-weaker (λ (o : Owing). o.gram < length gs) (λ (o : Owing). o.gram < length (gs ++ g ∷ [])) (λ o less. longer gs g os [] quiet o.gram less) os old.owed) (All-nil (λ (o : Owing). o.gram < length (gs ++ g ∷ [])));
-      got = subst (λ z. AllGot z old.came (rs ++ r ∷ []) dones (os ++ []) 0 (gs ++ g ∷ [])) (sym on.serves)
-          (got_push (asked_at slave k ws) old.came (rs ++ r ∷ []) dones (os ++ []) 0 n gs g (omega arith) (got_each ws (asked_at slave k ws) old.came rs (rs ++ r ∷ []) dones os (os ++ []) 0 gs got_old old.got) got_new);
-      whole = λ none.
-          subst (λ z. AllBoth (GivesAll (os ++ []) (λ m. is_in m dones)) z old.came) (sym on.serves)
-          (asked_give (os ++ []) (λ m. is_in m dones) slave k ws old.came (all_give gs rs os (os ++ []) (λ m. is_in m dones) quiet 0 ws old.came old.desk (old.whole none)));
-    }, ap switch_events on.rows, on.numbers)
+    passed = (
+      record {
+        serving = on.new;
+        came = old.came;
+        desk = subst (λ z. AllDesk (gs ++ g ∷ []) (rs ++ r ∷ []) (os ++ []) 0 z old.came) (sym on.serves) (desks_asked gs g os [] quiet rs r k refl is_for refl none 0 slave ws old.came (omega arith) old.desk);
+        told = subst (All ToldAll) (sym on.serves) (asked_told slave k ws old.told);
+        apart = apart_push rs r old.apart free;
+        filed = unlike_push (λ (q : Request). q.gram) (λ q. refl) rs r old.filed (All-weaker (λ (q : Request). q.gram < length gs) (λ (q : Request). q.gram ≢ n) (λ q less e. omega (arith, less, e)) rs known);
+        heard = All-push (IsHeard (gs ++ g ∷ [])) rs r (All-weaker (IsHeard gs) (IsHeard (gs ++ g ∷ [])) (heard_more gs g os [] quiet) rs old.heard) is_heard;
+        undone = All-push (IsUndone dones) rs r old.undone undone_new;
+        early = all_early;
+        ended = All-weaker (λ (m : ℕ). m < length gs) (λ (m : ℕ). m < length (gs ++ g ∷ [])) (longer gs g os [] quiet) dones old.ended;
+        owed = All-append (λ (o : Owing). o.gram < length (gs ++ g ∷ [])) os [] (All-weaker (λ (o : Owing). o.gram < length gs) (λ (o : Owing). o.gram < length (gs ++ g ∷ [])) (λ o less. longer gs g os [] quiet o.gram less) os old.owed) (All-nil (λ (o : Owing). o.gram < length (gs ++ g ∷ [])));
+        got = subst (λ z. AllGot z old.came (rs ++ r ∷ []) dones (os ++ []) 0 (gs ++ g ∷ [])) (sym on.serves)
+            (got_push (asked_at slave k ws) old.came (rs ++ r ∷ []) dones (os ++ []) 0 n gs g (omega arith) (got_each ws (asked_at slave k ws) old.came rs (rs ++ r ∷ []) dones os (os ++ []) 0 gs got_old old.got) got_new);
+        whole = λ none.
+            subst (λ z. AllBoth (GivesAll (os ++ []) (λ m. is_in m dones)) z old.came) (sym on.serves)
+            (asked_give (os ++ []) (λ m. is_in m dones) slave k ws old.came (all_give gs rs os (os ++ []) (λ m. is_in m dones) quiet 0 ws old.came old.desk (old.whole none)));
+      },
+      ap switch_events on.rows,
+      on.numbers,
+    )
 
   -- WHATEVER BECOMES OF IT
   pub answers_heard : IsPlan plan → s.homes ≡ map home_of plan.slaves → length rs < 64 → (rs' : List Request) (more : List Owing) → Judges s s' rs rs' (length gs) g.bytes g.queued more → Same s' (gs ++ g ∷ []) rs' (os ++ more)

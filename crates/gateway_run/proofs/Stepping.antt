@@ -299,26 +299,30 @@ module _ (plan : Scenario) (s s' : SessionState) (fs : List Exchanged) (f : Exch
   Behind qs ps ds = Rowed plan s' (fs ++ f ∷ []) gs qs ps ds (switch_events old.serving.rows ++ (happened.making ++ happened.behind)) (old.serving.numbers ++ numbers_over (length fs) happened)
 
   behind : Behind rs2 (os ++ more) (dones ++ ended)
-  behind = (record {
-    serving = on.new;
-    came = turned.comes;
-    desk = subst (λ z. AllDesk gs rs2 (os ++ more) 0 z turned.comes) (sym on.serves) turned.desks;
-    told = subst (All ToldAll) (sym on.serves) turned.told;
-    apart = events_unlike (λ (r : Request). r.key) (λ r. refl) (told_in shows second) rs1 (events_unlike (λ (r : Request). r.key) (λ r. refl) (told_in begins first) rs old.apart);
-    filed = events_unlike (λ (r : Request). r.gram) (λ r. refl) (told_in shows second) rs1 filed1;
-    heard = events_keep (IsHeard gs) (λ r h. record { gram = h.gram; there = h.there; queued = h.queued }) (told_in shows second) rs1 heard1;
-    undone = both_off dones ended rs2
-        (events_keep (IsUndone dones) (λ r u. u) (told_in shows second) rs1 (events_keep (IsUndone dones) (λ r u. u) (told_in begins first) rs old.undone))
-        (events_off (told_in shows second) rs1 filed1);
-    early = All-weaker (λ (g : GramIn). g.frame ≤ length fs) (λ (g : GramIn). g.frame ≤ length (fs ++ f ∷ [])) (λ g less. (let long = length-append fs (f ∷ []) in omega (arith, long, less))) gs old.early;
-    ended = All-append (λ (n : ℕ). n < length gs) dones ended old.ended (events_end (λ n. n < length gs) (told_in shows second) rs1 known1);
-    owed = All-append (λ (o : Owing). o.gram < length gs) os more old.owed (events_owe (λ n. n < length gs) (told_in shows second) rs1 known1);
-    got = subst (λ z. AllGot z turned.comes rs2 (dones ++ ended) (os ++ more) 0 gs) (sym on.serves)
-        (got_all 0 gs (λ j m e. ap (slice_get gs) (let same : m ≡ j = omega (arith, e) in same)) old.got);
-    whole = λ quiet.
-        subst (λ z. AllBoth (GivesAll (os ++ more) (λ n. is_in n (dones ++ ended))) z turned.comes) (sym on.serves)
-        (turned.whole (quiet fs [] f refl old.serving.leading.missed ws old.serving.leading.lives on.turns on.frame) (old.whole (fewer quiet)));
-  }, on.events, on.numbers)
+  behind = (
+    record {
+      serving = on.new;
+      came = turned.comes;
+      desk = subst (λ z. AllDesk gs rs2 (os ++ more) 0 z turned.comes) (sym on.serves) turned.desks;
+      told = subst (All ToldAll) (sym on.serves) turned.told;
+      apart = events_unlike (λ (r : Request). r.key) (λ r. refl) (told_in shows second) rs1 (events_unlike (λ (r : Request). r.key) (λ r. refl) (told_in begins first) rs old.apart);
+      filed = events_unlike (λ (r : Request). r.gram) (λ r. refl) (told_in shows second) rs1 filed1;
+      heard = events_keep (IsHeard gs) (λ r h. record { gram = h.gram; there = h.there; queued = h.queued }) (told_in shows second) rs1 heard1;
+      undone = both_off dones ended rs2
+          (events_keep (IsUndone dones) (λ r u. u) (told_in shows second) rs1 (events_keep (IsUndone dones) (λ r u. u) (told_in begins first) rs old.undone))
+          (events_off (told_in shows second) rs1 filed1);
+      early = All-weaker (λ (g : GramIn). g.frame ≤ length fs) (λ (g : GramIn). g.frame ≤ length (fs ++ f ∷ [])) (λ g less. (let long = length-append fs (f ∷ []) in omega (arith, long, less))) gs old.early;
+      ended = All-append (λ (n : ℕ). n < length gs) dones ended old.ended (events_end (λ n. n < length gs) (told_in shows second) rs1 known1);
+      owed = All-append (λ (o : Owing). o.gram < length gs) os more old.owed (events_owe (λ n. n < length gs) (told_in shows second) rs1 known1);
+      got = subst (λ z. AllGot z turned.comes rs2 (dones ++ ended) (os ++ more) 0 gs) (sym on.serves)
+          (got_all 0 gs (λ j m e. ap (slice_get gs) (let same : m ≡ j = omega (arith, e) in same)) old.got);
+      whole = λ quiet.
+          subst (λ z. AllBoth (GivesAll (os ++ more) (λ n. is_in n (dones ++ ended))) z turned.comes) (sym on.serves)
+          (turned.whole (quiet fs [] f refl old.serving.leading.missed ws old.serving.leading.lives on.turns on.frame) (old.whole (fewer quiet)));
+    },
+    on.events,
+    on.numbers,
+  )
 
   -- WHAT IS LISTED of the frame is just what the lives tell
   abbrev es : List Event

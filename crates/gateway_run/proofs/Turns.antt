@@ -290,9 +290,12 @@ module _ (plan : Scenario) (count : ℕ) (first : Told) where
       let replies = step.rest.replies in
       let grown = grows plan.host h.on.underway.switched in
       let c = course_same plan count v'.session v'.session (b.frames ++ f ∷ []) b'.frames b.grams b'.grams left_now v'.desk.requests.items (h.on.owed ++ more) (b.switch ++ (happened.making ++ happened.behind)) b'.switch (b.switched ++ numbers_over (length b.frames) happened) b'.switched refl step.put grams told.requests grown.switch
-      (grown.switched ∙ ap (λ n. b.switched ++ numbers_over n happened) (sym (many_sent plan count v.session b h.on.underway)))
-      (steps v.session v'.session b.frames f b.grams v.desk.requests.items h.on.owed h.on.course
-      (record { recorded = step.recorded; ring = step.ring; homes = step.homes; asked = step.asked; recover = step.recover; live = live; busy = busy; happened = happened; led = led }), ap (λ z. z ++ (happened.making ++ happened.behind)) h.on.switch, ap (λ z. z ++ numbers_over (length b.frames) happened) h.on.switched) in
+      (grown.switched ∙ ap (λ n. b.switched ++ numbers_over n happened) (sym (many_sent plan count v.session b h.on.underway))) (
+        steps v.session v'.session b.frames f b.grams v.desk.requests.items h.on.owed h.on.course
+            (record { recorded = step.recorded; ring = step.ring; homes = step.homes; asked = step.asked; recover = step.recover; live = live; busy = busy; happened = happened; led = led }),
+        ap (λ z. z ++ (happened.making ++ happened.behind)) h.on.switch,
+        ap (λ z. z ++ numbers_over (length b.frames) happened) h.on.switched,
+      ) in
       record {
         on = record {
           underway = stepped_on plan count v.session b v'.session b' f h.on.underway left step;
