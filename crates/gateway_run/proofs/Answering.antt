@@ -109,33 +109,35 @@ first_gives (w ∷ ws) b =
       first_gives ws (All-tail IsNewborn w ws b),
     )
 
-first_answers : (plan : Scenario) (count : ℕ) (s : SessionState) → s ≡ first_session plan count s.master → (serving : ServingBegins plan s) → Answers plan s [] [] [] [] []
-first_answers plan count s first serving =
+first_rowed : (plan : Scenario) (count : ℕ) (s : SessionState) → s ≡ first_session plan count s.master → ServingBegins plan s → Rowed plan s [] [] [] [] [] [] []
+first_rowed plan count s first serving =
     let ws = serving.leading.serves in
     let b = first_born plan [] serving.leading.missed ws serving.leading.lives refl in
     let e = none_wait ws (length plan.slaves) (serving.waiting ∙ ap (λ (z : SessionState). z.waiting) first) in
-    record {
-      serving = serving;
-      came = map (λ (w : Serves). []) ws;
-      desk = first_desks 0 ws b e;
-      told = first_told ws b;
-      apart = tt;
-      filed = tt;
-      heard = All-nil (IsHeard []);
-      early = All-nil (λ (g : GramIn). g.frame ≤ 0);
-      undone = All-nil (IsUndone []);
-      ended = All-nil (λ (n : ℕ). n < 0);
-      owed = All-nil (λ (o : Owing). o.gram < 0);
-      got = tt;
-      whole = λ quiet. first_gives ws b;
-    }
+    let none = none_numbered plan (ports_behind 0 plan.slaves) (ports_of plan.slaves) [] serving.leading.missed ws serving.leading.lives (switch_events serving.rows) serving.numbers refl serving.numbered in (
+      record {
+        serving = serving;
+        came = map (λ (w : Serves). []) ws;
+        desk = first_desks 0 ws b e;
+        told = first_told ws b;
+        apart = tt;
+        filed = tt;
+        heard = All-nil (IsHeard []);
+        early = All-nil (λ (g : GramIn). g.frame ≤ 0);
+        undone = All-nil (IsUndone []);
+        ended = All-nil (λ (n : ℕ). n < 0);
+        owed = All-nil (λ (o : Owing). o.gram < 0);
+        got = tt;
+        whole = λ quiet. first_gives ws b;
+      },
+      none.0,
+      none.1,
+    )
 
 -- ALL ALONG, with just the events of the course at the switch, and their numbers
 pub course_rowed : (plan : Scenario) (count : ℕ) → IsPlan plan → (s : SessionState) (fs : List SentFrame) (gs : List GramIn) (rs : List Request) (os : List Owing) (c : Course plan count s fs gs rs os) →
     Rowed plan s (map exchanged fs) gs rs os (dones_of plan count s fs gs rs os c) (happened_in plan count s fs gs rs os c) (numbers_in plan count s fs gs rs os c)
-course_rowed plan count is _ _ _ _ _ (begins s first serves) =
-    let none = none_numbered plan (ports_behind 0 plan.slaves) (ports_of plan.slaves) [] serves.leading.missed serves.leading.serves serves.leading.lives (switch_events serves.rows) serves.numbers refl serves.numbered in
-    (first_answers plan count s first serves, none.0, none.1)
+course_rowed plan count is _ _ _ _ _ (begins s first serves) = first_rowed plan count s first serves
 course_rowed plan count is _ _ _ _ _ (hears s s' fs gs g rs rs' os more c at few judges) =
     let l = course_led plan count is s fs gs rs os c in
     let old = course_rowed plan count is s fs gs rs os c in

@@ -40,8 +40,7 @@ use Rattle.gateway_run.proofs.Answering.{course_rowed}
 use Rattle.gateway_run.proofs.Dones.{all_done, none_unfinished}
 use Rattle.gateway_run.proofs.Rested.{all_rest, no_packet}
 use Rattle.gateway_run.proofs.Strays.{course_falls, course_strays}
-use Rattle.gateway_run.proofs.Rowed.{Rowed}
-use Rattle.gateway_run.proofs.Turns.{CourseTo, heard_none, sent_none, course_same, spelled_same}
+use Rattle.gateway_run.proofs.Turns.{heard_none, sent_none, course_same, spelled_same}
 
 -- before the first turn
 pub first_serving : (plan : Scenario) (count : ℕ) (now : Told) (v : Serving) (b : Book) → v.session ≡ first_session plan count v.session.master → ServingBegins plan v.session → HasHappened (ports_of plan.slaves) plan.host [] v.session.master.lan → HasNone v.desk → v.desk.outbox.items ≡ [] → v.count ≡ count → v.over ≡ false → IsNew b → count < 4294967296 → IsPlan plan →
@@ -111,49 +110,36 @@ module _ (plan : Scenario) (count : ℕ) (first now : Told) (v : Serving) (b b' 
   stops_as ending rows so = ended plan count v.session b b' on.underway frames rows many ending so
 
   has_account : (ending : Ending) → b'.slaves ≡ session_rows v.session → (ending ≢ endings.PortFault → v.desk.outbox.items ≡ []) → (LeavesNone ending → ServingRests v.session × (are_at_rest (session_rows v.session) ≡ true)) → HasAccount plan count b' ending
-  has_account ending rows all rests = record {
-    session = v.session;
-    requests = v.desk.requests.items;
-    owed = on.owed;
-    later = v.desk.outbox.items;
-    course = course';
-    spelled = spelled_same (map heard_as b.grams) (map heard_as b'.grams) on.owed (b.replies ++ v.desk.outbox.items) (b'.replies ++ v.desk.outbox.items) (ap (map heard_as) grams) (ap (λ (l : List GramOut). l ++ v.desk.outbox.items) replies) on.spelled;
-    answers = answers';
-    none = λ none. none_unfinished plan count v b on (rests none).0;
-    done = λ none. all_done plan v.session (map exchanged b'.frames) b'.grams v.desk.requests.items on.owed (dones_of plan count v.session b'.frames b'.grams v.desk.requests.items on.owed course') answers' (none_unfinished plan count v b on (rests none).0);
-    rows = rows;
-    heard = ap emergencies_in rows ∙ heard_of_rows v.session.recover v.session.ring.nodes v.session.notes many ∙ answers'.serving.heard;
-    listed = subst (λ (es : List SwitchEvent). ServedListed (ports_behind 0 plan.slaves) answers'.serving.leading.lives es) booked answers'.serving.forwarded.listed;
-    begun = subst (λ (es : List SwitchEvent). AreServedBegun (ports_behind 0 plan.slaves) (ports_of plan.slaves) answers'.serving.leading.lives es) booked answers'.serving.forwarded.begun;
-    numbered = subst (λ (ns : List ℕ). ServedNumbered (ports_behind 0 plan.slaves) (ports_of plan.slaves) answers'.serving.leading.lives b'.switch ns) numbered'
-        (subst (λ (es : List SwitchEvent). ServedNumbered (ports_behind 0 plan.slaves) (ports_of plan.slaves) answers'.serving.leading.lives es answers'.serving.numbers) booked answers'.serving.numbered);
-    rests = λ none. all_rest plan count v.session b b' on.underway answers'.serving (rests none).0 rows many (rests none).1;
-    packets = has_packets plan v.session.ports v.session.ring.number v.session.master.lan b b' on.underway.ports (sym (ap length frames ∙ many_sent plan count v.session b on.underway)) kept on.underway.switched;
-    come = λ none. no_packet plan count v.session b b' on.underway answers'.serving (rests none).0 kept;
-    steady = course_falls plan count on.is_plan v.session b'.frames b'.grams v.desk.requests.items on.owed course';
-    stray = course_strays plan count on.is_plan v.session b'.frames b'.grams v.desk.requests.items on.owed course' b'.slaves rows;
-    all = all;
-  }
-    where
-      same : CourseTo plan count v.session b'.frames b'.grams v.desk.requests.items on.owed b'.switch b'.switched
-      same = course_same plan count v.session v.session b.frames b'.frames b.grams b'.grams v.desk.requests.items v.desk.requests.items on.owed b.switch b'.switch b.switched b'.switched refl frames grams refl kept.switch kept.switched (on.course, on.switch, on.switched)
-
-      course' : Course plan count v.session b'.frames b'.grams v.desk.requests.items on.owed
-      course' = same.0
-
-      rowed : Rowed plan v.session (map exchanged b'.frames) b'.grams v.desk.requests.items on.owed (dones_of plan count v.session b'.frames b'.grams v.desk.requests.items on.owed course') (happened_in plan count v.session b'.frames b'.grams v.desk.requests.items on.owed course')
-          (numbers_in plan count v.session b'.frames b'.grams v.desk.requests.items on.owed course')
-      rowed = course_rowed plan count on.is_plan v.session b'.frames b'.grams v.desk.requests.items on.owed course'
-
-      answers' : Answers plan v.session (map exchanged b'.frames) b'.grams v.desk.requests.items on.owed (dones_of plan count v.session b'.frames b'.grams v.desk.requests.items on.owed course')
-      answers' = rowed.0
-
-      -- the events of the book are those of the lives
-      booked : events_of answers'.serving.rows ≡ b'.switch
-      booked = rowed.1 ∙ same.1
-
-      numbered' : answers'.serving.numbers ≡ b'.switched
-      numbered' = rowed.2 ∙ same.2
+  has_account ending rows all rests =
+      let same = course_same plan count v.session v.session b.frames b'.frames b.grams b'.grams v.desk.requests.items v.desk.requests.items on.owed b.switch b'.switch b.switched b'.switched refl frames grams refl kept.switch kept.switched (on.course, on.switch, on.switched) in
+      let course' : Course plan count v.session b'.frames b'.grams v.desk.requests.items on.owed = same.0 in
+      let rowed = course_rowed plan count on.is_plan v.session b'.frames b'.grams v.desk.requests.items on.owed course' in
+      let answers' : Answers plan v.session (map exchanged b'.frames) b'.grams v.desk.requests.items on.owed (dones_of plan count v.session b'.frames b'.grams v.desk.requests.items on.owed course') = rowed.0 in
+      let booked : events_of answers'.serving.rows ≡ b'.switch = rowed.1 ∙ same.1 in
+      let numbered' : answers'.serving.numbers ≡ b'.switched = rowed.2 ∙ same.2 in
+      record {
+        session = v.session;
+        requests = v.desk.requests.items;
+        owed = on.owed;
+        later = v.desk.outbox.items;
+        course = course';
+        spelled = spelled_same (map heard_as b.grams) (map heard_as b'.grams) on.owed (b.replies ++ v.desk.outbox.items) (b'.replies ++ v.desk.outbox.items) (ap (map heard_as) grams) (ap (λ (l : List GramOut). l ++ v.desk.outbox.items) replies) on.spelled;
+        answers = answers';
+        none = λ none. none_unfinished plan count v b on (rests none).0;
+        done = λ none. all_done plan v.session (map exchanged b'.frames) b'.grams v.desk.requests.items on.owed (dones_of plan count v.session b'.frames b'.grams v.desk.requests.items on.owed course') answers' (none_unfinished plan count v b on (rests none).0);
+        rows = rows;
+        heard = ap emergencies_in rows ∙ heard_of_rows v.session.recover v.session.ring.nodes v.session.notes many ∙ answers'.serving.heard;
+        listed = subst (λ (es : List SwitchEvent). ServedListed (ports_behind 0 plan.slaves) answers'.serving.leading.lives es) booked answers'.serving.forwarded.listed;
+        begun = subst (λ (es : List SwitchEvent). AreServedBegun (ports_behind 0 plan.slaves) (ports_of plan.slaves) answers'.serving.leading.lives es) booked answers'.serving.forwarded.begun;
+        numbered = subst (λ (ns : List ℕ). ServedNumbered (ports_behind 0 plan.slaves) (ports_of plan.slaves) answers'.serving.leading.lives b'.switch ns) numbered'
+            (subst (λ (es : List SwitchEvent). ServedNumbered (ports_behind 0 plan.slaves) (ports_of plan.slaves) answers'.serving.leading.lives es answers'.serving.numbers) booked answers'.serving.numbered);
+        rests = λ none. all_rest plan count v.session b b' on.underway answers'.serving (rests none).0 rows many (rests none).1;
+        packets = has_packets plan v.session.ports v.session.ring.number v.session.master.lan b b' on.underway.ports (sym (ap length frames ∙ many_sent plan count v.session b on.underway)) kept on.underway.switched;
+        come = λ none. no_packet plan count v.session b b' on.underway answers'.serving (rests none).0 kept;
+        steady = course_falls plan count on.is_plan v.session b'.frames b'.grams v.desk.requests.items on.owed course';
+        stray = course_strays plan count on.is_plan v.session b'.frames b'.grams v.desk.requests.items on.owed course' b'.slaves rows;
+        all = all;
+      }
 
   -- a serving whose port failed
   faulted_so : (result : Ending) → (result ≢ endings.NoMemory → b'.slaves ≡ session_rows v.session) → (result ≡ endings.PortFault) ⊎ (result ≡ endings.NoMemory) → IsBroken first now b' → IsServed plan count first now b' result
