@@ -16,7 +16,7 @@ use Rattle.run_book.specs.of_master_node.Begins.{begins_other, begun_of}
 use Rattle.run_record.specs.of_packets_heard.Numbers.{each_with, frame_where, frames_begun, frames_other}
 use Rattle.run_record.specs.of_packets_heard.Over.{packet_begun}
 use Rattle.script_runs.proofs.of_task_model.Completed.{started_back}
-use Rattle.script_runs.specs.Came.{is_packet}
+use Rattle.script_runs.specs.Came.{is_beside, is_packet}
 use Rattle.script_runs.specs.of_exchange_model.Exchange.{Speech}
 use Rattle.script_runs.specs.of_life_model.Lives.{Spot, Era, Life, Stand, Opening, granted, life_next, life_back, life_lost, era_back, opening_back, shows_clear, is_shown, last_step, clears, opens, steps_on, reopens, reopens_at, reopening, opens_state, returns_to_init}
 use Rattle.script_runs.specs.of_life_model.Own.{own}
@@ -143,7 +143,7 @@ module _ (lens : ℕ → Lens) (recover retry : ℕ) (gives : Bool) (made : ℕ)
 -- the frames of those rows that don't
 abbrev pub other_frames : Rows → List ℕ
 other_frames [] = []
-other_frames (r ∷ rs) = if is_packet r.service then other_frames rs else r.frame ∷ other_frames rs
+other_frames (r ∷ rs) = if is_beside r.service then other_frames rs else r.frame ∷ other_frames rs
 
 packets_append : (xs ys : Rows) → packet_frames (xs ++ ys) ≡ packet_frames xs ++ packet_frames ys
 packets_append [] ys = refl
@@ -155,7 +155,7 @@ packets_append (x ∷ xs) ys = go (is_packet x.service) (packets_append xs ys)
 
 pub others_append : (xs ys : Rows) → other_frames (xs ++ ys) ≡ other_frames xs ++ other_frames ys
 others_append [] ys = refl
-others_append (x ∷ xs) ys = go (is_packet x.service) (others_append xs ys)
+others_append (x ∷ xs) ys = go (is_beside x.service) (others_append xs ys)
   where
     go : (b : Bool) → other_frames (xs ++ ys) ≡ other_frames xs ++ other_frames ys → (if b then other_frames (xs ++ ys) else x.frame ∷ other_frames (xs ++ ys)) ≡ (if b then other_frames xs else x.frame ∷ other_frames xs) ++ other_frames ys
     go true e = e

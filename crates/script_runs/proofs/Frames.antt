@@ -108,8 +108,7 @@ module _ (frame : ℕ) (l : LifeOf) (given : All (λ k. k < frame) l.gave) (o : 
   opened_by : l.stand ≡ Stand.Opens o → FreshBy l.stand l.gave l.era → (o.step == last_step o) ≡ true → OpeningBack (opens frame l)
   opened_by s f e =
       let new = subst (λ (z : Stand). FreshBy z l.gave l.era) s f (last_stays o e) in
-      let r = rests_new l.era new.side new.account in
-      OpeningBack.is_up refl (new_none l (Some frame) new.account ∙ sym (leaving_is false (ap is_leaving s ∙ last_stays o e) (Some frame))) (record { hand = r.hand; states = r.states; row = r.row })
+      OpeningBack.is_up refl (new_none l (Some frame) new.account ∙ sym (leaving_is false (ap is_leaving s ∙ last_stays o e) (Some frame))) (rests_new (opens frame l).era new.side new.account)
 
   pub opening_is : l.stand ≡ Stand.Opens o → FreshBy l.stand l.gave l.era → OpeningBack (opening_back frame l o done found)
   opening_is s f = opening_by (λ m. OpeningBack m)
