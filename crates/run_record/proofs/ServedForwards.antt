@@ -40,7 +40,7 @@ use Rattle.packets_heard.specs.Recalled.{AtSwitch, IsLanOf}
 use Rattle.packets_heard.specs.Served.{serves_behind}
 use Rattle.packets_heard.specs.Servings.{AreServedBegun, ServedListed, served_joined}
 use Rattle.run_record.proofs.Forwards.{as_many}
-use Rattle.run_record.proofs.FrameLists.{FrameLists, frame_begins, frame_lists, ports_stay}
+use Rattle.run_record.proofs.FrameLists.{FrameLists, frame_begins, frame_lists, none_begins, ports_stay}
 use Rattle.run_record.proofs.Leads.{none_unfinished}
 use Rattle.run_record.proofs.ServedGaves.{serve_leads}
 use Rattle.run_record.specs.Served.{IsServedForwarded, ServeTo, ServedNumbered}
@@ -170,9 +170,9 @@ module _ (plan : Scenario) (fs : List Exchanged) (missed : ℕ) (ws : List Serve
   happened = record { making = events_of m1.lan.happened; behind = events_of m2.lan.happened }
 
   pub served_numbered_on : (ns : List ℕ) → ServedNumbered ports many lives (events_of rows) ns → ServedNumbered ports many (IsServedLed.on fs missed ws f vs lives frame) (events_of more) (ns ++ numbers_over (length fs) happened)
-  unfolding frame_begins begun_on
+  unfolding begun_on
   served_numbered_on ns old = subst (λ (z : List SwitchEvent). ServedNumbered ports many (IsServedLed.on fs missed ws f vs lives frame) z (ns ++ numbers_over (length fs) happened)) (sym served_events) (record {
-    step = frame_begins plan f us behind js m1 m2 lists (λ old. AreServedBegun ports many lives old) (events_of rows) w.begun begins_so stands;
+    step = begun_on (λ old. AreServedBegun ports many lives old) ports many us m1.lan m2.lan (events_of rows) (events_of m2.lan.happened) w.begun lists.ports begins_so stands (none_begins plan f us behind js m1 m2 lists);
     listed_old = w.listed;
     numbers = ns;
     was = old;
