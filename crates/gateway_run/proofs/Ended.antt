@@ -21,13 +21,20 @@ use Rattle.run_record.specs.Served.{ServedNumbered, ServingBegins, ServingRests}
 use Rattle.run_record.specs.Session.{are_at_rest, first_session, session_rows}
 use Rattle.run_record.specs.of_eoe_switch.declared.switching.SwitchEvent.{SwitchEvent}
 use Rattle.run_record.specs.of_packets_heard.Servings.{AreServedBegun, ServedListed}
+use Rattle.run_record.specs.of_run_notes.Epochs.{HasEpochs}
 use Rattle.run_record.specs.of_run_notes.Heard.{emergencies_in}
+use Rattle.run_record.specs.of_run_notes.Reports.{IsBooked}
+use Rattle.run_record.specs.of_run_notes.Unsent.{IsSpent}
+use Rattle.run_book.specs.declared.book.SlaveBook.{SlaveBook}
+use Rattle.master_node.specs.Serving.{run_lead}
+use Rattle.master_node.specs.of_life_frames.Shares.{AllBoth}
 use Rattle.run_record.specs.of_run_notes.Slaves.{home_of}
 use Rattle.run_record.specs.of_run_notes.Switched.{SameSwitch}
 use Rattle.run_record.specs.Ran.{HasSent, EndsSo, StopsSo, StopsAs}
 use Rattle.gateway_run.proofs.Room.{small_budget}
 use Rattle.run_record.proofs.Underway.{begun, has_frames, ended, many as many_sent}
 use Rattle.run_record.proofs.of_run_notes.Heard.{heard_of_rows}
+use Rattle.run_record.proofs.of_run_notes.Reporting.{all_booked, all_epochs, all_spent}
 use Rattle.run_record.proofs.of_run_notes.Switched.{has_packets}
 use Rattle.gateway_run.specs.Heard.{heard_as, AreHeard, AreSent, AreSentBut, IsOwed, IsRightly}
 use Rattle.gateway_run.specs.Account.{Course, Course.begins, happened_in, numbers_in}
@@ -122,6 +129,9 @@ module _ (plan : Scenario) (count : ℕ) (first now : Told) (v : Serving) (b b' 
     none = λ none. none_unfinished plan count v b on (rests none).0;
     done = λ none. all_done plan v.session (map exchanged b'.frames) b'.grams v.desk.requests.items on.owed (dones_of plan count v.session b'.frames b'.grams v.desk.requests.items on.owed course') answers' (none_unfinished plan count v b on (rests none).0);
     rows = rows;
+    reported = subst (λ (rs : List SlaveBook). AllBoth IsBooked (map run_lead answers'.serving.leading.serves) rs) (sym rows) (all_booked v.session.recover (map run_lead answers'.serving.leading.serves) v.session.ring.nodes v.session.notes many answers'.serving.told);
+    unsent = subst (λ (rs : List SlaveBook). AllBoth IsSpent (map run_lead answers'.serving.leading.serves) rs) (sym rows) (all_spent v.session.recover (map run_lead answers'.serving.leading.serves) v.session.ring.nodes v.session.notes many answers'.serving.told);
+    epochs = subst (λ (rs : List SlaveBook). AllBoth HasEpochs (map run_lead answers'.serving.leading.serves) rs) (sym rows) (all_epochs v.session.recover (map run_lead answers'.serving.leading.serves) v.session.ring.nodes v.session.notes many answers'.serving.told);
     heard = ap emergencies_in rows ∙ heard_of_rows v.session.recover v.session.ring.nodes v.session.notes many ∙ answers'.serving.heard;
     listed = subst (λ (es : List SwitchEvent). ServedListed (ports_behind 0 plan.slaves) answers'.serving.leading.lives es) booked answers'.serving.forwarded.listed;
     begun = subst (λ (es : List SwitchEvent). AreServedBegun (ports_behind 0 plan.slaves) (ports_of plan.slaves) answers'.serving.leading.lives es) booked answers'.serving.forwarded.begun;

@@ -103,7 +103,7 @@ new_reports script spot left all = record {
   marked = record { spans = refl; leaving = refl; up = refl };
 }
 
-first_reports : (services : List (ℕ × Plan.Service)) (number place : ℕ) (ss : List SlaveSpec) → number ≡ place → AllReport (leads_from services place ss) (first_notes services number ss)
+pub first_reports : (services : List (ℕ × Plan.Service)) (number place : ℕ) (ss : List SlaveSpec) → number ≡ place → AllReport (leads_from services place ss) (first_notes services number ss)
 first_reports services number place [] e = tt
 first_reports services number place (s ∷ ss) e = (
   new_reports _ _ (scripted services number) (all_left services number ∙ ap (λ (k : ℕ). length (script_for k services)) e),

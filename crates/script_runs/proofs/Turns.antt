@@ -54,6 +54,10 @@ none_of test a b c d e room (Plan.Service.Forward packet) = refl
 pub not_packet : (room : ℕ) (s : Plan.Service) (q : Asked) → asked_of room s ≡ Some q → is_beside (Service.Mails q) ≡ false
 not_packet room s q e = ap (among (λ q. is_beside (Service.Mails q))) (sym e) ∙ none_of (λ q. is_beside (Service.Mails q)) (λ q. refl) (λ q. refl) (λ q. refl) (λ b. refl) refl room s
 
+-- nor a mail that is passed on
+pub none_passed : (room : ℕ) (s : Plan.Service) (q : Asked) → asked_of room s ≡ Some q → is_passed q ≡ false
+none_passed room s q e = ap (among is_passed) (sym e) ∙ none_of is_passed (λ q. refl) (λ q. refl) (λ q. refl) (λ b. refl) refl room s
+
 pub has_reply : (areas : Areas) (room : ℕ) (s : Plan.Service) (q : Asked) → asked_of room s ≡ Some q → handed areas q ≡ false
 has_reply areas room s q e = ap (among (handed areas)) (sym e) ∙ none_of (handed areas) (λ q. refl) (λ q. refl) (λ q. refl) (λ b. refl) refl room s
 
