@@ -1,5 +1,5 @@
 -- What is noted of a slave's services and epochs over a frame of a serving goes with its life, also while mails are passed on to it.
-use Rattle.std.proofs.Common.{◌≡◌, ℕ, suc, Bool, List, [], ◌∷◌, ◌++◌, map, length, length-append, refl, sym, ap, subst, arith}
+use Rattle.std.proofs.Common.{◌≡◌, ℕ, suc, Bool, Option, Some, None, List, [], ◌∷◌, ◌++◌, map, length, length-append, refl, sym, ap, subst, arith}
 use Rattle.datagrams.specs.Datagram as Raw
 use Rattle.master_node.proofs.Servings.{leads_same}
 use Rattle.master_node.specs.Serving.{IsServed, IsServedUnder, ServedShows, ServedUnder, run_lead, run_turn}
@@ -30,7 +30,10 @@ use Rattle.segment_plan.specs.declared.plan.Scenario.{Scenario}
 use Rattle.segment_plan.specs.declared.service.Service as Plan
 use Rattle.segment_ring.specs.declared.wire.Fate.{Fate}
 use Rattle.segment_ring.specs.declared.wire.Fate.TheVariants as Fates
-use Rattle.served_runs.specs.Served.{AllServedTurn, IsServedLed, IsServedTurn, Serves, ServedComes, ServedTurn, served_behind, served_life}
+use Rattle.master_node.specs.of_master_duty.of_state_exchange.Stated.{Service}
+use Rattle.master_node.specs.of_master_hand.Spoken.{Asked}
+use Rattle.served_runs.specs.Told.{Passed}
+use Rattle.served_runs.specs.Served.{AllServedTurn, IsServedLed, IsServedTurn, Keyed, Serves, ServedComes, ServedTurn, served_behind, served_life}
 
 -- ---- what is known of each at its stop
 
@@ -66,12 +69,13 @@ way_told lens recover retry missed made m octets vs h = under_told lens recover 
 -- what comes into hand is of the script, a packet, or a mail that is passed on
 module _ (lens : ℕ → Lens) (made : ℕ) (ds : List Raw.Datagram) where
   turn_by : (w : Serves) (v : ServedTurn) → IsServedTurn lens made ds w v → TurnsBy lens made w.lead v.turn
-  turn_by w v t = record { script = t.script; comes = by t.comes; next = t.next; begun = t.begun; took = t.took }
+  turn_by w v t = record { script = t.script; comes = by v.turn.begun v.turn.number v.waits v.hand t.comes; next = t.next; begun = t.begun; took = t.took }
     where
-      by : {b : _} {k : _} {rest : _} {hand : _} → ServedComes (lens w.lead.lived.spot.station).out w.lead.script w.waits w.hand w.lead.number b k rest hand → ComesBy (lens w.lead.lived.spot.station).out w.lead.script w.lead.number b k
-      by ServedComes.none = ComesBy.own _ _ Comes.none
-      by (ServedComes.own s m comes) = ComesBy.own _ _ comes
-      by (ServedComes.mail k rest e) = ComesBy.mail k.mail
+      by : (b : Option (Service Asked)) (k : ℕ) (rest : List Keyed) (hand : Option Passed) → ServedComes (lens w.lead.lived.spot.station).out w.lead.script w.waits w.hand w.lead.number b k rest hand →
+          ComesBy (lens w.lead.lived.spot.station).out w.lead.script w.lead.number b k
+      by _ _ _ _ ServedComes.none = ComesBy.own None w.lead.number Comes.none
+      by _ _ _ _ (ServedComes.own s m comes) = ComesBy.own (Some s) m comes
+      by _ _ _ _ (ServedComes.mail k rest e) = ComesBy.mail k.mail
 
   pub all_turn : (ws : List Serves) (vs : List ServedTurn) → AllServedTurn lens made ds ws vs → AllBoth (λ a b. TurnsSo made a b) (map run_lead ws) (map turned (map run_turn vs))
   all_turn [] [] t = tt
