@@ -133,6 +133,7 @@ first_answers plan count s first serving =
 -- ALL ALONG, with just the events of the course at the switch, and their numbers
 pub course_rowed : (plan : Scenario) (count : ℕ) → IsPlan plan → (s : SessionState) (fs : List SentFrame) (gs : List GramIn) (rs : List Request) (os : List Owing) (c : Course plan count s fs gs rs os) →
     Rowed plan s (map exchanged fs) gs rs os (dones_of plan count s fs gs rs os c) (happened_in plan count s fs gs rs os c) (numbers_in plan count s fs gs rs os c)
+unfolding first_answers
 course_rowed plan count is _ _ _ _ _ (begins s first serves) =
     let none = none_numbered plan (ports_behind 0 plan.slaves) (ports_of plan.slaves) [] serves.leading.missed serves.leading.serves serves.leading.lives (switch_events serves.rows) serves.numbers refl serves.numbered in
     (first_answers plan count s first serves, none.0, none.1)

@@ -39,7 +39,7 @@ use Rattle.run_record.proofs.of_run_notes.Switched.{has_packets}
 use Rattle.gateway_run.specs.Heard.{heard_as, AreHeard, AreSent, AreSentBut, IsOwed, IsRightly}
 use Rattle.gateway_run.specs.Account.{Course, Course.begins, happened_in, numbers_in}
 use Rattle.gateway_run.specs.Desk.{HasNone, IsOpen, AreApart}
-use Rattle.gateway_run.specs.Replies.{Answers, dones_of}
+use Rattle.gateway_run.specs.Replies.{dones_of}
 use Rattle.gateway_run.specs.Serving.{Told, IsOn, IsServing, IsFaulted, Goes, can_hear}
 use Rattle.gateway_run.specs.Served.{HasGrams, HasAccount, IsBroken, IsServed}
 use Rattle.gateway_run.specs.declared.turn.Serving.{Serving}
@@ -123,46 +123,40 @@ module _ (plan : Scenario) (count : ℕ) (first now : Told) (v : Serving) (b b' 
     requests = v.desk.requests.items;
     owed = on.owed;
     later = v.desk.outbox.items;
-    course = course';
+    course = same.0;
     spelled = spelled_same (map heard_as b.grams) (map heard_as b'.grams) on.owed (b.replies ++ v.desk.outbox.items) (b'.replies ++ v.desk.outbox.items) (ap (map heard_as) grams) (ap (λ (l : List GramOut). l ++ v.desk.outbox.items) replies) on.spelled;
-    answers = answers';
+    answers = rowed.0;
     none = λ none. none_unfinished plan count v b on (rests none).0;
-    done = λ none. all_done plan v.session (map exchanged b'.frames) b'.grams v.desk.requests.items on.owed (dones_of plan count v.session b'.frames b'.grams v.desk.requests.items on.owed course') answers' (none_unfinished plan count v b on (rests none).0);
+    done = λ none. all_done plan v.session (map exchanged b'.frames) b'.grams v.desk.requests.items on.owed (dones_of plan count v.session b'.frames b'.grams v.desk.requests.items on.owed same.0) rowed.0 (none_unfinished plan count v b on (rests none).0);
     rows = rows;
-    reported = subst (λ (rs : List SlaveBook). AllBoth IsBooked (map run_lead answers'.serving.leading.serves) rs) (sym rows) (all_booked v.session.recover (map run_lead answers'.serving.leading.serves) v.session.ring.nodes v.session.notes many answers'.serving.told);
-    unsent = subst (λ (rs : List SlaveBook). AllBoth IsSpent (map run_lead answers'.serving.leading.serves) rs) (sym rows) (all_spent v.session.recover (map run_lead answers'.serving.leading.serves) v.session.ring.nodes v.session.notes many answers'.serving.told);
-    epochs = subst (λ (rs : List SlaveBook). AllBoth HasEpochs (map run_lead answers'.serving.leading.serves) rs) (sym rows) (all_epochs v.session.recover (map run_lead answers'.serving.leading.serves) v.session.ring.nodes v.session.notes many answers'.serving.told);
-    heard = ap emergencies_in rows ∙ heard_of_rows v.session.recover v.session.ring.nodes v.session.notes many ∙ answers'.serving.heard;
-    listed = subst (λ (es : List SwitchEvent). ServedListed (ports_behind 0 plan.slaves) answers'.serving.leading.lives es) booked answers'.serving.forwarded.listed;
-    begun = subst (λ (es : List SwitchEvent). AreServedBegun (ports_behind 0 plan.slaves) (ports_of plan.slaves) answers'.serving.leading.lives es) booked answers'.serving.forwarded.begun;
-    numbered = subst (λ (ns : List ℕ). ServedNumbered (ports_behind 0 plan.slaves) (ports_of plan.slaves) answers'.serving.leading.lives b'.switch ns) numbered'
-        (subst (λ (es : List SwitchEvent). ServedNumbered (ports_behind 0 plan.slaves) (ports_of plan.slaves) answers'.serving.leading.lives es answers'.serving.numbers) booked answers'.serving.numbered);
-    rests = λ none. all_rest plan count v.session b b' on.underway answers'.serving (rests none).0 rows many (rests none).1;
+    reported = subst (λ (rs : List SlaveBook). AllBoth IsBooked (map run_lead rowed.0.serving.leading.serves) rs) (sym rows) (all_booked v.session.recover (map run_lead rowed.0.serving.leading.serves) v.session.ring.nodes v.session.notes many rowed.0.serving.told);
+    unsent = subst (λ (rs : List SlaveBook). AllBoth IsSpent (map run_lead rowed.0.serving.leading.serves) rs) (sym rows) (all_spent v.session.recover (map run_lead rowed.0.serving.leading.serves) v.session.ring.nodes v.session.notes many rowed.0.serving.told);
+    epochs = subst (λ (rs : List SlaveBook). AllBoth HasEpochs (map run_lead rowed.0.serving.leading.serves) rs) (sym rows) (all_epochs v.session.recover (map run_lead rowed.0.serving.leading.serves) v.session.ring.nodes v.session.notes many rowed.0.serving.told);
+    heard = ap emergencies_in rows ∙ heard_of_rows v.session.recover v.session.ring.nodes v.session.notes many ∙ rowed.0.serving.heard;
+    listed = subst (λ (es : List SwitchEvent). ServedListed (ports_behind 0 plan.slaves) rowed.0.serving.leading.lives es) booked rowed.0.serving.forwarded.listed;
+    begun = subst (λ (es : List SwitchEvent). AreServedBegun (ports_behind 0 plan.slaves) (ports_of plan.slaves) rowed.0.serving.leading.lives es) booked rowed.0.serving.forwarded.begun;
+    numbered = subst (λ (ns : List ℕ). ServedNumbered (ports_behind 0 plan.slaves) (ports_of plan.slaves) rowed.0.serving.leading.lives b'.switch ns) numbered'
+        (subst (λ (es : List SwitchEvent). ServedNumbered (ports_behind 0 plan.slaves) (ports_of plan.slaves) rowed.0.serving.leading.lives es rowed.0.serving.numbers) booked rowed.0.serving.numbered);
+    rests = λ none. all_rest plan count v.session b b' on.underway rowed.0.serving (rests none).0 rows many (rests none).1;
     packets = has_packets plan v.session.ports v.session.ring.number v.session.master.lan b b' on.underway.ports (sym (ap length frames ∙ many_sent plan count v.session b on.underway)) kept on.underway.switched;
-    come = λ none. no_packet plan count v.session b b' on.underway answers'.serving (rests none).0 kept;
-    steady = course_falls plan count on.is_plan v.session b'.frames b'.grams v.desk.requests.items on.owed course';
-    stray = course_strays plan count on.is_plan v.session b'.frames b'.grams v.desk.requests.items on.owed course' b'.slaves rows;
+    come = λ none. no_packet plan count v.session b b' on.underway rowed.0.serving (rests none).0 kept;
+    steady = course_falls plan count on.is_plan v.session b'.frames b'.grams v.desk.requests.items on.owed same.0;
+    stray = course_strays plan count on.is_plan v.session b'.frames b'.grams v.desk.requests.items on.owed same.0 b'.slaves rows;
     all = all;
   }
     where
       same : CourseTo plan count v.session b'.frames b'.grams v.desk.requests.items on.owed b'.switch b'.switched
       same = course_same plan count v.session v.session b.frames b'.frames b.grams b'.grams v.desk.requests.items v.desk.requests.items on.owed b.switch b'.switch b.switched b'.switched refl frames grams refl kept.switch kept.switched (on.course, on.switch, on.switched)
 
-      course' : Course plan count v.session b'.frames b'.grams v.desk.requests.items on.owed
-      course' = same.0
-
-      rowed : Rowed plan v.session (map exchanged b'.frames) b'.grams v.desk.requests.items on.owed (dones_of plan count v.session b'.frames b'.grams v.desk.requests.items on.owed course') (happened_in plan count v.session b'.frames b'.grams v.desk.requests.items on.owed course')
-          (numbers_in plan count v.session b'.frames b'.grams v.desk.requests.items on.owed course')
-      rowed = course_rowed plan count on.is_plan v.session b'.frames b'.grams v.desk.requests.items on.owed course'
-
-      answers' : Answers plan v.session (map exchanged b'.frames) b'.grams v.desk.requests.items on.owed (dones_of plan count v.session b'.frames b'.grams v.desk.requests.items on.owed course')
-      answers' = rowed.0
+      rowed : Rowed plan v.session (map exchanged b'.frames) b'.grams v.desk.requests.items on.owed (dones_of plan count v.session b'.frames b'.grams v.desk.requests.items on.owed same.0) (happened_in plan count v.session b'.frames b'.grams v.desk.requests.items on.owed same.0)
+          (numbers_in plan count v.session b'.frames b'.grams v.desk.requests.items on.owed same.0)
+      rowed = course_rowed plan count on.is_plan v.session b'.frames b'.grams v.desk.requests.items on.owed same.0
 
       -- the events of the book are those of the lives
-      booked : events_of answers'.serving.rows ≡ b'.switch
+      booked : events_of rowed.0.serving.rows ≡ b'.switch
       booked = rowed.1 ∙ same.1
 
-      numbered' : answers'.serving.numbers ≡ b'.switched
+      numbered' : rowed.0.serving.numbers ≡ b'.switched
       numbered' = rowed.2 ∙ same.2
 
   -- a serving whose port failed

@@ -46,12 +46,9 @@ use Rattle.served_places.specs.Rows.{HearsNoMore, passed_rows, passings, replies
 use Rattle.served_rings.specs.Given.{AllGiven, Given, IsGiven as IsGivenRow, given}
 use Rattle.served_rings.specs.Served.{AllServeSo, IsServedLife, replies_to}
 use Rattle.served_runs.specs.Served.{IsServedFrame, IsServedLed, ServedTurn, Serves, all_serve}
-use Rattle.slave_model.specs.Profile.{Profile}
-use Rattle.slave_parts.specs.Parts.{Server}
 use Rattle.slave_server.specs.Serving.{Serving}
 use Rattle.slave_server.specs.Spec.{profile_of}
 use Rattle.slave_steps.specs.Node.{Node}
-use Rattle.state_exchange.specs.Families.{InState}
 
 -- the laws
 abbrev pub StaysLaw : Type 0
@@ -61,13 +58,13 @@ StaysLaw =
 
 abbrev pub RowsLaw : Type 0
 RowsLaw =
-    (p : Profile) (boot : Bool) (station start : ℕ) (first : InState Server) (l : Life Body Asked Reply) (n : Node Serving) (d : IsServedLife p boot station start first l n) →
-    AllGiven p boot station (given p boot station start first l n d) (passings l) (passed_rows l)
+    (s : SlaveSpec) (l : Life Body Asked Reply) (n : Node Serving) (d : IsServedLife (profile_of s) s.boot s.station s.start (first_server s) l n) →
+    AllGiven (profile_of s) s.boot s.station (given (profile_of s) s.boot s.station s.start (first_server s) l n d) (passings l) (passed_rows l)
 
 abbrev pub RowLaw : Type 0
 RowLaw =
-    (p : Profile) (boot : Bool) (station : ℕ) (gs : List Given) (ps : List (Option Passing)) (rs : List (Row Body Asked Reply)) → AllGiven p boot station gs ps rs →
-    (i : ℕ) (r : Row Body Asked Reply) → slice_get rs i ≡ Some r → (g : Given) × (passing : Option Passing) × (slice_get gs i ≡ Some g) × (slice_get ps i ≡ Some passing) × IsGivenRow p boot station g passing r
+    (s : SlaveSpec) (gs : List Given) (ps : List (Option Passing)) (rs : List (Row Body Asked Reply)) → AllGiven (profile_of s) s.boot s.station gs ps rs →
+    (i : ℕ) (r : Row Body Asked Reply) → slice_get rs i ≡ Some r → (g : Given) × (passing : Option Passing) × (slice_get gs i ≡ Some g) × (slice_get ps i ≡ Some passing) × IsGivenRow (profile_of s) s.boot s.station g passing r
 
 -- NO FRAME OF THE BOOK BRINGS A REPLY MORE to a mail that is over
 first_round : (ring : RingState (Node Serving)) (front back : List Exchanged) (f : Exchanged) → AllRound ring (front ++ f ∷ back) → AllRound ring (front ++ f ∷ [])
@@ -104,7 +101,7 @@ module _ (laws : RowsLaw) (law : RowLaw) (s : SlaveSpec) (w : Serves) (n : Node 
 
     step_of : IsStepOf s steps came number asked (is_in number dones) (owed_for number os)
     step_of =
-        let g = law (profile_of s) s.boot s.station steps (passings w.lead.lived.life) (passed_rows w.lead.lived.life) (laws (profile_of s) s.boot s.station s.start (first_server s) w.lead.lived.life n d) row.index row.row row.is in
+        let g = law s steps (passings w.lead.lived.life) (passed_rows w.lead.lived.life) (laws s w.lead.lived.life n d) row.index row.row row.is in
         let over = both_at (λ k p. is_in k dones ≡ true → p ≡ None) came (passings w.lead.lived.life) row.index number all.over row.its in
         let same : row.mail ≡ g.0.mail = (let one : passed row.mail ≡ passed g.0.mail = sym row.service ∙ g.4.service in cc) in
         let stands : over.0 ≡ g.1 = (let one : Some over.0 ≡ Some g.1 = sym over.1 ∙ g.3 in cc) in

@@ -60,7 +60,7 @@ pub record IsGiven (plan : Scenario) (count : ℕ) (book : Book) (ending : Endin
   pub each : (number : ℕ) (g : GramIn) (slave : ℕ) → slice_get book.grams number ≡ Some g → g.queued ≡ Some slave →
       (asked : Mail) × (request_in g.bytes ≡ Ok asked)
       × IsGivenAt plan.slaves a.answers.serving.leading.serves (ring_after (first_ring plan) book.frames).nodes served a.answers.came slave number asked
-        (is_in number (dones_of plan count a.session book.frames book.grams a.requests a.owed a.course)) (owed_for number a.owed)
+      (is_in number (dones_of plan count a.session book.frames book.grams a.requests a.owed a.course)) (owed_for number a.owed)
 
 -- by each account of the book
 abbrev pub IsServedGiven : Scenario → ℕ → Book → Type 0

@@ -13,7 +13,6 @@ use Rattle.passed_whole.specs.Erased.{EndOne}
 use Rattle.passed_whole.specs.Heard.{EraPasses, IsPassedBy}
 use Rattle.passed_whole.specs.Silent.{is_passed}
 use Rattle.seen_slaves.proofs.Comes.{come}
-use Rattle.seen_slaves.proofs.Left.{none_box}
 use Rattle.seen_slaves.proofs.Links.{link}
 use Rattle.seen_slaves.specs.Fits.{FitsSo, HasNone}
 use Rattle.seen_slaves.specs.Spent.{IsEndTold, NothingSeen, SpeakOne}
@@ -23,6 +22,7 @@ use Rattle.seen_slaves.proofs.SeenTold.{told_as}
 use Rattle.seen_slaves.proofs.Alone.{alone_as}
 use Rattle.seen_slaves.proofs.SeenRows.{state_real}
 use Rattle.seen_slaves.proofs.SeenStands.{era_stands}
+use Rattle.served_rings.proofs.SeenSettled.{none_box}
 use Rattle.segment_model.specs.Ends.{Passing}
 use Rattle.segment_model.specs.Record.{Frame}
 use Rattle.segment_model.specs.Slaves.{Processor, Registers, Slave}

@@ -1,14 +1,13 @@
 -- What is left to tell of a row, and whether a slave is settled, as another sees it.
-use Rattle.std.proofs.Common.{◌≡◌, ℕ, suc, zero, Option, Some, None, List, [], ◌∷◌, map, length, refl, sym, ap, ◌∙◌}
+use Rattle.std.proofs.Common.{◌≡◌, ℕ, suc, zero, List, [], ◌∷◌, map, length, refl, sym, ap, ◌∙◌}
 use Rattle.std.specs.Prelude.{drop}
 use Rattle.std.proofs.lemmas.List.{length-map}
 use Rattle.exchange_model.specs.Exchange.{Speech, plain}
 use Rattle.exchange_model.specs.Rows.{Row, left}
-use Rattle.link_model.specs.Mails.{LinkMail}
 use Rattle.passed_whole.specs.Erased.{PlanOne, row_seen}
 use Rattle.segment_model.specs.Laws.{IsSettled}
 use Rattle.segment_model.specs.Slaves.{Slave}
-use Rattle.serving_model.specs.Erasing.{box_as, mail_as, slave_as}
+use Rattle.serving_model.specs.Erasing.{box_as, slave_as}
 
 drop_as : {N M : Type 0} (f : N → M) (n : ℕ) (xs : List N) → drop n (map f xs) ≡ map f (drop n xs)
 drop_as f zero xs = refl
@@ -21,21 +20,5 @@ left_as f g h y x r same =
     ∙ drop_as f (length r.told) (y.planned r.service (plain y.emission r.heard))
 
 module _ {N M W V : Type 0} (f : N → M) (server : W → V) (n : Slave W N) where
-  pub none_box : (b : Option (LinkMail N)) → box_as f b ≡ None → b ≡ None
-  none_box None e = refl
-  none_box (Some m) e = absurd (let no : Some (mail_as f m) ≡ None = e in cc)
-
-  none_map : (ms : List N) → map f ms ≡ [] → ms ≡ []
-  none_map [] e = refl
-  none_map (m ∷ ms) e = absurd (let no : f m ∷ map f ms ≡ [] = e in cc)
-
   pub settled_to : IsSettled n → IsSettled (slave_as f server n)
   settled_to k = record { first = ap (box_as f) k.first; second = ap (box_as f) k.second; withdrawn = ap (box_as f) k.withdrawn; waiting = ap (map f) k.waiting }
-
-  pub settled_back : IsSettled (slave_as f server n) → IsSettled n
-  settled_back k = record {
-    first = none_box n.node.out.box k.first;
-    second = none_box n.node.inn.box k.second;
-    withdrawn = none_box n.node.inn.withdrawn k.withdrawn;
-    waiting = none_map n.node.server.waiting k.waiting;
-  }

@@ -11,7 +11,8 @@ use Rattle.link_model.specs.Mails.{LinkMail}
 use Rattle.never_waits.specs.Waits.{NeverWaits}
 use Rattle.passed_whole.specs.Erased.{OfRow, PlanOne, row_seen, side_seen}
 use Rattle.passed_whole.specs.Heard.{EraPasses, HeardBy, IsPassedBy}
-use Rattle.seen_slaves.proofs.Left.{left_as, settled_back}
+use Rattle.seen_slaves.proofs.Left.{left_as}
+use Rattle.served_rings.proofs.SeenSettled.{settled_back}
 use Rattle.seen_slaves.specs.Spent.{IsEndTold, NothingSeen, SpeakOne}
 use Rattle.segment_model.specs.Ends.{Passing}
 use Rattle.segment_model.specs.Record.{Frame}

@@ -1,7 +1,6 @@
 -- OF AN EPOCH THAT IS SEEN as a session the packets that were heard are of the services that came into hand in it.
 use Rattle.std.proofs.Common.{◌≡◌, ℕ, zero, suc, ◌+◌, ◌≤◌, ◌<◌, Bool, true, false, cond, Option, None, List, [], ◌∷◌, ◌++◌, map, take, length, refl, sym, ap, ap₂, ◌∙◌, arith}
 use Rattle.std.specs.Prelude.{sum_by}
-use Rattle.std.proofs.lemmas.List.{map-append}
 use Rattle.std.proofs.lemmas.List.Sums.{sum_by-cons}
 use Rattle.exchange_model.specs.Exchange.{emitted}
 use Rattle.exchange_model.specs.Lifted.{EachOf}
@@ -17,12 +16,12 @@ use Rattle.link_mails.specs.Body.{Body}
 use Rattle.master_duty.specs.Reply as Master
 use Rattle.master_hand.specs.Joins.{packets_in}
 use Rattle.master_hand.specs.Spoken as Spoken
-use Rattle.passed_whole.specs.Client.{ByContents}
-use Rattle.passed_whole.specs.Erased.{frame_as, news_as, all_news_as}
-use Rattle.passed_whole.proofs.Naturals.{each_of, kept_of}
+use Rattle.passed_whole.specs.Erased.{frame_as}
+use Rattle.passed_whole.proofs.Naturals.{kept_of}
+use Rattle.served_rings.proofs.HeardSeen.{emitted_untag, heard_as}
 use Rattle.served_rings.specs.Speakers.{seer_of, table_of, whole_states}
 use Rattle.run_work.specs.Sessions.{InRow, Meant, Wanted, named_wanted}
-use Rattle.segment_model.specs.Record.{Frame, Kept, News, heard, joined, kept_after, kept_all, mails_heard, news_each, nothing_kept}
+use Rattle.segment_model.specs.Record.{Frame, Kept, heard, kept_after, kept_all, nothing_kept}
 use Rattle.segment_model.specs.Slaves.{Registers, Slave}
 use Rattle.sent_packets.specs.Sends.{sends_most}
 use Rattle.sent_packets.proofs.Epochs.{Emit, Joins, few_heard, first_sum}
@@ -49,35 +48,9 @@ use Rattle.task_model.proofs.Sessions.{tasks_promised}
 
 -- ---- what frames tell without what is meant by their mails
 module _ {N M : Type 0} (f : N → M) where
-  joined_as : (nss : List (List (News N))) → joined (map (λ ns. all_news_as f ns) nss) ≡ all_news_as f (joined nss)
-  joined_as [] = refl
-  joined_as (ns ∷ nss) = ap (λ l. all_news_as f ns ++ l) (joined_as nss) ∙ sym (map-append (λ n. news_as f n) ns (joined nss))
-
-  mails_as : (ns : List (News N)) → mails_heard (all_news_as f ns) ≡ map f (mails_heard ns)
-  mails_as [] = refl
-  mails_as (News.Told m ∷ ns) = mails_as ns
-  mails_as (News.Written ∷ ns) = mails_as ns
-  mails_as (News.Heard m ∷ ns) = ap (λ l. f m ∷ l) (mails_as ns)
-  mails_as (News.NothingRead ∷ ns) = mails_as ns
-  mails_as (News.BoxFull full ∷ ns) = mails_as ns
-  mails_as (News.Status state refused ∷ ns) = mails_as ns
-
-  pub heard_as : (station : ℕ) (ks : List (Frame N)) → heard station (map (λ k. frame_as f k) ks) ≡ map f (heard station ks)
-  heard_as station ks =
-      ap (λ nss. mails_heard (joined nss)) (sym (each_of f station nothing_kept ks)) ∙ ap mails_heard (joined_as (news_each station nothing_kept ks)) ∙ mails_as (joined (news_each station nothing_kept ks))
-
   pub kept_as : (station : ℕ) (kept : Kept) (ks : List (Frame N)) → kept_all station kept (map (λ k. frame_as f k) ks) ≡ kept_all station kept ks
   kept_as station kept [] = refl
   kept_as station kept (k ∷ ks) = ap (λ j. kept_all station j (map (λ l. frame_as f l) ks)) (sym (kept_of f station kept k)) ∙ kept_as station (kept_after station kept k) ks
-
--- the emissions among them
-emitted_untag : {M Q : Type 0} (e : M → Bool) (ts : List (Tagged M Q)) → ByContents e ts → untag (emitted (λ t. is_own t.meant) ts) ≡ emitted e (untag ts)
-emitted_untag e [] c = refl
-emitted_untag {M = M} e (t ∷ ts) c = go (is_own t.meant) ∙ ap₂ (λ (b : Bool) (l : List M). cond b (t.mail ∷ l) l) c.0 (emitted_untag e ts c.1)
-  where
-    go : (b : Bool) → untag (cond b (t ∷ emitted (λ k. is_own k.meant) ts) (emitted (λ k. is_own k.meant) ts)) ≡ cond b (t.mail ∷ untag (emitted (λ k. is_own k.meant) ts)) (untag (emitted (λ k. is_own k.meant) ts))
-    go true = refl
-    go false = refl
 
 -- ---- the services by their names
 abbrev seen_started : Started Wanted → Started Spoken.Asked

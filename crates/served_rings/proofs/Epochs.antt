@@ -15,7 +15,7 @@ use Rattle.segment_model.specs.Record.{Frame}
 use Rattle.segment_model.specs.Slaves.{Slave}
 use Rattle.served_rings.specs.Serves.{serves}
 use Rattle.serving_model.specs.Tagged.{ideal}
-use Rattle.slave_lives.specs.Lived.{node_seen}
+use Rattle.slave_lives.specs.Lived.{IsBehind, node_seen}
 use Rattle.slave_model.specs.Profile.{Profile}
 use Rattle.slave_parts.specs.Parts.{Server, parts}
 use Rattle.slave_served.specs.Served.{product_whole}
@@ -24,9 +24,11 @@ use Rattle.slave_steps.specs.Node.{Node}
 use Rattle.state_exchange.specs.Families.{InState}
 use Rattle.life_counts.specs.Epochs.{IsSpeaker, IsSeen}
 use Rattle.task_model.specs.Promise.{services_in}
-use Rattle.served_rings.specs.Served.{IsServedEra, WasServed, server_behind}
+use Rattle.served_rings.specs.Served.{IsServedEra, NothingLeft, RestsIf, WasServed, server_behind}
 use Rattle.served_rings.proofs.Mails.{AllNamed, behind_named, is_mail, mailer, mailer_speaks, named_take, services_named, start_named}
+use Rattle.plan_ring.proofs.Settled.{settled_seen}
 use Rattle.served_rings.proofs.Newest.{exec_is}
+use Rattle.served_rings.proofs.Rested.{left_so}
 use Rattle.served_rings.proofs.Heard.{all_heard, newest_there, seen_so}
 use Rattle.served_rings.proofs.Seen.{clears_so, promised, valid}
 
@@ -88,9 +90,10 @@ module _ (p : Profile) (k : IsSpeaker (speaker p)) (forgets : Forgets (speaker p
     pub done : InState Server
     pub was : WasServed p boot spot.station spot.start at e seen_node.node.server.server done
     pub cleared : cleared_whole seen_node.node.server.server ≡ cleared_whole done
+    pub rests : RestsIf p boot spot.station (record at { state = was.state }) e done n
 
-  pub era_served : (at : InState Server) → from.inner ≡ at.inner → EraServed at
-  era_served at same =
+  pub era_served : IsBehind (serves p boot lens) → (at : InState Server) → from.inner ≡ at.inner → EraServed at
+  era_served behind at same =
       let i = seen in
       let begins : l.server ≡ record at { state = l.registers.state } = l.begins ∙ (λ j. record { inner = same j; state = l.registers.state }) in
       record {
@@ -101,4 +104,8 @@ module _ (p : Profile) (k : IsSpeaker (speaker p)) (forgets : Forgets (speaker p
           era = subst (λ z. IsServedEra p boot spot.station z e seen_node.node.server.server (ideal (product_whole parts p) i.slave.node.server.server)) begins (served_era i);
         };
         cleared = cleared_so i;
+        rests = λ settled wants hand over. subst (λ z. NothingLeft p boot spot.station z e (ideal (product_whole parts p) i.slave.node.server.server)) begins
+            (left_so p speaks boot spot l.opened l.server l.registers fs counts e seen_node i (settled_seen (serves p boot lens) behind n l.stands settled) wants hand over
+            (λ gs counted d m led. seen_so p k boot lens spot l.opened l.server l.registers l.plan l.answers gs counted d m led)
+            (λ gs counted d m led. newest_there p k boot lens spot l.opened l.server l.registers l.plan l.answers gs counted d m led) l.led);
       }

@@ -6,6 +6,8 @@ mod Calms
 mod Carried
 pub mod Chains
 pub mod Counted
+mod Emitted
+mod Ended
 pub mod Ends
 pub mod Epochs
 pub mod Fair
@@ -13,6 +15,7 @@ pub mod Frames
 pub mod Gifts
 mod Given
 mod Heard
+pub mod HeardSeen
 pub mod Kept
 pub mod Led
 pub mod LedLives
@@ -27,10 +30,16 @@ pub mod OfCoe
 pub mod One
 pub mod Others
 pub mod Passed
+mod RestAll
+mod Rested
 pub mod Rings
 pub mod Rows
+mod RowsHeard
+mod RowsSeen
 pub mod Seen
+mod SeenRests
 pub mod SeenRows
+pub mod SeenSettled
 pub mod SeenWhole
 pub mod ServedAll
 pub mod ServedLives

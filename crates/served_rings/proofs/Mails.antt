@@ -73,7 +73,7 @@ module _ (p : Profile) where
   named q = service_seen named_wanted q
 
   -- a service acts by its name
-  acts_named : (v : InState Server) (q : Wanted) → valid (Service.Mails q) ≡ true → asked_exec (product_whole parts p) v q ≡ (spoken p).exec v (named_wanted q)
+  pub acts_named : (v : InState Server) (q : Wanted) → valid (Service.Mails q) ≡ true → asked_exec (product_whole parts p) v q ≡ (spoken p).exec v (named_wanted q)
   acts_named v (Asked.Script (Protocol.CoE, q)) k = refl
   acts_named v (Asked.Script (Protocol.FoE, q)) k = refl
   acts_named v (Asked.Script (Protocol.SoE, q)) k = refl

@@ -20,7 +20,7 @@ use Rattle.link_model.specs.Frames.{all_accepted}
 use Rattle.link_model.specs.Segment.{RingFate}
 use Rattle.master_duty.specs.Reply.{Reply}
 use Rattle.master_hand.specs.Spoken.{Asked, acknowledged, emission, is_followed, is_passed}
-use Rattle.master_tour.specs.Brings.{accepted_in}
+use Rattle.served_places.specs.of_counters_kept.of_master_tour.Brings.{accepted_in}
 use Rattle.plan_ring.proofs.Known.{AllBoot, all_boot, macs_in}
 use Rattle.plan_ring.specs.Lives.{IsKnown}
 use Rattle.plan_ring.specs.Plan.{AllMacs, FitsPlan, step}

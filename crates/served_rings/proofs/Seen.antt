@@ -36,7 +36,7 @@ module _ {V M Q R C T : Type 0} (w : Speaker V M Q R C T) (k : IsSpeaker w) (see
   abbrev SlaveHere : Type 0
   SlaveHere = Slave (Rowed V M Q) (Tagged M Q)
 
-  abbrev epoch : OpenEra (Rowed V M Q) V (Tagged M Q) (Asked M Q) (Option R)
+  abbrev pub epoch : OpenEra (Rowed V M Q) V (Tagged M Q) (Asked M Q) (Option R)
   epoch = record {
     exchange = seeing w;
     states = seeing_states w;

@@ -1,5 +1,5 @@
 -- ALL SLAVES of a serving, at their places.
-use Rattle.std.proofs.Common.{◌≡◌, ℕ, suc, List, [], ◌∷◌, map, ap, refl}
+use Rattle.std.proofs.Common.{◌≡◌, ℕ, suc, Bool, List, [], ◌∷◌, map, ap, refl}
 use Rattle.std.specs.Prelude.{All}
 use Rattle.std.proofs.lemmas.List.Elements.{All-head, All-tail}
 use Rattle.frame_view.specs.View.{Lens}
@@ -17,12 +17,14 @@ use Rattle.segment_plan.specs.declared.plan.Scenario.{Scenario}
 use Rattle.segment_plan.specs.declared.slave.SlaveSpec.{SlaveSpec}
 use Rattle.served_rings.specs.Rings.{AllServedAt, ServedMember, counters_of, served_members}
 use Rattle.served_runs.specs.Served.{Serves}
+use Rattle.slave_lives.specs.Lived.{IsBehind}
 use Rattle.slave_model.specs.Profile.{Profile, IsProfile}
 use Rattle.slave_server.specs.Serving.{Serving}
 use Rattle.slave_server.specs.Spec.{profile_of}
 use Rattle.slave_steps.specs.Node.{Node}
 use Rattle.life_counts.specs.Epochs.{IsSpeaker}
 use Rattle.served_rings.specs.Served.{AllServeSo}
+use Rattle.served_rings.specs.Serves.{serves}
 use Rattle.served_rings.proofs.ServedLives.{life_served}
 
 -- the nodes of the members are those nodes
@@ -34,7 +36,8 @@ nodes_of plan lens place (s ∷ ss) [] ns at = absurd at
 nodes_of plan lens place (s ∷ ss) (w ∷ ws) [] at = absurd at
 nodes_of plan lens place (s ∷ ss) (w ∷ ws) (n ∷ ns) at = ap (λ l. n ∷ l) (nodes_of plan lens (suc place) ss ws ns at.1)
 
-module _ (speaks : (p : Profile) → IsProfile p → IsSpeaker (speaker p)) (forgets : (p : Profile) → Forgets (speaker p).exchange (speaker p).core cleared_whole) (plan : Scenario) (gs : List (Frame Body)) where
+module _ (speaks : (p : Profile) → IsProfile p → IsSpeaker (speaker p)) (forgets : (p : Profile) → Forgets (speaker p).exchange (speaker p).core cleared_whole)
+    (behind : (p : Profile) (boot : Bool) (lens : ℕ → Lens) → IsBehind (serves p boot lens)) (plan : Scenario) (gs : List (Frame Body)) where
   abbrev lens : ℕ → Lens
   lens = lens_of plan.slaves
 
@@ -47,6 +50,6 @@ module _ (speaks : (p : Profile) → IsProfile p → IsSpeaker (speaker p)) (for
   all_serve_so place (s ∷ ss) (w ∷ ws) (n ∷ ns) slaves macs led at =
       let here = All-head IsSlave s ss slaves in
       let profile : IsProfile (profile_of s) = record { out_least = here.out_least; out_most = here.out_most; back_least = here.in_least; back_most = here.in_most; mac = macs.0 } in (
-        life_served (profile_of s) (speaks (profile_of s) profile) (forgets (profile_of s)) s.boot lens (spot_of place s) (plan_of s) w.kept w.counts (first_server s) w.lead.lived.life gs n led.0,
+        life_served (profile_of s) (speaks (profile_of s) profile) (forgets (profile_of s)) s.boot lens (behind (profile_of s) s.boot lens) (spot_of place s) (plan_of s) w.kept w.counts (first_server s) w.lead.lived.life gs n led.0,
         all_serve_so (suc place) ss ws ns (All-tail IsSlave s ss slaves) macs.1 led.1 at.1,
       )

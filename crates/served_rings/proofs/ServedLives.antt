@@ -1,5 +1,5 @@
 -- EPOCH BY EPOCH: what a slave of a serving did in its life.
-use Rattle.std.proofs.Common.{◌≡◌, ℕ, Bool, false, Option, List, refl, ap, sym, ◌∙◌}
+use Rattle.std.proofs.Common.{◌≡◌, ◌≢◌, ℕ, Bool, false, Option, List, refl, ap, sym, ◌∙◌}
 use Rattle.frame_view.specs.View.{Lens}
 use Rattle.frames_seen.specs.Slaves.{registers_seen}
 use Rattle.served_rings.specs.Lives.{LedKept, LedYet, LedLeft, AllLeds, IsLedLived}
@@ -13,7 +13,7 @@ use Rattle.segment_model.specs.Record.{Frame, Kept}
 use Rattle.segment_model.specs.Seats.{rows_of}
 use Rattle.served_rings.specs.Serves.{serves}
 use Rattle.served_rings.specs.Clearing.{serves_clearing}
-use Rattle.slave_lives.specs.Lived.{Behind}
+use Rattle.slave_lives.specs.Lived.{Behind, IsBehind}
 use Rattle.slave_lives.specs.Opening.{Plan}
 use Rattle.slave_lives.specs.Stands.{opening_again}
 use Rattle.slave_model.specs.Profile.{Profile}
@@ -26,11 +26,17 @@ use Rattle.whole_ring.specs.Whole.{OpensBy, StandsBy}
 use Rattle.served_rings.specs.Served.{AreServedEras, IsServedNewest, IsServedLife, NothingCame}
 use Rattle.served_rings.proofs.Epochs.{era_served}
 
+not_open : (o : Opening) → Stand.Opens o ≢ Stand.Open
+not_open o e = cc
+
+gone_not_open : Stand.Gone ≢ Stand.Open
+gone_not_open e = cc
+
 -- of an epoch that is new nothing came into hand
 nothing : (e : Era Body Asked Reply) (cleared : Option ℕ) → e ≡ new_era cleared → NothingCame e
 nothing e cleared is_new = record { started = ap (λ (d : Era Body Asked Reply). d.account.started) is_new; rows = ap (λ (d : Era Body Asked Reply). rows_of d.side) is_new }
 
-module _ (p : Profile) (k : IsSpeaker (speaker p)) (forgets : Forgets (speaker p).exchange (speaker p).core cleared_whole) (boot : Bool) (lens : ℕ → Lens) (spot : Spot) where
+module _ (p : Profile) (k : IsSpeaker (speaker p)) (forgets : Forgets (speaker p).exchange (speaker p).core cleared_whole) (boot : Bool) (lens : ℕ → Lens) (behind : IsBehind (serves p boot lens)) (spot : Spot) where
   abbrev w : Behind Serving (InState Server) (InState Server) Asked Reply
   w = serves p boot lens
 
@@ -61,7 +67,7 @@ module _ (p : Profile) (k : IsSpeaker (speaker p)) (forgets : Forgets (speaker p
       }
   past_served (AllLeds.opened a es b e s before left) =
       let rest = past_served before in
-      let one = era_served p k forgets boot lens spot b left.led e left.frames left.node left.era rest.at rest.same in
+      let one = era_served p k forgets boot lens spot b left.led e left.frames left.node left.era behind rest.at rest.same in
       let state = (registers_seen left.node.registers).state in
       record {
         at = cleared_whole one.done;
@@ -69,26 +75,26 @@ module _ (p : Profile) (k : IsSpeaker (speaker p)) (forgets : Forgets (speaker p
         same = ap (λ (z : Serving). (cleared_whole (w.sees state z).server).inner) (sym left.same) ∙ ap (λ (v : InState Server). v.inner) one.cleared;
       }
 
-  opens_served : (plan : Plan) (from at : InState Server) → from.inner ≡ at.inner → (e : Era Body Asked Reply) (fs : List (Frame Body)) (stand : Stand) (n : Node Serving) (o : Opening) →
+  opens_served : (plan : Plan) (from at : InState Server) → from.inner ≡ at.inner → (e : Era Body Asked Reply) (fs : List (Frame Body)) (stand : Stand) → stand ≢ Stand.Open → (n : Node Serving) (o : Opening) →
       OpensBy w (λ a d gs m. LedYet w is_followed is_passed spot a d gs m) (λ a d gs s. LedLeft w is_followed is_passed spot a d s) plan spot from e fs o n → Newest at e n stand
-  opens_served plan from at same e fs stand n o (OpensBy.yet again step is still) =
+  opens_served plan from at same e fs stand shut n o (OpensBy.yet again step is still) =
       let x = still.lives.epoch in
-      let one = era_served p k forgets boot lens spot from x.led e fs n x.era at same in
-      IsServedNewest.over stand _ one.done one.was
-  opens_served plan from at same e fs stand n o (OpensBy.anew closing x start) = IsServedNewest.unopened stand (nothing e x.cleared x.is_new)
-  opens_served plan from at same e fs stand n o (OpensBy.over closing again early x) =
+      let one = era_served p k forgets boot lens spot from x.led e fs n x.era behind at same in
+      IsServedNewest.over stand shut _ one.done one.was
+  opens_served plan from at same e fs stand shut n o (OpensBy.anew closing x start) = IsServedNewest.unopened stand shut (nothing e x.cleared x.is_new)
+  opens_served plan from at same e fs stand shut n o (OpensBy.over closing again early x) =
       let y = x.left in
-      let one = era_served p k forgets boot lens spot from y.led e y.frames y.node y.era at same in
-      IsServedNewest.over stand _ one.done one.was
+      let one = era_served p k forgets boot lens spot from y.led e y.frames y.node y.era behind at same in
+      IsServedNewest.over stand shut _ one.done one.was
 
   newest_served : (plan : Plan) (kept : Kept) (counts : Bool) (from at : InState Server) → from.inner ≡ at.inner → (e : Era Body Asked Reply) (fs : List (Frame Body)) (stand : Stand) (n : Node Serving) →
       StandsBy w (λ a d gs m. LedKept w is_followed is_passed spot kept counts a d gs m) (λ a d gs m. LedYet w is_followed is_passed spot a d gs m) (λ a d gs s. LedLeft w is_followed is_passed spot a d s) plan spot from e fs stand n → Newest at e n stand
-  newest_served plan kept counts from at same e fs (Stand.Opens o) n now = opens_served plan from at same e fs (Stand.Opens o) n o now
+  newest_served plan kept counts from at same e fs (Stand.Opens o) n now = opens_served plan from at same e fs (Stand.Opens o) (not_open o) n o now
   newest_served plan kept counts from at same e fs Stand.Open n now =
       let x = now.lives.epoch in
-      let one = era_served p k forgets boot lens spot from x.led e fs n x.era at same in
-      IsServedNewest.lives _ one.done refl refl one.was
-  newest_served plan kept counts from at same e fs Stand.Gone n now = opens_served plan from at same e fs Stand.Gone n (opening_again spot.start false) now
+      let one = era_served p k forgets boot lens spot from x.led e fs n x.era behind at same in
+      IsServedNewest.lives _ one.done refl refl one.was one.rests
+  newest_served plan kept counts from at same e fs Stand.Gone n now = opens_served plan from at same e fs Stand.Gone gone_not_open n (opening_again spot.start false) now
 
   -- THE WHOLE LIFE
   pub life_served : (plan : Plan) (kept : Kept) (counts : Bool) (first : InState Server) (l : Life Body Asked Reply) (fs : List (Frame Body)) (n : Node Serving) → IsLedLived w is_followed is_passed spot serves_clearing.cleared plan kept counts first l fs n →

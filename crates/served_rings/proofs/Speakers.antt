@@ -30,7 +30,7 @@ module _ (p : Profile) where
   side_speech : (i : Protocol) → (side_whole parts p 0 i).speech ≡ (served_whole parts p 0 i).speech
   side_speech i = gated_speech (serves p 0 i) (served_whole parts p 0 i) (refusal parts p 0 i)
 
-  script : (i : Protocol) (q : ServiceOf i) → IsScript (naming_of p) (product_whole parts p).speech acknowledged (i, q) (named i q)
+  pub script : (i : Protocol) (q : ServiceOf i) → IsScript (naming_of p) (product_whole parts p).speech acknowledged (i, q) (named i q)
   script Protocol.CoE q = record {
     named = refl;
     valid = sym (ap (λ x. x.valid q) (side_speech Protocol.CoE));

@@ -4,6 +4,7 @@ pub mod Given
 pub mod Led
 pub mod LedRings
 pub mod Lives
+pub mod Rests
 pub mod Rings
 pub mod SeenLed
 pub mod Served

@@ -1,8 +1,8 @@
 -- WHAT THE SLAVES OF A SERVING DID, epoch by epoch, of the rows that came into hand of them: services of the script, packets, and mails that were passed on.
-use Rattle.std.specs.Prelude.{◌≡◌, ℕ, ◌+◌, ◌≤◌, Bool, Option, None, Ok, List, [], ◌∷◌, ◌++◌, length, take, ⊤}
-use Rattle.exchange_model.specs.Exchange.{plain}
+use Rattle.std.specs.Prelude.{◌≡◌, ◌≢◌, ℕ, ◌+◌, ◌≤◌, Bool, true, false, Option, None, Some, Ok, List, [], ◌∷◌, ◌++◌, length, take, ⊤}
+use Rattle.exchange_model.specs.Exchange.{emitted, plain}
 use Rattle.exchange_model.specs.Prefix.{IsPrefixOf}
-use Rattle.exchange_model.specs.Rows.{Row}
+use Rattle.exchange_model.specs.Rows.{Row, heard_all}
 use Rattle.frames_seen.specs.Slaves.{registers_seen}
 use Rattle.life_model.specs.Lives.{Era, Life, Stand}
 use Rattle.life_runs.specs.Led.{Exchanged}
@@ -14,18 +14,20 @@ use Rattle.plan_ring.specs.Round.{ring_after, ring_of}
 use Rattle.served_rings.specs.Speakers.{cleared_whole, spoken, table_of}
 use Rattle.run_work.specs.Lives.{first_server}
 use Rattle.segment_model.specs.Ends.{Passing}
+use Rattle.segment_model.specs.Laws.{WantsNothing}
 use Rattle.segment_model.specs.Seats.{rows_of}
 use Rattle.segment_plan.specs.declared.plan.Scenario.{Scenario}
 use Rattle.segment_plan.specs.declared.slave.SlaveSpec.{SlaveSpec}
 use Rattle.served_runs.specs.Served.{Serves}
 use Rattle.slave_model.specs.Profile.{Profile}
 use Rattle.slave_parts.specs.Parts.{Server}
-use Rattle.slave_server.specs.Serving.{Serving}
+use Rattle.slave_server.specs.Serving.{Serving, next_mail}
 use Rattle.slave_server.specs.Spec.{profile_of}
-use Rattle.slave_steps.specs.Node.{Node}
+use Rattle.slave_steps.specs.Node.{Node, is_settled}
 use Rattle.state_exchange.specs.Families.{InState}
 use Rattle.state_exchange.specs.Stated.{Service}
-use Rattle.state_model.specs.Promises.{state_behind}
+use Rattle.state_model.specs.Promises.{answer_of, state_behind}
+use Rattle.task_model.specs.Accounts.{Change}
 use Rattle.task_model.specs.Promise.{services_in}
 
 -- nothing came into hand of an epoch
@@ -97,11 +99,40 @@ module _ (p : Profile) (boot : Bool) (station : ℕ) where
     unopened : (es : List (Era Body Asked Reply)) (b : InState Server) (e : Era Body Asked Reply) → AreServedEras start first es b → NothingCame e → AreServedEras start first (es ++ e ∷ []) (cleared_whole b)
     opened : (es : List (Era Body Asked Reply)) (b : InState Server) (e : Era Body Asked Reply) (left done : InState Server) → AreServedEras start first es b → WasServed start b e left done → AreServedEras start first (es ++ e ∷ []) (cleared_whole done)
 
+  -- a service by mails that has a reply has the one of this server
+  abbrev pub IsReplied : InState Server → Asked → Row Body Asked Reply → Type 0
+  IsReplied v q r = (r.service ≡ q) × ((spoken p).speech.handed q ≡ false → (frame : ℕ) × (r.answer ≡ Some ((spoken p).reply v q, frame)))
+
+  -- EACH SERVICE HAS ITS ANSWER, from a server on: one by mails the reply of the server behind those before it, and a change of the AL state that of its table
+  abbrev pub AreAnswered : InState Server → List (Service Asked) → List (Row Body Asked Reply) → List (Change Reply) → Type 0
+  AreAnswered v [] [] [] = ⊤
+  AreAnswered v (Service.Mails q ∷ qs) (r ∷ rs) cs = IsReplied v q r × AreAnswered ((spoken p).exec v q) qs rs cs
+  AreAnswered v (Service.State target ∷ qs) rs (c ∷ cs) =
+      (c.target ≡ target) × (c.answer ≡ answer_of (table_of boot station v.state target)) × AreAnswered (record v { state = state_behind (table_of boot station) v.state target }) qs rs cs
+  AreAnswered v _ _ _ = ⊥
+
+  -- what rows emit, one after the other: of a mail that was passed on what the server sends of itself in its one step
+  abbrev pub emitted_behind : InState Server → List (Service Asked) → List Body
+  emitted_behind v [] = []
+  emitted_behind v (Service.Mails q ∷ qs) = (spoken p).emits v q ++ emitted_behind ((spoken p).exec v q) qs
+  emitted_behind v (Service.State target ∷ qs) = emitted_behind (record v { state = state_behind (table_of boot station) v.state target }) qs
+
+  -- NOTHING IS LEFT of an epoch that began with this server: all its rows are carried out, each once and in order, and answered; and all that they emit was heard
+  pub record NothingLeft (from : InState Server) (e : Era Body Asked Reply) (done : InState Server) : Type 0 where
+    pub all : done ≡ server_behind from (services_in e.account.started)
+    pub answered : AreAnswered from (services_in e.account.started) (rows_of e.side) e.account.over
+    pub emissions : emitted emission (heard_all (rows_of e.side)) ≡ emitted_behind from (services_in e.account.started)
+
+  -- so it is where the slave is settled, and the master wants nothing of it and passes no mail on to it
+  abbrev pub RestsIf : InState Server → Era Body Asked Reply → InState Server → Node Serving → Type 0
+  RestsIf from e done n = is_settled next_mail n ≡ true → WantsNothing (spoken p).speech e.side → e.account.hand ≡ None → e.passing ≡ None → NothingLeft from e done
+
   -- THE NEWEST: it is open, and what its slave left is what the node has, its AL state among it; or nothing began in it; or it is over
   pub data IsServedNewest (start : ℕ) (from : InState Server) (e : Era Body Asked Reply) (n : Node Serving) : Stand → Type 0 where
-    lives : (left done : InState Server) → left.inner ≡ n.server.server → left.state ≡ (registers_seen n.registers).state → WasServed start from e left done → IsServedNewest start from e n Stand.Open
-    unopened : (stand : Stand) → NothingCame e → IsServedNewest start from e n stand
-    over : (stand : Stand) (left done : InState Server) → WasServed start from e left done → IsServedNewest start from e n stand
+    lives : (left done : InState Server) → left.inner ≡ n.server.server → left.state ≡ (registers_seen n.registers).state →
+        (was : WasServed start from e left done) → RestsIf (record from { state = was.state }) e done n → IsServedNewest start from e n Stand.Open
+    unopened : (stand : Stand) → stand ≢ Stand.Open → NothingCame e → IsServedNewest start from e n stand
+    over : (stand : Stand) → stand ≢ Stand.Open → (left done : InState Server) → WasServed start from e left done → IsServedNewest start from e n stand
 
   -- THE WHOLE LIFE of a slave with this node, from the server with which it was switched on
   pub record IsServedLife (start : ℕ) (first : InState Server) (l : Life Body Asked Reply) (n : Node Serving) : Type 0 where

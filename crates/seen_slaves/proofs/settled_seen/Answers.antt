@@ -1,4 +1,5 @@
-use Rattle.seen_slaves.proofs.Left.{settled_back, settled_to}
+use Rattle.seen_slaves.proofs.Left.{settled_to}
+use Rattle.served_rings.proofs.SeenSettled.{settled_back}
 use Rattle.seen_slaves.proofs.settled_seen.Goals as goal
 
 pub returns : goal.returns

@@ -10,6 +10,8 @@ use Rattle.promised_run.proofs.promised_serving.serve.Goals as goal
 use Rattle.run_book.specs.of_master_node.Happened.{events_of}
 use Rattle.run_promises.proofs.Known.{known}
 use Rattle.run_record.specs.Recalling.{state_of}
+use Rattle.run_work.specs.Lives.{first_server}
+use Rattle.slave_server.specs.Spec.{profile_of}
 
 pub returns-clause-through : goal.returns-clause-through
 returns-clause-through g c =
@@ -32,7 +34,8 @@ returns-clause-whole g c = whole c.args.plan.now c.serve.new.book
 
 pub returns-clause-given : goal.returns-clause-given
 returns-clause-given g c =
-    all_given c.args.plan.now c.args.count c.serve.new.book c.requires.plan c.requires.told c.served_replies_law.ensures c.heard_stays.ensures c.given_law.ensures.all c.given_law.ensures.at c.serve.ensures.frames
+    all_given c.args.plan.now c.args.count c.serve.new.book c.requires.plan c.requires.told c.served_replies_law.ensures c.heard_stays.ensures
+    (λ s l n d. c.given_law.ensures.all (profile_of s) s.boot s.station s.start (first_server s) l n d) (λ s gs ps rs all i r at. c.given_law.ensures.at (profile_of s) s.boot s.station gs ps rs all i r at) c.serve.ensures.frames
 
 pub returns-clause-rests : goal.returns-clause-rests
 returns-clause-rests g c =

@@ -1,4 +1,3 @@
-use Rattle.plan_ring.proofs.Known.{macs_in}
 use Rattle.plan_ring.proofs.Lives.{front_round, last_round}
 use Rattle.plan_ring.specs.Round.{ring_of}
 use Rattle.served_rings.proofs.NoMore.{none_more}

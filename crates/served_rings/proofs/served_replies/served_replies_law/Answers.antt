@@ -11,4 +11,4 @@ returns c = λ plan is known fs missed ws l round.
     let x = c.served_ring_law.ensures plan is known fs missed ws l round in
     let nodes = x.lives.nodes ∙ nodes_of plan (lens_of plan.slaves) 0 plan.slaves ws x.nodes x.at in
     subst (AllServeSo plan.slaves ws) (sym nodes)
-    (all_serve_so c.speaker_law.ensures c.run_law.ensures.forgets plan (all_seen (lens_of plan.slaves) fs) 0 plan.slaves ws x.nodes is.laid.slaves (macs_in plan.slaves known.macs) x.led x.at)
+    (all_serve_so c.speaker_law.ensures c.run_law.ensures.forgets c.behind_law.ensures plan (all_seen (lens_of plan.slaves) fs) 0 plan.slaves ws x.nodes is.laid.slaves (macs_in plan.slaves known.macs) x.led x.at)

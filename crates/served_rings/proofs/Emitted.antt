@@ -1,0 +1,162 @@
+-- WHAT A SLAVE OF A SERVING SENT OF ITSELF in an epoch: at rest all that its rows emit was heard in them.
+use Rattle.std.proofs.Common.{◌≡◌, ℕ, zero, suc, Bool, true, false, not, cond, Option, None, List, [], ◌∷◌, ◌++◌, length, map, take, refl, ap, sym, ◌∙◌, subst, Ok, Err, if◌then◌else◌}
+use Rattle.exchange_model.specs.Exchange.{Exchange, emitted}
+use Rattle.exchange_model.specs.Prefix.{IsPrefixOf}
+use Rattle.exchange_model.specs.Rows.{emits_all, heard_all}
+use Rattle.life_counts.proofs.Eras.{era_knows}
+use Rattle.life_counts.proofs.Eras as Eras
+use Rattle.life_counts.proofs.News.{kept_all_as}
+use Rattle.life_counts.proofs.TaggedWhole.{seeing_lawful, seeing_stated}
+use Rattle.life_counts.specs.Epochs.{IsSpeaker, IsSeen, between, seeing, seeing_states}
+use Rattle.life_counts.specs.Foreseen.{AllRight, IsRightAt}
+use Rattle.life_counts.specs.Seen.{service_seen}
+use Rattle.life_model.specs.Eras.{era_frames}
+use Rattle.life_model.specs.Lives.{Spot, Era}
+use Rattle.link_mails.specs.Body.{Body}
+use Rattle.master_duty.specs.Reply.{Reply}
+use Rattle.master_hand.specs.Spoken as Spoken
+use Rattle.master_hand.specs.Spoken.{Asked, emission, is_followed, is_passed}
+use Rattle.passed_whole.specs.Erased.{row_seen}
+use Rattle.run_work.specs.Sessions.{Meant, OwnService, Wanted, named_wanted}
+use Rattle.segment_model.specs.Ends.{Outcome}
+use Rattle.segment_model.specs.Record.{Frame, Kept, heard, kept_all, nothing_kept}
+use Rattle.segment_model.specs.Seats.{newest, rows_of}
+use Rattle.segment_model.specs.Slaves.{Registers, Slave}
+use Rattle.served_rings.proofs.HeardSeen.{emitted_untag, heard_as}
+use Rattle.served_rings.proofs.Mails.{AllNamed, acts_named, is_mail, mailer}
+use Rattle.served_rings.proofs.RowsHeard.{Led, all_in_rows}
+use Rattle.served_rings.proofs.RowsSeen.{rows_seen}
+use Rattle.served_rings.proofs.Seen.{promised}
+use Rattle.served_rings.proofs.SeenRests.{answered, frames}
+use Rattle.served_rings.proofs.SeenSettled.{unmapped}
+use Rattle.served_rings.specs.Served.{emitted_behind}
+use Rattle.served_rings.specs.Speakers.{naming_of, processor_of, seer_of, spoken, table_of, whole_states}
+use Rattle.serving_model.proofs.TaggedLaw.{untag-append}
+use Rattle.serving_model.specs.Tagged as Tagged
+use Rattle.serving_model.specs.Tagged.{asked_emits, asked_exec, is_own, no_reply, own_gift, untag}
+use Rattle.slave_model.specs.Profile.{Profile, Protocol}
+use Rattle.slave_model.specs.Server as SlaveReply
+use Rattle.slave_parts.specs.Parts.{Server, parts}
+use Rattle.slave_served.specs.Served.{product_whole}
+use Rattle.state_exchange.proofs.Acts.{mails_acts, mails_append}
+use Rattle.state_exchange.specs.Families.{InState}
+use Rattle.state_exchange.specs.Stated.{Act, Counting, Service, acts, mails, service_valid, with_states}
+use Rattle.state_model.specs.Promises.{state_behind}
+use Rattle.task_model.specs.Accounts.{Started}
+use Rattle.task_model.specs.Promise.{mail_of, mails_started, rows_started, services_in}
+
+-- where none of these replies, all are sent of themselves
+all_emitted : {M : Type 0} (e : M → Bool) (ms : List M) → no_reply e ms ≡ true → emitted e ms ≡ ms
+all_emitted e [] none = refl
+all_emitted e (m ∷ ms) none = go (e m) none (all_emitted e ms)
+  where
+    go : (b : Bool) → (if b then no_reply e ms else false) ≡ true → (no_reply e ms ≡ true → emitted e ms ≡ ms) → cond b (m ∷ emitted e ms) (emitted e ms) ≡ m ∷ ms
+    go true none rest = ap (λ l. m ∷ l) (rest none)
+    go false none rest = absurd (let no : false ≡ true = none in cc)
+
+untag_own : {M : Type 0} (Q : Type 0) (ms : List M) → untag {Q = Q} (map (λ g. own_gift g) ms) ≡ ms
+untag_own Q [] = refl
+untag_own Q (m ∷ ms) = ap (λ l. m ∷ l) (untag_own Q ms)
+
+-- no list has a first part that is longer
+none_begins : {X : Type 0} (xs : List X) → IsPrefixOf xs [] → xs ≡ []
+none_begins [] p = refl
+none_begins (x ∷ xs) p = absurd (let no : x ∷ (xs ++ p.0) ≡ [] = p.1 in cc)
+
+module _ (p : Profile) (boot : Bool) (station : ℕ) where
+  abbrev both : Exchange (Counting (Tagged.Rowed (InState Server) Body OwnService)) (InState Server × ℕ) (Act Meant) (Service Wanted) (Outcome (Option SlaveReply.Reply))
+  both = with_states (seeing (mailer p)) (seeing_states (mailer p)) (table_of boot station)
+
+  -- WHAT A SERVICE EMITS by its name: of a mail that is passed on what its server sends of itself, for which it was foreseen right whether it has a reply
+  one_named : (v : InState Server) (q : Wanted) → service_valid (seeing (mailer p)).speech (Service.Mails q) ≡ true → IsRightAt (product_whole parts p) whole_states (table_of boot station) v q → untag (asked_emits (product_whole parts p) v q) ≡ (spoken p).emits v (named_wanted q)
+  one_named v (Tagged.Asked.Script (Protocol.CoE, q)) valid right = refl
+  one_named v (Tagged.Asked.Script (Protocol.FoE, q)) valid right = refl
+  one_named v (Tagged.Asked.Script (Protocol.SoE, q)) valid right = refl
+  one_named v (Tagged.Asked.Script (Protocol.EoE, q)) valid right = refl
+  one_named v (Tagged.Asked.Passed (Ok m) true) valid right = refl
+  one_named v (Tagged.Asked.Passed (Ok m) false) valid right =
+      let x = product_whole parts p in
+      let gifts = (x.serve v (Ok m)).1 in
+      untag_own OwnService gifts ∙ sym (all_emitted x.speech.emission gifts (opposite (no_reply x.speech.emission gifts) right)) ∙ sym (untag_own OwnService (emitted x.speech.emission gifts))
+    where
+      opposite : (b : Bool) → false ≡ not b → b ≡ true
+      opposite true e = refl
+      opposite false e = absurd (let no : false ≡ true = e in cc)
+  one_named v (Tagged.Asked.Passed (Err fault) answers) valid right = absurd (let no : false ≡ true = valid in cc)
+
+  pub emits_named : (v : InState Server) (k : ℕ) (qs : List (Service Wanted)) → AllNamed p qs → AllRight (product_whole parts p) whole_states (table_of boot station) v qs →
+      untag (mails (emits_all both (v, k) qs)) ≡ emitted_behind p boot station v (map (λ q. service_seen named_wanted q) qs)
+  emits_named v k [] valid right = refl
+  emits_named v k (Service.Mails q ∷ qs) valid right =
+      let x = product_whole parts p in
+      let rest = emits_all both (asked_exec x v q, k) qs in
+      ap untag (mails_append (acts (asked_emits x v q)) rest ∙ ap (λ l. l ++ mails rest) (mails_acts (asked_emits x v q))) ∙ untag-append (asked_emits x v q) (mails rest)
+      ∙ ap (λ l. l ++ untag (mails rest)) (one_named v q valid.0 right.0)
+      ∙ ap (λ l. (spoken p).emits v (named_wanted q) ++ l)
+      (emits_named (asked_exec x v q) k qs valid.1 right.1 ∙ ap (λ u. emitted_behind p boot station u (map (λ q. service_seen named_wanted q) qs)) (acts_named p v q valid.0))
+  emits_named v k (Service.State target ∷ qs) valid right = emits_named (record v { state = state_behind (table_of boot station) v.state target }) (suc k) qs valid.1 right
+
+  -- changes of the AL state alone emit nothing
+  states_emit : (n : ℕ) (a : InState Server × ℕ) (ss : List (Started Wanted)) → mails_started ss ≡ [] → emits_all both a (take n (services_in ss)) ≡ []
+  states_emit zero a ss none = refl
+  states_emit (suc n) a [] none = refl
+  states_emit (suc n) a (s ∷ ss) none = go s.service none (λ b rest. states_emit n b ss rest)
+    where
+      go : (q : Service Wanted) → mail_of q s.frame ++ mails_started ss ≡ [] → ((b : InState Server × ℕ) → mails_started ss ≡ [] → emits_all both b (take n (services_in ss)) ≡ []) → emits_all both a (q ∷ take n (services_in ss)) ≡ []
+      go (Service.Mails q) none rest = absurd (let no : (q, s.frame) ∷ mails_started ss ≡ [] = none in cc)
+      go (Service.State target) none rest = rest (both.exec a (Service.State target)) none
+
+module _ (p : Profile) (k : IsSpeaker (mailer p)) (boot : Bool) (spot : Spot) (opened : ℕ) (v : InState Server) (r : Registers) where
+  abbrev pub LedHere : List (Frame Body) → Bool → Era Body Asked Reply → Slave (InState Server) Body → Type 0
+  LedHere fs counts e n = Led (spoken p) Spoken.acknowledged (processor_of boot) is_followed is_passed spot opened v r emission fs counts e n
+
+  abbrev pub SeenHere : List (Frame Body) → Bool → Era Body Asked Reply → Slave (InState Server) Body → Type 0
+  SeenHere fs counts e n = IsSeen (mailer p) (seer_of p boot) (table_of boot) spot opened v r fs counts e n
+
+  abbrev frames_of : List (Frame Body) → List (Frame Body)
+  frames_of fs = era_frames spot opened (length fs) fs
+
+  module _ (fs : List (Frame Body)) (counts : Bool) (e : Era Body Asked Reply) (n : Slave (InState Server) Body) (i : SeenHere fs counts e n) where
+    abbrev mail : Meant → Body
+    mail t = t.mail
+
+    abbrev seen_frames : List (Frame Meant)
+    seen_frames = frames (mailer p) k (seer_of p boot) (table_of boot) spot opened v r fs counts e n i
+
+    abbrev known_here : Type 0
+    known_here = Eras.Knows (product_whole parts p) (λ (a : InState Server). true) is_mail whole_states (naming_of p).more k.last seen_frames spot.station i.era.side i.era.account
+
+    pub knows : known_here
+    knows =
+        era_knows (product_whole parts p) (mailer p).core k.served (λ a. true) is_mail whole_states k.stated (seeing_lawful (mailer p) k) (seeing_stated (mailer p) k) (seer_of p boot) (table_of boot) spot i.era opened (length i.frames) i.frames (between v) r i.slave i.is refl i.right
+        (naming_of p).more k.last
+
+    -- what was sent of itself, without what is meant
+    pub sent_is : emitted emission (heard spot.station (frames_of fs)) ≡ untag (emitted (λ (t : Meant). is_own t.meant) (heard spot.station seen_frames))
+    sent_is = ap (emitted emission) (ap (heard spot.station) (sym i.same) ∙ heard_as mail spot.station seen_frames) ∙ sym (emitted_untag emission (heard spot.station seen_frames) knows.tells)
+
+    last_is : e.side.halves.inn.last ≡ (kept_all spot.station nothing_kept (frames_of fs)).heard
+    last_is = ap (λ (d : Era Body Asked Reply). d.side.halves.inn.last) (sym i.named) ∙ knows.kept ∙ ap (λ (c : Kept). c.heard) (kept_all_as mail spot.station nothing_kept seen_frames ∙ ap (kept_all spot.station nothing_kept) i.same)
+
+    -- while there is no row
+    quiet : e.side.past ≡ [] → e.side.now ≡ None → emitted emission (heard spot.station (frames_of fs)) ≡ []
+    quiet past now =
+        let t = promised (mailer p) k (seer_of p boot) (table_of boot) spot opened v r fs counts e n i in
+        let has = answered (mailer p) k (seer_of p boot) (table_of boot) spot opened v r fs counts e n i in
+        let none : rows_of e.side ≡ [] = λ j. past j ++ newest (now j) in
+        let none_named : map (λ h. row_seen mail named_wanted (λ (a : Option SlaveReply.Reply). a) h) (rows_of i.era.side) ≡ [] =
+        sym (rows_seen mail named_wanted (λ (a : Option SlaveReply.Reply). a) i.era.side) ∙ ap (λ (d : Era Body Asked Reply). rows_of d.side) i.named ∙ none in
+        let none_there : mails_started i.era.account.started ≡ [] = has.mails ∙ ap rows_started (unmapped (λ h. row_seen mail named_wanted (λ (a : Option SlaveReply.Reply). a) h) (rows_of i.era.side) none_named) in
+        let begin = subst (λ l. IsPrefixOf (emitted (λ (t : Meant). is_own t.meant) (heard spot.station seen_frames)) (mails l)) (states_emit p boot spot.station t.count (v, 0) i.era.account.started none_there) t.emissions in
+        sent_is ∙ ap untag (none_begins (emitted (λ (t : Meant). is_own t.meant) (heard spot.station seen_frames)) begin)
+
+  module _ (seen : (fs : List (Frame Body)) (counts : Bool) (e : Era Body Asked Reply) (n : Slave (InState Server) Body) → LedHere fs counts e n → SeenHere fs counts e n)
+      (none : (fs : List (Frame Body)) (counts : Bool) (e : Era Body Asked Reply) (n : Slave (InState Server) Body) → LedHere fs counts e n → e.side.now ≡ None → e.side.past ≡ []) where
+    -- ALL THAT IT SENT OF ITSELF was heard in its rows
+    pub sent_in_rows : (fs : List (Frame Body)) (counts : Bool) (e : Era Body Asked Reply) (n : Slave (InState Server) Body) → LedHere fs counts e n → emitted emission (heard spot.station (frames_of fs)) ≡ emitted emission (heard_all (rows_of e.side))
+    sent_in_rows fs counts e n led =
+        all_in_rows (spoken p) Spoken.acknowledged (processor_of boot) is_followed is_passed spot opened v r emission
+        (λ gs counted d m led_here.
+        let i = seen gs counted d m led_here in
+        let past = none gs counted d m led_here in
+        record { last = last_is gs counted d m i; none = past; quiet = λ now. quiet gs counted d m i (past now) now }) fs counts e n led

@@ -1,0 +1,93 @@
+-- WHERE NOTHING IS LEFT all is done, slave by slave.
+use Rattle.std.proofs.Common.{◌≡◌, ℕ, suc, true, None, List, [], ◌∷◌, ◌++◌, length, ap, ◌∙◌, subst, append-nil}
+use Rattle.std.specs.Prelude.{All}
+use Rattle.std.proofs.lemmas.List.Elements.{All-head, All-tail}
+use Rattle.book_model.specs.Script.{life_started}
+use Rattle.exchange_model.specs.Exchange.{Speech}
+use Rattle.frame_view.specs.View.{Lens}
+use Rattle.life_model.specs.Lives.{Era, Spot, Stand}
+use Rattle.life_runs.specs.First.{HaveLens, lens_of, script_for}
+use Rattle.life_runs.specs.Led.{speech_at}
+use Rattle.link_mails.specs.Body.{Body}
+use Rattle.master_duty.specs.Reply.{Reply}
+use Rattle.master_hand.specs.Spoken.{Asked, hand_speech}
+use Rattle.segment_model.specs.Laws.{WantsNothing}
+use Rattle.segment_plan.specs.declared.plan.Scenario.{Scenario}
+use Rattle.segment_plan.specs.declared.service.Service as Plan
+use Rattle.segment_plan.specs.declared.slave.SlaveSpec.{SlaveSpec}
+use Rattle.served_rings.specs.Rests.{AllServedDoneIf, IsServedDone, IsServedIdle, IsServedWhole}
+use Rattle.served_rings.specs.Rings.{AllServedAt, IsServedAt}
+use Rattle.served_rings.specs.Served.{AllServeSo, IsServedLife, IsServedNewest}
+use Rattle.served_rings.specs.Speakers.{spoken}
+use Rattle.run_work.specs.Lives.{first_server}
+use Rattle.served_runs.specs.Came.{AreAmong, HasServed, ServedCame}
+use Rattle.served_runs.specs.Served.{Serves}
+use Rattle.slave_parts.specs.Parts.{Server}
+use Rattle.slave_server.specs.Serving.{Serving, next_mail}
+use Rattle.slave_server.specs.Spec.{profile_of}
+use Rattle.slave_steps.specs.Node.{Node, is_settled}
+use Rattle.state_exchange.specs.Families.{InState}
+
+module _ (s : SlaveSpec) (from : InState Server) (e : Era Body Asked Reply) (n : Node Serving) (settled : is_settled next_mail n ≡ true) (wants : WantsNothing (spoken (profile_of s)).speech e.side) (hand : e.account.hand ≡ None) (over : e.passing ≡ None) where
+  -- of an open epoch nothing is left
+  whole : (stand : Stand) → stand ≡ Stand.Open → IsServedNewest (profile_of s) s.boot s.station s.start from e n stand → IsServedWhole (profile_of s) s.boot s.station s.start from e n
+  whole _ is (IsServedNewest.lives left done inner state was rests) = record { left = left; done = done; inner = inner; state = state; was = was; nothing = rests settled wants hand over }
+  whole _ is (IsServedNewest.unopened stand shut none) = absurd (shut is)
+  whole _ is (IsServedNewest.over stand shut left done was) = absurd (shut is)
+
+module _ (plan : Scenario) where
+  abbrev lens : ℕ → Lens
+  lens = lens_of plan.slaves
+
+  module _ (place : ℕ) (s : SlaveSpec) (w : Serves) (n : Node Serving) (served : IsServedLife (profile_of s) s.boot s.station s.start (first_server s) w.lead.lived.life n) (at : IsServedAt plan place s w) (has : HasServed lens w)
+      (out : (lens s.station).out ≡ s.out_len) (back : (lens s.station).back ≡ s.in_len) (idle : IsServedIdle lens w) (settled : is_settled next_mail n ≡ true) where
+    abbrev script : List Plan.Service
+    script = script_for place plan.services
+
+    there : w.lead.lived.spot.station ≡ s.station
+    there = ap (λ (k : Spot). k.station) at.spot
+
+    -- its master speaks with it by the lengths of its mailboxes
+    speaks : speech_at lens w.lead.lived.spot ≡ (spoken (profile_of s)).speech
+    speaks =
+        let outs : (lens w.lead.lived.spot.station).out ≡ s.out_len = ap (λ (k : ℕ). (lens k).out) there ∙ out in
+        let backs : (lens w.lead.lived.spot.station).back ≡ s.in_len = ap (λ (k : ℕ). (lens k).back) there ∙ back in
+        λ j. hand_speech (record { out = outs j; back = backs j })
+
+    mails_are : has.mails ++ w.waits ≡ has.mails
+    mails_are = ap (λ l. has.mails ++ l) idle.waits ∙ append-nil has.mails
+
+    all_script : w.lead.number ≡ length script
+    all_script = idle.script ∙ ap length at.script
+
+    one_done : IsServedDone plan place s w n
+    one_done = record {
+      mails = has.mails;
+      came = came_whole;
+      among = subst (λ l. AreAmong l w.asked) mails_are has.among;
+      all = λ never. has.all never ∙ mails_are;
+      from = served.from;
+      past = served.past;
+      newest = whole s served.from w.lead.lived.life.era n settled (subst (λ (x : Speech Body Asked Reply). WantsNothing x w.lead.lived.life.era.side) speaks idle.side) idle.hand idle.over w.lead.lived.life.stand idle.stand served.newest;
+    }
+      where
+        room : (lens w.lead.lived.spot.station).out ≡ s.out_len
+        room = ap (λ (k : ℕ). (lens k).out) there ∙ out
+
+        came_whole : ServedCame s.out_len script (length script) has.mails (life_started w.lead.lived.life)
+        came_whole =
+            subst (λ (k : ℕ). ServedCame s.out_len script k has.mails (life_started w.lead.lived.life)) all_script
+            (subst (λ (l : List Plan.Service). ServedCame s.out_len l w.lead.number has.mails (life_started w.lead.lived.life)) at.script
+            (subst (λ (k : ℕ). ServedCame k w.lead.script w.lead.number has.mails (life_started w.lead.lived.life)) room has.came))
+
+  -- of all slaves
+  pub all_done : (place : ℕ) (ss : List SlaveSpec) (ws : List Serves) (ns : List (Node Serving)) → HaveLens lens ss → AllServeSo ss ws ns → AllServedAt plan place ss ws ns → All (HasServed lens) ws → AllServedDoneIf plan place ss ws ns
+  all_done place [] [] [] long served at has = tt
+  all_done place [] [] (n ∷ ns) long served at has = absurd at
+  all_done place [] (w ∷ ws) ns long served at has = absurd at
+  all_done place (s ∷ ss) [] ns long served at has = absurd at
+  all_done place (s ∷ ss) (w ∷ ws) [] long served at has = absurd at
+  all_done place (s ∷ ss) (w ∷ ws) (n ∷ ns) long served at has = (
+    (λ idle settled. one_done place s w n served.0 at.0 (All-head (HasServed lens) w ws has) long.0.0 long.0.1 idle settled),
+    all_done (suc place) ss ws ns long.1 served.1 at.1 (All-tail (HasServed lens) w ws has),
+  )

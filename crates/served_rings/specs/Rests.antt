@@ -1,0 +1,61 @@
+-- WHAT IS DONE OF A SLAVE OF A SERVING of which its master wants nothing any more.
+use Rattle.std.specs.Prelude.{◌≡◌, ℕ, suc, Bool, true, None, List, [], ◌∷◌, length, ⊤}
+use Rattle.book_model.specs.Script.{life_started}
+use Rattle.frame_view.specs.View.{Lens}
+use Rattle.frames_seen.specs.Slaves.{registers_seen}
+use Rattle.life_model.specs.Lives.{Era, Stand}
+use Rattle.life_runs.specs.First.{lens_of, script_for}
+use Rattle.life_runs.specs.Led.{speech_at}
+use Rattle.link_mails.specs.Body.{Body}
+use Rattle.master_duty.specs.Reply.{Reply}
+use Rattle.master_hand.specs.Spoken.{Asked}
+use Rattle.run_work.specs.Lives.{first_server}
+use Rattle.segment_model.specs.Laws.{WantsNothing}
+use Rattle.segment_plan.specs.declared.plan.Scenario.{Scenario}
+use Rattle.segment_plan.specs.declared.slave.SlaveSpec.{SlaveSpec}
+use Rattle.served_rings.specs.Served.{AreServedEras, NothingLeft, WasServed}
+use Rattle.served_runs.specs.Came.{AreAmong, ServedCame}
+use Rattle.served_runs.specs.Served.{Keyed, Serves}
+use Rattle.slave_model.specs.Profile.{Profile}
+use Rattle.slave_parts.specs.Parts.{Server}
+use Rattle.slave_server.specs.Serving.{Serving, next_mail}
+use Rattle.slave_server.specs.Spec.{profile_of}
+use Rattle.slave_steps.specs.Node.{Node, is_settled}
+use Rattle.state_exchange.specs.Families.{InState}
+
+-- THE MASTER WANTS NOTHING of a slave: it is open, no service is in hand and none is left of its script, both halves of its link are idle, and no mail that is
+-- passed on is in hand or waits
+pub record IsServedIdle (lens : ℕ → Lens) (w : Serves) : Type 0 where
+  pub stand : w.lead.lived.life.stand ≡ Stand.Open
+  pub side : WantsNothing (speech_at lens w.lead.lived.spot) w.lead.lived.life.era.side
+  pub hand : w.lead.lived.life.era.account.hand ≡ None
+  pub script : w.lead.number ≡ length w.lead.script
+  pub waits : w.waits ≡ []
+  pub over : w.lead.lived.life.era.passing ≡ None
+
+-- AN OPEN EPOCH OF WHICH NOTHING IS LEFT: what its slave left is what the node has, and all its rows are carried out
+pub record IsServedWhole (p : Profile) (boot : Bool) (station start : ℕ) (from : InState Server) (e : Era Body Asked Reply) (n : Node Serving) : Type 0 where
+  pub left : InState Server
+  pub done : InState Server
+  pub inner : left.inner ≡ n.server.server
+  pub state : left.state ≡ (registers_seen n.registers).state
+  pub was : WasServed p boot station start from e left done
+  pub nothing : NothingLeft p boot station (record from { state = was.state }) e done
+
+-- ALL IS DONE of a slave: its whole script came into hand, with packets and with these mails, which are those that were asked of it, in order, and all of them
+-- where it was never given up; and all rows of its newest epoch are carried out, from what the epochs before it left
+pub record IsServedDone (plan : Scenario) (place : ℕ) (s : SlaveSpec) (w : Serves) (n : Node Serving) : Type 0 where
+  pub mails : List Keyed
+  pub came : ServedCame s.out_len (script_for place plan.services) (length (script_for place plan.services)) mails (life_started w.lead.lived.life)
+  pub among : AreAmong mails w.asked
+  pub all : w.lead.lived.life.gave ≡ [] → w.asked ≡ mails
+  pub from : InState Server
+  pub past : AreServedEras (profile_of s) s.boot s.station s.start (first_server s) w.lead.lived.life.past from
+  pub newest : IsServedWhole (profile_of s) s.boot s.station s.start from w.lead.lived.life.era n
+
+-- so it is of each slave, from a place on, that is settled and of which the master wants nothing
+abbrev pub AllServedDoneIf : Scenario → ℕ → List SlaveSpec → List Serves → List (Node Serving) → Type 0
+AllServedDoneIf plan place [] [] [] = ⊤
+AllServedDoneIf plan place (s ∷ ss) (w ∷ ws) (n ∷ ns) =
+    (IsServedIdle (lens_of plan.slaves) w → is_settled next_mail n ≡ true → IsServedDone plan place s w n) × AllServedDoneIf plan (suc place) ss ws ns
+AllServedDoneIf plan place _ _ _ = ⊥

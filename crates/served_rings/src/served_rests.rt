@@ -1,0 +1,24 @@
+//! What is done of the slaves of a serving of which its master wants nothing any more. Definitions and a law, no running code: the function here does nothing,
+//! and its contract states the law.
+
+ghost use Rattle.std.specs.Prelude.{ℕ, List};
+ghost use Rattle.life_runs.specs.First.{first_leads, lens_of};
+ghost use Rattle.life_runs.specs.Led.{Exchanged};
+ghost use Rattle.plan_ring.specs.Lives.{IsKnown};
+ghost use Rattle.plan_ring.specs.Round.{AllRound, ring_after, ring_of};
+ghost use Rattle.segment_plan.specs.Sound.{IsPlan};
+ghost use Rattle.segment_plan.specs.declared.plan.Scenario.{Scenario};
+ghost use Rattle.served_rings.specs.Rests.{AllServedDoneIf};
+ghost use Rattle.served_runs.specs.Served.{Serves, IsServedLed, all_serve};
+
+/// WHERE NOTHING IS LEFT: of each slave of a serving that is settled and of which its master wants nothing, all services of its script came into hand, and the mails
+/// that were asked of it, in order, and all of them where it was never given up; and all rows of its newest epoch are carried out, each once and in order, each
+/// service by mails that has a reply has it, and each change of its AL state is over.
+pub fn served_rests_law()
+    ensures { (plan : Scenario) → IsPlan plan → IsKnown plan → (fs : List Exchanged) (missed : ℕ) (ws : List Serves) → IsServedLed (lens_of plan.slaves) plan.recover plan.retry (all_serve plan.paces (first_leads plan)) fs missed ws → AllRound (ring_of plan) fs →
+        AllServedDoneIf plan 0 plan.slaves ws (ring_after (ring_of plan) fs).nodes }
+{
+    crate::served_ring_law();
+    crate::served_replies::served_replies_law();
+    served_runs::asked_law();
+}
