@@ -128,6 +128,9 @@ module _ (plan : Scenario) (count : ℕ) (first now : Told) (v : Serving) (b b' 
         none = λ none. none_unfinished plan count v b on (rests none).0;
         done = λ none. all_done plan v.session (map exchanged b'.frames) b'.grams v.desk.requests.items on.owed (dones_of plan count v.session b'.frames b'.grams v.desk.requests.items on.owed course') answers' (none_unfinished plan count v b on (rests none).0);
         rows = rows;
+        reported = subst (λ (rs : List SlaveBook). AllBoth IsBooked (map run_lead answers'.serving.leading.serves) rs) (sym rows) (all_booked v.session.recover (map run_lead answers'.serving.leading.serves) v.session.ring.nodes v.session.notes many answers'.serving.told);
+        unsent = subst (λ (rs : List SlaveBook). AllBoth IsSpent (map run_lead answers'.serving.leading.serves) rs) (sym rows) (all_spent v.session.recover (map run_lead answers'.serving.leading.serves) v.session.ring.nodes v.session.notes many answers'.serving.told);
+        epochs = subst (λ (rs : List SlaveBook). AllBoth HasEpochs (map run_lead answers'.serving.leading.serves) rs) (sym rows) (all_epochs v.session.recover (map run_lead answers'.serving.leading.serves) v.session.ring.nodes v.session.notes many answers'.serving.told);
         heard = ap emergencies_in rows ∙ heard_of_rows v.session.recover v.session.ring.nodes v.session.notes many ∙ answers'.serving.heard;
         listed = subst (λ (es : List SwitchEvent). ServedListed (ports_behind 0 plan.slaves) answers'.serving.leading.lives es) booked answers'.serving.forwarded.listed;
         begun = subst (λ (es : List SwitchEvent). AreServedBegun (ports_behind 0 plan.slaves) (ports_of plan.slaves) answers'.serving.leading.lives es) booked answers'.serving.forwarded.begun;

@@ -16,9 +16,12 @@ use Rattle.run_record.specs.Led.{LeavesNoPacket, LeavesNone, exchanged}
 use Rattle.run_record.specs.Served.{ServedNumbered, served_heard}
 use Rattle.run_record.specs.Session.{SessionState, session_rows}
 use Rattle.run_record.specs.of_packets_heard.Servings.{AreServedBegun, ServedListed}
+use Rattle.run_record.specs.of_run_notes.Epochs.{HasEpochs}
 use Rattle.run_record.specs.of_run_notes.Heard.{emergencies_in}
+use Rattle.run_record.specs.of_run_notes.Reports.{IsBooked}
 use Rattle.run_record.specs.of_run_notes.Slaves.{home_of}
 use Rattle.run_record.specs.of_run_notes.Switched.{HasPackets}
+use Rattle.run_record.specs.of_run_notes.Unsent.{IsSpent}
 use Rattle.run_record.specs.Ran.{StopsAs}
 use Rattle.gateway_run.specs.declared.desk.Request.{Request}
 use Rattle.gateway_run.specs.Account.{Owing, Course, AreSpelled}
@@ -63,8 +66,11 @@ pub record HasAccount (plan : Scenario) (count : ℕ) (book : Book) (ending : En
   pub none : LeavesNone ending → requests ≡ []
   pub done : LeavesNone ending → AllDone answers.serving.leading.serves (dones_of plan count session book.frames book.grams requests owed course) 0 book.grams
   pub rows : book.slaves ≡ session_rows session
-  -- by these lives just the emergencies among the mails that were accepted of each slave stand in the book, each with the frame that brought it; and the events of
+  -- by these lives just the services of each script stand in the book that came into hand, each with what it came to, and the epochs of each slave; just the emergencies among the mails that were accepted of each slave stand in the book, each with the frame that brought it; and the events of
   -- the switch are just those that the frames list, each with its number, where just the packets began that came into hand
+  pub reported : AllBoth IsBooked (map run_lead answers.serving.leading.serves) book.slaves
+  pub unsent : AllBoth IsSpent (map run_lead answers.serving.leading.serves) book.slaves
+  pub epochs : AllBoth HasEpochs (map run_lead answers.serving.leading.serves) book.slaves
   pub heard : AllNoted (served_heard answers.serving.leading.lives) (emergencies_in book.slaves)
   pub listed : ServedListed (ports_behind 0 plan.slaves) answers.serving.leading.lives book.switch
   pub begun : AreServedBegun (ports_behind 0 plan.slaves) (ports_of plan.slaves) answers.serving.leading.lives book.switch

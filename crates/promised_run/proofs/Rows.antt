@@ -1,8 +1,8 @@
 -- The rows of a slave's life over a run: each service that came into hand, with the frame before which it did.
 use Rattle.std.proofs.Common.{◌≡◌, ℕ, zero, suc, Bool, true, false, Option, Some, None, List, [], ◌∷◌, ◌++◌, map, length, refl, sym, ap, ◌∙◌, append_assoc, append-nil}
-use Rattle.std.specs.Prelude.{◌==◌, ◌&&◌, if◌then◌else◌}
+use Rattle.std.specs.Prelude.{◌==◌, ◌&&◌, if◌then◌else◌, ⊤}
 use Rattle.life_runs.specs.First.{leads_from, first_leads}
-use Rattle.life_runs.specs.Led.{Exchanged, Leads, Turn, Took, IsTurn, AllTurn, IsLed, is_passed, speech_at, life_behind, led_behind, gives_up_at}
+use Rattle.life_runs.specs.Led.{Comes, Exchanged, Leads, Turn, Took, IsTurn, AllTurn, IsLed, is_passed, speech_at, life_behind, led_behind, gives_up_at}
 use Rattle.life_runs.specs.of_datagrams.Datagram as Raw
 use Rattle.life_runs.specs.of_eoe_model.Client as EoeClient
 use Rattle.life_runs.specs.of_frame_view.View.{Lens}
@@ -15,8 +15,9 @@ use Rattle.promised_run.specs.Numbers.{eras_rows, life_rows, packet_frames, rows
 use Rattle.run_book.specs.of_master_node.Begins.{begins_other, begun_of}
 use Rattle.run_record.specs.of_packets_heard.Numbers.{each_with, frame_where, frames_begun, frames_other}
 use Rattle.run_record.specs.of_packets_heard.Over.{packet_begun}
+use Rattle.script_runs.proofs.Turns.{none_passed}
 use Rattle.script_runs.proofs.of_task_model.Completed.{started_back}
-use Rattle.script_runs.specs.Came.{is_packet}
+use Rattle.script_runs.specs.Came.{is_beside, is_packet}
 use Rattle.script_runs.specs.of_exchange_model.Exchange.{Speech}
 use Rattle.script_runs.specs.of_life_model.Lives.{Spot, Era, Life, Stand, Opening, granted, life_next, life_back, life_lost, era_back, opening_back, shows_clear, is_shown, last_step, clears, opens, steps_on, reopens, reopens_at, reopening, opens_state, returns_to_init}
 use Rattle.script_runs.specs.of_life_model.Own.{own}
@@ -143,7 +144,7 @@ module _ (lens : ℕ → Lens) (recover retry : ℕ) (gives : Bool) (made : ℕ)
 -- the frames of those rows that don't
 abbrev pub other_frames : Rows → List ℕ
 other_frames [] = []
-other_frames (r ∷ rs) = if is_packet r.service then other_frames rs else r.frame ∷ other_frames rs
+other_frames (r ∷ rs) = if is_beside r.service then other_frames rs else r.frame ∷ other_frames rs
 
 packets_append : (xs ys : Rows) → packet_frames (xs ++ ys) ≡ packet_frames xs ++ packet_frames ys
 packets_append [] ys = refl
@@ -155,7 +156,7 @@ packets_append (x ∷ xs) ys = go (is_packet x.service) (packets_append xs ys)
 
 pub others_append : (xs ys : Rows) → other_frames (xs ++ ys) ≡ other_frames xs ++ other_frames ys
 others_append [] ys = refl
-others_append (x ∷ xs) ys = go (is_packet x.service) (others_append xs ys)
+others_append (x ∷ xs) ys = go (is_beside x.service) (others_append xs ys)
   where
     go : (b : Bool) → other_frames (xs ++ ys) ≡ other_frames xs ++ other_frames ys → (if b then other_frames (xs ++ ys) else x.frame ∷ other_frames (xs ++ ys)) ≡ (if b then other_frames xs else x.frame ∷ other_frames xs) ++ other_frames ys
     go true e = e
@@ -172,16 +173,34 @@ packet_row made (Some (Service.Mails (net (EoeClient.packet octets frame)))) = r
 packet_row made (Some (Service.Mails (passed m))) = refl
 packet_row made (Some (Service.State target)) = refl
 
-other_row : (made : ℕ) (b : Option (Service Asked)) → other_frames (row_of made b) ≡ frame_where (begins_other b) made
-other_row made None = refl
-other_row made (Some (Service.Mails (sdo q))) = refl
-other_row made (Some (Service.Mails (file q))) = refl
-other_row made (Some (Service.Mails (drive q))) = refl
-other_row made (Some (Service.Mails (net (EoeClient.set_ip block)))) = refl
-other_row made (Some (Service.Mails (net EoeClient.get_ip))) = refl
-other_row made (Some (Service.Mails (net (EoeClient.packet octets frame)))) = refl
-other_row made (Some (Service.Mails (passed m))) = refl
-other_row made (Some (Service.State target)) = refl
+-- in a run no mail is passed on
+abbrev NotPassed : Option (Service Asked) → Type 0
+NotPassed None = ⊤
+NotPassed (Some (Service.Mails q)) = is_passed q ≡ false
+NotPassed (Some (Service.State target)) = ⊤
+
+not_passed : (room : ℕ) (script : List Plan.Service) (n : ℕ) (b : Option (Service Asked)) (k : ℕ) → Comes room script n b k → NotPassed b
+not_passed room script n _ _ Comes.none = tt
+not_passed room script n _ _ (Comes.mails s q at asked) = none_passed room s q asked
+not_passed room script n _ _ (Comes.state target at) = tt
+not_passed room script n _ _ (Comes.packet octets frame) = refl
+
+begun_own : (lens : ℕ → Lens) (made : ℕ) (ds : List Raw.Datagram) (as' : List Leads) (us : List Turn) → AllTurn lens made ds as' us → (k : ℕ) → NotPassed (begun_of us k)
+begun_own lens made ds as' [] t k = tt
+begun_own lens made ds [] (u ∷ us) t k = absurd t
+begun_own lens made ds (a ∷ as') (u ∷ us) t zero = not_passed _ _ _ _ _ t.0.comes
+begun_own lens made ds (a ∷ as') (u ∷ us) t (suc k) = begun_own lens made ds as' us t.1 k
+
+other_row : (made : ℕ) (b : Option (Service Asked)) → NotPassed b → other_frames (row_of made b) ≡ frame_where (begins_other b) made
+other_row made None n = refl
+other_row made (Some (Service.Mails (sdo q))) n = refl
+other_row made (Some (Service.Mails (file q))) n = refl
+other_row made (Some (Service.Mails (drive q))) n = refl
+other_row made (Some (Service.Mails (net (EoeClient.set_ip block)))) n = refl
+other_row made (Some (Service.Mails (net EoeClient.get_ip))) n = refl
+other_row made (Some (Service.Mails (net (EoeClient.packet octets frame)))) n = refl
+other_row made (Some (Service.Mails (passed m))) n = absurd (let bad : true ≡ false = n in cc)
+other_row made (Some (Service.State target)) n = refl
 
 -- before the first frame there is none
 first_rows : (services : List (ℕ × Plan.Service)) (place : ℕ) (ss : List SlaveSpec) (k : ℕ) → rows_at (leads_from services place ss) k ≡ []
@@ -201,4 +220,4 @@ module _ (lens : ℕ → Lens) (plan : Scenario) (retry k : ℕ) where
   run_others IsLed.start = ap (λ z. other_frames z) (first_rows plan.services 0 plan.slaves k)
   run_others (IsLed.on fs missed as' f us led frame) =
       ap (λ z. other_frames z) (frame_rows lens plan.recover retry (gives_up_at lens plan.recover retry missed) (length fs) f frame.datagrams as' us frame.each k)
-      ∙ others_append (rows_at as' k) (row_of (length fs) (begun_of us k)) ∙ (λ i. run_others led i ++ other_row (length fs) (begun_of us k) i)
+      ∙ others_append (rows_at as' k) (row_of (length fs) (begun_of us k)) ∙ (λ i. run_others led i ++ other_row (length fs) (begun_of us k) (begun_own lens (length fs) frame.datagrams as' us frame.each k) i)

@@ -26,6 +26,7 @@ pub mod ServedForwards
 pub mod ServedGaves
 pub mod ServedPlaced
 pub mod ServedRecalls
+pub mod ServedReports
 pub mod ServedTold
 pub mod Servings
 pub mod Steps

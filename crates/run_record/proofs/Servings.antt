@@ -46,6 +46,9 @@ use Rattle.ring_returns.proofs.Returned as Returned
 use Rattle.run_book.specs.declared.book.SentFrame.{SentFrame}
 use Rattle.run_notes.proofs.Heard.{first_heard}
 use Rattle.run_notes.specs.Heard.{HeardBy, emergencies_noted}
+use Rattle.run_notes.specs.Reports.{AllReport, ReportsBy, ReportsOn, TurnsAll}
+use Rattle.run_notes.specs.declared.notes.Notes.{Notes}
+use Rattle.script_runs.specs.Answers.{turned}
 use Rattle.run_notes.specs.Slaves.{GaveBy, first_notes, gaves_noted}
 use Rattle.run_notes.specs.declared.standing.AskedMail.{AskedMail}
 use Rattle.run_notes.specs.declared.standing.Log.{Log}
@@ -59,12 +62,13 @@ use Rattle.run_record.specs.Served.{ServedLeading, ServedTouredTo, Serving, Serv
 use Rattle.run_record.specs.Session.{FrameEvents, IsDone, SessionState, asked_mail, asked_more, has_live, numbers_over}
 use Rattle.run_record.proofs.Fits.{has_room, home_fits}
 use Rattle.run_record.proofs.Hearings.{heard_by}
-use Rattle.run_record.proofs.Leads.{first_gaves}
+use Rattle.run_record.proofs.Leads.{first_gaves, first_reports}
 use Rattle.run_record.proofs.Nexts.{next_frame}
 use Rattle.run_record.proofs.Noted.{GivesOne, noted_by, noted_now}
 use Rattle.run_record.proofs.ServedForwards.{FrameTells, served_asked, served_events, served_first, served_forwarded_on, served_numbered_on, served_stays}
 use Rattle.run_record.proofs.ServedGaves.{all_give, has_lives, serve_leads, served_counted}
 use Rattle.run_record.proofs.ServedRecalls.{Recalled, recalled_asked, recalled_at, recalled_first, recalled_stays}
+use Rattle.run_record.proofs.ServedReports.{all_turn, before_turned, served_before, shows_told, told_by, way_told}
 use Rattle.run_record.proofs.ServedTold.{tells_frame}
 use Rattle.segment_plan.specs.declared.plan.Scenario.{Scenario}
 use Rattle.segment_plan.specs.declared.service.Service as Plan
@@ -117,6 +121,8 @@ serving_begins plan s notes shown none still tour ports joined happened knows ri
         toured = r.0;
       };
       gave = ap gaves_noted notes ∙ first_gaves plan.services 0 0 plan.slaves ∙ ap (map gave_of) (sym (serve_leads plan.paces (first_leads plan)));
+      told = subst (λ (as' : List Leads). AllReport as' s.notes) (sym (serve_leads plan.paces (first_leads plan)))
+          (subst (λ (ns : List Notes). AllReport (first_leads plan) ns) (sym notes) (first_reports plan.services 0 0 plan.slaves refl));
       heard = ap emergencies_noted notes ∙ first_heard plan.services 0 0 plan.slaves ∙ ap (λ (as' : List Leads). map emergencies_of (heard_none as')) (sym (serve_leads plan.paces (first_leads plan)));
       asked = first_same mails_of [] (λ pace a. refl) plan.paces plan.services 0 plan.slaves ∙ sym none;
       waiting = first_same left_of 0 (λ pace a. refl) plan.paces plan.services 0 plan.slaves ∙ sym still;
@@ -183,6 +189,7 @@ one_asked s s' slave key mail served apart tour lan ring asked waiting notes = �
           toured = r.0;
         };
         gave = ap gaves_noted notes ∙ old.gave ∙ ap (map gave_of) (sym (leads_same (λ a. a) slave more.0 l.serves));
+        told = subst (λ (as' : List Leads). AllReport as' s'.notes) (sym (leads_same (λ a. a) slave more.0 l.serves)) (subst (λ (ns : List Notes). AllReport (map run_lead l.serves) ns) (sym notes) old.told);
         heard = ap emergencies_noted notes ∙ old.heard;
         asked = asked_rows key slave mail more.0 l.serves more.1 ∙ ap (λ z. asked_more z slave (asked_mail key mail)) old.asked ∙ sym asked;
         waiting = shown_wait lens plan.recover plan.retry l.missed (length fs) s'.master (asked_at slave more.0 l.serves) more.3 ∙ sym waiting;
@@ -239,6 +246,7 @@ none_asked s s' slave key mail tour lan ring number stays asked waiting notes = 
       new = record {
         leading = record { missed = l.missed; serves = l.serves; lives = l.lives; shows = shown; toured = r.0 };
         gave = ap gaves_noted notes ∙ old.gave;
+        told = subst (λ (ns : List Notes). AllReport (map run_lead l.serves) ns) (sym notes) old.told;
         heard = ap emergencies_noted notes ∙ old.heard;
         asked = old.asked ∙ sym asked;
         waiting = shown_wait lens plan.recover plan.retry l.missed (length fs) s'.master l.serves shown ∙ sym waiting;
@@ -270,6 +278,7 @@ module _ (s s' : SessionState) (m : MasterNode) (f : Exchanged) (result : Next) 
     (whole : listed s'.master.list.rows.items s'.master.list.count ≡ events_in m ++ events_in s'.master) (told : TellsBehind f.fate f.back m s'.master)
     (fate : f.fate ≡ fate_at s.ring.lose s.ring.number) (back : f.back ≡ ring_returned node_passed s.ring f.sent) (few : suc s.ring.number < 2 ^ 32) (asked : s'.asked ≡ s.asked) (waiting : s'.waiting ≡ map waiting_of s'.master.posts.items)
     (r r' : Log) (same : r.recover ≡ s.recover) (before : gaves_noted r.notes ≡ gaves_noted s.notes) (after : s'.notes ≡ r'.notes) (noted : GaveBy f.fate s.ring.number s'.master r r')
+    (told_before : TurnsAll s.ring.number m (ReportsOn s.notes r.notes)) (told_behind : ReportsBy f.fate s.ring.number s'.master r r')
     (heard_before : emergencies_noted r.notes ≡ emergencies_noted s.notes) (heard_behind : HeardBy f.fate s.ring.number s'.master r r')
     (plan : Scenario) (fs : List Exchanged) (recover : s.recover ≡ plan.recover) (number : length fs ≡ s.ring.number) (live : has_live s.master ≡ true) (busy : IsDone s → ⊥) (on_ring : s'.ring ≡ behind_ring s.ring f.sent) (old : Serving plan s fs) where
   abbrev lens : ℕ → Lens
@@ -344,6 +353,19 @@ module _ (s s' : SessionState) (m : MasterNode) (f : Exchanged) (result : Next) 
       ∙ noted_now f.fate s.ring.number (map gave_of (map run_lead l.serves)) (map gave_of (map run_lead behind)) (subst (λ (n : ℕ). AllBoth (λ o k. GivesOne f.fate n o k) (map gave_of (map run_lead l.serves)) (map gave_of (map run_lead behind))) number give)
       (gaves_noted r.notes) (gaves_noted r'.notes) (before ∙ old.gave) (noted_by f.fate s.ring.number s'.master r r' lens (map run_lead behind) noted here all)
 
+  -- of its services and epochs
+  reports : AllReport (map turned (map run_turn made.0)) r.notes
+  reports =
+      (subst (λ (n : ℕ). TurnsAll n m (ReportsOn s.notes r.notes)) (sym number) told_before) lens plan.recover (map run_lead l.serves) (map turned (map run_turn made.0))
+      (way_told lens plan.recover plan.retry l.missed (length fs) m f.sent made.0 made.2) (all_turn lens (length fs) made.1.datagrams l.serves made.0 made.1.each) old.told
+
+  told_on : AllReport (map run_lead behind) s'.notes
+  told_on =
+      subst (λ (ns : List Notes). AllReport (map run_lead behind) ns) (sym after)
+      (told_by lens plan.recover plan.retry gives (length fs) f s'.master r r' made.0 (same ∙ recover) (shows_told lens plan.recover plan.retry missed (suc (length fs)) s'.master behind shown)
+      (served_counted plan (fs ++ f ∷ []) missed behind lives) (before_turned lens (length fs) made.1.datagrams l.serves made.0 made.1.each (served_before plan fs l.missed l.serves l.lives))
+      (subst (λ (n : ℕ). ReportsBy f.fate n s'.master r r') (sym number) told_behind) reports)
+
   -- and of emergencies
   heard : AllNoted (served_heard lives) (emergencies_noted s'.notes)
   heard =
@@ -356,6 +378,7 @@ module _ (s s' : SessionState) (m : MasterNode) (f : Exchanged) (result : Next) 
   goes = record {
     leading = record { missed = missed; serves = behind; lives = lives; shows = subst (λ (n : ℕ). ServedShows lens plan.recover plan.retry s'.master missed n behind) (one_more fs f) shown; toured = remembered.0 };
     gave = gave;
+    told = told_on;
     heard = heard;
     asked = behind_mails lens plan.recover plan.retry gives (length fs) f made.0 ∙ turned_mails lens (length fs) made.1.datagrams l.serves made.0 made.1.each ∙ old.asked ∙ sym asked;
     waiting = shown_wait lens plan.recover plan.retry missed (suc (length fs)) s'.master behind shown ∙ sym waiting;
@@ -388,8 +411,8 @@ pub serving_on : (t s s' : SessionState) (m : MasterNode) (f : SentFrame) (resul
     ((lens : ℕ → Lens) (recover : ℕ) (as' : List Leads) → HasLives lens recover s'.master (map lived_of as') → tour_of s'.master ≡ tour_behind m.tour.retry f.fate as' (tour_of m) m.tour.visit.items) → FrameTells t.master m s'.master (exchanged f) →
     listed s'.master.list.rows.items s'.master.list.count ≡ events_in m ++ events_in s'.master → TellsBehind f.fate f.back m s'.master →
     IsRecorded t.ring f → suc t.ring.number < 2 ^ 32 → s'.asked ≡ t.asked → s'.waiting ≡ map waiting_of s'.master.posts.items →
-    (r r' : Log) → r.recover ≡ t.recover → gaves_noted r.notes ≡ gaves_noted t.notes → s'.notes ≡ r'.notes → GaveBy f.fate t.ring.number s'.master r r' → emergencies_noted r.notes ≡ emergencies_noted t.notes → HeardBy f.fate t.ring.number s'.master r r' →
+    (r r' : Log) → r.recover ≡ t.recover → gaves_noted r.notes ≡ gaves_noted t.notes → s'.notes ≡ r'.notes → GaveBy f.fate t.ring.number s'.master r r' → TurnsAll t.ring.number m (ReportsOn t.notes r.notes) → ReportsBy f.fate t.ring.number s'.master r r' → emergencies_noted r.notes ≡ emergencies_noted t.notes → HeardBy f.fate t.ring.number s'.master r r' →
     s'.ring ≡ behind_ring t.ring f.sent → ServingGoesOn s s' (record { making = events_of m.lan.happened; behind = events_of s'.master.lan.happened }) f
-serving_on t s s' m f result view idle serves served tours switch whole told recorded few asked waiting r r' same before after noted heard_before heard_behind ring =
+serving_on t s s' m f result view idle serves served tours switch whole told recorded few asked waiting r r' same before after noted told_before told_behind heard_before heard_behind ring =
     subst (λ (z : SessionState). ServingGoesOn z s' (record { making = events_of m.lan.happened; behind = events_of s'.master.lan.happened }) f) view
-    (λ plan fs recover number live busy old. on_frame t s' m (exchanged f) result idle serves served tours switch whole told recorded.fate recorded.back few asked waiting r r' same before after noted heard_before heard_behind plan fs recover number live busy ring old)
+    (λ plan fs recover number live busy old. on_frame t s' m (exchanged f) result idle serves served tours switch whole told recorded.fate recorded.back few asked waiting r r' same before after noted told_before told_behind heard_before heard_behind plan fs recover number live busy ring old)

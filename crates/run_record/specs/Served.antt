@@ -38,6 +38,7 @@ use Rattle.packets_heard.specs.Servings.{AreServedBegun, ServedListed, served_jo
 use Rattle.run_book.specs.declared.book.SentFrame.{SentFrame}
 use Rattle.run_notes.specs.declared.standing.AskedMail.{AskedMail}
 use Rattle.run_notes.specs.Heard.{emergencies_noted}
+use Rattle.run_notes.specs.Reports.{AllReport}
 use Rattle.run_notes.specs.Slaves.{gaves_noted, home_of}
 use Rattle.run_record.specs.Led.{exchanged}
 use Rattle.run_record.specs.Recalling.{state_of}
@@ -92,12 +93,13 @@ module _ {lens : ℕ → Lens} {recover retry : ℕ} {first : List Serves} where
 abbrev pub as_asked : Keyed → AskedMail
 as_asked k = record { key = k.key; kind = k.mail.kind; body = k.mail.body.items }
 
--- HOW A SERVING STANDS behind these frames: its master leads; so often each slave was given up as is noted, and just the emergencies among the mails that its life
+-- HOW A SERVING STANDS behind these frames: its master leads; so often each slave was given up as is noted, what is noted of its services and epochs goes with its life, and just the emergencies among the mails that its life
 -- accepted are noted, each with the frame that brought it; the mails that were asked of each are just those that the session has, in order, and so many of them
 -- still wait; and what happened at its switch is by their lives, each event with its number. None of its master's visits was in vain, by what it remembers
 pub record Serving (plan : Scenario) (s : SessionState) (fs : List Exchanged) : Type 0 where
   pub leading : ServedLeading plan s.master fs
   pub gave : gaves_noted s.notes ≡ map gave_of (map run_lead leading.serves)
+  pub told : AllReport (map run_lead leading.serves) s.notes
   pub heard : AllNoted (served_heard leading.lives) (emergencies_noted s.notes)
   pub asked : map (λ w. map as_asked w.asked) leading.serves ≡ s.asked
   pub waiting : map (λ w. length w.waits) leading.serves ≡ s.waiting

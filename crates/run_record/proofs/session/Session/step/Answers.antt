@@ -22,6 +22,7 @@ use Rattle.master_node.proofs.OnFrames.{run_way}
 use Rattle.run_record.specs.Replay.{behind, IsRecorded}
 use Rattle.run_record.specs.Session.{FrameEvents, IsGrown, SessionState, StillWants, has_live}
 use Rattle.run_notes.specs.Heard.{HeardBy}
+use Rattle.run_notes.specs.Reports.{ReportsBy, ReportsOn, TurnsAll}
 use Rattle.run_notes.specs.Slaves.{GaveBy, SameFrames, KeepsRest}
 use Rattle.run_notes.proofs.Kept.{rest_more}
 use Rattle.run_notes.specs.Switched.{IsSwitched, NotesSwitch}
@@ -162,6 +163,8 @@ returns-clause-ok c =
             (c.note_behind.ensures.slaves.asked ∙ c.note_before.ensures.slaves.asked) refl
             c.note_before.new.self c.note_behind.new.self c.note_before.ensures.slaves.recover c.in_ok-note_before.ensures.gave refl
             (subst (λ (n : ℕ). GaveBy f.fate n c.tell.new.master c.note_before.new.self c.note_behind.new.self) c.self.invariant.0 both.0)
+            (subst (λ (n : ℕ). TurnsAll n c.next.new.self (ReportsOn c.self.inside.log.notes c.note_before.new.self.notes)) c.self.invariant.0 c.in_ok-note_before.ensures.told)
+            (subst (λ (n : ℕ). ReportsBy f.fate n c.tell.new.master c.note_before.new.self c.note_behind.new.self) c.self.invariant.0 both.1.0)
             c.in_ok-note_before.ensures.heard (subst (λ (n : ℕ). HeardBy f.fate n c.tell.new.master c.note_before.new.self c.note_behind.new.self) c.self.invariant.0 both.1.1.0) c.exchange-fate.ensures.wire,
       ),
     ))
