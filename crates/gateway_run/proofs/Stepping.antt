@@ -40,7 +40,7 @@ use Rattle.segment_plan.specs.declared.plan.Scenario.{Scenario}
 use Rattle.gateway_run.specs.Account.{Owing, has_key, is_other, left_by, left_by_all, owed_by, owed_by_all, owed_to, owing, replied, waits_at}
 use Rattle.gateway_run.specs.Events.{events_of}
 use Rattle.gateway_run.specs.Rooms.{AreFiled, done_by, done_by_all, grams_of, owed_for}
-use Rattle.gateway_run.specs.Replies.{AllDesk, AllGot, Answers, GivesAll, Got, Got.ignored, Got.queued, Got.refused, HearNoMore, IsHeard, IsOurs, IsUndone}
+use Rattle.gateway_run.specs.Replies.{AllDesk, AllGot, Answers, GivesAll, Got, Got.ignored, Got.queued, Got.refused, HearNoMore, IsHeard, IsUndone}
 use Rattle.gateway_run.specs.declared.desk.Request.{Request}
 use Rattle.gateway_run.proofs.Comes.{known_at}
 use Rattle.gateway_run.proofs.Rooms.{owed_append}
