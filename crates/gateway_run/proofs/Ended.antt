@@ -30,7 +30,7 @@ use Rattle.run_record.proofs.Underway.{begun, has_frames, ended, many as many_se
 use Rattle.run_record.proofs.of_run_notes.Heard.{heard_of_rows}
 use Rattle.run_record.proofs.of_run_notes.Switched.{has_packets}
 use Rattle.gateway_run.specs.Heard.{heard_as, AreHeard, AreSent, AreSentBut, IsOwed, IsRightly}
-use Rattle.gateway_run.specs.Account.{Course, Course.begins, happened_in, numbers_in}
+use Rattle.gateway_run.specs.Account.{Course, Course.begins}
 use Rattle.gateway_run.specs.Desk.{HasNone, IsOpen, AreApart}
 use Rattle.gateway_run.specs.Replies.{Answers, dones_of}
 use Rattle.gateway_run.specs.Serving.{Told, IsOn, IsServing, IsFaulted, Goes, can_hear}
