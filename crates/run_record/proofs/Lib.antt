@@ -22,6 +22,7 @@ pub mod Plans
 pub mod Recalling
 pub mod Replays
 pub mod Rows
+pub mod ServedBegan
 pub mod ServedForwards
 pub mod ServedGaves
 pub mod ServedPlaced

@@ -98,6 +98,7 @@ pub record FrameTells (m0 m1 m2 : MasterNode) (f : Exchanged) : Type 0 where
       AllServedRecall lens [] (λ v. served_behind lens recover retry (gives_up_at lens recover retry missed) made f v) vs (recalls m1) (recalls m2)
   pub leaves : (after : ℕ) → f.fate ≡ Fates.Lost after → (lens : ℕ → Lens) (recover retry missed made : ℕ) (vs : List ServedTurn) → ServedUnder lens recover retry m1 f.sent missed made vs →
       GoDown m1 (map run_turn vs) (map run_lead (serves_behind lens recover retry missed made f vs)) m2
+  pub counts : (k : ℕ) → forwards_at m2.posts.items k ≡ forwards_at m1.posts.items k
 
 -- ONE FRAME: what the master had of its slaves' packets before, and what it says of the frame
 module _ (plan : Scenario) (fs : List Exchanged) (missed : ℕ) (ws : List Serves) (lives : ServeTo plan fs missed ws) (f : Exchanged) (vs : List ServedTurn) (frame : IsServedFrame (lens_of plan.slaves) (length fs) f.sent ws vs)

@@ -68,7 +68,7 @@ way_told lens recover retry missed made m octets vs h = under_told lens recover 
 
 -- what comes into hand is of the script, a packet, or a mail that is passed on
 module _ (lens : ℕ → Lens) (made : ℕ) (ds : List Raw.Datagram) where
-  turn_by : (w : Serves) (v : ServedTurn) → IsServedTurn lens made ds w v → TurnsBy lens made w.lead v.turn
+  pub turn_by : (w : Serves) (v : ServedTurn) → IsServedTurn lens made ds w v → TurnsBy lens made w.lead v.turn
   turn_by w v t = record { script = t.script; comes = by v.turn.begun v.turn.number v.waits v.hand t.comes; next = t.next; begun = t.begun; took = t.took }
     where
       by : (b : Option (Service Asked)) (k : ℕ) (rest : List Keyed) (hand : Option Passed) → ServedComes (lens w.lead.lived.spot.station).out w.lead.script w.waits w.hand w.lead.number b k rest hand →

@@ -46,25 +46,29 @@ use Rattle.ring_returns.proofs.Returned as Returned
 use Rattle.run_book.specs.declared.book.SentFrame.{SentFrame}
 use Rattle.run_notes.proofs.Heard.{first_heard}
 use Rattle.run_notes.specs.Heard.{HeardBy, emergencies_noted}
+use Rattle.run_notes.specs.Packets.{BeginsOn, begun_noted}
 use Rattle.run_notes.specs.Reports.{AllReport, ReportsBy, ReportsOn, TurnsAll}
 use Rattle.run_notes.specs.declared.notes.Notes.{Notes}
 use Rattle.script_runs.specs.Answers.{turned}
 use Rattle.run_notes.specs.Slaves.{GaveBy, first_notes, gaves_noted}
 use Rattle.run_notes.specs.declared.standing.AskedMail.{AskedMail}
 use Rattle.run_notes.specs.declared.standing.Log.{Log}
+use Rattle.run_record.specs.Forwarded.{PacketsNoted}
 use Rattle.run_record.specs.Led.{exchanged}
 use Rattle.run_record.specs.Recalling.{state_of}
 use Rattle.run_record.specs.Replay.{IsRecorded, behind as behind_ring, first_ring}
 use Rattle.packets_heard.specs.Recalled.{State}
 use Rattle.packets_heard.specs.Served.{IsTourServed, serves_behind}
 use Rattle.packets_heard.specs.Toured.{tour_behind}
-use Rattle.run_record.specs.Served.{ServedLeading, ServedTouredTo, Serving, ServesOn, ServingAsks, ServingGoesOn, TellsBehind, as_asked, served_heard}
+use Rattle.run_record.specs.Served.{ServedLeading, ServedTouredTo, Serving, ServesOn, ServingAsks, ServingGoesOn, TellsBehind, as_asked, served_begun, served_heard}
 use Rattle.run_record.specs.Session.{FrameEvents, IsDone, SessionState, asked_mail, asked_more, has_live, numbers_over}
+use Rattle.run_record.proofs.Began.{packets_first}
 use Rattle.run_record.proofs.Fits.{has_room, home_fits}
 use Rattle.run_record.proofs.Hearings.{heard_by}
 use Rattle.run_record.proofs.Leads.{first_gaves, first_reports}
 use Rattle.run_record.proofs.Nexts.{next_frame}
 use Rattle.run_record.proofs.Noted.{GivesOne, noted_by, noted_now}
+use Rattle.run_record.proofs.ServedBegan.{packets_stay, served_packets}
 use Rattle.run_record.proofs.ServedForwards.{FrameTells, served_asked, served_events, served_first, served_forwarded_on, served_numbered_on, served_stays}
 use Rattle.run_record.proofs.ServedGaves.{all_give, has_lives, serve_leads, served_counted}
 use Rattle.run_record.proofs.ServedRecalls.{Recalled, recalled_asked, recalled_at, recalled_first, recalled_stays}
@@ -109,8 +113,8 @@ first_same g t h [] rows place (s ∷ ss) = λ i. h 1 (new_leads (script_for pla
 first_same g t h (p ∷ ps) rows place (s ∷ ss) = λ i. h p (new_leads (script_for place rows) (spot_of place s)) i ∷ first_same g t h ps rows (suc place) ss i
 
 pub serving_begins : (plan : Scenario) (s : SessionState) → s.notes ≡ first_notes plan.services 0 plan.slaves → ServedShows (lens_of plan.slaves) plan.recover plan.retry s.master 0 0 (all_serve plan.paces (first_leads plan)) → s.asked ≡ replicate (length plan.slaves) [] → s.waiting ≡ replicate (length plan.slaves) 0 → tour_of s.master ≡ new_tour →
-    s.master.lan.ports.items ≡ ports_behind 0 plan.slaves → HasUnfinished s.master (map stand_before (first_leads plan)) (map (λ spec. None) plan.slaves) → HasHappened (ports_of plan.slaves) plan.host [] s.master.lan → AllKnow (recalls s.master) → s.ring ≡ first_ring plan → Serving plan s []
-serving_begins plan s notes shown none still tour ports joined happened knows ring =
+    s.master.lan.ports.items ≡ ports_behind 0 plan.slaves → HasUnfinished s.master (map stand_before (first_leads plan)) (map (λ spec. None) plan.slaves) → HasHappened (ports_of plan.slaves) plan.host [] s.master.lan → AllKnow (recalls s.master) → s.ring ≡ first_ring plan → ((k : ℕ) → forwards_at s.master.posts.items k ≡ 0) → Serving plan s []
+serving_begins plan s notes shown none still tour ports joined happened knows ring counts =
     let r = recalled_first plan s.master s.ring tour knows ring in
     record {
       leading = record {
@@ -130,6 +134,7 @@ serving_begins plan s notes shown none still tour ports joined happened knows ri
       forwarded = served_first plan s.master ports joined happened;
       numbers = [];
       numbered = (refl, refl);
+      packets = packets_first plan s.master s.notes counts notes;
       remembers = r.1;
     }
 
@@ -168,8 +173,8 @@ asked_rows key (suc place) mail k (w ∷ ws) i = ap (λ z. mails_of w ∷ z) (as
 one_asked : (s s' : SessionState) (slave key : ℕ) (mail : Mail) →
     ((lens : ℕ → Lens) (recover retry missed made : ℕ) (ws : List Serves) → waiting_at s.master.posts.items slave < 64 → FitsAt lens slave (length mail.body.items) ws → ServedShows lens recover retry s.master missed made ws →
     (k : Keyed) × IsAsked key mail k × MayAsk lens slave k ws × ServedShows lens recover retry s'.master missed made (asked_at slave k ws)) →
-    waiting_at s.master.posts.items slave ≢ 64 → s'.master.tour ≡ s.master.tour → s'.master.lan ≡ s.master.lan → s'.ring ≡ s.ring → s'.asked ≡ asked_more s.asked slave (asked_mail key mail) → s'.waiting ≡ map waiting_of s'.master.posts.items → s'.notes ≡ s.notes → ServingAsks slave key mail s s' true
-one_asked s s' slave key mail served apart tour lan ring asked waiting notes = λ plan fs home is there fits old.
+    waiting_at s.master.posts.items slave ≢ 64 → s'.master.tour ≡ s.master.tour → s'.master.lan ≡ s.master.lan → s'.ring ≡ s.ring → s'.asked ≡ asked_more s.asked slave (asked_mail key mail) → s'.waiting ≡ map waiting_of s'.master.posts.items → s'.notes ≡ s.notes → ((k : ℕ) → forwards_at s'.master.posts.items k ≡ forwards_at s.master.posts.items k) → ServingAsks slave key mail s s' true
+one_asked s s' slave key mail served apart tour lan ring asked waiting notes counts = λ plan fs home is there fits old.
     let lens = lens_of plan.slaves in
     let l = old.leading in
     let room = has_room plan fs l.missed slave s.master.posts.items l.serves l.lives (shown_wait lens plan.recover plan.retry l.missed (length fs) s.master l.serves l.shows) apart in
@@ -196,6 +201,7 @@ one_asked s s' slave key mail served apart tour lan ring asked waiting notes = �
         rows = old.rows;
         numbers = old.numbers;
         numbered = old.numbered;
+        packets = packets_stay (λ k. served_begun l.lives k) s.master s'.master s.notes s'.notes counts notes old.packets;
         forwarded = served_asked plan fs l.missed l.serves l.lives slave more.0 more.2 s'.master old.rows (leads_same (λ a. a) slave more.0 l.serves)
             (served_stays plan fs l.missed l.serves l.lives s.master s'.master old.rows tour lan old.forwarded);
         remembers = r.1;
@@ -209,9 +215,9 @@ one_asked s s' slave key mail served apart tour lan ring asked waiting notes = �
 pub serving_asks : (t s s' : SessionState) (slave key : ℕ) (mail : Mail) → t ≡ s →
     ((lens : ℕ → Lens) (recover retry missed made : ℕ) (ws : List Serves) → waiting_at t.master.posts.items slave < 64 → FitsAt lens slave (length mail.body.items) ws → ServedShows lens recover retry t.master missed made ws →
     (k : Keyed) × IsAsked key mail k × MayAsk lens slave k ws × ServedShows lens recover retry s'.master missed made (asked_at slave k ws)) →
-    waiting_at t.master.posts.items slave ≢ 64 → s'.master.tour ≡ t.master.tour → s'.master.lan ≡ t.master.lan → s'.ring ≡ t.ring → s'.asked ≡ asked_more s.asked slave (asked_mail key mail) → s'.waiting ≡ map waiting_of s'.master.posts.items → s'.notes ≡ t.notes → ServingAsks slave key mail s s' true
-serving_asks t s s' slave key mail view served apart tour lan ring asked waiting notes =
-    subst (λ (z : SessionState). ServingAsks slave key mail z s' true) view (one_asked t s' slave key mail served apart tour lan ring (asked ∙ ap (λ (z : SessionState). asked_more z.asked slave (asked_mail key mail)) (sym view)) waiting notes)
+    waiting_at t.master.posts.items slave ≢ 64 → s'.master.tour ≡ t.master.tour → s'.master.lan ≡ t.master.lan → s'.ring ≡ t.ring → s'.asked ≡ asked_more s.asked slave (asked_mail key mail) → s'.waiting ≡ map waiting_of s'.master.posts.items → s'.notes ≡ t.notes → ((k : ℕ) → forwards_at s'.master.posts.items k ≡ forwards_at t.master.posts.items k) → ServingAsks slave key mail s s' true
+serving_asks t s s' slave key mail view served apart tour lan ring asked waiting notes counts =
+    subst (λ (z : SessionState). ServingAsks slave key mail z s' true) view (one_asked t s' slave key mail served apart tour lan ring (asked ∙ ap (λ (z : SessionState). asked_more z.asked slave (asked_mail key mail)) (sym view)) waiting notes counts)
 
 -- NONE: its posts and its tour stay
 all_stay : {S : Type 0} (i : ℕ) (xs ys : List S) → StepsAt (λ x y. y ≡ x) i xs ys → ys ≡ xs
@@ -253,6 +259,7 @@ none_asked s s' slave key mail tour lan ring number stays asked waiting notes = 
         rows = old.rows;
         numbers = old.numbers;
         numbered = old.numbered;
+        packets = packets_stay (λ k. served_begun l.lives k) s.master s'.master s.notes s'.notes (λ k. ap (λ z. forwards_at z k) (all_stay slave s.master.posts.items s'.master.posts.items stays)) notes old.packets;
         forwarded = served_stays plan fs l.missed l.serves l.lives s.master s'.master old.rows tour lan old.forwarded;
         remembers = r.1;
       };
@@ -280,6 +287,7 @@ module _ (s s' : SessionState) (m : MasterNode) (f : Exchanged) (result : Next) 
     (r r' : Log) (same : r.recover ≡ s.recover) (before : gaves_noted r.notes ≡ gaves_noted s.notes) (after : s'.notes ≡ r'.notes) (noted : GaveBy f.fate s.ring.number s'.master r r')
     (told_before : TurnsAll s.ring.number m (ReportsOn s.notes r.notes)) (told_behind : ReportsBy f.fate s.ring.number s'.master r r')
     (heard_before : emergencies_noted r.notes ≡ emergencies_noted s.notes) (heard_behind : HeardBy f.fate s.ring.number s'.master r r')
+    (begun_before : TurnsAll s.ring.number m (BeginsOn s.ring.number m s.notes r.notes)) (begun_behind : begun_noted r'.notes ≡ begun_noted r.notes) (many : length r.notes ≡ length s.notes)
     (plan : Scenario) (fs : List Exchanged) (recover : s.recover ≡ plan.recover) (number : length fs ≡ s.ring.number) (live : has_live s.master ≡ true) (busy : IsDone s → ⊥) (on_ring : s'.ring ≡ behind_ring s.ring f.sent) (old : Serving plan s fs) where
   abbrev lens : ℕ → Lens
   lens = lens_of plan.slaves
@@ -353,6 +361,13 @@ module _ (s s' : SessionState) (m : MasterNode) (f : Exchanged) (result : Next) 
       ∙ noted_now f.fate s.ring.number (map gave_of (map run_lead l.serves)) (map gave_of (map run_lead behind)) (subst (λ (n : ℕ). AllBoth (λ o k. GivesOne f.fate n o k) (map gave_of (map run_lead l.serves)) (map gave_of (map run_lead behind))) number give)
       (gaves_noted r.notes) (gaves_noted r'.notes) (before ∙ old.gave) (noted_by f.fate s.ring.number s'.master r r' lens (map run_lead behind) noted here all)
 
+  -- of the packets that came into hand
+  packets : PacketsNoted (λ k. served_begun lives k) s'.master s'.notes
+  packets =
+      served_packets plan fs l.missed l.serves l.lives f made.0 made.1 s.master m s'.master s.notes r.notes s'.notes old.packets made.3 switch.counts (omega (arith, number, few)) many (ap begun_noted after ∙ begun_behind)
+      ((subst (λ (n : ℕ). TurnsAll n m (BeginsOn n m s.notes r.notes)) (sym number) begun_before) lens plan.recover (map run_lead l.serves) (map turned (map run_turn made.0))
+      (way_told lens plan.recover plan.retry l.missed (length fs) m f.sent made.0 made.2) (all_turn lens (length fs) made.1.datagrams l.serves made.0 made.1.each)) old.told
+
   -- of its services and epochs
   reports : AllReport (map turned (map run_turn made.0)) r.notes
   reports =
@@ -385,6 +400,7 @@ module _ (s s' : SessionState) (m : MasterNode) (f : Exchanged) (result : Next) 
     rows = old.rows ++ (m.lan.happened ++ s'.master.lan.happened);
     numbers = old.numbers ++ numbers_over (length fs) happened;
     numbered = served_numbered_on plan fs l.missed l.serves l.lives f made.0 made.1 s.master m s'.master made.2 made.4 returned switch old.rows old.forwarded old.numbers old.numbered;
+    packets = packets;
     forwarded = served_forwarded_on plan fs l.missed l.serves l.lives f made.0 made.1 s.master m s'.master made.2 made.4 returned switch old.rows old.forwarded;
     remembers = remembered.1;
   }
@@ -412,7 +428,7 @@ pub serving_on : (t s s' : SessionState) (m : MasterNode) (f : SentFrame) (resul
     listed s'.master.list.rows.items s'.master.list.count ≡ events_in m ++ events_in s'.master → TellsBehind f.fate f.back m s'.master →
     IsRecorded t.ring f → suc t.ring.number < 2 ^ 32 → s'.asked ≡ t.asked → s'.waiting ≡ map waiting_of s'.master.posts.items →
     (r r' : Log) → r.recover ≡ t.recover → gaves_noted r.notes ≡ gaves_noted t.notes → s'.notes ≡ r'.notes → GaveBy f.fate t.ring.number s'.master r r' → TurnsAll t.ring.number m (ReportsOn t.notes r.notes) → ReportsBy f.fate t.ring.number s'.master r r' → emergencies_noted r.notes ≡ emergencies_noted t.notes → HeardBy f.fate t.ring.number s'.master r r' →
-    s'.ring ≡ behind_ring t.ring f.sent → ServingGoesOn s s' (record { making = events_of m.lan.happened; behind = events_of s'.master.lan.happened }) f
-serving_on t s s' m f result view idle serves served tours switch whole told recorded few asked waiting r r' same before after noted told_before told_behind heard_before heard_behind ring =
+    TurnsAll t.ring.number m (BeginsOn t.ring.number m t.notes r.notes) → begun_noted r'.notes ≡ begun_noted r.notes → length r.notes ≡ length t.notes → s'.ring ≡ behind_ring t.ring f.sent → ServingGoesOn s s' (record { making = events_of m.lan.happened; behind = events_of s'.master.lan.happened }) f
+serving_on t s s' m f result view idle serves served tours switch whole told recorded few asked waiting r r' same before after noted told_before told_behind heard_before heard_behind begun_before begun_behind many ring =
     subst (λ (z : SessionState). ServingGoesOn z s' (record { making = events_of m.lan.happened; behind = events_of s'.master.lan.happened }) f) view
-    (λ plan fs recover number live busy old. on_frame t s' m (exchanged f) result idle serves served tours switch whole told recorded.fate recorded.back few asked waiting r r' same before after noted told_before told_behind heard_before heard_behind plan fs recover number live busy ring old)
+    (λ plan fs recover number live busy old. on_frame t s' m (exchanged f) result idle serves served tours switch whole told recorded.fate recorded.back few asked waiting r r' same before after noted told_before told_behind heard_before heard_behind begun_before begun_behind many plan fs recover number live busy ring old)

@@ -30,7 +30,8 @@ use Rattle.master_node.specs.of_master_tour.Toured.{Tour}
 use Rattle.master_node.specs.Toured.{tour_of}
 use Rattle.eoe_switch.specs.declared.switching.SwitchEvent.{SwitchEvent}
 use Rattle.packets_heard.specs.Listed.{unfinished_of}
-use Rattle.packets_heard.specs.Numbers.{NumberedOn}
+use Rattle.packets_heard.specs.Numbers.{NumberedOn, each_with}
+use Rattle.packets_heard.specs.Over.{packet_begun}
 use Rattle.packets_heard.specs.Served.{IsTourServed}
 use Rattle.master_node.specs.of_segment_model.Returned.{Returns}
 use Rattle.packets_heard.specs.ServedRecalled.{ServedRecalledIn}
@@ -40,6 +41,7 @@ use Rattle.run_notes.specs.declared.standing.AskedMail.{AskedMail}
 use Rattle.run_notes.specs.Heard.{emergencies_noted}
 use Rattle.run_notes.specs.Reports.{AllReport}
 use Rattle.run_notes.specs.Slaves.{gaves_noted, home_of}
+use Rattle.run_record.specs.Forwarded.{PacketsNoted}
 use Rattle.run_record.specs.Led.{exchanged}
 use Rattle.run_record.specs.Recalling.{state_of}
 use Rattle.run_record.specs.Session.{FrameEvents, IsDone, SessionState, has_live, numbers_over}
@@ -82,6 +84,12 @@ module _ {lens : ℕ → Lens} {recover retry : ℕ} {first : List Serves} where
   served_heard (IsServedLed.asks fs missed ws place k led may) = served_heard led
   served_heard (IsServedLed.on fs missed ws f vs led frame) = heard_on (λ u. brought_by lens (length fs) f f.fate u) (served_heard led) (map run_turn vs)
 
+  -- THE FRAMES BEFORE WHICH PACKETS CAME INTO HAND of the slave at a place, in order, as over a run
+  abbrev pub served_begun : {fs : List Exchanged} {missed : ℕ} {ws : List Serves} → IsServedLed lens recover retry first fs missed ws → ℕ → List ℕ
+  served_begun IsServedLed.start k = []
+  served_begun (IsServedLed.asks fs missed ws place keyed led may) k = served_begun led k
+  served_begun (IsServedLed.on fs missed ws f vs led frame) k = served_begun led k ++ each_with (length fs) (packet_begun (begun_of (map run_turn vs) k))
+
   -- EACH EVENT HAS ITS NUMBER, frame by frame: how many frames had been sent when it came
   abbrev pub ServedNumbered : List (Option ℕ) → ℕ → {fs : List Exchanged} {missed : ℕ} {ws : List Serves} → IsServedLed lens recover retry first fs missed ws → List SwitchEvent → List ℕ → Type 0
   ServedNumbered ports many IsServedLed.start es ns = (es ≡ []) × (ns ≡ [])
@@ -107,6 +115,7 @@ pub record Serving (plan : Scenario) (s : SessionState) (fs : List Exchanged) : 
   pub forwarded : IsServedForwarded plan s.master leading.lives rows
   pub numbers : List ℕ
   pub numbered : ServedNumbered (ports_behind 0 plan.slaves) (ports_of plan.slaves) leading.lives (events_of rows) numbers
+  pub packets : PacketsNoted (λ k. served_begun leading.lives k) s.master s.notes
   pub remembers : ServedRecalledIn plan leading.toured (state_of s.master (events_of rows) s.ring)
 
 -- before its first frame

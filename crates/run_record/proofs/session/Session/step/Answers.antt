@@ -22,6 +22,7 @@ use Rattle.master_node.proofs.OnFrames.{run_way}
 use Rattle.run_record.specs.Replay.{behind, IsRecorded}
 use Rattle.run_record.specs.Session.{FrameEvents, IsGrown, SessionState, StillWants, has_live}
 use Rattle.run_notes.specs.Heard.{HeardBy}
+use Rattle.run_notes.specs.Packets.{BeginsOn}
 use Rattle.run_notes.specs.Reports.{ReportsBy, ReportsOn, TurnsAll}
 use Rattle.run_notes.specs.Slaves.{GaveBy, SameFrames, KeepsRest}
 use Rattle.run_notes.proofs.Kept.{rest_more}
@@ -157,6 +158,7 @@ returns-clause-ok c =
               remembers = λ pass lens recover retry missed made vs under back asks. c.tell.ensures.remembers pass lens recover retry missed made vs (exchanged f) refl refl under back asks;
               stays = λ after lost lens recover retry missed made vs under. c.tell.ensures.stays after lost lens recover retry missed made vs (exchanged f) under;
               leaves = λ after lost lens recover retry missed made vs under. c.tell.ensures.leaves after lost lens recover retry missed made vs (exchanged f) refl under;
+              counts = c.tell.ensures.counts;
             })
             (c.tell.ensures.whole ∙ ap (λ (es : List Event). es ++ events_in c.tell.new.master) c.next.ensures.whole.1) (c.tell.ensures.told c.next.ensures.few)
             (record { fate = c.exchange-fate.ensures.fate; back = c.exchange-fate.ensures.back }) (let n = c.self.invariant.0 in let b = c.self.invariant.1 in let most = c.self.invariant.2 in omega (arith, n, b, most))
@@ -165,7 +167,9 @@ returns-clause-ok c =
             (subst (λ (n : ℕ). GaveBy f.fate n c.tell.new.master c.note_before.new.self c.note_behind.new.self) c.self.invariant.0 both.0)
             (subst (λ (n : ℕ). TurnsAll n c.next.new.self (ReportsOn c.self.inside.log.notes c.note_before.new.self.notes)) c.self.invariant.0 c.in_ok-note_before.ensures.told)
             (subst (λ (n : ℕ). ReportsBy f.fate n c.tell.new.master c.note_before.new.self c.note_behind.new.self) c.self.invariant.0 both.1.0)
-            c.in_ok-note_before.ensures.heard (subst (λ (n : ℕ). HeardBy f.fate n c.tell.new.master c.note_before.new.self c.note_behind.new.self) c.self.invariant.0 both.1.1.0) c.exchange-fate.ensures.wire,
+            c.in_ok-note_before.ensures.heard (subst (λ (n : ℕ). HeardBy f.fate n c.tell.new.master c.note_before.new.self c.note_behind.new.self) c.self.invariant.0 both.1.1.0)
+            (subst (λ (n : ℕ). TurnsAll n c.next.new.self (BeginsOn n c.next.new.self c.self.inside.log.notes c.note_before.new.self.notes)) c.self.invariant.0 c.in_ok-note_before.ensures.begun) both.1.1.1.1 c.note_before.ensures.slaves.notes
+            c.exchange-fate.ensures.wire,
       ),
     ))
     (on_ok_both _ _ c.note_behind.result c.note_behind.ensures.gave (on_ok_both _ _ c.note_behind.result c.note_behind.ensures.told (on_ok_both _ _ c.note_behind.result c.note_behind.ensures.heard (on_ok_both _ _ c.note_behind.result c.note_behind.ensures.switch c.note_behind.ensures.rows))))
