@@ -85,7 +85,7 @@ no_row true = refl
 no_row false = refl
 
 pub one_row : (frame : ℕ) (b : Bool) (origin : Origin) (rows : List (ℕ × ℕ)) → packet_row origin frame ≡ rows → (if b then packet_row origin frame else none_rows) ++ none_rows ≡ (if b then rows else none_rows)
-one_row frame b origin rows is = append-nil (if b then packet_row origin frame else none_rows) ∙ ap (λ z. if b then z else none_rows) is
+one_row frame b origin rows is = append-nil (if b then packet_row origin frame else none_rows) ∙ ap (λ (z : List (ℕ × ℕ)). if b then z else none_rows) is
 
 -- what is told of the slave at a place
 abbrev pub RowsAt : ℕ → (ℕ → ℕ) → (ℕ → Option (Service Asked)) → (ℕ → List Event) → Type 0

@@ -1,5 +1,5 @@
 -- THE PACKETS THAT CAME INTO HAND over a serving, as its master lists them and by the lives of its slaves, also where mails are passed on.
-use Rattle.std.proofs.Common.{◌≡◌, ◌<◌, ◌≤◌, ◌+◌, ◌==◌, ℕ, zero, suc, false, Option, Some, None, List, [], ◌∷◌, ◌++◌, map, length, length-append, refl, sym, ◌∙◌, subst, arith}
+use Rattle.std.proofs.Common.{◌≡◌, ◌<◌, ◌≤◌, ◌+◌, ◌==◌, ℕ, Option, Some, None, List, [], ◌∷◌, map, length, length-append, refl, sym, ◌∙◌, subst, arith}
 use Rattle.std.specs.Prelude.{if◌then◌else◌}
 use Rattle.datagrams.specs.Datagram as Raw
 use Rattle.master_node.specs.Begins.{begun_of}
@@ -14,7 +14,7 @@ use Rattle.master_node.specs.of_life_frames.Shares.{AllBoth}
 use Rattle.master_node.specs.of_life_runs.First.{lens_of}
 use Rattle.master_node.specs.of_life_runs.Led.{Exchanged}
 use Rattle.master_node.specs.of_master_duty.of_state_exchange.Stated.{Service}
-use Rattle.master_node.specs.of_master_hand.Spoken.{Asked, sdo, file, drive, net, passed}
+use Rattle.master_node.specs.of_master_hand.Spoken.{sdo, file, drive, net, passed}
 use Rattle.master_node.specs.of_master_hand.of_eoe_model.Client as EoeClient
 use Rattle.packets_heard.specs.Numbers.{each_with}
 use Rattle.packets_heard.specs.Over.{packet_begun}
