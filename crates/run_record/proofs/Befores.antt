@@ -47,7 +47,7 @@ module _ (lens : ℕ → Lens) (recover retry : ℕ) (gives : Bool) (made : ℕ)
   behind_before (u ∷ us) h = (one_before u h.0 f.fate, behind_before us h.1)
 
 -- BEHIND ALL FRAMES
-one_more : (fs : List Exchanged) (f : Exchanged) → suc (length fs) ≡ length (fs ++ f ∷ [])
+pub one_more : (fs : List Exchanged) (f : Exchanged) → suc (length fs) ≡ length (fs ++ f ∷ [])
 one_more fs f = let k = length-append fs (f ∷ []) in omega (arith, k)
 
 pub all_before : (plan : Scenario) (fs : List Exchanged) (missed : ℕ) (as' : List Leads) → LeadTo plan fs missed as' → AllBefore (length fs) as'

@@ -1,5 +1,5 @@
 -- What is noted of a slave's services and epochs over a frame of a serving goes with its life, also while mails are passed on to it.
-use Rattle.std.proofs.Common.{◌≡◌, ℕ, suc, Bool, Option, Some, None, List, [], ◌∷◌, ◌++◌, map, length, length-append, refl, sym, ap, subst, arith}
+use Rattle.std.proofs.Common.{◌≡◌, ℕ, suc, Bool, Option, Some, None, List, [], ◌∷◌, map, length, refl, sym, subst}
 use Rattle.datagrams.specs.Datagram as Raw
 use Rattle.master_node.proofs.Servings.{leads_same}
 use Rattle.master_node.specs.Serving.{IsServed, IsServedUnder, ServedShows, ServedUnder, run_lead, run_turn}
@@ -16,10 +16,9 @@ use Rattle.master_node.specs.of_master_hand.declared.hand.InHand.{InHand}
 use Rattle.master_node.specs.of_master_side.Passing.{news_back, news_lost}
 use Rattle.master_node.specs.of_master_side.declared.hand.Hand.{Ghosts}
 use Rattle.master_node.specs.of_master_tour.declared.stop.Stop.{Stop}
-use Rattle.run_notes.specs.Reports.{AllReport, ReportsBy, ReportsOn, TurnsAll}
-use Rattle.run_notes.specs.declared.notes.Notes.{Notes}
+use Rattle.run_notes.specs.Reports.{AllReport, ReportsBy}
 use Rattle.run_notes.specs.declared.standing.Log.{Log}
-use Rattle.run_record.proofs.Befores.{AllBefore, all_before}
+use Rattle.run_record.proofs.Befores.{AllBefore, all_before, one_more}
 use Rattle.run_record.proofs.ServedGaves.{Behind, serve_leads}
 use Rattle.run_record.specs.Served.{ServeTo}
 use Rattle.script_runs.proofs.Losses.{loses_so, passes_so}
@@ -27,13 +26,12 @@ use Rattle.script_runs.proofs.Turns.{turns_by}
 use Rattle.script_runs.specs.Answers.{turned}
 use Rattle.script_runs.specs.Steps.{ComesBy, IsBefore, LosesSo, PassesSo, TurnsBy, TurnsSo}
 use Rattle.segment_plan.specs.declared.plan.Scenario.{Scenario}
-use Rattle.segment_plan.specs.declared.service.Service as Plan
 use Rattle.segment_ring.specs.declared.wire.Fate.{Fate}
 use Rattle.segment_ring.specs.declared.wire.Fate.TheVariants as Fates
 use Rattle.master_node.specs.of_master_duty.of_state_exchange.Stated.{Service}
 use Rattle.master_node.specs.of_master_hand.Spoken.{Asked}
 use Rattle.served_runs.specs.Told.{Passed}
-use Rattle.served_runs.specs.Served.{AllServedTurn, IsServedLed, IsServedTurn, Keyed, Serves, ServedComes, ServedTurn, served_behind, served_life}
+use Rattle.served_runs.specs.Served.{AllServedTurn, IsServedLed, IsServedTurn, Keyed, Serves, ServedComes, ServedTurn, served_life}
 
 -- ---- what is known of each at its stop
 
@@ -136,9 +134,6 @@ module _ (lens : ℕ → Lens) (recover retry : ℕ) (gives : Bool) (made : ℕ)
           (subst (λ bs. AllBoth (λ a b. LosesSo made a b) (map turned (map run_turn vs)) bs) (same_behind (Fates.Lost after) e vs) (all_loses after vs before)) old
 
 -- ---- ALL THAT STANDS IN THE LIVES behind some frames was before the next one
-one_more : (fs : List Exchanged) (f : Exchanged) → suc (length fs) ≡ length (fs ++ f ∷ [])
-one_more fs f = let k = length-append fs (f ∷ []) in omega (arith, k)
-
 pub served_before : (plan : Scenario) (fs : List Exchanged) (missed : ℕ) (ws : List Serves) → ServeTo plan fs missed ws → AllBefore (length fs) (map run_lead ws)
 served_before plan _ _ _ IsServedLed.start = subst (λ z. AllBefore 0 z) (sym (serve_leads plan.paces (first_leads plan))) (all_before plan [] 0 (first_leads plan) IsLed.start)
 served_before plan _ _ _ (IsServedLed.asks fs missed ws place k led may) = subst (λ z. AllBefore (length fs) z) (sym (leads_same (λ a. a) place k ws)) (served_before plan fs missed ws led)
