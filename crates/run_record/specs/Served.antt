@@ -103,8 +103,8 @@ as_asked k = record { key = k.key; kind = k.mail.kind; body = k.mail.body.items 
 
 -- HOW A SERVING STANDS behind these frames: its master leads; so often each slave was given up as is noted, and what is noted of its services and epochs goes with
 -- its life; just the emergencies among the mails that its life accepted are noted, each with the frame that brought it; the mails that were asked of each are just
--- those that the session has, in order, and so many of them still wait; and what happened at its switch is by their lives, each event with its number. None of its
--- master's visits was in vain, by what it remembers
+-- those that the session has, in order, and so many of them still wait; what happened at its switch is by their lives, each event with its number; and just the
+-- packets that came into hand are noted, numbered. None of its master's visits was in vain, by what it remembers
 pub record Serving (plan : Scenario) (s : SessionState) (fs : List Exchanged) : Type 0 where
   pub leading : ServedLeading plan s.master fs
   pub gave : gaves_noted s.notes ≡ map gave_of (map run_lead leading.serves)
