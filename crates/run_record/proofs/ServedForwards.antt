@@ -13,6 +13,7 @@ use Rattle.master_node.specs.Eager.{recalls}
 use Rattle.master_node.specs.Happened.{HappensSo, HasHappened, events_of}
 use Rattle.master_node.specs.Joined.{HasUnfinished, IsUnfinished, JoinsKept, stand_before, stand_under, unfinished_after}
 use Rattle.master_node.specs.Made.{AreOfMaking}
+use Rattle.master_node.specs.Origins.{forwards_at}
 use Rattle.master_node.specs.Ports.{ports_behind, ports_of}
 use Rattle.master_node.specs.Rooms.{area_at}
 use Rattle.master_node.specs.ServedEager.{AllServedAsk, AllServedRecall}
