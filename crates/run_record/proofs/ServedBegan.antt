@@ -14,7 +14,7 @@ use Rattle.master_node.specs.of_life_frames.Shares.{AllBoth}
 use Rattle.master_node.specs.of_life_runs.First.{lens_of}
 use Rattle.master_node.specs.of_life_runs.Led.{Exchanged}
 use Rattle.master_node.specs.of_master_duty.of_state_exchange.Stated.{Service}
-use Rattle.master_node.specs.of_master_hand.Spoken.{sdo, file, drive, net, passed}
+use Rattle.master_node.specs.of_master_hand.Spoken.{Asked, sdo, file, drive, net, passed}
 use Rattle.master_node.specs.of_master_hand.of_eoe_model.Client as EoeClient
 use Rattle.packets_heard.specs.Numbers.{each_with}
 use Rattle.packets_heard.specs.Over.{packet_begun}
