@@ -7,6 +7,8 @@ use Rattle.gateway_run.specs.declared.stop.Stop.TheVariants as stops
 use Rattle.std.proofs.lemmas.List.Elements.{All-nil}
 use Rattle.master_node.specs.Happened.{HasHappened, events_of}
 use Rattle.master_node.specs.Ports.{ports_behind, ports_of}
+use Rattle.master_node.specs.Serving.{run_lead}
+use Rattle.master_node.specs.of_life_frames.Shares.{AllBoth}
 use Rattle.segment_plan.specs.Sound.{IsPlan}
 use Rattle.segment_plan.specs.Bound.{bound_of}
 use Rattle.segment_plan.specs.declared.plan.Scenario.{Scenario}
@@ -16,18 +18,25 @@ use Rattle.run_book.specs.declared.book.Ending.{Ending}
 use Rattle.run_book.specs.declared.book.Ending.TheVariants as endings
 use Rattle.run_book.specs.declared.book.GramIn.{GramIn}
 use Rattle.run_book.specs.declared.book.GramOut.{GramOut}
+use Rattle.run_book.specs.declared.book.SlaveBook.{SlaveBook}
 use Rattle.run_record.specs.Led.{LeavesNone, exchanged}
-use Rattle.run_record.specs.Served.{ServedNumbered, ServingBegins, ServingRests}
+use Rattle.run_record.specs.Served.{ServedNumbered, ServingBegins, ServingRests, served_begun}
 use Rattle.run_record.specs.Session.{are_at_rest, first_session, session_rows}
 use Rattle.run_record.specs.of_eoe_switch.declared.switching.SwitchEvent.{SwitchEvent}
 use Rattle.run_record.specs.of_packets_heard.Servings.{AreServedBegun, ServedListed}
+use Rattle.run_record.specs.of_run_notes.Epochs.{HasEpochs}
 use Rattle.run_record.specs.of_run_notes.Heard.{emergencies_in}
+use Rattle.run_record.specs.of_run_notes.Packets.{AreNumbered, begun_in}
+use Rattle.run_record.specs.of_run_notes.Reports.{IsBooked}
 use Rattle.run_record.specs.of_run_notes.Slaves.{home_of}
 use Rattle.run_record.specs.of_run_notes.Switched.{SameSwitch}
+use Rattle.run_record.specs.of_run_notes.Unsent.{IsSpent}
 use Rattle.run_record.specs.Ran.{HasSent, EndsSo, StopsSo, StopsAs}
 use Rattle.gateway_run.proofs.Room.{small_budget}
 use Rattle.run_record.proofs.Underway.{begun, has_frames, ended, many as many_sent}
 use Rattle.run_record.proofs.of_run_notes.Heard.{heard_of_rows}
+use Rattle.run_record.proofs.of_run_notes.Packets.{begun_of_rows}
+use Rattle.run_record.proofs.of_run_notes.Reporting.{all_booked, all_epochs, all_spent}
 use Rattle.run_record.proofs.of_run_notes.Switched.{has_packets}
 use Rattle.gateway_run.specs.Heard.{heard_as, AreHeard, AreSent, AreSentBut, IsOwed, IsRightly}
 use Rattle.gateway_run.specs.Account.{Course, Course.begins}
@@ -136,6 +145,7 @@ module _ (plan : Scenario) (count : ℕ) (first now : Told) (v : Serving) (b b' 
         begun = subst (λ (es : List SwitchEvent). AreServedBegun (ports_behind 0 plan.slaves) (ports_of plan.slaves) answers'.serving.leading.lives es) booked answers'.serving.forwarded.begun;
         numbered = subst (λ (ns : List ℕ). ServedNumbered (ports_behind 0 plan.slaves) (ports_of plan.slaves) answers'.serving.leading.lives b'.switch ns) numbered'
             (subst (λ (es : List SwitchEvent). ServedNumbered (ports_behind 0 plan.slaves) (ports_of plan.slaves) answers'.serving.leading.lives es answers'.serving.numbers) booked answers'.serving.numbered);
+        forwards = subst (λ z. AreNumbered (λ k. served_begun answers'.serving.leading.lives k) z) (sym (ap begun_in rows ∙ begun_of_rows v.session.recover v.session.ring.nodes v.session.notes many)) answers'.serving.packets.rows;
         rests = λ none. all_rest plan count v.session b b' on.underway answers'.serving (rests none).0 rows many (rests none).1;
         packets = has_packets plan v.session.ports v.session.ring.number v.session.master.lan b b' on.underway.ports (sym (ap length frames ∙ many_sent plan count v.session b on.underway)) kept on.underway.switched;
         come = λ none. no_packet plan count v.session b b' on.underway answers'.serving (rests none).0 kept;

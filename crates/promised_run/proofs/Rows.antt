@@ -1,8 +1,8 @@
 -- The rows of a slave's life over a run: each service that came into hand, with the frame before which it did.
 use Rattle.std.proofs.Common.{◌≡◌, ℕ, zero, suc, Bool, true, false, Option, Some, None, List, [], ◌∷◌, ◌++◌, map, length, refl, sym, ap, ◌∙◌, append_assoc, append-nil}
-use Rattle.std.specs.Prelude.{◌==◌, ◌&&◌, if◌then◌else◌, ⊤}
+use Rattle.std.specs.Prelude.{◌==◌, ◌&&◌, if◌then◌else◌}
 use Rattle.life_runs.specs.First.{leads_from, first_leads}
-use Rattle.life_runs.specs.Led.{Comes, Exchanged, Leads, Turn, Took, IsTurn, AllTurn, IsLed, is_passed, speech_at, life_behind, led_behind, gives_up_at}
+use Rattle.life_runs.specs.Led.{Exchanged, Leads, Turn, Took, IsTurn, AllTurn, IsLed, is_passed, speech_at, life_behind, led_behind, gives_up_at}
 use Rattle.life_runs.specs.of_datagrams.Datagram as Raw
 use Rattle.life_runs.specs.of_eoe_model.Client as EoeClient
 use Rattle.life_runs.specs.of_frame_view.View.{Lens}
@@ -15,7 +15,6 @@ use Rattle.promised_run.specs.Numbers.{eras_rows, life_rows, packet_frames, rows
 use Rattle.run_book.specs.of_master_node.Begins.{begins_other, begun_of}
 use Rattle.run_record.specs.of_packets_heard.Numbers.{each_with, frame_where, frames_begun, frames_other}
 use Rattle.run_record.specs.of_packets_heard.Over.{packet_begun}
-use Rattle.script_runs.proofs.Turns.{none_passed}
 use Rattle.script_runs.proofs.of_task_model.Completed.{started_back}
 use Rattle.script_runs.specs.Came.{is_beside, is_packet}
 use Rattle.script_runs.specs.of_exchange_model.Exchange.{Speech}
@@ -30,6 +29,7 @@ use Rattle.script_runs.specs.of_task_model.Accounts.{Account, Duty, Stage, Pick,
 use Rattle.segment_plan.specs.declared.plan.Scenario.{Scenario}
 use Rattle.segment_plan.specs.declared.service.Service as Plan
 use Rattle.segment_plan.specs.declared.slave.SlaveSpec.{SlaveSpec}
+use Rattle.served_runs.proofs.Quiet.{comes_own}
 use Rattle.life_runs.specs.of_segment_ring.declared.wire.Fate.{Fate}
 use Rattle.life_runs.specs.of_segment_ring.declared.wire.Fate.TheVariants.{Pass, Lost}
 
@@ -174,33 +174,22 @@ packet_row made (Some (Service.Mails (passed m))) = refl
 packet_row made (Some (Service.State target)) = refl
 
 -- in a run no mail is passed on
-abbrev NotPassed : Option (Service Asked) → Type 0
-NotPassed None = ⊤
-NotPassed (Some (Service.Mails q)) = is_passed q ≡ false
-NotPassed (Some (Service.State target)) = ⊤
+begun_own : (lens : ℕ → Lens) (made : ℕ) (ds : List Raw.Datagram) (as' : List Leads) (us : List Turn) → AllTurn lens made ds as' us → (k : ℕ) (q : Asked) → begun_of us k ≡ Some (Service.Mails q) → is_passed q ≡ false
+begun_own lens made ds as' [] t k q e = absurd (let bad : None ≡ Some (Service.Mails q) = e in cc)
+begun_own lens made ds [] (u ∷ us) t k q e = absurd t
+begun_own lens made ds (a ∷ as') (u ∷ us) t zero q e = comes_own (lens a.lived.spot.station).out a.script a.number u.number u.begun t.0.comes q e
+begun_own lens made ds (a ∷ as') (u ∷ us) t (suc k) q e = begun_own lens made ds as' us t.1 k q e
 
-not_passed : (room : ℕ) (script : List Plan.Service) (n : ℕ) (b : Option (Service Asked)) (k : ℕ) → Comes room script n b k → NotPassed b
-not_passed room script n _ _ Comes.none = tt
-not_passed room script n _ _ (Comes.mails s q at asked) = none_passed room s q asked
-not_passed room script n _ _ (Comes.state target at) = tt
-not_passed room script n _ _ (Comes.packet octets frame) = refl
-
-begun_own : (lens : ℕ → Lens) (made : ℕ) (ds : List Raw.Datagram) (as' : List Leads) (us : List Turn) → AllTurn lens made ds as' us → (k : ℕ) → NotPassed (begun_of us k)
-begun_own lens made ds as' [] t k = tt
-begun_own lens made ds [] (u ∷ us) t k = absurd t
-begun_own lens made ds (a ∷ as') (u ∷ us) t zero = not_passed _ _ _ _ _ t.0.comes
-begun_own lens made ds (a ∷ as') (u ∷ us) t (suc k) = begun_own lens made ds as' us t.1 k
-
-other_row : (made : ℕ) (b : Option (Service Asked)) → NotPassed b → other_frames (row_of made b) ≡ frame_where (begins_other b) made
-other_row made None n = refl
-other_row made (Some (Service.Mails (sdo q))) n = refl
-other_row made (Some (Service.Mails (file q))) n = refl
-other_row made (Some (Service.Mails (drive q))) n = refl
-other_row made (Some (Service.Mails (net (EoeClient.set_ip block)))) n = refl
-other_row made (Some (Service.Mails (net EoeClient.get_ip))) n = refl
-other_row made (Some (Service.Mails (net (EoeClient.packet octets frame)))) n = refl
-other_row made (Some (Service.Mails (passed m))) n = absurd (let bad : true ≡ false = n in cc)
-other_row made (Some (Service.State target)) n = refl
+other_row : (made : ℕ) (b : Option (Service Asked)) → ((q : Asked) → b ≡ Some (Service.Mails q) → is_passed q ≡ false) → other_frames (row_of made b) ≡ frame_where (begins_other b) made
+other_row made None own = refl
+other_row made (Some (Service.Mails (sdo q))) own = refl
+other_row made (Some (Service.Mails (file q))) own = refl
+other_row made (Some (Service.Mails (drive q))) own = refl
+other_row made (Some (Service.Mails (net (EoeClient.set_ip block)))) own = refl
+other_row made (Some (Service.Mails (net EoeClient.get_ip))) own = refl
+other_row made (Some (Service.Mails (net (EoeClient.packet octets frame)))) own = refl
+other_row made (Some (Service.Mails (passed m))) own = absurd (let bad : true ≡ false = own (passed m) refl in cc)
+other_row made (Some (Service.State target)) own = refl
 
 -- before the first frame there is none
 first_rows : (services : List (ℕ × Plan.Service)) (place : ℕ) (ss : List SlaveSpec) (k : ℕ) → rows_at (leads_from services place ss) k ≡ []

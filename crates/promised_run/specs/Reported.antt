@@ -59,7 +59,7 @@ module _ {V A : Type 0} (x : Exchange V A Body Asked Reply) (s : Stated V A Aske
     pub given : has_reply x.speech q ≡ true → n.reply ≡ outcome_reply (came_to anew q (outcome_of x.speech is_followed station gs (record { service = q; frame = frame })))
     pub own : has_reply x.speech q ≡ true → stays q ≡ true → (r : Reply) (g : ℕ) → n.reply ≡ Some (r, g) → IsReplyBy q r ((with_states x s table).reply a q)
 
-  -- of a service and of those behind it; packets aren't of the script
+  -- of a service and of those behind it; packets and mails that are passed on aren't of the script
   abbrev pub RepliesBy : Option ℕ → Bool → ℕ → A × ℕ → Service Asked → List Noted → (List Noted → Type 0) → Type 0
   RepliesBy anew true frame a q ns more = more ns
   RepliesBy anew false frame a q [] more = ⊥
