@@ -27,7 +27,8 @@ use std::alloc::Global;
 /// Serves a plan that was read, as `gateway_run` does. At each moment, whatever frames are lost, each slave has carried out in each epoch just the first of the
 /// rows that came into hand of it, a request's mail by the one step that its server takes for it; and the replies that were heard for the mail in hand are the
 /// first of that step's, in order, and all of them where it is over. What is told of it are the first of those that were heard, and behind the frame by which it is
-/// over all of them.
+/// over all of them. Each answer of a service of the script is its server's own, of a row carried out; and the emergencies and packets that were heard are the first
+/// that these rows emit.
 ///
 /// Behind all frames each datagram that was queued at a slave got nothing while its mail waits, error 5 where that never came into hand, and else the first mails of
 /// the one step that its slave's server takes for it, all of them where it is done. Unless memory runs out the book has besides just what the lives have that its

@@ -46,7 +46,7 @@ module _ (p : Profile) (boot : Bool) (station : ℕ) where
       Ended.IsReplyOf (seeing (mailer p)) (seeing_states (mailer p)) (table_of boot station) count number v q r → IsReplyOf p boot station count number v (named_wanted q) (seen_row p r)
   reply_named count number v q r valid is = (ap named_wanted is.0, λ replies reply frame answer. go replies reply frame r.answer refl answer)
     where
-      go : (spoken p).speech.handed (named_wanted q) ≡ false → (reply : Reply) (frame : ℕ) (a : Option (Option SlaveReply.Reply × ℕ)) → r.answer ≡ a → option_map (λ k. (same p k.0, k.1)) a ≡ Some (reply, frame) →
+      go : (spoken p).speech.handed (named_wanted q) ≡ false → (reply : Reply) (frame : ℕ) (a : Option (Option SlaveReply.Reply × ℕ)) → r.answer ≡ a → (let named : Option (Option SlaveReply.Reply × ℕ) = option_map (λ k. (same p k.0, k.1)) a in named) ≡ Some (reply, frame) →
           (reply ≡ (spoken p).reply v (named_wanted q)) × (number < count)
       go replies reply frame None here answer = absurd (let no : ◌≡◌ {A = Option (Reply × ℕ)} None (Some (reply, frame)) = answer in cc)
       go replies reply frame (Some b) here answer =
@@ -104,9 +104,9 @@ module _ (p : Profile) (k : IsSpeaker (mailer p)) (boot : Bool) (spot : Spot) (o
       let rows = rows_of i.era.side in
       let over = i.era.account.over in
       subst (λ l. AreReplies p boot spot.station many 0 v (services_in named.account.started) l named.account.over) (sym (rows_seen (mail p) named_wanted (same p) i.era.side))
-          (subst (λ qs. AreReplies p boot spot.station many 0 v qs (map (λ h. seen_row p h) rows) named.account.over) (sym (services_named p i.era.account.started))
-          (all_named p boot spot.station many 0 v 0 services rows over all_valid
-          (all_replies (seeing (mailer p)) (seeing_states (mailer p)) (table_of boot spot.station) (λ m. false) spot.station there many i.era.account.started 0 (v, 0) rows over (duty_in i.era.account.hand) has.mails has.states has.answers has.over did.replied did.in_done)))
+      (subst (λ qs. AreReplies p boot spot.station many 0 v qs (map (λ h. seen_row p h) rows) named.account.over) (sym (services_named p i.era.account.started))
+      (all_named p boot spot.station many 0 v 0 services rows over all_valid
+      (all_replies (seeing (mailer p)) (seeing_states (mailer p)) (table_of boot spot.station) (λ m. false) spot.station there many i.era.account.started 0 (v, 0) rows over (duty_in i.era.account.hand) has.mails has.states has.answers has.over did.replied did.in_done)))
 
   -- EACH ANSWER IS ITS SERVER'S OWN
   pub replies_so : AreReplies p boot spot.station many 0 v (services_in e.account.started) (rows_of e.side) e.account.over
