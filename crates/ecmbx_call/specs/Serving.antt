@@ -25,11 +25,12 @@ use Rattle.ecmbx_words.specs.Files.{Holds, FileCourse, Followed}
 use Rattle.ecmbx_call.specs.Files.{limit}
 use Rattle.ecmbx_call.specs.Ends.{status_of}
 
--- what the serving of a plan left in its book, by what its port told before it and behind it: its frames, its datagrams, and an ending with
--- its cause; at each moment what its slaves did and replied to the mails that were passed on, by the server's one step for each, and what was told of each mail,
--- which behind the frame by which it is over is all that was heard for it; behind all of it each datagram that was queued at a slave and is done has all mails of the
--- one step of its slave's server, and where nothing was left to do all is done of each slave that wasn't given up for good; and a budget of as many frames as the
--- bound for so many datagrams didn't cut it off, and where few frames in a row were lost all is done
+-- what the serving of a plan left in its book, by what its port told before it and behind it: its frames, its datagrams, what the lives of its slaves have by these
+-- frames, and an ending with its cause; at each moment what its slaves did and replied to the mails that were passed on, by the server's one step for each, and what
+-- was told of each mail, which behind the frame by which it is over is all that was heard for it; behind all of it each datagram that was queued at a slave and is
+-- done has all mails of the one step of its slave's server, and where nothing was left to do the newest epoch of each slave that wasn't given up for good is all
+-- carried out; and where none asks for a download to 2F01:01, a budget of as many frames as the bound for so many datagrams didn't cut it off, and where besides few
+-- frames in a row were lost and the port didn't fail it ended as done
 pub record HasServed (plan : Scenario) (count : ℕ) (first last : Told) (book : Book) : Type 0 where
   pub frames : HasSent plan count book
   pub served : IsServed plan count first last book book.ending

@@ -5,6 +5,8 @@ use Rattle.std.proofs.lemmas.List.{length-map, map-append}
 use Rattle.std.proofs.lemmas.List.Elements.{All-nil, All-cons, All-head, All-tail}
 use Rattle.served_places.specs.Rows.{ToldAll, passed_rows, passings, replies_of}
 use Rattle.served_places.specs.of_served_runs.Served.{IsServedLed, Keyed, Serves, all_serve, asked_at, new_serves}
+use Rattle.master_node.specs.Happened.{events_of as switch_events}
+use Rattle.master_node.specs.Ports.{ports_behind, ports_of}
 use Rattle.master_node.specs.of_life_frames.Shares.{AllBoth}
 use Rattle.master_node.specs.of_life_runs.First.{first_leads, leads_from, lens_of}
 use Rattle.master_node.specs.of_life_runs.Led.{Exchanged, Leads}
@@ -14,17 +16,18 @@ use Rattle.run_book.specs.declared.book.GramIn.{GramIn}
 use Rattle.run_book.specs.declared.book.SentFrame.{SentFrame}
 use Rattle.run_record.specs.Led.{exchanged}
 use Rattle.run_record.specs.Served.{ServingBegins}
-use Rattle.run_record.specs.Session.{SessionState, first_session}
+use Rattle.run_record.specs.Session.{SessionState, first_session, numbers_over}
 use Rattle.segment_plan.specs.Sound.{IsPlan}
 use Rattle.segment_plan.specs.declared.plan.Scenario.{Scenario}
 use Rattle.segment_plan.specs.declared.slave.SlaveSpec.{SlaveSpec}
-use Rattle.gateway_run.specs.Account.{Course, Course.begins, Course.hears, Course.steps, Owing, left_by_all, owed_by_all}
+use Rattle.gateway_run.specs.Account.{Course, Course.begins, Course.hears, Course.steps, Owing, happened_in, left_by_all, numbers_in, owed_by_all}
 use Rattle.gateway_run.specs.Events.{events_of}
 use Rattle.gateway_run.specs.Rooms.{done_by_all}
 use Rattle.gateway_run.specs.Replies.{AllDesk, Answers, GivesAll, IsDesk, IsFor, IsHeard, IsLate, IsNew, IsOurs, IsUndone, dones_of, keyed_in, mails_told}
 use Rattle.gateway_run.specs.declared.desk.Request.{Request}
 use Rattle.gateway_run.proofs.Judging.{answers_heard}
 use Rattle.gateway_run.proofs.Leds.{course_led}
+use Rattle.gateway_run.proofs.Rowed.{Rowed, none_numbered, some_last}
 use Rattle.gateway_run.proofs.Stepping.{answers_on}
 
 -- BEFORE THE FIRST FRAME no mail is in hand, and none was passed on
@@ -54,10 +57,6 @@ asked_born place k [] h = All-nil IsNewborn
 asked_born zero k (w ∷ ws) h =
     (let b = All-head IsNewborn w ws h in All-cons IsNewborn (record w { asked = w.asked ++ k ∷ []; waits = w.waits ++ k ∷ [] }) ws (record { hand = b.hand; rows = b.rows; stands = b.stands }) (All-tail IsNewborn w ws h))
 asked_born (suc place) k (w ∷ ws) h = All-cons IsNewborn w (asked_at place k ws) (All-head IsNewborn w ws h) (asked_born place k ws (All-tail IsNewborn w ws h))
-
-some_last : (fs : List Exchanged) (f : Exchanged) → fs ++ f ∷ [] ≡ [] → ⊥
-some_last [] f e = cc
-some_last (g ∷ fs) f e = cc
 
 first_born : (plan : Scenario) (fs : List Exchanged) (missed : ℕ) (ws : List Serves) → IsServedLed (lens_of plan.slaves) plan.recover plan.retry (all_serve plan.paces (first_leads plan)) fs missed ws → fs ≡ [] → All IsNewborn ws
 first_born plan _ _ _ IsServedLed.start e = all_born plan.paces (first_leads plan) (born plan.services 0 plan.slaves)
@@ -110,35 +109,48 @@ first_gives (w ∷ ws) b =
       first_gives ws (All-tail IsNewborn w ws b),
     )
 
-first_answers : (plan : Scenario) (count : ℕ) (s : SessionState) → s ≡ first_session plan count s.master → (serving : ServingBegins plan s) → Answers plan s [] [] [] [] []
-first_answers plan count s first serving =
+first_rowed : (plan : Scenario) (count : ℕ) (s : SessionState) → s ≡ first_session plan count s.master → ServingBegins plan s → Rowed plan s [] [] [] [] [] [] []
+first_rowed plan count s first serving =
     let ws = serving.leading.serves in
     let b = first_born plan [] serving.leading.missed ws serving.leading.lives refl in
     let e = none_wait ws (length plan.slaves) (serving.waiting ∙ ap (λ (z : SessionState). z.waiting) first) in
-    record {
-      serving = serving;
-      came = map (λ (w : Serves). []) ws;
-      desk = first_desks 0 ws b e;
-      told = first_told ws b;
-      apart = tt;
-      filed = tt;
-      heard = All-nil (IsHeard []);
-      early = All-nil (λ (g : GramIn). g.frame ≤ 0);
-      undone = All-nil (IsUndone []);
-      ended = All-nil (λ (n : ℕ). n < 0);
-      owed = All-nil (λ (o : Owing). o.gram < 0);
-      got = tt;
-      whole = λ quiet. first_gives ws b;
-    }
+    let none = none_numbered plan (ports_behind 0 plan.slaves) (ports_of plan.slaves) [] serving.leading.missed ws serving.leading.lives (switch_events serving.rows) serving.numbers refl serving.numbered in (
+      record {
+        serving = serving;
+        came = map (λ (w : Serves). []) ws;
+        desk = first_desks 0 ws b e;
+        told = first_told ws b;
+        apart = tt;
+        filed = tt;
+        heard = All-nil (IsHeard []);
+        early = All-nil (λ (g : GramIn). g.frame ≤ 0);
+        undone = All-nil (IsUndone []);
+        ended = All-nil (λ (n : ℕ). n < 0);
+        owed = All-nil (λ (o : Owing). o.gram < 0);
+        got = tt;
+        whole = λ quiet. first_gives ws b;
+      },
+      none.0,
+      none.1,
+    )
 
--- ALL ALONG
+-- ALL ALONG, with just the events of the course at the switch, and their numbers
+pub course_rowed : (plan : Scenario) (count : ℕ) → IsPlan plan → (s : SessionState) (fs : List SentFrame) (gs : List GramIn) (rs : List Request) (os : List Owing) (c : Course plan count s fs gs rs os) →
+    Rowed plan s (map exchanged fs) gs rs os (dones_of plan count s fs gs rs os c) (happened_in plan count s fs gs rs os c) (numbers_in plan count s fs gs rs os c)
+course_rowed plan count is _ _ _ _ _ (begins s first serves) = first_rowed plan count s first serves
+course_rowed plan count is _ _ _ _ _ (hears s s' fs gs g rs rs' os more c at few judges) =
+    let l = course_led plan count is s fs gs rs os c in
+    let old = course_rowed plan count is s fs gs rs os c in
+    let on = answers_heard plan s s' (map exchanged fs) gs g rs os (dones_of plan count s fs gs rs os c) old.0 (let many = length-map fs exchanged in omega (arith, at, many)) is l.homes few rs' more judges in
+    (on.0, on.1 ∙ old.1, on.2 ∙ old.2)
+course_rowed plan count is _ _ _ _ _ (steps s s' fs f gs rs os c m) =
+    let l = course_led plan count is s fs gs rs os c in
+    let old = course_rowed plan count is s fs gs rs os c in
+    let more = m.happened.making ++ m.happened.behind in
+    let numbers = numbers_in plan count s fs gs rs os c ++ numbers_over (length fs) m.happened in
+    let on = answers_on plan s s' (map exchanged fs) (exchanged f) gs rs os (dones_of plan count s fs gs rs os c) old.0 m.happened (m.led plan (map exchanged fs) l.recover l.many m.live m.busy old.0.serving) in
+    subst (λ z. Rowed plan s' z gs (left_by_all (events_of s'.master) rs) (os ++ owed_by_all (events_of s'.master) rs) (dones_of plan count s fs gs rs os c ++ done_by_all (events_of s'.master) rs) (happened_in plan count s fs gs rs os c ++ more) numbers)
+    (sym (map-append exchanged fs (f ∷ []))) (on.0, on.1 ∙ ap (λ z. z ++ more) old.1, on.2 ∙ (λ i. old.2 i ++ numbers_over (length-map fs exchanged i) m.happened))
+
 pub course_answers : (plan : Scenario) (count : ℕ) → IsPlan plan → (s : SessionState) (fs : List SentFrame) (gs : List GramIn) (rs : List Request) (os : List Owing) (c : Course plan count s fs gs rs os) → Answers plan s (map exchanged fs) gs rs os (dones_of plan count s fs gs rs os c)
-course_answers plan count is _ _ _ _ _ (begins s first serves) = first_answers plan count s first serves
-course_answers plan count is _ _ _ _ _ (hears s s' fs gs g rs rs' os more c at few judges) =
-    let l = course_led plan count is s fs gs rs os c in
-    answers_heard plan s s' (map exchanged fs) gs g rs os (dones_of plan count s fs gs rs os c) (course_answers plan count is s fs gs rs os c) (let many = length-map fs exchanged in omega (arith, at, many)) is l.homes few rs' more judges
-course_answers plan count is _ _ _ _ _ (steps s s' fs f gs rs os c m) =
-    let l = course_led plan count is s fs gs rs os c in
-    let old = course_answers plan count is s fs gs rs os c in
-    subst (λ z. Answers plan s' z gs (left_by_all (events_of s'.master) rs) (os ++ owed_by_all (events_of s'.master) rs) (dones_of plan count s fs gs rs os c ++ done_by_all (events_of s'.master) rs)) (sym (map-append exchanged fs (f ∷ [])))
-    (answers_on plan s s' (map exchanged fs) (exchanged f) gs rs os (dones_of plan count s fs gs rs os c) old (m.led plan (map exchanged fs) l.recover l.many m.live m.busy old.serving))
+course_answers plan count is s fs gs rs os c = (course_rowed plan count is s fs gs rs os c).0

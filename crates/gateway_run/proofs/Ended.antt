@@ -5,8 +5,10 @@ use Rattle.slab.specs.Slab.{slab_len}
 use Rattle.gateway_run.specs.declared.stop.Stop.{Stop}
 use Rattle.gateway_run.specs.declared.stop.Stop.TheVariants as stops
 use Rattle.std.proofs.lemmas.List.Elements.{All-nil}
-use Rattle.master_node.specs.Happened.{HasHappened}
-use Rattle.master_node.specs.Ports.{ports_of}
+use Rattle.master_node.specs.Happened.{HasHappened, events_of}
+use Rattle.master_node.specs.Ports.{ports_behind, ports_of}
+use Rattle.master_node.specs.Serving.{run_lead}
+use Rattle.master_node.specs.of_life_frames.Shares.{AllBoth}
 use Rattle.segment_plan.specs.Sound.{IsPlan}
 use Rattle.segment_plan.specs.Bound.{bound_of}
 use Rattle.segment_plan.specs.declared.plan.Scenario.{Scenario}
@@ -16,14 +18,25 @@ use Rattle.run_book.specs.declared.book.Ending.{Ending}
 use Rattle.run_book.specs.declared.book.Ending.TheVariants as endings
 use Rattle.run_book.specs.declared.book.GramIn.{GramIn}
 use Rattle.run_book.specs.declared.book.GramOut.{GramOut}
+use Rattle.run_book.specs.declared.book.SlaveBook.{SlaveBook}
 use Rattle.run_record.specs.Led.{LeavesNone, exchanged}
-use Rattle.run_record.specs.Served.{ServingBegins, ServingRests}
+use Rattle.run_record.specs.Served.{ServedNumbered, ServingBegins, ServingRests, served_begun}
 use Rattle.run_record.specs.Session.{are_at_rest, first_session, session_rows}
+use Rattle.run_record.specs.of_eoe_switch.declared.switching.SwitchEvent.{SwitchEvent}
+use Rattle.run_record.specs.of_packets_heard.Servings.{AreServedBegun, ServedListed}
+use Rattle.run_record.specs.of_run_notes.Epochs.{HasEpochs}
+use Rattle.run_record.specs.of_run_notes.Heard.{emergencies_in}
+use Rattle.run_record.specs.of_run_notes.Packets.{AreNumbered, begun_in}
+use Rattle.run_record.specs.of_run_notes.Reports.{IsBooked}
 use Rattle.run_record.specs.of_run_notes.Slaves.{home_of}
 use Rattle.run_record.specs.of_run_notes.Switched.{SameSwitch}
+use Rattle.run_record.specs.of_run_notes.Unsent.{IsSpent}
 use Rattle.run_record.specs.Ran.{HasSent, EndsSo, StopsSo, StopsAs}
 use Rattle.gateway_run.proofs.Room.{small_budget}
 use Rattle.run_record.proofs.Underway.{begun, has_frames, ended, many as many_sent}
+use Rattle.run_record.proofs.of_run_notes.Heard.{heard_of_rows}
+use Rattle.run_record.proofs.of_run_notes.Packets.{begun_of_rows}
+use Rattle.run_record.proofs.of_run_notes.Reporting.{all_booked, all_epochs, all_spent}
 use Rattle.run_record.proofs.of_run_notes.Switched.{has_packets}
 use Rattle.gateway_run.specs.Heard.{heard_as, AreHeard, AreSent, AreSentBut, IsOwed, IsRightly}
 use Rattle.gateway_run.specs.Account.{Course, Course.begins}
@@ -32,7 +45,7 @@ use Rattle.gateway_run.specs.Replies.{Answers, dones_of}
 use Rattle.gateway_run.specs.Serving.{Told, IsOn, IsServing, IsFaulted, Goes, can_hear}
 use Rattle.gateway_run.specs.Served.{HasGrams, HasAccount, IsBroken, IsServed}
 use Rattle.gateway_run.specs.declared.turn.Serving.{Serving}
-use Rattle.gateway_run.proofs.Answering.{course_answers}
+use Rattle.gateway_run.proofs.Answering.{course_rowed}
 use Rattle.gateway_run.proofs.Dones.{all_done, none_unfinished}
 use Rattle.gateway_run.proofs.Rested.{all_rest, no_packet}
 use Rattle.gateway_run.proofs.Strays.{course_falls, course_strays}
@@ -41,31 +54,34 @@ use Rattle.gateway_run.proofs.Turns.{heard_none, sent_none, course_same, spelled
 -- before the first turn
 pub first_serving : (plan : Scenario) (count : ℕ) (now : Told) (v : Serving) (b : Book) → v.session ≡ first_session plan count v.session.master → ServingBegins plan v.session → HasHappened (ports_of plan.slaves) plan.host [] v.session.master.lan → HasNone v.desk → v.desk.outbox.items ≡ [] → v.count ≡ count → v.over ≡ false → IsNew b → count < 4294967296 → IsPlan plan →
     IsServing plan count now now v b
-first_serving plan count now v b session serves switch none outbox counts over new fits sound = let requests = none.0 in record {
-  on = record {
-    underway = begun plan count v.session b session new switch;
-    counts = counts;
-    few = let none = ap length new.grams in omega (arith, none);
-    fits = fits;
-    bounded = small_budget (bound_of plan count) plan.budget sound.laid.budget;
-    is_plan = sound;
-    sound = record {
-      requests = subst (All (IsOpen v.desk.gateway (map heard_as b.grams))) (sym requests) (All-nil (IsOpen v.desk.gateway (map heard_as b.grams)));
-      apart = subst AreApart (sym requests) tt;
-      few = let n : slab_len v.desk.gateway ≡ 0 = ap (count_by is_some) none.1 in omega (arith, n);
-      owed = subst (All (IsOwed (map heard_as b.grams))) (sym outbox) (All-nil (IsOwed (map heard_as b.grams)));
-    };
-    answered = subst (All (IsOwed (map heard_as b.grams))) (sym new.replies) (All-nil (IsOwed (map heard_as b.grams)));
-    judged = subst (All (IsRightly (map home_of plan.slaves))) (sym new.grams) (All-nil (IsRightly (map home_of plan.slaves)));
-    owed = [];
-    course = course_same plan count v.session v.session [] b.frames [] b.grams [] v.desk.requests.items [] refl new.frames new.grams requests (begins v.session session serves);
-    spelled = spelled_same (map heard_as b.grams) (map heard_as b.grams) [] [] (b.replies ++ v.desk.outbox.items) refl (ap (λ (l : List GramOut). l ++ v.desk.outbox.items) new.replies ∙ outbox) tt;
-  };
-  heard = subst (AreHeard now.heard now.heard) (sym new.grams) (heard_none now.heard);
-  sent = subst (AreSent now.sent now.sent) (sym new.replies) (sent_none now.sent);
-  over = λ e. absurd (cc);
-  later = omega arith;
-}
+first_serving plan count now v b session serves switch none outbox counts over new fits sound = let requests = none.0 in
+    let c = course_same plan count v.session v.session [] b.frames [] b.grams [] v.desk.requests.items [] [] b.switch [] b.switched refl new.frames new.grams requests new.switch new.switched (begins v.session session serves, refl, refl) in record {
+      on = record {
+        underway = begun plan count v.session b session new switch;
+        counts = counts;
+        few = let none = ap length new.grams in omega (arith, none);
+        fits = fits;
+        bounded = small_budget (bound_of plan count) plan.budget sound.laid.budget;
+        is_plan = sound;
+        sound = record {
+          requests = subst (All (IsOpen v.desk.gateway (map heard_as b.grams))) (sym requests) (All-nil (IsOpen v.desk.gateway (map heard_as b.grams)));
+          apart = subst AreApart (sym requests) tt;
+          few = let n : slab_len v.desk.gateway ≡ 0 = ap (count_by is_some) none.1 in omega (arith, n);
+          owed = subst (All (IsOwed (map heard_as b.grams))) (sym outbox) (All-nil (IsOwed (map heard_as b.grams)));
+        };
+        answered = subst (All (IsOwed (map heard_as b.grams))) (sym new.replies) (All-nil (IsOwed (map heard_as b.grams)));
+        judged = subst (All (IsRightly (map home_of plan.slaves))) (sym new.grams) (All-nil (IsRightly (map home_of plan.slaves)));
+        owed = [];
+        course = c.0;
+        switch = c.1;
+        switched = c.2;
+        spelled = spelled_same (map heard_as b.grams) (map heard_as b.grams) [] [] (b.replies ++ v.desk.outbox.items) refl (ap (λ (l : List GramOut). l ++ v.desk.outbox.items) new.replies ∙ outbox) tt;
+      };
+      heard = subst (AreHeard now.heard now.heard) (sym new.grams) (heard_none now.heard);
+      sent = subst (AreSent now.sent now.sent) (sym new.replies) (sent_none now.sent);
+      over = λ e. absurd (cc);
+      later = omega arith;
+    }
 
 -- nothing more can be heard
 all_heard : (heard count : ℕ) (over : Bool) → (not over && nat_lt heard count) ≡ false → heard ≤ count → (heard ≡ count) ⊎ (over ≡ true)
@@ -103,30 +119,40 @@ module _ (plan : Scenario) (count : ℕ) (first now : Told) (v : Serving) (b b' 
   stops_as ending rows so = ended plan count v.session b b' on.underway frames rows many ending so
 
   has_account : (ending : Ending) → b'.slaves ≡ session_rows v.session → (ending ≢ endings.PortFault → v.desk.outbox.items ≡ []) → (LeavesNone ending → ServingRests v.session × (are_at_rest (session_rows v.session) ≡ true)) → HasAccount plan count b' ending
-  has_account ending rows all rests = record {
-    session = v.session;
-    requests = v.desk.requests.items;
-    owed = on.owed;
-    later = v.desk.outbox.items;
-    course = course';
-    spelled = spelled_same (map heard_as b.grams) (map heard_as b'.grams) on.owed (b.replies ++ v.desk.outbox.items) (b'.replies ++ v.desk.outbox.items) (ap (map heard_as) grams) (ap (λ (l : List GramOut). l ++ v.desk.outbox.items) replies) on.spelled;
-    answers = answers';
-    none = λ none. none_unfinished plan count v b on (rests none).0;
-    done = λ none. all_done plan v.session (map exchanged b'.frames) b'.grams v.desk.requests.items on.owed (dones_of plan count v.session b'.frames b'.grams v.desk.requests.items on.owed course') answers' (none_unfinished plan count v b on (rests none).0);
-    rows = rows;
-    rests = λ none. all_rest plan count v.session b b' on.underway answers'.serving (rests none).0 rows many (rests none).1;
-    packets = has_packets plan v.session.ports v.session.ring.number v.session.master.lan b b' on.underway.ports (sym (ap length frames ∙ many_sent plan count v.session b on.underway)) kept on.underway.switched;
-    come = λ none. no_packet plan count v.session b b' on.underway answers'.serving (rests none).0 kept;
-    steady = course_falls plan count on.is_plan v.session b'.frames b'.grams v.desk.requests.items on.owed course';
-    stray = course_strays plan count on.is_plan v.session b'.frames b'.grams v.desk.requests.items on.owed course' b'.slaves rows;
-    all = all;
-  }
-    where
-      course' : Course plan count v.session b'.frames b'.grams v.desk.requests.items on.owed
-      course' = course_same plan count v.session v.session b.frames b'.frames b.grams b'.grams v.desk.requests.items v.desk.requests.items on.owed refl frames grams refl on.course
-
-      answers' : Answers plan v.session (map exchanged b'.frames) b'.grams v.desk.requests.items on.owed (dones_of plan count v.session b'.frames b'.grams v.desk.requests.items on.owed course')
-      answers' = course_answers plan count on.is_plan v.session b'.frames b'.grams v.desk.requests.items on.owed course'
+  has_account ending rows all rests =
+      let same = course_same plan count v.session v.session b.frames b'.frames b.grams b'.grams v.desk.requests.items v.desk.requests.items on.owed b.switch b'.switch b.switched b'.switched refl frames grams refl kept.switch kept.switched (on.course, on.switch, on.switched) in
+      let course' : Course plan count v.session b'.frames b'.grams v.desk.requests.items on.owed = same.0 in
+      let rowed = course_rowed plan count on.is_plan v.session b'.frames b'.grams v.desk.requests.items on.owed course' in
+      let answers' : Answers plan v.session (map exchanged b'.frames) b'.grams v.desk.requests.items on.owed (dones_of plan count v.session b'.frames b'.grams v.desk.requests.items on.owed course') = rowed.0 in
+      let booked : events_of answers'.serving.rows ≡ b'.switch = rowed.1 ∙ same.1 in
+      let numbered' : answers'.serving.numbers ≡ b'.switched = rowed.2 ∙ same.2 in
+      record {
+        session = v.session;
+        requests = v.desk.requests.items;
+        owed = on.owed;
+        later = v.desk.outbox.items;
+        course = course';
+        spelled = spelled_same (map heard_as b.grams) (map heard_as b'.grams) on.owed (b.replies ++ v.desk.outbox.items) (b'.replies ++ v.desk.outbox.items) (ap (map heard_as) grams) (ap (λ (l : List GramOut). l ++ v.desk.outbox.items) replies) on.spelled;
+        answers = answers';
+        none = λ none. none_unfinished plan count v b on (rests none).0;
+        done = λ none. all_done plan v.session (map exchanged b'.frames) b'.grams v.desk.requests.items on.owed (dones_of plan count v.session b'.frames b'.grams v.desk.requests.items on.owed course') answers' (none_unfinished plan count v b on (rests none).0);
+        rows = rows;
+        reported = subst (λ (rs : List SlaveBook). AllBoth IsBooked (map run_lead answers'.serving.leading.serves) rs) (sym rows) (all_booked v.session.recover (map run_lead answers'.serving.leading.serves) v.session.ring.nodes v.session.notes many answers'.serving.told);
+        unsent = subst (λ (rs : List SlaveBook). AllBoth IsSpent (map run_lead answers'.serving.leading.serves) rs) (sym rows) (all_spent v.session.recover (map run_lead answers'.serving.leading.serves) v.session.ring.nodes v.session.notes many answers'.serving.told);
+        epochs = subst (λ (rs : List SlaveBook). AllBoth HasEpochs (map run_lead answers'.serving.leading.serves) rs) (sym rows) (all_epochs v.session.recover (map run_lead answers'.serving.leading.serves) v.session.ring.nodes v.session.notes many answers'.serving.told);
+        heard = ap emergencies_in rows ∙ heard_of_rows v.session.recover v.session.ring.nodes v.session.notes many ∙ answers'.serving.heard;
+        listed = subst (λ (es : List SwitchEvent). ServedListed (ports_behind 0 plan.slaves) answers'.serving.leading.lives es) booked answers'.serving.forwarded.listed;
+        begun = subst (λ (es : List SwitchEvent). AreServedBegun (ports_behind 0 plan.slaves) (ports_of plan.slaves) answers'.serving.leading.lives es) booked answers'.serving.forwarded.begun;
+        numbered = subst (λ (ns : List ℕ). ServedNumbered (ports_behind 0 plan.slaves) (ports_of plan.slaves) answers'.serving.leading.lives b'.switch ns) numbered'
+            (subst (λ (es : List SwitchEvent). ServedNumbered (ports_behind 0 plan.slaves) (ports_of plan.slaves) answers'.serving.leading.lives es answers'.serving.numbers) booked answers'.serving.numbered);
+        forwards = subst (λ z. AreNumbered (λ k. served_begun answers'.serving.leading.lives k) z) (sym (ap begun_in rows ∙ begun_of_rows v.session.recover v.session.ring.nodes v.session.notes many)) answers'.serving.packets.rows;
+        rests = λ none. all_rest plan count v.session b b' on.underway answers'.serving (rests none).0 rows many (rests none).1;
+        packets = has_packets plan v.session.ports v.session.ring.number v.session.master.lan b b' on.underway.ports (sym (ap length frames ∙ many_sent plan count v.session b on.underway)) kept on.underway.switched;
+        come = λ none. no_packet plan count v.session b b' on.underway answers'.serving (rests none).0 kept;
+        steady = course_falls plan count on.is_plan v.session b'.frames b'.grams v.desk.requests.items on.owed course';
+        stray = course_strays plan count on.is_plan v.session b'.frames b'.grams v.desk.requests.items on.owed course' b'.slaves rows;
+        all = all;
+      }
 
   -- a serving whose port failed
   faulted_so : (result : Ending) → (result ≢ endings.NoMemory → b'.slaves ≡ session_rows v.session) → (result ≡ endings.PortFault) ⊎ (result ≡ endings.NoMemory) → IsBroken first now b' → IsServed plan count first now b' result

@@ -14,6 +14,7 @@ use Rattle.master_node.specs.of_life_runs.First.{lens_of}
 use Rattle.master_node.specs.of_life_runs.Led.{Exchanged}
 use Rattle.master_node.specs.of_master_tour.Made.{is_in}
 use Rattle.run_book.specs.declared.book.GramIn.{GramIn}
+use Rattle.master_node.specs.Happened.{events_of as switch_events}
 use Rattle.run_record.specs.Served.{AsksOn, Serving}
 use Rattle.run_record.specs.Session.{SessionState}
 use Rattle.run_record.specs.of_run_notes.Slaves.{home_of}
@@ -29,6 +30,7 @@ use Rattle.gateway_run.proofs.Gives.{all_give, asked_give}
 use Rattle.gateway_run.proofs.Hands.{among_at, at_last, both_many}
 use Rattle.gateway_run.proofs.Hearing.{asked_lookup, asked_told, below_out, desks_asked, desks_more, fares_asked, grams_push, heard_more, longer, none_owed, waits_push}
 use Rattle.gateway_run.proofs.Rooms.{owed_append, owed_one, owed_other}
+use Rattle.gateway_run.proofs.Rowed.{Rowed}
 
 -- one datagram more that got what it got
 got_push : (serves : List Serves) (came : List (List ℕ)) (rs : List Request) (dones : List ℕ) (os : List Owing) (n m : ℕ) (gs : List GramIn) (g : GramIn) → m ≡ n + length gs → AllGot serves came rs dones os n gs → Got serves came rs dones m g (owed_for m os) →
@@ -93,6 +95,10 @@ module _ (plan : Scenario) (s s' : SessionState) (fs : List Exchanged) (gs : Lis
   abbrev ws : List Serves
   ws = old.serving.leading.serves
 
+  -- with the same events at the switch
+  abbrev Same : SessionState → List GramIn → List Request → List Owing → Type 0
+  Same t hs qs ps = Rowed plan t fs hs qs ps dones (switch_events old.serving.rows) old.serving.numbers
+
   known : All (λ (r : Request). r.gram < length gs) rs
   known = All-weaker (IsHeard gs) (λ (r : Request). r.gram < length gs) (λ r h. known_at gs r.gram h.gram h.there) rs old.heard
 
@@ -101,32 +107,36 @@ module _ (plan : Scenario) (s s' : SessionState) (fs : List Exchanged) (gs : Lis
 
   -- IT ISN'T PASSED ON: the lives stay, and this is owed at once
   module _ (more : List Owing) (quiet : (m : ℕ) → m < length gs → owed_for m (os ++ more) ≡ owed_for m os) (few : All (λ (o : Owing). o.gram < length (gs ++ g ∷ [])) more) where
-    stays : (t : SessionState) (serving : Serving plan t fs) → serving.leading.serves ≡ ws → Got ws old.came rs dones n g (owed_for n (os ++ more)) → Answers plan t fs (gs ++ g ∷ []) rs (os ++ more) dones
-    stays t serving same got = record {
-      serving = serving;
-      came = old.came;
-      desk = subst (λ z. AllDesk (gs ++ g ∷ []) rs (os ++ more) 0 z old.came) (sym same) (desks_more gs g os more quiet rs rs 0 ws old.came (λ j less. (refl, refl)) old.desk);
-      told = subst (All ToldAll) (sym same) old.told;
-      apart = old.apart;
-      filed = old.filed;
-      heard = All-weaker (IsHeard gs) (IsHeard (gs ++ g ∷ [])) (heard_more gs g os more quiet) rs old.heard;
-      undone = old.undone;
-      early = all_early;
-      ended = All-weaker (λ (m : ℕ). m < length gs) (λ (m : ℕ). m < length (gs ++ g ∷ [])) (longer gs g os more quiet) dones old.ended;
-      owed = All-append (λ (o : Owing). o.gram < length (gs ++ g ∷ [])) os more (All-weaker (λ (o : Owing). o.gram < length gs) (λ (o : Owing). o.gram < length (gs ++ g ∷ [])) (λ o less. longer gs g os more quiet o.gram less) os old.owed) few;
-      got = subst (λ z. AllGot z old.came rs dones (os ++ more) 0 (gs ++ g ∷ [])) (sym same)
-          (got_push ws old.came rs dones (os ++ more) 0 n gs g (omega arith)
-          (got_each ws ws old.came rs rs dones os (os ++ more) 0 gs (λ j m h e at b. subst (Got ws old.came rs dones m h) (sym (quiet m (let less = known_at gs j h at in omega (arith, less, e)))) b) old.got) got);
-      whole = λ none. subst (λ z. AllBoth (GivesAll (os ++ more) (λ m. is_in m dones)) z old.came) (sym same) (all_give gs rs os (os ++ more) (λ m. is_in m dones) quiet 0 ws old.came old.desk (old.whole none));
-    }
+    stays : (t : SessionState) (serving : Serving plan t fs) → serving.leading.serves ≡ ws → serving.rows ≡ old.serving.rows → serving.numbers ≡ old.serving.numbers → Got ws old.came rs dones n g (owed_for n (os ++ more)) → Same t (gs ++ g ∷ []) rs (os ++ more)
+    stays t serving same rows numbers got = (
+      record {
+        serving = serving;
+        came = old.came;
+        desk = subst (λ z. AllDesk (gs ++ g ∷ []) rs (os ++ more) 0 z old.came) (sym same) (desks_more gs g os more quiet rs rs 0 ws old.came (λ j less. (refl, refl)) old.desk);
+        told = subst (All ToldAll) (sym same) old.told;
+        apart = old.apart;
+        filed = old.filed;
+        heard = All-weaker (IsHeard gs) (IsHeard (gs ++ g ∷ [])) (heard_more gs g os more quiet) rs old.heard;
+        undone = old.undone;
+        early = all_early;
+        ended = All-weaker (λ (m : ℕ). m < length gs) (λ (m : ℕ). m < length (gs ++ g ∷ [])) (longer gs g os more quiet) dones old.ended;
+        owed = All-append (λ (o : Owing). o.gram < length (gs ++ g ∷ [])) os more (All-weaker (λ (o : Owing). o.gram < length gs) (λ (o : Owing). o.gram < length (gs ++ g ∷ [])) (λ o less. longer gs g os more quiet o.gram less) os old.owed) few;
+        got = subst (λ z. AllGot z old.came rs dones (os ++ more) 0 (gs ++ g ∷ [])) (sym same)
+            (got_push ws old.came rs dones (os ++ more) 0 n gs g (omega arith)
+            (got_each ws ws old.came rs rs dones os (os ++ more) 0 gs (λ j m h e at b. subst (Got ws old.came rs dones m h) (sym (quiet m (let less = known_at gs j h at in omega (arith, less, e)))) b) old.got) got);
+        whole = λ none. subst (λ z. AllBoth (GivesAll (os ++ more) (λ m. is_in m dones)) z old.came) (sym same) (all_give gs rs os (os ++ more) (λ m. is_in m dones) quiet 0 ws old.came old.desk (old.whole none));
+      },
+      ap switch_events rows,
+      numbers,
+    )
 
   -- one error is owed by it at once
-  error_stays : (detail : ℕ) (asked : Mail) → request_in g.bytes ≡ Ok asked → g.queued ≡ None → detail ≢ 7 → (t : SessionState) (serving : Serving plan t fs) → serving.leading.serves ≡ ws →
-      Answers plan t fs (gs ++ g ∷ []) rs (os ++ record { gram = n; mail = error_of detail } ∷ []) dones
-  error_stays detail asked request nowhere seldom t serving same =
+  error_stays : (detail : ℕ) (asked : Mail) → request_in g.bytes ≡ Ok asked → g.queued ≡ None → detail ≢ 7 → (t : SessionState) (serving : Serving plan t fs) → serving.leading.serves ≡ ws → serving.rows ≡ old.serving.rows → serving.numbers ≡ old.serving.numbers →
+      Same t (gs ++ g ∷ []) rs (os ++ record { gram = n; mail = error_of detail } ∷ [])
+  error_stays detail asked request nowhere seldom t serving same rows numbers =
       stays (record { gram = n; mail = error_of detail } ∷ []) (λ m less. error_quiet n m detail os less)
       (All-cons (λ (o : Owing). o.gram < length (gs ++ g ∷ [])) (record { gram = n; mail = error_of detail }) [] (let long = length-append gs (g ∷ []) in omega (arith, long)) (All-nil (λ (o : Owing). o.gram < length (gs ++ g ∷ []))))
-      t serving same (refused asked detail request nowhere seldom (error_alone n detail os old.owed))
+      t serving same rows numbers (refused asked detail request nowhere seldom (error_alone n detail os old.owed))
 
   -- IT IS PASSED ON: its mail waits at its slave
   module _ (slave key : ℕ) (mail : Mail) (on : AsksOn plan slave key mail s s' fs old.serving) (request : request_in g.bytes ≡ Ok mail) (there : g.queued ≡ Some slave) (free : IsFree key rs) where
@@ -170,39 +180,43 @@ module _ (plan : Scenario) (s s' : SessionState) (fs : List Exchanged) (gs : Lis
         (subst (Fares a.0 numbers (waiting_of place (rs ++ r ∷ [])) (begun_of place (rs ++ r ∷ [])) (is_in m dones) m asked) (sym (nothing_quiet m os))
         (fares_asked gs g os [] quiet rs r k refl is_for refl none place m w a.0 numbers (is_in m dones) asked (owed_for m os) a.2 less fares))
 
-    passed : Answers plan s' fs (gs ++ g ∷ []) (rs ++ r ∷ []) (os ++ []) dones
-    passed = record {
-      serving = on.new;
-      came = old.came;
-      desk = subst (λ z. AllDesk (gs ++ g ∷ []) (rs ++ r ∷ []) (os ++ []) 0 z old.came) (sym on.serves) (desks_asked gs g os [] quiet rs r k refl is_for refl none 0 slave ws old.came (omega arith) old.desk);
-      told = subst (All ToldAll) (sym on.serves) (asked_told slave k ws old.told);
-      apart = apart_push rs r old.apart free;
-      filed = unlike_push (λ (q : Request). q.gram) (λ q. refl) rs r old.filed (All-weaker (λ (q : Request). q.gram < length gs) (λ (q : Request). q.gram ≢ n) (λ q less e. omega (arith, less, e)) rs known);
-      heard = All-push (IsHeard (gs ++ g ∷ [])) rs r (All-weaker (IsHeard gs) (IsHeard (gs ++ g ∷ [])) (heard_more gs g os [] quiet) rs old.heard) is_heard;
-      undone = All-push (IsUndone dones) rs r old.undone undone_new;
-      early = all_early;
-      ended = All-weaker (λ (m : ℕ). m < length gs) (λ (m : ℕ). m < length (gs ++ g ∷ [])) (longer gs g os [] quiet) dones old.ended;
-      owed = All-append (λ (o : Owing). o.gram < length (gs ++ g ∷ [])) os [] (All-weaker (λ (o : Owing). o.gram < length gs) (λ (o : Owing). o.gram < length (gs ++ g ∷ [])) (λ o less. longer gs g os [] quiet o.gram less) os old.owed) (All-nil (λ (o : Owing). o.gram < length (gs ++ g ∷ [])));
-      got = subst (λ z. AllGot z old.came (rs ++ r ∷ []) dones (os ++ []) 0 (gs ++ g ∷ [])) (sym on.serves)
-          (got_push (asked_at slave k ws) old.came (rs ++ r ∷ []) dones (os ++ []) 0 n gs g (omega arith) (got_each ws (asked_at slave k ws) old.came rs (rs ++ r ∷ []) dones os (os ++ []) 0 gs got_old old.got) got_new);
-      whole = λ none.
-          subst (λ z. AllBoth (GivesAll (os ++ []) (λ m. is_in m dones)) z old.came) (sym on.serves)
-          (asked_give (os ++ []) (λ m. is_in m dones) slave k ws old.came (all_give gs rs os (os ++ []) (λ m. is_in m dones) quiet 0 ws old.came old.desk (old.whole none)));
-    }
+    passed : Same s' (gs ++ g ∷ []) (rs ++ r ∷ []) (os ++ [])
+    passed = (
+      record {
+        serving = on.new;
+        came = old.came;
+        desk = subst (λ z. AllDesk (gs ++ g ∷ []) (rs ++ r ∷ []) (os ++ []) 0 z old.came) (sym on.serves) (desks_asked gs g os [] quiet rs r k refl is_for refl none 0 slave ws old.came (omega arith) old.desk);
+        told = subst (All ToldAll) (sym on.serves) (asked_told slave k ws old.told);
+        apart = apart_push rs r old.apart free;
+        filed = unlike_push (λ (q : Request). q.gram) (λ q. refl) rs r old.filed (All-weaker (λ (q : Request). q.gram < length gs) (λ (q : Request). q.gram ≢ n) (λ q less e. omega (arith, less, e)) rs known);
+        heard = All-push (IsHeard (gs ++ g ∷ [])) rs r (All-weaker (IsHeard gs) (IsHeard (gs ++ g ∷ [])) (heard_more gs g os [] quiet) rs old.heard) is_heard;
+        undone = All-push (IsUndone dones) rs r old.undone undone_new;
+        early = all_early;
+        ended = All-weaker (λ (m : ℕ). m < length gs) (λ (m : ℕ). m < length (gs ++ g ∷ [])) (longer gs g os [] quiet) dones old.ended;
+        owed = All-append (λ (o : Owing). o.gram < length (gs ++ g ∷ [])) os [] (All-weaker (λ (o : Owing). o.gram < length gs) (λ (o : Owing). o.gram < length (gs ++ g ∷ [])) (λ o less. longer gs g os [] quiet o.gram less) os old.owed) (All-nil (λ (o : Owing). o.gram < length (gs ++ g ∷ [])));
+        got = subst (λ z. AllGot z old.came (rs ++ r ∷ []) dones (os ++ []) 0 (gs ++ g ∷ [])) (sym on.serves)
+            (got_push (asked_at slave k ws) old.came (rs ++ r ∷ []) dones (os ++ []) 0 n gs g (omega arith) (got_each ws (asked_at slave k ws) old.came rs (rs ++ r ∷ []) dones os (os ++ []) 0 gs got_old old.got) got_new);
+        whole = λ none.
+            subst (λ z. AllBoth (GivesAll (os ++ []) (λ m. is_in m dones)) z old.came) (sym on.serves)
+            (asked_give (os ++ []) (λ m. is_in m dones) slave k ws old.came (all_give gs rs os (os ++ []) (λ m. is_in m dones) quiet 0 ws old.came old.desk (old.whole none)));
+      },
+      ap switch_events on.rows,
+      on.numbers,
+    )
 
   -- WHATEVER BECOMES OF IT
-  pub answers_heard : IsPlan plan → s.homes ≡ map home_of plan.slaves → length rs < 64 → (rs' : List Request) (more : List Owing) → Judges s s' rs rs' (length gs) g.bytes g.queued more → Answers plan s' fs (gs ++ g ∷ []) rs' (os ++ more) dones
+  pub answers_heard : IsPlan plan → s.homes ≡ map home_of plan.slaves → length rs < 64 → (rs' : List Request) (more : List Owing) → Judges s s' rs rs' (length gs) g.bytes g.queued more → Same s' (gs ++ g ∷ []) rs' (os ++ more)
   answers_heard is homes few rs' more (is_ignored i) =
-      subst (λ z. Answers plan z fs (gs ++ g ∷ []) rs' (os ++ more) dones) (sym i.session)
-      (subst (λ z. Answers plan s fs (gs ++ g ∷ []) z (os ++ more) dones) (sym i.requests) (subst (λ z. Answers plan s fs (gs ++ g ∷ []) rs (os ++ z) dones) (sym i.nothing)
-      (stays [] (λ m less. nothing_quiet m os) (All-nil (λ (o : Owing). o.gram < length (gs ++ g ∷ []))) s old.serving refl (ignored i.fault i.request i.nowhere (nothing_quiet n os ∙ none_owed n os old.owed)))))
+      subst (λ z. Same z (gs ++ g ∷ []) rs' (os ++ more)) (sym i.session)
+      (subst (λ z. Same s (gs ++ g ∷ []) z (os ++ more)) (sym i.requests) (subst (λ z. Same s (gs ++ g ∷ []) rs (os ++ z)) (sym i.nothing)
+      (stays [] (λ m less. nothing_quiet m os) (All-nil (λ (o : Owing). o.gram < length (gs ++ g ∷ []))) s old.serving refl refl refl (ignored i.fault i.request i.nowhere (nothing_quiet n os ∙ none_owed n os old.owed)))))
   answers_heard is homes few rs' more (is_refused f) =
-      subst (λ z. Answers plan z fs (gs ++ g ∷ []) rs' (os ++ more) dones) (sym f.session)
-      (subst (λ z. Answers plan s fs (gs ++ g ∷ []) z (os ++ more) dones) (sym f.requests) (subst (λ z. Answers plan s fs (gs ++ g ∷ []) rs (os ++ z) dones) (sym f.error)
-      (error_stays f.detail f.mail f.request f.nowhere (f.seldom few) s old.serving refl)))
+      subst (λ z. Same z (gs ++ g ∷ []) rs' (os ++ more)) (sym f.session)
+      (subst (λ z. Same s (gs ++ g ∷ []) z (os ++ more)) (sym f.requests) (subst (λ z. Same s (gs ++ g ∷ []) rs (os ++ z)) (sym f.error)
+      (error_stays f.detail f.mail f.request f.nowhere (f.seldom few) s old.serving refl refl refl)))
   answers_heard is homes few rs' more (too_many t) =
       absurd (let most = waits_least gs rs os 0 t.slave 64 ws old.came (ap (λ (l : List ℕ). slice_get l t.slave) old.serving.waiting ∙ t.full) old.desk in omega (arith, few, most))
   answers_heard is homes few rs' more (queues q) =
       let on = q.led plan fs q.home is (subst (λ (hs : List (ℕ × ℕ)). slice_get hs q.slave ≡ Some q.home) homes q.at_home) q.fits old.serving in
-      subst (λ z. Answers plan s' fs (gs ++ g ∷ []) z (os ++ more) dones) (sym q.requests) (subst (λ z. Answers plan s' fs (gs ++ g ∷ []) (rs ++ record { key = q.key; slave = q.slave; gram = length gs; begun = false } ∷ []) (os ++ z) dones) (sym q.nothing)
+      subst (λ z. Same s' (gs ++ g ∷ []) z (os ++ more)) (sym q.requests) (subst (λ z. Same s' (gs ++ g ∷ []) (rs ++ record { key = q.key; slave = q.slave; gram = length gs; begun = false } ∷ []) (os ++ z)) (sym q.nothing)
       (passed q.slave q.key q.mail on q.request q.there q.free))

@@ -23,6 +23,7 @@ pub mod Rested
 pub mod Room
 pub mod Rooms
 pub mod Rounds
+pub mod Rowed
 pub mod Stepping
 pub mod Strays
 pub mod Telling

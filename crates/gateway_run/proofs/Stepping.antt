@@ -33,16 +33,18 @@ use Rattle.master_node.specs.of_master_tour.Made.{is_in}
 use Rattle.master_node.specs.of_master_tour.declared.stop.Stop.{Stop}
 use Rattle.master_node.specs.of_segment_model.Ends.{Passing}
 use Rattle.run_book.specs.declared.book.GramIn.{GramIn}
+use Rattle.master_node.specs.Happened.{events_of as switch_events}
 use Rattle.run_record.specs.Served.{ServesOn, told_behind}
-use Rattle.run_record.specs.Session.{SessionState}
+use Rattle.run_record.specs.Session.{FrameEvents, SessionState, numbers_over}
 use Rattle.segment_plan.specs.declared.plan.Scenario.{Scenario}
 use Rattle.gateway_run.specs.Account.{Owing, has_key, is_other, left_by, left_by_all, owed_by, owed_by_all, owed_to, owing, replied, waits_at}
 use Rattle.gateway_run.specs.Events.{events_of}
 use Rattle.gateway_run.specs.Rooms.{AreFiled, done_by, done_by_all, grams_of, owed_for}
-use Rattle.gateway_run.specs.Replies.{AllDesk, AllGot, Answers, GivesAll, Got, Got.ignored, Got.queued, Got.refused, HearNoMore, IsHeard, IsOurs, IsUndone}
+use Rattle.gateway_run.specs.Replies.{AllDesk, AllGot, Answers, GivesAll, Got, Got.ignored, Got.queued, Got.refused, HearNoMore, IsHeard, IsUndone}
 use Rattle.gateway_run.specs.declared.desk.Request.{Request}
 use Rattle.gateway_run.proofs.Comes.{known_at}
 use Rattle.gateway_run.proofs.Rooms.{owed_append}
+use Rattle.gateway_run.proofs.Rowed.{Rowed}
 use Rattle.gateway_run.proofs.Rounds.{in_both}
 use Rattle.gateway_run.proofs.Tolds.{began_ends, began_owes, begins_give, known_done, known_left, known_owed}
 use Rattle.gateway_run.proofs.Turnings as Turnings
@@ -201,7 +203,8 @@ no_more n os es rs off =
     ∙ append-nil (owed_for n os)
 
 -- EACH DATAGRAM behind the frame
-module _ (plan : Scenario) (s s' : SessionState) (fs : List Exchanged) (f : Exchanged) (gs : List GramIn) (rs : List Request) (os : List Owing) (dones : List ℕ) (old : Answers plan s fs gs rs os dones) (on : ServesOn plan s s' fs f old.serving) where
+module _ (plan : Scenario) (s s' : SessionState) (fs : List Exchanged) (f : Exchanged) (gs : List GramIn) (rs : List Request) (os : List Owing) (dones : List ℕ) (old : Answers plan s fs gs rs os dones) (happened : FrameEvents)
+    (on : ServesOn plan s s' happened fs f old.serving) where
   abbrev lens : ℕ → Lens
   lens = lens_of plan.slaves
 
@@ -293,29 +296,33 @@ module _ (plan : Scenario) (s s' : SessionState) (fs : List Exchanged) (f : Exch
   fewer quiet = λ front back g e. quiet front (back ++ f ∷ []) g (ap (λ l. l ++ f ∷ []) e ∙ append_assoc front (g ∷ back) (f ∷ []))
 
   abbrev Behind : List Request → List Owing → List ℕ → Type 0
-  Behind qs ps ds = Answers plan s' (fs ++ f ∷ []) gs qs ps ds
+  Behind qs ps ds = Rowed plan s' (fs ++ f ∷ []) gs qs ps ds (switch_events old.serving.rows ++ (happened.making ++ happened.behind)) (old.serving.numbers ++ numbers_over (length fs) happened)
 
   behind : Behind rs2 (os ++ more) (dones ++ ended)
-  behind = record {
-    serving = on.new;
-    came = turned.comes;
-    desk = subst (λ z. AllDesk gs rs2 (os ++ more) 0 z turned.comes) (sym on.serves) turned.desks;
-    told = subst (All ToldAll) (sym on.serves) turned.told;
-    apart = events_unlike (λ (r : Request). r.key) (λ r. refl) (told_in shows second) rs1 (events_unlike (λ (r : Request). r.key) (λ r. refl) (told_in begins first) rs old.apart);
-    filed = events_unlike (λ (r : Request). r.gram) (λ r. refl) (told_in shows second) rs1 filed1;
-    heard = events_keep (IsHeard gs) (λ r h. record { gram = h.gram; there = h.there; queued = h.queued }) (told_in shows second) rs1 heard1;
-    undone = both_off dones ended rs2
-        (events_keep (IsUndone dones) (λ r u. u) (told_in shows second) rs1 (events_keep (IsUndone dones) (λ r u. u) (told_in begins first) rs old.undone))
-        (events_off (told_in shows second) rs1 filed1);
-    early = All-weaker (λ (g : GramIn). g.frame ≤ length fs) (λ (g : GramIn). g.frame ≤ length (fs ++ f ∷ [])) (λ g less. (let long = length-append fs (f ∷ []) in omega (arith, long, less))) gs old.early;
-    ended = All-append (λ (n : ℕ). n < length gs) dones ended old.ended (events_end (λ n. n < length gs) (told_in shows second) rs1 known1);
-    owed = All-append (λ (o : Owing). o.gram < length gs) os more old.owed (events_owe (λ n. n < length gs) (told_in shows second) rs1 known1);
-    got = subst (λ z. AllGot z turned.comes rs2 (dones ++ ended) (os ++ more) 0 gs) (sym on.serves)
-        (got_all 0 gs (λ j m e. ap (slice_get gs) (let same : m ≡ j = omega (arith, e) in same)) old.got);
-    whole = λ quiet.
-        subst (λ z. AllBoth (GivesAll (os ++ more) (λ n. is_in n (dones ++ ended))) z turned.comes) (sym on.serves)
-        (turned.whole (quiet fs [] f refl old.serving.leading.missed ws old.serving.leading.lives on.turns on.frame) (old.whole (fewer quiet)));
-  }
+  behind = (
+    record {
+      serving = on.new;
+      came = turned.comes;
+      desk = subst (λ z. AllDesk gs rs2 (os ++ more) 0 z turned.comes) (sym on.serves) turned.desks;
+      told = subst (All ToldAll) (sym on.serves) turned.told;
+      apart = events_unlike (λ (r : Request). r.key) (λ r. refl) (told_in shows second) rs1 (events_unlike (λ (r : Request). r.key) (λ r. refl) (told_in begins first) rs old.apart);
+      filed = events_unlike (λ (r : Request). r.gram) (λ r. refl) (told_in shows second) rs1 filed1;
+      heard = events_keep (IsHeard gs) (λ r h. record { gram = h.gram; there = h.there; queued = h.queued }) (told_in shows second) rs1 heard1;
+      undone = both_off dones ended rs2
+          (events_keep (IsUndone dones) (λ r u. u) (told_in shows second) rs1 (events_keep (IsUndone dones) (λ r u. u) (told_in begins first) rs old.undone))
+          (events_off (told_in shows second) rs1 filed1);
+      early = All-weaker (λ (g : GramIn). g.frame ≤ length fs) (λ (g : GramIn). g.frame ≤ length (fs ++ f ∷ [])) (λ g less. (let long = length-append fs (f ∷ []) in omega (arith, long, less))) gs old.early;
+      ended = All-append (λ (n : ℕ). n < length gs) dones ended old.ended (events_end (λ n. n < length gs) (told_in shows second) rs1 known1);
+      owed = All-append (λ (o : Owing). o.gram < length gs) os more old.owed (events_owe (λ n. n < length gs) (told_in shows second) rs1 known1);
+      got = subst (λ z. AllGot z turned.comes rs2 (dones ++ ended) (os ++ more) 0 gs) (sym on.serves)
+          (got_all 0 gs (λ j m e. ap (slice_get gs) (let same : m ≡ j = omega (arith, e) in same)) old.got);
+      whole = λ quiet.
+          subst (λ z. AllBoth (GivesAll (os ++ more) (λ n. is_in n (dones ++ ended))) z turned.comes) (sym on.serves)
+          (turned.whole (quiet fs [] f refl old.serving.leading.missed ws old.serving.leading.lives on.turns on.frame) (old.whole (fewer quiet)));
+    },
+    on.events,
+    on.numbers,
+  )
 
   -- WHAT IS LISTED of the frame is just what the lives tell
   abbrev es : List Event

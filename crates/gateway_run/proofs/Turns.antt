@@ -17,13 +17,14 @@ use Rattle.run_book.specs.declared.book.GramOut.{GramOut}
 use Rattle.run_book.specs.declared.book.SentFrame.{SentFrame}
 use Rattle.gateway_run.specs.Events.{events_of}
 use Rattle.run_record.specs.Served.{ServingGoesOn}
-use Rattle.run_record.specs.Session.{SessionState, IsDone, Steps, Stops, has_live}
+use Rattle.run_record.specs.Session.{FrameEvents, SessionState, IsDone, Steps, Stops, SwitchGrows, has_live, numbers_over}
+use Rattle.run_record.specs.of_eoe_switch.declared.switching.SwitchEvent.{SwitchEvent}
 use Rattle.run_record.specs.of_run_notes.Slaves.{home_of}
 use Rattle.run_record.specs.of_run_notes.Switched.{SameSwitch}
 use Rattle.run_record.specs.Ran.{HasSent, IsUnderway}
-use Rattle.run_record.proofs.Underway.{same_on, has_frames, stepped_on, stopped}
+use Rattle.run_record.proofs.Underway.{same_on, has_frames, many as many_sent, stepped_on, stopped}
 use Rattle.gateway_run.specs.Heard.{heard_as, sent_as, AreHeard, AreSent, AreSentBut, IsOwed, IsRightly}
-use Rattle.gateway_run.specs.Account.{Owing, Course, Course.hears, Course.steps, AreSpelled, left_by_all, owed_by_all}
+use Rattle.gateway_run.specs.Account.{Owing, Course, Course.hears, Course.steps, AreSpelled, happened_in, left_by_all, numbers_in, owed_by_all}
 use Rattle.gateway_run.specs.Desk.{IsSound, AsksMails, SameLan, Owes, NotesAll, Takes, TakesSo}
 use Rattle.gateway_run.specs.declared.desk.Request.{Request}
 use Rattle.gateway_run.specs.Serving.{Told, IsOn, IsServing, IsFaulted, Listens, PutsOne, SentOne, FailedOne, SendsOne, Goes, left}
@@ -130,13 +131,19 @@ left_kept v v' b b' session counts over grams =
     ap (λ (s : SessionState). left_of s (length b'.grams) v'.count v'.over) session ∙ ap (λ (l : List GramIn). left_of v.session (length l) v'.count v'.over) grams
     ∙ ap (λ (n : ℕ). left_of v.session (length b.grams) n v'.over) counts ∙ ap (λ (o : Bool). left_of v.session (length b.grams) v.count o) over
 
+-- a course over which just these events came at the switch, with these numbers
+abbrev pub CourseTo : Scenario → ℕ → SessionState → List SentFrame → List GramIn → List Request → List Owing → List SwitchEvent → List ℕ → Type 0
+CourseTo plan count s fs gs rs os es ns = (c : Course plan count s fs gs rs os) × (happened_in plan count s fs gs rs os c ≡ es) × (numbers_in plan count s fs gs rs os c ≡ ns)
+
 -- the same course, and the same datagrams
-pub course_same : (plan : Scenario) (count : ℕ) (s s' : SessionState) (fs fs' : List SentFrame) (gs gs' : List GramIn) (rs rs' : List Request) (os : List Owing) → s' ≡ s → fs' ≡ fs → gs' ≡ gs → rs' ≡ rs →
-    Course plan count s fs gs rs os → Course plan count s' fs' gs' rs' os
-course_same plan count s s' fs fs' gs gs' rs rs' os session frames grams requests c =
-    subst (λ (l : List Request). Course plan count s' fs' gs' l os) (sym requests)
-    (subst (λ (l : List GramIn). Course plan count s' fs' l rs os) (sym grams)
-    (subst (λ (l : List SentFrame). Course plan count s' l gs rs os) (sym frames) (subst (λ (t : SessionState). Course plan count t fs gs rs os) (sym session) c)))
+pub course_same : (plan : Scenario) (count : ℕ) (s s' : SessionState) (fs fs' : List SentFrame) (gs gs' : List GramIn) (rs rs' : List Request) (os : List Owing) (es es' : List SwitchEvent) (ns ns' : List ℕ) → s' ≡ s → fs' ≡ fs → gs' ≡ gs → rs' ≡ rs → es' ≡ es → ns' ≡ ns →
+    CourseTo plan count s fs gs rs os es ns → CourseTo plan count s' fs' gs' rs' os es' ns'
+course_same plan count s s' fs fs' gs gs' rs rs' os es es' ns ns' session frames grams requests events numbers c =
+    subst (λ (l : List ℕ). CourseTo plan count s' fs' gs' rs' os es' l) (sym numbers)
+    (subst (λ (l : List SwitchEvent). CourseTo plan count s' fs' gs' rs' os l ns) (sym events)
+    (subst (λ (l : List Request). CourseTo plan count s' fs' gs' l os es ns) (sym requests)
+    (subst (λ (l : List GramIn). CourseTo plan count s' fs' l rs os es ns) (sym grams)
+    (subst (λ (l : List SentFrame). CourseTo plan count s' l gs rs os es ns) (sym frames) (subst (λ (t : SessionState). CourseTo plan count t fs gs rs os es ns) (sym session) c)))))
 
 pub spelled_same : (heard heard' : List HeardGram) (os : List Owing) (rs rs' : List GramOut) → heard' ≡ heard → rs' ≡ rs → AreSpelled heard os rs → AreSpelled heard' os rs'
 spelled_same heard heard' os rs rs' grams replies a =
@@ -152,7 +159,7 @@ spelled_on heard os more sent sent' out out' same a o =
 module _ (plan : Scenario) (count : ℕ) (first : Told) where
   -- the buffer of what was heard last doesn't matter
   pub same_gram : (now : Told) (v v' : Serving) (b : Book) → v'.session ≡ v.session → v'.desk ≡ v.desk → v'.count ≡ v.count → v'.over ≡ v.over → IsServing plan count first now v b → IsServing plan count first now v' b
-  same_gram now v v' b session desk counts over h = record {
+  same_gram now v v' b session desk counts over h = let c = course_same plan count v.session v'.session b.frames b.frames b.grams b.grams v.desk.requests.items v'.desk.requests.items h.on.owed b.switch b.switch b.switched b.switched session refl refl (ap (λ (d : Desk). d.requests.items) desk) refl refl (h.on.course, h.on.switch, h.on.switched) in record {
     on = record {
       underway = subst (λ (s : SessionState). IsUnderway plan count s b) (sym session) h.on.underway;
       counts = counts ∙ h.on.counts;
@@ -164,7 +171,9 @@ module _ (plan : Scenario) (count : ℕ) (first : Told) where
       answered = h.on.answered;
       judged = h.on.judged;
       owed = h.on.owed;
-      course = course_same plan count v.session v'.session b.frames b.frames b.grams b.grams v.desk.requests.items v'.desk.requests.items h.on.owed session refl refl (ap (λ (d : Desk). d.requests.items) desk) h.on.course;
+      course = c.0;
+      switch = c.1;
+      switched = c.2;
       spelled = spelled_same (map heard_as b.grams) (map heard_as b.grams) h.on.owed (b.replies ++ v.desk.outbox.items) (b.replies ++ v'.desk.outbox.items) refl (ap (λ (d : Desk). b.replies ++ d.outbox.items) desk) h.on.spelled;
     };
     heard = h.heard;
@@ -192,6 +201,8 @@ module _ (plan : Scenario) (count : ℕ) (first : Told) where
         let frames = ap (λ (x : Book). x.frames) same in
         let sent = ap (λ (x : Book). x.replies) same in
         let homes = h.on.underway.homes in
+        let c = course_same plan count v'.session v'.session b.frames b'.frames (b.grams ++ so.gram ∷ []) b'.grams v'.desk.requests.items v'.desk.requests.items (h.on.owed ++ so.taken.more) b.switch b'.switch b.switched b'.switched refl frames so.put refl (ap (λ (x : Book). x.switch) same) (ap (λ (x : Book). x.switched) same)
+        (hears v.session v'.session b.frames b.grams so.gram v.desk.requests.items v'.desk.requests.items h.on.owed so.taken.more h.on.course (so.frame (sent_few h.on)) few so.taken.judges, h.on.switch, h.on.switched) in
         let told : heard_as g ≡ record { from = peer; bytes = octets } = ap (λ (p : Peer). record { from = p; bytes = g.bytes }) t.from_peer ∙ ap (λ (o : List ℕ). record { from = peer; bytes = o }) t.with_octets in
         record {
           on = record {
@@ -206,8 +217,9 @@ module _ (plan : Scenario) (count : ℕ) (first : Told) where
                 (subst (λ (l : List HeardGram). All (IsOwed l) b.replies) (sym grams) (all_owed_more (map heard_as b.grams) (heard_as g ∷ []) b.replies h.on.answered));
             judged = subst (All (IsRightly (map home_of plan.slaves))) (sym t.put) (All-push (IsRightly (map home_of plan.slaves)) b.grams g h.on.judged (subst (λ (l : List (ℕ × ℕ)). IsRightly l g) homes t.judged));
             owed = h.on.owed ++ so.taken.more;
-            course = course_same plan count v'.session v'.session b.frames b'.frames (b.grams ++ so.gram ∷ []) b'.grams v'.desk.requests.items v'.desk.requests.items (h.on.owed ++ so.taken.more) refl frames so.put refl
-                (hears v.session v'.session b.frames b.grams so.gram v.desk.requests.items v'.desk.requests.items h.on.owed so.taken.more h.on.course (so.frame (sent_few h.on)) few so.taken.judges);
+            course = c.0;
+            switch = c.1;
+            switched = c.2;
             spelled = spelled_on (map heard_as b'.grams) h.on.owed so.taken.more b.replies b'.replies v.desk.outbox.items v'.desk.outbox.items sent
                 (subst (λ (l : List HeardGram). AreSpelled l h.on.owed (b.replies ++ v.desk.outbox.items)) (sym grams) (spelled_more (map heard_as b.grams) (heard_as g ∷ []) h.on.owed (b.replies ++ v.desk.outbox.items) h.on.spelled)) so.taken.owes;
           };
@@ -233,7 +245,7 @@ module _ (plan : Scenario) (count : ℕ) (first : Told) where
 
   -- the port ended
   pub over : (now next : Told) (v v' : Serving) (b : Book) (octets : List ℕ) → v'.session ≡ v.session → v'.desk ≡ v.desk → v'.count ≡ v.count → IsServing plan count first now v b → Listens now next heards.Ended octets → IsServing plan count first next v' b
-  over now next v v' b octets session desk counts h l = record {
+  over now next v v' b octets session desk counts h l = let c = course_same plan count v.session v'.session b.frames b.frames b.grams b.grams v.desk.requests.items v'.desk.requests.items h.on.owed b.switch b.switch b.switched b.switched session refl refl (ap (λ (d : Desk). d.requests.items) desk) refl refl (h.on.course, h.on.switch, h.on.switched) in record {
     on = record {
       underway = subst (λ (s : SessionState). IsUnderway plan count s b) (sym session) h.on.underway;
       counts = counts ∙ h.on.counts;
@@ -245,7 +257,9 @@ module _ (plan : Scenario) (count : ℕ) (first : Told) where
       answered = h.on.answered;
       judged = h.on.judged;
       owed = h.on.owed;
-      course = course_same plan count v.session v'.session b.frames b.frames b.grams b.grams v.desk.requests.items v'.desk.requests.items h.on.owed session refl refl (ap (λ (d : Desk). d.requests.items) desk) h.on.course;
+      course = c.0;
+      switch = c.1;
+      switched = c.2;
       spelled = spelled_same (map heard_as b.grams) (map heard_as b.grams) h.on.owed (b.replies ++ v.desk.outbox.items) (b.replies ++ v'.desk.outbox.items) refl (ap (λ (d : Desk). b.replies ++ d.outbox.items) desk) h.on.spelled;
     };
     heard = heard_same first.heard now.heard next.heard b.grams h.heard (ended_heard now.heard next.heard octets l.hears);
@@ -265,15 +279,23 @@ module _ (plan : Scenario) (count : ℕ) (first : Told) where
   }
 
   -- a frame was sent
-  pub stepped : (now : Told) (v v' : Serving) (b b' : Book) (f : SentFrame) → IsServing plan count first now v b → v.session.ring.number < v.session.budget → Steps v.session b v'.session b' f → ServingGoesOn v.session v'.session f → has_live v.session.master ≡ true →
+  pub stepped : (now : Told) (v v' : Serving) (b b' : Book) (f : SentFrame) → IsServing plan count first now v b → v.session.ring.number < v.session.budget → Steps v.session b v'.session b' f → (happened : FrameEvents) → SwitchGrows v.session b happened b' → ServingGoesOn v.session v'.session happened f → has_live v.session.master ≡ true →
       (IsDone v.session → ⊥) → NotesAll (events_of v'.session.master) v.desk v'.desk → v'.count ≡ v.count → v'.over ≡ v.over → IsServing plan count first now v' b'
-  stepped now v v' b b' f h left step led live busy notes counts over =
+  stepped now v v' b b' f h left step happened grows led live busy notes counts over =
       let told = notes (map heard_as b.grams) h.on.sound in
       let sound = told.sound in
       let more = owed_by_all (events_of v'.session.master) v.desk.requests.items in
       let left_now = left_by_all (events_of v'.session.master) v.desk.requests.items in
       let grams = step.rest.grams in
       let replies = step.rest.replies in
+      let grown = grows plan.host h.on.underway.switched in
+      let c = course_same plan count v'.session v'.session (b.frames ++ f ∷ []) b'.frames b.grams b'.grams left_now v'.desk.requests.items (h.on.owed ++ more) (b.switch ++ (happened.making ++ happened.behind)) b'.switch (b.switched ++ numbers_over (length b.frames) happened) b'.switched refl step.put grams told.requests grown.switch
+      (grown.switched ∙ ap (λ n. b.switched ++ numbers_over n happened) (sym (many_sent plan count v.session b h.on.underway))) (
+        steps v.session v'.session b.frames f b.grams v.desk.requests.items h.on.owed h.on.course
+            (record { recorded = step.recorded; ring = step.ring; homes = step.homes; asked = step.asked; recover = step.recover; live = live; busy = busy; happened = happened; led = led }),
+        ap (λ z. z ++ (happened.making ++ happened.behind)) h.on.switch,
+        ap (λ z. z ++ numbers_over (length b.frames) happened) h.on.switched,
+      ) in
       record {
         on = record {
           underway = stepped_on plan count v.session b v'.session b' f h.on.underway left step;
@@ -286,9 +308,9 @@ module _ (plan : Scenario) (count : ℕ) (first : Told) where
           answered = subst (λ (l : List GramIn). All (IsOwed (map heard_as l)) b'.replies) (sym grams) (subst (All (IsOwed (map heard_as b.grams))) (sym replies) h.on.answered);
           judged = subst (All (IsRightly (map home_of plan.slaves))) (sym grams) h.on.judged;
           owed = h.on.owed ++ more;
-          course = course_same plan count v'.session v'.session (b.frames ++ f ∷ []) b'.frames b.grams b'.grams left_now v'.desk.requests.items (h.on.owed ++ more) refl step.put grams told.requests
-              (steps v.session v'.session b.frames f b.grams v.desk.requests.items h.on.owed h.on.course
-              (record { recorded = step.recorded; ring = step.ring; homes = step.homes; asked = step.asked; recover = step.recover; live = live; busy = busy; led = led }));
+          course = c.0;
+          switch = c.1;
+          switched = c.2;
           spelled = subst (λ (l : List GramIn). AreSpelled (map heard_as l) (h.on.owed ++ more) (b'.replies ++ v'.desk.outbox.items)) (sym grams)
               (spelled_on (map heard_as b.grams) h.on.owed more b.replies b'.replies v.desk.outbox.items v'.desk.outbox.items replies h.on.spelled told.owes);
         };
@@ -307,6 +329,7 @@ module _ (plan : Scenario) (count : ℕ) (first : Told) where
   handed_on v v' b b' r h session counts outbox gateway requests put =
       let grams : b'.grams ≡ b.grams = ap (λ (x : Book). x.grams) put in
       let replies : b'.replies ≡ b.replies ++ r ∷ [] = ap (λ (x : Book). x.replies) put in
+      let c = course_same plan count v.session v'.session b.frames b'.frames b.grams b'.grams v.desk.requests.items v'.desk.requests.items h.owed b.switch b'.switch b.switched b'.switched session (ap (λ (x : Book). x.frames) put) grams requests (ap (λ (x : Book). x.switch) put) (ap (λ (x : Book). x.switched) put) (h.course, h.switch, h.switched) in
       let owed : All (IsOwed (map heard_as b.grams)) (r ∷ v'.desk.outbox.items) = subst (All (IsOwed (map heard_as b.grams))) outbox h.sound.owed in
       record {
         underway = same_on plan count v.session v'.session b b' h.underway (session_same v.session v'.session session) (ap (λ (s : SessionState). s.master.lan) session) (ap (λ (x : Book). x.frames) put) (switch_same put refl refl refl) (ap (λ (x : Book). x.slaves) put);
@@ -316,7 +339,9 @@ module _ (plan : Scenario) (count : ℕ) (first : Told) where
         bounded = h.bounded;
         is_plan = h.is_plan;
         owed = h.owed;
-        course = course_same plan count v.session v'.session b.frames b'.frames b.grams b'.grams v.desk.requests.items v'.desk.requests.items h.owed session (ap (λ (x : Book). x.frames) put) grams requests h.course;
+        course = c.0;
+        switch = c.1;
+        switched = c.2;
         spelled = spelled_same (map heard_as b.grams) (map heard_as b'.grams) h.owed (b.replies ++ v.desk.outbox.items) (b'.replies ++ v'.desk.outbox.items) (ap (map heard_as) grams)
             (ap (λ (l : List GramOut). l ++ v'.desk.outbox.items) replies ∙ append_assoc b.replies (r ∷ []) v'.desk.outbox.items ∙ ap (λ (l : List GramOut). b.replies ++ l) (sym outbox)) h.spelled;
         sound = subst (λ (l : List GramIn). IsSound (map heard_as l) v'.desk) (sym grams)
@@ -353,7 +378,7 @@ module _ (plan : Scenario) (count : ℕ) (first : Told) where
   -- a desk of the same parts
   pub same_desk : (now : Told) (v v' : Serving) (b : Book) → IsServing plan count first now v b → v'.session ≡ v.session → v'.count ≡ v.count → v'.over ≡ v.over → v'.desk.outbox.items ≡ v.desk.outbox.items → v'.desk.gateway ≡ v.desk.gateway →
       v'.desk.requests.items ≡ v.desk.requests.items → IsServing plan count first now v' b
-  same_desk now v v' b h session counts over outbox gateway requests = record {
+  same_desk now v v' b h session counts over outbox gateway requests = let c = course_same plan count v.session v'.session b.frames b.frames b.grams b.grams v.desk.requests.items v'.desk.requests.items h.on.owed b.switch b.switch b.switched b.switched session refl refl requests refl refl (h.on.course, h.on.switch, h.on.switched) in record {
     on = record {
       underway = subst (λ (s : SessionState). IsUnderway plan count s b) (sym session) h.on.underway;
       counts = counts ∙ h.on.counts;
@@ -362,7 +387,9 @@ module _ (plan : Scenario) (count : ℕ) (first : Told) where
       bounded = h.on.bounded;
       is_plan = h.on.is_plan;
       owed = h.on.owed;
-      course = course_same plan count v.session v'.session b.frames b.frames b.grams b.grams v.desk.requests.items v'.desk.requests.items h.on.owed session refl refl requests h.on.course;
+      course = c.0;
+      switch = c.1;
+      switched = c.2;
       spelled = spelled_same (map heard_as b.grams) (map heard_as b.grams) h.on.owed (b.replies ++ v.desk.outbox.items) (b.replies ++ v'.desk.outbox.items) refl (ap (λ (l : List GramOut). b.replies ++ l) outbox) h.on.spelled;
       sound = sound_same (map heard_as b.grams) v.desk v'.desk gateway requests (subst (All (IsOwed (map heard_as b.grams))) (sym outbox) h.on.sound.owed) h.on.sound;
       answered = h.on.answered;

@@ -19,7 +19,8 @@ use Rattle.run_record.specs.of_run_notes.Notes.{stations_of}
 use Rattle.run_record.specs.Replay.{behind, IsRecorded}
 use Rattle.gateway_run.specs.Events.{events_of}
 use Rattle.run_record.specs.Served.{ServingAsks, ServingBegins, ServingGoesOn}
-use Rattle.run_record.specs.Session.{SessionState, Asks, IsDone, first_session, has_live}
+use Rattle.run_record.specs.Session.{FrameEvents, SessionState, Asks, IsDone, first_session, has_live, numbers_over}
+use Rattle.run_record.specs.of_eoe_switch.declared.switching.SwitchEvent.{SwitchEvent}
 use Rattle.gateway_run.specs.declared.desk.Request.{Request}
 
 -- a mail that is owed to who asked by the datagram of that number
@@ -165,7 +166,7 @@ pub data Judges (s s' : SessionState) (rs rs' : List Request) (number : ℕ) (oc
   too_many : IsTooMany s s' rs rs' number octets queued more → Judges s s' rs rs' number octets queued more
   queues : IsQueued s s' rs rs' number octets queued more → Judges s s' rs rs' number octets queued more
 
--- a session behind one frame more, before which some slave was live and something was left to do: it is led on by that frame
+-- a session behind one frame more, before which some slave was live and something was left to do: it is led on by that frame, over which just this happened at the switch
 pub record Moves (s s' : SessionState) (f : SentFrame) : Type 0 where
   pub recorded : IsRecorded s.ring f
   pub ring : s'.ring ≡ behind s.ring f.sent
@@ -174,7 +175,8 @@ pub record Moves (s s' : SessionState) (f : SentFrame) : Type 0 where
   pub recover : s'.recover ≡ s.recover
   pub live : has_live s.master ≡ true
   pub busy : IsDone s → ⊥
-  pub led : ServingGoesOn s s' f
+  pub happened : FrameEvents
+  pub led : ServingGoesOn s s' happened f
 
 -- THE COURSE OF A SERVING: its session, the frames sent and the datagrams heard until then, the requests that aren't finished, and all that was
 -- ever owed, in order. A datagram is heard only while fewer than 64 requests aren't finished
@@ -186,6 +188,18 @@ pub data Course (plan : Scenario) (count : ℕ) : SessionState → List SentFram
   steps :
       (s s' : SessionState) (fs : List SentFrame) (f : SentFrame) (gs : List GramIn) (rs : List Request) (os : List Owing) → Course plan count s fs gs rs os → Moves s s' f
       → Course plan count s' (fs ++ f ∷ []) gs (left_by_all (events_of s'.master) rs) (os ++ owed_by_all (events_of s'.master) rs)
+
+-- WHAT HAPPENED AT THE SWITCH over a course, frame by frame
+abbrev pub happened_in : (plan : Scenario) (count : ℕ) (s : SessionState) (fs : List SentFrame) (gs : List GramIn) (rs : List Request) (os : List Owing) → Course plan count s fs gs rs os → List SwitchEvent
+happened_in plan count _ _ _ _ _ (Course.begins s first serves) = []
+happened_in plan count _ _ _ _ _ (Course.hears s s' fs gs g rs rs' os more c at few judges) = happened_in plan count s fs gs rs os c
+happened_in plan count _ _ _ _ _ (Course.steps s s' fs f gs rs os c m) = happened_in plan count s fs gs rs os c ++ (m.happened.making ++ m.happened.behind)
+
+-- and each of that with its number: how many frames had been sent when it came
+abbrev pub numbers_in : (plan : Scenario) (count : ℕ) (s : SessionState) (fs : List SentFrame) (gs : List GramIn) (rs : List Request) (os : List Owing) → Course plan count s fs gs rs os → List ℕ
+numbers_in plan count _ _ _ _ _ (Course.begins s first serves) = []
+numbers_in plan count _ _ _ _ _ (Course.hears s s' fs gs g rs rs' os more c at few judges) = numbers_in plan count s fs gs rs os c
+numbers_in plan count _ _ _ _ _ (Course.steps s s' fs f gs rs os c m) = numbers_in plan count s fs gs rs os c ++ numbers_over (length fs) m.happened
 
 -- A MAIL AS IT IS SENT: to the peer of the datagram that it answers, with that datagram's station and counter
 pub record Spells (heard : List HeardGram) (o : Owing) (r : GramOut) : Type 0 where

@@ -7,13 +7,22 @@ use Rattle.run_book.specs.declared.book.Ending.{Ending}
 use Rattle.run_book.specs.declared.book.Ending.TheVariants as endings
 use Rattle.run_book.specs.declared.book.GramIn.{GramIn}
 use Rattle.run_book.specs.declared.book.GramOut.{GramOut}
+use Rattle.master_node.specs.Ports.{ports_behind, ports_of}
 use Rattle.master_node.specs.Serving.{run_lead}
 use Rattle.master_node.specs.of_life_frames.Shares.{AllBoth}
 use Rattle.master_node.specs.of_life_runs.First.{lens_of}
+use Rattle.run_record.specs.AcceptedMails.{AllNoted}
 use Rattle.run_record.specs.Led.{LeavesNoPacket, LeavesNone, exchanged}
+use Rattle.run_record.specs.Served.{ServedNumbered, served_begun, served_heard}
 use Rattle.run_record.specs.Session.{SessionState, session_rows}
+use Rattle.run_record.specs.of_packets_heard.Servings.{AreServedBegun, ServedListed}
+use Rattle.run_record.specs.of_run_notes.Epochs.{HasEpochs}
+use Rattle.run_record.specs.of_run_notes.Heard.{emergencies_in}
+use Rattle.run_record.specs.of_run_notes.Packets.{AreNumbered, begun_in}
+use Rattle.run_record.specs.of_run_notes.Reports.{IsBooked}
 use Rattle.run_record.specs.of_run_notes.Slaves.{home_of}
 use Rattle.run_record.specs.of_run_notes.Switched.{HasPackets}
+use Rattle.run_record.specs.of_run_notes.Unsent.{IsSpent}
 use Rattle.run_record.specs.Ran.{StopsAs}
 use Rattle.gateway_run.specs.declared.desk.Request.{Request}
 use Rattle.gateway_run.specs.Account.{Owing, Course, AreSpelled}
@@ -58,6 +67,17 @@ pub record HasAccount (plan : Scenario) (count : ℕ) (book : Book) (ending : En
   pub none : LeavesNone ending → requests ≡ []
   pub done : LeavesNone ending → AllDone answers.serving.leading.serves (dones_of plan count session book.frames book.grams requests owed course) 0 book.grams
   pub rows : book.slaves ≡ session_rows session
+  -- The book has just what these lives made: of each slave the services of its script that came into hand, with what they came to, and those that weren't sent; its
+  -- epochs, each with its frames; and the emergencies that were accepted of it and the packets that came into its hand, each with its frame.
+  -- The events of the switch are just those that the frames list, each with its number, and just the packets begin that came into hand.
+  pub reported : AllBoth IsBooked (map run_lead answers.serving.leading.serves) book.slaves
+  pub unsent : AllBoth IsSpent (map run_lead answers.serving.leading.serves) book.slaves
+  pub epochs : AllBoth HasEpochs (map run_lead answers.serving.leading.serves) book.slaves
+  pub heard : AllNoted (served_heard answers.serving.leading.lives) (emergencies_in book.slaves)
+  pub listed : ServedListed (ports_behind 0 plan.slaves) answers.serving.leading.lives book.switch
+  pub begun : AreServedBegun (ports_behind 0 plan.slaves) (ports_of plan.slaves) answers.serving.leading.lives book.switch
+  pub numbered : ServedNumbered (ports_behind 0 plan.slaves) (ports_of plan.slaves) answers.serving.leading.lives book.switch book.switched
+  pub forwards : AreNumbered (λ k. served_begun answers.serving.leading.lives k) (begun_in book.slaves)
   pub rests : LeavesNone ending → AllBoth (ServedRestsSo (lens_of plan.slaves)) answers.serving.leading.serves book.slaves
   pub packets : HasPackets plan book
   pub come : LeavesNone ending → LeavesNoPacket plan (map run_lead answers.serving.leading.serves) book.switch

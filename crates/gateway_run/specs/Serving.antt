@@ -13,7 +13,7 @@ use Rattle.run_record.specs.Session.{SessionState, IsDone, budget_of, has_live}
 use Rattle.run_record.specs.of_run_notes.Slaves.{home_of}
 use Rattle.run_record.specs.Ran.{HasSent, IsUnderway}
 use Rattle.gateway_run.specs.Heard.{heard_as, AreHeard, AreSent, AreSentBut, IsOwed, IsRightly}
-use Rattle.gateway_run.specs.Account.{Owing, Course, AreSpelled}
+use Rattle.gateway_run.specs.Account.{Owing, Course, AreSpelled, happened_in, numbers_in}
 use Rattle.gateway_run.specs.Desk.{IsSound}
 use Rattle.gateway_run.specs.declared.stop.Stop.{Stop}
 use Rattle.gateway_run.specs.declared.stop.Stop.TheVariants as stops
@@ -38,8 +38,8 @@ LivesUnless rests s = OnFalse rests ((has_live s.master ≡ true) × (IsDone s �
 abbrev pub EmptyWhere : Bool → Serving → Type 0
 EmptyWhere settled v = OnTrue settled (v.desk.requests.items ≡ [])
 
--- a serving of a sound plan and its book: the session is under way, each reply goes to its own asker, what was passed on was rightly so, and what was
--- sent and is still to be sent is what was owed
+-- a serving of a sound plan and its book: the session is under way, each reply goes to its own asker, what was passed on was rightly so, what was
+-- sent and is still to be sent is what was owed, and just what happened at the switch stands in the book, with its numbers
 pub record IsOn (plan : Scenario) (count : ℕ) (v : Serving) (b : Book) : Type 0 where
   pub is_plan : IsPlan plan
   pub underway : IsUnderway plan count v.session b
@@ -52,6 +52,8 @@ pub record IsOn (plan : Scenario) (count : ℕ) (v : Serving) (b : Book) : Type 
   pub judged : All (IsRightly (map home_of plan.slaves)) b.grams
   pub owed : List Owing
   pub course : Course plan count v.session b.frames b.grams v.desk.requests.items owed
+  pub switch : happened_in plan count v.session b.frames b.grams v.desk.requests.items owed course ≡ b.switch
+  pub switched : numbers_in plan count v.session b.frames b.grams v.desk.requests.items owed course ≡ b.switched
   pub spelled : AreSpelled (map heard_as b.grams) owed (b.replies ++ v.desk.outbox.items)
 
 -- a serving and its port, by what the port told first: the book has what was heard and sent since

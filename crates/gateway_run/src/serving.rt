@@ -81,6 +81,10 @@ fn serve_through<P: Port>(
 /// the replies to who asked. The book then has the frames, what became of each slave, and the datagrams heard and sent; after `NoMemory` the
 /// frames until then.
 ///
+/// What it has of the slaves and of the switch is just what the lives of the slaves have that its frames lead: of each the services of its script that
+/// came into hand, with what they came to, and those that weren't sent, its epochs, emergencies and packets; and the events of the switch, each with
+/// its number.
+///
 /// `Done` and `GivenUp` come only where so many datagrams were heard or the port ended, and nothing was left to do; `BudgetSpent` where as
 /// many frames were sent as the budget allows; `PortFault` only where the port's count of faults rose. Then the last datagram of the book
 /// was sent or not, and those that were not yet sent stand nowhere.

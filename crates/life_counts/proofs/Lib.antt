@@ -5,6 +5,7 @@ pub mod Clients
 pub mod Epoch
 pub mod Eras
 pub mod Frames
+mod Lasts
 pub mod Leads
 pub mod Led
 pub mod Marks

@@ -74,7 +74,7 @@ module _ {V M Q R C T A : Type 0} (w : Speaker V M Q R C T) (k : IsSpeaker w) (l
       (heard : (gs : List (Frame (Tagged M Q))) (counts : Bool) (d : Era (Tagged M Q) (Asked M Q) (Option R)) (m : Slave (Rowed V M Q) (Tagged M Q)) → LedHere gs counts d m → NoneUnheard (seeing w) is_passed d)
       (always : (m : M) → IsAnswered (seeing w) is_passed (Asked.Passed m true)) where
     -- IT BEGINS SO
-    begin : (cleared : Option ℕ) (fs : List (Frame M)) → length fs ≡ suc opened → Tied fs true (record (new_era cleared) { opened = Some opened }) (opened_slave M T (Option R) spot v r)
+    pub begin : (cleared : Option ℕ) (fs : List (Frame M)) → length fs ≡ suc opened → Tied fs true (record (new_era cleared) { opened = Some opened }) (opened_slave M T (Option R) spot v r)
     begin cleared fs is =
         let long : length blanks ≡ suc opened = replicated blank (suc opened) in
         record {

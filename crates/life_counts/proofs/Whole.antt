@@ -1,14 +1,13 @@
 -- What a whole life has gained.
-use Rattle.std.proofs.Common.{◌≡◌, ℕ, ◌+◌, ◌≤◌, false, Option, Some, None, List, [], ◌∷◌, ◌++◌, take, length, refl, sym, ap, ◌∙◌, subst, arith}
+use Rattle.std.proofs.Common.{◌≡◌, ℕ, ◌+◌, ◌≤◌, false, List, [], ◌∷◌, ◌++◌, take, length, refl, sym, ap, ◌∙◌, subst, arith}
 use Rattle.exchange_model.specs.Rows.{exec_all}
 use Rattle.link_mails.specs.Body.{Body}
-use Rattle.link_model.specs.Mails.{LinkMail}
 use Rattle.segment_model.specs.Record.{Frame}
 use Rattle.segment_model.specs.Slaves.{Registers, Slave}
 use Rattle.state_model.specs.States.{Table}
 use Rattle.state_exchange.specs.Stated.{Service, with_states}
 use Rattle.task_model.specs.Promise.{services_in}
-use Rattle.life_measure.specs.Gains.{idle_gains, era_gains, eras_gains, gains}
+use Rattle.life_measure.specs.Gains.{era_gains, eras_gains, gains}
 use Rattle.life_model.specs.Eras.{Clearing, EraIs, OpenEra}
 use Rattle.life_model.specs.Lives.{Spot, Era, Life, Opening, Stand}
 use Rattle.slave_lives.specs.Ends.{LeftEra, LeftEras}
@@ -18,27 +17,8 @@ use Rattle.slave_lives.specs.Stands.{opening_again}
 use Rattle.slave_steps.specs.Node.{Node}
 use Rattle.whole_ring.specs.Whole.{OwesLaws, OpensAs, OpensBy, StandsAs, IsLived}
 use Rattle.life_counts.proofs.Epoch.{epoch_within, epoch_app}
-use Rattle.life_counts.specs.Begun.{era_most, eras_most, life_most, IsUnopened, AllUnopened, AreUnopened, KeepsShape}
-
-idle_one : {M : Type 0} (holding : Option (LinkMail M)) → idle_gains holding ≤ 1
-idle_one None = omega arith
-idle_one (Some m) = omega arith
-
-gains_last : {M Q R : Type 0} (es : List (Era M Q R)) (e : Era M Q R) → eras_gains (es ++ e ∷ []) ≡ eras_gains es + era_gains e
-gains_last [] e = omega arith
-gains_last (f ∷ es) e = omega (arith, gains_last es e)
-
-most_last : {M Q R : Type 0} (count : Q → ℕ) (es : List (Era M Q R)) (e : Era M Q R) → eras_most count (es ++ e ∷ []) ≡ eras_most count es + era_most count e
-most_last count [] e = omega arith
-most_last count (f ∷ es) e = omega (arith, most_last count es e)
-
-all_before : {M Q R : Type 0} (es : List (Era M Q R)) (e : Era M Q R) → AllUnopened (es ++ e ∷ []) → AllUnopened es
-all_before [] e all = tt
-all_before (f ∷ es) e all = (all.0, all_before es e all.1)
-
-the_last : {M Q R : Type 0} (es : List (Era M Q R)) (e : Era M Q R) → AllUnopened (es ++ e ∷ []) → IsUnopened e
-the_last [] e all = all.0
-the_last (f ∷ es) e all = the_last es e all.1
+use Rattle.life_counts.proofs.Lasts.{idle_one, gains_last, most_last, all_before, the_last}
+use Rattle.life_counts.specs.Begun.{era_most, eras_most, life_most, AllUnopened, AreUnopened, KeepsShape}
 
 module _ {S V A Q R K : Type 0} (w : Behind S V A Q R) (c : Clearing V A) (p : Plan) (spot : Spot) (owes : OwesLaws w c p spot) (fs : List (Frame Body)) (shape : A → K) (count : K → Q → ℕ) (keeps : KeepsShape w c shape count) where
   -- no services change the shape

@@ -1,39 +1,19 @@
 -- What a life has gained whose epochs are sessions.
-use Rattle.std.proofs.Common.{◌≡◌, ℕ, ◌+◌, ◌≤◌, Option, Some, None, List, [], ◌∷◌, ◌++◌, take, refl, sym, ap, ◌∙◌, subst, arith}
+use Rattle.std.proofs.Common.{◌≡◌, ℕ, ◌+◌, ◌≤◌, List, [], ◌∷◌, ◌++◌, take, refl, sym, ap, ◌∙◌, subst, arith}
 use Rattle.exchange_model.specs.Exchange.{Exchange, IsLawful}
 use Rattle.exchange_model.specs.Rows.{exec_all}
 use Rattle.life_counts.specs.Begun.{era_most, eras_most, life_most, IsUnopened, AllUnopened, AreUnopened}
 use Rattle.life_counts.proofs.Epoch.{epoch_within, epoch_app}
-use Rattle.life_measure.specs.Gains.{idle_gains, era_gains, eras_gains, gains}
+use Rattle.life_counts.proofs.Lasts.{idle_one, gains_last, most_last, all_before, the_last}
+use Rattle.life_measure.specs.Gains.{era_gains, eras_gains, gains}
 use Rattle.life_model.specs.Eras.{Clearing, WasOpen, OpenEra}
 use Rattle.life_model.specs.Lives.{Spot, Era, Life}
-use Rattle.link_model.specs.Mails.{LinkMail}
 use Rattle.segment_model.specs.Record.{Frame}
 use Rattle.segment_model.specs.Slaves.{Processor}
 use Rattle.state_exchange.specs.Stated.{Stated, IsStated, Service, with_states}
 use Rattle.state_model.specs.States.{Table}
 use Rattle.task_model.specs.Promise.{services_in}
 use Rattle.life_counts.specs.Worked.{KeepsAll, AllWorked, IsNewest, IsWorked}
-
-idle_one : {M : Type 0} (holding : Option (LinkMail M)) → idle_gains holding ≤ 1
-idle_one None = omega arith
-idle_one (Some m) = omega arith
-
-gains_last : {M Q R : Type 0} (es : List (Era M Q R)) (e : Era M Q R) → eras_gains (es ++ e ∷ []) ≡ eras_gains es + era_gains e
-gains_last [] e = omega arith
-gains_last (f ∷ es) e = omega (arith, gains_last es e)
-
-most_last : {M Q R : Type 0} (count : Q → ℕ) (es : List (Era M Q R)) (e : Era M Q R) → eras_most count (es ++ e ∷ []) ≡ eras_most count es + era_most count e
-most_last count [] e = omega arith
-most_last count (f ∷ es) e = omega (arith, most_last count es e)
-
-all_before : {M Q R : Type 0} (es : List (Era M Q R)) (e : Era M Q R) → AllUnopened (es ++ e ∷ []) → AllUnopened es
-all_before [] e all = tt
-all_before (f ∷ es) e all = (all.0, all_before es e all.1)
-
-the_last : {M Q R : Type 0} (es : List (Era M Q R)) (e : Era M Q R) → AllUnopened (es ++ e ∷ []) → IsUnopened e
-the_last [] e all = all.0
-the_last (f ∷ es) e all = the_last es e all.1
 
 module _ {V A M Q R K : Type 0} (x : Exchange V A M Q R) (lawful : IsLawful x) (s : Stated V A Q) (stated : IsStated x s) (processor : Processor V) (table : ℕ → Table) (spot : Spot) (c : Clearing V A)
     (shape : A → K) (count : K → Q → ℕ) (keeps : KeepsAll x s c shape count) where

@@ -25,6 +25,7 @@ use Rattle.master_duty.specs.of_segment_model.Seats
 use Rattle.master_duty.specs.of_task_model.Accounts
 use Rattle.master_duty.specs.of_task_model.Accounts.{is_free}
 use Rattle.master_tour.specs.Stands.{StandShows}
+use Rattle.master_node.specs.Told.{IsTold}
 use Rattle.master_node.specs.Shows.{IsLead, IsLived, lived_of, side_shows}
 use Rattle.master_node.specs.Wants.{gave_of, gave_more, IsCounted, AllPlaced, IsIdle, IsLeft, AllLeft, IsQuiet, IsQuietBy}
 use Rattle.master_node.proofs.Lists.{both_map}
@@ -127,6 +128,16 @@ gave_gone times recover n e = by (nat_lt times n) refl
 -- the slaves that a master leads have just their lives
 pub lead_lives : {G : Ghosts InHand} (lens : ℕ → Lens) (recover : ℕ) (as' : List Leads) (ss : List (Stop InHand G)) → AllBoth (λ a s. IsLead lens recover a s) as' ss → AllBoth (λ a s. IsLived lens recover a s) (map lived_of as') ss
 lead_lives lens recover as' ss x = both_map lived_of (λ a s. IsLead lens recover a s) (λ a s. IsLived lens recover a s) (λ a s h. h.lives) as' ss x
+
+-- so it is of those that it tells of, and these are just what it tells
+pub told_lives : {G : Ghosts InHand} (lens : ℕ → Lens) (recover : ℕ) (as' : List Leads) (ss : List (Stop InHand G)) → AllBoth (λ a s. IsTold lens recover a s) as' ss → AllBoth (λ a s. IsLived lens recover a s) (map lived_of as') ss
+told_lives lens recover as' ss x = both_map lived_of (λ a s. IsTold lens recover a s) (λ a s. IsLived lens recover a s) (λ a s h. h.lives) as' ss x
+
+pub lead_told : {G : Ghosts InHand} (lens : ℕ → Lens) (recover : ℕ) (as' : List Leads) (ss : List (Stop InHand G)) → AllBoth (λ a s. IsLead lens recover a s) as' ss → AllBoth (λ a s. IsTold lens recover a s) as' ss
+lead_told lens recover [] [] x = tt
+lead_told lens recover [] (s ∷ ss) x = absurd x
+lead_told lens recover (a ∷ as') [] x = absurd x
+lead_told lens recover (a ∷ as') (s ∷ ss) x = (record { lives = x.0.lives; number = x.0.number }, lead_told lens recover as' ss x.1)
 
 module _ {G : Ghosts InHand} (lens : ℕ → Lens) (recover times : ℕ) where
   one_gave : (a : Leads) (s : Stop InHand G) (stand : Stand) → s.stand ≡ stand → IsLived lens recover a.lived s → IsCounted recover a.lived.life.stand (length (gave_of a)) → gave_more stand s.spare recover times ≡ nat_lt times (length (gave_of a))

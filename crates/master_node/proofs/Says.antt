@@ -30,8 +30,8 @@ use Rattle.master_tour.specs.Stands.{StandShows}
 use Rattle.master_tour.specs.declared.stop.Stand.{Stand}
 use Rattle.master_tour.specs.declared.stop.Stop.{Stop}
 use Rattle.master_duty.specs.of_task_model.Accounts
-use Rattle.master_node.specs.Shows.{IsLead, IsLived, side_shows}
-use Rattle.master_node.specs.Told.{Tells, answer_at, value_by, value_in}
+use Rattle.master_node.specs.Shows.{IsLived, side_shows}
+use Rattle.master_node.specs.Told.{IsTold, Tells, answer_at, value_by, value_in}
 use Rattle.master_node.specs.declared.post.Post.{Post}
 use Rattle.master_node.specs.declared.told.Told.{Told}
 
@@ -143,10 +143,10 @@ module _ {G : Ghosts InHand} (lens : ℕ → Lens) (recover : ℕ) where
   pub lived_open : (a : Lived Asked Reply) (s : Stop InHand G) → IsLived lens recover a s → a.life.stand ≡ Lives.Stand.Open → side_shows lens recover s a.spot a.life.era.side a.life.era.account
   lived_open a s l e = open_shows a s s.stand l.shown.stood e
 
-  pub lead_open : (a : Leads) (s : Stop InHand G) → IsLead lens recover a s → a.lived.life.stand ≡ Lives.Stand.Open → side_shows lens recover s a.lived.spot a.lived.life.era.side a.lived.life.era.account
+  pub lead_open : (a : Leads) (s : Stop InHand G) → IsTold lens recover a s → a.lived.life.stand ≡ Lives.Stand.Open → side_shows lens recover s a.lived.spot a.lived.life.era.side a.lived.life.era.account
   lead_open a s l e = lived_open a.lived s l.lives e
 
-  pub duty_open : (a : Leads) (s : Stop InHand G) → IsLead lens recover a s → a.lived.life.stand ≡ Lives.Stand.Open → is_some (in_hand s.side.duty) ≡ is_some a.lived.life.era.account.hand
+  pub duty_open : (a : Leads) (s : Stop InHand G) → IsTold lens recover a s → a.lived.life.stand ≡ Lives.Stand.Open → is_some (in_hand s.side.duty) ≡ is_some a.lived.life.era.account.hand
   duty_open a s l e = duty_some (in_hand s.side.duty) a.lived.life.era.account.hand (lead_open a s l e).state
 
 -- AT A PLACE

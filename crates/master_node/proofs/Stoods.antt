@@ -7,7 +7,8 @@ use Rattle.life_runs.specs.Spans.{is_leaving, is_open}
 use Rattle.life_runs.specs.of_life_frames.Openings.{step_number}
 use Rattle.life_runs.specs.Led.{Leads}
 use Rattle.master_hand.specs.declared.hand.InHand.{InHand}
-use Rattle.master_node.specs.Shows.{IsLead, side_shows}
+use Rattle.master_node.specs.Shows.{side_shows}
+use Rattle.master_node.specs.Told.{IsTold}
 use Rattle.master_node.specs.Standing.{is_before_init, leaves, is_up}
 use Rattle.master_side.specs.declared.hand.Hand.{Ghosts}
 use Rattle.master_tour.specs.Stands.{StandShows}
@@ -40,8 +41,8 @@ module _ {G : Ghosts InHand} (lens : ℕ → Lens) (recover : ℕ) (a : Leads) (
   up_by Stand.Open h = sym (ap is_open h.0)
   up_by Stand.Gone h = sym (ap is_open h)
 
-  pub lead_leaves : IsLead lens recover a s → leaves s.stand ≡ is_leaving a.lived.life.stand
+  pub lead_leaves : IsTold lens recover a s → leaves s.stand ≡ is_leaving a.lived.life.stand
   lead_leaves l = leaves_by s.stand l.lives.shown.stood
 
-  pub lead_up : IsLead lens recover a s → is_up s.stand ≡ is_open a.lived.life.stand
+  pub lead_up : IsTold lens recover a s → is_up s.stand ≡ is_open a.lived.life.stand
   lead_up l = up_by s.stand l.lives.shown.stood

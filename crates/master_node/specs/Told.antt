@@ -8,15 +8,23 @@ use Rattle.master_tour.specs.of_life_model.Lives.{Stand}
 use Rattle.master_side.specs.of_link_mails.Body.{Body}
 use Rattle.master_duty.specs.Reply.{Reply}
 use Rattle.master_hand.specs.Spoken.{Asked, is_passed}
+use Rattle.master_hand.specs.declared.hand.InHand.{InHand}
+use Rattle.master_side.specs.declared.hand.Hand.{Ghosts}
+use Rattle.master_tour.specs.declared.stop.Stop.{Stop}
 use Rattle.mailbox_mail.specs.declared.outcome.ReplyKind.{ReplyKind}
 pub use Rattle.master_node.specs.Answered.{answer_at}
-use Rattle.master_node.specs.Shows.{IsLead, IsLived}
+use Rattle.master_node.specs.Shows.{IsLived}
 use Rattle.master_node.specs.declared.node.MasterNode.{MasterNode}
 use Rattle.master_node.specs.declared.told.Told.{Told}
 
--- a master has just these lives of its slaves
+-- of a slave: its life, and so many services of its script that came into hand, whatever is passed on to it
+pub record IsTold (lens : ℕ → Lens) (recover : ℕ) {G : Ghosts InHand} (a : Leads) (s : Stop InHand G) : Type 0 where
+  pub lives : IsLived lens recover a.lived s
+  pub number : s.side.hand.laying.number ≡ a.number
+
+-- a master has just these of its slaves
 abbrev pub HasLeads : (ℕ → Lens) → ℕ → MasterNode → List Leads → Type 0
-HasLeads lens recover m as' = AllBoth (λ a s. IsLead lens recover a s) as' m.tour.stops.items
+HasLeads lens recover m as' = AllBoth (λ a s. IsTold lens recover a s) as' m.tour.stops.items
 
 -- the newest row has this answer, of some frame
 pub record HasReply (now : Option (Row Body Asked Reply)) (reply : Reply) : Type 0 where

@@ -1,5 +1,5 @@
 -- EACH DATAGRAM THAT WAS QUEUED AT A SLAVE got what that gives for its mail.
-use Rattle.std.proofs.Common.{◌≡◌, ℕ, zero, suc, Bool, true, Option, Some, None, List, [], ◌∷◌, ◌++◌, length, map, refl, sym, ap, ◌∙◌, subst, arith}
+use Rattle.std.proofs.Common.{◌≡◌, ℕ, zero, suc, true, Option, Some, None, List, [], ◌∷◌, ◌++◌, length, map, sym, ap, ◌∙◌, subst, arith}
 use Rattle.std.specs.Prelude.{option_map, slice_get, All, Ok}
 use Rattle.std.proofs.lemmas.Option.{slice_get-map}
 use Rattle.exchange_model.specs.Exchange.{plain}

@@ -1,7 +1,7 @@
 -- A slave by a frame, as its master remembers it and as the count of frames has it.
 use Rattle.std.proofs.Common.{◌≡◌, Bool, false, is_some, Option, Some, None, List, [], ◌∷◌, refl, sym, ap, ◌∙◌, subst}
 use Rattle.idle_slaves.specs.Eager as Eager
-use Rattle.idle_slaves.specs.Eager.{IsClear, IsDraining, IsInVain}
+use Rattle.idle_slaves.specs.Eager.{IsDraining, IsInVain}
 use Rattle.idle_slaves.specs.Visited.{memory_of, memory_next, visit_for}
 use Rattle.idle_slaves.specs.Waiting.{Memory, memory_behind}
 use Rattle.life_measure.specs.Visits.{Visit, mails_visit, drain_visit}

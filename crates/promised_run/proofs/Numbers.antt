@@ -34,7 +34,7 @@ use Rattle.run_record.specs.Ran.{EndsAs, HasRows, IsGivenUp}
 use Rattle.run_record.specs.of_run_notes.Reports.{IsBooked, noted_in, noted_of, reply_in}
 use Rattle.run_record.specs.of_packets_heard.Numbers.{NoneWaits, events_up_to, frames_begun, given_up_at, number_behind}
 use Rattle.run_record.specs.of_script_runs.Answers.{AllNoted, Noted, Scripted, changes_behind, era_scripted, eras_scripted, life_scripted, next_opened, opened_anew, scripted_by, scripted_in, scripted_mails, side_answers}
-use Rattle.script_runs.specs.Came.{is_packet}
+use Rattle.script_runs.specs.Came.{is_beside}
 use Rattle.script_runs.specs.of_life_model.Lives.{Era, Life}
 use Rattle.script_runs.specs.of_state_exchange.Stated.{Service}
 use Rattle.script_runs.specs.of_task_model.Accounts.{Change, Started}
@@ -57,10 +57,10 @@ era_frames anew [] answers changes = refl
 era_frames anew (r ∷ rs) answers changes = by r.service answers (λ as' cs. era_frames anew rs as' cs)
   where
     by : (s : Service Asked) (as' : List (Option (Reply × ℕ))) → ((bs : List (Option (Reply × ℕ))) (cs : List (Change Reply)) → came_frames (scripted_in anew rs bs cs) ≡ other_frames rs) →
-        came_frames (scripted_by anew s r.frame as' changes (λ bs cs. scripted_in anew rs bs cs)) ≡ (if is_packet s then other_frames rs else r.frame ∷ other_frames rs)
+        came_frames (scripted_by anew s r.frame as' changes (λ bs cs. scripted_in anew rs bs cs)) ≡ (if is_beside s then other_frames rs else r.frame ∷ other_frames rs)
     by (Service.State target) as' rest = ap (λ z. r.frame ∷ z) (rest as' (changes_behind changes))
-    by (Service.Mails q) [] rest = mails_frames (is_packet (Service.Mails q)) r.frame None (scripted_in anew rs [] changes) (other_frames rs) (rest [] changes)
-    by (Service.Mails q) (a ∷ as') rest = mails_frames (is_packet (Service.Mails q)) r.frame a (scripted_in anew rs as' changes) (other_frames rs) (rest as' changes)
+    by (Service.Mails q) [] rest = mails_frames (is_beside (Service.Mails q)) r.frame None (scripted_in anew rs [] changes) (other_frames rs) (rest [] changes)
+    by (Service.Mails q) (a ∷ as') rest = mails_frames (is_beside (Service.Mails q)) r.frame a (scripted_in anew rs as' changes) (other_frames rs) (rest as' changes)
 
 eras_frames : (gave : List ℕ) (es : List (Era Body Asked Reply)) (behind : Option ℕ) → came_frames (eras_scripted gave es behind) ≡ other_frames (eras_rows es)
 eras_frames gave [] behind = refl

@@ -18,7 +18,7 @@ use Rattle.segment_model.specs.Slaves.{Datagram}
 use Rattle.run_frames.specs.Clocks.{Clocked, start_of}
 use Rattle.run_frames.specs.Led.{AreLed, unders}
 use Rattle.run_frames.specs.Orders.{is_live, is_opening, live_at, under_at, is_in, place_in, places_from, live_round, last_of, opened_on}
-use Rattle.run_frames.specs.Tours.{VisitOf, PlacesOf}
+use Rattle.run_frames.specs.Tours.{VisitOf, PlacesOf, last_lost}
 
 abbrev pub Slave : Type 0
 Slave = Clocked Body Asked Reply
@@ -186,3 +186,21 @@ last_first opened count last (p ∷ ps) l some = go (nat_lt opened count) refl
     go : (b : Bool) → nat_lt opened count ≡ b → None ≡ (if b then None else Some (Orders.last_place p ps))
     go true e = refl
     go false e = absurd (let more = ltb-false opened count e in omega (arith, more, l))
+
+-- ---- behind a lost frame by which no slave is given up
+-- the place from which on slaves are opened stays, where the slave there opens again
+pub opened_kept : (opened : ℕ) (as' : List Leads) → (opened < length as' → holds_at is_opening_lead as' opened ≡ true) → opened_behind is_opening_lead opened as' ≡ opened
+opened_kept opened as' opens = go (nat_lt opened (length as')) refl (holds_at is_opening_lead as' opened) refl
+  where
+    go : (z : Bool) → nat_lt opened (length as') ≡ z → (y : Bool) → holds_at is_opening_lead as' opened ≡ y → (if z && not y then opened + 1 else opened) ≡ opened
+    go false e y d = refl
+    go true e true d = refl
+    go true e false d = absurd (let yes = opens (ltb-true opened (length as') e) in cc)
+
+-- so does the place that was last in turn
+pub last_kept : (opened many : ℕ) (old last : Option ℕ) (ps : List ℕ) → (opened < many → last ≡ None) → old ≡ last → last_lost (nat_lt opened many) false old ps ≡ last
+last_kept opened many old last ps early same = go (nat_lt opened many) refl
+  where
+    go : (z : Bool) → nat_lt opened many ≡ z → last_lost z false old ps ≡ last
+    go true e = sym (early (ltb-true opened many e))
+    go false e = same

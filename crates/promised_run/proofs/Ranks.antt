@@ -17,7 +17,6 @@ use Rattle.run_work.specs.ServedGained.{asked_in}
 use Rattle.segment_model.specs.Ends.{Passing, passing_after}
 use Rattle.segment_model.specs.Record.{News}
 use Rattle.segment_model.specs.Slaves.{Datagram, Found}
-use Rattle.segment_plan.specs.declared.service.Service as Plan
 use Rattle.segment_ring.specs.declared.wire.Fate.{Fate}
 use Rattle.segment_ring.specs.declared.wire.Fate.TheVariants.{Pass, Lost}
 use Rattle.served_runs.specs.Served.{Keyed, MayAsk, Serves, ServedTurn, ServedComes, IsServedTurn, AllServedTurn, asked_at, gives_it, served_behind, served_life}

@@ -22,7 +22,7 @@ use Rattle.run_promises.specs.Slaves.{services_of}
 use Rattle.run_record.specs.of_run_notes.Reports.{noted_in, IsBooked}
 use Rattle.run_record.specs.of_script_runs.Answers.{Came, Scripted, Noted, AllNoted, answers_in, side_answers, first_change, changes_behind, change_outcome, opened_anew, scripted_by, scripted_in, scripted_mails, era_scripted, eras_scripted, life_scripted, reply_by, outcome_reply}
 use Rattle.run_record.proofs.of_script_runs.Lists.{eras_more}
-use Rattle.script_runs.specs.Came.{is_packet}
+use Rattle.script_runs.specs.Came.{is_beside}
 use Rattle.script_runs.specs.of_link_model.Mails.{first_of}
 use Rattle.script_runs.specs.of_segment_model.Ends.{Outcome, state_ends}
 use Rattle.script_runs.specs.of_segment_model.Laws.{IsAnswered, AllAnswered, as_outcome}
@@ -191,7 +191,7 @@ module _ {V A : Type 0} (x : Exchange V A Body Asked Reply) (s : Stated V A Aske
       go : (z : Service Asked) (rs : List Held) → mail_of z r.frame ++ mails_started ss ≡ rows_started rs → AllAnswered x.speech is_followed station gs rs → Found (state_of z r.frame ++ states_started ss) cs → Replied a z r.frame →
           AllNoted (scripted_by anew z r.frame (answers_in rs) cs (λ more others. scripted_in anew ss more others)) ns →
           ((rs : List Held) (ds : List (Change Reply)) (ms : List Noted) → mails_started ss ≡ rows_started rs → AllAnswered x.speech is_followed station gs rs → Found (states_started ss) ds → AllNoted (scripted_in anew ss (answers_in rs) ds) ms → AreReplies x s table station gs anew (exec a r.service) ss ms) →
-          RepliesBy x s table station gs anew (is_packet z) r.frame a z ns (λ more. AreReplies x s table station gs anew (exec a r.service) ss more)
+          RepliesBy x s table station gs anew (is_beside z) r.frame a z ns (λ more. AreReplies x s table station gs anew (exec a r.service) ss more)
       go (Service.State target) rs m y f p h more = state_by ns h
         where
           first : FoundFirst target r.frame (states_started ss) cs
@@ -204,7 +204,7 @@ module _ {V A : Type 0} (x : Exchange V A Body Asked Reply) (s : Stated V A Aske
       go (Service.Mails q) [] m y f p h more = absurd (let bad : (q, r.frame) ∷ mails_started ss ≡ [] = m in cc)
       go (Service.Mails q) (t ∷ rs) m y f p h more =
           let e = first_row q r.frame t (mails_started ss) rs m in
-          noted_by (is_packet (Service.Mails q)) q t (scripted_in anew ss (answers_in rs) cs) ns h e.0 e.1 y.0 p (λ ms. AreReplies x s table station gs anew (exec a r.service) ss ms) (λ ms k. more rs cs ms e.2 y.1 f k)
+          noted_by (is_beside (Service.Mails q)) q t (scripted_in anew ss (answers_in rs) cs) ns h e.0 e.1 y.0 p (λ ms. AreReplies x s table station gs anew (exec a r.service) ss ms) (λ ms k. more rs cs ms e.2 y.1 f k)
 
 -- ALL EPOCHS
 module _ {S V A : Type 0} (w : Behind S V A Asked Reply) (spot : Spot) (fs : List (Frame Body)) where

@@ -1,5 +1,5 @@
 -- WHERE NOTHING WAS LEFT TO DO all is done of each slave that wasn't given up for good.
-use Rattle.std.proofs.Common.{◌≡◌, ◌⊎◌, ℕ, suc, true, List, [], ◌∷◌, map, inl, inr, refl, sym, ap, ◌∙◌, subst}
+use Rattle.std.proofs.Common.{◌≡◌, ◌⊎◌, ℕ, suc, true, List, [], ◌∷◌, map, inl, inr, sym, ap, ◌∙◌, subst}
 use Rattle.gateway_run.specs.Done.{ServedRestsSo}
 use Rattle.gateway_run.specs.Served.{HasAccount, IsServed}
 use Rattle.gateway_run.specs.Serving.{Told}

@@ -16,7 +16,7 @@ use Rattle.run_book.specs.of_master_node.Begins.{begins_other, begun_of}
 use Rattle.run_record.specs.of_packets_heard.Numbers.{each_with, frame_where, frames_begun, frames_other}
 use Rattle.run_record.specs.of_packets_heard.Over.{packet_begun}
 use Rattle.script_runs.proofs.of_task_model.Completed.{started_back}
-use Rattle.script_runs.specs.Came.{is_packet}
+use Rattle.script_runs.specs.Came.{is_beside, is_packet}
 use Rattle.script_runs.specs.of_exchange_model.Exchange.{Speech}
 use Rattle.script_runs.specs.of_life_model.Lives.{Spot, Era, Life, Stand, Opening, granted, life_next, life_back, life_lost, era_back, opening_back, shows_clear, is_shown, last_step, clears, opens, steps_on, reopens, reopens_at, reopening, opens_state, returns_to_init}
 use Rattle.script_runs.specs.of_life_model.Own.{own}
@@ -29,6 +29,7 @@ use Rattle.script_runs.specs.of_task_model.Accounts.{Account, Duty, Stage, Pick,
 use Rattle.segment_plan.specs.declared.plan.Scenario.{Scenario}
 use Rattle.segment_plan.specs.declared.service.Service as Plan
 use Rattle.segment_plan.specs.declared.slave.SlaveSpec.{SlaveSpec}
+use Rattle.served_runs.proofs.Quiet.{comes_own}
 use Rattle.life_runs.specs.of_segment_ring.declared.wire.Fate.{Fate}
 use Rattle.life_runs.specs.of_segment_ring.declared.wire.Fate.TheVariants.{Pass, Lost}
 
@@ -143,7 +144,7 @@ module _ (lens : ℕ → Lens) (recover retry : ℕ) (gives : Bool) (made : ℕ)
 -- the frames of those rows that don't
 abbrev pub other_frames : Rows → List ℕ
 other_frames [] = []
-other_frames (r ∷ rs) = if is_packet r.service then other_frames rs else r.frame ∷ other_frames rs
+other_frames (r ∷ rs) = if is_beside r.service then other_frames rs else r.frame ∷ other_frames rs
 
 packets_append : (xs ys : Rows) → packet_frames (xs ++ ys) ≡ packet_frames xs ++ packet_frames ys
 packets_append [] ys = refl
@@ -155,7 +156,7 @@ packets_append (x ∷ xs) ys = go (is_packet x.service) (packets_append xs ys)
 
 pub others_append : (xs ys : Rows) → other_frames (xs ++ ys) ≡ other_frames xs ++ other_frames ys
 others_append [] ys = refl
-others_append (x ∷ xs) ys = go (is_packet x.service) (others_append xs ys)
+others_append (x ∷ xs) ys = go (is_beside x.service) (others_append xs ys)
   where
     go : (b : Bool) → other_frames (xs ++ ys) ≡ other_frames xs ++ other_frames ys → (if b then other_frames (xs ++ ys) else x.frame ∷ other_frames (xs ++ ys)) ≡ (if b then other_frames xs else x.frame ∷ other_frames xs) ++ other_frames ys
     go true e = e
@@ -172,16 +173,23 @@ packet_row made (Some (Service.Mails (net (EoeClient.packet octets frame)))) = r
 packet_row made (Some (Service.Mails (passed m))) = refl
 packet_row made (Some (Service.State target)) = refl
 
-other_row : (made : ℕ) (b : Option (Service Asked)) → other_frames (row_of made b) ≡ frame_where (begins_other b) made
-other_row made None = refl
-other_row made (Some (Service.Mails (sdo q))) = refl
-other_row made (Some (Service.Mails (file q))) = refl
-other_row made (Some (Service.Mails (drive q))) = refl
-other_row made (Some (Service.Mails (net (EoeClient.set_ip block)))) = refl
-other_row made (Some (Service.Mails (net EoeClient.get_ip))) = refl
-other_row made (Some (Service.Mails (net (EoeClient.packet octets frame)))) = refl
-other_row made (Some (Service.Mails (passed m))) = refl
-other_row made (Some (Service.State target)) = refl
+-- in a run no mail is passed on
+begun_own : (lens : ℕ → Lens) (made : ℕ) (ds : List Raw.Datagram) (as' : List Leads) (us : List Turn) → AllTurn lens made ds as' us → (k : ℕ) (q : Asked) → begun_of us k ≡ Some (Service.Mails q) → is_passed q ≡ false
+begun_own lens made ds as' [] t k q e = absurd (let bad : None ≡ Some (Service.Mails q) = e in cc)
+begun_own lens made ds [] (u ∷ us) t k q e = absurd t
+begun_own lens made ds (a ∷ as') (u ∷ us) t zero q e = comes_own (lens a.lived.spot.station).out a.script a.number u.number u.begun t.0.comes q e
+begun_own lens made ds (a ∷ as') (u ∷ us) t (suc k) q e = begun_own lens made ds as' us t.1 k q e
+
+other_row : (made : ℕ) (b : Option (Service Asked)) → ((q : Asked) → b ≡ Some (Service.Mails q) → is_passed q ≡ false) → other_frames (row_of made b) ≡ frame_where (begins_other b) made
+other_row made None own = refl
+other_row made (Some (Service.Mails (sdo q))) own = refl
+other_row made (Some (Service.Mails (file q))) own = refl
+other_row made (Some (Service.Mails (drive q))) own = refl
+other_row made (Some (Service.Mails (net (EoeClient.set_ip block)))) own = refl
+other_row made (Some (Service.Mails (net EoeClient.get_ip))) own = refl
+other_row made (Some (Service.Mails (net (EoeClient.packet octets frame)))) own = refl
+other_row made (Some (Service.Mails (passed m))) own = absurd (let bad : true ≡ false = own (passed m) refl in cc)
+other_row made (Some (Service.State target)) own = refl
 
 -- before the first frame there is none
 first_rows : (services : List (ℕ × Plan.Service)) (place : ℕ) (ss : List SlaveSpec) (k : ℕ) → rows_at (leads_from services place ss) k ≡ []
@@ -201,4 +209,4 @@ module _ (lens : ℕ → Lens) (plan : Scenario) (retry k : ℕ) where
   run_others IsLed.start = ap (λ z. other_frames z) (first_rows plan.services 0 plan.slaves k)
   run_others (IsLed.on fs missed as' f us led frame) =
       ap (λ z. other_frames z) (frame_rows lens plan.recover retry (gives_up_at lens plan.recover retry missed) (length fs) f frame.datagrams as' us frame.each k)
-      ∙ others_append (rows_at as' k) (row_of (length fs) (begun_of us k)) ∙ (λ i. run_others led i ++ other_row (length fs) (begun_of us k) i)
+      ∙ others_append (rows_at as' k) (row_of (length fs) (begun_of us k)) ∙ (λ i. run_others led i ++ other_row (length fs) (begun_of us k) (begun_own lens (length fs) frame.datagrams as' us frame.each k) i)

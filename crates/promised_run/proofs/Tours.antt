@@ -26,7 +26,7 @@ use Rattle.packets_heard.specs.Toured as Visits
 use Rattle.packets_heard.specs.Toured.{tour_behind}
 use Rattle.promised_run.proofs.Asks.{asks_same}
 use Rattle.promised_run.proofs.Ahead.{out_stays, kept_stays, alone, not_in}
-use Rattle.promised_run.proofs.Places.{Slave, lives_same, long_same, opened_same, places_are, comes_again, shares_are, under_same, last_round, last_first}
+use Rattle.promised_run.proofs.Places.{Slave, lives_same, long_same, opened_same, places_are, comes_again, shares_are, under_same, last_round, last_first, opened_kept, last_kept}
 
 at_or_beyond : (n k : ℕ) → n ≤ k → (n ≡ k) ⊎ (suc n ≤ k)
 at_or_beyond n k l = elim (cases_order n k) [
@@ -256,22 +256,13 @@ module _ (lens : ℕ → Lens) (recover retry slowest : ℕ) (first : List Leads
       stays_ahead after fate none k from within = kept_stays lens recover retry (length fs) f gives after l.datagrams as' us l.each fate none k (b.ahead k from (omega (arith, within, long_lives, long_before)))
 
       opened_stays : (after : ℕ) → f.fate ≡ Lost after → gives ≡ false → opened_behind is_opening_lead t.opened lives ≡ t.opened
-      opened_stays after fate none = go (nat_lt t.opened (length lives)) refl (holds_at is_opening_lead lives t.opened) refl
-        where
-          go : (z : Bool) → nat_lt t.opened (length lives) ≡ z → (y : Bool) → holds_at is_opening_lead lives t.opened ≡ y → (if z && not y then t.opened + 1 else t.opened) ≡ t.opened
-          go false e y d = refl
-          go true e true d = refl
-          go true e false d = absurd (let yes = stays_ahead after fate none t.opened (omega arith) (ltb-true t.opened (length lives) e) in cc)
+      opened_stays after fate none = opened_kept t.opened lives (λ within. stays_ahead after fate none t.opened (omega arith) within)
 
       abbrev on_again : Tour
       on_again = record t { again = Some ps; missed = t.missed + 1 }
 
       last_again : gives ≡ false → last_lost (nat_lt p.opened (length cs)) gives p.last ps ≡ t.last
-      last_again none = ap (λ g. last_lost (nat_lt p.opened (length cs)) g p.last ps) none ∙ go (nat_lt p.opened (length cs)) refl
-        where
-          go : (z : Bool) → nat_lt p.opened (length cs) ≡ z → last_lost z false p.last ps ≡ t.last
-          go true e = sym (b.early (let less = ltb-true p.opened (length cs) e in omega (arith, less, b.opened, long_before)))
-          go false e = b.last
+      last_again none = ap (λ g. last_lost (nat_lt p.opened (length cs)) g p.last ps) none ∙ last_kept p.opened (length cs) p.last t.last ps (λ less. b.early (omega (arith, less, b.opened, long_before))) b.last
 
       lost_again : (after : ℕ) → f.fate ≡ Lost after → nat_lt t.missed retry ≡ true → Bridge (fs ++ f ∷ []) on_again lives s
       lost_again after fate few =

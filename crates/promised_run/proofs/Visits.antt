@@ -30,7 +30,7 @@ use Rattle.life_runs.specs.of_segment_ring.declared.wire.Fate.{Fate}
 use Rattle.life_runs.specs.of_segment_ring.declared.wire.Fate.TheVariants as Fates
 use Rattle.run_record.specs.of_packets_heard.Toured.{AreAt, IsToured, tour_behind, lives_behind}
 use Rattle.run_record.specs.of_packets_heard.Visits as Stops
-use Rattle.run_record.specs.of_packets_heard.Visits.{IsPlace, stop_at, stations_at}
+use Rattle.run_record.specs.of_packets_heard.Visits.{IsPlace, stop_at}
 use Rattle.run_record.proofs.of_packets_heard.Toured.{toured_led}
 use Rattle.run_record.proofs.of_packets_heard.Whole.{visit_whole}
 

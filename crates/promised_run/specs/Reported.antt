@@ -15,7 +15,7 @@ use Rattle.run_promises.specs.Round.{all_seen}
 use Rattle.run_promises.specs.Slaves.{services_of}
 use Rattle.run_record.specs.of_run_notes.Reports.{noted_in}
 use Rattle.run_record.specs.of_script_runs.Answers.{Noted, reply_by, outcome_reply, change_outcome, opened_anew}
-use Rattle.script_runs.specs.Came.{is_packet}
+use Rattle.script_runs.specs.Came.{is_beside}
 use Rattle.script_runs.specs.of_segment_model.Ends.{Outcome}
 use Rattle.script_runs.specs.of_segment_model.Record.{Frame}
 use Rattle.segment_plan.specs.declared.plan.Scenario.{Scenario}
@@ -59,7 +59,7 @@ module _ {V A : Type 0} (x : Exchange V A Body Asked Reply) (s : Stated V A Aske
     pub given : has_reply x.speech q ≡ true → n.reply ≡ outcome_reply (came_to anew q (outcome_of x.speech is_followed station gs (record { service = q; frame = frame })))
     pub own : has_reply x.speech q ≡ true → stays q ≡ true → (r : Reply) (g : ℕ) → n.reply ≡ Some (r, g) → IsReplyBy q r ((with_states x s table).reply a q)
 
-  -- of a service and of those behind it; packets aren't of the script
+  -- of a service and of those behind it; packets and mails that are passed on aren't of the script
   abbrev pub RepliesBy : Option ℕ → Bool → ℕ → A × ℕ → Service Asked → List Noted → (List Noted → Type 0) → Type 0
   RepliesBy anew true frame a q ns more = more ns
   RepliesBy anew false frame a q [] more = ⊥
@@ -68,7 +68,7 @@ module _ {V A : Type 0} (x : Exchange V A Body Asked Reply) (s : Stated V A Aske
   -- OF THE SERVICES OF AN EPOCH, one after the other, from an application on
   abbrev pub AreReplies : Option ℕ → A × ℕ → List (Started Asked) → List Noted → Type 0
   AreReplies anew a [] ns = ns ≡ []
-  AreReplies anew a (r ∷ rs) ns = RepliesBy anew (is_packet r.service) r.frame a r.service ns (λ more. AreReplies anew ((with_states x s table).exec a r.service) rs more)
+  AreReplies anew a (r ∷ rs) ns = RepliesBy anew (is_beside r.service) r.frame a r.service ns (λ more. AreReplies anew ((with_states x s table).exec a r.service) rs more)
 
 module _ {S V A : Type 0} (w : Behind S V A Asked Reply) (spot : Spot) (fs : List (Frame Body)) where
   -- of an epoch as it is kept

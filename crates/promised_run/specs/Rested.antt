@@ -13,8 +13,9 @@ use Rattle.served_runs.specs.Served.{Serves}
 use Rattle.slave_server.specs.Serving.{Serving, next_mail}
 use Rattle.slave_steps.specs.Node.{Node, is_settled}
 
--- ALL IS DONE OF A SLAVE: its master wants nothing of it, and no mail waits; it is settled; its whole script came into hand, with packets and with the mails that
--- were asked, and all of its rows are carried out: what its node is they made of it
+-- NOTHING IS LEFT OF A SLAVE: its master wants nothing of it, and no mail waits; it is settled; over its epochs its whole script came into hand, with packets and
+-- with mails that were asked, in order, all of them where it was never given up; and all rows of its newest epoch are carried out and answered, which made its node
+-- what it is, from what the epochs before left. What one of those left undone when it was cut off stays so
 pub record IsRested (plan : Scenario) (place : ℕ) (s : SlaveSpec) (w : Serves) (n : Node Serving) : Type 0 where
   pub idle : IsServedIdle (lens_of plan.slaves) w
   pub settled : is_settled next_mail n ≡ true

@@ -16,9 +16,10 @@ use Rattle.served_runs.specs.Served.{Serves, ServedTurn, IsServedFrame, TellsSo,
 use Rattle.served_runs.specs.Told.{Passed, TellsOwn}
 
 -- BEHIND THESE FRAMES, of each slave as its master leads it: the slave of the ring that replays them has carried out, epoch by epoch, just the first of the rows
--- that came into hand of it, each mail that was passed on by the one step that its server takes for it; what was heard for the one in hand are the first of the
--- replies of that step, and all of them where it is over; what was told of it are the first of those; and what came into hand are the next services of its script,
--- packets, and the mails that were asked of it, in order, each once
+-- that came into hand of it, each mail that was passed on by the one step that its server takes for it; each answer of the others is its server's own, of a row
+-- carried out, and what was heard that it sent of itself are the first mails that these emit; what was heard for the mail in hand are the first of the replies of
+-- that step, and all of them where it is over; what was told of it are the first of those; and what came into hand are the next services of its script, packets, and
+-- the mails that were asked of it, in order, each once
 pub record IsServedSo (plan : Scenario) (front : List SentFrame) (ws : List Serves) : Type 0 where
   pub slaves : AllServeSo plan.slaves ws (ring_after (first_ring plan) front).nodes
   pub told : All TellsSo ws

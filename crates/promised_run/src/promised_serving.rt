@@ -25,12 +25,21 @@ use served_runs::{asked_law, told_law};
 use std::alloc::Global;
 
 /// Serves a plan that was read, as `gateway_run` does. At each moment, whatever frames are lost, each slave has carried out in each epoch just the first of the
-/// rows that came into hand of it, a request's mail by the one step that its application takes for it; and the replies that were heard for the mail in hand are the
+/// rows that came into hand of it, a request's mail by the one step that its server takes for it; and the replies that were heard for the mail in hand are the
 /// first of that step's, in order, and all of them where it is over. What is told of it are the first of those that were heard, and behind the frame by which it is
-/// over all of them. Behind all frames each datagram that was queued at a slave got the first mails of the one step that its slave's server takes for its mail, and
-/// where it is done all of them; and where nothing was left to do each slave that wasn't given up for good has carried out its whole script and all mails, and
-/// nothing waits. A budget of as many frames as the bound for so many datagrams never cuts it off, where none of
-/// them asks for a download to 2F01:01; and where no more frames in a row are lost than the retry limit, no slave is given up and it ends as done.
+/// over all of them. Each answer of a service of the script is its server's own, of a row carried out; and the emergencies and packets that were heard are the first
+/// that these rows emit.
+///
+/// Behind all frames each datagram that was queued at a slave got nothing while its mail waits, error 5 where that never came into hand, and else the first mails of
+/// the one step that its slave's server takes for it, all of them where it is done. Unless memory runs out the book has besides just what the lives have that its
+/// frames lead: of each slave the services of its script that came into hand, with what they came to, and those that weren't sent; its epochs; its emergencies and
+/// its packets, numbered; and the events of the switch, each with its number.
+///
+/// Where nothing was left to do, of each slave that wasn't given up for good the whole script came into hand, with mails that were asked, in order, all of them where
+/// it was never given up; all rows of its newest epoch are carried out and answered, and nothing waits. What an earlier epoch left undone when it was cut off stays so.
+///
+/// A serving of which no datagram asks for a download to 2F01:01 is never cut off by a budget of as many frames as the bound for so many datagrams. Where no more
+/// frames in a row are lost than the retry limit no slave is given up, and such a serving with that budget ends as done, unless its port fails or memory runs out.
 pub fn serve<P: Port>(
     alloc: Global,
     plan: &Scenario,

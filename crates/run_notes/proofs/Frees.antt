@@ -15,7 +15,7 @@ use Rattle.run_notes.specs.Reports.{AllReport, Reports, waits_of}
 use Rattle.run_notes.specs.declared.notes.Awaited.{Awaited}
 use Rattle.run_notes.specs.declared.notes.Notes.{Notes}
 use Rattle.script_runs.specs.Answers.{StandsBy}
-use Rattle.script_runs.specs.Came.{is_packet}
+use Rattle.script_runs.specs.Came.{is_beside}
 
 last_same : {T : Type 0} (xs ys : List T) (x y : T) → xs ++ x ∷ [] ≡ ys ++ y ∷ [] → x ≡ y
 last_same [] [] x y e = cc
@@ -26,7 +26,7 @@ last_same (a ∷ b ∷ xs) [] x y e = absurd (cc)
 last_same (a ∷ xs) (b ∷ ys) x y e = let f : xs ++ x ∷ [] ≡ ys ++ y ∷ [] = cc in last_same xs ys x y f
 
 -- a packet is no service of a script
-scripted : (q : Asked) → is_other q ≡ false → is_packet (Service.Mails q) ≡ false → ⊥
+scripted : (q : Asked) → is_other q ≡ false → is_beside (Service.Mails q) ≡ false → ⊥
 scripted (sdo q) o p = absurd (cc)
 scripted (file q) o p = absurd (cc)
 scripted (drive q) o p = absurd (cc)

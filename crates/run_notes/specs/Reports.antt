@@ -4,7 +4,6 @@ use Rattle.master_node.specs.of_frame_view.View.{Lens}
 use Rattle.master_node.specs.of_life_frames.Shares.{AllBoth}
 use Rattle.master_node.specs.of_life_runs.Led.{Leads}
 use Rattle.master_node.specs.of_master_duty.Reply.{Reply}
-use Rattle.master_node.specs.Shows.{MasterShows}
 use Rattle.master_node.specs.Told.{HasLeads}
 use Rattle.master_node.specs.Wants.{gave_of, AllCounted}
 use Rattle.master_node.specs.declared.event.Origin.{Origin}
@@ -102,8 +101,7 @@ PassesAll frame m P = (lens : ℕ → Lens) (recover : ℕ) (as' bs : List Leads
 
 -- BEHIND ITS LOSS: what was in hand of the slaves that were given up is in doubt
 abbrev pub LosesAll : ℕ → ℕ → MasterNode → (List Leads → List Leads → Type 0) → Type 0
-LosesAll frame recover m P =
-    (lens : ℕ → Lens) (retry missed : ℕ) (as' bs : List Leads) → MasterShows lens recover retry m missed bs → AllCounted recover bs → AllBoth (λ a b. LosesSo frame a b) as' bs → P as' bs
+LosesAll frame recover m P = (lens : ℕ → Lens) (as' bs : List Leads) → HasLeads lens recover m bs → AllCounted recover bs → AllBoth (λ a b. LosesSo frame a b) as' bs → P as' bs
 
 -- what was noted of all of them goes on
 abbrev pub ReportsOn : List Notes → List Notes → List Leads → List Leads → Type 0

@@ -39,15 +39,15 @@ module _ (lens : ℕ → Lens) (recover retry : ℕ) (gives : Bool) (made : ℕ)
   turns_before ds (a ∷ as') (u ∷ us) t h = ((turns_so lens made ds a u t.0).before h.0, turns_before ds as' us t.1 h.1)
 
   one_before : (u : Turn) → IsBefore made u.lived.life → (fate : Fate) → IsBefore (suc made) (life_behind lens recover retry gives made f fate u.lived u.share).life
-  one_before u h Fates.Pass = (passes_so lens recover retry gives made f u h).before
-  one_before u h (Fates.Lost after) = (loses_so lens recover retry gives made f u h after).before
+  one_before u h Fates.Pass = (passes_so lens recover gives made f [] u h).before
+  one_before u h (Fates.Lost after) = (loses_so lens recover gives made f [] u h after).before
 
   behind_before : (us : List Turn) → AllBefore made (map turned us) → AllBefore (suc made) (map (led_behind lens recover retry gives made f) us)
   behind_before [] h = tt
   behind_before (u ∷ us) h = (one_before u h.0 f.fate, behind_before us h.1)
 
 -- BEHIND ALL FRAMES
-one_more : (fs : List Exchanged) (f : Exchanged) → suc (length fs) ≡ length (fs ++ f ∷ [])
+pub one_more : (fs : List Exchanged) (f : Exchanged) → suc (length fs) ≡ length (fs ++ f ∷ [])
 one_more fs f = let k = length-append fs (f ∷ []) in omega (arith, k)
 
 pub all_before : (plan : Scenario) (fs : List Exchanged) (missed : ℕ) (as' : List Leads) → LeadTo plan fs missed as' → AllBefore (length fs) as'

@@ -4,12 +4,10 @@ use Rattle.std.specs.Prelude.{◌↔◌}
 use Rattle.std.proofs.lemmas.List.{map-append}
 use Rattle.datagrams.specs.Datagram as Raw
 use Rattle.eoe_switch.specs.Switch.{switched}
-use Rattle.eoe_switch.specs.declared.switching.SwitchEvent.{SwitchEvent}
 use Rattle.master_node.specs.of_frame_view.View.{Lens}
 use Rattle.master_node.specs.of_frame_view.Seen.{seen}
 use Rattle.master_node.specs.of_life_frames.Shares.{AllBoth}
-use Rattle.life_heard.proofs.Heards.{loses}
-use Rattle.life_heard.specs.Heard.{AllNoted, brought_by, heard_in, heard_on}
+use Rattle.life_heard.specs.Heard.{heard_in}
 use Rattle.master_node.specs.of_life_runs.First.{lens_of, script_for, first_leads, leads_from}
 use Rattle.master_node.specs.of_life_runs.Led.{Exchanged, Leads, Turn, AllTurn, IsLed, IsLedFrame, IsTurn, life_behind, led_behind, gives_up_at, missed_behind, new_leads}
 use Rattle.master_node.specs.of_life_model.Lives.{Spot}
@@ -27,10 +25,10 @@ use Rattle.master_node.specs.Origins.{forwards_at}
 use Rattle.master_node.specs.Joined.{HasUnfinished, JoinsKept, stand_before, stand_under, unfinished_after}
 use Rattle.master_node.specs.Made.{AreOfMaking}
 use Rattle.master_node.specs.Ports.{ports_behind, ports_of}
-use Rattle.master_node.specs.Shows.{MasterShows, MasterUnder, IsLead, IsUnder, is_live_lead, lived_of}
+use Rattle.master_node.specs.Shows.{MasterShows, MasterUnder, IsUnder, is_live_lead, lived_of}
 use Rattle.master_node.specs.Asks.{AllAsk}
 use Rattle.master_node.specs.Toured.{tour_of, turn_share}
-use Rattle.master_node.specs.Told.{HasLeads, HasLives}
+use Rattle.master_node.specs.Told.{HasLeads, HasLives, IsTold}
 use Rattle.master_node.proofs.Lists.{both_map}
 use Rattle.master_node.specs.Wants.{gave_of, AllCounted}
 use Rattle.master_node.specs.declared.node.MasterNode.{MasterNode}
@@ -41,8 +39,8 @@ use Rattle.master_node.specs.of_master_tour.Goes.{holds_at}
 use Rattle.master_node.specs.of_master_tour.Sizes.{frame_size}
 use Rattle.master_node.specs.of_master_tour.Toured.{Tour, IsOfTour, new_tour}
 use Rattle.master_node.proofs.Counts.{counted}
-use Rattle.master_node.proofs.Quiets.{lead_lives}
-use Rattle.packets_heard.specs.Numbers.{each_with}
+use Rattle.master_node.proofs.Quiets.{lead_lives, lead_told}
+use Rattle.packets_heard.specs.Numbers.{each_with, frames_begun}
 use Rattle.packets_heard.specs.Listed.{unfinished_of}
 use Rattle.packets_heard.specs.Heard.{Joined, joined_in, joined_none, mails_by}
 use Rattle.packets_heard.proofs.Unfinished.{under_way}
@@ -82,6 +80,7 @@ use Rattle.script_runs.proofs.Turns.{turns_so}
 use Rattle.run_record.proofs.Befores.{AllBefore, turns_before, all_before}
 use Rattle.run_record.proofs.Began.{packets_first, packets_on}
 use Rattle.run_record.proofs.Forwards.{forwarded_on}
+use Rattle.run_record.proofs.Hearings.{heard_by}
 use Rattle.run_record.proofs.Nexts.{next_frame}
 use Rattle.run_record.proofs.Noted.{GivesOne, lost_gives, next_gives, noted_by, noted_now, pass_gives}
 use Rattle.run_notes.proofs.Heard.{first_heard}
@@ -103,7 +102,7 @@ new_reports script spot left all = record {
   marked = record { spans = refl; leaving = refl; up = refl };
 }
 
-first_reports : (services : List (ℕ × Plan.Service)) (number place : ℕ) (ss : List SlaveSpec) → number ≡ place → AllReport (leads_from services place ss) (first_notes services number ss)
+pub first_reports : (services : List (ℕ × Plan.Service)) (number place : ℕ) (ss : List SlaveSpec) → number ≡ place → AllReport (leads_from services place ss) (first_notes services number ss)
 first_reports services number place [] e = tt
 first_reports services number place (s ∷ ss) e = (
   new_reports _ _ (scripted services number) (all_left services number ∙ ap (λ (k : ℕ). length (script_for k services)) e),
@@ -170,11 +169,11 @@ module _ (lens : ℕ → Lens) (recover retry : ℕ) (gives : Bool) (made : ℕ)
 
   all_pass : (us : List Turn) → AllBefore made (map turned_lead us) → AllBoth (λ a b. PassesSo made a b) (map turned_lead us) (map (λ u. led_by Fates.Pass u) us)
   all_pass [] h = tt
-  all_pass (u ∷ us) h = (passes_so lens recover retry gives made f u h.0, all_pass us h.1)
+  all_pass (u ∷ us) h = (passes_so lens recover gives made f [] u h.0, all_pass us h.1)
 
   all_lose : (after : ℕ) (us : List Turn) → AllBefore made (map turned_lead us) → AllBoth (λ a b. LosesSo made a b) (map turned_lead us) (map (λ u. led_by (Fates.Lost after) u) us)
   all_lose after [] h = tt
-  all_lose after (u ∷ us) h = (loses_so lens recover retry gives made f u h.0 after, all_lose after us h.1)
+  all_lose after (u ∷ us) h = (loses_so lens recover gives made f [] u h.0 after, all_lose after us h.1)
 
 -- ONE FRAME: what the master says of it before, and of its return or loss
 module _ (m0 m1 m2 : MasterNode) (f : Exchanged) (result : Next)
@@ -240,7 +239,7 @@ module _ (m0 m1 m2 : MasterNode) (f : Exchanged) (result : Next)
           (gaves_noted r.notes) (gaves_noted r'.notes) (before ∙ l.gave) by
 
       under : HasLeads lens plan.recover m1 (map turned_lead made.0)
-      under = both_map turned_lead (λ u s. IsUnder lens plan.recover f.sent u s) (λ a s. IsLead lens plan.recover a s) (λ u s p. p.lead) made.0 m1.tour.stops.items made.2.each
+      under = both_map turned_lead (λ u s. IsUnder lens plan.recover f.sent u s) (λ a s. IsTold lens plan.recover a s) (λ u s p. record { lives = p.lead.lives; number = p.lead.number }) made.0 m1.tour.stops.items made.2.each
 
       turned_reports : AllReport (map turned_lead made.0) r.notes
       turned_reports =
@@ -251,27 +250,22 @@ module _ (m0 m1 m2 : MasterNode) (f : Exchanged) (result : Next)
       stood_before : AllBefore (length fs) (map turned_lead made.0)
       stood_before = turns_before lens plan.recover plan.retry gives (length fs) f made.1.datagrams l.leads made.0 made.1.each (all_before plan fs l.missed l.leads l.lives)
 
+      behind_told : HasLeads lens plan.recover m2 (leads made.0)
+      behind_told = lead_told lens plan.recover (leads made.0) m2.tour.stops.items shown.each
+
       told_by : (fate : Fate) → f.fate ≡ fate → AllReport (leads made.0) r'.notes
       told_by Fates.Pass e =
           let by : ReportsBy Fates.Pass (length fs) m2 r r' = subst (λ (n : ℕ). ReportsBy Fates.Pass n m2 r r') (sym counts) (subst (λ (k : Fate). ReportsBy k frame m2 r r') e told_behind) in
-          by lens plan.recover (map turned_lead made.0) (leads made.0) shown.each
+          by lens plan.recover (map turned_lead made.0) (leads made.0) behind_told
           (subst (λ (k : Fate). AllBoth (λ a b. PassesSo (length fs) a b) (map turned_lead made.0) (map (λ u. led_by lens plan.recover plan.retry gives (length fs) f k u) made.0)) (sym e) (all_pass lens plan.recover plan.retry gives (length fs) f made.0 stood_before))
           turned_reports
       told_by (Fates.Lost after) e =
           let by : ReportsBy (Fates.Lost after) (length fs) m2 r r' = subst (λ (n : ℕ). ReportsBy (Fates.Lost after) n m2 r r') (sym counts) (subst (λ (k : Fate). ReportsBy k frame m2 r r') e told_behind) in
-          by lens plan.retry (missed_behind lens plan.recover plan.retry f.fate l.missed) (map turned_lead made.0) (leads made.0)
-          (subst (λ (n : ℕ). MasterShows lens n plan.retry m2 (missed_behind lens plan.recover plan.retry f.fate l.missed) (leads made.0)) (sym recover) shown)
+          by lens (map turned_lead made.0) (leads made.0)
+          (subst (λ (n : ℕ). HasLeads lens n m2 (leads made.0)) (sym recover) behind_told)
           (subst (λ (n : ℕ). AllCounted n (leads made.0)) (sym recover) all)
           (subst (λ (k : Fate). AllBoth (λ a b. LosesSo (length fs) a b) (map turned_lead made.0) (map (λ u. led_by lens plan.recover plan.retry gives (length fs) f k u) made.0)) (sym e) (all_lose lens plan.recover plan.retry gives (length fs) f after made.0 stood_before))
           turned_reports
-
-      heard_by : (fate : Fate) → f.fate ≡ fate → AllNoted (heard_on (λ u. brought_by lens (length fs) f fate u) (heard_in l.lives) made.0) (emergencies_noted r'.notes)
-      heard_by Fates.Pass e =
-          let by : HeardBy Fates.Pass (length fs) m2 r r' = subst (λ (n : ℕ). HeardBy Fates.Pass n m2 r r') (sym counts) (subst (λ (k : Fate). HeardBy k frame m2 r r') e heard_behind) in
-          by made.0 (seen lens f.back) (heard_in l.lives) (brings e made.0 made.1 made.2) (heard_before ∙ l.heard)
-      heard_by (Fates.Lost after) e =
-          let same : emergencies_noted r'.notes ≡ emergencies_noted r.notes = subst (λ (k : Fate). HeardBy k frame m2 r r') e heard_behind in
-          loses lens (length fs) after f (heard_in l.lives) made.0 (emergencies_noted r'.notes) (same ∙ heard_before ∙ l.heard)
 
       pub leads_on : Leading plan m2 r'.notes (fs ++ f ∷ [])
       leads_on = record {
@@ -281,7 +275,7 @@ module _ (m0 m1 m2 : MasterNode) (f : Exchanged) (result : Next)
         shows = shown;
         gave = given;
         told = told_by f.fate refl;
-        heard = heard_by f.fate refl;
+        heard = heard_by lens (length fs) f m2 r r' (heard_in l.lives) made.0 (heard_before ∙ l.heard) (λ pass. brings pass made.0 made.1 made.2) (subst (λ (n : ℕ). HeardBy f.fate n m2 r r') (sym counts) heard_behind);
         toured = subst (λ (t : Tour). TouredTo plan (fs ++ f ∷ []) t (leads made.0)) (sym tour_on) toured_on;
       }
 
@@ -295,7 +289,7 @@ module _ (m0 m1 m2 : MasterNode) (f : Exchanged) (result : Next)
           (grown : b'.switch ≡ b.switch ++ (events_of m1.lan.happened ++ events_of m2.lan.happened))
           (counted : b'.switched ≡ b.switched ++ (each_with frame (events_of m1.lan.happened) ++ each_with (suc frame) (events_of m2.lan.happened))) (w : IsForwarded plan m0 l.lives b.switch b.switched)
           (stood : (switched (ports_of plan.slaves) b.switch).switch ≡ m0.lan.switch) (stands : (switched (ports_of plan.slaves) (b.switch ++ events_of m1.lan.happened)).switch ≡ m1.lan.switch)
-          (packets : PacketsNoted plan m0 notes l.lives) (kept : (k : ℕ) → forwards_at m2.posts.items k ≡ forwards_at m1.posts.items k) (few : frame + 1 < 4294967296) (many : length r.notes ≡ length notes) (begun_before : TurnsAll frame m1 (BeginsOn frame m1 notes r.notes)) (begun_behind : begun_noted r'.notes ≡ begun_noted r.notes) where
+          (packets : PacketsNoted (λ k. frames_begun l.lives k) m0 notes) (kept : (k : ℕ) → forwards_at m2.posts.items k ≡ forwards_at m1.posts.items k) (few : frame + 1 < 4294967296) (many : length r.notes ≡ length notes) (begun_before : TurnsAll frame m1 (BeginsOn frame m1 notes r.notes)) (begun_behind : begun_noted r'.notes ≡ begun_noted r.notes) where
         pub forwards_on : Forwards plan m2 r'.notes (fs ++ f ∷ []) b'
         unfolding leads_on
         forwards_on = record {

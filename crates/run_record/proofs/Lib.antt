@@ -11,6 +11,7 @@ pub mod FrameLists
 pub mod Forwards
 pub mod Gones
 pub mod Heads
+pub mod Hearings
 pub mod Leads
 pub mod Nexts
 pub mod NoPackets
@@ -21,10 +22,12 @@ pub mod Plans
 pub mod Recalling
 pub mod Replays
 pub mod Rows
+pub mod ServedBegan
 pub mod ServedForwards
 pub mod ServedGaves
 pub mod ServedPlaced
 pub mod ServedRecalls
+pub mod ServedReports
 pub mod ServedTold
 pub mod Servings
 pub mod Steps

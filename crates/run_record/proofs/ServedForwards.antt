@@ -7,11 +7,13 @@ use Rattle.eoe_switch.specs.declared.switching.SwitchEvent.{SwitchEvent}
 use Rattle.master_node.proofs.OnFrames.{served_way}
 use Rattle.master_node.specs.Arrivals.{completed_at, ComeIn}
 use Rattle.master_node.specs.Begins.{PacketsBegin}
+use Rattle.master_node.specs.Brought.{HasBrought}
 use Rattle.master_node.specs.Downs.{GoDown}
 use Rattle.master_node.specs.Eager.{recalls}
 use Rattle.master_node.specs.Happened.{HappensSo, HasHappened, events_of}
 use Rattle.master_node.specs.Joined.{HasUnfinished, IsUnfinished, JoinsKept, stand_before, stand_under, unfinished_after}
 use Rattle.master_node.specs.Made.{AreOfMaking}
+use Rattle.master_node.specs.Origins.{forwards_at}
 use Rattle.master_node.specs.Ports.{ports_behind, ports_of}
 use Rattle.master_node.specs.Rooms.{area_at}
 use Rattle.master_node.specs.ServedEager.{AllServedAsk, AllServedRecall}
@@ -29,7 +31,8 @@ use Rattle.master_node.specs.of_life_runs.Led.{Exchanged, Leads, Turn, gives_up_
 use Rattle.master_node.specs.of_master_tour.Goes.{holds_at}
 use Rattle.master_node.specs.of_master_tour.Sizes.{frame_size}
 use Rattle.master_node.specs.of_segment_model.Returned.{Returns}
-use Rattle.packets_heard.proofs.Carries.{carries_all, serves_asked}
+use Rattle.packets_heard.proofs.Carries.{carries_all, events_making, serves_asked}
+use Rattle.packets_heard.proofs.PacketsRuns.{begun_on}
 use Rattle.packets_heard.proofs.Steps.{at_switch, before_is, made_is}
 use Rattle.packets_heard.proofs.Unfinished.{joined_so, served_under_way}
 use Rattle.packets_heard.specs.Heard.{Joined, joined_none, mails_by}
@@ -38,10 +41,11 @@ use Rattle.packets_heard.specs.Recalled.{AtSwitch, IsLanOf}
 use Rattle.packets_heard.specs.Served.{serves_behind}
 use Rattle.packets_heard.specs.Servings.{AreServedBegun, ServedListed, served_joined}
 use Rattle.run_record.proofs.Forwards.{as_many}
-use Rattle.run_record.proofs.FrameLists.{FrameLists, frame_begins, frame_lists, ports_stay}
+use Rattle.run_record.proofs.FrameLists.{FrameLists, frame_begins, frame_lists, none_begins, ports_stay}
 use Rattle.run_record.proofs.Leads.{none_unfinished}
 use Rattle.run_record.proofs.ServedGaves.{serve_leads}
-use Rattle.run_record.specs.Served.{IsServedForwarded, ServeTo}
+use Rattle.run_record.specs.Served.{IsServedForwarded, ServeTo, ServedNumbered}
+use Rattle.run_record.specs.Session.{FrameEvents, numbers_over}
 use Rattle.segment_plan.specs.declared.plan.Scenario.{Scenario}
 use Rattle.segment_ring.specs.declared.wire.Fate.TheVariants as Fates
 use Rattle.served_runs.specs.Served.{Keyed, Serves, ServedTurn, IsServedFrame, IsServedLed, MayAsk, all_serve, asked_at, served_behind}
@@ -88,12 +92,14 @@ pub record FrameTells (m0 m1 m2 : MasterNode) (f : Exchanged) : Type 0 where
       HasUnfinished m1 (map stand_under (map run_turn vs)) (unfinished_of js) → HasUnfinished m2 (map stand_before (map run_lead (serves_behind lens recover retry missed made f vs))) (unfinished_after (λ u. mails_by lens f f.fate u) (map run_turn vs) (unfinished_of js))
   pub arrivals : f.fate ≡ Fates.Pass → (lens : ℕ → Lens) (recover : ℕ) (us : List Turn) (js : List Joined) → IsUnderWay lens recover m1 f.sent us → Returns (seen lens f.sent) (seen lens f.back) → HasUnfinished m1 (map stand_under us) (unfinished_of js) →
       ComeIn m1 (λ k. completed_at (seen lens f.back) us (unfinished_of js) k) m2
+  pub brought : f.fate ≡ Fates.Pass → (lens : ℕ → Lens) (recover : ℕ) (us : List Turn) → IsUnderWay lens recover m1 f.sent us → Returns (seen lens f.sent) (seen lens f.back) → HasBrought m2 us (seen lens f.back)
   pub remembers : f.fate ≡ Fates.Pass → (lens : ℕ → Lens) (recover retry missed made : ℕ) (vs : List ServedTurn) → ServedUnder lens recover retry m1 f.sent missed made vs → Returns (seen lens f.sent) (seen lens f.back) → AllServedAsk (seen lens f.sent) (recalls m1) (map run_turn vs) →
       AllServedRecall lens (seen lens f.back) (λ v. served_behind lens recover retry (gives_up_at lens recover retry missed) made f v) vs (recalls m1) (recalls m2)
   pub stays : (after : ℕ) → f.fate ≡ Fates.Lost after → (lens : ℕ → Lens) (recover retry missed made : ℕ) (vs : List ServedTurn) → ServedUnder lens recover retry m1 f.sent missed made vs →
       AllServedRecall lens [] (λ v. served_behind lens recover retry (gives_up_at lens recover retry missed) made f v) vs (recalls m1) (recalls m2)
   pub leaves : (after : ℕ) → f.fate ≡ Fates.Lost after → (lens : ℕ → Lens) (recover retry missed made : ℕ) (vs : List ServedTurn) → ServedUnder lens recover retry m1 f.sent missed made vs →
       GoDown m1 (map run_turn vs) (map run_lead (serves_behind lens recover retry missed made f vs)) m2
+  pub counts : (k : ℕ) → forwards_at m2.posts.items k ≡ forwards_at m1.posts.items k
 
 -- ONE FRAME: what the master had of its slaves' packets before, and what it says of the frame
 module _ (plan : Scenario) (fs : List Exchanged) (missed : ℕ) (ws : List Serves) (lives : ServeTo plan fs missed ws) (f : Exchanged) (vs : List ServedTurn) (frame : IsServedFrame (lens_of plan.slaves) (length fs) f.sent ws vs)
@@ -138,8 +144,8 @@ module _ (plan : Scenario) (fs : List Exchanged) (missed : ℕ) (ws : List Serve
   abbrev more : List Happening
   more = rows ++ (m1.lan.happened ++ m2.lan.happened)
 
-  events : events_of more ≡ events_of rows ++ (events_of m1.lan.happened ++ events_of m2.lan.happened)
-  events = map-append (λ (r : Happening). r.event) rows (m1.lan.happened ++ m2.lan.happened) ∙ ap (λ z. events_of rows ++ z) (map-append (λ (r : Happening). r.event) m1.lan.happened m2.lan.happened)
+  pub served_events : events_of more ≡ events_of rows ++ (events_of m1.lan.happened ++ events_of m2.lan.happened)
+  served_events = map-append (λ (r : Happening). r.event) rows (m1.lan.happened ++ m2.lan.happened) ∙ ap (λ z. events_of rows ++ z) (map-append (λ (r : Happening). r.event) m1.lan.happened m2.lan.happened)
 
   made : HasHappened many plan.host (rows ++ m1.lan.happened) m1.lan
   made = x.makes many plan.host rows w.happened
@@ -154,17 +160,32 @@ module _ (plan : Scenario) (fs : List Exchanged) (missed : ℕ) (ws : List Serve
   served_forwarded_on = record {
     ports = ports_stay plan f us behind js m1 m2 lists;
     unfinished = subst (λ z. HasUnfinished m2 (map stand_before behind) z) (sym (joined_so lens f js us (as_many us js m1.tour.stops.items half))) (x.joined lens plan.recover plan.retry missed (length fs) vs js under back half);
-    listed = subst (λ (z : List SwitchEvent). ServedListed ports (IsServedLed.on fs missed ws f vs lives frame) z) (sym events)
+    listed = subst (λ (z : List SwitchEvent). ServedListed ports (IsServedLed.on fs missed ws f vs lives frame) z) (sym served_events)
         (frame_lists plan f us behind js m1 m2 lists (λ old. ServedListed ports lives old) (events_of rows) w.listed);
-    begun = subst (λ (z : List SwitchEvent). AreServedBegun ports many (IsServedLed.on fs missed ws f vs lives frame) z) (sym events)
+    begun = subst (λ (z : List SwitchEvent). AreServedBegun ports many (IsServedLed.on fs missed ws f vs lives frame) z) (sym served_events)
         (frame_begins plan f us behind js m1 m2 lists (λ old. AreServedBegun ports many lives old) (events_of rows) w.begun begins_so stands);
     happened = subst (λ z. HasHappened many plan.host z m2.lan) (append_assoc rows m1.lan.happened m2.lan.happened) (x.tells many plan.host (rows ++ m1.lan.happened) made);
   }
 
+  -- EACH EVENT HAS ITS NUMBER
+  abbrev happened : FrameEvents
+  happened = record { making = events_of m1.lan.happened; behind = events_of m2.lan.happened }
+
+  pub served_numbered_on : (ns : List ℕ) → ServedNumbered ports many lives (events_of rows) ns → ServedNumbered ports many (IsServedLed.on fs missed ws f vs lives frame) (events_of more) (ns ++ numbers_over (length fs) happened)
+  unfolding begun_on
+  served_numbered_on ns old = subst (λ (z : List SwitchEvent). ServedNumbered ports many (IsServedLed.on fs missed ws f vs lives frame) z (ns ++ numbers_over (length fs) happened)) (sym served_events) (record {
+    step = begun_on (λ old. AreServedBegun ports many lives old) ports many us m1.lan m2.lan (events_of rows) (events_of m2.lan.happened) w.begun lists.ports begins_so stands (none_begins plan f us behind js m1 m2 lists);
+    listed_old = w.listed;
+    numbers = ns;
+    was = old;
+    only = events_making m1.lan.happened x.making.1;
+    counted = refl;
+  })
+
   -- WHAT HAPPENED AT THE SWITCH while the frame was made, and behind it
   pub happened_so : (at : AtSwitch plan f us (events_of rows) (events_of more)) × (at.making ≡ events_of m1.lan.happened)
   happened_so =
-      at_switch plan m0 m1 m2 f us (unfinished_of js) (events_of rows) (events_of more) w.ports x.making w.happened.switch stands visit.packets (λ pass. x.arrivals pass lens plan.recover us js (served_way lens plan.recover plan.retry missed f.sent m1 (length fs) vs under) (back pass) half) events
+      at_switch plan m0 m1 m2 f us (unfinished_of js) (events_of rows) (events_of more) w.ports x.making w.happened.switch stands visit.packets (λ pass. x.arrivals pass lens plan.recover us js (served_way lens plan.recover plan.retry missed f.sent m1 (length fs) vs under) (back pass) half) served_events
 
   pub lan_before : IsLanOf plan m0.lan (events_of rows)
   lan_before = before_is plan m0 m1 m2 f us (unfinished_of js) (events_of rows) (events_of more) w.ports x.making w.happened.switch stands

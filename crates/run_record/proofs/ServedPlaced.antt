@@ -1,5 +1,5 @@
 -- NO MORE OF A SCRIPT CAME INTO HAND than it has, over the frames of a serving.
-use Rattle.std.proofs.Common.{◌≡◌, ◌≤◌, ℕ, Bool, Option, Some, List, [], ◌∷◌, map, length, sym, subst}
+use Rattle.std.proofs.Common.{◌≤◌, ℕ, Bool, Option, Some, List, [], ◌∷◌, map, length, sym, subst}
 use Rattle.datagrams.specs.Datagram as Raw
 use Rattle.master_node.proofs.Counts.{one_placed, placed}
 use Rattle.master_node.proofs.Servings.{leads_same}

@@ -4,7 +4,9 @@ use Rattle.std.specs.Prelude.{◌↔◌, replicate}
 use Rattle.std.proofs.lemmas.List.{length-map}
 use Rattle.datagrams.specs.Datagram as Raw
 use Rattle.datagrams.specs.Frame.{chained}
+use Rattle.life_heard.specs.Heard.{AllNoted, emergencies_of, heard_none}
 use Rattle.mailbox_mail.specs.declared.mail.Mail.{Mail}
+use Rattle.master_node.proofs.OnFrames.{served_way}
 use Rattle.master_node.proofs.Servings.{keyed, leads_same}
 use Rattle.master_node.specs.Events.{ServedBegin}
 use Rattle.master_node.specs.Eager.{recalls}
@@ -18,13 +20,12 @@ use Rattle.master_node.specs.Origins.{forwards_at}
 use Rattle.master_node.specs.Ports.{ports_behind, ports_of}
 use Rattle.master_node.specs.Recalled.{AllKnow}
 use Rattle.master_node.specs.Rooms.{FitAgain}
-use Rattle.master_node.specs.Serving.{FitsAt, IsAsked, IsServed, ServedShows, ServedUnder, run_lead}
+use Rattle.master_node.specs.Serving.{FitsAt, IsAsked, IsServed, ServedShows, ServedUnder, run_lead, run_turn}
 use Rattle.master_node.specs.Shows.{GoesOn, lived_of}
 use Rattle.master_node.specs.Told.{HasLives}
 use Rattle.master_node.specs.Toured.{tour_of}
 use Rattle.master_node.specs.Touring.{IsServedVisit}
 use Rattle.master_node.specs.of_master_tour.Toured.{Tour, new_tour}
-use Rattle.master_node.proofs.Toureds.{tour_by}
 use Rattle.master_node.specs.Wants.{AllCounted, gave_of}
 use Rattle.master_node.specs.declared.node.MasterNode.{MasterNode}
 use Rattle.master_node.specs.declared.node.Next.{Next}
@@ -42,24 +43,35 @@ use Rattle.master_node.specs.of_master_tour.declared.stop.Stop.{Stop}
 use Rattle.master_node.specs.of_segment_model.Returned.{Returns}
 use Rattle.ring_returns.proofs.Returned as Returned
 use Rattle.run_book.specs.declared.book.SentFrame.{SentFrame}
+use Rattle.run_notes.proofs.Heard.{first_heard}
+use Rattle.run_notes.specs.Heard.{HeardBy, emergencies_noted}
+use Rattle.run_notes.specs.Packets.{BeginsOn, begun_noted}
+use Rattle.run_notes.specs.Reports.{AllReport, ReportsBy, ReportsOn, TurnsAll}
+use Rattle.run_notes.specs.declared.notes.Notes.{Notes}
+use Rattle.script_runs.specs.Answers.{turned}
 use Rattle.run_notes.specs.Slaves.{GaveBy, first_notes, gaves_noted}
 use Rattle.run_notes.specs.declared.standing.AskedMail.{AskedMail}
 use Rattle.run_notes.specs.declared.standing.Log.{Log}
+use Rattle.run_record.specs.Forwarded.{PacketsNoted}
 use Rattle.run_record.specs.Led.{exchanged}
 use Rattle.run_record.specs.Recalling.{state_of}
 use Rattle.run_record.specs.Replay.{IsRecorded, behind as behind_ring, first_ring}
 use Rattle.packets_heard.specs.Recalled.{State}
 use Rattle.packets_heard.specs.Served.{IsTourServed, serves_behind}
 use Rattle.packets_heard.specs.Toured.{tour_behind}
-use Rattle.run_record.specs.Served.{ServedLeading, ServedTouredTo, Serving, ServesOn, ServingAsks, ServingGoesOn, TellsBehind, as_asked}
-use Rattle.run_record.specs.Session.{IsDone, SessionState, asked_mail, asked_more, has_live}
+use Rattle.run_record.specs.Served.{ServedLeading, Serving, ServesOn, ServingAsks, ServingGoesOn, TellsBehind, as_asked, served_begun, served_heard}
+use Rattle.run_record.specs.Session.{FrameEvents, IsDone, SessionState, asked_mail, asked_more, has_live, numbers_over}
+use Rattle.run_record.proofs.Began.{packets_first}
 use Rattle.run_record.proofs.Fits.{has_room, home_fits}
-use Rattle.run_record.proofs.Leads.{first_gaves}
+use Rattle.run_record.proofs.Hearings.{heard_by}
+use Rattle.run_record.proofs.Leads.{first_gaves, first_reports}
 use Rattle.run_record.proofs.Nexts.{next_frame}
 use Rattle.run_record.proofs.Noted.{GivesOne, noted_by, noted_now}
-use Rattle.run_record.proofs.ServedForwards.{FrameTells, served_asked, served_first, served_forwarded_on, served_stays}
+use Rattle.run_record.proofs.ServedBegan.{packets_stay, served_packets}
+use Rattle.run_record.proofs.ServedForwards.{FrameTells, served_asked, served_events, served_first, served_forwarded_on, served_numbered_on, served_stays}
 use Rattle.run_record.proofs.ServedGaves.{all_give, has_lives, serve_leads, served_counted}
 use Rattle.run_record.proofs.ServedRecalls.{Recalled, recalled_asked, recalled_at, recalled_first, recalled_stays}
+use Rattle.run_record.proofs.ServedReports.{all_turn, before_turned, served_before, shows_told, told_by, way_told}
 use Rattle.run_record.proofs.ServedTold.{tells_frame}
 use Rattle.segment_plan.specs.declared.plan.Scenario.{Scenario}
 use Rattle.segment_plan.specs.declared.service.Service as Plan
@@ -100,8 +112,8 @@ first_same g t h [] rows place (s ∷ ss) = λ i. h 1 (new_leads (script_for pla
 first_same g t h (p ∷ ps) rows place (s ∷ ss) = λ i. h p (new_leads (script_for place rows) (spot_of place s)) i ∷ first_same g t h ps rows (suc place) ss i
 
 pub serving_begins : (plan : Scenario) (s : SessionState) → s.notes ≡ first_notes plan.services 0 plan.slaves → ServedShows (lens_of plan.slaves) plan.recover plan.retry s.master 0 0 (all_serve plan.paces (first_leads plan)) → s.asked ≡ replicate (length plan.slaves) [] → s.waiting ≡ replicate (length plan.slaves) 0 → tour_of s.master ≡ new_tour →
-    s.master.lan.ports.items ≡ ports_behind 0 plan.slaves → HasUnfinished s.master (map stand_before (first_leads plan)) (map (λ spec. None) plan.slaves) → HasHappened (ports_of plan.slaves) plan.host [] s.master.lan → AllKnow (recalls s.master) → s.ring ≡ first_ring plan → Serving plan s []
-serving_begins plan s notes shown none still tour ports joined happened knows ring =
+    s.master.lan.ports.items ≡ ports_behind 0 plan.slaves → HasUnfinished s.master (map stand_before (first_leads plan)) (map (λ spec. None) plan.slaves) → HasHappened (ports_of plan.slaves) plan.host [] s.master.lan → AllKnow (recalls s.master) → s.ring ≡ first_ring plan → ((k : ℕ) → forwards_at s.master.posts.items k ≡ 0) → Serving plan s []
+serving_begins plan s notes shown none still tour ports joined happened knows ring counts =
     let r = recalled_first plan s.master s.ring tour knows ring in
     record {
       leading = record {
@@ -112,10 +124,16 @@ serving_begins plan s notes shown none still tour ports joined happened knows ri
         toured = r.0;
       };
       gave = ap gaves_noted notes ∙ first_gaves plan.services 0 0 plan.slaves ∙ ap (map gave_of) (sym (serve_leads plan.paces (first_leads plan)));
+      told = subst (λ (as' : List Leads). AllReport as' s.notes) (sym (serve_leads plan.paces (first_leads plan)))
+          (subst (λ (ns : List Notes). AllReport (first_leads plan) ns) (sym notes) (first_reports plan.services 0 0 plan.slaves refl));
+      heard = ap emergencies_noted notes ∙ first_heard plan.services 0 0 plan.slaves ∙ ap (λ (as' : List Leads). map emergencies_of (heard_none as')) (sym (serve_leads plan.paces (first_leads plan)));
       asked = first_same mails_of [] (λ pace a. refl) plan.paces plan.services 0 plan.slaves ∙ sym none;
       waiting = first_same left_of 0 (λ pace a. refl) plan.paces plan.services 0 plan.slaves ∙ sym still;
       rows = [];
       forwarded = served_first plan s.master ports joined happened;
+      numbers = [];
+      numbered = (refl, refl);
+      packets = packets_first plan s.master s.notes counts notes;
       remembers = r.1;
     }
 
@@ -154,8 +172,8 @@ asked_rows key (suc place) mail k (w ∷ ws) i = ap (λ z. mails_of w ∷ z) (as
 one_asked : (s s' : SessionState) (slave key : ℕ) (mail : Mail) →
     ((lens : ℕ → Lens) (recover retry missed made : ℕ) (ws : List Serves) → waiting_at s.master.posts.items slave < 64 → FitsAt lens slave (length mail.body.items) ws → ServedShows lens recover retry s.master missed made ws →
     (k : Keyed) × IsAsked key mail k × MayAsk lens slave k ws × ServedShows lens recover retry s'.master missed made (asked_at slave k ws)) →
-    waiting_at s.master.posts.items slave ≢ 64 → s'.master.tour ≡ s.master.tour → s'.master.lan ≡ s.master.lan → s'.ring ≡ s.ring → s'.asked ≡ asked_more s.asked slave (asked_mail key mail) → s'.waiting ≡ map waiting_of s'.master.posts.items → s'.notes ≡ s.notes → ServingAsks slave key mail s s' true
-one_asked s s' slave key mail served apart tour lan ring asked waiting notes = λ plan fs home is there fits old.
+    waiting_at s.master.posts.items slave ≢ 64 → s'.master.tour ≡ s.master.tour → s'.master.lan ≡ s.master.lan → s'.ring ≡ s.ring → s'.asked ≡ asked_more s.asked slave (asked_mail key mail) → s'.waiting ≡ map waiting_of s'.master.posts.items → s'.notes ≡ s.notes → ((k : ℕ) → forwards_at s'.master.posts.items k ≡ forwards_at s.master.posts.items k) → ServingAsks slave key mail s s' true
+one_asked s s' slave key mail served apart tour lan ring asked waiting notes counts = λ plan fs home is there fits old.
     let lens = lens_of plan.slaves in
     let l = old.leading in
     let room = has_room plan fs l.missed slave s.master.posts.items l.serves l.lives (shown_wait lens plan.recover plan.retry l.missed (length fs) s.master l.serves l.shows) apart in
@@ -175,23 +193,30 @@ one_asked s s' slave key mail served apart tour lan ring asked waiting notes = �
           toured = r.0;
         };
         gave = ap gaves_noted notes ∙ old.gave ∙ ap (map gave_of) (sym (leads_same (λ a. a) slave more.0 l.serves));
+        told = subst (λ (as' : List Leads). AllReport as' s'.notes) (sym (leads_same (λ a. a) slave more.0 l.serves)) (subst (λ (ns : List Notes). AllReport (map run_lead l.serves) ns) (sym notes) old.told);
+        heard = ap emergencies_noted notes ∙ old.heard;
         asked = asked_rows key slave mail more.0 l.serves more.1 ∙ ap (λ z. asked_more z slave (asked_mail key mail)) old.asked ∙ sym asked;
         waiting = shown_wait lens plan.recover plan.retry l.missed (length fs) s'.master (asked_at slave more.0 l.serves) more.3 ∙ sym waiting;
         rows = old.rows;
+        numbers = old.numbers;
+        numbered = old.numbered;
+        packets = packets_stay (λ k. served_begun l.lives k) s.master s'.master s.notes s'.notes counts notes old.packets;
         forwarded = served_asked plan fs l.missed l.serves l.lives slave more.0 more.2 s'.master old.rows (leads_same (λ a. a) slave more.0 l.serves)
             (served_stays plan fs l.missed l.serves l.lives s.master s'.master old.rows tour lan old.forwarded);
         remembers = r.1;
       };
       missed = refl;
       serves = refl;
+      rows = refl;
+      numbers = refl;
     }
 
 pub serving_asks : (t s s' : SessionState) (slave key : ℕ) (mail : Mail) → t ≡ s →
     ((lens : ℕ → Lens) (recover retry missed made : ℕ) (ws : List Serves) → waiting_at t.master.posts.items slave < 64 → FitsAt lens slave (length mail.body.items) ws → ServedShows lens recover retry t.master missed made ws →
     (k : Keyed) × IsAsked key mail k × MayAsk lens slave k ws × ServedShows lens recover retry s'.master missed made (asked_at slave k ws)) →
-    waiting_at t.master.posts.items slave ≢ 64 → s'.master.tour ≡ t.master.tour → s'.master.lan ≡ t.master.lan → s'.ring ≡ t.ring → s'.asked ≡ asked_more s.asked slave (asked_mail key mail) → s'.waiting ≡ map waiting_of s'.master.posts.items → s'.notes ≡ t.notes → ServingAsks slave key mail s s' true
-serving_asks t s s' slave key mail view served apart tour lan ring asked waiting notes =
-    subst (λ (z : SessionState). ServingAsks slave key mail z s' true) view (one_asked t s' slave key mail served apart tour lan ring (asked ∙ ap (λ (z : SessionState). asked_more z.asked slave (asked_mail key mail)) (sym view)) waiting notes)
+    waiting_at t.master.posts.items slave ≢ 64 → s'.master.tour ≡ t.master.tour → s'.master.lan ≡ t.master.lan → s'.ring ≡ t.ring → s'.asked ≡ asked_more s.asked slave (asked_mail key mail) → s'.waiting ≡ map waiting_of s'.master.posts.items → s'.notes ≡ t.notes → ((k : ℕ) → forwards_at s'.master.posts.items k ≡ forwards_at t.master.posts.items k) → ServingAsks slave key mail s s' true
+serving_asks t s s' slave key mail view served apart tour lan ring asked waiting notes counts =
+    subst (λ (z : SessionState). ServingAsks slave key mail z s' true) view (one_asked t s' slave key mail served apart tour lan ring (asked ∙ ap (λ (z : SessionState). asked_more z.asked slave (asked_mail key mail)) (sym view)) waiting notes counts)
 
 -- NONE: its posts and its tour stay
 all_stay : {S : Type 0} (i : ℕ) (xs ys : List S) → StepsAt (λ x y. y ≡ x) i xs ys → ys ≡ xs
@@ -226,14 +251,21 @@ none_asked s s' slave key mail tour lan ring number stays asked waiting notes = 
       new = record {
         leading = record { missed = l.missed; serves = l.serves; lives = l.lives; shows = shown; toured = r.0 };
         gave = ap gaves_noted notes ∙ old.gave;
+        told = subst (λ (ns : List Notes). AllReport (map run_lead l.serves) ns) (sym notes) old.told;
+        heard = ap emergencies_noted notes ∙ old.heard;
         asked = old.asked ∙ sym asked;
         waiting = shown_wait lens plan.recover plan.retry l.missed (length fs) s'.master l.serves shown ∙ sym waiting;
         rows = old.rows;
+        numbers = old.numbers;
+        numbered = old.numbered;
+        packets = packets_stay (λ k. served_begun l.lives k) s.master s'.master s.notes s'.notes (λ k. ap (λ z. forwards_at z k) (all_stay slave s.master.posts.items s'.master.posts.items stays)) notes old.packets;
         forwarded = served_stays plan fs l.missed l.serves l.lives s.master s'.master old.rows tour lan old.forwarded;
         remembers = r.1;
       };
       missed = refl;
       serves = refl;
+      rows = refl;
+      numbers = refl;
     }
 
 pub serving_stays : (t s s' : SessionState) (slave key : ℕ) (mail : Mail) → t ≡ s → s'.master.tour ≡ t.master.tour → s'.master.lan ≡ t.master.lan → s'.ring ≡ t.ring → s'.master.made ≡ t.master.made → StepsAt (λ p q. q ≡ p) slave t.master.posts.items s'.master.posts.items →
@@ -252,6 +284,9 @@ module _ (s s' : SessionState) (m : MasterNode) (f : Exchanged) (result : Next) 
     (whole : listed s'.master.list.rows.items s'.master.list.count ≡ events_in m ++ events_in s'.master) (told : TellsBehind f.fate f.back m s'.master)
     (fate : f.fate ≡ fate_at s.ring.lose s.ring.number) (back : f.back ≡ ring_returned node_passed s.ring f.sent) (few : suc s.ring.number < 2 ^ 32) (asked : s'.asked ≡ s.asked) (waiting : s'.waiting ≡ map waiting_of s'.master.posts.items)
     (r r' : Log) (same : r.recover ≡ s.recover) (before : gaves_noted r.notes ≡ gaves_noted s.notes) (after : s'.notes ≡ r'.notes) (noted : GaveBy f.fate s.ring.number s'.master r r')
+    (told_before : TurnsAll s.ring.number m (ReportsOn s.notes r.notes)) (told_behind : ReportsBy f.fate s.ring.number s'.master r r')
+    (heard_before : emergencies_noted r.notes ≡ emergencies_noted s.notes) (heard_behind : HeardBy f.fate s.ring.number s'.master r r')
+    (begun_before : TurnsAll s.ring.number m (BeginsOn s.ring.number m s.notes r.notes)) (begun_behind : begun_noted r'.notes ≡ begun_noted r.notes) (many : length r.notes ≡ length s.notes)
     (plan : Scenario) (fs : List Exchanged) (recover : s.recover ≡ plan.recover) (number : length fs ≡ s.ring.number) (live : has_live s.master ≡ true) (busy : IsDone s → ⊥) (on_ring : s'.ring ≡ behind_ring s.ring f.sent) (old : Serving plan s fs) where
   abbrev lens : ℕ → Lens
   lens = lens_of plan.slaves
@@ -311,6 +346,10 @@ module _ (s s' : SessionState) (m : MasterNode) (f : Exchanged) (result : Next) 
   remembered =
       subst (λ (t : Tour). Recalled plan (fs ++ f ∷ []) t behind state) (sym tour_on) (subst (λ (n : ℕ). Recalled plan (fs ++ f ∷ []) (tour n) (on n) state) l.shows.missed_is first_on)
 
+  -- what happened at its switch
+  abbrev happened : FrameEvents
+  happened = record { making = events_of m.lan.happened; behind = events_of s'.master.lan.happened }
+
   -- what is noted of give-ups
   gave : gaves_noted s'.notes ≡ map gave_of (map run_lead behind)
   gave =
@@ -321,18 +360,51 @@ module _ (s s' : SessionState) (m : MasterNode) (f : Exchanged) (result : Next) 
       ∙ noted_now f.fate s.ring.number (map gave_of (map run_lead l.serves)) (map gave_of (map run_lead behind)) (subst (λ (n : ℕ). AllBoth (λ o k. GivesOne f.fate n o k) (map gave_of (map run_lead l.serves)) (map gave_of (map run_lead behind))) number give)
       (gaves_noted r.notes) (gaves_noted r'.notes) (before ∙ old.gave) (noted_by f.fate s.ring.number s'.master r r' lens (map run_lead behind) noted here all)
 
+  -- of the packets that came into hand
+  packets : PacketsNoted (λ k. served_begun lives k) s'.master s'.notes
+  packets =
+      served_packets plan fs l.missed l.serves l.lives f made.0 made.1 s.master m s'.master s.notes r.notes s'.notes old.packets made.3 switch.counts (omega (arith, number, few)) many (ap begun_noted after ∙ begun_behind)
+      ((subst (λ (n : ℕ). TurnsAll n m (BeginsOn n m s.notes r.notes)) (sym number) begun_before) lens plan.recover (map run_lead l.serves) (map turned (map run_turn made.0))
+      (way_told lens plan.recover plan.retry l.missed (length fs) m f.sent made.0 made.2) (all_turn lens (length fs) made.1.datagrams l.serves made.0 made.1.each)) old.told
+
+  -- of its services and epochs
+  reports : AllReport (map turned (map run_turn made.0)) r.notes
+  reports =
+      (subst (λ (n : ℕ). TurnsAll n m (ReportsOn s.notes r.notes)) (sym number) told_before) lens plan.recover (map run_lead l.serves) (map turned (map run_turn made.0))
+      (way_told lens plan.recover plan.retry l.missed (length fs) m f.sent made.0 made.2) (all_turn lens (length fs) made.1.datagrams l.serves made.0 made.1.each) old.told
+
+  told_on : AllReport (map run_lead behind) s'.notes
+  told_on =
+      subst (λ (ns : List Notes). AllReport (map run_lead behind) ns) (sym after)
+      (told_by lens plan.recover plan.retry gives (length fs) f s'.master r r' made.0 (same ∙ recover) (shows_told lens plan.recover plan.retry missed (suc (length fs)) s'.master behind shown)
+      (served_counted plan (fs ++ f ∷ []) missed behind lives) (before_turned lens (length fs) made.1.datagrams l.serves made.0 made.1.each (served_before plan fs l.missed l.serves l.lives))
+      (subst (λ (n : ℕ). ReportsBy f.fate n s'.master r r') (sym number) told_behind) reports)
+
+  -- and of emergencies
+  heard : AllNoted (served_heard lives) (emergencies_noted s'.notes)
+  heard =
+      ap emergencies_noted after
+      ∙ heard_by lens (length fs) f s'.master r r' (served_heard l.lives) (map run_turn made.0) (heard_before ∙ old.heard)
+      (λ pass. switch.brought pass lens plan.recover (map run_turn made.0) (served_way lens plan.recover plan.retry l.missed f.sent m (length fs) made.0 made.2) (returned pass))
+      (subst (λ (n : ℕ). HeardBy f.fate n s'.master r r') (sym number) heard_behind)
+
   goes : Serving plan s' (fs ++ f ∷ [])
   goes = record {
     leading = record { missed = missed; serves = behind; lives = lives; shows = subst (λ (n : ℕ). ServedShows lens plan.recover plan.retry s'.master missed n behind) (one_more fs f) shown; toured = remembered.0 };
     gave = gave;
+    told = told_on;
+    heard = heard;
     asked = behind_mails lens plan.recover plan.retry gives (length fs) f made.0 ∙ turned_mails lens (length fs) made.1.datagrams l.serves made.0 made.1.each ∙ old.asked ∙ sym asked;
     waiting = shown_wait lens plan.recover plan.retry missed (suc (length fs)) s'.master behind shown ∙ sym waiting;
     rows = old.rows ++ (m.lan.happened ++ s'.master.lan.happened);
+    numbers = old.numbers ++ numbers_over (length fs) happened;
+    numbered = served_numbered_on plan fs l.missed l.serves l.lives f made.0 made.1 s.master m s'.master made.2 made.4 returned switch old.rows old.forwarded old.numbers old.numbered;
+    packets = packets;
     forwarded = served_forwarded_on plan fs l.missed l.serves l.lives f made.0 made.1 s.master m s'.master made.2 made.4 returned switch old.rows old.forwarded;
     remembers = remembered.1;
   }
 
-  pub on_frame : ServesOn plan s s' fs f old
+  pub on_frame : ServesOn plan s s' happened fs f old
   unfolding goes
   on_frame = record {
     turns = made.0;
@@ -341,6 +413,8 @@ module _ (s s' : SessionState) (m : MasterNode) (f : Exchanged) (result : Next) 
     new = goes;
     missed = refl;
     serves = refl;
+    events = served_events plan fs l.missed l.serves l.lives f made.0 made.1 s.master m s'.master made.2 made.4 returned switch old.rows old.forwarded;
+    numbers = refl;
     tells = tells_frame lens plan.recover plan.retry l.missed (length fs) (λ k. forwards_at s.master.posts.items k) m s'.master f l.serves behind made.0 made.3 made.2 whole (told lens plan.recover plan.retry l.missed (length fs) made.0 f refl refl made.2 returned);
   }
 
@@ -352,7 +426,8 @@ pub serving_on : (t s s' : SessionState) (m : MasterNode) (f : SentFrame) (resul
     ((lens : ℕ → Lens) (recover : ℕ) (as' : List Leads) → HasLives lens recover s'.master (map lived_of as') → tour_of s'.master ≡ tour_behind m.tour.retry f.fate as' (tour_of m) m.tour.visit.items) → FrameTells t.master m s'.master (exchanged f) →
     listed s'.master.list.rows.items s'.master.list.count ≡ events_in m ++ events_in s'.master → TellsBehind f.fate f.back m s'.master →
     IsRecorded t.ring f → suc t.ring.number < 2 ^ 32 → s'.asked ≡ t.asked → s'.waiting ≡ map waiting_of s'.master.posts.items →
-    (r r' : Log) → r.recover ≡ t.recover → gaves_noted r.notes ≡ gaves_noted t.notes → s'.notes ≡ r'.notes → GaveBy f.fate t.ring.number s'.master r r' → s'.ring ≡ behind_ring t.ring f.sent → ServingGoesOn s s' f
-serving_on t s s' m f result view idle serves served tours switch whole told recorded few asked waiting r r' same before after noted ring =
-    subst (λ (z : SessionState). ServingGoesOn z s' f) view
-    (λ plan fs recover number live busy old. on_frame t s' m (exchanged f) result idle serves served tours switch whole told recorded.fate recorded.back few asked waiting r r' same before after noted plan fs recover number live busy ring old)
+    (r r' : Log) → r.recover ≡ t.recover → gaves_noted r.notes ≡ gaves_noted t.notes → s'.notes ≡ r'.notes → GaveBy f.fate t.ring.number s'.master r r' → TurnsAll t.ring.number m (ReportsOn t.notes r.notes) → ReportsBy f.fate t.ring.number s'.master r r' → emergencies_noted r.notes ≡ emergencies_noted t.notes → HeardBy f.fate t.ring.number s'.master r r' →
+    TurnsAll t.ring.number m (BeginsOn t.ring.number m t.notes r.notes) → begun_noted r'.notes ≡ begun_noted r.notes → length r.notes ≡ length t.notes → s'.ring ≡ behind_ring t.ring f.sent → ServingGoesOn s s' (record { making = events_of m.lan.happened; behind = events_of s'.master.lan.happened }) f
+serving_on t s s' m f result view idle serves served tours switch whole told recorded few asked waiting r r' same before after noted told_before told_behind heard_before heard_behind begun_before begun_behind many ring =
+    subst (λ (z : SessionState). ServingGoesOn z s' (record { making = events_of m.lan.happened; behind = events_of s'.master.lan.happened }) f) view
+    (λ plan fs recover number live busy old. on_frame t s' m (exchanged f) result idle serves served tours switch whole told recorded.fate recorded.back few asked waiting r r' same before after noted told_before told_behind heard_before heard_behind begun_before begun_behind many plan fs recover number live busy ring old)

@@ -24,13 +24,13 @@ pub record IsForwarded (plan : Scenario) (m : MasterNode) {fs : List Exchanged} 
   pub begun : BeginsAll plan lives es
   pub numbered : NumbersAll plan lives es ns
 
--- THE PACKETS THAT CAME INTO HAND over these frames: so many its master has counted of each slave, and just these are noted
-pub record PacketsNoted (plan : Scenario) (m : MasterNode) (notes : List Notes) {fs : List Exchanged} {missed : ℕ} {leads : List Leads} (lives : LeadTo plan fs missed leads) : Type 0 where
-  pub counts : (k : ℕ) → forwards_at m.posts.items k ≡ length (frames_begun lives k)
-  pub rows : AreNumbered (λ k. frames_begun lives k) (begun_noted notes)
+-- THE PACKETS THAT CAME INTO HAND before these frames of each slave: so many its master has counted, and just these are noted, numbered
+pub record PacketsNoted (frames : ℕ → List ℕ) (m : MasterNode) (notes : List Notes) : Type 0 where
+  pub counts : (k : ℕ) → forwards_at m.posts.items k ≡ length (frames k)
+  pub rows : AreNumbered frames (begun_noted notes)
 
 -- A MASTER THAT LEADS, and its book
 pub record Forwards (plan : Scenario) (m : MasterNode) (notes : List Notes) (fs : List Exchanged) (b : Book) : Type 0 where
   pub leading : Leading plan m notes fs
   pub forwarded : IsForwarded plan m leading.lives b.switch b.switched
-  pub packets : PacketsNoted plan m notes leading.lives
+  pub packets : PacketsNoted (λ k. frames_begun leading.lives k) m notes

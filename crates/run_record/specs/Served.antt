@@ -1,6 +1,7 @@
 -- THE FRAMES OF A SERVING ARE LED by its master: each is just what the lives of the slaves ask for, from the plan's new lives on, with the mails that are asked
 -- between the frames.
-use Rattle.std.specs.Prelude.{◌≡◌, ◌≤◌, ◌+◌, ℕ, Bool, true, false, None, Some, List, [], ◌∷◌, ◌++◌, length, map, filter, slice_get, All}
+use Rattle.std.specs.Prelude.{◌≡◌, ◌≤◌, ◌+◌, ℕ, Bool, true, false, Option, None, Some, List, [], ◌∷◌, ◌++◌, length, map, filter, slice_get, All}
+use Rattle.life_heard.specs.Heard.{Accepted, AllNoted, brought_by, heard_none, heard_on}
 use Rattle.mailbox_mail.specs.declared.mail.Mail.{Mail}
 use Rattle.master_node.specs.Begins.{begun_of}
 use Rattle.master_node.specs.Events.{served_tells}
@@ -27,17 +28,23 @@ use Rattle.master_node.specs.of_master_tour.Made.{is_in}
 use Rattle.master_node.specs.of_master_tour.Orders.{AreOnce}
 use Rattle.master_node.specs.of_master_tour.Toured.{Tour}
 use Rattle.master_node.specs.Toured.{tour_of}
+use Rattle.eoe_switch.specs.declared.switching.SwitchEvent.{SwitchEvent}
 use Rattle.packets_heard.specs.Listed.{unfinished_of}
+use Rattle.packets_heard.specs.Numbers.{NumberedOn, each_with}
+use Rattle.packets_heard.specs.Over.{packet_begun}
 use Rattle.packets_heard.specs.Served.{IsTourServed}
 use Rattle.master_node.specs.of_segment_model.Returned.{Returns}
 use Rattle.packets_heard.specs.ServedRecalled.{ServedRecalledIn}
 use Rattle.packets_heard.specs.Servings.{AreServedBegun, ServedListed, served_joined}
 use Rattle.run_book.specs.declared.book.SentFrame.{SentFrame}
 use Rattle.run_notes.specs.declared.standing.AskedMail.{AskedMail}
+use Rattle.run_notes.specs.Heard.{emergencies_noted}
+use Rattle.run_notes.specs.Reports.{AllReport}
 use Rattle.run_notes.specs.Slaves.{gaves_noted, home_of}
+use Rattle.run_record.specs.Forwarded.{PacketsNoted}
 use Rattle.run_record.specs.Led.{exchanged}
 use Rattle.run_record.specs.Recalling.{state_of}
-use Rattle.run_record.specs.Session.{IsDone, SessionState, has_live}
+use Rattle.run_record.specs.Session.{FrameEvents, IsDone, SessionState, has_live, numbers_over}
 use Rattle.segment_plan.specs.Sound.{IsPlan}
 use Rattle.segment_plan.specs.declared.plan.Scenario.{Scenario}
 use Rattle.segment_ring.specs.declared.wire.Fate.{Fate}
@@ -69,20 +76,47 @@ pub record IsServedForwarded (plan : Scenario) (m : MasterNode) {fs : List Excha
   pub begun : AreServedBegun (ports_behind 0 plan.slaves) (ports_of plan.slaves) lives (events_of rows)
   pub happened : HasHappened (ports_of plan.slaves) plan.host rows m.lan
 
+module _ {lens : ℕ → Lens} {recover retry : ℕ} {first : List Serves} where
+  -- THE MAILS ACCEPTED OVER A SERVING, slave by slave, in order, each with the frame that brought it: as over a run, and a mail that is asked between its frames
+  -- changes nothing of them
+  abbrev pub served_heard : {fs : List Exchanged} {missed : ℕ} {ws : List Serves} → IsServedLed lens recover retry first fs missed ws → List (List Accepted)
+  served_heard IsServedLed.start = heard_none (map run_lead first)
+  served_heard (IsServedLed.asks fs missed ws place k led may) = served_heard led
+  served_heard (IsServedLed.on fs missed ws f vs led frame) = heard_on (λ u. brought_by lens (length fs) f f.fate u) (served_heard led) (map run_turn vs)
+
+  -- THE FRAMES BEFORE WHICH PACKETS CAME INTO HAND of the slave at a place, in order, as over a run
+  abbrev pub served_begun : {fs : List Exchanged} {missed : ℕ} {ws : List Serves} → IsServedLed lens recover retry first fs missed ws → ℕ → List ℕ
+  served_begun IsServedLed.start k = []
+  served_begun (IsServedLed.asks fs missed ws place keyed led may) k = served_begun led k
+  served_begun (IsServedLed.on fs missed ws f vs led frame) k = served_begun led k ++ each_with (length fs) (packet_begun (begun_of (map run_turn vs) k))
+
+  -- EACH EVENT HAS ITS NUMBER, frame by frame: how many frames had been sent when it came
+  abbrev pub ServedNumbered : List (Option ℕ) → ℕ → {fs : List Exchanged} {missed : ℕ} {ws : List Serves} → IsServedLed lens recover retry first fs missed ws → List SwitchEvent → List ℕ → Type 0
+  ServedNumbered ports many IsServedLed.start es ns = (es ≡ []) × (ns ≡ [])
+  ServedNumbered ports many (IsServedLed.asks fs missed ws place k led may) es ns = ServedNumbered ports many led es ns
+  ServedNumbered ports many (IsServedLed.on fs missed ws f vs led frame) es ns =
+      NumberedOn (λ old. ServedListed ports led old) (λ old. AreServedBegun ports many led old) (λ old numbers. ServedNumbered ports many led old numbers) ports many (length fs) (map run_turn vs) es ns
+
 -- a mail as the session has it, with the key of its asker
 abbrev pub as_asked : Keyed → AskedMail
 as_asked k = record { key = k.key; kind = k.mail.kind; body = k.mail.body.items }
 
--- HOW A SERVING STANDS behind these frames: its master leads; so often each slave was given up as is noted; the mails that were asked of each are just those
--- that the session has, in order, and so many of them still wait; and what happened at its switch is by their lives. None of
--- its master's visits was in vain, by what it remembers
+-- HOW A SERVING STANDS behind these frames: its master leads; so often each slave was given up as is noted, and what is noted of its services and epochs goes with
+-- its life; just the emergencies among the mails that its life accepted are noted, each with the frame that brought it; the mails that were asked of each are just
+-- those that the session has, in order, and so many of them still wait; what happened at its switch is by their lives, each event with its number; and just the
+-- packets that came into hand are noted, numbered. None of its master's visits was in vain, by what it remembers
 pub record Serving (plan : Scenario) (s : SessionState) (fs : List Exchanged) : Type 0 where
   pub leading : ServedLeading plan s.master fs
   pub gave : gaves_noted s.notes ≡ map gave_of (map run_lead leading.serves)
+  pub told : AllReport (map run_lead leading.serves) s.notes
+  pub heard : AllNoted (served_heard leading.lives) (emergencies_noted s.notes)
   pub asked : map (λ w. map as_asked w.asked) leading.serves ≡ s.asked
   pub waiting : map (λ w. length w.waits) leading.serves ≡ s.waiting
   pub rows : List Happening
   pub forwarded : IsServedForwarded plan s.master leading.lives rows
+  pub numbers : List ℕ
+  pub numbered : ServedNumbered (ports_behind 0 plan.slaves) (ports_of plan.slaves) leading.lives (events_of rows) numbers
+  pub packets : PacketsNoted (λ k. served_begun leading.lives k) s.master s.notes
   pub remembers : ServedRecalledIn plan leading.toured (state_of s.master (events_of rows) s.ring)
 
 -- before its first frame
@@ -112,8 +146,9 @@ TellsBehind fate back m n =
     (lens : ℕ → Lens) (recover retry missed made : ℕ) (vs : List ServedTurn) (f : Exchanged) → f.fate ≡ fate → f.back ≡ back → ServedUnder lens recover retry m f.sent missed made vs → (fate ≡ Fates.Pass → Returns (seen lens f.sent) (seen lens back)) →
     filter is_gateway (events_in n) ≡ told_in (λ k. told_behind lens f f.fate vs (map (served_behind lens recover retry (gives_up_at lens recover retry missed) made f) vs) k) m.tour.visit.items
 
--- ONE FRAME MORE of a serving: it is just what the lives ask for, those behind it are what it leads them to, and by them who asked gets to know what the frame tells
-pub record ServesOn (plan : Scenario) (s s' : SessionState) (fs : List Exchanged) (f : Exchanged) (old : Serving plan s fs) : Type 0 where
+-- ONE FRAME MORE of a serving: it is just what the lives ask for, those behind it are what it leads them to, by them who asked gets to know what the frame tells,
+-- and just this happened at its switch
+pub record ServesOn (plan : Scenario) (s s' : SessionState) (happened : FrameEvents) (fs : List Exchanged) (f : Exchanged) (old : Serving plan s fs) : Type 0 where
   pub turns : List ServedTurn
   pub frame : IsServedFrame (lens_of plan.slaves) (length fs) f.sent old.leading.serves turns
   -- an answer has just the datagrams that were sent
@@ -122,10 +157,12 @@ pub record ServesOn (plan : Scenario) (s s' : SessionState) (fs : List Exchanged
   pub missed : new.leading.missed ≡ missed_behind (lens_of plan.slaves) plan.recover plan.retry f.fate old.leading.missed
   pub serves : new.leading.serves ≡ map (served_behind (lens_of plan.slaves) plan.recover plan.retry (gives_up_at (lens_of plan.slaves) plan.recover plan.retry old.leading.missed) (length fs) f) turns
   pub tells : TellsFrame (lens_of plan.slaves) (λ k. forwards_at s.master.posts.items k) old.leading.serves f turns new.leading.serves s'.master
+  pub events : events_of new.rows ≡ events_of old.rows ++ (happened.making ++ happened.behind)
+  pub numbers : new.numbers ≡ old.numbers ++ numbers_over (length fs) happened
 
 -- so a step goes, where some slave is live and not all is done: a serving that is led goes on
-abbrev pub ServingGoesOn : SessionState → SessionState → SentFrame → Type 0
-ServingGoesOn s s' f = (plan : Scenario) (fs : List Exchanged) → s.recover ≡ plan.recover → length fs ≡ s.ring.number → has_live s.master ≡ true → (IsDone s → ⊥) → (old : Serving plan s fs) → ServesOn plan s s' fs (exchanged f) old
+abbrev pub ServingGoesOn : SessionState → SessionState → FrameEvents → SentFrame → Type 0
+ServingGoesOn s s' happened f = (plan : Scenario) (fs : List Exchanged) → s.recover ≡ plan.recover → length fs ≡ s.ring.number → has_live s.master ≡ true → (IsDone s → ⊥) → (old : Serving plan s fs) → ServesOn plan s s' happened fs (exchanged f) old
 
 -- SOME SLAVE IS LIVE, where a serving is led
 abbrev pub ServingLives : SessionState → Type 0
@@ -144,12 +181,16 @@ pub record AsksOn (plan : Scenario) (slave key : ℕ) (mail : Mail) (s s' : Sess
   pub new : Serving plan s' fs
   pub missed : new.leading.missed ≡ old.leading.missed
   pub serves : new.leading.serves ≡ asked_at slave mail_asked old.leading.serves
+  pub rows : new.rows ≡ old.rows
+  pub numbers : new.numbers ≡ old.numbers
 
 -- NONE IS ASKED: the lives stay
 pub record AsksNone (plan : Scenario) (s s' : SessionState) (fs : List Exchanged) (old : Serving plan s fs) : Type 0 where
   pub new : Serving plan s' fs
   pub missed : new.leading.missed ≡ old.leading.missed
   pub serves : new.leading.serves ≡ old.leading.serves
+  pub rows : new.rows ≡ old.rows
+  pub numbers : new.numbers ≡ old.numbers
 
 -- so it is with a mail that fits the mailbox of its slave, by the plan; and where as many wait as may none is asked
 abbrev pub ServingAsks : ℕ → ℕ → Mail → SessionState → SessionState → Bool → Type 0

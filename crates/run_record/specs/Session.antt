@@ -2,6 +2,7 @@
 use Rattle.std.specs.Prelude.{◌≡◌, ℕ, zero, suc, map, replicate, if◌then◌else◌, false, Bool, true, nat_lt, ◌||◌, List, [], ◌∷◌, ◌++◌, ◌⊎◌, length, Option, Some, None, is_some}
 use Rattle.std.specs.List.{list_all, list_any}
 use Rattle.arrayvec.specs.ArrayVec.{ArrayVec}
+use Rattle.eoe_switch.specs.declared.switching.SwitchEvent.{SwitchEvent}
 use Rattle.segment_plan.specs.Bound.{bound_of}
 use Rattle.segment_plan.specs.declared.plan.Scenario.{Scenario}
 use Rattle.segment_ring.specs.Ring.{RingState}
@@ -25,6 +26,7 @@ use Rattle.master_node.specs.Wants.{AllPlaced, AllLeft, NoneToCome}
 use Rattle.master_node.specs.of_master_tour.Goes.{is_live}
 use Rattle.master_node.specs.of_life_runs.Led.{Exchanged, Leads}
 use Rattle.master_node.specs.of_frame_view.View.{Lens}
+use Rattle.packets_heard.specs.Numbers.{each_with}
 use Rattle.run_record.specs.Led.{exchanged, Leading, AreLed}
 use Rattle.run_record.specs.Replay.{first_ring, behind, IsRecorded}
 use Rattle.run_record.specs.Recalling.{RunStands}
@@ -115,6 +117,24 @@ LedOn s f = (plan : Scenario) (fs : List Exchanged) → has_live s.master ≡ tr
 -- the packets of the book stay those of the master's switch, and each event has the number of the frames that had been sent then
 abbrev pub SwitchesOn : SessionState → Book → SessionState → Book → Type 0
 SwitchesOn s b s' b' = (host : List (ArrayVec ℕ)) → IsSwitched s.ports host s.ring.number s.master.lan b → IsSwitched s'.ports host s'.ring.number s'.master.lan b'
+
+-- WHAT HAPPENS AT THE SWITCH over a frame: while it is made, and by its return or its loss
+pub record FrameEvents : Type 0 where
+  pub making : List SwitchEvent
+  pub behind : List SwitchEvent
+
+-- the numbers of that, where so many frames were sent before: how many had been when each event came
+abbrev pub numbers_over : ℕ → FrameEvents → List ℕ
+numbers_over frame happened = each_with frame happened.making ++ each_with (suc frame) happened.behind
+
+-- A BOOK HAS JUST THESE EVENTS MORE, each with its number
+pub record IsGrown (frame : ℕ) (happened : FrameEvents) (b b' : Book) : Type 0 where
+  pub switch : b'.switch ≡ b.switch ++ (happened.making ++ happened.behind)
+  pub switched : b'.switched ≡ b.switched ++ numbers_over frame happened
+
+-- where the packets of the book are those of the master's switch
+abbrev pub SwitchGrows : SessionState → Book → FrameEvents → Book → Type 0
+SwitchGrows s b happened b' = (host : List (ArrayVec ℕ)) → IsSwitched s.ports host s.ring.number s.master.lan b → IsGrown s.ring.number happened b b'
 
 -- NOT ALL IS DONE: where the master wants nothing of any slave, and no packet of the host is left, some live slave isn't at rest
 abbrev pub StillWants : SessionState → Type 0

@@ -36,7 +36,7 @@ ghost use Rattle.run_record.specs.Recalling.{RunBegins};
 ghost use Rattle.run_notes.specs.Switched.{SameSwitch};
 ghost use Rattle.run_record.specs.Replay.{first_ring};
 ghost use Rattle.run_record.specs.Served.{ServingAsks, ServingBegins, ServingGoesOn, ServingLives, ServingRests, TellsBehind};
-ghost use Rattle.run_record.specs.Session.{budget_of, smaller_bound, rests_at, session_rows, first_session, are_at_rest, some_given_up, has_live, IsDone, IsLeftBy, StillWants, Steps, Stops, Asks};
+ghost use Rattle.run_record.specs.Session.{budget_of, smaller_bound, rests_at, session_rows, first_session, are_at_rest, some_given_up, has_live, FrameEvents, IsDone, IsLeftBy, StillWants, Steps, Stops, SwitchGrows, Asks};
 ghost use Rattle.run_notes.specs.Slaves.{slave_row, slave_rows, KeepsRest};
 
 use datagrams::FrameBuf;
@@ -223,7 +223,7 @@ fn tell(master: &mut MasterNode, fate: Fate, back: &FrameBuf)
     ensures leads { (lens : ℕ → Lens) (recover retry missed number : ℕ) (us : List Turn) (f : Exchanged) → f.fate ≡ fate → f.back ≡ back.now.items → MasterUnder lens recover retry master.old f.sent missed us →
         (fate ≡ Fates.Pass → Returns (seen lens f.sent) (seen lens back.now.items)) → MasterShows lens recover retry master.new (missed_behind lens recover retry f.fate missed) (map (led_behind lens recover retry (gives_up_at lens recover retry missed) number f) us) }
     ensures toured { (lens : ℕ → Lens) (recover : ℕ) (as' : List Leads) → HasLives lens recover master.new (map lived_of as') → tour_of master.new ≡ tour_behind master.old.tour.retry fate as' (tour_of master.old) master.old.tour.visit.items }
-    ensures brought { fate ≡ Fates.Pass → (lens : ℕ → Lens) (recover retry missed : ℕ) (octets : List ℕ) (us : List Turn) → MasterUnder lens recover retry master.old octets missed us → Returns (seen lens octets) (seen lens back.now.items) →
+    ensures brought { fate ≡ Fates.Pass → (lens : ℕ → Lens) (recover : ℕ) (octets : List ℕ) (us : List Turn) → IsUnderWay lens recover master.old octets us → Returns (seen lens octets) (seen lens back.now.items) →
         HasBrought master.new us (seen lens back.now.items) }
     ensures recalls { fate ≡ Fates.Pass → (lens : ℕ → Lens) (recover retry missed : ℕ) (octets : List ℕ) (us : List Turn) → MasterUnder lens recover retry master.old octets missed us → Returns (seen lens octets) (seen lens back.now.items) →
         AllVisit (seen lens octets) (recalls master.old) us → AllRecall lens (seen lens back.now.items) us (recalls master.old) (recalls master.new) }
@@ -377,7 +377,7 @@ impl Session {
     /// what the lives of a serving tell: which mails came into hand, their replies, that no more follow, and which slaves were given up.
     pub fn step(&mut self, alloc: Global, book: &mut Book) -> Result<(), NoMemory>
         requires { self.old.ring.number < self.old.budget }
-        ensures ok { OnOk result ((f : Recorded) × Steps self.old book.old self.new book.new f × ServingGoesOn self.old self.new f) }
+        ensures ok { OnOk result ((f : Recorded) × Steps self.old book.old self.new book.new f × ((happened : FrameEvents) × SwitchGrows self.old book.old happened book.new × ServingGoesOn self.old self.new happened f)) }
         ensures err { OnErr result (Stops self.old book.old book.new) }
     {
         let frame = self.number;

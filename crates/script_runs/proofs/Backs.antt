@@ -20,7 +20,7 @@ use Rattle.script_runs.proofs.Lists.{Answer, Over, scripted_state, scripted_one,
 abbrev pub Held : Type 0
 Held = Row Body Asked Reply
 
-abbrev answer_of : Held → Answer
+abbrev pub answer_of : Held → Answer
 answer_of r = r.answer
 
 -- A FRAME COMES BACK TO AN ACCOUNT: without a change of state in hand nothing changes; one in hand goes on, or is over with this frame
@@ -61,10 +61,9 @@ after_none frame (Some r) reply g e = (sym (ap frame_of e), ap some_of e)
     some_of None = None
     some_of (Some a) = Some a.0
 
-after_rests : (frame : ℕ) (old : Answer) (found : Option Reply) → (is_some old ≡ true) ⊎ (found ≡ None) → answer_after frame old found ≡ old
-after_rests frame (Some a) found h = refl
-after_rests frame None found (inl e) = absurd (let bad : false ≡ true = e in cc)
-after_rests frame None found (inr e) = ap (λ (z : Option Reply). answer_after frame None z) e
+after_rests : (frame : ℕ) (old : Answer) (found : Option Reply) → is_some old ≡ true → answer_after frame old found ≡ old
+after_rests frame (Some a) found e = refl
+after_rests frame None found e = absurd (let bad : false ≡ true = e in cc)
 
 pub many_answers : (x : Speech Body Asked Reply) (frame : ℕ) (ms : List Body) (past : List Held) (now : Option Held) → length (answers_in (past ++ newest (option_map (λ r. row_heard x frame ms r) now))) ≡ length (answers_in (past ++ newest now))
 many_answers x frame ms [] None = refl
@@ -72,12 +71,11 @@ many_answers x frame ms [] (Some r) = refl
 many_answers x frame ms (p ∷ past) now = let more = many_answers x frame ms past now in omega (arith, more)
 
 module _ (areas : Areas) (frame : ℕ) (ms : List Body) where
-  abbrev hears : Held → Held
+  abbrev pub hears : Held → Held
   hears r = row_heard (hand_speech areas) frame ms r
 
   row_rests : (r : Held) → RowRests (Some r) → (hears r).answer ≡ r.answer
-  row_rests r (inl e) = after_rests frame r.answer (ends areas r.service (plain (hand_speech areas).emission (r.heard ++ ms))) (inl e)
-  row_rests r (inr never) = after_rests frame r.answer (ends areas r.service (plain (hand_speech areas).emission (r.heard ++ ms))) (inr (never areas (plain (hand_speech areas).emission (r.heard ++ ms))))
+  row_rests r e = after_rests frame r.answer (ends areas r.service (plain (hand_speech areas).emission (r.heard ++ ms))) e
 
   pub answers_rest : (past : List Held) (now : Option Held) → RowRests now → answers_in (past ++ newest (option_map (λ r. hears r) now)) ≡ answers_in (past ++ newest now)
   answers_rest past None h = refl
@@ -85,8 +83,7 @@ module _ (areas : Areas) (frame : ℕ) (ms : List Body) where
 
   pub rests_heard : (now : Option Held) → RowRests now → RowRests (option_map (λ r. hears r) now)
   rests_heard None h = tt
-  rests_heard (Some r) (inl e) = inl (ap is_some (row_rests r (inl e)) ∙ e)
-  rests_heard (Some r) (inr never) = inr never
+  rests_heard (Some r) e = ap is_some (row_rests r e) ∙ e
 
 -- a service that has replies is no mail that is passed on
 pub not_passed : (areas : Areas) (q : Asked) → handed areas q ≡ false → is_passed q ≡ true → ⊥

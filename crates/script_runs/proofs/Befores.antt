@@ -10,6 +10,7 @@ use Rattle.life_runs.specs.Led.{is_passed}
 use Rattle.script_runs.specs.of_link_mails.Body.{Body}
 use Rattle.script_runs.specs.of_master_duty.Reply.{Reply}
 use Rattle.script_runs.specs.of_master_hand.Spoken.{Asked, acknowledged, is_followed}
+use Rattle.script_runs.specs.of_segment_model.Record.{News}
 use Rattle.script_runs.specs.of_segment_model.Slaves.{Datagram, Found}
 use Rattle.script_runs.specs.of_task_model.Accounts.{Duty, Stage}
 use Rattle.script_runs.specs.Steps.{OpenedBefore, IsBefore}
@@ -55,17 +56,17 @@ module _ (made : ℕ) (l : LifeOf) (h : IsBefore made l) where
       go Stage.Drains = k
       go (Stage.Goes phase) = by (returns_to_init duty.target)
 
-  module _ (x : Speech Body Asked Reply) (spot : Spot) (ds : List (Datagram Body)) where
+  module _ (x : Speech Body Asked Reply) (spot : Spot) (news : List (News Body)) (ds : List (Datagram Body)) where
     -- BEHIND A RETURN
-    pub back_before : (came : Option (Bool × Option Found)) (stand : Stand) → IsBefore (suc made) (life_back x acknowledged is_followed is_passed made spot [] ds came l stand)
+    pub back_before : (came : Option (Bool × Option Found)) (stand : Stand) → IsBefore (suc made) (life_back x acknowledged is_followed is_passed made spot news ds came l stand)
     back_before None (Stand.Opens o) = later
     back_before (Some came) (Stand.Opens o) = opening_before o came.0 came.1
     back_before came Stand.Open =
-        let e = era_back x acknowledged is_followed is_passed spot.station made [] ds l.era in reopens_before (record l { era = e }) e.account.hand (record { past = past_later; era = later.era; gave = gave_later })
+        let e = era_back x acknowledged is_followed is_passed spot.station made news ds l.era in reopens_before (record l { era = e }) e.account.hand (record { past = past_later; era = later.era; gave = gave_later })
     back_before came Stand.Gone = later
 
     -- BEHIND A LOSS
-    pub lost_before : (stand : Stand) → IsBefore made (life_lost x acknowledged is_followed is_passed spot [] ds l stand)
+    pub lost_before : (stand : Stand) → IsBefore made (life_lost x acknowledged is_followed is_passed spot news ds l stand)
     lost_before (Stand.Opens o) = h
     lost_before Stand.Open = record { past = h.past; era = h.era; gave = h.gave }
     lost_before Stand.Gone = h

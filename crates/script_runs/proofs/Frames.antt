@@ -1,7 +1,8 @@
 -- WHAT IS NOTED BEHIND A FRAME: the answer that its return brought, or nothing.
-use Rattle.std.proofs.Common.{◌≡◌, ℕ, suc, ◌<◌, Bool, true, false, Option, Some, None, List, [], ◌∷◌, ◌++◌, length, length-append, refl, ap, sym, ◌∙◌, subst, arith, append-nil}
+use Rattle.std.proofs.Common.{◌≡◌, ◌⊎◌, inl, inr, ℕ, suc, ◌<◌, Bool, true, false, Option, Some, None, List, [], ◌∷◌, ◌++◌, length, length-append, refl, ap, sym, ◌∙◌, subst, arith, append-nil}
 use Rattle.std.specs.Prelude.{◌==◌, ◌&&◌, option_map, is_some, if◌then◌else◌}
 use Rattle.std.specs.List.{All}
+use Rattle.std.proofs.lemmas.List.{map-append}
 use Rattle.script_runs.specs.of_exchange_model.Areas.{Areas}
 use Rattle.script_runs.specs.of_exchange_model.Exchange.{Speech, plain}
 use Rattle.script_runs.specs.of_exchange_model.Rows.{answer_after, row_heard}
@@ -16,16 +17,16 @@ use Rattle.script_runs.specs.of_link_model.Frames.{all_accepted}
 use Rattle.script_runs.specs.of_master_duty.Reply.{Reply}
 use Rattle.script_runs.specs.of_master_hand.Spoken.{Asked, acknowledged, is_followed, ends, hand_speech}
 use Rattle.script_runs.specs.of_segment_model.Record.{News}
-use Rattle.script_runs.specs.of_segment_model.Seats.{Side}
+use Rattle.script_runs.specs.of_segment_model.Seats.{Side, newest}
 use Rattle.script_runs.specs.of_segment_model.Slaves.{Datagram, Found, grams}
 use Rattle.script_runs.specs.of_task_model.Accounts.{Account, Duty, Stage, Change, new_account}
 use Rattle.script_runs.specs.of_task_model.Promise.{services_in, mails_in}
 use Rattle.script_runs.proofs.of_task_model.Completed.{started_back}
-use Rattle.script_runs.specs.Answers.{Came, Scripted, RowRests, RestsSo, Awaits, Changes, ComesAnew, IsStill, IsNew, FreshBy, answers_in, side_answers, now_answer, states_in, reached_at, opened_anew, scripted_in, era_scripted, eras_scripted, over_scripted, life_scripted}
-use Rattle.script_runs.proofs.Backs.{Held, Went, AwaitsBack, past_scripted, changes_front, changes_scripted, changes_opened, change_with, change_reported, hand_back, no_hand, answers_rest, rests_heard, many_answers}
+use Rattle.script_runs.specs.Answers.{Came, Scripted, EraRests, RowRests, RestsSo, Awaits, Changes, ComesAnew, IsStill, IsNew, FreshBy, answers_in, side_answers, now_answer, states_in, reached_at, opened_anew, scripted_in, era_scripted, eras_scripted, over_scripted, life_scripted}
+use Rattle.script_runs.proofs.Backs.{Held, answer_of, Went, AwaitsBack, past_scripted, changes_front, changes_scripted, changes_opened, change_with, change_reported, hand_back, no_hand, answers_rest, rests_heard, many_answers}
 use Rattle.script_runs.proofs.Anew.{anew_spared}
-use Rattle.script_runs.proofs.Lists.{Answer, eras_more, changes_more}
-use Rattle.script_runs.proofs.Turns.{awaits_on, changes_on, rests_on, spared, fresh_open}
+use Rattle.script_runs.proofs.Lists.{Answer, eras_more, changes_more, scripted_beside}
+use Rattle.script_runs.proofs.Turns.{awaits_on, beside_on, changes_on, rests_on, spared, fresh_open}
 
 abbrev LifeOf : Type 0
 LifeOf = Life Body Asked Reply
@@ -43,7 +44,7 @@ rests_new : (e : Era Body Asked Reply) → e.side ≡ new_side → e.account ≡
 rests_new e s a = record {
   hand = ap (λ (z : Account Asked Reply). z.hand) a;
   states = subst (λ (z : Account Asked Reply). states_in (services_in z.started) ≡ length z.over) (sym a) refl;
-  row = subst (λ (z : Side Body Asked Reply). RowRests z.now) (sym s) tt;
+  row = inl (subst (λ (z : Side Body Asked Reply). RowRests z.now) (sym s) tt);
 }
 
 -- A SLAVE THAT IS OPENED: the services of its life are those of the epochs that are over
@@ -107,8 +108,7 @@ module _ (frame : ℕ) (l : LifeOf) (given : All (λ k. k < frame) l.gave) (o : 
   opened_by : l.stand ≡ Stand.Opens o → FreshBy l.stand l.gave l.era → (o.step == last_step o) ≡ true → OpeningBack (opens frame l)
   opened_by s f e =
       let new = subst (λ (z : Stand). FreshBy z l.gave l.era) s f (last_stays o e) in
-      let r = rests_new l.era new.side new.account in
-      OpeningBack.is_up refl (new_none l (Some frame) new.account ∙ sym (leaving_is false (ap is_leaving s ∙ last_stays o e) (Some frame))) (record { hand = r.hand; states = r.states; row = r.row })
+      OpeningBack.is_up refl (new_none l (Some frame) new.account ∙ sym (leaving_is false (ap is_leaving s ∙ last_stays o e) (Some frame))) (rests_new (opens frame l).era new.side new.account)
 
   pub opening_is : l.stand ≡ Stand.Opens o → FreshBy l.stand l.gave l.era → OpeningBack (opening_back frame l o done found)
   opening_is s f = opening_by (λ m. OpeningBack m)
@@ -193,11 +193,26 @@ module _ (areas : Areas) (frame : ℕ) (spot : Spot) (news : List (News Body)) (
   era_row : RowRests l.era.side.now → RowRests era.side.now
   era_row r = rests_heard areas frame heard l.era.side.now r
 
+  -- whatever it is heard by, the script came to the same
+  steady_answers : EraRests l.era → (over : List (Change Reply)) → scripted_in None l.era.account.started (side_answers era.side) over ≡ scripted_in None l.era.account.started (side_answers l.era.side) over
+  steady_answers (inl h) over = ap (λ z. scripted_in None l.era.account.started z over) (era_answers h)
+  steady_answers (inr w) over =
+      let now = ap (λ (z : Option Held). answers_in (l.era.side.past ++ newest (option_map (λ r. row_heard x frame heard r) z))) w.now ∙ map-append answer_of l.era.side.past (row_heard x frame heard w.row ∷ []) in
+      let was = ap (λ (z : Option Held). answers_in (l.era.side.past ++ newest z)) w.now ∙ map-append answer_of l.era.side.past (w.row ∷ []) in
+      (λ i. scripted_in None (w.started i) (now i) over)
+      ∙ scripted_beside None w.front (answers_in l.era.side.past) over w.asked w.frame w.behind (row_heard x frame heard w.row).answer w.row.answer w.other w.beside
+      ∙ (λ i. scripted_in None (sym w.started i) (sym was i) over)
+
+  era_rests : EraRests l.era → EraRests era
+  era_rests (inl h) = inl (era_row h)
+  era_rests (inr w) = inr (beside_on l.era era w [] (row_heard x frame heard w.row) (era_started ∙ sym (append-nil l.era.account.started)) refl (ap (option_map (λ r. row_heard x frame heard r)) w.now))
+
   rests_back : RestsSo l.era → RestsSo era
-  rests_back r = let same = same_account r.hand in rests_on l.era era r (ap (λ (z : Account Asked Reply). z.started) same) (ap (λ (z : Account Asked Reply). z.over) same) (ap (λ (z : Account Asked Reply). z.hand) same) (era_row r.row)
+  rests_back r = let same = same_account r.hand in rests_on l.era era r (ap (λ (z : Account Asked Reply). z.started) same) (ap (λ (z : Account Asked Reply). z.over) same) (ap (λ (z : Account Asked Reply). z.hand) same) (era_rests r.row)
 
   rests_scripted : RestsSo l.era → life_scripted came_back ≡ life_scripted l
-  rests_scripted r = λ i. past_scripted l ++ scripted_in None (same_account r.hand i).started (era_answers r.row i) (same_account r.hand i).over
+  rests_scripted r =
+      (λ i. past_scripted l ++ scripted_in None (same_account r.hand i).started (side_answers era.side) (same_account r.hand i).over) ∙ ap (λ ss. past_scripted l ++ ss) (steady_answers r.row l.era.account.over)
 
   pub record RestsBack (m : LifeOf) : Type 0 where
     pub scripted : life_scripted m ≡ life_scripted l
@@ -257,10 +272,10 @@ module _ (areas : Areas) (frame : ℕ) (spot : Spot) (news : List (News Body)) (
 
   module _ (s : l.stand ≡ Stand.Open) (f : FreshBy l.stand l.gave l.era) (w : Changes l.era) where
     abbrev goes_on : (duty : Duty) → era.account.hand ≡ Some duty → duty.target ≡ w.duty.target → era.account.over ≡ l.era.account.over → Changes era
-    goes_on duty hand target kept = changes_on l.era era w duty era_started kept hand target (era_row w.row)
+    goes_on duty hand target kept = changes_on l.era era w duty era_started kept hand target (era_rests w.row)
 
     goes_scripted : era.account.over ≡ l.era.account.over → life_scripted came_back ≡ life_scripted l
-    goes_scripted kept = λ i. past_scripted l ++ scripted_in None (era_started i) (era_answers w.row i) (kept i)
+    goes_scripted kept = (λ i. past_scripted l ++ scripted_in None (era_started i) (side_answers era.side) (kept i)) ∙ ap (λ ss. past_scripted l ++ ss) (steady_answers w.row l.era.account.over)
 
     -- what opens it anew, since it wasn't given up
     opens_anew : (g : ℕ) → opened_anew l.gave l.era.opened (Some g) ≡ Some g
@@ -292,7 +307,10 @@ module _ (areas : Areas) (frame : ℕ) (spot : Spot) (news : List (News Body)) (
     change_over : (c : Change Reply) → era.account.hand ≡ None → era.account.over ≡ l.era.account.over ++ c ∷ [] → c.completed ≡ frame → ChangeBack w (reopens came_back era.account.hand)
     change_over c none more at = subst (λ (z : LifeOf). ChangeBack w z) (sym (reopens_none came_back era.account.hand none))
         (ChangeBack.over c s none more at
-        ((λ i. past_scripted l ++ scripted_in None ((era_started ∙ w.started) i) (era_answers w.row i) (more i)) ∙ change_with l w c)
+        ((λ i. past_scripted l ++ scripted_in None (era_started i) (side_answers era.side) (more i))
+        ∙ ap (λ ss. past_scripted l ++ ss) (steady_answers w.row (l.era.account.over ++ c ∷ []))
+        ∙ (λ i. past_scripted l ++ scripted_in None (w.started i) (side_answers l.era.side) (l.era.account.over ++ c ∷ []))
+        ∙ change_with l w c)
         (record {
           hand = none;
           states =
@@ -301,7 +319,7 @@ module _ (areas : Areas) (frame : ℕ) (spot : Spot) (news : List (News Body)) (
               let m = length-append l.era.account.over (c ∷ []) in
               let o = ap length more in
               omega (arith, n, k, w.beside, m, o));
-          row = era_row w.row;
+          row = era_rests w.row;
         }))
 
     change_open : ChangeBack w (reopens came_back era.account.hand)

@@ -4,7 +4,7 @@ use Rattle.script_runs.specs.of_life_model.Lives.{Era, returns_to_init}
 use Rattle.script_runs.specs.of_link_mails.Body.{Body}
 use Rattle.script_runs.specs.of_master_duty.Reply.{Reply}
 use Rattle.script_runs.specs.of_master_hand.Spoken.{Asked}
-use Rattle.script_runs.specs.Came.{is_packet}
+use Rattle.script_runs.specs.Came.{is_beside}
 use Rattle.script_runs.specs.of_state_exchange.Stated.{Service}
 use Rattle.script_runs.specs.of_task_model.Accounts.{Started, Change}
 use Rattle.script_runs.specs.of_task_model.Promise.{services_in, mails_in}
@@ -31,7 +31,7 @@ abbrev state_came : Option ℕ → ℕ → ℕ → Over → List Scripted
 state_came anew target frame tail = record { frame = frame; came = Came.state (change_outcome (returns_to_init target) anew (first_change tail)) } ∷ []
 
 abbrev mails_came : Asked → ℕ → Answer → List Scripted
-mails_came q frame answer = scripted_mails (is_packet (Service.Mails q)) frame answer []
+mails_came q frame answer = scripted_mails (is_beside (Service.Mails q)) frame answer []
 
 -- a change of state, and those that are over behind the ones before it
 pub scripted_state : (anew : Option ℕ) (ss : List (Started Asked)) (answers : List Answer) (over tail : Over) (target frame : ℕ) → states_in (services_in ss) ≡ length over →
@@ -45,11 +45,11 @@ scripted_state anew (s ∷ ss) answers over tail target frame e = go s.service a
         scripted_by anew z s.frame as' (os ++ tail) (λ bs qs. scripted_in anew (with_state ss target frame) bs qs) ≡ scripted_by anew z s.frame as' os (λ bs qs. scripted_in anew ss bs qs) ++ state_came anew target frame tail
     go (Service.State t) as' [] f h = absurd (omega (arith, f))
     go (Service.State t) as' (o ∷ os) f h = ap (λ (k : List Scripted). record { frame = s.frame; came = Came.state (Some (o.answer, o.completed)) } ∷ k) (h as' os (omega (arith, f)))
-    go (Service.Mails q) [] os f h = either (is_packet (Service.Mails q)) s.frame None (scripted_in anew ss [] os) (scripted_in anew (with_state ss target frame) [] (os ++ tail)) (state_came anew target frame tail) (h [] os f)
-    go (Service.Mails q) (a ∷ as') os f h = either (is_packet (Service.Mails q)) s.frame a (scripted_in anew ss as' os) (scripted_in anew (with_state ss target frame) as' (os ++ tail)) (state_came anew target frame tail) (h as' os f)
+    go (Service.Mails q) [] os f h = either (is_beside (Service.Mails q)) s.frame None (scripted_in anew ss [] os) (scripted_in anew (with_state ss target frame) [] (os ++ tail)) (state_came anew target frame tail) (h [] os f)
+    go (Service.Mails q) (a ∷ as') os f h = either (is_beside (Service.Mails q)) s.frame a (scripted_in anew ss as' os) (scripted_in anew (with_state ss target frame) as' (os ++ tail)) (state_came anew target frame tail) (h as' os f)
 
 pub scripted_one : (anew : Option ℕ) (ss : List (Started Asked)) (answers : List Answer) (over : Over) (q : Asked) (frame : ℕ) (answer : Answer) → mails_in (services_in ss) ≡ length answers →
-    scripted_in anew (ss ++ record { service = Service.Mails q; frame = frame } ∷ []) (answers ++ answer ∷ []) over ≡ scripted_in anew ss answers over ++ scripted_mails (is_packet (Service.Mails q)) frame answer []
+    scripted_in anew (ss ++ record { service = Service.Mails q; frame = frame } ∷ []) (answers ++ answer ∷ []) over ≡ scripted_in anew ss answers over ++ scripted_mails (is_beside (Service.Mails q)) frame answer []
 scripted_one anew [] [] over q frame answer e = refl
 scripted_one anew [] (a ∷ as') over q frame answer e = absurd (omega (arith, e))
 scripted_one anew (s ∷ ss) answers over q frame answer e = go s.service answers over e (λ as' os f. scripted_one anew ss as' os q frame answer f)
@@ -58,7 +58,24 @@ scripted_one anew (s ∷ ss) answers over q frame answer e = go s.service answer
         scripted_by anew z s.frame (as' ++ answer ∷ []) os (λ bs qs. scripted_in anew (with_mails ss q frame) bs qs) ≡ scripted_by anew z s.frame as' os (λ bs qs. scripted_in anew ss bs qs) ++ (mails_came q frame answer)
     go (Service.State t) as' os f h = ap (λ (k : List Scripted). record { frame = s.frame; came = Came.state (change_outcome (returns_to_init t) anew (first_change os)) } ∷ k) (h as' (changes_behind os) f)
     go (Service.Mails r) [] os f h = absurd (omega (arith, f))
-    go (Service.Mails r) (a ∷ as') os f h = either (is_packet (Service.Mails r)) s.frame a (scripted_in anew ss as' os) (scripted_in anew (with_mails ss q frame) (as' ++ answer ∷ []) os) (mails_came q frame answer) (h as' os (omega (arith, f)))
+    go (Service.Mails r) (a ∷ as') os f h = either (is_beside (Service.Mails r)) s.frame a (scripted_in anew ss as' os) (scripted_in anew (with_mails ss q frame) (as' ++ answer ∷ []) os) (mails_came q frame answer) (h as' os (omega (arith, f)))
+
+abbrev with_mail : List (Started Asked) → Asked → ℕ → List (Started Asked) → List (Started Asked)
+with_mail ss q frame behind = ss ++ record { service = Service.Mails q; frame = frame } ∷ behind
+
+-- WHERE A SERVICE IS NONE OF THE SCRIPT it doesn't matter what it is answered
+pub scripted_beside : (anew : Option ℕ) (ss : List (Started Asked)) (answers : List Answer) (over : Over) (q : Asked) (frame : ℕ) (behind : List (Started Asked)) (x y : Answer) → is_beside (Service.Mails q) ≡ true → mails_in (services_in ss) ≡ length answers →
+    scripted_in anew (ss ++ record { service = Service.Mails q; frame = frame } ∷ behind) (answers ++ x ∷ []) over ≡ scripted_in anew (ss ++ record { service = Service.Mails q; frame = frame } ∷ behind) (answers ++ y ∷ []) over
+scripted_beside anew [] [] over q frame behind x y other e =
+    ap (λ (b : Bool). scripted_mails b frame x (scripted_in anew behind [] over)) other ∙ sym (ap (λ (b : Bool). scripted_mails b frame y (scripted_in anew behind [] over)) other)
+scripted_beside anew [] (a ∷ as') over q frame behind x y other e = absurd (omega (arith, e))
+scripted_beside anew (s ∷ ss) answers over q frame behind x y other e = go s.service answers over e (λ as' os f. scripted_beside anew ss as' os q frame behind x y other f)
+  where
+    go : (z : Service Asked) (as' : List Answer) (os : Over) → mails_in (z ∷ services_in ss) ≡ length as' → ((bs : List Answer) (os : Over) → mails_in (services_in ss) ≡ length bs → scripted_in anew (with_mail ss q frame behind) (bs ++ x ∷ []) os ≡ scripted_in anew (with_mail ss q frame behind) (bs ++ y ∷ []) os) →
+        scripted_by anew z s.frame (as' ++ x ∷ []) os (λ bs qs. scripted_in anew (with_mail ss q frame behind) bs qs) ≡ scripted_by anew z s.frame (as' ++ y ∷ []) os (λ bs qs. scripted_in anew (with_mail ss q frame behind) bs qs)
+    go (Service.State t) as' os f h = ap (λ (k : List Scripted). record { frame = s.frame; came = Came.state (change_outcome (returns_to_init t) anew (first_change os)) } ∷ k) (h as' (changes_behind os) f)
+    go (Service.Mails r) [] os f h = absurd (omega (arith, f))
+    go (Service.Mails r) (a ∷ as') os f h = ap (λ (k : List Scripted). scripted_mails (is_beside (Service.Mails r)) s.frame a k) (h as' os (omega (arith, f)))
 
 -- WHERE EACH CHANGE OF STATE IS OVER it doesn't matter what opens the slave anew
 pub steady : (a b : Option ℕ) (ss : List (Started Asked)) (answers : List Answer) (over : Over) → states_in (services_in ss) ≡ length over → scripted_in a ss answers over ≡ scripted_in b ss answers over
@@ -69,8 +86,8 @@ steady a b (s ∷ ss) answers over e = go s.service answers over e (λ as' os f.
         scripted_by a z s.frame as' os (λ bs qs. scripted_in a ss bs qs) ≡ scripted_by b z s.frame as' os (λ bs qs. scripted_in b ss bs qs)
     go (Service.State t) as' [] f h = absurd (omega (arith, f))
     go (Service.State t) as' (o ∷ os) f h = ap (λ (k : List Scripted). record { frame = s.frame; came = Came.state (Some (o.answer, o.completed)) } ∷ k) (h as' os (omega (arith, f)))
-    go (Service.Mails q) [] os f h = ap (λ (k : List Scripted). scripted_mails (is_packet (Service.Mails q)) s.frame None k) (h [] os f)
-    go (Service.Mails q) (x ∷ as') os f h = ap (λ (k : List Scripted). scripted_mails (is_packet (Service.Mails q)) s.frame x k) (h as' os f)
+    go (Service.Mails q) [] os f h = ap (λ (k : List Scripted). scripted_mails (is_beside (Service.Mails q)) s.frame None k) (h [] os f)
+    go (Service.Mails q) (x ∷ as') os f h = ap (λ (k : List Scripted). scripted_mails (is_beside (Service.Mails q)) s.frame x k) (h as' os f)
 
 -- one that isn't over has come to nothing, before its slave is opened anew
 pub no_outcome : (b : Bool) → change_outcome b None None ≡ None

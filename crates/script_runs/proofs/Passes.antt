@@ -5,16 +5,17 @@ use Rattle.script_runs.specs.of_exchange_model.Areas.{Areas}
 use Rattle.frame_view.specs.View.{Lens}
 use Rattle.frame_view.specs.Seen.{seen}
 use Rattle.life_runs.specs.Spans.{is_open}
-use Rattle.script_runs.specs.of_life_frames.Shares.{came_at}
+use Rattle.script_runs.specs.of_life_frames.Shares.{Lived, came_at, lived_back, lived_lost}
 use Rattle.script_runs.specs.of_life_model.Lives.{Life}
-use Rattle.life_runs.specs.Led.{Exchanged, Leads, Turn, is_passed, life_behind}
+use Rattle.life_runs.specs.Led.{Exchanged, Leads, Turn, is_passed, speech_at}
 use Rattle.script_runs.specs.of_link_mails.Body.{Body}
 use Rattle.script_runs.specs.of_master_duty.Reply.{Reply}
-use Rattle.script_runs.specs.of_master_hand.Spoken.{Asked, ends}
+use Rattle.script_runs.specs.of_master_hand.Spoken.{Asked, acknowledged, ends, is_followed}
 use Rattle.script_runs.specs.of_segment_model.Ends.{Outcome}
+use Rattle.script_runs.specs.of_segment_model.Record.{News}
 use Rattle.script_runs.specs.of_segment_model.Slaves.{Datagram, Found}
 use Rattle.script_runs.specs.of_segment_ring.declared.wire.Fate.{Fate}
-use Rattle.script_runs.specs.of_segment_ring.declared.wire.Fate.TheVariants.{Pass}
+use Rattle.script_runs.specs.of_segment_ring.declared.wire.Fate.TheVariants.{Lost, Pass}
 use Rattle.script_runs.specs.of_task_model.Accounts.{Change}
 use Rattle.script_runs.specs.Answers.{Came, Noted, IsReported, AllNoted, RowRests, RestsSo, Awaits, ComesAnew, IsGoing, Waits, StandsBy, FreshBy, IsNoted, now_answer, newest_answer, reply_by, reached_at, life_scripted, turned}
 use Rattle.script_runs.specs.Steps.{IsBefore, EndedSo, account_of, opened, with_begun, with_reply}
@@ -30,9 +31,14 @@ no_longer : (xs : Over) (c : Change Reply) → xs ++ c ∷ [] ≡ [] → ⊥
 no_longer xs c e = let n = length-append xs (c ∷ []) in let m = ap length e in absurd (omega (arith, n, m))
 
 -- BEHIND A RETURN
-module _ (lens : ℕ → Lens) (recover retry : ℕ) (gives : Bool) (made : ℕ) (f : Exchanged) (u : Turn) (before : IsBefore made u.lived.life) where
+module _ (lens : ℕ → Lens) (recover : ℕ) (gives : Bool) (made : ℕ) (f : Exchanged) (news : List (News Body)) (u : Turn) (before : IsBefore made u.lived.life) where
+  -- the life behind a frame of this fate, whatever news that is of a mail that is passed on
+  abbrev pub lived_by : Fate → Lived Asked Reply
+  lived_by Pass = lived_back (speech_at lens u.lived.spot) acknowledged is_followed is_passed made (seen lens f.back) u.lived u.share news
+  lived_by (Lost after) = lived_lost (speech_at lens u.lived.spot) acknowledged is_followed is_passed gives recover made (seen lens f.sent) u.lived u.share news
+
   abbrev pub led : Fate → Leads
-  led fate = record { script = u.script; number = u.number; lived = life_behind lens recover retry gives made f fate u.lived u.share }
+  led fate = record { script = u.script; number = u.number; lived = lived_by fate }
 
   abbrev areas : Areas
   areas = record { out = (lens u.lived.spot.station).out; back = (lens u.lived.spot.station).back }
@@ -50,7 +56,7 @@ module _ (lens : ℕ → Lens) (recover retry : ℕ) (gives : Bool) (made : ℕ)
   m = (led Pass).lived.life
 
   stays : Stays l m
-  stays = back_stays areas made u.lived.spot [] back l before.gave came l.stand refl
+  stays = back_stays areas made u.lived.spot news back l before.gave came l.stand refl
 
   noted_so : (w v : Waits) (number : ℕ) (ns ms : List Noted) → IsNoted (turned u) w number ns → AllNoted (life_scripted m) ms → StandsBy v (led Pass) → IsNoted (led Pass) v number ms
   noted_so w v number ns ms h noted stands = record { many = h.many; beside = stays.beside h.beside; noted = noted; fresh = stays.fresh h.fresh; stands = stands }
@@ -61,7 +67,7 @@ module _ (lens : ℕ → Lens) (recover retry : ℕ) (gives : Bool) (made : ℕ)
   -- nothing is awaited
   pub pass_still : (number : ℕ) (ns : List Noted) → IsNoted (turned u) Waits.nothing number ns → IsNoted (led Pass) Waits.nothing number ns
   pass_still number ns h =
-      let b = still_back areas made u.lived.spot [] back l before.gave came l.stand refl h.fresh h.stands in
+      let b = still_back areas made u.lived.spot news back l before.gave came l.stand refl h.fresh h.stands in
       noted_so Waits.nothing Waits.nothing number ns ns h (noted_same ns b.scripted h.noted) b.still
 
   -- a reply is
@@ -70,7 +76,7 @@ module _ (lens : ℕ → Lens) (recover retry : ℕ) (gives : Bool) (made : ℕ)
     w = h.stands.era
 
     pub awaiting : AwaitsBack areas made l w m
-    awaiting = awaits_back areas made u.lived.spot [] back l before.gave came l.stand refl h.stands.stand w h.stands.unanswered
+    awaiting = awaits_back areas made u.lived.spot news back l before.gave came l.stand refl h.stands.stand w h.stands.unanswered
 
     -- the newest as it was, and as it is
     was : life_scripted l ≡ front_scripted l w ++ record { frame = w.frame; came = Came.mails None } ∷ []
@@ -92,7 +98,7 @@ module _ (lens : ℕ → Lens) (recover retry : ℕ) (gives : Bool) (made : ℕ)
     told_rests reply g e = record {
       hand = awaiting.era.hand;
       states = awaiting.era.states;
-      row = subst (λ (z : Option Held). RowRests z) (sym awaiting.era.now) (inl (ap is_some (sym (ap now_answer awaiting.era.now) ∙ e)));
+      row = inl (subst (λ (z : Option Held). RowRests z) (sym awaiting.era.now) (ap is_some (sym (ap now_answer awaiting.era.now) ∙ e)));
     }
 
   pub pass_told : (number : ℕ) (front : List Noted) (frame : ℕ) (reply : Reply) (g : ℕ) → newest_answer (led Pass) ≡ Some (reply, g) → IsNoted (turned u) Waits.reply number (with_begun frame front) → IsNoted (led Pass) Waits.nothing number (with_reply front frame (Some (reply, made)))
@@ -110,16 +116,16 @@ module _ (lens : ℕ → Lens) (recover retry : ℕ) (gives : Bool) (made : ℕ)
 
   -- a change of state is
   abbrev IsBack : (g : IsGoing l) → Type 0
-  IsBack g = ChangeBack areas made u.lived.spot [] back l before.gave g.era m
+  IsBack g = ChangeBack areas made u.lived.spot news back l before.gave g.era m
 
   went : FreshBy l.stand l.gave l.era → (g : IsGoing l) → IsBack g
-  went f g = change_back areas made u.lived.spot [] back l before.gave g.stand f g.era came l.stand refl
+  went f g = change_back areas made u.lived.spot news back l before.gave g.stand f g.era came l.stand refl
 
   abbrev IsAnew : (c : ComesAnew l) → Type 0
-  IsAnew c = AnewBack areas made u.lived.spot [] back l before.gave c m
+  IsAnew c = AnewBack areas made u.lived.spot news back l before.gave c m
 
   anew : FreshBy l.stand l.gave l.era → (c : ComesAnew l) → IsAnew c
-  anew f c = anew_back areas made u.lived.spot [] back l before.gave c came l.stand refl f
+  anew f c = anew_back areas made u.lived.spot news back l before.gave c came l.stand refl f
 
   clash : {P : Type 0} (b : Bool) → b ≡ true → b ≡ false → P
   clash b e g = absurd (let bad : true ≡ false = sym e ∙ g in cc)

@@ -118,6 +118,8 @@ module _ (x : Speech Body Asked Reply) (ack : Asked → Bool) (frame : ℕ) (d :
     pub old : a.hand ≡ None
     pub over : a'.over ≡ a.over
     pub answers : side_answers d' ≡ side_answers d
+    pub past : d'.past ≡ d.past
+    pub row : (r : Held) → d.now ≡ Some r → RowStays r d'.now
     pub rests : RowRests d.now → RowRests d'.now
     pub free : is_free x d d.now ≡ true
 
@@ -226,6 +228,8 @@ module _ (x : Speech Body Asked Reply) (ack : Asked → Bool) (frame : ℕ) (d :
         old = may.2;
         over = over_begins a.hand (Some (Service.State target));
         answers = holds_answers b (next_mail x b.now b.halves.out.holding hold) ∙ ap side_answers same;
+        past = holds_past b (next_mail x b.now b.halves.out.holding hold) ∙ ap (λ (z : Side Body Asked Reply). z.past) same;
+        row = λ r e. holds_row b (next_mail x b.now b.halves.out.holding hold) r (ap (λ (z : Side Body Asked Reply). z.now) same ∙ e);
         rests = λ h. holds_rests b (next_mail x b.now b.halves.out.holding hold) (subst (λ (z : Side Body Asked Reply). RowRests z.now) (sym same) h);
         free = may.1;
       }

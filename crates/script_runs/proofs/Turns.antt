@@ -10,23 +10,22 @@ use Rattle.script_runs.specs.of_exchange_model.Areas.{Areas}
 use Rattle.script_runs.specs.of_exchange_model.Exchange.{Speech}
 use Rattle.script_runs.specs.of_exchange_model.Rows.{Row}
 use Rattle.frame_view.specs.View.{Lens}
-use Rattle.life_runs.proofs.Spans as Spans
-use Rattle.life_runs.specs.Spans.{is_leaving, is_open}
+use Rattle.life_runs.specs.Spans.{SameEpochs, is_leaving, is_open}
 use Rattle.script_runs.specs.of_life_model.Lives.{Era, Life, Stand, granted, life_next, returns_to_init}
 use Rattle.life_runs.specs.Led.{Leads, Turn, Comes, Took, IsTurn, is_passed, speech_at}
 use Rattle.script_runs.specs.of_link_mails.Body.{Body}
 use Rattle.script_runs.specs.of_master_duty.Reply.{Reply}
 use Rattle.script_runs.specs.of_master_hand.Spoken.{Asked, sdo, file, drive, net, handed, ends, acknowledged, is_followed}
 use Rattle.script_runs.specs.of_master_hand.Talk.{asked_of}
-use Rattle.script_runs.specs.Came.{is_packet}
+use Rattle.script_runs.specs.Came.{is_beside}
 use Rattle.script_runs.specs.of_segment_model.Ends.{Passing}
 use Rattle.script_runs.specs.of_segment_model.Seats.{newest, rows_of}
 use Rattle.segment_plan.specs.declared.service.Service as Plan
 use Rattle.script_runs.specs.of_state_exchange.Stated.{Service}
-use Rattle.script_runs.specs.of_task_model.Accounts.{Duty, Stage, Pick, is_free, starts}
+use Rattle.script_runs.specs.of_task_model.Accounts.{Duty, Stage, Pick, is_free, starts, Started}
 use Rattle.script_runs.specs.of_task_model.Promise.{services_in, mails_in}
-use Rattle.script_runs.specs.Answers.{Came, Noted, AllNoted, RowRests, RestsSo, Awaits, Changes, ComesAnew, IsStill, IsAwaiting, Waits, StandsBy, IsNew, IsSpared, FreshBy, IsNoted, answers_in, side_answers, states_in, now_answer, scripted_in, scripted_mails, era_scripted, eras_scripted, over_scripted, life_scripted, turned}
-use Rattle.script_runs.specs.Steps.{awaited, with_begun, IsBefore, Turns, TurnsSo}
+use Rattle.script_runs.specs.Answers.{Came, Noted, AllNoted, EraRests, NewestBeside, RestsSo, Awaits, Changes, ComesAnew, IsStill, IsAwaiting, Waits, StandsBy, IsNew, IsSpared, FreshBy, IsNoted, answers_in, side_answers, states_in, now_answer, scripted_in, scripted_mails, era_scripted, eras_scripted, over_scripted, life_scripted, turned}
+use Rattle.script_runs.specs.Steps.{awaited, with_begun, ComesBy, IsBefore, Turns, TurnsBy, TurnsSo}
 use Rattle.script_runs.proofs.Backs.{past_scripted}
 use Rattle.script_runs.proofs.Lists.{Answer, scripted_state, scripted_one, no_outcome, mails_more, states_more, changes_same, noted_more}
 use Rattle.script_runs.proofs.Sides.{Rests, Mails, State, longer, rests, mails, state, not_free}
@@ -52,15 +51,15 @@ none_of test a b c d e room Plan.Service.GetIp = e
 none_of test a b c d e room (Plan.Service.State target) = refl
 none_of test a b c d e room (Plan.Service.Forward packet) = refl
 
-pub not_packet : (room : ℕ) (s : Plan.Service) (q : Asked) → asked_of room s ≡ Some q → is_packet (Service.Mails q) ≡ false
-not_packet room s q e = ap (among (λ q. is_packet (Service.Mails q))) (sym e) ∙ none_of (λ q. is_packet (Service.Mails q)) (λ q. refl) (λ q. refl) (λ q. refl) (λ b. refl) refl room s
+pub not_packet : (room : ℕ) (s : Plan.Service) (q : Asked) → asked_of room s ≡ Some q → is_beside (Service.Mails q) ≡ false
+not_packet room s q e = ap (among (λ q. is_beside (Service.Mails q))) (sym e) ∙ none_of (λ q. is_beside (Service.Mails q)) (λ q. refl) (λ q. refl) (λ q. refl) (λ b. refl) refl room s
+
+-- nor a mail that is passed on
+pub none_passed : (room : ℕ) (s : Plan.Service) (q : Asked) → asked_of room s ≡ Some q → is_passed q ≡ false
+none_passed room s q e = ap (among is_passed) (sym e) ∙ none_of is_passed (λ q. refl) (λ q. refl) (λ q. refl) (λ b. refl) refl room s
 
 pub has_reply : (areas : Areas) (room : ℕ) (s : Plan.Service) (q : Asked) → asked_of room s ≡ Some q → handed areas q ≡ false
 has_reply areas room s q e = ap (among (handed areas)) (sym e) ∙ none_of (handed areas) (λ q. refl) (λ q. refl) (λ q. refl) (λ b. refl) refl room s
-
--- a packet never has a reply
-packet_never : (areas : Areas) (octets : List ℕ) (frame : ℕ) (hs : List Body) → ends areas (net (EoeClient.packet octets frame)) hs ≡ None
-packet_never areas octets frame hs = refl
 
 -- WHERE A SLAVE STANDS as before, its epoch is as new as before
 pub fresh_same : (stand : Stand) (gave : List ℕ) (e e' : Era Body Asked Reply) → e'.opened ≡ e.opened → (is_open stand ≡ false → e' ≡ e) → FreshBy stand gave e → FreshBy stand gave e'
@@ -158,11 +157,11 @@ module _ (x : Speech Body Asked Reply) (made : ℕ) (l : Life Body Asked Reply) 
       (λ i. answers_in (s.past i ++ newest (s.now i))) ∙ map-append (λ (k : Row Body Asked Reply). k.answer) (rows_of l.era.side) (s.row ∷ []) ∙ ap (λ (z : Answer). side_answers l.era.side ++ z ∷ []) s.answer
 
   pub mails_scripted : (m : Life Body Asked Reply) (q : Asked) → LifeMails q m → mails_in (services_in l.era.account.started) ≡ length (side_answers l.era.side) →
-      life_scripted m ≡ life_scripted l ++ scripted_mails (is_packet (Service.Mails q)) made None []
+      life_scripted m ≡ life_scripted l ++ scripted_mails (is_beside (Service.Mails q)) made None []
   mails_scripted m q r b =
       (λ i. eras_scripted (r.gave i) (r.past i) (r.opened i) ++ scripted_in None (r.era.started i) (mails_answers m q r i) (r.era.over i))
       ∙ ap (λ ss. past_scripted l ++ ss) (scripted_one None l.era.account.started (side_answers l.era.side) l.era.account.over q made None b)
-      ∙ sym (append_assoc (past_scripted l) (era_scripted None l.era) (scripted_mails (is_packet (Service.Mails q)) made None []))
+      ∙ sym (append_assoc (past_scripted l) (era_scripted None l.era) (scripted_mails (is_beside (Service.Mails q)) made None []))
 
   pub mails_beside : (m : Life Body Asked Reply) (q : Asked) → LifeMails q m → mails_in (services_in l.era.account.started) ≡ length (side_answers l.era.side) → mails_in (services_in m.era.account.started) ≡ length (side_answers m.era.side)
   mails_beside m q r b =
@@ -204,7 +203,7 @@ awaits_on e e' w row started over past hand now service = record {
 }
 
 -- a change of state goes on
-abbrev pub changes_on : (e e' : Era Body Asked Reply) (w : Changes e) (duty : Duty) → e'.account.started ≡ e.account.started → e'.account.over ≡ e.account.over → e'.account.hand ≡ Some duty → duty.target ≡ w.duty.target → RowRests e'.side.now → Changes e'
+abbrev pub changes_on : (e e' : Era Body Asked Reply) (w : Changes e) (duty : Duty) → e'.account.started ≡ e.account.started → e'.account.over ≡ e.account.over → e'.account.hand ≡ Some duty → duty.target ≡ w.duty.target → EraRests e' → Changes e'
 changes_on e e' w duty started over hand target row = record {
   front = w.front;
   frame = w.frame;
@@ -215,12 +214,26 @@ changes_on e e' w duty started over hand target row = record {
   row = row;
 }
 
+-- the newest service by mails stays one that is none of the script
+abbrev pub beside_on : (e e' : Era Body Asked Reply) (w : NewestBeside e) (more : List (Started Asked)) (row : Row Body Asked Reply) → e'.account.started ≡ e.account.started ++ more → e'.side.past ≡ e.side.past → e'.side.now ≡ Some row → NewestBeside e'
+beside_on e e' w more row started past now = record {
+  front = w.front;
+  asked = w.asked;
+  frame = w.frame;
+  behind = w.behind ++ more;
+  started = started ∙ ap (λ ss. ss ++ more) w.started ∙ append_assoc w.front (record { service = Service.Mails w.asked; frame = w.frame } ∷ w.behind) more;
+  other = w.other;
+  beside = w.beside ∙ ap (λ rs. length (answers_in rs)) (sym past);
+  row = row;
+  now = now;
+}
+
 -- nothing comes into hand
-abbrev pub rests_on : (e e' : Era Body Asked Reply) → RestsSo e → e'.account.started ≡ e.account.started → e'.account.over ≡ e.account.over → e'.account.hand ≡ e.account.hand → RowRests e'.side.now → RestsSo e'
+abbrev pub rests_on : (e e' : Era Body Asked Reply) → RestsSo e → e'.account.started ≡ e.account.started → e'.account.over ≡ e.account.over → e'.account.hand ≡ e.account.hand → EraRests e' → RestsSo e'
 rests_on e e' r started over hand row = record { hand = hand ∙ r.hand; states = ap (λ ss. states_in (services_in ss)) started ∙ r.states ∙ ap length (sym over); row = row }
 
 -- A TURN of a slave of which this is noted
-module _ (lens : ℕ → Lens) (made : ℕ) (ds : List Raw.Datagram) (a : Leads) (u : Turn) (y : IsTurn lens made ds a u) where
+module _ (lens : ℕ → Lens) (made : ℕ) (a : Leads) (u : Turn) (y : TurnsBy lens made a u) where
   abbrev x : Speech Body Asked Reply
   x = speech_at lens a.lived.spot
 
@@ -264,9 +277,13 @@ module _ (lens : ℕ → Lens) (made : ℕ) (ds : List Raw.Datagram) (a : Leads)
   rests_over : (r : Nothing) → is_open a.lived.life.stand ≡ false → (g : Option ℕ) → over_scripted u.lived.life g ≡ over_scripted a.lived.life g
   rests_over r away g = over_same a.lived.life u.lived.life r.gave r.past r.stand (r.still away) g
 
+  rests_era : Nothing → EraRests old → EraRests new
+  rests_era r (inl h) = inl (r.era.rests h)
+  rests_era r (inr w) = let s = r.era.row w.row w.now in inr (beside_on old new w [] s.row (r.era.started ∙ sym (append-nil old.account.started)) r.era.past s.is)
+
   rests_still : Nothing → IsStill a.lived.life → IsStill u.lived.life
   rests_still r h = record {
-    rests = λ s. let k = h.rests (sym r.stand ∙ s) in rests_on old new k r.era.started r.era.over r.era.hand (r.era.rests k.row);
+    rests = λ s. let k = h.rests (sym r.stand ∙ s) in rests_on old new k r.era.started r.era.over r.era.hand (rests_era r k.row);
     opens = λ o s g before.
         let was : a.lived.life.stand ≡ Stand.Opens o = sym r.stand ∙ s in
         rests_over r (ap is_open was) (Some g) ∙ h.opens o was g (subst (λ (z : List ℕ). All (λ k. k < g) z) r.gave before) ∙ sym (rests_over r (ap is_open was) None);
@@ -284,7 +301,7 @@ module _ (lens : ℕ → Lens) (made : ℕ) (ds : List Raw.Datagram) (a : Leads)
   rests_by : Nothing → (w : Waits) → StandsBy w a → StandsBy w (turned u)
   rests_by r Waits.nothing h = rests_still r h
   rests_by r Waits.reply h = rests_waiting r h
-  rests_by r Waits.change (inl g) = inl (record { stand = r.stand ∙ g.stand; era = changes_on old new g.era g.era.duty r.era.started r.era.over (r.era.hand ∙ g.era.hand) refl (r.era.rests g.era.row) })
+  rests_by r Waits.change (inl g) = inl (record { stand = r.stand ∙ g.stand; era = changes_on old new g.era g.era.duty r.era.started r.era.over (r.era.hand ∙ g.era.hand) refl (rests_era r g.era.row) })
   rests_by r Waits.change (inr c) = inr (rests_anew r c)
 
   -- one that was open goes on
@@ -326,12 +343,23 @@ module _ (lens : ℕ → Lens) (made : ℕ) (ds : List Raw.Datagram) (a : Leads)
     mails_states : (q : Asked) → LifeMails x made a.lived.life y.next.pick q u.lived.life → RestsSo old → states_in (services_in new.account.started) ≡ length new.account.over
     mails_states q r k = ap (λ ss. states_in (services_in ss)) r.era.started ∙ changes_same old.account.started q made ∙ k.states ∙ ap length (sym r.era.over)
 
-    turn_packet : (q : Asked) → u.begun ≡ Some (Service.Mails q) → is_packet (Service.Mails q) ≡ true → ((areas : Areas) (hs : List Body) → ends areas q hs ≡ None) → u.number ≡ a.number → Turns made (turned u) waits number ns
-    turn_packet q b p never k =
+    turn_beside : (q : Asked) → u.begun ≡ Some (Service.Mails q) → is_beside (Service.Mails q) ≡ true → u.number ≡ a.number → Turns made (turned u) waits number ns
+    turn_beside q b p k =
         let r = came_mails q b in
         let free = free_by waits h.stands r.was r.era.free r.era.old in
         let scripted = mails_scripted x made a.lived.life y.next.pick u.lived.life q r h.beside ∙ ap (λ z. life_scripted a.lived.life ++ scripted_mails z made None []) p ∙ append-nil (life_scripted a.lived.life) in
-        let row : RowRests new.side.now = subst (λ (z : Option (Row Body Asked Reply)). RowRests z) (sym r.era.side.now) (inr (λ areas hs. ap (λ (z : Asked). ends areas z hs) r.era.side.service ∙ never areas hs)) in
+        let row : EraRests new =
+        inr (record {
+          front = old.account.started;
+          asked = q;
+          frame = made;
+          behind = [];
+          started = r.era.started;
+          other = p;
+          beside = h.beside ∙ ap (λ rs. length (answers_in rs)) (sym r.era.side.past);
+          row = r.era.side.row;
+          now = r.era.side.now;
+        }) in
         record {
           same = λ e. record {
             many = h.many ∙ sym k;
@@ -346,7 +374,7 @@ module _ (lens : ℕ → Lens) (made : ℕ) (ds : List Raw.Datagram) (a : Leads)
           more = λ e. same_number k e;
         }
 
-    turn_mails : (q : Asked) → u.begun ≡ Some (Service.Mails q) → is_packet (Service.Mails q) ≡ false → ((areas : Areas) → handed areas q ≡ false) → u.number ≡ suc a.number → Turns made (turned u) waits number ns
+    turn_mails : (q : Asked) → u.begun ≡ Some (Service.Mails q) → is_beside (Service.Mails q) ≡ false → ((areas : Areas) → handed areas q ≡ false) → u.number ≡ suc a.number → Turns made (turned u) waits number ns
     turn_mails q b p replies k =
         let r = came_mails q b in
         let free = free_by waits h.stands r.was r.era.free r.era.old in
@@ -380,6 +408,10 @@ module _ (lens : ℕ → Lens) (made : ℕ) (ds : List Raw.Datagram) (a : Leads)
           });
         }
 
+    state_era : {target : ℕ} → LifeState x made a.lived.life y.next.pick target u.lived.life → EraRests old → EraRests new
+    state_era r (inl h) = inl (r.era.rests h)
+    state_era {target} r (inr w) = let s = r.era.row w.row w.now in inr (beside_on old new w (record { service = Service.State target; frame = made } ∷ []) s.row r.era.started r.era.past s.is)
+
     turn_state : (target : ℕ) → u.begun ≡ Some (Service.State target) → u.number ≡ suc a.number → Turns made (turned u) waits number ns
     turn_state target b k =
         let r = came_state target b in
@@ -402,7 +434,7 @@ module _ (lens : ℕ → Lens) (made : ℕ) (ds : List Raw.Datagram) (a : Leads)
                 started = r.era.started;
                 beside = free.rests.states ∙ ap length (sym r.era.over);
                 hand = r.era.hand;
-                row = r.era.rests free.rests.row;
+                row = state_era r free.rests.row;
               };
             });
           });
@@ -412,10 +444,14 @@ module _ (lens : ℕ → Lens) (made : ℕ) (ds : List Raw.Datagram) (a : Leads)
     by_comes _ _ Comes.none b k = turn_rests b k
     by_comes _ _ (Comes.mails s q at asked) b k = turn_mails q b (not_packet _ s q asked) (λ areas. has_reply areas _ s q asked) k
     by_comes _ _ (Comes.state target at) b k = turn_state _ b k
-    by_comes _ _ (Comes.packet octets frame) b k = turn_packet _ b refl (λ areas hs. packet_never areas octets frame hs) k
+    by_comes _ _ (Comes.packet octets frame) b k = turn_beside _ b refl k
+
+    by_any : (b : Option (Service Asked)) (k : ℕ) → ComesBy (lens a.lived.spot.station).out a.script a.number b k → u.begun ≡ b → u.number ≡ k → Turns made (turned u) waits number ns
+    by_any _ _ (ComesBy.own b k comes) e f = by_comes b k comes e f
+    by_any _ _ (ComesBy.mail m) e f = turn_beside _ e refl f
 
     pub turn_noted : Turns made (turned u) waits number ns
-    turn_noted = by_comes u.begun u.number y.comes refl refl
+    turn_noted = by_any u.begun u.number y.comes refl refl
 
   -- whatever is noted
   turn_gave : u.lived.life.gave ≡ a.lived.life.gave
@@ -433,8 +469,28 @@ module _ (lens : ℕ → Lens) (made : ℕ) (ds : List Raw.Datagram) (a : Leads)
   next_number _ _ (Comes.state target at) = inr refl
   next_number _ _ (Comes.packet octets frame) = inl refl
 
+  any_number : (b : Option (Service Asked)) (k : ℕ) → ComesBy (lens a.lived.spot.station).out a.script a.number b k → (k ≡ a.number) ⊎ (k ≡ suc a.number)
+  any_number _ _ (ComesBy.own b k comes) = next_number b k comes
+  any_number _ _ (ComesBy.mail m) = inl refl
+
+  -- and its epochs stay
+  next_epochs : (stand : Stand) → SameEpochs a.lived.life (life_next x acknowledged is_followed is_passed made a.lived.life stand y.next.pick)
+  next_epochs (Stand.Opens o) = record { spans = refl; stand = refl }
+  next_epochs Stand.Open = record { spans = refl; stand = refl }
+  next_epochs Stand.Gone = record { spans = refl; stand = refl }
+
   turn_before : IsBefore made a.lived.life → IsBefore made u.lived.life
   turn_before h = subst (λ (z : Life Body Asked Reply). IsBefore made z) (sym y.next.life) (still_before x made a.lived.life y.next.pick a.lived.life.stand h)
 
-  pub turns_so : TurnsSo made a (turned u)
-  turns_so = record { turns = λ waits number ns h. turn_noted waits number ns h; gave = turn_gave; goes = record { script = y.script; number = next_number u.begun u.number y.comes }; epochs = Spans.turns_so lens made ds a u y; before = turn_before }
+  pub turns_by : TurnsSo made a (turned u)
+  turns_by = record {
+    turns = λ waits number ns h. turn_noted waits number ns h;
+    gave = turn_gave;
+    goes = record { script = y.script; number = any_number u.begun u.number y.comes };
+    epochs = subst (λ (m : Life Body Asked Reply). SameEpochs a.lived.life m) (sym y.next.life) (next_epochs a.lived.life.stand);
+    before = turn_before;
+  }
+
+-- of a run
+pub turns_so : (lens : ℕ → Lens) (made : ℕ) (ds : List Raw.Datagram) (a : Leads) (u : Turn) → IsTurn lens made ds a u → TurnsSo made a (turned u)
+turns_so lens made ds a u y = turns_by lens made a u (record { script = y.script; comes = ComesBy.own u.begun u.number y.comes; next = y.next; begun = y.begun; took = y.took })

@@ -9,8 +9,8 @@ use Rattle.life_runs.specs.Led.{Leads, Turn}
 use Rattle.script_runs.specs.of_link_mails.Body.{Body}
 use Rattle.script_runs.specs.of_mailbox_mail.declared.outcome.ReplyKind.{ReplyKind}
 use Rattle.script_runs.specs.of_master_duty.Reply.{Reply}
-use Rattle.script_runs.specs.of_master_hand.Spoken.{Asked, handed, ends}
-use Rattle.script_runs.specs.Came.{is_packet}
+use Rattle.script_runs.specs.of_master_hand.Spoken.{Asked, handed}
+use Rattle.script_runs.specs.Came.{is_beside}
 use Rattle.script_runs.specs.of_segment_model.Ends.{Outcome}
 use Rattle.script_runs.specs.of_segment_model.Seats.{Side, rows_of}
 use Rattle.script_runs.specs.of_state_exchange.Stated.{Service}
@@ -46,7 +46,7 @@ abbrev pub changes_behind : List (Change Reply) → List (Change Reply)
 changes_behind [] = []
 changes_behind (c ∷ cs) = cs
 
--- a service by mails, where it is no packet
+-- a service by mails, where it is of the script
 abbrev pub scripted_mails : Bool → ℕ → Option (Reply × ℕ) → List Scripted → List Scripted
 scripted_mails true frame answer more = more
 scripted_mails false frame answer more = record { frame = frame; came = Came.mails answer } ∷ more
@@ -66,11 +66,11 @@ change_outcome returns anew None = if returns then reached_at anew else None
 abbrev pub scripted_by : Option ℕ → Service Asked → ℕ → List (Option (Reply × ℕ)) → List (Change Reply) → (List (Option (Reply × ℕ)) → List (Change Reply) → List Scripted) → List Scripted
 scripted_by anew (Service.State target) frame answers changes more =
     record { frame = frame; came = Came.state (change_outcome (returns_to_init target) anew (first_change changes)) } ∷ more answers (changes_behind changes)
-scripted_by anew (Service.Mails q) frame [] changes more = scripted_mails (is_packet (Service.Mails q)) frame None (more [] changes)
-scripted_by anew (Service.Mails q) frame (answer ∷ answers) changes more = scripted_mails (is_packet (Service.Mails q)) frame answer (more answers changes)
+scripted_by anew (Service.Mails q) frame [] changes more = scripted_mails (is_beside (Service.Mails q)) frame None (more [] changes)
+scripted_by anew (Service.Mails q) frame (answer ∷ answers) changes more = scripted_mails (is_beside (Service.Mails q)) frame answer (more answers changes)
 
 -- THE SCRIPTED SERVICES among those that came into hand, each that goes by mails with the answer of its row, and each change of state with its outcome;
--- packets are left out
+-- packets and mails that are passed on are left out
 abbrev pub scripted_in : Option ℕ → List (Started Asked) → List (Option (Reply × ℕ)) → List (Change Reply) → List Scripted
 scripted_in anew [] answers changes = []
 scripted_in anew (s ∷ ss) answers changes = scripted_by anew s.service s.frame answers changes (λ more others. scripted_in anew ss more others)
@@ -150,16 +150,32 @@ states_in [] = 0
 states_in (Service.State target ∷ ss) = suc (states_in ss)
 states_in (Service.Mails q ∷ ss) = states_in ss
 
--- a row whose answer stays: it is answered, or never will be
+-- a row whose answer stays: it is answered
 abbrev pub RowRests : Option (Row Body Asked Reply) → Type 0
 RowRests None = ⊤
-RowRests (Some r) = (is_some r.answer ≡ true) ⊎ ((areas : Areas) (hs : List Body) → ends areas r.service hs ≡ None)
+RowRests (Some r) = is_some r.answer ≡ true
+
+-- THE NEWEST SERVICE BY MAILS of an epoch is none of the script, so that it doesn't matter what its row is answered
+pub record NewestBeside (e : Era Body Asked Reply) : Type 0 where
+  pub front : List (Started Asked)
+  pub asked : Asked
+  pub frame : ℕ
+  pub behind : List (Started Asked)
+  pub started : e.account.started ≡ front ++ record { service = Service.Mails asked; frame = frame } ∷ behind
+  pub other : is_beside (Service.Mails asked) ≡ true
+  pub beside : mails_in (services_in front) ≡ length (answers_in e.side.past)
+  pub row : Row Body Asked Reply
+  pub now : e.side.now ≡ Some row
+
+-- what its script came to stays, whatever is heard of its newest row
+abbrev pub EraRests : Era Body Asked Reply → Type 0
+EraRests e = RowRests e.side.now ⊎ NewestBeside e
 
 -- NOTHING IS IN HAND of an epoch that awaits an answer
 pub record RestsSo (e : Era Body Asked Reply) : Type 0 where
   pub hand : e.account.hand ≡ None
   pub states : states_in (services_in e.account.started) ≡ length e.account.over
-  pub row : RowRests e.side.now
+  pub row : EraRests e
 
 -- THE NEWEST SERVICE OF AN EPOCH IS A SCRIPTED ONE BY MAILS, which awaits its reply
 pub record Awaits (e : Era Body Asked Reply) : Type 0 where
@@ -168,7 +184,7 @@ pub record Awaits (e : Era Body Asked Reply) : Type 0 where
   pub frame : ℕ
   pub row : Row Body Asked Reply
   pub started : e.account.started ≡ front ++ record { service = Service.Mails asked; frame = frame } ∷ []
-  pub script : is_packet (Service.Mails asked) ≡ false
+  pub script : is_beside (Service.Mails asked) ≡ false
   pub beside : mails_in (services_in front) ≡ length (answers_in e.side.past)
   pub now : e.side.now ≡ Some row
   pub replies : (areas : Areas) → handed areas row.service ≡ false
@@ -183,7 +199,7 @@ pub record Changes (e : Era Body Asked Reply) : Type 0 where
   pub started : e.account.started ≡ front ++ record { service = Service.State duty.target; frame = frame } ∷ []
   pub beside : states_in (services_in front) ≡ length e.account.over
   pub hand : e.account.hand ≡ Some duty
-  pub row : RowRests e.side.now
+  pub row : EraRests e
 
 -- the epochs of a slave that is opened behind which the next one opens: where it is leaving, the newest is over too
 abbrev pub eras_over : Life Body Asked Reply → List (Era Body Asked Reply)

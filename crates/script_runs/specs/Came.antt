@@ -2,7 +2,7 @@
 use Rattle.std.specs.Prelude.{◌≡◌, ℕ, ◌≤◌, ◌%◌, Bool, true, false, not, Option, Some, option_map, List, [], ◌∷◌, ◌++◌, take, filter, length, ⊤}
 use Rattle.life_runs.specs.of_eoe_model.Client as EoeClient
 use Rattle.life_runs.specs.Led.{Comes}
-use Rattle.life_runs.specs.of_master_hand.Spoken.{Asked, net}
+use Rattle.life_runs.specs.of_master_hand.Spoken.{Asked, net, passed}
 use Rattle.life_runs.specs.of_master_hand.Talk.{asked_of}
 use Rattle.life_runs.specs.of_segment_plan.declared.service.Service as Plan
 use Rattle.book_model.specs.of_state_exchange.Stated.{Service}
@@ -27,6 +27,12 @@ AreThose room _ _ = ⊥
 abbrev pub is_packet : Service Asked → Bool
 is_packet (Service.Mails (net (EoeClient.packet octets frame))) = true
 is_packet _ = false
+
+-- a service that no script has: a packet, or a mail that is passed on
+abbrev pub is_beside : Service Asked → Bool
+is_beside (Service.Mails (net (EoeClient.packet octets frame))) = true
+is_beside (Service.Mails (passed m)) = true
+is_beside _ = false
 
 -- WITHOUT THE PACKETS they are the first `count` services of the script, in order, each once
 pub record AreFirst (room : ℕ) (script : List Plan.Service) (count : ℕ) (qs : List (Service Asked)) : Type 0 where

@@ -3,14 +3,19 @@ use Rattle.std.specs.Prelude.{◌≡◌, ◌⊎◌, ◌<◌, ℕ, suc, Bool, tru
 use Rattle.std.specs.List.{All}
 use Rattle.life_runs.specs.Spans.{is_open, SameEpochs, EpochsBack, EpochsLost}
 use Rattle.script_runs.specs.of_life_model.Lives.{Era, Life, Stand}
-use Rattle.life_runs.specs.Led.{Leads}
+use Rattle.life_runs.specs.Led.{Comes, Leads, Took, Turn, speech_at}
+use Rattle.life_runs.specs.of_frame_view.View.{Lens}
+use Rattle.life_runs.specs.of_life_frames.Shares.{IsNext}
+use Rattle.life_runs.specs.of_mailbox_mail.declared.mail.Mail.{Mail}
+use Rattle.life_runs.specs.of_segment_plan.declared.service.Service as Plan
 use Rattle.script_runs.specs.of_master_duty.Reply.{Reply}
 use Rattle.script_runs.specs.of_segment_model.Ends.{Outcome}
 use Rattle.script_runs.specs.of_task_model.Accounts.{Account, Change}
 use Rattle.script_runs.specs.Answers.{Noted, IsNoted, Waits, newest_answer, reply_by}
 use Rattle.script_runs.specs.of_exchange_model.Rows.{Row}
 use Rattle.script_runs.specs.of_link_mails.Body.{Body}
-use Rattle.script_runs.specs.of_master_hand.Spoken.{Asked, is_passed}
+use Rattle.script_runs.specs.of_master_hand.Spoken.{Asked, acknowledged, is_followed, is_passed, passed}
+use Rattle.script_runs.specs.of_state_exchange.Stated.{Service}
 
 -- the frames at which a slave was given up
 abbrev pub gives : Leads → List ℕ
@@ -52,6 +57,19 @@ pub record IsBefore (made : ℕ) (l : Life Body Asked Reply) : Type 0 where
 pub record Turns (made : ℕ) (b : Leads) (waits : Waits) (number : ℕ) (ns : List Noted) : Type 0 where
   pub same : nat_lt number b.number ≡ false → IsNoted b waits number ns
   pub more : nat_lt number b.number ≡ true → (state : Bool) → (b.lived.life.stand ≡ Stand.Open → state ≡ is_some (account_of b).hand) → IsNoted b (awaited state) b.number (with_begun made ns)
+
+-- WHAT COMES INTO HAND: as in a run, or a mail that is passed on, where the script stays
+pub data ComesBy (room : ℕ) (script : List Plan.Service) (n : ℕ) : Option (Service Asked) → ℕ → Type 0 where
+  own : (b : Option (Service Asked)) (k : ℕ) → Comes room script n b k → ComesBy room script n b k
+  mail : (m : Mail) → ComesBy room script n (Some (Service.Mails (passed m))) n
+
+-- A SLAVE BEFORE A FRAME, whatever came into hand
+pub record TurnsBy (lens : ℕ → Lens) (made : ℕ) (a : Leads) (u : Turn) : Type 0 where
+  pub script : u.script ≡ a.script
+  pub comes : ComesBy (lens a.lived.spot.station).out a.script a.number u.begun u.number
+  pub next : IsNext (speech_at lens a.lived.spot) acknowledged is_followed is_passed made a.lived u.lived
+  pub begun : next.pick.begin ≡ u.begun
+  pub took : Took made a.lived.life.era.account u.lived.life.era.account u.begun
 
 -- the script of a slave goes on by one service, or by none
 pub record GoesOn (a b : Leads) : Type 0 where

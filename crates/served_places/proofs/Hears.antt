@@ -24,7 +24,7 @@ use Rattle.life_runs.specs.of_master_side.Passing.{news_back, news_lost}
 use Rattle.life_runs.specs.of_segment_ring.declared.wire.Fate.{Fate}
 use Rattle.life_runs.specs.of_segment_ring.declared.wire.Fate.TheVariants.{Pass, Lost}
 use Rattle.life_runs.specs.Led.{Exchanged, speech_at}
-use Rattle.master_tour.specs.Brings.{accepted_at, accepted_in}
+use Rattle.master_tour.specs.Brings.{accepted_at}
 use Rattle.served_runs.specs.Served.{ServedTurn, accepted_by, served_behind, served_life}
 use Rattle.served_runs.specs.Told.{Passed, TellsOwn}
 use Rattle.served_places.specs.Rows.{HearsNoMore, eras_passings, eras_rows, is_passed_row, last_more, life_rows, now_passing, passed_rows, passings, replies_of, told_besides}

@@ -21,7 +21,7 @@ use Rattle.life_runs.specs.of_master_side.Passing.{passing_behind}
 use Rattle.life_runs.specs.Led.{Took, speech_at}
 use Rattle.served_runs.specs.Served.{Serves, ServedTurn, IsServedTurn}
 use Rattle.served_places.specs.Rows.{Stays, eras_passings, eras_rows, is_passed_row, life_rows, now_passing, passed_rows, passings, replies_of, row_begun}
-use Rattle.served_places.proofs.Stay.{Keeps, StaysOver, both_append, both_itself, holds_passings, keeps_heard, keeps_itself, keeps_stay, lives_more, overs, same_over, side_holds_keeps, side_passings}
+use Rattle.served_places.proofs.Stay.{Keeps, StaysOver, both_append, holds_passings, keeps_heard, keeps_itself, keeps_stay, lives_more, overs, same_over, side_holds_keeps, side_passings}
 
 -- one more is never none
 more_not : {T : Type 0} (xs : List T) (y : T) → xs ≡ xs ++ y ∷ [] → ⊥

@@ -1,5 +1,5 @@
 -- WHERE EACH SERVICE HAS ITS OUTCOME its master has its answer: that of the application behind those before it.
-use Rattle.std.proofs.Common.{◌≡◌, ℕ, suc, ◌==◌, Bool, true, false, Option, None, Some, List, [], ◌∷◌, ◌++◌, refl, ap, sym, ◌∙◌, subst, if◌then◌else◌}
+use Rattle.std.proofs.Common.{◌≡◌, ◌<◌, ℕ, suc, ◌==◌, Bool, true, false, Option, None, Some, List, [], ◌∷◌, ◌++◌, refl, ap, sym, ◌∙◌, subst, if◌then◌else◌}
 use Rattle.std.specs.Prelude.{⊤}
 use Rattle.exchange_model.specs.Exchange.{Exchange}
 use Rattle.exchange_model.specs.Rows.{Row}
@@ -11,7 +11,7 @@ use Rattle.state_exchange.specs.Stated.{Service, Stated, service_exec, service_r
 use Rattle.state_model.specs.Promises.{answer_of, state_behind}
 use Rattle.state_model.specs.States.{Table}
 use Rattle.task_model.specs.Accounts.{Change, Started}
-use Rattle.task_model.specs.Promise.{AllEnded, AllFound, AllReplied, IsReply, changes_in, mail_of, mails_started, outcome_of, rows_started, services_in, state_found, state_of, states_started}
+use Rattle.task_model.specs.Promise.{AllDone, AllEnded, AllFound, AllReplied, IsReply, changes_in, mail_of, mails_started, outcome_of, rows_started, services_in, state_found, state_of, states_started}
 
 -- ---- the outcome of a state service tells that it was carried out
 same_reply : {R : Type 0} (r o : Outcome R) → Some r ≡ Some o → IsReply r → IsReply o
@@ -53,6 +53,19 @@ module _ {V A M Q R : Type 0} (x : Exchange V A M Q R) (s : Stated V A Q) (table
   AreAnswered a (Service.State target ∷ qs) rs (c ∷ cs) =
       (c.target ≡ target) × (c.answer ≡ answer_of (table (s.state a.0) target)) × AreAnswered (s.told (state_behind table (s.state a.0) target) a.0, suc a.1) qs rs cs
   AreAnswered a _ _ _ = ⊥
+
+  -- one that has its answer has this reply, and is among the first so many
+  abbrev pub IsReplyOf : ℕ → ℕ → A → Q → Row M Q R → Type 0
+  IsReplyOf count number a q r = (r.service ≡ q) × (x.speech.handed q ≡ false → (reply : R) (frame : ℕ) → r.answer ≡ Some (reply, frame) → (reply ≡ x.reply a q) × (number < count))
+
+  -- SO EACH ANSWER IS, from an application on, beside the number of changes; a change of the AL state that isn't over has none
+  abbrev pub AreReplies : ℕ → ℕ → A × ℕ → List (Service Q) → List (Row M Q R) → List (Change R) → Type 0
+  AreReplies count number a [] [] [] = ⊤
+  AreReplies count number a (Service.Mails q ∷ qs) (r ∷ rs) cs = IsReplyOf count number a.0 q r × AreReplies count (suc number) (x.exec a.0 q, a.1) qs rs cs
+  AreReplies count number a (Service.State target ∷ qs) rs [] = AreReplies count (suc number) (s.told (state_behind table (s.state a.0) target) a.0, suc a.1) qs rs []
+  AreReplies count number a (Service.State target ∷ qs) rs (c ∷ cs) =
+      (c.target ≡ target) × (c.answer ≡ answer_of (table (s.state a.0) target)) × (number < count) × AreReplies count (suc number) (s.told (state_behind table (s.state a.0) target) a.0, suc a.1) qs rs cs
+  AreReplies count number a _ _ _ = ⊥
 
   module _ (more : M → Bool) (station : ℕ) (fs : List (Frame M)) where
     abbrev outcome : Service Q → ℕ → Option (Outcome R × ℕ)
@@ -115,3 +128,60 @@ module _ {V A M Q R : Type 0} (x : Exchange V A M Q R) (s : Stated V A Q) (table
             let head : ◌≡◌ {A = ℕ × ℕ} (target, t.frame) (c.target, c.frame) = cc in
             let tail : states_started ss ≡ changes_in cs = cc in
             (sym (ap (λ (k : ℕ × ℕ). k.0) head), change_replied a target t.frame c head found.0 reply, rest (s.told (state_behind table (s.state a.0) target) a.0, suc a.1) rs cs rows tail has found.1 replied)
+
+    -- ---- at each moment
+    abbrev IsDone : ℕ → ℕ → Service Q → ℕ → Type 0
+    IsDone count number q frame = (o : Outcome R × ℕ) → outcome q frame ≡ Some o → IsReply o.0 → number < count
+
+    row_reply : (count number : ℕ) (a : A × ℕ) (q : Q) (frame : ℕ) (r : Row M Q R) → ◌≡◌ {A = Q × ℕ} (q, frame) (r.service, r.frame) → IsAnswered x.speech more station fs r → Replies a (Service.Mails q) frame → IsDone count number (Service.Mails q) frame →
+        IsReplyOf count number a.0 q r
+    row_reply count number a q frame r same has replies done =
+        let service : r.service ≡ q = sym (ap (λ (k : Q × ℕ). k.0) same) in (
+          service,
+          λ one reply at answer.
+              let found : as_outcome r.answer ≡ outcome (Service.Mails q) frame = has.replied (ap x.speech.handed service ∙ one) ∙ ap (λ (k : Q × ℕ). outcome (Service.Mails k.0) k.1) (sym same) in
+              let here : outcome (Service.Mails q) frame ≡ Some (Outcome.Replied reply, at) = sym found ∙ ap as_outcome answer in
+              let is : Outcome.Replied reply ≡ Outcome.Replied (x.reply a.0 q) = replies (Outcome.Replied reply, at) here tt in
+              let own : reply ≡ x.reply a.0 q = cc in
+              (own, done (Outcome.Replied reply, at) here tt),
+        )
+
+    change_done : (count number target frame : ℕ) (c : Change R) → ◌≡◌ {A = ℕ × ℕ} (target, frame) (c.target, c.frame) → state_found x.speech more station fs c.target c.frame ≡ Some (c.answer, c.completed) → IsDone count number (Service.State target) frame → number < count
+    change_done count number target frame c same found done =
+        let here : outcome (Service.State target) frame ≡ Some (c.answer, c.completed) = ap (λ (k : ℕ × ℕ). outcome (Service.State k.0) k.1) same ∙ found in
+        done (c.answer, c.completed) here (first_of_all IsReply (λ (ns : List (News M)). state_ends target None ns) (λ ns o e. state_replies target None ns o e) frame [] (news_from station frame fs) (c.answer, c.completed) here)
+
+    -- of these services, behind which no more changes than these came into hand
+    abbrev HaveReplies : ℕ → List (Started Q) → Type 0
+    HaveReplies count ss = (number : ℕ) (b : A × ℕ) (rs : List (Row M Q R)) (cs : List (Change R)) (ds : List (ℕ × ℕ)) → mails_started ss ≡ rows_started rs → states_started ss ≡ changes_in cs ++ ds → AllAnswered x.speech more station fs rs → AllFound x.speech more station fs cs →
+        AllReplied x s table more station fs b ss → AllDone x.speech more station fs count number ss → AreReplies count number b (services_in ss) rs cs
+
+    -- SO EACH ANSWER IS of all that came into hand
+    pub all_replies : (count : ℕ) (ss : List (Started Q)) (number : ℕ) (a : A × ℕ) (rs : List (Row M Q R)) (cs : List (Change R)) (ds : List (ℕ × ℕ)) → mails_started ss ≡ rows_started rs → states_started ss ≡ changes_in cs ++ ds → AllAnswered x.speech more station fs rs →
+        AllFound x.speech more station fs cs → AllReplied x s table more station fs a ss → AllDone x.speech more station fs count number ss → AreReplies count number a (services_in ss) rs cs
+    all_replies count [] number a [] [] ds rows changes has found replied done = tt
+    all_replies count [] number a [] (c ∷ cs) ds rows changes has found replied done = absurd (let no : [] ≡ (c.target, c.frame) ∷ (changes_in cs ++ ds) = changes in cc)
+    all_replies count [] number a (r ∷ rs) cs ds rows changes has found replied done = absurd (let no : [] ≡ (r.service, r.frame) ∷ rows_started rs = rows in cc)
+    all_replies count (t ∷ ss) number a rs cs ds rows changes has found replied done =
+        by t.service rs cs ds rows changes has found replied.0 replied.1 done.0 done.1 (λ m b rs cs ds rows changes has found rest ended. all_replies count ss m b rs cs ds rows changes has found rest ended)
+      where
+        by : (q : Service Q) (rs : List (Row M Q R)) (cs : List (Change R)) (ds : List (ℕ × ℕ)) → mail_of q t.frame ++ mails_started ss ≡ rows_started rs → state_of q t.frame ++ states_started ss ≡ changes_in cs ++ ds → AllAnswered x.speech more station fs rs →
+            AllFound x.speech more station fs cs → Replies a q t.frame → AllReplied x s table more station fs (service_exec x s table a q) ss → IsDone count number q t.frame → AllDone x.speech more station fs count (suc number) ss → HaveReplies count ss →
+            AreReplies count number a (q ∷ services_in ss) rs cs
+        by (Service.Mails q) [] cs ds rows changes has found reply replied one done rest = absurd (let no : (q, t.frame) ∷ mails_started ss ≡ [] = rows in cc)
+        by (Service.Mails q) (r ∷ rs) cs ds rows changes has found reply replied one done rest =
+            let all : (q, t.frame) ∷ mails_started ss ≡ (r.service, r.frame) ∷ rows_started rs = rows in
+            let head : ◌≡◌ {A = Q × ℕ} (q, t.frame) (r.service, r.frame) = cc in
+            let tail : mails_started ss ≡ rows_started rs = cc in
+            (row_reply count number a q t.frame r head has.0 reply one, rest (suc number) (x.exec a.0 q, a.1) rs cs ds tail changes has.1 found replied done)
+        by (Service.State target) rs [] ds rows changes has found reply replied one done rest =
+            rest (suc number) (s.told (state_behind table (s.state a.0) target) a.0, suc a.1) rs [] (states_started ss) rows refl has tt replied done
+        by (Service.State target) rs (c ∷ cs) ds rows changes has found reply replied one done rest =
+            let all : (target, t.frame) ∷ states_started ss ≡ (c.target, c.frame) ∷ (changes_in cs ++ ds) = changes in
+            let head : ◌≡◌ {A = ℕ × ℕ} (target, t.frame) (c.target, c.frame) = cc in
+            let tail : states_started ss ≡ changes_in cs ++ ds = cc in (
+              sym (ap (λ (k : ℕ × ℕ). k.0) head),
+              change_replied a target t.frame c head found.0 reply,
+              change_done count number target t.frame c head found.0 one,
+              rest (suc number) (s.told (state_behind table (s.state a.0) target) a.0, suc a.1) rs cs ds rows tail has found.1 replied done,
+            )

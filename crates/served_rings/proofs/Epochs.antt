@@ -28,6 +28,7 @@ use Rattle.served_rings.specs.Served.{IsServedEra, NothingLeft, RestsIf, WasServ
 use Rattle.served_rings.proofs.Mails.{AllNamed, behind_named, is_mail, mailer, mailer_speaks, named_take, services_named, start_named}
 use Rattle.plan_ring.proofs.Settled.{settled_seen}
 use Rattle.served_rings.proofs.Newest.{exec_is}
+use Rattle.served_rings.proofs.Replied.{emissions_so, replies_so}
 use Rattle.served_rings.proofs.Rested.{left_so}
 use Rattle.served_rings.proofs.Heard.{all_heard, newest_there, seen_so}
 use Rattle.served_rings.proofs.Seen.{clears_so, promised, valid}
@@ -82,6 +83,9 @@ module _ (p : Profile) (k : IsSpeaker (speaker p)) (forgets : Forgets (speaker p
           handled = ap (λ (v : InState Server). v.inner.handled) cleared_so;
           state = ap (λ (s : Slave (InState Server) Body). s.registers.state) (sym i.stands) ∙ did.state;
           heard = all_heard p k boot lens spot l.opened l.server l.registers l.plan l.answers fs counts e seen_node l.led;
+          replies = replies_so p speaks boot spot l.opened l.server l.registers fs counts e seen_node i;
+          emissions = emissions_so p speaks boot spot l.opened l.server l.registers fs counts e seen_node i (λ gs counted d m led. seen_so p k boot lens spot l.opened l.server l.registers l.plan l.answers gs counted d m led)
+              (λ gs counted d m led. newest_there p k boot lens spot l.opened l.server l.registers l.plan l.answers gs counted d m led) l.led;
           newest = newest_there p k boot lens spot l.opened l.server l.registers l.plan l.answers fs counts e seen_node l.led;
         }
 

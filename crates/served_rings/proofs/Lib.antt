@@ -31,6 +31,7 @@ pub mod One
 pub mod Others
 pub mod Passed
 mod RestAll
+mod Replied
 mod Rested
 pub mod Rings
 pub mod Rows

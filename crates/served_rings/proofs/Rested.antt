@@ -43,23 +43,23 @@ use Rattle.task_model.specs.Accounts.{Change}
 use Rattle.task_model.specs.Promise.{changes_in, duty_in, services_in}
 
 module _ (p : Profile) where
-  abbrev RowHere : Type 0
+  abbrev pub RowHere : Type 0
   RowHere = Row Meant Wanted (Option SlaveReply.Reply)
 
-  abbrev mail : Meant → Body
+  abbrev pub mail : Meant → Body
   mail t = t.mail
 
-  abbrev same : Option SlaveReply.Reply → Option SlaveReply.Reply
+  abbrev pub same : Option SlaveReply.Reply → Option SlaveReply.Reply
   same a = a
 
-  abbrev seen_row : RowHere → Row Body Asked Reply
+  abbrev pub seen_row : RowHere → Row Body Asked Reply
   seen_row r = row_seen mail named_wanted same r
 
   abbrev handed : Wanted → Bool
   handed q = (seeing (mailer p)).speech.handed q
 
   -- A SERVICE THAT HAS A REPLY has one by its name too; a mail that is passed on hasn't, by its name
-  unhanded : (q : Wanted) → (spoken p).speech.handed (named_wanted q) ≡ false → handed q ≡ false
+  pub unhanded : (q : Wanted) → (spoken p).speech.handed (named_wanted q) ≡ false → handed q ≡ false
   unhanded (Tagged.Asked.Script (i, q)) e = sym (script p i q).handed ∙ e
   unhanded (Tagged.Asked.Passed (Ok m) answers) e = absurd (let no : true ≡ false = e in cc)
   unhanded (Tagged.Asked.Passed (Err fault) answers) e = absurd (let no : true ≡ false = e in cc)
@@ -69,7 +69,7 @@ module _ (p : Profile) where
   some_same (Some a) = refl
 
   -- it replies by its name
-  replies_named : (v : InState Server) (q : Wanted) → service_valid (seeing (mailer p)).speech (Service.Mails q) ≡ true → asked_reply (product_whole parts p) v q ≡ (spoken p).reply v (named_wanted q)
+  pub replies_named : (v : InState Server) (q : Wanted) → service_valid (seeing (mailer p)).speech (Service.Mails q) ≡ true → asked_reply (product_whole parts p) v q ≡ (spoken p).reply v (named_wanted q)
   replies_named v (Tagged.Asked.Script (Protocol.CoE, q)) valid = refl
   replies_named v (Tagged.Asked.Script (Protocol.FoE, q)) valid = refl
   replies_named v (Tagged.Asked.Script (Protocol.SoE, q)) valid = refl
@@ -77,7 +77,7 @@ module _ (p : Profile) where
   replies_named v (Tagged.Asked.Passed (Ok m) answers) valid = refl
   replies_named v (Tagged.Asked.Passed (Err fault) answers) valid = absurd (let no : false ≡ true = valid in cc)
 
-  answer_same : (found : Option ℕ) → outcome_seen same (answer_of found) ≡ answer_of found
+  pub answer_same : (found : Option ℕ) → outcome_seen same (answer_of found) ≡ answer_of found
   answer_same None = refl
   answer_same (Some code) = refl
 

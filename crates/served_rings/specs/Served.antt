@@ -1,5 +1,5 @@
 -- WHAT THE SLAVES OF A SERVING DID, epoch by epoch, of the rows that came into hand of them: services of the script, packets, and mails that were passed on.
-use Rattle.std.specs.Prelude.{◌≡◌, ◌≢◌, ℕ, ◌+◌, ◌≤◌, Bool, true, false, Option, None, Some, Ok, List, [], ◌∷◌, ◌++◌, length, take, ⊤}
+use Rattle.std.specs.Prelude.{◌≡◌, ◌≢◌, ℕ, suc, ◌+◌, ◌<◌, ◌≤◌, Bool, true, false, Option, None, Some, Ok, List, [], ◌∷◌, ◌++◌, length, take, ⊤}
 use Rattle.exchange_model.specs.Exchange.{emitted, plain}
 use Rattle.exchange_model.specs.Prefix.{IsPrefixOf}
 use Rattle.exchange_model.specs.Rows.{Row, heard_all}
@@ -73,9 +73,31 @@ module _ (p : Profile) (boot : Bool) (station : ℕ) where
   abbrev pub IsHeardSo : InState Server → Era Body Asked Reply → Type 0
   IsHeardSo from e = AllHeard e.passing from (services_in e.account.started) (rows_of e.side)
 
+  -- ONE ANSWER: a service by mails that has its answer, and is no packet and no mail passed on, is among the first so many rows, and has the reply of this server
+  abbrev pub IsReplyOf : ℕ → ℕ → InState Server → Asked → Row Body Asked Reply → Type 0
+  IsReplyOf count number v q r =
+      (r.service ≡ q) × ((spoken p).speech.handed q ≡ false → (reply : Reply) (frame : ℕ) → r.answer ≡ Some (reply, frame) → (reply ≡ (spoken p).reply v q) × (number < count))
+
+  -- EACH ANSWER of these services, the first of which has this number, is its server's own: of one by mails the reply of the server behind those before it, of a
+  -- change of the AL state that is over what its table gives; and each that has one is among the first so many
+  abbrev pub AreReplies : ℕ → ℕ → InState Server → List (Service Asked) → List (Row Body Asked Reply) → List (Change Reply) → Type 0
+  AreReplies count number v [] [] [] = ⊤
+  AreReplies count number v (Service.Mails q ∷ qs) (r ∷ rs) cs = IsReplyOf count number v q r × AreReplies count (suc number) ((spoken p).exec v q) qs rs cs
+  AreReplies count number v (Service.State target ∷ qs) rs [] = AreReplies count (suc number) (record v { state = state_behind (table_of boot station) v.state target }) qs rs []
+  AreReplies count number v (Service.State target ∷ qs) rs (c ∷ cs) =
+      (c.target ≡ target) × (c.answer ≡ answer_of (table_of boot station v.state target)) × (number < count)
+      × AreReplies count (suc number) (record v { state = state_behind (table_of boot station) v.state target }) qs rs cs
+  AreReplies count number v _ _ _ = ⊥
+
+  -- what rows emit, one after the other: of a mail that was passed on what the server sends of itself in its one step
+  abbrev pub emitted_behind : InState Server → List (Service Asked) → List Body
+  emitted_behind v [] = []
+  emitted_behind v (Service.Mails q ∷ qs) = (spoken p).emits v q ++ emitted_behind ((spoken p).exec v q) qs
+  emitted_behind v (Service.State target ∷ qs) = emitted_behind (record v { state = state_behind (table_of boot station) v.state target }) qs
+
   -- AN EPOCH, from this server: its slave carried out just the first so many of its rows, each once and in order; its objects, files, IDNs and addresses, its AL
-  -- state and the number of services that it counts are those of the server behind these rows; at most the two newest rows aren't among them; and where there is a
-  -- row, there is a newest
+  -- state and the number of services that it counts are those of the server behind these rows; at most the two newest rows aren't among them; each answer is its
+  -- server's own, of a row carried out; what was heard that it sent of itself are the first mails that those rows emit; and where there is a row, there is a newest
   pub record IsServedEra (from : InState Server) (e : Era Body Asked Reply) (left done : InState Server) : Type 0 where
     pub count : ℕ
     pub prefix : count ≤ length e.account.started
@@ -85,6 +107,8 @@ module _ (p : Profile) (boot : Bool) (station : ℕ) where
     pub handled : left.inner.handled ≡ done.inner.handled
     pub state : left.state ≡ done.state
     pub heard : IsHeardSo from e
+    pub replies : AreReplies count 0 from (services_in e.account.started) (rows_of e.side) e.account.over
+    pub emissions : IsPrefixOf (emitted emission (heard_all (rows_of e.side))) (emitted_behind from (take count (services_in e.account.started)))
     pub newest : e.side.now ≡ None → e.side.past ≡ []
 
   -- one that was opened: it began with this server, in the first epoch in the state of the plan, and its slave left that one
@@ -110,12 +134,6 @@ module _ (p : Profile) (boot : Bool) (station : ℕ) where
   AreAnswered v (Service.State target ∷ qs) rs (c ∷ cs) =
       (c.target ≡ target) × (c.answer ≡ answer_of (table_of boot station v.state target)) × AreAnswered (record v { state = state_behind (table_of boot station) v.state target }) qs rs cs
   AreAnswered v _ _ _ = ⊥
-
-  -- what rows emit, one after the other: of a mail that was passed on what the server sends of itself in its one step
-  abbrev pub emitted_behind : InState Server → List (Service Asked) → List Body
-  emitted_behind v [] = []
-  emitted_behind v (Service.Mails q ∷ qs) = (spoken p).emits v q ++ emitted_behind ((spoken p).exec v q) qs
-  emitted_behind v (Service.State target ∷ qs) = emitted_behind (record v { state = state_behind (table_of boot station) v.state target }) qs
 
   -- NOTHING IS LEFT of an epoch that began with this server: all its rows are carried out, each once and in order, and answered; and all that they emit was heard
   pub record NothingLeft (from : InState Server) (e : Era Body Asked Reply) (done : InState Server) : Type 0 where

@@ -11,7 +11,7 @@ pub returns-clause-goes : goal.returns-clause-goes
 returns-clause-goes c = λ plan count first now live h.
     let goes : c.args.rests ≡ false = search rules in
     let is : (has_live c.args.self.now.session.master ≡ true) × (IsDone c.args.self.now.session → ⊥) = OnFalse_at goes live in
-    stepped plan count first now c.args.self.now _ c.args.book.now c.step.new.book c.in_ok-step.ensures.ok.0 h c.if-spent.ensures.left c.in_ok-step.ensures.ok.1 c.in_ok-step.ensures.ok.2 is.0 is.1 c.in_ok-note_all.ensures refl refl
+    stepped plan count first now c.args.self.now _ c.args.book.now c.step.new.book c.in_ok-step.ensures.ok.0 h c.if-spent.ensures.left c.in_ok-step.ensures.ok.1 c.in_ok-step.ensures.ok.2.0 c.in_ok-step.ensures.ok.2.1 c.in_ok-step.ensures.ok.2.2 is.0 is.1 c.in_ok-note_all.ensures refl refl
 
 pub returns-in_err-step-clause-goes : goal.returns-in_err-step-clause-goes
 returns-in_err-step-clause-goes c = λ plan count first now live h.

@@ -85,12 +85,12 @@ returns-clause-leads c = λ lens recover retry missed number octets us f p b u r
     c.returned.ensures.tour.2 (c.returned.ensures.tour.3 ∙ u.retry_is) (λ e. absurd (true_false c.returned.new.self.again e c.returned.ensures.tour.1))
 
 pub returns-clause-brought : goal.returns-clause-brought
-returns-clause-brought c = λ lens recover retry missed octets us u r.
+returns-clause-brought c = λ lens recover octets us u r.
     let m = c.args.self.now in
     let back = seen lens c.args.frame.now.items in
     both_each (λ v s. StopBrought back v s) (λ s t. StopStays s t) (λ v t. StopBrought back v t) (λ v s t b k. brought_kept back v s t b k) us c.returned.new.self.stops.items c.all_back.new.self.tour.stops.items
-    (both_each (λ v s. IsUnder lens recover octets v s) _ (λ v t. StopBrought back v t)
-    (λ v s t i p. p (speech_at lens v.lived.spot) recover v.lived.spot v.lived.life i.lead.lives.planned.stands i.way i.lead.lives.shown)
+    (both_each (λ v s. IsOnFrame lens recover octets v s) _ (λ v t. StopBrought back v t)
+    (λ v s t i p. p (speech_at lens v.lived.spot) recover v.lived.spot v.lived.life i.lives.planned.stands i.way i.lives.shown)
     us m.tour.stops.items c.returned.new.self.stops.items u.each (c.returned.ensures.brought lens (seen lens octets) r u.sent))
     c.all_back.ensures.kept.each
 

@@ -1,5 +1,5 @@
 use Rattle.std.proofs.Common.{◌≡◌, ◌<◌, ◌∙◌, length, arith}
-use Rattle.master_node.specs.Shows.{IsLead}
+use Rattle.master_node.specs.Told.{IsTold}
 use Rattle.master_node.proofs.Says.{both_here}
 use Rattle.master_node.proofs.node.MasterNode.scripted.Goals as goal
 
@@ -7,4 +7,4 @@ pub returns : goal.returns
 returns c = λ lens recover as' x.
     let m = c.args.self.now in
     let l : c.args.slave < length m.tour.stops.items = omega (arith, c.requires, m.paired, m.tour.stops.ok.0) in
-    both_here (λ a s. IsLead lens recover a s) (λ a. c.number.result ≡ a.number) as' m.tour.stops.items c.args.slave c.index.result.now x l c.index.ensures (λ a p. c.number.ensures ∙ p.number)
+    both_here (λ a s. IsTold lens recover a s) (λ a. c.number.result ≡ a.number) as' m.tour.stops.items c.args.slave c.index.result.now x l c.index.ensures (λ a p. c.number.ensures ∙ p.number)

@@ -3,7 +3,7 @@ use Rattle.std.specs.Prelude.{Option, slice_get, slice_set}
 use Rattle.std.proofs.lemmas.List.{length-map}
 use Rattle.std.proofs.lemmas.Result.{on_ok_weaker}
 use Rattle.master_node.proofs.Lists.{both_length}
-use Rattle.master_node.proofs.Quiets.{lead_lives}
+use Rattle.master_node.proofs.Quiets.{told_lives}
 use Rattle.master_node.specs.Shows.{IsLived, lived_of}
 use Rattle.run_notes.specs.declared.notes.Notes.{Notes}
 use Rattle.run_notes.specs.Slaves.{gaves_noted}
@@ -63,14 +63,14 @@ returns-clause-gave c =
     c.given_up-noted.ensures.is
 
 pub returns-then-not-gave_up_more-clause-told : goal.returns-then-not-gave_up_more-clause-told
-returns-then-not-gave_up_more-clause-told c = λ lens retry missed as' bs shown all p r.
+returns-then-not-gave_up_more-clause-told c = λ lens as' bs told all p r.
     let log = c.args.self.now in
     let n = c.index-rows-place.result in
     let no : c.gave_up_more.result ≡ false = search rules in
     let here = subst (λ (ns : List Notes). n ≡ get_or ns c.args.at n) c.as_slice-rows.ensures c.index-rows-place.is in
     let times : c.len-times.result ≡ length n.gave = c.len-times.ensures ∙ ap (λ (m : Notes). length m.gave) (sym c.index-rows-place.is) in
     to_same (λ a b. LosesSo c.args.frame a b) c.args.at as' bs log.notes n p (got_there log.notes c.args.at n c.requires.notes here)
-    (λ a b e q s. loss_same log.recover c.args.frame a b n q s bs all c.args.at e c.gave_up_more.result c.len-times.result times no (c.gave_up_more.ensures lens bs (lead_lives lens log.recover bs c.args.master.now.tour.stops.items shown.each))) r
+    (λ a b e q s. loss_same log.recover c.args.frame a b n q s bs all c.args.at e c.gave_up_more.result c.len-times.result times no (c.gave_up_more.ensures lens bs (told_lives lens log.recover bs c.args.master.now.tour.stops.items told))) r
 
 pub returns-clause-told : goal.returns-clause-told
 returns-clause-told c =
@@ -84,10 +84,10 @@ returns-clause-told c =
     let same : d ≡ n = same_whole log.notes c.args.at n d got lent in
     let times : c.len-times.result ≡ length n.gave = c.len-times.ensures ∙ ap (λ (m : Notes). length m.gave) (sym c.index-rows-place.is) in
     on_ok_weaker c.given_up-noted.result
-    (λ is. λ lens retry missed as' bs shown all p r.
+    (λ is. λ lens as' bs told all p r.
     to_next (λ a b. LosesSo c.args.frame a b) c.args.at as' bs log.notes n c.given_up-noted.new.self p got
     (λ a b e q s. subst (λ (z : Notes). Reports b z) (sym (is ∙ ap (λ (z : Notes). given_up z c.is_leaving-leaves.result c.args.frame) same))
-    (loss_more log.recover c.args.frame a b n q s bs all c.args.at e c.gave_up_more.result c.len-times.result times yes (c.gave_up_more.ensures lens bs (lead_lives lens log.recover bs c.args.master.now.tour.stops.items shown.each)) c.is_leaving-leaves.result (c.is_leaving-leaves.ensures lens log.recover bs shown.each))) r)
+    (loss_more log.recover c.args.frame a b n q s bs all c.args.at e c.gave_up_more.result c.len-times.result times yes (c.gave_up_more.ensures lens bs (told_lives lens log.recover bs c.args.master.now.tour.stops.items told)) c.is_leaving-leaves.result (c.is_leaving-leaves.ensures lens log.recover bs told))) r)
     c.given_up-noted.ensures.is
 
 pub returns-clause-heard : goal.returns-clause-heard

@@ -1,8 +1,8 @@
 use Rattle.std.proofs.Common.{◌≡◌, ◌+◌, ℕ, suc, map, refl, sym, ap, ◌∙◌, subst, arith}
 use Rattle.std.proofs.lemmas.List.{length-map}
 use Rattle.run_notes.specs.declared.notes.Notes.{Notes}
-use Rattle.master_node.specs.Shows.{MasterShows, lived_of}
-use Rattle.master_node.specs.Told.{HasLives}
+use Rattle.master_node.specs.Shows.{lived_of}
+use Rattle.master_node.specs.Told.{HasLeads, HasLives}
 use Rattle.master_node.specs.Wants.{gave_of, AllCounted}
 use Rattle.run_notes.specs.Slaves.{gaves_noted, gave_at}
 use Rattle.run_notes.proofs.Gaves.{walked, walked_on, walked_all}
@@ -22,10 +22,10 @@ loop-place-preserved c =
       slaves = slaves_more inv.slaves c.note_loss.ensures.slaves;
       heard = c.in_ok-note_loss.ensures.heard ∙ inv.heard;
       rows = c.in_ok-note_loss.ensures.rows ∙ inv.rows;
-      told = λ lens retry missed as' bs shown all p r.
+      told = λ lens as' bs told all p r.
           let e : suc place ≡ place + 1 = omega arith in
           subst (λ (k : ℕ). ReportsTo k as' bs c.note_loss.new.self.notes) e
-          (c.in_ok-note_loss.ensures.told lens retry missed as' bs (subst (λ (n : ℕ). MasterShows lens n retry c.args.master.now missed bs) (sym inv.slaves.recover) shown) (subst (λ (n : ℕ). AllCounted n bs) (sym inv.slaves.recover) all) p (inv.told lens retry missed as' bs shown all p r));
+          (c.in_ok-note_loss.ensures.told lens as' bs (subst (λ (n : ℕ). HasLeads lens n c.args.master.now bs) (sym inv.slaves.recover) told) (subst (λ (n : ℕ). AllCounted n bs) (sym inv.slaves.recover) all) p (inv.told lens as' bs told all p r));
       gave = λ lens leads lives all.
           c.in_ok-note_loss.ensures.gave lens leads (subst (λ (n : ℕ). HasLives lens n c.args.master.now (map lived_of leads)) (sym inv.slaves.recover) lives) (subst (λ (n : ℕ). AllCounted n leads) (sym inv.slaves.recover) all)
           ∙ ap (gave_at place c.args.frame (map gave_of leads)) (inv.gave lens leads lives all) ∙ walked_on place c.args.frame (map gave_of leads) (gaves_noted first.notes)
@@ -45,11 +45,11 @@ loop-place-init c = record {
   gave = λ lens leads lives all. refl;
   heard = refl;
   rows = refl;
-  told = λ lens retry missed as' bs shown all p r. to_first as' bs c.args.self.now.notes (both_lengths (λ a b. LosesSo c.args.frame a b) as' bs p) r;
+  told = λ lens as' bs told all p r. to_first as' bs c.args.self.now.notes (both_lengths (λ a b. LosesSo c.args.frame a b) as' bs p) r;
 }
 
 pub returns-clause-told : goal.returns-clause-told
-returns-clause-told c = λ lens retry missed as' bs shown all p r.
+returns-clause-told c = λ lens as' bs told all p r.
     let now = c.loop-place.self.notes in
     let many = c.loop-place.invariant.slaves.notes in
-    to_last c.loop-place.place as' bs now (omega (arith, many, c.loop-place-test.false, c.len-place-end.ensures)) (c.loop-place.invariant.told lens retry missed as' bs shown all p r)
+    to_last c.loop-place.place as' bs now (omega (arith, many, c.loop-place-test.false, c.len-place-end.ensures)) (c.loop-place.invariant.told lens as' bs told all p r)

@@ -46,7 +46,7 @@ returns-clause-full c =
 pub returns-then-ask-clause-serves : goal.returns-then-ask-clause-serves
 returns-then-ask-clause-serves c =
     serving_asks _ _ _ c.args.slave c.args.key c.args.mail.now c.self.view_is c.if-ask.ensures.served (λ full. (let bad : true ≡ false = c.if-ask.ensures.full.1 full in cc)) c.if-ask.ensures.kept.0 c.if-ask.ensures.kept.1 refl
-    (ap (λ (s : SessionState). s.asked) (returns-then-ask-clause-asked c)) refl refl
+    (ap (λ (s : SessionState). s.asked) (returns-then-ask-clause-asked c)) refl refl c.if-ask.ensures.counts
 
 pub returns-clause-serves : goal.returns-clause-serves
 returns-clause-serves c =

@@ -33,4 +33,4 @@ pub returns-clause-switch : goal.returns-clause-switch
 returns-clause-switch c = c.in_ok-new.ensures.begins
 
 pub returns-clause-serves : goal.returns-clause-serves
-returns-clause-serves c = serving_begins c.args.plan.now _ c.in_ok-new-2.ensures.notes c.in_ok-new.ensures.served c.in_ok-new-2.ensures.asked c.in_ok-new.ensures.waiting c.in_ok-new.ensures.tour c.in_ok-new.ensures.ports c.in_ok-new.ensures.joined c.in_ok-new.ensures.begins c.in_ok-new.ensures.knows c.in_ok-new_ring.ensures
+returns-clause-serves c = serving_begins c.args.plan.now _ c.in_ok-new-2.ensures.notes c.in_ok-new.ensures.served c.in_ok-new-2.ensures.asked c.in_ok-new.ensures.waiting c.in_ok-new.ensures.tour c.in_ok-new.ensures.ports c.in_ok-new.ensures.joined c.in_ok-new.ensures.begins c.in_ok-new.ensures.knows c.in_ok-new_ring.ensures c.in_ok-new.ensures.counts

@@ -1,4 +1,5 @@
 use Rattle.std.proofs.Common.{◌≡◌, refl, sym, true, ℕ, suc, List, ◌+◌, ◌++◌, ◌∷◌, [], length, vec_len, ap, ◌∙◌, subst, arith}
+use Rattle.arrayvec.specs.ArrayVec.{ArrayVec}
 use Rattle.eoe_switch.specs.Switch.{switched}
 use Rattle.segment_ring.specs.Ring.{RingState}
 use Rattle.slave_node.specs.of_slave_steps.Node.{Node}
@@ -19,7 +20,10 @@ use Rattle.master_node.specs.Wants.{AllCounted}
 use Rattle.master_node.proofs.Counts.{counted}
 use Rattle.master_node.proofs.OnFrames.{run_way}
 use Rattle.run_record.specs.Replay.{behind, IsRecorded}
-use Rattle.run_record.specs.Session.{SessionState, StillWants, has_live}
+use Rattle.run_record.specs.Session.{FrameEvents, IsGrown, SessionState, StillWants, has_live}
+use Rattle.run_notes.specs.Heard.{HeardBy}
+use Rattle.run_notes.specs.Packets.{BeginsOn}
+use Rattle.run_notes.specs.Reports.{ReportsBy, ReportsOn, TurnsAll}
 use Rattle.run_notes.specs.Slaves.{GaveBy, SameFrames, KeepsRest}
 use Rattle.run_notes.proofs.Kept.{rest_more}
 use Rattle.run_notes.specs.Switched.{IsSwitched, NotesSwitch}
@@ -56,12 +60,25 @@ invariant_of-self-2 c =
 pub returns-clause-ok : goal.returns-clause-ok
 returns-clause-ok c =
     let f : SentFrame = record { sent = c.next.new.into.items; fate = c.exchange-fate.result; back = c.exchange-fate.new.back.items } in
+    let happened : FrameEvents = record { making = events_of c.next.new.self.lan.happened; behind = events_of c.tell.new.master.lan.happened } in
     let ports = 1 + length c.self.inside.log.ports in
     let before : ports ≡ c.args.self.now.ports = ap (λ (s : SessionState). s.ports) c.self.view_is in
     let ring : c.self.inside.ring ≡ c.args.self.now.ring = ap (λ (s : SessionState). s.ring) c.self.view_is in
     let same : 1 + length c.note_before.new.self.ports ≡ ports = ap (λ (l : List ℕ). 1 + length l) c.note_before.ensures.slaves.ports in
     on_ok_weaker c.note_behind.result
-    (λ both. (
+    (λ both.
+    let notes : NotesSwitch ports (c.self.inside.number + 1) c.tell.new.master.lan.happened c.put_frame.new.book c.note_behind.new.book =
+    subst (λ (n : ℕ). NotesSwitch n (c.self.inside.number + 1) c.tell.new.master.lan.happened c.put_frame.new.book c.note_behind.new.book) same both.1.1.1.0 in
+    let here : (host : List (ArrayVec ℕ)) → IsSwitched c.args.self.now.ports host c.args.self.now.ring.number c.args.self.now.master.lan c.args.book.now → IsSwitched ports host c.self.inside.number c.self.inside.master.lan c.args.book.now =
+    λ host x. subst (λ (n : ℕ). IsSwitched ports host n c.self.inside.master.lan c.args.book.now) (sym c.self.invariant.0) (subst (λ (s : SessionState). IsSwitched s.ports host s.ring.number s.master.lan c.args.book.now) (sym c.self.view_is) x) in
+    let grown : (host : List (ArrayVec ℕ)) → IsSwitched ports host c.self.inside.number c.self.inside.master.lan c.args.book.now → IsGrown c.self.inside.number happened c.args.book.now c.note_behind.new.book =
+    λ host now.
+    record {
+      switch = switch_grown ports host c.self.inside.number c.self.inside.master.lan c.next.new.self.lan c.tell.new.master.lan c.args.book.now c.note_before.new.book c.put_frame.new.book c.note_behind.new.book
+          c.next.ensures.happened c.in_ok-note_before.ensures.switch c.put_frame.ensures.switch c.tell.ensures.happened notes now;
+      switched = numbers_grown ports host c.self.inside.number c.self.inside.master.lan c.next.new.self.lan c.tell.new.master.lan c.args.book.now c.note_before.new.book c.put_frame.new.book c.note_behind.new.book
+          c.next.ensures.happened c.in_ok-note_before.ensures.switch c.put_frame.ensures.switch c.tell.ensures.happened notes now;
+    } in (
       f,
       record {
         put = c.note_behind.ensures.frames.frames ∙ c.in_ok-put_frame.ensures.ok ∙ ap (λ fs. fs ++ f ∷ []) c.note_before.ensures.frames.frames;
@@ -84,18 +101,14 @@ returns-clause-ok c =
             subst (λ (n : ℕ). IsSwitched n host c.exchange-fate.new.self.number c.tell.new.master.lan c.note_behind.new.book) (sym last)
             (subst (λ (n : ℕ). IsSwitched ports host n c.tell.new.master.lan c.note_behind.new.book) after
             (switched_step ports host c.self.inside.number c.self.inside.master.lan c.next.new.self.lan c.tell.new.master.lan c.args.book.now c.note_before.new.book c.put_frame.new.book c.note_behind.new.book
-            c.next.ensures.happened c.in_ok-note_before.ensures.switch c.put_frame.ensures.switch c.tell.ensures.happened
-            (subst (λ (n : ℕ). NotesSwitch n (c.self.inside.number + 1) c.tell.new.master.lan.happened c.put_frame.new.book c.note_behind.new.book) same both.1.1.1.0)
-            (subst (λ (n : ℕ). IsSwitched ports host n c.self.inside.master.lan c.args.book.now) (sym number)
-            (subst (λ (s : SessionState). IsSwitched s.ports host s.ring.number s.master.lan c.args.book.now) (sym c.self.view_is) x))));
+            c.next.ensures.happened c.in_ok-note_before.ensures.switch c.put_frame.ensures.switch c.tell.ensures.happened notes (here host x)));
         goes_on = λ plan fs host recover many counts live wants x z.
             let live : has_live c.self.inside.master ≡ true = ap (λ (s : SessionState). has_live s.master) c.self.view_is ∙ live in
             let view : RunStands plan c.self.inside.master c.self.inside.log.notes fs c.args.book.now c.self.inside.ring = subst (λ (s : SessionState). RunStands plan s.master s.notes fs c.args.book.now s.ring) (sym c.self.view_is) z in
             let mine = view.forwards in
             let number = c.self.invariant.0 in
             let l : Leading plan c.self.inside.master c.self.inside.log.notes fs = mine.leading in
-            let now : IsSwitched ports host c.self.inside.number c.self.inside.master.lan c.args.book.now =
-            subst (λ (n : ℕ). IsSwitched ports host n c.self.inside.master.lan c.args.book.now) (sym number) (subst (λ (s : SessionState). IsSwitched s.ports host s.ring.number s.master.lan c.args.book.now) (sym c.self.view_is) x) in
+            let now = here host x in
             let all : ports ≡ ports_of plan.slaves = before ∙ many in
             let stood = subst (λ (n : ℕ). (switched n c.args.book.now.switch).switch ≡ c.self.inside.master.lan.switch) all (switch_stood ports host c.self.inside.number c.self.inside.master.lan c.args.book.now now) in
             stands_on c.self.inside.master c.next.new.self c.tell.new.master (exchanged f) c.next.result c.next.ensures.idle c.next.ensures.begun c.next.ensures.toured c.next.ensures.asks plan fs live c.self.inside.log.notes l
@@ -105,7 +118,7 @@ returns-clause-ok c =
             c.self.inside.number (counts ∙ sym (ap (λ (s : SessionState). s.ring.number) c.self.view_is) ∙ sym number) c.note_before.new.self c.note_behind.new.self
             (c.note_before.ensures.slaves.recover ∙ ap (λ (s : SessionState). s.recover) c.self.view_is ∙ recover) c.in_ok-note_before.ensures.gave both.0
             c.in_ok-note_before.ensures.told both.1.0
-            (λ pass us frame under. c.tell.ensures.brought pass (lens_of plan.slaves) plan.recover plan.retry l.missed c.next.new.into.items us under
+            (λ pass us frame under. c.tell.ensures.brought pass (lens_of plan.slaves) plan.recover c.next.new.into.items us (run_way (lens_of plan.slaves) plan.recover plan.retry l.missed c.next.new.into.items c.next.new.self us under)
             (returned (lens_of plan.slaves) c.self.inside.ring (exchanged f) (length fs) l.leads us c.exchange-fate.ensures.fate c.exchange-fate.ensures.back frame pass))
             c.in_ok-note_before.ensures.heard both.1.1.0
             c.args.book.now c.note_behind.new.book c.next.ensures.joins c.next.ensures.made
@@ -115,12 +128,7 @@ returns-clause-ok c =
             (λ pass us js frame under h. c.tell.ensures.arrivals pass (lens_of plan.slaves) plan.recover c.next.new.into.items us js (run_way (lens_of plan.slaves) plan.recover plan.retry l.missed c.next.new.into.items c.next.new.self us under)
             (returned (lens_of plan.slaves) c.self.inside.ring (exchanged f) (length fs) l.leads us c.exchange-fate.ensures.fate c.exchange-fate.ensures.back frame pass) h)
             (λ after lost us under. c.tell.ensures.downs after lost (lens_of plan.slaves) plan.recover plan.retry l.missed (length fs) us (exchanged f) refl under)
-            (switch_grown ports host c.self.inside.number c.self.inside.master.lan c.next.new.self.lan c.tell.new.master.lan c.args.book.now c.note_before.new.book c.put_frame.new.book c.note_behind.new.book
-            c.next.ensures.happened c.in_ok-note_before.ensures.switch c.put_frame.ensures.switch c.tell.ensures.happened
-            (subst (λ (n : ℕ). NotesSwitch n (c.self.inside.number + 1) c.tell.new.master.lan.happened c.put_frame.new.book c.note_behind.new.book) same both.1.1.1.0) now)
-            (numbers_grown ports host c.self.inside.number c.self.inside.master.lan c.next.new.self.lan c.tell.new.master.lan c.args.book.now c.note_before.new.book c.put_frame.new.book c.note_behind.new.book
-            c.next.ensures.happened c.in_ok-note_before.ensures.switch c.put_frame.ensures.switch c.tell.ensures.happened
-            (subst (λ (n : ℕ). NotesSwitch n (c.self.inside.number + 1) c.tell.new.master.lan.happened c.put_frame.new.book c.note_behind.new.book) same both.1.1.1.0) now)
+            (grown host now).switch (grown host now).switched
             mine.forwarded
             stood
             (subst (λ (n : ℕ). (switched n (c.args.book.now.switch ++ events_of c.next.new.self.lan.happened)).switch ≡ c.next.new.self.lan.switch) all
@@ -134,24 +142,35 @@ returns-clause-ok c =
             (subst (λ (n : ℕ). AllCounted n l.leads) (sym (ap (λ (s : SessionState). s.recover) c.self.view_is ∙ recover)) (counted (lens_of plan.slaves) plan plan.retry fs l.missed l.leads l.lives)) c.next.new.self.lan.happened
             (λ rests may. c.next.ensures.enters (next_frame c.self.inside.master c.next.result c.next.ensures.idle live) (lens_of plan.slaves) plan.recover plan.retry l.missed l.leads l.shows rests may));
       },
-      serving_on _ _ _ c.next.new.self f c.next.result c.self.view_is c.next.ensures.idle c.next.ensures.services (λ lens recover retry missed made vs under back. c.tell.ensures.served lens recover retry missed made vs (exchanged f) refl refl under back)
-          (λ lens recover as' h. c.tell.ensures.toured lens recover as' h)
-          (record {
-            joins = c.next.ensures.joins;
-            making = c.next.ensures.made;
-            makes = c.next.ensures.happened;
-            tells = c.tell.ensures.happened;
-            joined = λ lens recover retry missed made vs js under back h. c.tell.ensures.joins lens recover retry missed made vs js (exchanged f) refl refl under back h;
-            arrivals = λ pass lens recover us js way back h. c.tell.ensures.arrivals pass lens recover c.next.new.into.items us js way back h;
-            remembers = λ pass lens recover retry missed made vs under back asks. c.tell.ensures.remembers pass lens recover retry missed made vs (exchanged f) refl refl under back asks;
-            stays = λ after lost lens recover retry missed made vs under. c.tell.ensures.stays after lost lens recover retry missed made vs (exchanged f) under;
-            leaves = λ after lost lens recover retry missed made vs under. c.tell.ensures.leaves after lost lens recover retry missed made vs (exchanged f) refl under;
-          })
-          (c.tell.ensures.whole ∙ ap (λ (es : List Event). es ++ events_in c.tell.new.master) c.next.ensures.whole.1) (c.tell.ensures.told c.next.ensures.few)
-          (record { fate = c.exchange-fate.ensures.fate; back = c.exchange-fate.ensures.back }) (let n = c.self.invariant.0 in let b = c.self.invariant.1 in let most = c.self.invariant.2 in omega (arith, n, b, most))
-          (c.note_behind.ensures.slaves.asked ∙ c.note_before.ensures.slaves.asked) refl
-          c.note_before.new.self c.note_behind.new.self c.note_before.ensures.slaves.recover c.in_ok-note_before.ensures.gave refl
-          (subst (λ (n : ℕ). GaveBy f.fate n c.tell.new.master c.note_before.new.self c.note_behind.new.self) c.self.invariant.0 both.0) c.exchange-fate.ensures.wire,
+      (
+        happened,
+        λ host x. subst (λ (n : ℕ). IsGrown n happened c.args.book.now c.note_behind.new.book) (c.self.invariant.0 ∙ ap (λ (s : SessionState). s.ring.number) c.self.view_is) (grown host (here host x)),
+        serving_on _ _ _ c.next.new.self f c.next.result c.self.view_is c.next.ensures.idle c.next.ensures.services (λ lens recover retry missed made vs under back. c.tell.ensures.served lens recover retry missed made vs (exchanged f) refl refl under back)
+            (λ lens recover as' h. c.tell.ensures.toured lens recover as' h)
+            (record {
+              joins = c.next.ensures.joins;
+              making = c.next.ensures.made;
+              makes = c.next.ensures.happened;
+              tells = c.tell.ensures.happened;
+              joined = λ lens recover retry missed made vs js under back h. c.tell.ensures.joins lens recover retry missed made vs js (exchanged f) refl refl under back h;
+              arrivals = λ pass lens recover us js way back h. c.tell.ensures.arrivals pass lens recover c.next.new.into.items us js way back h;
+              brought = λ pass lens recover us way back. c.tell.ensures.brought pass lens recover c.next.new.into.items us way back;
+              remembers = λ pass lens recover retry missed made vs under back asks. c.tell.ensures.remembers pass lens recover retry missed made vs (exchanged f) refl refl under back asks;
+              stays = λ after lost lens recover retry missed made vs under. c.tell.ensures.stays after lost lens recover retry missed made vs (exchanged f) under;
+              leaves = λ after lost lens recover retry missed made vs under. c.tell.ensures.leaves after lost lens recover retry missed made vs (exchanged f) refl under;
+              counts = c.tell.ensures.counts;
+            })
+            (c.tell.ensures.whole ∙ ap (λ (es : List Event). es ++ events_in c.tell.new.master) c.next.ensures.whole.1) (c.tell.ensures.told c.next.ensures.few)
+            (record { fate = c.exchange-fate.ensures.fate; back = c.exchange-fate.ensures.back }) (let n = c.self.invariant.0 in let b = c.self.invariant.1 in let most = c.self.invariant.2 in omega (arith, n, b, most))
+            (c.note_behind.ensures.slaves.asked ∙ c.note_before.ensures.slaves.asked) refl
+            c.note_before.new.self c.note_behind.new.self c.note_before.ensures.slaves.recover c.in_ok-note_before.ensures.gave refl
+            (subst (λ (n : ℕ). GaveBy f.fate n c.tell.new.master c.note_before.new.self c.note_behind.new.self) c.self.invariant.0 both.0)
+            (subst (λ (n : ℕ). TurnsAll n c.next.new.self (ReportsOn c.self.inside.log.notes c.note_before.new.self.notes)) c.self.invariant.0 c.in_ok-note_before.ensures.told)
+            (subst (λ (n : ℕ). ReportsBy f.fate n c.tell.new.master c.note_before.new.self c.note_behind.new.self) c.self.invariant.0 both.1.0)
+            c.in_ok-note_before.ensures.heard (subst (λ (n : ℕ). HeardBy f.fate n c.tell.new.master c.note_before.new.self c.note_behind.new.self) c.self.invariant.0 both.1.1.0)
+            (subst (λ (n : ℕ). TurnsAll n c.next.new.self (BeginsOn n c.next.new.self c.self.inside.log.notes c.note_before.new.self.notes)) c.self.invariant.0 c.in_ok-note_before.ensures.begun) both.1.1.1.1 c.note_before.ensures.slaves.notes
+            c.exchange-fate.ensures.wire,
+      ),
     ))
     (on_ok_both _ _ c.note_behind.result c.note_behind.ensures.gave (on_ok_both _ _ c.note_behind.result c.note_behind.ensures.told (on_ok_both _ _ c.note_behind.result c.note_behind.ensures.heard (on_ok_both _ _ c.note_behind.result c.note_behind.ensures.switch c.note_behind.ensures.rows))))
 

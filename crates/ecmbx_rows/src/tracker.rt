@@ -7,7 +7,7 @@ const INIT: u16 = 1;
 const MARK: u16 = 16;
 
 /// How the master stands to a slave.
-#[derive(Clone, Copy, Debug)]
+#[derive(Clone, Copy)]
 enum Stand {
     Opens(Opening),
     Open,
@@ -17,7 +17,7 @@ enum Stand {
 
 /// How far a state service that has drained has come: it writes its target; it awaits that; it acknowledges an error; it waits until the error is
 /// gone.
-#[derive(Clone, Copy, Debug)]
+#[derive(Clone, Copy)]
 enum Phase {
     Ask,
     Await,
@@ -26,7 +26,7 @@ enum Phase {
 }
 
 /// A slave as the frames show it: how far its opening or its repeat round is, and what it has gained.
-#[derive(Clone, Copy, Debug)]
+#[derive(Clone, Copy)]
 pub struct Tracker {
     pub spot: Spot,
     pace: u64,

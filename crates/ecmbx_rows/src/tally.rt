@@ -2,7 +2,7 @@ use crate::repair::Ring;
 
 /// How far a run has come: the frames sent, those of them that were lost, what was gained, and how often a state service began to reopen its slave; in
 /// how many frames at most all live slaves are repaired, if none is lost; and how many came back since with nothing gained.
-#[derive(Clone, Copy, Debug, Default)]
+#[derive(Clone, Copy, Default)]
 pub struct Tally {
     pub frames: u64,
     pub lost: u64,

@@ -14,7 +14,7 @@ use segment_ring::Fate;
 use std::alloc::Global;
 
 /// What became of a run that was to be made again.
-#[derive(Clone, Copy, Debug)]
+#[derive(Clone, Copy)]
 pub enum Replayed {
     /// Each of its frames was made again. The checksum is that of all frames and what came back of them, in order.
     Same {

@@ -2,7 +2,7 @@
 const POLYNOMIAL: u32 = 0xEDB8_8320;
 
 /// The CRC-32 of the octets so far, as Ethernet has it, but for the last inversion.
-#[derive(Clone, Copy, Debug)]
+#[derive(Clone, Copy)]
 pub struct Checksum {
     rest: u32,
 }

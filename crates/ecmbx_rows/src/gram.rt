@@ -5,14 +5,14 @@ use datagrams::register::{
 use datagrams::{Command, Head, Part};
 
 /// Where a slave is meant: by its station, or by its place in the ring, as ADP has that where no slave was passed.
-#[derive(Clone, Copy, Debug)]
+#[derive(Clone, Copy)]
 pub struct Spot {
     pub station: u16,
     pub adp: u16,
 }
 
 /// What a datagram asks of the slave that it is for, with what stands in it.
-#[derive(Clone, Copy, Debug, PartialEq, Eq)]
+#[derive(Clone, Copy, PartialEq, Eq)]
 pub enum Access {
     /// The write of mailbox 0.
     WriteMail,
@@ -33,7 +33,7 @@ pub enum Access {
 }
 
 /// A datagram for a slave, as it was sent or came back.
-#[derive(Clone, Copy, Debug)]
+#[derive(Clone, Copy)]
 pub struct Gram {
     pub access: Access,
     /// Whether it means the slave by its place.

@@ -1,5 +1,5 @@
 /// How many slaves a ring has, and behind how many frames the slowest of them makes a step.
-#[derive(Clone, Copy, Debug)]
+#[derive(Clone, Copy)]
 pub struct Ring {
     pub slaves: u64,
     pub slowest: u64,
@@ -7,21 +7,21 @@ pub struct Ring {
 
 /// How far a repair is: in how many frames at most what comes behind its access in hand is done, and whether that access is in vain until the slave
 /// makes a step.
-#[derive(Clone, Copy, Debug, PartialEq, Eq)]
+#[derive(Clone, Copy, PartialEq, Eq)]
 pub struct Way {
     pub rest: u64,
     pub awaits: bool,
 }
 
 /// An opening under way: bring-up, which has accesses 1 to 5, or a reopening, which first returns the slave to Init and has 1 to 9.
-#[derive(Clone, Copy, Debug)]
+#[derive(Clone, Copy)]
 pub struct Opening {
     pub again: bool,
     pub step: u64,
 }
 
 /// The inward half of a slave's link.
-#[derive(Clone, Copy, Debug)]
+#[derive(Clone, Copy)]
 pub enum Half {
     /// Nothing is in doubt.
     Clear,

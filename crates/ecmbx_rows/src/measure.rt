@@ -11,7 +11,7 @@ use segment_ring::Fate;
 use std::alloc::Global;
 
 /// What a run came to by the measure.
-#[derive(Clone, Copy, Debug)]
+#[derive(Clone, Copy)]
 pub struct Measured {
     /// In how many frames all was to be repaired, at most.
     pub repair: u64,
@@ -27,7 +27,7 @@ pub struct Measured {
 }
 
 /// Why the frames of a run don't count.
-#[derive(Clone, Copy, Debug)]
+#[derive(Clone, Copy)]
 pub enum Uncounted {
     /// Behind this one the measure is one that no frame may leave.
     Breaks { frame: u64 },
@@ -40,7 +40,7 @@ pub enum Uncounted {
 }
 
 /// How a frame counts.
-#[derive(Clone, Copy, Debug)]
+#[derive(Clone, Copy)]
 enum Passage {
     Lost,
     /// It came back in the first bring-up.
