@@ -21,7 +21,7 @@ pub const OP: u8 = 8;
 
 /// The state of a slave: 1 Init, 2 PreOp, 3 Bootstrap, 4 SafeOp, 8 Op. The error flag stands exactly
 /// where `error` isn't 0, which then is the AL status code.
-#[derive(Clone, Copy, Debug, PartialEq, Eq)]
+#[derive(Clone, Copy, PartialEq, Eq)]
 pub struct Al {
     pub state: u8,
     pub error: u16,

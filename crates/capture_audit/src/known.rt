@@ -13,7 +13,7 @@ use ec_fields::{NoMemory, Rows};
 use std::alloc::Global;
 
 /// What is known so far: the stations whose managers were written, and those whose links opened, in that order.
-#[derive(Debug, Drop)]
+#[derive(Drop)]
 pub struct Known {
     pub seats: Rows<Seat>,
     pub stations: Rows<StationAudit>,

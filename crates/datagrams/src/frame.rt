@@ -5,7 +5,7 @@ use arrayvec::ArrayVec;
 pub type FrameBuf = ArrayVec<u8, 1514>;
 
 /// One datagram of a frame: `at` is the place of its first octet in the frame.
-#[derive(Clone, Copy, Debug, Default, PartialEq, Eq)]
+#[derive(Clone, Copy, Default, PartialEq, Eq)]
 pub struct Part {
     pub at: usize,
     pub head: Head,

@@ -5,7 +5,7 @@ use ec_fields::Octets;
 use ec_outside::Gram;
 
 /// What a link gave.
-#[derive(Clone, Copy, Debug, PartialEq, Eq)]
+#[derive(Clone, Copy, PartialEq, Eq)]
 pub enum Piece {
     /// At least one octet.
     Bytes,
@@ -16,7 +16,7 @@ pub enum Piece {
 }
 
 /// Why a call of a link failed.
-#[derive(Clone, Copy, Debug, PartialEq, Eq)]
+#[derive(Clone, Copy, PartialEq, Eq)]
 pub enum LinkErr {
     /// A fault of the link; its count of faults rose.
     Failed,
@@ -25,7 +25,7 @@ pub enum LinkErr {
 }
 
 /// What a link in memory has to give.
-#[derive(Debug, Drop)]
+#[derive(Drop)]
 pub enum LinkItem {
     /// Octets that come in one piece.
     Bytes(Octets),

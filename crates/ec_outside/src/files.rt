@@ -4,7 +4,7 @@ ghost use Rattle.ec_outside.specs.Faults.{Rose};
 use ec_fields::Octets;
 
 /// A file by its name.
-#[derive(Debug, Drop)]
+#[derive(Drop)]
 pub struct StoredFile {
     /// The octets of its name.
     pub name: Octets,

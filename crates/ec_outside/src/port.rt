@@ -5,7 +5,7 @@ use arrayvec::ArrayVec;
 use ec_fields::Octets;
 
 /// A peer of a port.
-#[derive(Clone, Copy, Debug, PartialEq, Eq)]
+#[derive(Clone, Copy, PartialEq, Eq)]
 pub struct Peer {
     /// Its IPv4 address as a number, the first octet of the address the highest.
     pub ip: u32,
@@ -17,7 +17,7 @@ pub struct Peer {
 pub type Gram = ArrayVec<u8, 2048>;
 
 /// What a port heard.
-#[derive(Clone, Copy, Debug, PartialEq, Eq)]
+#[derive(Clone, Copy, PartialEq, Eq)]
 pub enum Heard {
     /// A datagram of this peer.
     From(Peer),
@@ -28,7 +28,7 @@ pub enum Heard {
 }
 
 /// Why a call of a port failed.
-#[derive(Clone, Copy, Debug, PartialEq, Eq)]
+#[derive(Clone, Copy, PartialEq, Eq)]
 pub enum PortErr {
     /// A fault of the port; its count of faults rose.
     Failed,
@@ -37,7 +37,7 @@ pub enum PortErr {
 }
 
 /// A datagram that was sent.
-#[derive(Debug, Drop)]
+#[derive(Drop)]
 pub struct SentGram {
     /// To whom.
     pub to: Peer,
@@ -46,7 +46,7 @@ pub struct SentGram {
 }
 
 /// What a port in memory has to give.
-#[derive(Debug, Drop)]
+#[derive(Drop)]
 pub enum PortItem {
     /// A datagram of a peer.
     Gram {

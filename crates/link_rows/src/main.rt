@@ -25,7 +25,7 @@ mod states;
 mod switch;
 mod views;
 
-use anyhow::Result;
+use anyhow::{Result, bail};
 use boxes::BoxBench;
 use captures::CaptureBench;
 use coe::CoeBench;
@@ -58,45 +58,47 @@ fn tell_sink<R: Print>(rt: &R) -> Result<()> {
     Ok(())
 }
 
-// The codecs.
-fn tell_formats(rt: &HostRuntime) -> Result<()> {
-    tell(rt, "fields", Some(FieldBench))?;
-    tell(rt, "mails", Some(MailBench))?;
-    tell(rt, "coe", Some(CoeBench))?;
-    tell(rt, "foe", Some(FoeBench))?;
-    tell(rt, "soe", Some(SoeBench))?;
-    tell(rt, "eoe", Some(EoeBench::new()))?;
-    tell(rt, "frames", Some(FrameBench))
+// The codecs: whether each table was told.
+fn tell_formats(rt: &HostRuntime) -> bool {
+    let mut told = tell(rt, "fields", Some(FieldBench)).is_ok();
+    told &= tell(rt, "mails", Some(MailBench)).is_ok();
+    told &= tell(rt, "coe", Some(CoeBench)).is_ok();
+    told &= tell(rt, "foe", Some(FoeBench)).is_ok();
+    told &= tell(rt, "soe", Some(SoeBench)).is_ok();
+    told &= tell(rt, "eoe", Some(EoeBench::new())).is_ok();
+    told & tell(rt, "frames", Some(FrameBench)).is_ok()
 }
 
 // The text of captures, the switch and the adapters.
-fn tell_adapters(rt: &HostRuntime) -> Result<()> {
-    tell(rt, "captures", Some(CaptureBench::new(rt.alloc())))?;
-    tell(rt, "views", Some(ViewBench))?;
-    tell(rt, "switch", SwitchBench::new(rt.alloc()).ok())?;
-    tell(rt, "outside", OutsideBench::new(rt.alloc()).ok())?;
+fn tell_adapters(rt: &HostRuntime) -> bool {
+    let mut told = tell(rt, "captures", Some(CaptureBench::new(rt.alloc()))).is_ok();
+    told &= tell(rt, "views", Some(ViewBench)).is_ok();
+    told &= tell(rt, "switch", SwitchBench::new(rt.alloc()).ok()).is_ok();
+    told &= tell(rt, "outside", OutsideBench::new(rt.alloc()).ok()).is_ok();
     let disk = DiskBench::new(rt.alloc(), DiskFiles::new(rt));
-    tell(rt, "disk", disk.ok())?;
-    fs::remove_file(rt, "kept.bin")?;
-    tell_sink(rt)
+    told &= tell(rt, "disk", disk.ok()).is_ok();
+    told & fs::remove_file(rt, "kept.bin").is_ok()
 }
 
 // The link.
-fn tell_link(rt: &HostRuntime) -> Result<()> {
-    tell(rt, "registers", EscBench::new(rt.alloc()).ok())?;
-    tell(rt, "boxes", Some(BoxBench))?;
-    tell(rt, "states", Some(StateBench))?;
-    tell(rt, "climb", Some(ClimbBench::new()))?;
-    tell(rt, "bring", Some(BringBench::new()))?;
-    tell(rt, "inward", Some(InwardBench::new()))?;
-    tell(rt, "outward", Some(OutwardBench::new()))?;
-    tell(rt, "seats", Some(SeatBench::new()))?;
-    tell(rt, "runs", Some(RunBench))?;
-    tell(rt, "nodes", NodeBench::new(rt.alloc()).ok())
+fn tell_link(rt: &HostRuntime) -> bool {
+    let mut told = tell(rt, "registers", EscBench::new(rt.alloc()).ok()).is_ok();
+    told &= tell(rt, "boxes", Some(BoxBench)).is_ok();
+    told &= tell(rt, "states", Some(StateBench)).is_ok();
+    told &= tell(rt, "climb", Some(ClimbBench::new())).is_ok();
+    told &= tell(rt, "bring", Some(BringBench::new())).is_ok();
+    told &= tell(rt, "inward", Some(InwardBench::new())).is_ok();
+    told &= tell(rt, "outward", Some(OutwardBench::new())).is_ok();
+    told &= tell(rt, "seats", Some(SeatBench::new())).is_ok();
+    told &= tell(rt, "runs", Some(RunBench)).is_ok();
+    told & tell(rt, "nodes", NodeBench::new(rt.alloc()).ok()).is_ok()
 }
 
 fn main(rt: HostRuntime) -> Result<()> {
-    tell_formats(&rt)?;
-    tell_adapters(&rt)?;
-    tell_link(&rt)
+    let told = tell_formats(&rt) & tell_adapters(&rt);
+    tell_sink(&rt)?;
+    if !(told & tell_link(&rt)) {
+        bail!("a table failed");
+    }
+    Ok(())
 }

@@ -78,7 +78,7 @@ pub struct Mail {
 }
 
 /// What a mail's header says but the length of the body (ETG.1000.4, "Mailbox header").
-#[derive(Clone, Copy, Debug, PartialEq, Eq)]
+#[derive(Clone, Copy, PartialEq, Eq)]
 pub struct MailHead {
     /// The station address; 0 on the segment.
     pub address: u16,

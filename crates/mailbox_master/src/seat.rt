@@ -24,7 +24,7 @@ use std::marker::Model;
 use std::mem;
 
 /// The outward half of a link with the place of its mail.
-#[derive(Debug, Drop)]
+#[derive(Drop)]
 pub struct OutwardSeat {
     station: u16,
     len: u16,

@@ -18,7 +18,7 @@ pub struct PacketAt {
 }
 
 /// The packets of a capture in the order of the file, and whether their parts are nanoseconds.
-#[derive(Debug, Drop)]
+#[derive(Drop)]
 pub struct Capture {
     pub nanos: bool,
     pub packets: Rows<PacketAt>,

@@ -5,6 +5,7 @@ use crate::answers::{packets_handed, push_answers};
 use ec_fields::{NoMemory, Octets, Rows};
 use run_book::{Emergency, Epoch, SlaveBook};
 use segment_plan::SlaveSpec;
+use slave_server::{handled_of, state_of};
 use std::alloc::Global;
 
 fn state_text(alloc: Global, station: u16, state: u8) -> Result<Octets, NoMemory>
@@ -31,8 +32,8 @@ fn line_of_slave(
 {
     let packets = packets_handed(row.begun.as_slice(), row.answers.as_slice());
     let head = format!(in alloc; "slave {number} ")?;
-    let state = state_text(alloc, spec.station, row.node.al())?;
-    let counts = count_text(alloc, row.node.handled(), packets)?;
+    let state = state_text(alloc, spec.station, state_of(&row.node))?;
+    let counts = count_text(alloc, handled_of(&row.node), packets)?;
     let mut line = Octets::copy_of(alloc, head.as_bytes())?;
     line.add(spec.name.bytes())?;
     line.add(state.bytes())?;

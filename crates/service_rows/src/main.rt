@@ -21,7 +21,7 @@ mod state;
 mod store;
 mod telling;
 
-use anyhow::Result;
+use anyhow::{Result, bail};
 use bench::follow;
 use ec_fields::Octets;
 use ec_outside::{DiskFiles, Files, Loaded};
@@ -44,24 +44,30 @@ fn tell_scenario<F: Files>(page: &mut Page, files: &mut F, name: &str) {
     }
 }
 
-// The tables.
-fn tell_tables(rt: &HostRuntime) -> Result<()> {
-    tell(rt, "pool", Some(PoolBench))?;
-    tell(rt, "store", Some(StoreBench))?;
-    tell(rt, "sdo_values", Some(sdo::ValueBench))?;
-    tell(rt, "sdo_client", sdo::ClientBench::new(rt.alloc()).ok())?;
-    tell(rt, "sdo_server", sdo::ServerBench::new(rt.alloc()).ok())?;
-    tell(rt, "sdo_carried", sdo::CarriedBench::new(rt.alloc()).ok())?;
-    tell(rt, "foe_client", foe::ClientBench::new(rt.alloc()).ok())?;
-    tell(rt, "foe_server", foe::ServerBench::new(rt.alloc()))?;
-    tell(rt, "foe_carried", foe::CarriedBench::new(rt.alloc()))?;
-    tell(rt, "soe_server", soe::ServerBench::new(rt.alloc()).ok())?;
-    tell(rt, "soe_client", soe::ClientBench::new(rt.alloc()).ok())?;
-    tell(rt, "soe_carried", Some(soe::CarriedBench))
+// The tables below the protocols, and those of SDO: whether each was told.
+fn tell_sdo(rt: &HostRuntime) -> bool {
+    let mut told = tell(rt, "pool", Some(PoolBench)).is_ok();
+    told &= tell(rt, "store", Some(StoreBench)).is_ok();
+    told &= tell(rt, "sdo_values", Some(sdo::ValueBench)).is_ok();
+    told &= tell(rt, "sdo_client", sdo::ClientBench::new(rt.alloc()).ok()).is_ok();
+    told &= tell(rt, "sdo_server", sdo::ServerBench::new(rt.alloc()).ok()).is_ok();
+    told & tell(rt, "sdo_carried", sdo::CarriedBench::new(rt.alloc()).ok()).is_ok()
+}
+
+// Those of FoE and SoE.
+fn tell_files(rt: &HostRuntime) -> bool {
+    let mut told = tell(rt, "foe_client", foe::ClientBench::new(rt.alloc()).ok()).is_ok();
+    told &= tell(rt, "foe_server", foe::ServerBench::new(rt.alloc())).is_ok();
+    told &= tell(rt, "foe_carried", foe::CarriedBench::new(rt.alloc())).is_ok();
+    told &= tell(rt, "soe_server", soe::ServerBench::new(rt.alloc()).ok()).is_ok();
+    told &= tell(rt, "soe_client", soe::ClientBench::new(rt.alloc()).ok()).is_ok();
+    told & tell(rt, "soe_carried", Some(soe::CarriedBench)).is_ok()
 }
 
 fn main(rt: HostRuntime) -> Result<()> {
-    tell_tables(&rt)?;
+    if !(tell_sdo(&rt) & tell_files(&rt)) {
+        bail!("a table failed");
+    }
     let mut files = DiskFiles::new(&rt);
     for word in env::args(&rt)?.skip(1) {
         let mut page = Page::new(rt.alloc());

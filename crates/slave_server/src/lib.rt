@@ -12,4 +12,4 @@ mod taking;
 
 pub use law::server_is_exchange;
 pub use server::{Lengths, Protocols, SlaveServer};
-pub use spec::{idns_of, node_of, objects_of, server_of, store_of};
+pub use spec::{handled_of, idns_of, node_of, objects_of, server_of, state_of, store_of};

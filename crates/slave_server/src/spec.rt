@@ -179,3 +179,17 @@ pub fn node_of(alloc: Global, spec: &SlaveSpec) -> Result<SlaveNode<SlaveServer>
     let server = server_of(alloc, spec)?;
     SlaveNode::new(alloc, spec.out_len, spec.in_len, spec.boot, server)
 }
+
+/// The AL state in which a slave of a plan stands: who asks here needs no more of its server.
+pub fn state_of(node: &SlaveNode<SlaveServer>) -> u8
+    ensures { result ≡ node.now.al.state }
+{
+    node.al()
+}
+
+/// How many mailbox services a slave of a plan carried out.
+pub fn handled_of(node: &SlaveNode<SlaveServer>) -> u64
+    ensures { result ≡ node.now.server.server.handled }
+{
+    node.handled()
+}
