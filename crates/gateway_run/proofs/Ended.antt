@@ -20,7 +20,8 @@ use Rattle.run_book.specs.declared.book.GramIn.{GramIn}
 use Rattle.run_book.specs.declared.book.GramOut.{GramOut}
 use Rattle.run_book.specs.declared.book.SlaveBook.{SlaveBook}
 use Rattle.run_record.specs.Led.{LeavesNone, exchanged}
-use Rattle.run_record.specs.Served.{ServedNumbered, ServingBegins, ServingRests, served_begun}
+use Rattle.run_record.specs.Served.{ServingBegins, ServingRests}
+use Rattle.run_record.specs.of_packets_heard.Servings.{ServedNumbered, served_begun}
 use Rattle.run_record.specs.Session.{are_at_rest, first_session, session_rows}
 use Rattle.run_record.specs.of_eoe_switch.declared.switching.SwitchEvent.{SwitchEvent}
 use Rattle.run_record.specs.of_packets_heard.Servings.{AreServedBegun, ServedListed}

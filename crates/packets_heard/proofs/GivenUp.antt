@@ -21,10 +21,11 @@ use Rattle.master_node.specs.Shows.{is_led, is_live_lead}
 use Rattle.master_node.specs.Wants.{gave_of, IsCounted, AllCounted}
 use Rattle.master_node.proofs.Counts.{back_gave, counted, lost_gave, lost_stand, next_stand, turn_gave}
 use Rattle.master_tour.specs.Goes.{holds_at}
-use Rattle.packets_heard.specs.Numbers.{Numbered, given_up_at, goes, number_behind, numbers_where}
-use Rattle.packets_heard.proofs.Counts.{count, count_append, count_goes, repeat, where_more}
-use Rattle.packets_heard.proofs.Numbers.{numbered_many}
+use Rattle.packets_heard.specs.Numbers.{Numbered, NumberedOn, given_up_at, goes, number_behind, numbers_where}
+use Rattle.packets_heard.proofs.Counts.{count, count_goes, repeat}
+use Rattle.packets_heard.proofs.Numbers.{frame_count, frame_numbers, numbered_many}
 use Rattle.packets_heard.specs.Listed.{IsOwn, Listed, downs_at}
+use Rattle.packets_heard.specs.Over.{AreBegun}
 use Rattle.packets_heard.proofs.Lives.{pass_lives, turn_lives}
 use Rattle.packets_heard.proofs.Ports.{making_downs}
 use Rattle.packets_heard.proofs.Runs.{run_downs}
@@ -35,7 +36,7 @@ abbrev SlaveLife : Type 0
 SlaveLife = Life Body Asked Reply
 
 -- WHAT A FRAME MAKES of when a slave was given up for good, by whether it is live before and behind it
-abbrev GoneBy : Bool → Bool → ℕ → Option ℕ → Option ℕ → Type 0
+abbrev pub GoneBy : Bool → Bool → ℕ → Option ℕ → Option ℕ → Type 0
 GoneBy true true made x y = y ≡ x
 GoneBy true false made x y = (x ≡ None) × (y ≡ Some made)
 GoneBy false true made x y = ⊥
@@ -146,7 +147,7 @@ module _ (lens : ℕ → Lens) (recover retry : ℕ) (gives : Bool) (made : ℕ)
       go (Lost after) fate = lost_gone after fate ds as' us t h i k b c e g
 
 -- before the first frame none was
-first_none : (recover : ℕ) (services : List (ℕ × Plan.Service)) (place : ℕ) (ss : List SlaveSpec) (k : ℕ) → given_up_at recover (leads_from services place ss) k ≡ None
+pub first_none : (recover : ℕ) (services : List (ℕ × Plan.Service)) (place : ℕ) (ss : List SlaveSpec) (k : ℕ) → given_up_at recover (leads_from services place ss) k ≡ None
 first_none recover services place [] k = refl
 first_none recover services place (s ∷ ss) zero = slice_get_past [] recover (omega arith)
 first_none recover services place (s ∷ ss) (suc k) = first_none recover services (suc place) ss k
@@ -167,35 +168,39 @@ downs_by false false made n x y h e = (λ i. number_behind (sym h i) ++ repeat (
     zero_so : n ≡ 0
     zero_so = omega (arith, e)
 
+-- ONE FRAME MORE, where each event before it has its number
+module _ (listed begun : List SwitchEvent → Type 0) (before : List SwitchEvent → List ℕ → Type 0) (ports : List (Option ℕ)) (many made : ℕ) (us : List Turn) (es : List SwitchEvent) (ns : List ℕ) (x : NumberedOn listed begun before ports many made us es ns)
+    (long : length x.step.old ≡ length x.numbers) where
+  pub frame_goes : (p : ℕ) (b c : Bool) (old new : Option ℕ) → GoneBy b c made old new → downs_at p x.step.old ≡ (if b then 0 else 1) → downs_at p es ≡ (if c then 0 else 1) → numbers_where (goes p) x.step.old x.numbers ≡ number_behind old → numbers_where (goes p) es ns ≡ number_behind new
+  frame_goes p b c old new gone was now numbers =
+      frame_numbers listed begun before ports many made us es ns x long (goes p)
+      ∙ (λ i. numbers i ++ (repeat (making i) made ++ repeat (count (goes p) x.step.behind) (suc made)))
+      ∙ downs_by b c made (count (goes p) x.step.behind) old new gone behind
+    where
+      making : count (goes p) x.step.making ≡ 0
+      making = count_goes p x.step.making ∙ making_downs p x.step.making x.only
+
+      behind : (if b then 0 else 1) + count (goes p) x.step.behind ≡ (if c then 0 else 1)
+      behind =
+          let all = count_goes p es in
+          let first = count_goes p x.step.old in
+          let sum = frame_count listed begun before ports many made us es ns x long (goes p) in
+          omega (arith, all, first, was, now, sum, making)
+
 -- ---- OVER A RUN
 module _ (lens : ℕ → Lens) (plan : Scenario) (retry : ℕ) (ports : List (Option ℕ)) (many k p : ℕ) (own : IsOwn ports k p) (live : holds_at is_live_lead (first_leads plan) k ≡ true) where
   pub numbers_down : {fs : List Exchanged} {missed : ℕ} {as' : List Leads} (led : IsLed lens plan.recover retry (first_leads plan) fs missed as') (es : List SwitchEvent) (ns : List ℕ) → Listed lens plan.recover retry ports led es → Numbered ports many led es ns →
       numbers_where (goes p) es ns ≡ number_behind (given_up_at plan.recover as' k)
   numbers_down IsLed.start es ns l x = (λ i. numbers_where (goes p) (x.0 i) (x.1 i)) ∙ sym (ap number_behind (first_none plan.recover plan.services 0 plan.slaves k))
   numbers_down (IsLed.on fs missed as' f us led frame) es ns l x =
-      (λ i. numbers_where (goes p) (x.step.whole i) (x.counted i))
-      ∙ where_more (goes p) x.step.old x.step.making x.step.behind x.numbers (length fs) (numbered_many ports many led x.step.old x.numbers x.was)
-      ∙ (λ i. numbers_down led x.step.old x.numbers x.listed_old x.was i ++ (repeat (making i) (length fs) ++ repeat (count (goes p) x.step.behind) (suc (length fs))))
-      ∙ downs_by (holds_at is_live_lead as' k) (holds_at is_live_lead leads k) (length fs) (count (goes p) x.step.behind) (given_up_at plan.recover as' k) (given_up_at plan.recover leads k) gone behind
+      frame_goes (λ old. Listed lens plan.recover retry ports led old) (λ old. AreBegun ports many led old) (λ old numbers. Numbered ports many led old numbers) ports many (length fs) us es ns x (numbered_many ports many led x.step.old x.numbers x.was)
+      p (holds_at is_live_lead as' k) (holds_at is_live_lead leads k) (given_up_at plan.recover as' k) (given_up_at plan.recover leads k) gone
+      (run_downs lens plan.recover retry ports k p own led x.step.old live x.listed_old) (run_downs lens plan.recover retry ports k p own (IsLed.on fs missed as' f us led frame) es live l) (numbers_down led x.step.old x.numbers x.listed_old x.was)
     where
       leads : List Leads
       leads = map (led_behind lens plan.recover retry (gives_up_at lens plan.recover retry missed) (length fs) f) us
-
-      making : count (goes p) x.step.making ≡ 0
-      making = count_goes p x.step.making ∙ making_downs p x.step.making x.only
 
       gone : GoneBy (holds_at is_live_lead as' k) (holds_at is_live_lead leads k) (length fs) (given_up_at plan.recover as' k) (given_up_at plan.recover leads k)
       gone =
           frame_gone lens plan.recover retry (gives_up_at lens plan.recover retry missed) (length fs) f frame.datagrams as' us frame.each (counted lens plan retry fs missed as' led)
           (counted lens plan retry (fs ++ f ∷ []) _ leads (IsLed.on fs missed as' f us led frame)) k (holds_at is_live_lead as' k) (holds_at is_live_lead leads k) refl refl
-
-      behind : (if holds_at is_live_lead as' k then 0 else 1) + count (goes p) x.step.behind ≡ (if holds_at is_live_lead leads k then 0 else 1)
-      behind =
-          let all = count_goes p es in
-          let old = count_goes p x.step.old in
-          let now : downs_at p es ≡ (if holds_at is_live_lead leads k then 0 else 1) = run_downs lens plan.recover retry ports k p own (IsLed.on fs missed as' f us led frame) es live l in
-          let before : downs_at p x.step.old ≡ (if holds_at is_live_lead as' k then 0 else 1) = run_downs lens plan.recover retry ports k p own led x.step.old live x.listed_old in
-          let whole = ap (λ z. count (goes p) z) x.step.whole in
-          let first = count_append (goes p) x.step.old (x.step.making ++ x.step.behind) in
-          let last = count_append (goes p) x.step.making x.step.behind in
-          omega (arith, all, old, now, before, whole, first, last, making)

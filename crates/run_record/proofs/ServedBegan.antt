@@ -18,13 +18,14 @@ use Rattle.master_node.specs.of_master_hand.Spoken.{Asked, sdo, file, drive, net
 use Rattle.master_node.specs.of_master_hand.of_eoe_model.Client as EoeClient
 use Rattle.packets_heard.specs.Numbers.{each_with}
 use Rattle.packets_heard.specs.Over.{packet_begun}
+use Rattle.packets_heard.specs.Servings.{served_begun}
 use Rattle.run_notes.specs.Packets.{AllPackets, BeginsOn, begun_noted, rows_by}
 use Rattle.run_notes.specs.Reports.{AllReport}
 use Rattle.run_notes.specs.declared.notes.Notes.{Notes}
 use Rattle.run_record.proofs.Began.{ListsPackets, few_one, lists_packets, no_row, noted_on, one_row, packet_place, row_by}
 use Rattle.run_record.proofs.ServedReports.{turn_by}
 use Rattle.run_record.specs.Forwarded.{PacketsNoted}
-use Rattle.run_record.specs.Served.{ServeTo, served_begun}
+use Rattle.run_record.specs.Served.{ServeTo}
 use Rattle.script_runs.specs.Answers.{turned}
 use Rattle.script_runs.specs.Steps.{TurnsBy}
 use Rattle.segment_plan.specs.declared.plan.Scenario.{Scenario}

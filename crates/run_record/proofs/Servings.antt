@@ -59,7 +59,7 @@ use Rattle.run_record.specs.Replay.{IsRecorded, behind as behind_ring, first_rin
 use Rattle.packets_heard.specs.Recalled.{State}
 use Rattle.packets_heard.specs.Served.{IsTourServed, serves_behind}
 use Rattle.packets_heard.specs.Toured.{tour_behind}
-use Rattle.run_record.specs.Served.{ServedLeading, Serving, ServesOn, ServingAsks, ServingGoesOn, TellsBehind, as_asked, served_begun, served_heard}
+use Rattle.run_record.specs.Served.{ServedLeading, Serving, ServesOn, ServingAsks, ServingGoesOn, TellsBehind, as_asked, served_heard}
 use Rattle.run_record.specs.Session.{FrameEvents, IsDone, SessionState, asked_mail, asked_more, has_live, numbers_over}
 use Rattle.run_record.proofs.Began.{packets_first}
 use Rattle.run_record.proofs.Fits.{has_room, home_fits}
