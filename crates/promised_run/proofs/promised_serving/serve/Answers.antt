@@ -4,6 +4,7 @@ use Rattle.life_runs.specs.First.{first_leads, lens_of}
 use Rattle.promised_run.proofs.Given.{all_given}
 use Rattle.promised_run.proofs.Rested.{rested}
 use Rattle.promised_run.proofs.ServedBounded.{bounded}
+use Rattle.promised_run.proofs.ServedPorts.{at_ports}
 use Rattle.promised_run.proofs.Through.{through}
 use Rattle.promised_run.proofs.Whole.{whole}
 use Rattle.promised_run.proofs.promised_serving.serve.Goals as goal
@@ -31,6 +32,11 @@ returns-clause-bounded g c =
 
 pub returns-clause-whole : goal.returns-clause-whole
 returns-clause-whole g c = whole c.args.plan.now c.serve.new.book
+
+pub returns-clause-ports : goal.returns-clause-ports
+returns-clause-ports g c =
+    at_ports c.args.plan.now c.args.count c.serve.new.book (told g.P.Port.heard g.P.Port.sent g.P.Port.over g.P.Port.port_faults c.args.port.now) (told g.P.Port.heard g.P.Port.sent g.P.Port.over g.P.Port.port_faults c.serve.new.port)
+    c.serve.result c.serve.ensures.served c.serve.ensures.ending
 
 pub returns-clause-given : goal.returns-clause-given
 returns-clause-given g c =
