@@ -32,6 +32,7 @@ pub mod Rounds
 mod Rows
 pub mod Scripts
 pub mod ServedBounded
+mod ServedReported
 mod ServedUncut
 pub mod Settled
 pub mod Through
