@@ -17,6 +17,7 @@ use Rattle.life_runs.specs.Led.{Exchanged, gives_up_at, missed_behind, speech_at
 use Rattle.link_mails.specs.Body.{Body}
 use Rattle.master_duty.specs.Reply.{Reply}
 use Rattle.master_hand.specs.Spoken.{Asked, acknowledged, is_followed, is_passed}
+use Rattle.master_side.specs.Passing.{news_back, news_lost}
 use Rattle.plan_ring.specs.Asked.{asked}
 use Rattle.plan_ring.specs.Epochs.{IsTold}
 use Rattle.plan_ring.specs.Plan.{AllMacs, FitsPlan, plan_of, step}
@@ -127,13 +128,18 @@ module _ (lens : ℕ → Lens) (recover retry : ℕ) where
       Moves made l (served_life lens recover retry gives made f fate v).life
   life_moves gives made f Pass v x l pick same =
       let spot = v.turn.lived.spot in
-      subst (λ (m : Life Body Asked Reply). Moves made l (life_back (speech_at lens spot) acknowledged is_followed is_passed made spot _ (seen lens f.back) (came_at v.turn.share.under v.turn.share.at (seen lens f.back)) m m.stand)) (sym same)
-      (back_moves made x (speech_at lens spot) l pick spot _ (seen lens f.back) (came_at v.turn.share.under v.turn.share.at (seen lens f.back)) l.stand refl)
+      let back = seen lens f.back in
+      let news = news_back spot.station v.kept v.counts back in
+      let came = came_at v.turn.share.under v.turn.share.at back in
+      subst (λ (m : Life Body Asked Reply). Moves made l (life_back (speech_at lens spot) acknowledged is_followed is_passed made spot news back came m m.stand)) (sym same)
+      (back_moves made x (speech_at lens spot) l pick spot news back came l.stand refl)
   life_moves gives made f (Lost after) v x l pick same =
       let spot = v.turn.lived.spot in
-      given_moves made (gives && v.turn.share.under) recover spot l _
-      (subst (λ (m : Life Body Asked Reply). Moves made l (life_lost (speech_at lens spot) acknowledged is_followed is_passed spot _ (seen lens f.sent) m m.stand)) (sym same)
-      (loses made x (speech_at lens spot) l pick spot _ (seen lens f.sent) l.stand))
+      let sent = seen lens f.sent in
+      let news = news_lost spot.station v.kept sent in
+      given_moves made (gives && v.turn.share.under) recover spot l (life_lost (speech_at lens spot) acknowledged is_followed is_passed spot news sent v.turn.lived.life v.turn.lived.life.stand)
+      (subst (λ (m : Life Body Asked Reply). Moves made l (life_lost (speech_at lens spot) acknowledged is_followed is_passed spot news sent m m.stand)) (sym same)
+      (loses made x (speech_at lens spot) l pick spot news sent l.stand))
 
 -- ---- AS MORE FRAMES COME what is over stays
 module _ {S V A : Type 0} (w : Behind S V A Asked Reply) (spot : Spot) (fs gs : List (Frame Body)) where
