@@ -12,6 +12,7 @@ use Rattle.promised_run.specs.Ran.{HasSent}
 use Rattle.promised_run.specs.Rested.{IsServedRested}
 use Rattle.promised_run.specs.ServedBounded.{IsServedBounded}
 use Rattle.promised_run.specs.ServedPorts.{IsServedAtPorts}
+use Rattle.promised_run.specs.ServedReported.{IsServedReported}
 use Rattle.promised_run.specs.Through.{IsServedThrough, IsServedWhole}
 use Rattle.run_report.specs.Report.{report_lines}
 use Rattle.gateway_run.specs.Serving.{Told}
@@ -27,7 +28,7 @@ use Rattle.ecmbx_call.specs.Files.{limit}
 use Rattle.ecmbx_call.specs.Ends.{status_of}
 
 -- what the serving of a plan left in its book, by what its port told before it and behind it: its frames, its datagrams, what the lives of its slaves have by these
--- frames, also at the port of each slave, and an ending with its cause; at each moment what its slaves did and replied to the mails that were passed on, by the server's one step for each, and what
+-- frames, also at the port of each slave, each service of a script with just the reply that the frames of its epoch give, and an ending with its cause; at each moment what its slaves did and replied to the mails that were passed on, by the server's one step for each, and what
 -- was told of each mail, which behind the frame by which it is over is all that was heard for it; behind all of it each datagram that was queued at a slave and is
 -- done has all mails of the one step of its slave's server, and where nothing was left to do the newest epoch of each slave that wasn't given up for good is all
 -- carried out; and where none asks for a download to 2F01:01, a budget of as many frames as the bound for so many datagrams didn't cut it off, and where besides few
@@ -39,6 +40,7 @@ pub record HasServed (plan : Scenario) (count : ℕ) (first last : Told) (book :
   pub whole : IsServedWhole plan book
   pub ports : IsServedAtPorts plan count book
   pub given : IsServedGiven plan count book
+  pub replied : IsServedReported plan count book
   pub rests : IsServedRested plan count book
   pub bounded : IsServedBounded plan count book
 
