@@ -21,10 +21,10 @@ use Rattle.run_book.specs.declared.book.GramOut.{GramOut}
 use Rattle.run_book.specs.declared.book.SlaveBook.{SlaveBook}
 use Rattle.run_record.specs.Mails.{served_mails}
 use Rattle.run_record.specs.Led.{LeavesNone, exchanged}
-use Rattle.run_record.specs.Served.{ServedNumbered, ServingBegins, ServingRests, served_begun}
+use Rattle.run_record.specs.Served.{ServingBegins, ServingRests}
 use Rattle.run_record.specs.Session.{are_at_rest, first_session, session_rows}
 use Rattle.run_record.specs.of_eoe_switch.declared.switching.SwitchEvent.{SwitchEvent}
-use Rattle.run_record.specs.of_packets_heard.Servings.{AreServedBegun, ServedListed}
+use Rattle.run_record.specs.of_packets_heard.Servings.{AreServedBegun, ServedListed, ServedNumbered, served_begun}
 use Rattle.run_record.specs.of_run_notes.Epochs.{HasEpochs}
 use Rattle.run_record.specs.of_run_notes.Heard.{emergencies_in}
 use Rattle.run_record.specs.of_run_notes.Packets.{AreMails, AreNumbered, begun_in, begun_noted}

@@ -3,7 +3,8 @@ use Rattle.std.proofs.Common.{◌≡◌, ℕ, Option, List, [], ◌∷◌, ◌++
 use Rattle.master_node.specs.Happened.{events_of}
 use Rattle.master_node.specs.of_life_runs.Led.{Exchanged}
 use Rattle.run_book.specs.declared.book.GramIn.{GramIn}
-use Rattle.run_record.specs.Served.{ServeTo, ServedNumbered}
+use Rattle.run_record.specs.Served.{ServeTo}
+use Rattle.run_record.specs.of_packets_heard.Servings.{ServedNumbered}
 use Rattle.run_record.specs.Session.{SessionState}
 use Rattle.run_record.specs.of_eoe_switch.declared.switching.SwitchEvent.{SwitchEvent}
 use Rattle.segment_plan.specs.declared.plan.Scenario.{Scenario}

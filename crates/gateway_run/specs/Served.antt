@@ -14,9 +14,9 @@ use Rattle.master_node.specs.of_life_runs.First.{lens_of}
 use Rattle.run_record.specs.Mails.{served_mails}
 use Rattle.run_record.specs.AcceptedMails.{AllNoted}
 use Rattle.run_record.specs.Led.{LeavesNoPacket, LeavesNone, exchanged}
-use Rattle.run_record.specs.Served.{ServedNumbered, served_begun, served_heard}
+use Rattle.run_record.specs.Served.{served_heard}
 use Rattle.run_record.specs.Session.{SessionState, session_rows}
-use Rattle.run_record.specs.of_packets_heard.Servings.{AreServedBegun, ServedListed}
+use Rattle.run_record.specs.of_packets_heard.Servings.{AreServedBegun, ServedListed, ServedNumbered, served_begun}
 use Rattle.run_record.specs.of_run_notes.Epochs.{HasEpochs}
 use Rattle.run_record.specs.of_run_notes.Heard.{emergencies_in}
 use Rattle.run_record.specs.of_run_notes.Packets.{AreMails, AreNumbered, begun_in}

@@ -14,7 +14,7 @@ use Rattle.master_hand.specs.of_eoe_model.Client as EoeClient
 use Rattle.master_hand.specs.Spoken.{Asked, sdo, file, drive, net, passed}
 use Rattle.master_node.specs.Arrivals.{arrive_where, arrive_at, arrive_by, arrivals_in}
 use Rattle.master_node.specs.Begins as Begins
-use Rattle.master_node.specs.Begins.{PacketsBegin, begins_by, begins_in, begun_of, oldest_at, packet_asked, switch_behind, switch_on, taken_by, taken_in}
+use Rattle.master_node.specs.Begins.{PacketsBegin, begins_by, begins_in, begun_of, packet_asked, switch_behind, switch_on, taken_by, taken_in}
 use Rattle.master_node.specs.Downs.{down_by, downs_in}
 use Rattle.master_node.specs.Forwards.{port_by, waiting_by}
 use Rattle.master_node.specs.Happened.{events_of}
@@ -275,6 +275,27 @@ module _ (ports : List (Option ℕ)) (many k p : ℕ) (own : IsOwn ports k p) wh
       ap (λ z. all_at p z) (frame_takes ports many us before es x) ∙ all_append p (taken_in (first_switch many) x.old) (begins_in ports (begun_of us) x.visited)
       ∙ (λ i. old i ++ frame_all ports k p own (begun_of us) x.visited x.once x.others i)
 
+  -- as many as these
+  count_more : (before : List SwitchEvent → Type 0) (us : List Turn) (es : List SwitchEvent) (x : BegunOn before ports many us es) (packets : List (ArrayVec ℕ)) → many_at p (taken_in (first_switch many) x.old) ≡ length packets →
+      many_at p (taken_in (first_switch many) es) ≡ length (packets ++ packet_begun (begun_of us k))
+  count_more before us es x packets old =
+      ap (λ z. many_at p z) (frame_takes ports many us before es x) ∙ many_append p (taken_in (first_switch many) x.old) (begins_in ports (begun_of us) x.visited)
+      ∙ (λ i. old i + frame_many ports k p own (begun_of us) x.visited x.once x.others i) ∙ sym (length_both packets (packet_begun (begun_of us k)))
+
+  -- where just these are taken there, none begins behind the port's going down
+  none_last : (packets : List (ArrayVec ℕ)) (es xs ys : List SwitchEvent) → all_at p (taken_in (first_switch many) es) ≡ packets → many_at p (taken_in (first_switch many) es) ≡ length packets → es ≡ xs ++ Down p ∷ ys → begun_at p ys ≡ 0
+  none_last taken es xs ys all counted whole =
+      let s0 = first_switch many in
+      let s1 = switch_behind s0 xs in
+      let s2 = downed_at s1 p in
+      let split : taken_in s0 es ≡ taken_in s0 xs ++ taken_in s2 ys = ap (λ z. taken_in s0 z) whole ∙ taken_append s0 xs (Down p ∷ ys) in
+      let packets : all_at p (taken_in s0 es) ≡ all_at p (taken_in s0 xs) = ap (λ z. all_at p z) split ∙ all_append p (taken_in s0 xs) (taken_in s2 ys) ∙ ap (λ z. all_at p (taken_in s0 xs) ++ z) (closed_none p s2 ys (down_closed p s1.ports)) ∙ append-nil (all_at p (taken_in s0 xs)) in
+      let count : many_at p (taken_in s0 es) ≡ many_at p (taken_in s0 xs) + many_at p (taken_in s2 ys) = ap (λ z. many_at p z) split ∙ many_append p (taken_in s0 xs) (taken_in s2 ys) in
+      let same : many_at p (taken_in s0 es) ≡ length (all_at p (taken_in s0 xs)) = counted ∙ ap (λ z. length z) (sym all ∙ packets) in
+      let few = few_packets p (taken_in s0 xs) in
+      let is = events_many p s2 ys in
+      omega (arith, count, same, few, is)
+
 module _ {lens : ℕ → Lens} {recover retry : ℕ} (ports : List (Option ℕ)) (many k p : ℕ) (own : IsOwn ports k p) where
   pub run_all : {first : List Leads} {fs : List Exchanged} {missed : ℕ} {as' : List Leads} (led : IsLed lens recover retry first fs missed as') (es : List SwitchEvent) → AreBegun ports many led es → all_at p (taken_in (first_switch many) es) ≡ packets_begun led k
   run_all IsLed.start es x = ap (λ z. all_at p (taken_in (first_switch many) z)) x
@@ -287,12 +308,18 @@ module _ {lens : ℕ → Lens} {recover retry : ℕ} (ports : List (Option ℕ))
 
   pub run_many : {first : List Leads} {fs : List Exchanged} {missed : ℕ} {as' : List Leads} (led : IsLed lens recover retry first fs missed as') (es : List SwitchEvent) → AreBegun ports many led es → many_at p (taken_in (first_switch many) es) ≡ length (packets_begun led k)
   run_many IsLed.start es x = ap (λ z. many_at p (taken_in (first_switch many) z)) x
-  run_many (IsLed.on fs missed as' f us led frame) es x =
-      ap (λ z. many_at p z) (frame_takes ports many us (λ old. AreBegun ports many led old) es x) ∙ many_append p (taken_in (first_switch many) x.old) (begins_in ports (begun_of us) x.visited)
-      ∙ (λ i. run_many led x.old x.was i + frame_many ports k p own (begun_of us) x.visited x.once x.others i) ∙ sym (length_both (packets_begun led k) (packet_begun (begun_of us k)))
+  run_many (IsLed.on fs missed as' f us led frame) es x = count_more ports many k p own (λ old. AreBegun ports many led old) us es x (packets_begun led k) (run_many led x.old x.was)
+
+  serving_many : {first : List Serves} {fs : List Exchanged} {missed : ℕ} {ws : List Serves} (led : IsServedLed lens recover retry first fs missed ws) (es : List SwitchEvent) → AreServedBegun ports many led es → many_at p (taken_in (first_switch many) es) ≡ length (served_packets led k)
+  serving_many IsServedLed.start es x = ap (λ z. many_at p (taken_in (first_switch many) z)) x
+  serving_many (IsServedLed.asks fs missed ws place key led may) es x = serving_many led es x
+  serving_many (IsServedLed.on fs missed ws f vs led frame) es x = count_more ports many k p own (λ old. AreServedBegun ports many led old) (map run_turn vs) es x (served_packets led k) (serving_many led x.old x.was)
 
   pub run_begun : {first : List Leads} {fs : List Exchanged} {missed : ℕ} {as' : List Leads} (led : IsLed lens recover retry first fs missed as') (es : List SwitchEvent) → AreBegun ports many led es → begun_at p es ≡ length (packets_begun led k)
   run_begun led es x = events_many p (first_switch many) es ∙ run_many led es x
+
+  pub serving_begun : {first : List Serves} {fs : List Exchanged} {missed : ℕ} {ws : List Serves} (led : IsServedLed lens recover retry first fs missed ws) (es : List SwitchEvent) → AreServedBegun ports many led es → begun_at p es ≡ length (served_packets led k)
+  serving_begun led es x = events_many p (first_switch many) es ∙ serving_many led es x
 
   pub run_first : {first : List Leads} {fs : List Exchanged} {missed : ℕ} {as' : List Leads} (led : IsLed lens recover retry first fs missed as') (es : List SwitchEvent) → p < many → AreBegun ports many led es →
       (left : List (ArrayVec ℕ)) × (forwarded_to p (switched many es).forwards ≡ packets_begun led k ++ left)
@@ -308,17 +335,10 @@ module _ {lens : ℕ → Lens} {recover retry : ℕ} (ports : List (Option ℕ))
 
   -- none begins behind the port's going down
   pub run_last : {first : List Leads} {fs : List Exchanged} {missed : ℕ} {as' : List Leads} (led : IsLed lens recover retry first fs missed as') (es xs ys : List SwitchEvent) → AreBegun ports many led es → es ≡ xs ++ Down p ∷ ys → begun_at p ys ≡ 0
-  run_last led es xs ys x whole =
-      let s0 = first_switch many in
-      let s1 = switch_behind s0 xs in
-      let s2 = downed_at s1 p in
-      let split : taken_in s0 es ≡ taken_in s0 xs ++ taken_in s2 ys = ap (λ z. taken_in s0 z) whole ∙ taken_append s0 xs (Down p ∷ ys) in
-      let packets : all_at p (taken_in s0 es) ≡ all_at p (taken_in s0 xs) = ap (λ z. all_at p z) split ∙ all_append p (taken_in s0 xs) (taken_in s2 ys) ∙ ap (λ z. all_at p (taken_in s0 xs) ++ z) (closed_none p s2 ys (down_closed p s1.ports)) ∙ append-nil (all_at p (taken_in s0 xs)) in
-      let count : many_at p (taken_in s0 es) ≡ many_at p (taken_in s0 xs) + many_at p (taken_in s2 ys) = ap (λ z. many_at p z) split ∙ many_append p (taken_in s0 xs) (taken_in s2 ys) in
-      let same : many_at p (taken_in s0 es) ≡ length (all_at p (taken_in s0 xs)) = run_many led es x ∙ ap (λ z. length z) (sym (run_all led es x) ∙ packets) in
-      let few = few_packets p (taken_in s0 xs) in
-      let is = events_many p s2 ys in
-      omega (arith, count, same, few, is)
+  run_last led es xs ys x whole = none_last ports many k p own (packets_begun led k) es xs ys (run_all led es x) (run_many led es x) whole
+
+  pub serving_last : {first : List Serves} {fs : List Exchanged} {missed : ℕ} {ws : List Serves} (led : IsServedLed lens recover retry first fs missed ws) (es xs ys : List SwitchEvent) → AreServedBegun ports many led es → es ≡ xs ++ Down p ∷ ys → begun_at p ys ≡ 0
+  serving_last led es xs ys x whole = none_last ports many k p own (served_packets led k) es xs ys (serving_all led es x) (serving_many led es x) whole
 
 -- ---- ONE FRAME MORE, as a master lists it
 pub none_behind : (ports : List (Option ℕ)) (packets : ℕ → List (List ℕ)) (goes : ℕ → Bool) (visit : List ℕ) (es : List SwitchEvent) (fate : Fate) → (fate ≡ Pass → es ≡ arrivals_in ports packets visit) → ((after : ℕ) → fate ≡ Lost after → es ≡ downs_in ports goes visit) → All IsNoBegun es

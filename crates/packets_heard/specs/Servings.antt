@@ -4,10 +4,11 @@ use Rattle.arrayvec.specs.ArrayVec.{ArrayVec}
 use Rattle.eoe_switch.specs.declared.switching.SwitchEvent.{SwitchEvent}
 use Rattle.life_runs.specs.of_frame_view.View.{Lens}
 use Rattle.life_runs.specs.Led.{Exchanged, gives_up_at}
-use Rattle.master_node.specs.Begins.{begun_of}
+use Rattle.master_node.specs.Begins.{begins_other, begun_of}
 use Rattle.master_node.specs.Serving.{run_lead, run_turn}
 use Rattle.packets_heard.specs.Heard.{Joined, Times, joined_none, joined_on, times_none, times_on}
-use Rattle.packets_heard.specs.Listed.{ListedOn}
+use Rattle.packets_heard.specs.Listed.{ListedOn, long_ones, packets_by}
+use Rattle.packets_heard.specs.Numbers.{NumberedOn, each_with, frame_where}
 use Rattle.packets_heard.specs.Over.{BegunOn, packet_begun}
 use Rattle.served_runs.specs.Served.{Serves, IsServedLed, served_behind}
 
@@ -30,7 +31,26 @@ module _ {lens : ℕ → Lens} {recover retry : ℕ} {first : List Serves} where
   served_packets (IsServedLed.asks fs missed ws place key led may) k = served_packets led k
   served_packets (IsServedLed.on fs missed ws f vs led frame) k = served_packets led k ++ packet_begun (begun_of (map run_turn vs) k)
 
+  -- THE FRAMES BEFORE WHICH PACKETS CAME INTO HAND of the slave at a place, in order
+  abbrev pub served_begun : {fs : List Exchanged} {missed : ℕ} {ws : List Serves} → IsServedLed lens recover retry first fs missed ws → ℕ → List ℕ
+  served_begun IsServedLed.start k = []
+  served_begun (IsServedLed.asks fs missed ws place key led may) k = served_begun led k
+  served_begun (IsServedLed.on fs missed ws f vs led frame) k = served_begun led k ++ each_with (length fs) (packet_begun (begun_of (map run_turn vs) k))
+
+  -- those before which another service did: one of the script, or a mail that is passed on
+  abbrev pub served_other : {fs : List Exchanged} {missed : ℕ} {ws : List Serves} → IsServedLed lens recover retry first fs missed ws → ℕ → List ℕ
+  served_other IsServedLed.start k = []
+  served_other (IsServedLed.asks fs missed ws place key led may) k = served_other led k
+  served_other (IsServedLed.on fs missed ws f vs led frame) k = served_other led k ++ frame_where (begins_other (begun_of (map run_turn vs) k)) (length fs)
+
   module _ (ports : List (Option ℕ)) where
+    -- THE FRAMES THAT BROUGHT THE LAST FRAGMENT OF A PACKET of the slave at a place, in order, once for each packet; those of less than 14 octets are left out
+    abbrev pub served_completed : {fs : List Exchanged} {missed : ℕ} {ws : List Serves} → IsServedLed lens recover retry first fs missed ws → ℕ → List ℕ
+    served_completed IsServedLed.start k = []
+    served_completed (IsServedLed.asks fs missed ws place key led may) k = served_completed led k
+    served_completed (IsServedLed.on fs missed ws f vs led frame) k =
+        served_completed led k ++ each_with (length fs) (long_ones (packets_by lens recover retry ports f f.fate (map run_turn vs) (served_joined led) k))
+
     -- THE EVENTS OF A SERVING, frame by frame
     abbrev pub ServedListed : {fs : List Exchanged} {missed : ℕ} {ws : List Serves} → IsServedLed lens recover retry first fs missed ws → List SwitchEvent → Type 0
     ServedListed IsServedLed.start es = es ≡ []
@@ -43,3 +63,10 @@ module _ {lens : ℕ → Lens} {recover retry : ℕ} {first : List Serves} where
     AreServedBegun many IsServedLed.start es = es ≡ []
     AreServedBegun many (IsServedLed.asks fs missed ws place k led may) es = AreServedBegun many led es
     AreServedBegun many (IsServedLed.on fs missed ws f vs led frame) es = BegunOn (λ old. AreServedBegun many led old) ports many (map run_turn vs) es
+
+    -- EACH EVENT HAS ITS NUMBER, frame by frame: how many frames had been sent when it came
+    abbrev pub ServedNumbered : ℕ → {fs : List Exchanged} {missed : ℕ} {ws : List Serves} → IsServedLed lens recover retry first fs missed ws → List SwitchEvent → List ℕ → Type 0
+    ServedNumbered many IsServedLed.start es ns = (es ≡ []) × (ns ≡ [])
+    ServedNumbered many (IsServedLed.asks fs missed ws place k led may) es ns = ServedNumbered many led es ns
+    ServedNumbered many (IsServedLed.on fs missed ws f vs led frame) es ns =
+        NumberedOn (λ old. ServedListed led old) (λ old. AreServedBegun many led old) (λ old numbers. ServedNumbered many led old numbers) ports many (length fs) (map run_turn vs) es ns

@@ -20,7 +20,7 @@ ghost use Rattle.master_tour.specs.Goes.{holds_at};
 ghost use Rattle.packets_heard.specs.Numbers.{NoneWaits, Numbered, begins, comes_in, each_with, events_up_to, frames_begun, frames_heard, frames_other, given_up_at, goes, number_behind, numbers_where};
 ghost use Rattle.packets_heard.specs.Over.{AreBegun, begun_at, forwarded_to, packets_begun};
 ghost use Rattle.packets_heard.specs.Listed.{IsOwn, Listed};
-ghost use Rattle.packets_heard.specs.Servings.{AreServedBegun, served_packets};
+ghost use Rattle.packets_heard.specs.Servings.{AreServedBegun, ServedListed, ServedNumbered, served_begun, served_completed, served_other, served_packets};
 ghost use Rattle.served_runs.specs.Served.{Serves, ServedTurn, IsServedFrame, IsServedLed};
 ghost use Rattle.segment_ring.specs.declared.wire.Fate.{Fate};
 
@@ -38,6 +38,10 @@ pub fn begun_law()
         m.lan.ports.items ≡ ports → PacketsBegin (switched many es).switch us m.lan → (switched many (es ++ events_of m.lan.happened)).switch ≡ m.lan.switch → (f.fate ≡ Fate.Pass → ComeIn m packets n) → ((after : ℕ) → f.fate ≡ Fate.Lost after → GoDown m us leads n) →
         AreBegun ports many led es → AreBegun ports many (IsLed.on fs missed as' f us led frame) (es ++ (events_of m.lan.happened ++ events_of n.lan.happened)) }
     // So it is over a serving.
+    ensures served_begun { (lens : ℕ → Lens) (recover retry missed : ℕ) (ports : List (Option ℕ)) (many : ℕ) (first ws : List Serves) (fs : List Exchanged) (led : IsServedLed lens recover retry first fs missed ws) (es : List SwitchEvent) (k port : ℕ) →
+        IsOwn ports k port → AreServedBegun ports many led es → begun_at port es ≡ length (served_packets led k) }
+    ensures served_last { (lens : ℕ → Lens) (recover retry missed : ℕ) (ports : List (Option ℕ)) (many : ℕ) (first ws : List Serves) (fs : List Exchanged) (led : IsServedLed lens recover retry first fs missed ws) (es xs ys : List SwitchEvent) (k port : ℕ) →
+        IsOwn ports k port → AreServedBegun ports many led es → es ≡ xs ++ SwitchEvent.Down port ∷ ys → begun_at port ys ≡ 0 }
     ensures served_forwarded { (lens : ℕ → Lens) (recover retry missed : ℕ) (ports : List (Option ℕ)) (many : ℕ) (first ws : List Serves) (fs : List Exchanged) (led : IsServedLed lens recover retry first fs missed ws) (es : List SwitchEvent) (k port : ℕ) →
         IsOwn ports k port → port < many → AreServedBegun ports many led es → (left : List (ArrayVec ℕ)) × (forwarded_to port (switched many es).forwards ≡ served_packets led k ++ left) }
     ensures served_goes_on { (lens : ℕ → Lens) (recover retry missed : ℕ) (ports : List (Option ℕ)) (many : ℕ) (first ws : List Serves) (fs : List Exchanged) (led : IsServedLed lens recover retry first fs missed ws) (f : Exchanged) (vs : List ServedTurn) (frame : IsServedFrame lens (length fs) f.sent ws vs) (m n : MasterNode) (packets : ℕ → List (List ℕ)) (leads : List Leads) (es : List SwitchEvent) →
@@ -62,4 +66,11 @@ pub fn numbers_law()
         m.lan.ports.items ≡ ports → AreOfMaking m.lan.happened → PacketsBegin (switched many es).switch us m.lan → (switched many (es ++ events_of m.lan.happened)).switch ≡ m.lan.switch → (f.fate ≡ Fate.Pass → ComeIn m packets n) → ((after : ℕ) → f.fate ≡ Fate.Lost after → GoDown m us leads n) →
         Listed lens recover retry ports led es → AreBegun ports many led es → Numbered ports many led es ns →
         Numbered ports many (IsLed.on fs missed as' f us led frame) (es ++ (events_of m.lan.happened ++ events_of n.lan.happened)) (ns ++ (each_with (length fs) (events_of m.lan.happened) ++ each_with (suc (length fs)) (events_of n.lan.happened))) }
+    // So it is over a serving, where a mail that is passed on is another service too.
+    ensures served_begun { (lens : ℕ → Lens) (recover retry missed : ℕ) (ports : List (Option ℕ)) (many : ℕ) (first ws : List Serves) (fs : List Exchanged) (led : IsServedLed lens recover retry first fs missed ws) (es : List SwitchEvent) (ns : List ℕ) (k port : ℕ) →
+        IsOwn ports k port → ServedNumbered ports many led es ns → numbers_where (begins port) es ns ≡ served_begun led k }
+    ensures served_heard { (lens : ℕ → Lens) (recover retry missed : ℕ) (ports : List (Option ℕ)) (many : ℕ) (first ws : List Serves) (fs : List Exchanged) (led : IsServedLed lens recover retry first fs missed ws) (es : List SwitchEvent) (ns : List ℕ) (k port : ℕ) →
+        IsOwn ports k port → ServedListed ports led es → ServedNumbered ports many led es ns → numbers_where (comes_in port) es ns ≡ map (λ n. suc n) (served_completed ports led k) }
+    ensures served_quiet { (lens : ℕ → Lens) (recover retry missed : ℕ) (ports : List (Option ℕ)) (many : ℕ) (first ws : List Serves) (fs : List Exchanged) (led : IsServedLed lens recover retry first fs missed ws) (es : List SwitchEvent) (ns : List ℕ) (k port : ℕ) →
+        IsOwn ports k port → ServedNumbered ports many led es ns → All (λ frame. NoneWaits many port (events_up_to frame es ns)) (served_other led k) }
 {}

@@ -46,6 +46,8 @@ pub fn port_law()
         Listed lens recover retry ports led es → Listed lens recover retry ports (IsLed.on fs missed as' f us led frame) (es ++ (events_of m.lan.happened ++ events_of n.lan.happened)) }
     ensures under_way { (lens : ℕ → Lens) (made : ℕ) (ds : List Raw.Datagram) (as' : List Leads) (us : List Turn) (m n : MasterNode) (befores : List (Option Unfinished)) → AllTurn lens made ds as' us → JoinsKept m n → HasUnfinished m (map stand_before as') befores → HasUnfinished n (map stand_under us) befores }
     // So it is over a serving.
+    ensures served_downs { (lens : ℕ → Lens) (recover retry missed : ℕ) (ports : List (Option ℕ)) (first ws : List Serves) (fs : List Exchanged) (led : IsServedLed lens recover retry first fs missed ws) (es : List SwitchEvent) (k port : ℕ) →
+        IsOwn ports k port → holds_at is_live_lead (map run_lead first) k ≡ true → ServedListed ports led es → downs_at port es ≡ (if holds_at is_live_lead (map run_lead ws) k then 0 else 1) }
     ensures served_arrivals { (lens : ℕ → Lens) (recover retry missed : ℕ) (ports : List (Option ℕ)) (first ws : List Serves) (fs : List Exchanged) (led : IsServedLed lens recover retry first fs missed ws) (es : List SwitchEvent) (k port : ℕ) →
         IsOwn ports k port → ServedListed ports led es → arrivals_at port es ≡ long_ones (packets_at (served_joined led) k) }
     ensures served_carries { (lens : ℕ → Lens) (recover retry : ℕ) (ports : List (Option ℕ)) (number : ℕ) (f : Exchanged) (ws : List Serves) (vs : List ServedTurn) (live : ℕ → Bool) (size : ℕ) (area : ℕ → ℕ) (t : Tour) (many : ℕ) (visit : List ℕ) (js : List Joined) →

@@ -32,6 +32,8 @@ pub mod Rounds
 mod Rows
 pub mod Scripts
 pub mod ServedBounded
+mod ServedPorts
+mod ServedReported
 mod ServedUncut
 pub mod Settled
 pub mod Through

@@ -91,7 +91,7 @@ book_frames [] answers = refl
 book_frames (b ∷ bs) [] = one_frame b.origin b.frame None (noted_in bs []) (script_frames bs) (book_frames bs [])
 book_frames (b ∷ bs) (a ∷ as') = one_frame b.origin b.frame (reply_in a) (noted_in bs as') (script_frames bs) (book_frames bs as')
 
-scripts_are : (as' : List Leads) (rows : List SlaveBook) → AllBoth IsBooked as' rows → (k : ℕ) → scripts_at rows k ≡ other_frames (rows_at as' k)
+pub scripts_are : (as' : List Leads) (rows : List SlaveBook) → AllBoth IsBooked as' rows → (k : ℕ) → scripts_at rows k ≡ other_frames (rows_at as' k)
 scripts_are [] [] h k = refl
 scripts_are [] (row ∷ rows) h k = absurd h
 scripts_are (a ∷ as') [] h k = absurd h
@@ -101,7 +101,7 @@ scripts_are (a ∷ as') (row ∷ rows) h (suc k) = scripts_are as' rows h.1 k
 
 -- ---- when it was given up for good
 
-given_are : (recover : ℕ) (as' : List Leads) (rows : List SlaveBook) → gaves_in rows ≡ map gave_of as' → All (IsGivenUp recover) rows → (k : ℕ) → given_up_in rows k ≡ given_up_at recover as' k
+pub given_are : (recover : ℕ) (as' : List Leads) (rows : List SlaveBook) → gaves_in rows ≡ map gave_of as' → All (IsGivenUp recover) rows → (k : ℕ) → given_up_in rows k ≡ given_up_at recover as' k
 given_are recover [] [] e a k = refl
 given_are recover [] (row ∷ rows) e a k = absurd (cc)
 given_are recover (x ∷ as') [] e a k = absurd (cc)

@@ -30,7 +30,7 @@ first_live services place (s ∷ ss) last zero port e = refl
 first_live services place (s ∷ ss) last (suc k) port e = first_live services (suc place) ss (last_where s.eoe last) k port e
 
 -- its packets, by the mails of each time
-by_times : (ts : List Times) (js : List Joined) → AllBoth IsJoined ts js → (k : ℕ) → packets_at js k ≡ packets_of (accepted_at ts k)
+pub by_times : (ts : List Times) (js : List Joined) → AllBoth IsJoined ts js → (k : ℕ) → packets_at js k ≡ packets_of (accepted_at ts k)
 by_times [] [] h k = refl
 by_times [] (j ∷ js) h k = absurd h
 by_times (t ∷ ts) [] h k = absurd h
@@ -58,7 +58,7 @@ within [] last k port e = absurd (cc)
 within (s ∷ ss) last zero port e = let is = here s.eoe last port e in let more = no_less ss (last + cond s.eoe 1 0) in omega (arith, is, more)
 within (s ∷ ss) last (suc k) port e = within ss (last + cond s.eoe 1 0) k port (ap (λ n. port_by (slice_get (ports_behind n ss) k)) (sym (last_same s.eoe last)) ∙ e)
 
-few_ports : (ss : List SlaveSpec) (k port : ℕ) → port_by (slice_get (ports_behind 0 ss) k) ≡ Some port → port < ports_of ss
+pub few_ports : (ss : List SlaveSpec) (k port : ℕ) → port_by (slice_get (ports_behind 0 ss) k) ≡ Some port → port < ports_of ss
 few_ports ss k port e = let most = within ss 0 k port e in omega (arith, most)
 
 -- what began there

@@ -8,8 +8,10 @@ ghost use Rattle.run_record.specs.Ran.{HasSent};
 ghost use Rattle.gateway_run.specs.Serving.{told};
 ghost use Rattle.gateway_run.specs.Served.{IsServed};
 ghost use Rattle.promised_run.specs.ServedBounded.{IsServedBounded};
+ghost use Rattle.promised_run.specs.ServedPorts.{IsServedAtPorts};
 ghost use Rattle.promised_run.specs.Given.{IsServedGiven};
 ghost use Rattle.promised_run.specs.Rested.{IsServedRested};
+ghost use Rattle.promised_run.specs.ServedReported.{IsServedReported};
 ghost use Rattle.promised_run.specs.Through.{IsServedThrough, IsServedWhole};
 
 use crate::uncut_servings::uncut_law;
@@ -21,6 +23,7 @@ use served_rings::given_rows::given_law;
 use served_rings::heard_stays::heard_stays;
 use served_rings::served_replies::served_replies_law;
 use served_rings::served_rests::served_rests_law;
+use served_rings::told_eras::told_eras_law;
 use served_runs::{asked_law, told_law};
 use std::alloc::Global;
 
@@ -28,12 +31,16 @@ use std::alloc::Global;
 /// rows that came into hand of it, a request's mail by the one step that its server takes for it; and the replies that were heard for the mail in hand are the
 /// first of that step's, in order, and all of them where it is over. What is told of it are the first of those that were heard, and behind the frame by which it is
 /// over all of them. Each answer of a service of the script is its server's own, of a row carried out; and the emergencies and packets that were heard are the first
-/// that these rows emit.
+/// that these rows emit. Each service of the script that came into hand has just the reply, or the outcome, that the frames of its epoch give, of the frame that
+/// completed it, and none where they give none.
 ///
 /// Behind all frames each datagram that was queued at a slave got nothing while its mail waits, error 5 where that never came into hand, and else the first mails of
 /// the one step that its slave's server takes for it, all of them where it is done. Unless memory runs out the book has besides just what the lives have that its
 /// frames lead: of each slave the services of its script that came into hand, with what they came to, and those that weren't sent; its epochs; its emergencies and
-/// its packets, numbered; and the events of the switch, each with its number.
+/// its packets, numbered; and the events of the switch, each with its number. At the port of each slave that has one just those packets came in that the mails which
+/// its life accepted complete, in order, each whole; it went down once where the slave was given up for good, and never else; as many packets began there as came
+/// into hand of the slave, the first of those that were forwarded there, in order, and none behind its going down. Each of these has its exact number, and no packet
+/// waits there behind the events numbered up to the frame of a row of the script or of a mail that was passed on.
 ///
 /// Where nothing was left to do, of each slave that wasn't given up for good the whole script came into hand, with mails that were asked, in order, all of them where
 /// it was never given up; all rows of its newest epoch are carried out and answered, and nothing waits. What an earlier epoch left undone when it was cut off stays so.
@@ -55,7 +62,9 @@ pub fn serve<P: Port>(
     ensures served { IsServed plan.now count (told P.heard P.sent P.over P.port_faults port.old) (told P.heard P.sent P.over P.port_faults port.new) book.new result }
     ensures through { IsServedThrough plan.now book.new }
     ensures whole { IsServedWhole plan.now book.new }
+    ensures ports { IsServedAtPorts plan.now count book.new }
     ensures given { IsServedGiven plan.now count book.new }
+    ensures replied { IsServedReported plan.now count book.new }
     ensures rests { IsServedRested plan.now count book.new }
     ensures bounded { IsServedBounded plan.now count book.new }
     ensures ending { book.new.ending ≡ result }
@@ -64,6 +73,7 @@ pub fn serve<P: Port>(
     served_rests_law();
     heard_stays();
     given_law();
+    told_eras_law();
     asked_law();
     told_law();
     room_law();

@@ -17,6 +17,7 @@ use Rattle.master_node.specs.of_master_hand.Spoken.{Asked, sdo, file, drive, net
 use Rattle.master_node.specs.of_master_hand.of_eoe_model.Client as EoeClient
 use Rattle.packets_heard.specs.Numbers.{each_with}
 use Rattle.packets_heard.specs.Over.{packet_begun}
+use Rattle.packets_heard.specs.Servings.{served_begun}
 use Rattle.run_notes.specs.Packets.{AllBeside, BeginsOn, BesideAt, begun_noted, mail_row, packet_row, rows_by, rows_with}
 use Rattle.run_notes.specs.Reports.{AllReport}
 use Rattle.run_notes.specs.declared.notes.Notes.{Notes}
@@ -24,7 +25,7 @@ use Rattle.run_record.proofs.Began.{ListsPackets, beside_place, came_rows, few_o
 use Rattle.run_record.proofs.ServedReports.{turn_by}
 use Rattle.run_record.specs.Mails.{mail_begun, served_mails}
 use Rattle.run_record.specs.Forwarded.{PacketsNoted}
-use Rattle.run_record.specs.Served.{ServeTo, served_begun}
+use Rattle.run_record.specs.Served.{ServeTo}
 use Rattle.script_runs.specs.Answers.{turned}
 use Rattle.script_runs.specs.Came.{is_beside}
 use Rattle.script_runs.specs.Steps.{TurnsBy}

@@ -39,12 +39,12 @@ use Rattle.packets_heard.specs.Heard.{Joined, joined_none, mails_by}
 use Rattle.packets_heard.specs.Listed.{CarriesAll, packets_by, unfinished_of}
 use Rattle.packets_heard.specs.Recalled.{AtSwitch, IsLanOf}
 use Rattle.packets_heard.specs.Served.{serves_behind}
-use Rattle.packets_heard.specs.Servings.{AreServedBegun, ServedListed, served_joined}
+use Rattle.packets_heard.specs.Servings.{AreServedBegun, ServedListed, ServedNumbered, served_joined}
 use Rattle.run_record.proofs.Forwards.{as_many}
 use Rattle.run_record.proofs.FrameLists.{FrameLists, frame_begins, frame_lists, none_begins, ports_stay}
 use Rattle.run_record.proofs.Leads.{none_unfinished}
 use Rattle.run_record.proofs.ServedGaves.{serve_leads}
-use Rattle.run_record.specs.Served.{IsServedForwarded, ServeTo, ServedNumbered}
+use Rattle.run_record.specs.Served.{IsServedForwarded, ServeTo}
 use Rattle.run_record.specs.Session.{FrameEvents, numbers_over}
 use Rattle.segment_plan.specs.declared.plan.Scenario.{Scenario}
 use Rattle.segment_ring.specs.declared.wire.Fate.TheVariants as Fates

@@ -1,5 +1,5 @@
 -- A serving goes on, frame by frame and mail by mail, as its master leads it.
-use Rattle.std.proofs.Common.{◌≡◌, ◌≢◌, ◌<◌, ◌^◌, ℕ, zero, suc, Bool, true, false, None, List, [], ◌∷◌, ◌++◌, length, length-append, map, refl, sym, ap, ◌∙◌, subst, arith}
+use Rattle.std.proofs.Common.{◌≡◌, ◌≢◌, ◌<◌, ◌^◌, ℕ, zero, suc, Bool, true, false, None, List, [], ◌∷◌, ◌++◌, length, map, refl, sym, ap, ◌∙◌, subst, arith}
 use Rattle.std.specs.Prelude.{◌↔◌, replicate}
 use Rattle.std.proofs.lemmas.List.{length-map}
 use Rattle.datagrams.specs.Datagram as Raw
@@ -59,9 +59,11 @@ use Rattle.run_record.specs.Recalling.{state_of}
 use Rattle.run_record.specs.Replay.{IsRecorded, behind as behind_ring, first_ring}
 use Rattle.packets_heard.specs.Recalled.{State}
 use Rattle.packets_heard.specs.Served.{IsTourServed, serves_behind}
+use Rattle.packets_heard.specs.Servings.{served_begun}
 use Rattle.packets_heard.specs.Toured.{tour_behind}
-use Rattle.run_record.specs.Served.{ServedLeading, Serving, ServesOn, ServingAsks, ServingGoesOn, TellsBehind, as_asked, served_begun, served_heard}
+use Rattle.run_record.specs.Served.{ServedLeading, Serving, ServesOn, ServingAsks, ServingGoesOn, TellsBehind, as_asked, served_heard}
 use Rattle.run_record.specs.Session.{FrameEvents, IsDone, SessionState, asked_mail, asked_more, has_live, numbers_over}
+use Rattle.run_record.proofs.Befores.{one_more}
 use Rattle.run_record.proofs.Began.{packets_first}
 use Rattle.run_record.proofs.Fits.{has_room, home_fits}
 use Rattle.run_record.proofs.Hearings.{heard_by}
@@ -151,9 +153,6 @@ turned_mails lens made ds (w ∷ ws) (v ∷ vs) t = λ i. map as_asked (t.0.same
 behind_mails : (lens : ℕ → Lens) (recover retry : ℕ) (gives : Bool) (made : ℕ) (f : Exchanged) (vs : List ServedTurn) → map mails_of (map (served_behind lens recover retry gives made f) vs) ≡ map turn_mails vs
 behind_mails lens recover retry gives made f [] = refl
 behind_mails lens recover retry gives made f (v ∷ vs) = ap (λ z. turn_mails v ∷ z) (behind_mails lens recover retry gives made f vs)
-
-one_more : (fs : List Exchanged) (f : Exchanged) → suc (length fs) ≡ length (fs ++ f ∷ [])
-one_more fs f = let k = length-append fs (f ∷ []) in omega (arith, k)
 
 -- ONE MAIL MORE
 more_asked : (ks : List Keyed) (k : Keyed) → map as_asked (ks ++ k ∷ []) ≡ map as_asked ks ++ as_asked k ∷ []

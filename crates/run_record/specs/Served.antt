@@ -1,6 +1,6 @@
 -- THE FRAMES OF A SERVING ARE LED by its master: each is just what the lives of the slaves ask for, from the plan's new lives on, with the mails that are asked
 -- between the frames.
-use Rattle.std.specs.Prelude.{◌≡◌, ◌≤◌, ◌+◌, ℕ, Bool, true, false, Option, None, Some, List, [], ◌∷◌, ◌++◌, length, map, filter, slice_get, All}
+use Rattle.std.specs.Prelude.{◌≡◌, ◌≤◌, ◌+◌, ℕ, Bool, true, false, None, Some, List, [], ◌∷◌, ◌++◌, length, map, filter, slice_get, All}
 use Rattle.life_heard.specs.Heard.{Accepted, AllNoted, brought_by, heard_none, heard_on}
 use Rattle.mailbox_mail.specs.declared.mail.Mail.{Mail}
 use Rattle.master_node.specs.Begins.{begun_of}
@@ -28,14 +28,11 @@ use Rattle.master_node.specs.of_master_tour.Made.{is_in}
 use Rattle.master_node.specs.of_master_tour.Orders.{AreOnce}
 use Rattle.master_node.specs.of_master_tour.Toured.{Tour}
 use Rattle.master_node.specs.Toured.{tour_of}
-use Rattle.eoe_switch.specs.declared.switching.SwitchEvent.{SwitchEvent}
 use Rattle.packets_heard.specs.Listed.{unfinished_of}
-use Rattle.packets_heard.specs.Numbers.{NumberedOn, each_with}
-use Rattle.packets_heard.specs.Over.{packet_begun}
 use Rattle.packets_heard.specs.Served.{IsTourServed}
 use Rattle.master_node.specs.of_segment_model.Returned.{Returns}
 use Rattle.packets_heard.specs.ServedRecalled.{ServedRecalledIn}
-use Rattle.packets_heard.specs.Servings.{AreServedBegun, ServedListed, served_joined}
+use Rattle.packets_heard.specs.Servings.{AreServedBegun, ServedListed, ServedNumbered, served_begun, served_joined}
 use Rattle.run_book.specs.declared.book.SentFrame.{SentFrame}
 use Rattle.run_notes.specs.declared.standing.AskedMail.{AskedMail}
 use Rattle.run_notes.specs.Heard.{emergencies_noted}
@@ -84,19 +81,6 @@ module _ {lens : ℕ → Lens} {recover retry : ℕ} {first : List Serves} where
   served_heard IsServedLed.start = heard_none (map run_lead first)
   served_heard (IsServedLed.asks fs missed ws place k led may) = served_heard led
   served_heard (IsServedLed.on fs missed ws f vs led frame) = heard_on (λ u. brought_by lens (length fs) f f.fate u) (served_heard led) (map run_turn vs)
-
-  -- THE FRAMES BEFORE WHICH PACKETS CAME INTO HAND of the slave at a place, in order, as over a run
-  abbrev pub served_begun : {fs : List Exchanged} {missed : ℕ} {ws : List Serves} → IsServedLed lens recover retry first fs missed ws → ℕ → List ℕ
-  served_begun IsServedLed.start k = []
-  served_begun (IsServedLed.asks fs missed ws place keyed led may) k = served_begun led k
-  served_begun (IsServedLed.on fs missed ws f vs led frame) k = served_begun led k ++ each_with (length fs) (packet_begun (begun_of (map run_turn vs) k))
-
-  -- EACH EVENT HAS ITS NUMBER, frame by frame: how many frames had been sent when it came
-  abbrev pub ServedNumbered : List (Option ℕ) → ℕ → {fs : List Exchanged} {missed : ℕ} {ws : List Serves} → IsServedLed lens recover retry first fs missed ws → List SwitchEvent → List ℕ → Type 0
-  ServedNumbered ports many IsServedLed.start es ns = (es ≡ []) × (ns ≡ [])
-  ServedNumbered ports many (IsServedLed.asks fs missed ws place k led may) es ns = ServedNumbered ports many led es ns
-  ServedNumbered ports many (IsServedLed.on fs missed ws f vs led frame) es ns =
-      NumberedOn (λ old. ServedListed ports led old) (λ old. AreServedBegun ports many led old) (λ old numbers. ServedNumbered ports many led old numbers) ports many (length fs) (map run_turn vs) es ns
 
 -- a mail as the session has it, with the key of its asker
 abbrev pub as_asked : Keyed → AskedMail

@@ -6,7 +6,7 @@ use Rattle.packets_heard.specs.Listed.{Listed}
 use Rattle.packets_heard.specs.Servings.{ServedListed, served_joined}
 use Rattle.packets_heard.proofs.Carries.{carries_all, listed_on, serves_asked, turns_asked}
 use Rattle.packets_heard.proofs.Owns.{own_port}
-use Rattle.packets_heard.proofs.Runs.{run_downs, run_arrivals, serving_arrivals}
+use Rattle.packets_heard.proofs.Runs.{run_downs, run_arrivals, serving_arrivals, serving_downs}
 use Rattle.packets_heard.proofs.Unfinished.{under_way, served_under_way, joined_so}
 use Rattle.packets_heard.proofs.port_events.port_law.Goals as goal
 use Rattle.served_runs.specs.Served.{served_behind}
@@ -33,6 +33,9 @@ pub returns-clause-served_goes_on : goal.returns-clause-served_goes_on
 returns-clause-served_goes_on c = λ lens recover retry missed ports first ws fs led f vs frame m n es same making arrives downs carries before.
     let leads = map run_lead (map (served_behind lens recover retry (gives_up_at lens recover retry missed) (length fs) f) vs) in
     listed_on lens recover retry ports (λ old. ServedListed ports led old) f (map run_turn vs) leads (served_joined led) m n same making arrives downs carries es before
+
+pub returns-clause-served_downs : goal.returns-clause-served_downs
+returns-clause-served_downs c = λ lens recover retry missed ports first ws fs led es k port own live x. serving_downs lens recover retry ports k port own led es live x
 
 pub returns-clause-served_arrivals : goal.returns-clause-served_arrivals
 returns-clause-served_arrivals c = λ lens recover retry missed ports first ws fs led es k port own x. serving_arrivals lens recover retry ports k port own led es x
