@@ -161,7 +161,7 @@ module _ (gs : List GramIn) (slave : ℕ) (w v : Serves) (came : List ℕ) (k : 
             -- it began no earlier than it was heard
             since : NoneSince kept.its.row.frame (gave_of v.lead)
             since = All-weaker (λ (at : ℕ). at < gram.frame) (λ (at : ℕ). at < kept.its.row.frame)
-                (λ at less. (let due = all_got (λ (g : GramIn). g.frame ≤ row.frame) gs number gram c.early there in let began = kept.frame in omega (arith, less, due, began))) (gave_of v.lead) still
+                (λ at less. (let due : gram.frame ≤ row.frame = all_got (λ (g : GramIn). g.frame ≤ row.frame) gs number gram c.early there in let began = kept.frame in omega (arith, less, due, began))) (gave_of v.lead) still
     fares_mail done number asked mails gram there request gave (dropped a b g e given h) = go (number == r.gram) refl
       where
         go : (z : Bool) → (number == r.gram) ≡ z → Fares v (came ++ r.gram ∷ []) more (with_mail r ∷ []) done number gram.frame asked mails

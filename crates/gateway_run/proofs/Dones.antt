@@ -152,14 +152,14 @@ over w numbers done number heard asked mails (replies told row spared s m) = sta
   where
     stands : (z : Bool) → done ≡ z → StandsSo w [] number row.row.frame told z → IsOver w numbers done number heard mails
     stands true e all = whole asked told row all m e
-    stands false e (inl here) = absurd (let bad = here.0 in cc)
+    stands false e (inl here) = absurd (let bad : false ≡ true = here.0 in cc)
     stands false e (inr given) = cut asked told row given m e
 
 module _ (serves : List Serves) (came : List (List ℕ)) (os : List Owing) (dones : List ℕ) where
   one_done : (number : ℕ) (g : GramIn) → Got serves came [] dones number g (owed_for number os) → IsDone serves came dones os number g
-  one_done number g (ignored fault request nowhere none) slave at = absurd (let bad : None ≡ Some slave = sym nowhere ∙ at in cc)
-  one_done number g (refused asked detail request nowhere seldom error) slave at = absurd (let bad : None ≡ Some slave = sym nowhere ∙ at in cc)
-  one_done number g (queued asked place w numbers request there at_w at_came fares) slave at =
+  one_done number g (ignored fault request nowhere none) = λ slave at. absurd (let bad : None ≡ Some slave = sym nowhere ∙ at in cc)
+  one_done number g (refused asked detail request nowhere seldom error) = λ slave at. absurd (let bad : None ≡ Some slave = sym nowhere ∙ at in cc)
+  one_done number g (queued asked place w numbers request there at_w at_came fares) = λ slave at.
       let same : place ≡ slave = (let both : Some place ≡ Some slave = sym there ∙ at in cc) in (
         w,
         numbers,

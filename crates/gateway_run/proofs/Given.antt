@@ -114,7 +114,7 @@ module _ (gs : List GramIn) (slave : ℕ) (w v : Serves) (came : List ℕ) (wait
 
           -- its mail came into hand before
           began : kept.its.row.frame ≤ made
-          began = (let less = all_got (λ (r : Row Body Asked Reply). r.frame < suc made) (passed_rows w.lead.lived.life) row.index row.row early row.is in let same = kept.frame in omega (arith, less, same))
+          began = (let less : row.row.frame < suc made = all_got (λ (r : Row Body Asked Reply). r.frame < suc made) (passed_rows w.lead.lived.life) row.index row.row early row.is in let same = kept.frame in omega (arith, less, same))
 
           stands_so : (z : Bool) → StandsSo w begun number row.row.frame told z → StandsSo v [] number kept.its.row.frame told z
           stands_so true s = s

@@ -1,5 +1,5 @@
 -- A serving that isn't cut off and gives no slave up ends as done, with each datagram that was queued at a slave done.
-use Rattle.std.proofs.Common.{◌≡◌, ◌≢◌, ◌≤◌, ℕ, zero, suc, Bool, true, false, is_some, Option, Some, None, List, [], ◌∷◌, map, length, refl, sym, ap, ◌∙◌, subst, arith}
+use Rattle.std.proofs.Common.{◌≡◌, ◌≢◌, ◌<◌, ◌≤◌, ℕ, zero, suc, Bool, true, false, is_some, Option, Some, None, List, [], ◌∷◌, map, length, refl, sym, ap, ◌∙◌, subst, arith}
 use Rattle.std.specs.Prelude.{slice_get}
 use Rattle.gateway_run.specs.Account.{Owing}
 use Rattle.gateway_run.specs.Done.{AllDone, IsDone, IsOver, IsOver.cut as is_cut, IsOver.dropped as is_dropped, IsOver.whole as is_whole, LeavesNone}
@@ -107,7 +107,7 @@ none_at (z ∷ ws) (suc place) w n at = none_at ws place w n.1 at
 
 -- of one that wasn't given up there is no give-up since
 none_since : (frame : ℕ) (gave : List ℕ) → gave ≡ [] → GaveSince frame gave → ⊥
-none_since frame gave none given = (let many = ap length none in let less = given.2 in omega (arith, many, less))
+none_since frame gave none given = (let many : length gave ≡ 0 = ap length none in let less : given.0 < length gave = given.2 in omega (arith, many, less))
 
 -- so each datagram that was queued at one is done
 over_done : (w : Serves) (came : List ℕ) (done : Bool) (number heard : ℕ) (mails : List Mail) → gave_of w.lead ≡ [] → IsOver w came done number heard mails → done ≡ true
