@@ -12,7 +12,6 @@ use Rattle.link_mails.specs.Body.{Body}
 use Rattle.master_duty.specs.Reply.{Reply}
 use Rattle.master_hand.specs.Spoken.{Asked, is_followed, sdo, file, drive, net, passed}
 use Rattle.master_node.specs.Serving.{run_lead}
-use Rattle.plan_ring.specs.Epochs.{IsTold}
 use Rattle.plan_ring.specs.Lives.{IsKnown}
 use Rattle.plan_ring.specs.Round.{AllRound, all_seen, ring_of}
 use Rattle.promised_run.proofs.Reported.{Found, FoundFirst, first_row, found_first, mails_noted, none_noted, parts, state_noted, unopened_none}
@@ -27,7 +26,7 @@ use Rattle.run_record.specs.Led.{exchanged}
 use Rattle.run_record.specs.Ran.{HasSent}
 use Rattle.run_record.specs.Replay.{first_ring}
 use Rattle.run_record.specs.of_run_notes.Reports.{IsBooked, noted_in}
-use Rattle.scenario.specs.Told as Scenario
+use Rattle.scenario.specs.Told.{IsTold}
 use Rattle.script_runs.specs.Answers.{AllNoted, Came, Noted, Scripted, answers_in, change_outcome, changes_behind, era_scripted, eras_scripted, first_change, life_scripted, next_opened, opened_anew, scripted_by, scripted_in, scripted_mails}
 use Rattle.script_runs.specs.Came.{is_beside}
 use Rattle.segment_model.specs.Laws.{AllAnswered, IsAnswered}
@@ -175,7 +174,7 @@ all_noted plan fs place (s ∷ ss) (w ∷ ws) (row ∷ rows) told booked =
     (life_noted (services_of plan s) (spot_of place s) fs w.lead.lived.life told.0 (noted_in row.begun row.answers) booked.0, all_noted plan fs (suc place) ss ws rows told.1 booked.1)
 
 -- WHAT THE BOOK REPORTS
-pub all_reported_so : (plan : Scenario) (count : ℕ) (book : Book) → IsPlan plan → Scenario.IsTold plan → ErasLaw → HasSent plan count book → IsServedReported plan count book
+pub all_reported_so : (plan : Scenario) (count : ℕ) (book : Book) → IsPlan plan → IsTold plan → ErasLaw → HasSent plan count book → IsServedReported plan count book
 all_reported_so plan count book is told law sent = λ ending a.
     let l = a.answers.serving.leading in
     all_noted plan (all_seen (lens_of plan.slaves) (map exchanged book.frames)) 0 plan.slaves l.serves book.slaves
