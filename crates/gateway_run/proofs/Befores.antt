@@ -37,7 +37,7 @@ pub record HasBefore (made : ℕ) (w : Serves) : Type 0 where
   pub rows : AreBegun made (passed_rows w.lead.lived.life)
 
 -- A FRAME gives up at most once
-pub gives_below : (fate : Fate) (made : ℕ) (old now : List ℕ) → GivesOne fate made old now → NoneSince made old → NoneSince (suc made) now
+gives_below : (fate : Fate) (made : ℕ) (old now : List ℕ) → GivesOne fate made old now → NoneSince made old → NoneSince (suc made) now
 gives_below fate made old now g all = by fate g
   where
     before : NoneSince (suc made) old

@@ -1,12 +1,12 @@
 -- ALL ALONG A COURSE the frames before which datagrams were heard don't fall; and error 5 of one that wasn't passed on comes only where no slave stands under its station.
-use Rattle.std.proofs.Common.{◌≡◌, ◌<◌, ◌≤◌, ◌⊎◌, inl, inr, ℕ, zero, suc, ◌+◌, Bool, true, false, Option, Some, None, List, [], ◌∷◌, ◌++◌, length, length-append, map, refl, sym, ap, ◌∙◌, subst, eq-eqb, arith}
+use Rattle.std.proofs.Common.{◌≡◌, ◌<◌, ◌≤◌, ◌⊎◌, inl, inr, ℕ, zero, suc, ◌+◌, Bool, true, false, Option, Some, None, List, [], ◌∷◌, ◌++◌, length, map, refl, sym, ap, ◌∙◌, subst, eq-eqb, arith}
 use Rattle.std.specs.Prelude.{◌==◌, All, Ok, Err, if◌then◌else◌, is_some, nat_le, nat_lt, slice_get, slice_index_or}
 use Rattle.std.proofs.lemmas.List.{length-map}
 use Rattle.std.proofs.lemmas.List.Elements.{All-nil, All-head, All-push, All-tail}
 use Rattle.gateway_core.specs.Framing.{request_in}
 use Rattle.gateway_core.specs.Gateway.{is_passed, judged_at, place_from, unfinished_at}
 use Rattle.gateway_core.specs.declared.asker.Asker.{Asker}
-use Rattle.served_places.specs.of_served_runs.Served.{served_behind}
+use Rattle.served_places.specs.of_served_runs.Served.{Serves, served_behind}
 use Rattle.mailbox_mail.specs.Mail.{error_of}
 use Rattle.mailbox_mail.specs.declared.mail.Mail.{Mail}
 use Rattle.master_node.specs.Serving.{run_lead}
@@ -18,16 +18,15 @@ use Rattle.run_book.specs.declared.book.GramIn.{GramIn}
 use Rattle.run_book.specs.declared.book.SentFrame.{SentFrame}
 use Rattle.run_book.specs.declared.book.SlaveBook.{SlaveBook}
 use Rattle.run_record.specs.Led.{exchanged}
+use Rattle.run_record.specs.Served.{Serving}
 use Rattle.run_record.specs.Session.{SessionState, session_rows}
 use Rattle.run_record.specs.of_run_notes.Notes.{stations_of}
-use Rattle.run_record.specs.of_run_notes.Slaves.{first_notes, gaves_noted, home_of, slave_row, slave_rows}
+use Rattle.run_record.specs.of_run_notes.Slaves.{gaves_noted, home_of, slave_row, slave_rows}
 use Rattle.run_record.specs.of_run_notes.declared.notes.Notes.{Notes}
 use Rattle.run_record.proofs.Noted.{GivesOne}
 use Rattle.run_record.proofs.ServedGaves.{all_give}
 use Rattle.segment_plan.specs.Sound.{IsPlan}
 use Rattle.segment_plan.specs.declared.plan.Scenario.{Scenario}
-use Rattle.segment_plan.specs.declared.service.Service.{Service}
-use Rattle.segment_plan.specs.declared.slave.SlaveSpec.{SlaveSpec}
 use Rattle.master_node.specs.of_segment_ring.declared.wire.Fate.{Fate}
 use Rattle.master_node.specs.of_segment_ring.declared.wire.Fate.TheVariants as Fates
 use Rattle.slab.specs.Slab.{Slab}
@@ -36,11 +35,12 @@ use Rattle.run_book.specs.of_slave_server.declared.server.SlaveServer.{SlaveServ
 use Rattle.gateway_run.specs.Account.{Owing, Course, Course.begins, Course.hears, Course.steps, Judges, Judges.ignored as is_ignored, Judges.refused as is_refused, Judges.too_many, Judges.queues}
 use Rattle.gateway_run.specs.Events.{events_of}
 use Rattle.gateway_run.specs.Rooms.{owed_for}
+use Rattle.gateway_run.specs.Since.{NoneSince}
 use Rattle.gateway_run.specs.Stray.{DontFall, IsStray}
 use Rattle.gateway_run.specs.declared.desk.Request.{Request}
 use Rattle.gateway_run.proofs.Accounts.{get_on}
 use Rattle.gateway_run.proofs.Answering.{course_answers}
-use Rattle.gateway_run.proofs.Befores.{gives_below}
+use Rattle.gateway_run.proofs.Befores.{HasBefore, serve_before}
 use Rattle.gateway_run.proofs.Comes.{known_at}
 use Rattle.gateway_run.proofs.Judging.{error_alone, error_quiet, nothing_quiet}
 use Rattle.gateway_run.proofs.Leds.{course_led}
@@ -51,9 +51,22 @@ abbrev AreLost : List (ℕ × ℕ) → ℕ → List (List ℕ) → ℕ → ℕ �
 AreLost homes recover gaves station frames =
     (place len : ℕ) (gave : List ℕ) → slice_get homes place ≡ Some (station, len) → slice_get gaves place ≡ Some gave → (at : ℕ) × (slice_get gave recover ≡ Some at) × (at < frames)
 
--- each number of these is below
+-- none was given up from a frame on
 abbrev AreBelow : ℕ → List (List ℕ) → Type 0
-AreBelow n gaves = (place : ℕ) (gave : List ℕ) → slice_get gaves place ≡ Some gave → All (λ (at : ℕ). at < n) gave
+AreBelow n gaves = (place : ℕ) (gave : List ℕ) → slice_get gaves place ≡ Some gave → NoneSince n gave
+
+lives_below : (n : ℕ) (ws : List Serves) → All (HasBefore n) ws → AreBelow n (map gave_of (map run_lead ws))
+lives_below n [] h place gave e = absurd (cc)
+lives_below n (w ∷ ws) h zero gave e = subst (NoneSince n) (let same : gave_of w.lead ≡ gave = cc in same) (All-head (HasBefore n) w ws h).gave
+lives_below n (w ∷ ws) h (suc place) gave e = lives_below n ws (All-tail (HasBefore n) w ws h) place gave e
+
+-- by the lives that the frames so far lead
+noted_below : (plan : Scenario) (s : SessionState) (fs : List SentFrame) → Serving plan s (map exchanged fs) → AreBelow (length fs) (gaves_noted s.notes)
+noted_below plan s fs serving =
+    let l = serving.leading in
+    subst (λ (n : ℕ). AreBelow n (gaves_noted s.notes)) (length-map fs exchanged)
+    (subst (λ (gaves : List (List ℕ)). AreBelow (length (map exchanged fs)) gaves) (sym serving.gave)
+    (lives_below (length (map exchanged fs)) l.serves (serve_before plan (map exchanged fs) l.missed l.serves l.lives)))
 
 -- A FRAME gives up at most once
 gives_get : (fate : Fate) (made : ℕ) (old now : List ℕ) → GivesOne fate made old now → (k at : ℕ) → slice_get old k ≡ Some at → slice_get now k ≡ Some at
@@ -156,16 +169,10 @@ push_steady [] g steady all = (All-nil (λ (h : GramIn). g.frame ≤ h.frame), t
 push_steady (h ∷ gs) g steady all =
     (All-push (λ (x : GramIn). h.frame ≤ x.frame) gs g steady.0 (All-head (λ (x : GramIn). x.frame ≤ g.frame) h gs all), push_steady gs g steady.1 (All-tail (λ (x : GramIn). x.frame ≤ g.frame) h gs all))
 
--- WHAT IS KNOWN of a course: the give-ups that are noted and the datagrams that were heard, by the frames sent
+-- WHAT IS KNOWN of a course: the datagrams that were heard, by the frames sent and the give-ups that are noted
 record IsSteady (plan : Scenario) (s : SessionState) (fs : List SentFrame) (gs : List GramIn) (os : List Owing) : Type 0 where
-  below : AreBelow (length fs) (gaves_noted s.notes)
   steady : DontFall gs
   stray : (n : ℕ) (g : GramIn) → slice_get gs n ≡ Some g → g.queued ≡ None → (asked : Mail) → request_in g.bytes ≡ Ok asked → owed_for n os ≡ error_of 5 ∷ [] → AreLost (map home_of plan.slaves) plan.recover (gaves_noted s.notes) asked.address g.frame
-
-first_gave : (services : List (ℕ × Service)) (number : ℕ) (specs : List SlaveSpec) → AreBelow 0 (gaves_noted (first_notes services number specs))
-first_gave services number [] place gave e = absurd (cc)
-first_gave services number (spec ∷ specs) zero gave e = subst (All (λ (at : ℕ). at < 0)) (let same : [] ≡ gave = cc in same) (All-nil (λ (at : ℕ). at < 0))
-first_gave services number (spec ∷ specs) (suc place) gave e = first_gave services (number + 1) specs place gave e
 
 judged_notes : (s s' : SessionState) (rs rs' : List Request) (number : ℕ) (octets : List ℕ) (queued : Option ℕ) (more : List Owing) → Judges s s' rs rs' number octets queued more → s'.notes ≡ s.notes
 judged_notes s s' rs rs' number octets queued more (is_ignored i) = ap (λ (z : SessionState). z.notes) i.session
@@ -205,7 +212,6 @@ module _ (recover number frames : ℕ) (homes : List (ℕ × ℕ)) (s s' : Sessi
 -- ALL ALONG
 course_steady : (plan : Scenario) (count : ℕ) → IsPlan plan → (s : SessionState) (fs : List SentFrame) (gs : List GramIn) (rs : List Request) (os : List Owing) → Course plan count s fs gs rs os → IsSteady plan s fs gs os
 course_steady plan count is _ _ _ _ _ (begins s first serves) = record {
-  below = subst (λ (ns : List Notes). AreBelow 0 (gaves_noted ns)) (sym (ap (λ (z : SessionState). z.notes) first)) (first_gave plan.services 0 plan.slaves);
   steady = tt;
   stray = λ n g there. absurd (cc);
 }
@@ -215,7 +221,6 @@ course_steady plan count is _ _ _ _ _ (hears s s' fs gs g rs rs' os more c at fe
     let a = course_answers plan count is s fs gs rs os c in
     let notes = judged_notes s s' rs rs' (length gs) g.bytes g.queued more judges in
     record {
-      below = subst (λ (ns : List Notes). AreBelow (length fs) (gaves_noted ns)) (sym notes) old.below;
       steady = push_steady gs g old.steady (subst (λ (n : ℕ). All (λ (h : GramIn). h.frame ≤ n) gs) (length-map fs exchanged ∙ sym at) a.early);
       stray = λ n h there nowhere asked request error.
           subst (λ (ns : List Notes). AreLost (map home_of plan.slaves) plan.recover (gaves_noted ns) asked.address h.frame) (sym notes)
@@ -223,7 +228,7 @@ course_steady plan count is _ _ _ _ _ (hears s s' fs gs g rs rs' os more c at fe
             | inl before ↦ old.stray n h before nowhere asked request (sym (judged_quiet s s' rs rs' (length gs) g.bytes g.queued more os judges n (known_at gs n h before)) ∙ error)
             | inr last ↦
                 subst (λ (k : ℕ). AreLost (map home_of plan.slaves) plan.recover (gaves_noted s.notes) asked.address k) (sym at ∙ ap (λ (z : GramIn). z.frame) last.1)
-                (new_lost plan.recover (length gs) (length fs) (map home_of plan.slaves) s s' rs rs' g.bytes more os asked l.homes l.recover old.below a.owed
+                (new_lost plan.recover (length gs) (length fs) (map home_of plan.slaves) s s' rs rs' g.bytes more os asked l.homes l.recover (noted_below plan s fs l.serving) a.owed
                 (ap (λ (z : GramIn). request_in z.bytes) last.1 ∙ request) g.queued judges (ap (λ (z : GramIn). z.queued) last.1 ∙ nowhere)
                 (ap (λ (k : ℕ). owed_for k (os ++ more)) (sym last.0) ∙ error))
           ]);
@@ -234,16 +239,11 @@ course_steady plan count is _ _ _ _ _ (steps s s' fs f gs rs os c m) =
     let a = course_answers plan count is s fs gs rs os c in
     let more = m.led plan (map exchanged fs) l.recover l.many m.live m.busy l.serving in
     let lens = lens_of plan.slaves in
-    let long : length (fs ++ f ∷ []) ≡ suc (length fs) = (let n = length-append fs (f ∷ []) in omega (arith, n)) in
     let gives : AllBoth (λ o n. GivesOne f.fate (length (map exchanged fs)) o n) (gaves_noted s.notes) (gaves_noted s'.notes) =
     subst (AllBoth (λ o n. GivesOne f.fate (length (map exchanged fs)) o n) (gaves_noted s.notes)) (sym (more.new.gave ∙ ap (λ ws. map gave_of (map run_lead ws)) more.serves))
     (subst (λ olds. AllBoth (λ o n. GivesOne f.fate (length (map exchanged fs)) o n) olds (map gave_of (map run_lead (map (served_behind lens plan.recover plan.retry (gives_up_at lens plan.recover plan.retry l.serving.leading.missed) (length (map exchanged fs)) (exchanged f)) more.turns)))) (sym l.serving.gave)
     (all_give lens plan.recover plan.retry (gives_up_at lens plan.recover plan.retry l.serving.leading.missed) (length (map exchanged fs)) (exchanged f) more.frame.datagrams l.serving.leading.serves more.turns more.frame.each)) in
     record {
-      below = λ place gave there.
-          let b = both_back (λ o n. GivesOne f.fate (length (map exchanged fs)) o n) (gaves_noted s.notes) (gaves_noted s'.notes) place gave gives there in
-          subst (λ (n : ℕ). All (λ (at : ℕ). at < n) gave) (ap suc (length-map fs exchanged) ∙ sym long)
-          (gives_below f.fate (length (map exchanged fs)) b.0 gave b.2 (subst (λ (n : ℕ). All (λ (at : ℕ). at < n) b.0) (sym (length-map fs exchanged)) (old.below place b.0 b.1)));
       steady = old.steady;
       stray = λ n g there nowhere asked request error place len gave home at.
           let b = both_back (λ o n. GivesOne f.fate (length (map exchanged fs)) o n) (gaves_noted s.notes) (gaves_noted s'.notes) place gave gives at in
