@@ -3,7 +3,7 @@
 ghost use Rattle.std.specs.Prelude.{◌≡◌, ◌∷◌, [], OnOk};
 ghost use Rattle.run_notes.specs.Heard.{emergencies_noted};
 ghost use Rattle.run_notes.specs.Slaves.{gaves_noted};
-ghost use Rattle.run_notes.specs.Packets.{NotesPackets, StayFree};
+ghost use Rattle.run_notes.specs.Packets.{NotesBeside, StayFree};
 ghost use Rattle.run_notes.specs.Reports.{KeepsReports};
 ghost use Rattle.run_notes.specs.Slaves.{SameSlaves};
 
@@ -22,7 +22,7 @@ impl Log {
         ensures gave { OnOk result (gaves_noted self.new.notes ≡ gaves_noted self.old.notes) }
         ensures heard { OnOk result (emergencies_noted self.new.notes ≡ emergencies_noted self.old.notes) }
         ensures told { OnOk result (KeepsReports self.old.notes self.new.notes) }
-        ensures packets { OnOk result (NotesPackets frame (Event.Began at origin ∷ []) self.old.notes self.new.notes) }
+        ensures beside { OnOk result (NotesBeside frame (Event.Began at origin ∷ []) self.old.notes self.new.notes) }
         ensures free { OnOk result (StayFree self.old.notes self.new.notes) }
     {
         let place = at as usize;
@@ -38,7 +38,7 @@ impl Log {
         ensures gave { OnOk result (gaves_noted self.new.notes ≡ gaves_noted self.old.notes) }
         ensures heard { OnOk result (emergencies_noted self.new.notes ≡ emergencies_noted self.old.notes) }
         ensures told { OnOk result (KeepsReports self.old.notes self.new.notes) }
-        ensures packets { OnOk result (NotesPackets frame (event.now ∷ []) self.old.notes self.new.notes) }
+        ensures beside { OnOk result (NotesBeside frame (event.now ∷ []) self.old.notes self.new.notes) }
         ensures free { OnOk result (StayFree self.old.notes self.new.notes) }
     {
         match event {
@@ -59,7 +59,7 @@ impl Log {
         ensures gave { OnOk result (gaves_noted self.new.notes ≡ gaves_noted self.old.notes) }
         ensures heard { OnOk result (emergencies_noted self.new.notes ≡ emergencies_noted self.old.notes) }
         ensures told { OnOk result (KeepsReports self.old.notes self.new.notes) }
-        ensures packets { OnOk result (NotesPackets frame events.now self.old.notes self.new.notes) }
+        ensures beside { OnOk result (NotesBeside frame events.now self.old.notes self.new.notes) }
     {
         for event in events {
             self.note_begun_by(event, frame)?;

@@ -3,7 +3,7 @@
 ghost use Rattle.std.specs.Prelude.{◌≡◌, ◌<◌, ◌≤◌, ◌+◌, suc, length, vec_len, OnOk};
 ghost use Rattle.run_notes.specs.Heard.{emergencies_noted};
 ghost use Rattle.run_notes.specs.Slaves.{gaves_noted};
-ghost use Rattle.run_notes.specs.Packets.{BeginsOn, SamePackets};
+ghost use Rattle.run_notes.specs.Packets.{BeginsOn, SameBeside};
 ghost use Rattle.run_notes.specs.Reports.{ReportsTo, ReportsOn, TurnsAll};
 ghost use Rattle.run_notes.specs.Slaves.{SameFrames, SameSlaves};
 ghost use Rattle.run_notes.specs.Switched.{NotesSwitch};
@@ -24,7 +24,7 @@ impl Log {
         ensures gave { OnOk result (gaves_noted self.new.notes ≡ gaves_noted self.old.notes) }
         ensures heard { OnOk result (emergencies_noted self.new.notes ≡ emergencies_noted self.old.notes) }
         ensures told { OnOk result (TurnsAll frame master.now (λ as' bs. ReportsTo at as' bs self.old.notes → ReportsTo (suc at) as' bs self.new.notes)) }
-        ensures packets { OnOk result (SamePackets self.old.notes self.new.notes) }
+        ensures beside { OnOk result (SameBeside self.old.notes self.new.notes) }
     {
         let place = at as usize;
         let number = master.scripted(at);
@@ -44,7 +44,7 @@ impl Log {
         ensures gave { OnOk result (gaves_noted self.new.notes ≡ gaves_noted self.old.notes) }
         ensures heard { OnOk result (emergencies_noted self.new.notes ≡ emergencies_noted self.old.notes) }
         ensures told { OnOk result (TurnsAll frame master.now (ReportsOn self.old.notes self.new.notes)) }
-        ensures packets { OnOk result (SamePackets self.old.notes self.new.notes) }
+        ensures beside { OnOk result (SameBeside self.old.notes self.new.notes) }
     {
         for place in 0..self.notes.len() {
             self.note_script(master, frame, place as u32)?;

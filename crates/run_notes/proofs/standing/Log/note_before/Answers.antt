@@ -1,7 +1,7 @@
 use Rattle.std.proofs.Common.{◌+◌, ◌++◌, length, ap, ◌∙◌, subst, arith}
 use Rattle.std.proofs.lemmas.Result.{on_ok_weaker}
 use Rattle.master_node.specs.Listing.{events_in}
-use Rattle.run_notes.specs.Packets.{NotesPackets, packets_at, rows_by}
+use Rattle.run_notes.specs.Packets.{NotesBeside, beside_at, rows_by}
 use Rattle.run_notes.specs.Switched.{NotesSwitch}
 use Rattle.run_notes.proofs.Frees.{all_free}
 use Rattle.run_notes.proofs.Kept.{slaves_more, at_log}
@@ -28,7 +28,7 @@ pub returns-clause-told : goal.returns-clause-told
 returns-clause-told c =
     any_ok c.note_happened.result (λ lens recover as' bs x p r. c.note_happened.ensures.told bs (c.in_ok-note_begun.ensures.told bs (c.in_ok-note_scripts.ensures.told lens recover as' bs x p r)))
 
--- the rows of packets
+-- the rows beside the scripts
 pub returns-clause-begun : goal.returns-clause-begun
 returns-clause-begun c =
     let frame = c.args.moment.frame in
@@ -39,8 +39,8 @@ returns-clause-begun c =
     (λ lens recover as' bs x p r lists k l.
     let free = all_free bs mid (c.in_ok-note_scripts.ensures.told lens recover as' bs x p r) (events_in c.args.master.now) lists in
     let same = c.note_scripts.ensures.slaves.notes in
-    let noted = subst (λ es. NotesPackets frame es mid new) c.events.ensures c.in_ok-note_begun.ensures.packets in
-    ap (λ z. packets_at z k) c.note_happened.ensures.rows ∙ noted free k (omega (arith, same, l)) ∙ ap (λ z. z ++ rows_by frame k (events_in c.args.master.now)) (c.in_ok-note_scripts.ensures.packets k))
+    let noted = subst (λ es. NotesBeside frame es mid new) c.events.ensures c.in_ok-note_begun.ensures.beside in
+    ap (λ z. beside_at z k) c.note_happened.ensures.rows ∙ noted free k (omega (arith, same, l)) ∙ ap (λ z. z ++ rows_by frame k (events_in c.args.master.now)) (c.in_ok-note_scripts.ensures.beside k))
 
 pub returns-clause-switch : goal.returns-clause-switch
 returns-clause-switch c =

@@ -9,7 +9,7 @@ loop-event-init c = record {
   gave = refl;
   heard = refl;
   told = λ as' r. r;
-  packets = noted_first c.args.frame c.args.events.now c.args.self.now.notes;
+  beside = noted_first c.args.frame c.args.events.now c.args.self.now.notes;
   free = λ k f. f;
 }
 
@@ -22,12 +22,12 @@ loop-event-preserved c =
       gave = c.in_ok-note_begun_by.ensures.gave ∙ inv.gave;
       heard = c.in_ok-note_begun_by.ensures.heard ∙ inv.heard;
       told = λ as' r. c.in_ok-note_begun_by.ensures.told as' (inv.told as' r);
-      packets = noted_next c.args.frame c.args.events.now c.loop-event.event-index c.event-item.result c.args.self.now.notes c.loop-event.self.notes c.note_begun_by.new.self.notes c.loop-event-test.true c.event-item.is inv.slaves.notes inv.packets inv.free c.in_ok-note_begun_by.ensures.packets;
+      beside = noted_next c.args.frame c.args.events.now c.loop-event.event-index c.event-item.result c.args.self.now.notes c.loop-event.self.notes c.note_begun_by.new.self.notes c.loop-event-test.true c.event-item.is inv.slaves.notes inv.beside inv.free c.in_ok-note_begun_by.ensures.beside;
       free = stay_then c.args.self.now.notes c.loop-event.self.notes c.note_begun_by.new.self.notes inv.free c.in_ok-note_begun_by.ensures.free;
     }
 
 pub returns-in_err-note_begun_by-clause-slaves : goal.returns-in_err-note_begun_by-clause-slaves
 returns-in_err-note_begun_by-clause-slaves c = slaves_more c.loop-event.invariant.slaves c.note_begun_by.ensures.slaves
 
-pub returns-clause-packets : goal.returns-clause-packets
-returns-clause-packets c = noted_last c.args.frame c.args.events.now c.loop-event.event-index c.args.self.now.notes c.loop-event.self.notes c.loop-event-test.false c.loop-event.invariant.packets
+pub returns-clause-beside : goal.returns-clause-beside
+returns-clause-beside c = noted_last c.args.frame c.args.events.now c.loop-event.event-index c.args.self.now.notes c.loop-event.self.notes c.loop-event-test.false c.loop-event.invariant.beside

@@ -13,6 +13,6 @@ invariant-loop-event l = record {
   gave : gaves_noted l.self.notes ≡ gaves_noted l.initial.self.notes;
   heard : emergencies_noted l.self.notes ≡ emergencies_noted l.initial.self.notes;
   told : KeepsReports l.initial.self.notes l.self.notes;
-  packets : NotedTo l.frame l.events l.event-index l.initial.self.notes l.self.notes;
+  beside : NotedTo l.frame l.events l.event-index l.initial.self.notes l.self.notes;
   free : StayFree l.initial.self.notes l.self.notes;
 }

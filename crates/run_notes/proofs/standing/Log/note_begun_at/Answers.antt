@@ -26,11 +26,11 @@ pub returns-clause-told : goal.returns-clause-told
 returns-clause-told c =
     on_ok_weaker c.note_began.result (λ f. set_reports c.args.self.now.notes c.args.at c.at_mut.result.now c.note_began.new.notes c.at_mut.ensures.value f) c.note_began.ensures.told
 
-pub returns-then-place-len-clause-packets : goal.returns-then-place-len-clause-packets
-returns-then-place-len-clause-packets c = none_begun c.args.self.now.notes c.args.at c.args.origin c.args.frame (omega arith)
+pub returns-then-place-len-clause-beside : goal.returns-then-place-len-clause-beside
+returns-then-place-len-clause-beside c = none_begun c.args.self.now.notes c.args.at c.args.origin c.args.frame (omega arith)
 
-pub returns-clause-packets : goal.returns-clause-packets
-returns-clause-packets c =
+pub returns-clause-beside : goal.returns-clause-beside
+returns-clause-beside c =
     on_ok_weaker c.note_began.result (λ is. one_begun c.args.self.now.notes c.args.at c.at_mut.result.now c.note_began.new.notes c.args.origin c.args.frame (omega arith) c.at_mut.ensures.value is) c.note_began.ensures.is
 
 pub returns-then-place-len-clause-free : goal.returns-then-place-len-clause-free

@@ -54,8 +54,8 @@ pub returns-clause-heard : goal.returns-clause-heard
 returns-clause-heard c =
     any_ok c.began_script.result (same_heard c.args.self.now.notes c.args.at c.at_mut.result.now c.began_script.new.self (c.began_script.ensures.heard ∙ ap (λ (n : Notes). n.emergencies) c.at_mut.ensures.value))
 
-pub returns-clause-packets : goal.returns-clause-packets
-returns-clause-packets c =
+pub returns-clause-beside : goal.returns-clause-beside
+returns-clause-beside c =
     let log = c.args.self.now in
     on_ok_weaker c.began_script.result
     (λ is. script_rows log.notes c.args.at c.at_mut.result.now c.began_script.new.self c.scripted-number.result c.changes_state-state.result c.args.frame c.requires.notes c.at_mut.ensures.value is)

@@ -10,7 +10,7 @@ loop-place-init c = record {
   slaves = record { notes = refl; homes = refl; asked = refl; ports = refl; recover = refl };
   gave = refl;
   heard = refl;
-  packets = λ k. refl;
+  beside = λ k. refl;
   told = λ lens recover as' bs x p r. to_first as' bs c.args.self.now.notes (both_lengths (λ a b. TurnsSo c.args.frame a b) as' bs p) r;
 }
 
@@ -22,7 +22,7 @@ loop-place-preserved c =
       slaves = slaves_more inv.slaves c.note_script.ensures.slaves;
       gave = c.in_ok-note_script.ensures.gave ∙ inv.gave;
       heard = c.in_ok-note_script.ensures.heard ∙ inv.heard;
-      packets = λ k. c.in_ok-note_script.ensures.packets k ∙ inv.packets k;
+      beside = λ k. c.in_ok-note_script.ensures.beside k ∙ inv.beside k;
       told = λ lens recover as' bs x p r.
           let e : suc place ≡ place + 1 = omega arith in
           subst (λ (k : ℕ). ReportsTo k as' bs c.note_script.new.self.notes) e (c.in_ok-note_script.ensures.told lens recover as' bs x p (inv.told lens recover as' bs x p r));
