@@ -12,6 +12,7 @@ use Rattle.promised_run.specs.Ran.{HasSent}
 use Rattle.promised_run.specs.Rested.{IsServedRested}
 use Rattle.promised_run.specs.ServedBounded.{IsServedBounded}
 use Rattle.promised_run.specs.ServedPorts.{IsServedAtPorts}
+use Rattle.promised_run.specs.ServedReported.{IsServedReported}
 use Rattle.promised_run.specs.Through.{IsServedThrough, IsServedWhole}
 use Rattle.run_report.specs.Report.{report_lines}
 use Rattle.gateway_run.specs.Serving.{Told}
@@ -26,20 +27,25 @@ use Rattle.ecmbx_words.specs.Files.{Holds, FileCourse, Followed}
 use Rattle.ecmbx_call.specs.Files.{limit}
 use Rattle.ecmbx_call.specs.Ends.{status_of}
 
--- what the serving of a plan left in its book, by what its port told before it and behind it: its frames, its datagrams, what the lives of its slaves have by these
--- frames, also at the port of each slave, and an ending with its cause; at each moment what its slaves did and replied to the mails that were passed on, by the server's one step for each, and what
--- was told of each mail, which behind the frame by which it is over is all that was heard for it; behind all of it each datagram that was queued at a slave and is
--- done has all mails of the one step of its slave's server, and where nothing was left to do the newest epoch of each slave that wasn't given up for good is all
--- carried out; and where none asks for a download to 2F01:01, a budget of as many frames as the bound for so many datagrams didn't cut it off, and where besides few
--- frames in a row were lost and the port didn't fail it ended as done
+-- WHAT THE SERVING OF A PLAN LEFT IN ITS BOOK, by what its port told before it and behind it
 pub record HasServed (plan : Scenario) (count : ℕ) (first last : Told) (book : Book) : Type 0 where
+  -- its frames; its datagrams, what the lives of its slaves have by these frames, and an ending with its cause
   pub frames : HasSent plan count book
   pub served : IsServed plan count first last book book.ending
+  -- at each moment what its slaves did and replied to the mails that were passed on, by the server's one step for each, and what was told of each mail, which
+  -- behind the frame by which it is over is all that was heard for it
   pub through : IsServedThrough plan book
   pub whole : IsServedWhole plan book
+  -- what happened at the port of each slave, with its number
   pub ports : IsServedAtPorts plan count book
+  -- behind all of it each datagram that was queued at a slave and is done has all mails of the one step of its slave's server
   pub given : IsServedGiven plan count book
+  -- each service of a script has just the reply that the frames of its epoch give
+  pub replied : IsServedReported plan count book
+  -- where nothing was left to do the newest epoch of each slave that wasn't given up for good is all carried out
   pub rests : IsServedRested plan count book
+  -- where no datagram asks for a download to 2F01:01, a budget of as many frames as the bound for so many datagrams didn't cut it off; and where besides few frames
+  -- in a row were lost and the port didn't fail it ended as done
   pub bounded : IsServedBounded plan count book
 
 -- a serving of so many datagrams: refused, or the report of what it came to

@@ -19,6 +19,7 @@ use Rattle.run_book.specs.declared.book.Ending.TheVariants as endings
 use Rattle.run_book.specs.declared.book.GramIn.{GramIn}
 use Rattle.run_book.specs.declared.book.GramOut.{GramOut}
 use Rattle.run_book.specs.declared.book.SlaveBook.{SlaveBook}
+use Rattle.run_record.specs.Mails.{served_mails}
 use Rattle.run_record.specs.Led.{LeavesNone, exchanged}
 use Rattle.run_record.specs.Served.{ServingBegins, ServingRests}
 use Rattle.run_record.specs.Session.{are_at_rest, first_session, session_rows}
@@ -26,7 +27,7 @@ use Rattle.run_record.specs.of_eoe_switch.declared.switching.SwitchEvent.{Switch
 use Rattle.run_record.specs.of_packets_heard.Servings.{AreServedBegun, ServedListed, ServedNumbered, served_begun}
 use Rattle.run_record.specs.of_run_notes.Epochs.{HasEpochs}
 use Rattle.run_record.specs.of_run_notes.Heard.{emergencies_in}
-use Rattle.run_record.specs.of_run_notes.Packets.{AreNumbered, begun_in}
+use Rattle.run_record.specs.of_run_notes.Packets.{AreMails, AreNumbered, begun_in, begun_noted}
 use Rattle.run_record.specs.of_run_notes.Reports.{IsBooked}
 use Rattle.run_record.specs.of_run_notes.Slaves.{home_of}
 use Rattle.run_record.specs.of_run_notes.Switched.{SameSwitch}
@@ -41,12 +42,14 @@ use Rattle.run_record.proofs.of_run_notes.Switched.{has_packets}
 use Rattle.gateway_run.specs.Heard.{heard_as, AreHeard, AreSent, AreSentBut, IsOwed, IsRightly}
 use Rattle.gateway_run.specs.Account.{Course, Course.begins}
 use Rattle.gateway_run.specs.Desk.{HasNone, IsOpen, AreApart}
+use Rattle.gateway_run.specs.Mails.{HasMails}
 use Rattle.gateway_run.specs.Replies.{Answers, dones_of}
 use Rattle.gateway_run.specs.Serving.{Told, IsOn, IsServing, IsFaulted, Goes, can_hear}
 use Rattle.gateway_run.specs.Served.{HasGrams, HasAccount, IsBroken, IsServed}
 use Rattle.gateway_run.specs.declared.turn.Serving.{Serving}
 use Rattle.gateway_run.proofs.Answering.{course_rowed}
 use Rattle.gateway_run.proofs.Dones.{all_done, none_unfinished}
+use Rattle.gateway_run.proofs.Mails.{book_late, book_mails}
 use Rattle.gateway_run.proofs.Rested.{all_rest, no_packet}
 use Rattle.gateway_run.proofs.Strays.{course_falls, course_strays}
 use Rattle.gateway_run.proofs.Turns.{heard_none, sent_none, course_same, spelled_same}
@@ -126,6 +129,12 @@ module _ (plan : Scenario) (count : ℕ) (first now : Told) (v : Serving) (b b' 
       let answers' : Answers plan v.session (map exchanged b'.frames) b'.grams v.desk.requests.items on.owed (dones_of plan count v.session b'.frames b'.grams v.desk.requests.items on.owed course') = rowed.0 in
       let booked : events_of answers'.serving.rows ≡ b'.switch = rowed.1 ∙ same.1 in
       let numbered' : answers'.serving.numbers ≡ b'.switched = rowed.2 ∙ same.2 in
+      let reported' : AllBoth IsBooked (map run_lead answers'.serving.leading.serves) b'.slaves =
+      subst (λ (rs : List SlaveBook). AllBoth IsBooked (map run_lead answers'.serving.leading.serves) rs) (sym rows) (all_booked v.session.recover (map run_lead answers'.serving.leading.serves) v.session.ring.nodes v.session.notes many answers'.serving.told) in
+      let noted : begun_in b'.slaves ≡ begun_noted v.session.notes = ap begun_in rows ∙ begun_of_rows v.session.recover v.session.ring.nodes v.session.notes many in
+      let mails' : AreMails (λ k. served_mails answers'.serving.leading.lives k) (begun_in b'.slaves) = subst (λ z. AreMails (λ k. served_mails answers'.serving.leading.lives k) z) (sym noted) answers'.serving.packets.mailed in
+      let acts' : AllBoth HasMails answers'.serving.leading.serves b'.slaves =
+      book_mails plan (map exchanged b'.frames) answers'.serving.leading.missed answers'.serving.leading.serves answers'.serving.leading.lives b'.slaves reported' mails' in
       record {
         session = v.session;
         requests = v.desk.requests.items;
@@ -137,7 +146,7 @@ module _ (plan : Scenario) (count : ℕ) (first now : Told) (v : Serving) (b b' 
         none = λ none. none_unfinished plan count v b on (rests none).0;
         done = λ none. all_done plan v.session (map exchanged b'.frames) b'.grams v.desk.requests.items on.owed (dones_of plan count v.session b'.frames b'.grams v.desk.requests.items on.owed course') answers' (none_unfinished plan count v b on (rests none).0);
         rows = rows;
-        reported = subst (λ (rs : List SlaveBook). AllBoth IsBooked (map run_lead answers'.serving.leading.serves) rs) (sym rows) (all_booked v.session.recover (map run_lead answers'.serving.leading.serves) v.session.ring.nodes v.session.notes many answers'.serving.told);
+        reported = reported';
         unsent = subst (λ (rs : List SlaveBook). AllBoth IsSpent (map run_lead answers'.serving.leading.serves) rs) (sym rows) (all_spent v.session.recover (map run_lead answers'.serving.leading.serves) v.session.ring.nodes v.session.notes many answers'.serving.told);
         epochs = subst (λ (rs : List SlaveBook). AllBoth HasEpochs (map run_lead answers'.serving.leading.serves) rs) (sym rows) (all_epochs v.session.recover (map run_lead answers'.serving.leading.serves) v.session.ring.nodes v.session.notes many answers'.serving.told);
         heard = ap emergencies_in rows ∙ heard_of_rows v.session.recover v.session.ring.nodes v.session.notes many ∙ answers'.serving.heard;
@@ -145,7 +154,10 @@ module _ (plan : Scenario) (count : ℕ) (first now : Told) (v : Serving) (b b' 
         begun = subst (λ (es : List SwitchEvent). AreServedBegun (ports_behind 0 plan.slaves) (ports_of plan.slaves) answers'.serving.leading.lives es) booked answers'.serving.forwarded.begun;
         numbered = subst (λ (ns : List ℕ). ServedNumbered (ports_behind 0 plan.slaves) (ports_of plan.slaves) answers'.serving.leading.lives b'.switch ns) numbered'
             (subst (λ (es : List SwitchEvent). ServedNumbered (ports_behind 0 plan.slaves) (ports_of plan.slaves) answers'.serving.leading.lives es answers'.serving.numbers) booked answers'.serving.numbered);
-        forwards = subst (λ z. AreNumbered (λ k. served_begun answers'.serving.leading.lives k) z) (sym (ap begun_in rows ∙ begun_of_rows v.session.recover v.session.ring.nodes v.session.notes many)) answers'.serving.packets.rows;
+        forwards = subst (λ z. AreNumbered (λ k. served_begun answers'.serving.leading.lives k) z) (sym noted) answers'.serving.packets.rows;
+        mails = mails';
+        acts = acts';
+        late = book_late b'.grams v.desk.requests.items on.owed 0 answers'.serving.leading.serves answers'.came b'.slaves answers'.desk acts';
         rests = λ none. all_rest plan count v.session b b' on.underway answers'.serving (rests none).0 rows many (rests none).1;
         packets = has_packets plan v.session.ports v.session.ring.number v.session.master.lan b b' on.underway.ports (sym (ap length frames ∙ many_sent plan count v.session b on.underway)) kept on.underway.switched;
         come = λ none. no_packet plan count v.session b b' on.underway answers'.serving (rests none).0 kept;

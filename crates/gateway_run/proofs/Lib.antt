@@ -18,6 +18,7 @@ pub mod Judged
 pub mod Judging
 pub mod Leds
 pub mod Losts
+pub mod Mails
 pub mod Places
 pub mod Rested
 pub mod Room

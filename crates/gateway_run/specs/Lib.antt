@@ -8,4 +8,5 @@ pub mod Serving
 pub mod Replies
 pub mod Done
 pub mod Stray
+pub mod Mails
 pub mod Served

@@ -11,6 +11,7 @@ use Rattle.master_node.specs.Ports.{ports_behind, ports_of}
 use Rattle.master_node.specs.Serving.{run_lead}
 use Rattle.master_node.specs.of_life_frames.Shares.{AllBoth}
 use Rattle.master_node.specs.of_life_runs.First.{lens_of}
+use Rattle.run_record.specs.Mails.{served_mails}
 use Rattle.run_record.specs.AcceptedMails.{AllNoted}
 use Rattle.run_record.specs.Led.{LeavesNoPacket, LeavesNone, exchanged}
 use Rattle.run_record.specs.Served.{served_heard}
@@ -18,7 +19,7 @@ use Rattle.run_record.specs.Session.{SessionState, session_rows}
 use Rattle.run_record.specs.of_packets_heard.Servings.{AreServedBegun, ServedListed, ServedNumbered, served_begun}
 use Rattle.run_record.specs.of_run_notes.Epochs.{HasEpochs}
 use Rattle.run_record.specs.of_run_notes.Heard.{emergencies_in}
-use Rattle.run_record.specs.of_run_notes.Packets.{AreNumbered, begun_in}
+use Rattle.run_record.specs.of_run_notes.Packets.{AreMails, AreNumbered, begun_in}
 use Rattle.run_record.specs.of_run_notes.Reports.{IsBooked}
 use Rattle.run_record.specs.of_run_notes.Slaves.{home_of}
 use Rattle.run_record.specs.of_run_notes.Switched.{HasPackets}
@@ -28,6 +29,7 @@ use Rattle.gateway_run.specs.declared.desk.Request.{Request}
 use Rattle.gateway_run.specs.Account.{Owing, Course, AreSpelled}
 use Rattle.gateway_run.specs.Done.{AllDone, ServedRestsSo}
 use Rattle.gateway_run.specs.Heard.{heard_as, AreHeard, AreSent, AreSentBut, IsOwed, IsRightly}
+use Rattle.gateway_run.specs.Mails.{AreLate, HasMails}
 use Rattle.gateway_run.specs.Replies.{Answers, dones_of}
 use Rattle.gateway_run.specs.Serving.{Told}
 use Rattle.gateway_run.specs.Stray.{DontFall, IsStray}
@@ -78,6 +80,10 @@ pub record HasAccount (plan : Scenario) (count : ℕ) (book : Book) (ending : En
   pub begun : AreServedBegun (ports_behind 0 plan.slaves) (ports_of plan.slaves) answers.serving.leading.lives book.switch
   pub numbered : ServedNumbered (ports_behind 0 plan.slaves) (ports_of plan.slaves) answers.serving.leading.lives book.switch book.switched
   pub forwards : AreNumbered (λ k. served_begun answers.serving.leading.lives k) (begun_in book.slaves)
+  -- just the mails stand there that were passed on, by the lives; each is that of its row there, in order, and began no earlier than its datagram was heard
+  pub mails : AreMails (λ k. served_mails answers.serving.leading.lives k) (begun_in book.slaves)
+  pub acts : AllBoth HasMails answers.serving.leading.serves book.slaves
+  pub late : AllBoth (AreLate book.grams) answers.came book.slaves
   pub rests : LeavesNone ending → AllBoth (ServedRestsSo (lens_of plan.slaves)) answers.serving.leading.serves book.slaves
   pub packets : HasPackets plan book
   pub come : LeavesNone ending → LeavesNoPacket plan (map run_lead answers.serving.leading.serves) book.switch

@@ -47,7 +47,7 @@ by_append e [] bs all rest = rest
 by_append e (a ∷ as') bs all rest = (all.0, by_append e as' bs all.1 rest)
 
 -- the mails heard behind one more frame
-heard_push : {M : Type 0} (station : ℕ) (fs : List (Frame M)) (f : Frame M) → heard station (fs ++ f ∷ []) ≡ heard station fs ++ mails_heard (frame_news station (kept_all station nothing_kept fs) f)
+pub heard_push : {M : Type 0} (station : ℕ) (fs : List (Frame M)) (f : Frame M) → heard station (fs ++ f ∷ []) ≡ heard station fs ++ mails_heard (frame_news station (kept_all station nothing_kept fs) f)
 heard_push station fs f =
     ap (λ l. mails_heard (joined l)) (news_each-push station nothing_kept fs f) ∙ ap mails_heard (joined-append (news_each station nothing_kept fs) (frame_news station (kept_all station nothing_kept fs) f))
     ∙ mails_heard-append (joined (news_each station nothing_kept fs)) (frame_news station (kept_all station nothing_kept fs) f)

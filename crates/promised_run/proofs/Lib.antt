@@ -33,6 +33,7 @@ mod Rows
 pub mod Scripts
 pub mod ServedBounded
 mod ServedPorts
+mod ServedReported
 mod ServedUncut
 pub mod Settled
 pub mod Through

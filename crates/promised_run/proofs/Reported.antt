@@ -14,7 +14,7 @@ use Rattle.life_runs.specs.of_master_duty.Reply.{Reply}
 use Rattle.life_runs.specs.of_master_hand.Spoken.{Asked, is_followed}
 use Rattle.run_promises.specs.Promise.{AllKeep}
 use Rattle.run_promises.specs.Plan.{first_app}
-use Rattle.promised_run.specs.Reported.{IsReportedBy, RepliesBy, AreReplies, EraReplies, PastReplies, NewestReplies, LifeReplies, AllReported}
+use Rattle.promised_run.specs.Reported.{IsNotedBy, IsReportedBy, RepliesBy, AreReplies, EraReplies, PastReplies, NewestReplies, LifeReplies, AllReported}
 use Rattle.promised_run.proofs.Unopened.{NothingBefore, AllNothing, Opened, AllOpened}
 use Rattle.run_book.specs.declared.book.SlaveBook.{SlaveBook}
 use Rattle.run_promises.specs.Round.{all_seen}
@@ -56,7 +56,7 @@ parts (s ∷ ss) ts [] h = absurd h
 parts (s ∷ ss) ts (n ∷ ns) h =
     let p = parts ss ts ns h.1 in record { front = n ∷ p.front; behind = p.behind; whole = ap (λ ms. n ∷ ms) p.whole; first = (h.0, p.first); last = p.last }
 
-none_noted : (ns : List Noted) → AllNoted [] ns → ns ≡ []
+pub none_noted : (ns : List Noted) → AllNoted [] ns → ns ≡ []
 none_noted [] h = refl
 none_noted (n ∷ ns) h = absurd h
 
@@ -115,14 +115,16 @@ module _ {V A : Type 0} (x : Exchange V A Body Asked Reply) (s : Stated V A Aske
   row_found : (q : Asked) (frame : ℕ) (r : Held) → r.service ≡ q → r.frame ≡ frame → IsAnswered x.speech is_followed station gs r → x.speech.handed q ≡ false → as_outcome r.answer ≡ found (Service.Mails q) frame
   row_found q frame r sq sf answered h = answered.replied (ap x.speech.handed sq ∙ h) ∙ (λ i. outcome_of x.speech is_followed station gs (record { service = Service.Mails (sq i); frame = sf i }))
 
+  pub mails_noted : (anew : Option ℕ) (q : Asked) (frame : ℕ) (r : Held) (n : Noted) → r.service ≡ q → r.frame ≡ frame → IsAnswered x.speech is_followed station gs r → n.frame ≡ frame → n.reply ≡ r.answer → IsNotedBy x.speech station gs anew (Service.Mails q) frame n
+  mails_noted anew q frame r n sq sf answered at is = record { at = at; given = λ h. is ∙ sym (outcome_back r.answer) ∙ ap outcome_reply (row_found q frame r sq sf answered (not_true (x.speech.handed q) h)) }
+
   mails_reported : (anew : Option ℕ) (a : A × ℕ) (q : Asked) (frame : ℕ) (r : Held) (n : Noted) → r.service ≡ q → r.frame ≡ frame → IsAnswered x.speech is_followed station gs r → Replied a (Service.Mails q) frame → n.frame ≡ frame → n.reply ≡ r.answer → IsReportedBy x s table station gs anew a (Service.Mails q) frame n
   mails_reported anew a q frame r n sq sf answered replied at is = record {
-    at = at;
-    given = λ h. is ∙ sym (outcome_back r.answer) ∙ ap outcome_reply (row_found q frame r sq sf answered (not_true (x.speech.handed q) h));
+    noted = mails_noted anew q frame r n sq sf answered at is;
     own = λ h stay z g e. replied (Outcome.Replied z, g) (sym (row_found q frame r sq sf answered (not_true (x.speech.handed q) h)) ∙ ap as_outcome (sym is ∙ e)) tt;
   }
 
-  first_row : (q : Asked) (frame : ℕ) (r : Held) (ms : List (Asked × ℕ)) (rs : List Held) → (q, frame) ∷ ms ≡ rows_started (r ∷ rs) → (r.service ≡ q) × (r.frame ≡ frame) × (ms ≡ rows_started rs)
+  pub first_row : (q : Asked) (frame : ℕ) (r : Held) (ms : List (Asked × ℕ)) (rs : List Held) → (q, frame) ∷ ms ≡ rows_started (r ∷ rs) → (r.service ≡ q) × (r.frame ≡ frame) × (ms ≡ rows_started rs)
   first_row q frame r ms rs e = let head : (q, frame) ≡ (r.service, r.frame) = cc in let tail : ms ≡ rows_started rs = cc in (sym (ap (λ (p : Asked × ℕ). p.0) head), sym (ap (λ (p : Asked × ℕ). p.1) head), tail)
 
   -- A CHANGE OF STATE
@@ -140,11 +142,13 @@ module _ {V A : Type 0} (x : Exchange V A Body Asked Reply) (s : Stated V A Aske
       reply_or y None = y
       reply_or y (Some k) = k.0
 
+  pub state_noted : (anew : Option ℕ) (target frame : ℕ) (outcome : Option (Outcome Reply × ℕ)) (n : Noted) → found (Service.State target) frame ≡ outcome → n.frame ≡ frame → n.reply ≡ outcome_reply (change_outcome (returns_to_init target) anew outcome) → IsNotedBy x.speech station gs anew (Service.State target) frame n
+  state_noted anew target frame outcome n is at h = record { at = at; given = λ e. h ∙ ap (λ (z : Option (Outcome Reply × ℕ)). outcome_reply (change_outcome (returns_to_init target) anew z)) (sym is) }
+
   state_reported : (anew : Option ℕ) (a : A × ℕ) (target frame : ℕ) (outcome : Option (Outcome Reply × ℕ)) (n : Noted) → found (Service.State target) frame ≡ outcome → Replied a (Service.State target) frame → n.frame ≡ frame →
       n.reply ≡ outcome_reply (change_outcome (returns_to_init target) anew outcome) → IsReportedBy x s table station gs anew a (Service.State target) frame n
   state_reported anew a target frame outcome n is replied at h = record {
-    at = at;
-    given = λ e. h ∙ ap (λ (z : Option (Outcome Reply × ℕ)). outcome_reply (change_outcome (returns_to_init target) anew z)) (sym is);
+    noted = state_noted anew target frame outcome n is at h;
     own = λ e stay r g f. outcome_own a target frame outcome is replied r g (sym (h ∙ ap outcome_reply (stays_so (returns_to_init target) anew outcome (not_true (returns_to_init target) stay))) ∙ f);
   }
 
@@ -166,7 +170,7 @@ module _ {V A : Type 0} (x : Exchange V A Body Asked Reply) (s : Stated V A Aske
   found_at : (p q : ℕ × ℕ) → p ≡ q → found (Service.State p.0) p.1 ≡ found (Service.State q.0) q.1
   found_at p q e = λ i. found (Service.State (e i).0) (e i).1
 
-  found_first : (target frame : ℕ) (ms : List (ℕ × ℕ)) (cs : List (Change Reply)) → Found ((target, frame) ∷ ms) cs → FoundFirst target frame ms cs
+  pub found_first : (target frame : ℕ) (ms : List (ℕ × ℕ)) (cs : List (Change Reply)) → Found ((target, frame) ∷ ms) cs → FoundFirst target frame ms cs
   found_first target frame ms (c ∷ cs) h =
       let e = heads (target, frame) (c.target, c.frame) ms (changes_in cs ++ duty_in h.hand) h.whole in
       record { is = found_at (target, frame) (c.target, c.frame) e.0 ∙ h.over.0; rest = record { hand = h.hand; whole = e.1; over = h.over.1; none = h.none } }
@@ -213,7 +217,7 @@ module _ {S V A : Type 0} (w : Behind S V A Asked Reply) (spot : Spot) (fs : Lis
       are_replies w.exchange w.states (table_of w spot.station) spot.station (era_frames spot k.opened until fs) anew (w.states.told k.state from, 0) e.account.started (rows_of e.side) e.account.over ns k.told.mails k.told.answers
       (record { hand = e.account.hand; whole = k.told.states; over = k.told.over; none = k.told.hand }) k.answered.replies h
 
-  unopened_none : (anew : Option ℕ) (e : Era Body Asked Reply) → e.account.started ≡ [] → era_scripted anew e ≡ []
+  pub unopened_none : (anew : Option ℕ) (e : Era Body Asked Reply) → e.account.started ≡ [] → era_scripted anew e ≡ []
   unopened_none anew e none = ap (λ ss. scripted_in anew ss (side_answers e.side) e.account.over) none
 
   nothing_last : (es : List (Era Body Asked Reply)) (e : Era Body Asked Reply) → AllNothing (es ++ e ∷ []) → AllNothing es × NothingBefore e

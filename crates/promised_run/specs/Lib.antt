@@ -15,6 +15,7 @@ pub mod Rested
 pub mod Runs
 pub mod ServedBounded
 pub mod ServedPorts
+pub mod ServedReported
 pub mod Through
 pub mod TouredTours
 pub mod Tours

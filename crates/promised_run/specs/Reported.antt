@@ -50,20 +50,29 @@ abbrev pub IsReplyBy : Service Asked → Reply → Outcome Reply → Type 0
 IsReplyBy (Service.Mails q) r outcome = Outcome.Replied r ≡ outcome
 IsReplyBy (Service.State target) r outcome = r ≡ reply_by outcome
 
-module _ {V A : Type 0} (x : Exchange V A Body Asked Reply) (s : Stated V A Asked) (table : Table) (station : ℕ) (gs : List (Frame Body)) where
-  -- WHAT IS REPORTED OF A SERVICE, with the frame before which it came into hand, and the frame that opened its slave anew behind its epoch: just the reply
-  -- that these frames give from there on, of the frame that completed it, and none where they give none; and each reply is that of the application, with its
-  -- AL state, behind the services before it. A change of state that returns its slave to Init is done with the frame that opened the slave anew
-  pub record IsReportedBy (anew : Option ℕ) (a : A × ℕ) (q : Service Asked) (frame : ℕ) (n : Noted) : Type 0 where
+-- of a noted service and of those behind it; packets and mails that are passed on aren't of the script
+abbrev pub NotedBy : Bool → List Noted → (Noted → Type 0) → (List Noted → Type 0) → Type 0
+NotedBy true ns one more = more ns
+NotedBy false [] one more = ⊥
+NotedBy false (n ∷ ns) one more = one n × more ns
+
+module _ (x : Speech Body Asked Reply) (station : ℕ) (gs : List (Frame Body)) where
+  -- WHAT IS NOTED OF A SERVICE, with the frame before which it came into hand, and the frame that opened its slave anew behind its epoch: just the reply that
+  -- these frames give from there on, of the frame that completed it, and none where they give none. A change of state that returns its slave to Init is done
+  -- with the frame that opened the slave anew
+  pub record IsNotedBy (anew : Option ℕ) (q : Service Asked) (frame : ℕ) (n : Noted) : Type 0 where
     pub at : n.frame ≡ frame
-    pub given : has_reply x.speech q ≡ true → n.reply ≡ outcome_reply (came_to anew q (outcome_of x.speech is_followed station gs (record { service = q; frame = frame })))
+    pub given : has_reply x q ≡ true → n.reply ≡ outcome_reply (came_to anew q (outcome_of x is_followed station gs (record { service = q; frame = frame })))
+
+module _ {V A : Type 0} (x : Exchange V A Body Asked Reply) (s : Stated V A Asked) (table : Table) (station : ℕ) (gs : List (Frame Body)) where
+  -- WHAT IS REPORTED OF A SERVICE: just the reply that these frames give; and each reply is that of the application, with its AL state, behind the services before it
+  pub record IsReportedBy (anew : Option ℕ) (a : A × ℕ) (q : Service Asked) (frame : ℕ) (n : Noted) : Type 0 where
+    pub noted : IsNotedBy x.speech station gs anew q frame n
     pub own : has_reply x.speech q ≡ true → stays q ≡ true → (r : Reply) (g : ℕ) → n.reply ≡ Some (r, g) → IsReplyBy q r ((with_states x s table).reply a q)
 
-  -- of a service and of those behind it; packets and mails that are passed on aren't of the script
+  -- of a service and of those behind it
   abbrev pub RepliesBy : Option ℕ → Bool → ℕ → A × ℕ → Service Asked → List Noted → (List Noted → Type 0) → Type 0
-  RepliesBy anew true frame a q ns more = more ns
-  RepliesBy anew false frame a q [] more = ⊥
-  RepliesBy anew false frame a q (n ∷ ns) more = IsReportedBy anew a q frame n × more ns
+  RepliesBy anew beside frame a q ns more = NotedBy beside ns (IsReportedBy anew a q frame) more
 
   -- OF THE SERVICES OF AN EPOCH, one after the other, from an application on
   abbrev pub AreReplies : Option ℕ → A × ℕ → List (Started Asked) → List Noted → Type 0

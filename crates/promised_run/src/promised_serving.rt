@@ -11,6 +11,7 @@ ghost use Rattle.promised_run.specs.ServedBounded.{IsServedBounded};
 ghost use Rattle.promised_run.specs.ServedPorts.{IsServedAtPorts};
 ghost use Rattle.promised_run.specs.Given.{IsServedGiven};
 ghost use Rattle.promised_run.specs.Rested.{IsServedRested};
+ghost use Rattle.promised_run.specs.ServedReported.{IsServedReported};
 ghost use Rattle.promised_run.specs.Through.{IsServedThrough, IsServedWhole};
 
 use crate::uncut_servings::uncut_law;
@@ -22,6 +23,7 @@ use served_rings::given_rows::given_law;
 use served_rings::heard_stays::heard_stays;
 use served_rings::served_replies::served_replies_law;
 use served_rings::served_rests::served_rests_law;
+use served_rings::told_eras::told_eras_law;
 use served_runs::{asked_law, told_law};
 use std::alloc::Global;
 
@@ -29,7 +31,8 @@ use std::alloc::Global;
 /// rows that came into hand of it, a request's mail by the one step that its server takes for it; and the replies that were heard for the mail in hand are the
 /// first of that step's, in order, and all of them where it is over. What is told of it are the first of those that were heard, and behind the frame by which it is
 /// over all of them. Each answer of a service of the script is its server's own, of a row carried out; and the emergencies and packets that were heard are the first
-/// that these rows emit.
+/// that these rows emit. Each service of the script that came into hand has just the reply, or the outcome, that the frames of its epoch give, of the frame that
+/// completed it, and none where they give none.
 ///
 /// Behind all frames each datagram that was queued at a slave got nothing while its mail waits, error 5 where that never came into hand, and else the first mails of
 /// the one step that its slave's server takes for it, all of them where it is done. Unless memory runs out the book has besides just what the lives have that its
@@ -61,6 +64,7 @@ pub fn serve<P: Port>(
     ensures whole { IsServedWhole plan.now book.new }
     ensures ports { IsServedAtPorts plan.now count book.new }
     ensures given { IsServedGiven plan.now count book.new }
+    ensures replied { IsServedReported plan.now count book.new }
     ensures rests { IsServedRested plan.now count book.new }
     ensures bounded { IsServedBounded plan.now count book.new }
     ensures ending { book.new.ending ≡ result }
@@ -69,6 +73,7 @@ pub fn serve<P: Port>(
     served_rests_law();
     heard_stays();
     given_law();
+    told_eras_law();
     asked_law();
     told_law();
     room_law();

@@ -289,7 +289,7 @@ module _ (m0 m1 m2 : MasterNode) (f : Exchanged) (result : Next)
           (grown : b'.switch ≡ b.switch ++ (events_of m1.lan.happened ++ events_of m2.lan.happened))
           (counted : b'.switched ≡ b.switched ++ (each_with frame (events_of m1.lan.happened) ++ each_with (suc frame) (events_of m2.lan.happened))) (w : IsForwarded plan m0 l.lives b.switch b.switched)
           (stood : (switched (ports_of plan.slaves) b.switch).switch ≡ m0.lan.switch) (stands : (switched (ports_of plan.slaves) (b.switch ++ events_of m1.lan.happened)).switch ≡ m1.lan.switch)
-          (packets : PacketsNoted (λ k. frames_begun l.lives k) m0 notes) (kept : (k : ℕ) → forwards_at m2.posts.items k ≡ forwards_at m1.posts.items k) (few : frame + 1 < 4294967296) (many : length r.notes ≡ length notes) (begun_before : TurnsAll frame m1 (BeginsOn frame m1 notes r.notes)) (begun_behind : begun_noted r'.notes ≡ begun_noted r.notes) where
+          (packets : PacketsNoted (λ k. frames_begun l.lives k) (λ k. []) m0 notes) (kept : (k : ℕ) → forwards_at m2.posts.items k ≡ forwards_at m1.posts.items k) (few : frame + 1 < 4294967296) (many : length r.notes ≡ length notes) (begun_before : TurnsAll frame m1 (BeginsOn frame m1 notes r.notes)) (begun_behind : begun_noted r'.notes ≡ begun_noted r.notes) where
         pub forwards_on : Forwards plan m2 r'.notes (fs ++ f ∷ []) b'
         unfolding leads_on
         forwards_on = record {

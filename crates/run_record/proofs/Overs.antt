@@ -1,5 +1,5 @@
 -- THE BOOK OF A RUN that is over, and the lives that its frames lead to.
-use Rattle.std.proofs.Common.{◌≡◌, ◌⊎◌, inl, inr, ℕ, Bool, true, false, List, map, length, ap, sym, ◌∙◌, subst}
+use Rattle.std.proofs.Common.{◌≡◌, ◌⊎◌, inl, inr, ℕ, Bool, true, false, List, [], map, length, ap, sym, ◌∙◌, subst}
 use Rattle.std.specs.Prelude.{◌≢◌}
 use Rattle.std.specs.Bool.{OnTrue, OnFalse}
 use Rattle.eoe_switch.specs.declared.switching.SwitchEvent.{SwitchEvent}
@@ -31,7 +31,7 @@ use Rattle.run_record.specs.Session.{SessionState, session_rows, are_at_rest, so
 use Rattle.run_notes.specs.Reports.{IsBooked}
 use Rattle.run_notes.specs.Epochs.{HasEpochs}
 use Rattle.run_notes.specs.Heard.{emergencies_noted, emergencies_in}
-use Rattle.run_notes.specs.Packets.{AreNumbered, begun_in, begun_noted}
+use Rattle.run_notes.specs.Packets.{AreMails, AreNumbered, begun_in, begun_noted}
 use Rattle.run_notes.specs.Switched.{SameSwitch}
 use Rattle.run_notes.specs.Unsent.{IsSpent}
 use Rattle.run_notes.proofs.Reporting.{all_booked, all_spent, all_epochs}
@@ -131,6 +131,7 @@ module _ (plan : Scenario) (s : SessionState) (b b' : Book) (h : IsUnderway plan
     begun = λ ok. subst (λ (es : List SwitchEvent). BeginsAll plan both.0 es) (sym kept.switch) both.3;
     numbered = λ ok. subst (λ (ns : List ℕ). NumbersAll plan both.0 b'.switch ns) (sym kept.switched) (subst (λ (es : List SwitchEvent). NumbersAll plan both.0 es b.switched) (sym kept.switch) both.4);
     forwards = λ ok. subst (λ z. AreNumbered (λ k. frames_begun both.0 k) z) (sym (ap begun_in (rows ok) ∙ begun_of_rows s.recover s.ring.nodes s.notes same)) both.5;
+    mails = λ ok. subst (λ z. AreMails (λ k. []) z) (sym (ap begun_in (rows ok) ∙ begun_of_rows s.recover s.ring.nodes s.notes same)) w.packets.mailed;
     recalled = λ ok. recalled_book;
     rests = elim answers [
       | inl is ↦ subst (λ (e : Ending). RestBy lens e l.leads b'.slaves) (sym is) (rest_by ending settled so left cut (λ ok. rows (λ none. ok (sym is ∙ none))))

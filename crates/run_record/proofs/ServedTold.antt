@@ -1,5 +1,5 @@
 -- WHAT WHO ASKED GETS TO KNOW OF A FRAME of a serving is what the lives of the slaves tell.
-use Rattle.std.proofs.Common.{◌≡◌, ℕ, zero, suc, Bool, true, false, Option, Some, None, List, [], ◌∷◌, ◌++◌, length, map, refl, sym, ap, ◌∙◌, subst}
+use Rattle.std.proofs.Common.{◌≡◌, ℕ, zero, suc, Option, Some, None, List, [], ◌∷◌, ◌++◌, map, refl, sym, ap, ◌∙◌}
 use Rattle.std.specs.Prelude.{filter}
 use Rattle.std.proofs.lemmas.List.Elements.{filter-append}
 use Rattle.master_node.specs.Begins.{begun_of}
@@ -9,7 +9,6 @@ use Rattle.master_node.specs.Gateways.{is_gateway, lives_told}
 use Rattle.master_node.specs.Lifetold.{lost_at, lost_told, told_at}
 use Rattle.master_node.specs.Listed.{listed}
 use Rattle.master_node.specs.Listing.{events_in, number_at, told_in}
-use Rattle.master_node.specs.Origins.{forwards_at}
 use Rattle.master_node.specs.Serving.{IsServedUnder, ServedUnder, run_lead, run_turn}
 use Rattle.master_node.specs.Shows.{is_carried}
 use Rattle.master_node.specs.declared.event.Event.{Event}
@@ -18,7 +17,7 @@ use Rattle.master_node.specs.declared.post.Post.{Post}
 use Rattle.master_node.specs.of_frame_view.Seen.{seen}
 use Rattle.master_node.specs.of_frame_view.View.{Lens}
 use Rattle.master_node.specs.of_life_frames.Shares.{AllThree}
-use Rattle.master_node.specs.of_life_runs.Led.{Exchanged, gives_up_at}
+use Rattle.master_node.specs.of_life_runs.Led.{Exchanged}
 use Rattle.master_node.specs.of_master_duty.of_state_exchange.Stated.{Service}
 use Rattle.master_node.specs.of_master_hand.Spoken.{Asked}
 use Rattle.master_node.specs.of_master_hand.declared.hand.InHand.{InHand}
@@ -30,7 +29,7 @@ use Rattle.master_node.specs.of_master_tour.declared.stop.Turned.{Turned}
 use Rattle.run_record.specs.Served.{TellsFrame, told_behind}
 use Rattle.segment_ring.specs.declared.wire.Fate.{Fate}
 use Rattle.segment_ring.specs.declared.wire.Fate.TheVariants as Fates
-use Rattle.served_runs.specs.Served.{Serves, ServedTurn, served_behind}
+use Rattle.served_runs.specs.Served.{Serves, ServedTurn}
 
 -- where all that is told of a slave gets known, all that is told of these does
 known_in : (tells : ℕ → List Event) → ((k : ℕ) → filter is_gateway (tells k) ≡ tells k) → (ps : List ℕ) → filter is_gateway (told_in tells ps) ≡ told_in tells ps

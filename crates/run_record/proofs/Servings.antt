@@ -1,5 +1,5 @@
 -- A serving goes on, frame by frame and mail by mail, as its master leads it.
-use Rattle.std.proofs.Common.{◌≡◌, ◌≢◌, ◌<◌, ◌^◌, ℕ, zero, suc, Bool, true, false, None, List, [], ◌∷◌, ◌++◌, length, length-append, map, refl, sym, ap, ◌∙◌, subst, arith}
+use Rattle.std.proofs.Common.{◌≡◌, ◌≢◌, ◌<◌, ◌^◌, ℕ, zero, suc, Bool, true, false, None, List, [], ◌∷◌, ◌++◌, length, map, refl, sym, ap, ◌∙◌, subst, arith}
 use Rattle.std.specs.Prelude.{◌↔◌, replicate}
 use Rattle.std.proofs.lemmas.List.{length-map}
 use Rattle.datagrams.specs.Datagram as Raw
@@ -54,13 +54,16 @@ use Rattle.run_notes.specs.declared.standing.AskedMail.{AskedMail}
 use Rattle.run_notes.specs.declared.standing.Log.{Log}
 use Rattle.run_record.specs.Forwarded.{PacketsNoted}
 use Rattle.run_record.specs.Led.{exchanged}
+use Rattle.run_record.specs.Mails.{served_mails}
 use Rattle.run_record.specs.Recalling.{state_of}
 use Rattle.run_record.specs.Replay.{IsRecorded, behind as behind_ring, first_ring}
 use Rattle.packets_heard.specs.Recalled.{State}
 use Rattle.packets_heard.specs.Served.{IsTourServed, serves_behind}
+use Rattle.packets_heard.specs.Servings.{served_begun}
 use Rattle.packets_heard.specs.Toured.{tour_behind}
 use Rattle.run_record.specs.Served.{ServedLeading, Serving, ServesOn, ServingAsks, ServingGoesOn, TellsBehind, as_asked, served_heard}
 use Rattle.run_record.specs.Session.{FrameEvents, IsDone, SessionState, asked_mail, asked_more, has_live, numbers_over}
+use Rattle.run_record.proofs.Befores.{one_more}
 use Rattle.run_record.proofs.Began.{packets_first}
 use Rattle.run_record.proofs.Fits.{has_room, home_fits}
 use Rattle.run_record.proofs.Hearings.{heard_by}
@@ -151,9 +154,6 @@ behind_mails : (lens : ℕ → Lens) (recover retry : ℕ) (gives : Bool) (made 
 behind_mails lens recover retry gives made f [] = refl
 behind_mails lens recover retry gives made f (v ∷ vs) = ap (λ z. turn_mails v ∷ z) (behind_mails lens recover retry gives made f vs)
 
-one_more : (fs : List Exchanged) (f : Exchanged) → suc (length fs) ≡ length (fs ++ f ∷ [])
-one_more fs f = let k = length-append fs (f ∷ []) in omega (arith, k)
-
 -- ONE MAIL MORE
 more_asked : (ks : List Keyed) (k : Keyed) → map as_asked (ks ++ k ∷ []) ≡ map as_asked ks ++ as_asked k ∷ []
 more_asked [] k = refl
@@ -200,7 +200,7 @@ one_asked s s' slave key mail served apart tour lan ring asked waiting notes cou
         rows = old.rows;
         numbers = old.numbers;
         numbered = old.numbered;
-        packets = packets_stay (λ k. served_begun l.lives k) s.master s'.master s.notes s'.notes counts notes old.packets;
+        packets = packets_stay (λ k. served_begun l.lives k) (λ k. served_mails l.lives k) s.master s'.master s.notes s'.notes counts notes old.packets;
         forwarded = served_asked plan fs l.missed l.serves l.lives slave more.0 more.2 s'.master old.rows (leads_same (λ a. a) slave more.0 l.serves)
             (served_stays plan fs l.missed l.serves l.lives s.master s'.master old.rows tour lan old.forwarded);
         remembers = r.1;
@@ -258,7 +258,7 @@ none_asked s s' slave key mail tour lan ring number stays asked waiting notes = 
         rows = old.rows;
         numbers = old.numbers;
         numbered = old.numbered;
-        packets = packets_stay (λ k. served_begun l.lives k) s.master s'.master s.notes s'.notes (λ k. ap (λ z. forwards_at z k) (all_stay slave s.master.posts.items s'.master.posts.items stays)) notes old.packets;
+        packets = packets_stay (λ k. served_begun l.lives k) (λ k. served_mails l.lives k) s.master s'.master s.notes s'.notes (λ k. ap (λ z. forwards_at z k) (all_stay slave s.master.posts.items s'.master.posts.items stays)) notes old.packets;
         forwarded = served_stays plan fs l.missed l.serves l.lives s.master s'.master old.rows tour lan old.forwarded;
         remembers = r.1;
       };
@@ -360,8 +360,8 @@ module _ (s s' : SessionState) (m : MasterNode) (f : Exchanged) (result : Next) 
       ∙ noted_now f.fate s.ring.number (map gave_of (map run_lead l.serves)) (map gave_of (map run_lead behind)) (subst (λ (n : ℕ). AllBoth (λ o k. GivesOne f.fate n o k) (map gave_of (map run_lead l.serves)) (map gave_of (map run_lead behind))) number give)
       (gaves_noted r.notes) (gaves_noted r'.notes) (before ∙ old.gave) (noted_by f.fate s.ring.number s'.master r r' lens (map run_lead behind) noted here all)
 
-  -- of the packets that came into hand
-  packets : PacketsNoted (λ k. served_begun lives k) s'.master s'.notes
+  -- of the packets and the mails passed on that came into hand
+  packets : PacketsNoted (λ k. served_begun lives k) (λ k. served_mails lives k) s'.master s'.notes
   packets =
       served_packets plan fs l.missed l.serves l.lives f made.0 made.1 s.master m s'.master s.notes r.notes s'.notes old.packets made.3 switch.counts (omega (arith, number, few)) many (ap begun_noted after ∙ begun_behind)
       ((subst (λ (n : ℕ). TurnsAll n m (BeginsOn n m s.notes r.notes)) (sym number) begun_before) lens plan.recover (map run_lead l.serves) (map turned (map run_turn made.0))

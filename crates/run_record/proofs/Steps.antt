@@ -1,6 +1,5 @@
 -- One step of a session.
 use Rattle.std.proofs.Common.{◌≡◌, ℕ, suc, ◌+◌, ◌<◌, ◌≤◌, inl, inr, List, [], ◌∷◌, ◌++◌, length, ap, sym, ◌∙◌, subst, arith}
-use Rattle.std.specs.Prelude.{Result, Ok, Err, OnOk, OnErr}
 use Rattle.segment_ring.specs.Ring.{RingState}
 use Rattle.slave_node.specs.of_slave_steps.Node.{Node}
 use Rattle.slave_server.specs.declared.server.SlaveServer.{SlaveServer}

@@ -1,5 +1,5 @@
 -- WHAT CAME IN OF SLAVES, what began at their ports and which of these went down, as the events of a book's switch have it.
-use Rattle.std.specs.Prelude.{◌≡◌, ℕ, List, length, map}
+use Rattle.std.specs.Prelude.{◌≡◌, ℕ, List, [], length, map}
 use Rattle.eoe_switch.specs.declared.switching.SwitchEvent.{SwitchEvent}
 use Rattle.master_node.specs.of_life_runs.Led.{Exchanged, Leads}
 use Rattle.master_node.specs.Joined.{HasUnfinished, stand_before}
@@ -11,7 +11,7 @@ use Rattle.packets_heard.specs.Listed.{unfinished_of}
 use Rattle.packets_heard.specs.Heard.{joined_in}
 use Rattle.run_book.specs.declared.book.Book.{Book}
 use Rattle.run_record.specs.Led.{LeadTo, ListsAll, BeginsAll, NumbersAll, Leading}
-use Rattle.run_notes.specs.Packets.{AreNumbered, begun_noted}
+use Rattle.run_notes.specs.Packets.{AreMails, AreNumbered, begun_noted}
 use Rattle.run_notes.specs.declared.notes.Notes.{Notes}
 use Rattle.segment_plan.specs.declared.plan.Scenario.{Scenario}
 
@@ -24,13 +24,15 @@ pub record IsForwarded (plan : Scenario) (m : MasterNode) {fs : List Exchanged} 
   pub begun : BeginsAll plan lives es
   pub numbered : NumbersAll plan lives es ns
 
--- THE PACKETS THAT CAME INTO HAND before these frames of each slave: so many its master has counted, and just these are noted, numbered
-pub record PacketsNoted (frames : ℕ → List ℕ) (m : MasterNode) (notes : List Notes) : Type 0 where
+-- WHAT CAME INTO HAND BESIDE THE SCRIPTS before these frames of each slave: so many packets its master has counted, and just these are noted, numbered; and just
+-- these mails that were passed on are, each with its number
+pub record PacketsNoted (frames : ℕ → List ℕ) (mails : ℕ → List (ℕ × ℕ)) (m : MasterNode) (notes : List Notes) : Type 0 where
   pub counts : (k : ℕ) → forwards_at m.posts.items k ≡ length (frames k)
   pub rows : AreNumbered frames (begun_noted notes)
+  pub mailed : AreMails mails (begun_noted notes)
 
--- A MASTER THAT LEADS, and its book
+-- A MASTER THAT LEADS, and its book; in a run no mail is passed on
 pub record Forwards (plan : Scenario) (m : MasterNode) (notes : List Notes) (fs : List Exchanged) (b : Book) : Type 0 where
   pub leading : Leading plan m notes fs
   pub forwarded : IsForwarded plan m leading.lives b.switch b.switched
-  pub packets : PacketsNoted (λ k. frames_begun leading.lives k) m notes
+  pub packets : PacketsNoted (λ k. frames_begun leading.lives k) (λ k. []) m notes

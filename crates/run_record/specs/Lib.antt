@@ -9,5 +9,6 @@ pub mod Session
 pub mod Ran
 pub use Rattle.life_heard.specs.Heard as AcceptedMails
 pub mod Forwarded
+pub mod Mails
 pub mod Recalling
 pub mod Served

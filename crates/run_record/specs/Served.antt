@@ -40,6 +40,7 @@ use Rattle.run_notes.specs.Reports.{AllReport}
 use Rattle.run_notes.specs.Slaves.{gaves_noted, home_of}
 use Rattle.run_record.specs.Forwarded.{PacketsNoted}
 use Rattle.run_record.specs.Led.{exchanged}
+use Rattle.run_record.specs.Mails.{served_mails}
 use Rattle.run_record.specs.Recalling.{state_of}
 use Rattle.run_record.specs.Session.{FrameEvents, IsDone, SessionState, has_live, numbers_over}
 use Rattle.segment_plan.specs.Sound.{IsPlan}
@@ -88,7 +89,8 @@ as_asked k = record { key = k.key; kind = k.mail.kind; body = k.mail.body.items 
 -- HOW A SERVING STANDS behind these frames: its master leads; so often each slave was given up as is noted, and what is noted of its services and epochs goes with
 -- its life; just the emergencies among the mails that its life accepted are noted, each with the frame that brought it; the mails that were asked of each are just
 -- those that the session has, in order, and so many of them still wait; what happened at its switch is by their lives, each event with its number; and just the
--- packets that came into hand are noted, numbered. None of its master's visits was in vain, by what it remembers
+-- packets that came into hand are noted, numbered, and just the mails that were passed on, each with its number and its frame. None of its master's visits was
+-- in vain, by what it remembers
 pub record Serving (plan : Scenario) (s : SessionState) (fs : List Exchanged) : Type 0 where
   pub leading : ServedLeading plan s.master fs
   pub gave : gaves_noted s.notes ≡ map gave_of (map run_lead leading.serves)
@@ -100,7 +102,7 @@ pub record Serving (plan : Scenario) (s : SessionState) (fs : List Exchanged) : 
   pub forwarded : IsServedForwarded plan s.master leading.lives rows
   pub numbers : List ℕ
   pub numbered : ServedNumbered (ports_behind 0 plan.slaves) (ports_of plan.slaves) leading.lives (events_of rows) numbers
-  pub packets : PacketsNoted (λ k. served_begun leading.lives k) s.master s.notes
+  pub packets : PacketsNoted (λ k. served_begun leading.lives k) (λ k. served_mails leading.lives k) s.master s.notes
   pub remembers : ServedRecalledIn plan leading.toured (state_of s.master (events_of rows) s.ring)
 
 -- before its first frame

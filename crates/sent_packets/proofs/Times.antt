@@ -4,6 +4,7 @@ use Rattle.std.specs.Prelude.{sum_by, nat_lt}
 use Rattle.std.proofs.lemmas.Bool.{eqb-true, eqb-false}
 use Rattle.std.proofs.lemmas.List.Sums.{sum_by-append}
 use Rattle.book_model.specs.Script.{eras_started}
+use Rattle.life_counts.proofs.Turns.{heard_push}
 use Rattle.life_model.specs.Eras.{era_frames}
 use Rattle.life_model.specs.Lives.{Spot, Era, Life, Opening, Stand, shows_clear, last_step, is_shown, opening_back, clears, opens, steps_on, reopening, gives_up}
 use Rattle.life_model.specs.Own.{own, own_frame, blank}
@@ -15,11 +16,10 @@ use Rattle.master_duty.specs.Reply.{Reply}
 use Rattle.master_hand.specs.Joins.{packets_in}
 use Rattle.master_hand.specs.Spoken.{Asked}
 use Rattle.packets_heard.specs.Heard.{Times, ended, packets_of}
-use Rattle.segment_model.specs.Record.{Frame, heard, kept_all, nothing_kept, frame_news, mails_heard, joined, news_each}
+use Rattle.segment_model.specs.Record.{Frame, heard, kept_all, nothing_kept}
 use Rattle.segment_model.specs.Seats.{IsOpening}
 use Rattle.segment_model.specs.Slaves.{Found, grams}
-use Rattle.segment_model.proofs.Answers.{news_each-push}
-use Rattle.segment_model.proofs.News.{mails_heard-append, heard_frame, joined-append}
+use Rattle.segment_model.proofs.News.{heard_frame}
 use Rattle.segment_model.proofs.Openings.{opening_heard}
 use Rattle.state_exchange.specs.Stated.{Service}
 use Rattle.task_model.specs.Promise.{services_in}
@@ -27,10 +27,6 @@ use Rattle.sent_packets.proofs.Calm.{IsCalm, IsEarly}
 use Rattle.sent_packets.proofs.Live.{IsLive}
 
 -- ---- the mails heard behind one more frame
-heard_push : (station : ℕ) (fs : List (Frame Body)) (f : Frame Body) → heard station (fs ++ f ∷ []) ≡ heard station fs ++ mails_heard (frame_news station (kept_all station nothing_kept fs) f)
-heard_push station fs f =
-    ap (λ l. mails_heard (joined l)) (news_each-push station nothing_kept fs f) ∙ ap mails_heard (joined-append (news_each station nothing_kept fs) _) ∙ mails_heard-append (joined (news_each station nothing_kept fs)) _
-
 pub heard_more : (spot : Spot) (opened : ℕ) (gs : List (Frame Body)) (g : Frame Body) (h : Halves Body) → opened < length gs → h.inn.last ≡ (kept_all spot.station nothing_kept (era_frames spot opened (length gs) gs)).heard →
     heard spot.station (era_frames spot opened (suc (length gs)) (gs ++ g ∷ [])) ≡ heard spot.station (era_frames spot opened (length gs) gs) ++ all_accepted spot.station h (grams (own spot.station g.back))
 heard_more spot opened gs g h before last =

@@ -50,7 +50,10 @@ pub mod Slaves
 pub mod Speakers
 mod States
 pub mod Told
+pub mod ToldLives
+pub mod ToldTasks
 mod Turned
+pub mod Unpassed
 pub mod Whole
 mod Within
 pub mod Words

@@ -4,6 +4,7 @@ use Rattle.exchange_model.proofs.Lists.{filter-append}
 use Rattle.exchange_model.proofs.Settles.{heard_all_last}
 use Rattle.exchange_model.specs.Exchange.{Exchange, emitted}
 use Rattle.exchange_model.specs.Rows.{Row, begun, heard_all, row_heard, row_told}
+use Rattle.life_counts.proofs.Turns.{heard_push}
 use Rattle.life_model.proofs.Eras.{frames_push}
 use Rattle.life_model.specs.Eras.{era_frames}
 use Rattle.life_model.specs.Lives.{Spot, Era, era_after, granted}
@@ -11,10 +12,9 @@ use Rattle.life_model.specs.Own.{own, own_fate, own_frame}
 use Rattle.link_model.specs.Frames.{all_accepted}
 use Rattle.link_model.specs.Segment.{RingFate}
 use Rattle.passed_whole.specs.Led.{IsLed, MayTurn, EraTurn, counts_behind, frame_in, news_in, turn_next}
-use Rattle.segment_model.proofs.Answers.{news_each-push}
-use Rattle.segment_model.proofs.News.{heard_frame, joined-append, mails_heard-append}
+use Rattle.segment_model.proofs.News.{heard_frame}
 use Rattle.segment_model.proofs.Sounds.{began_halves}
-use Rattle.segment_model.specs.Record.{Frame, frame_news, heard, joined, kept_all, mails_heard, news_each, nothing_kept}
+use Rattle.segment_model.specs.Record.{Frame, heard, kept_all, nothing_kept}
 use Rattle.segment_model.specs.Seats.{Choice, Side, is_over, newest, next_mail, rows_of, side_back, side_begins, side_holds, side_next}
 use Rattle.segment_model.specs.Slaves.{Datagram, Processor, Registers, Slave, grams, ring_back}
 use Rattle.task_model.specs.Accounts.{mails_choice}
@@ -67,12 +67,6 @@ module _ {V A M Q R : Type 0} (x : Exchange V A M Q R) where
   next_inn frame d c =
       let e = side_begins x.speech frame d d.now c.begin in
       holds_inn e (next_mail x.speech e.now e.halves.out.holding c.hold) ∙ ap (λ h. h.inn) (began_halves x frame d d.now c.begin)
-
--- the mails heard behind one more frame
-heard_push : {M : Type 0} (station : ℕ) (fs : List (Frame M)) (f : Frame M) → heard station (fs ++ f ∷ []) ≡ heard station fs ++ mails_heard (frame_news station (kept_all station nothing_kept fs) f)
-heard_push station fs f =
-    ap (λ l. mails_heard (joined l)) (news_each-push station nothing_kept fs f) ∙ ap mails_heard (joined-append (news_each station nothing_kept fs) (frame_news station (kept_all station nothing_kept fs) f))
-    ∙ mails_heard-append (joined (news_each station nothing_kept fs)) (frame_news station (kept_all station nothing_kept fs) f)
 
 longer : {X : Type 0} (xs : List X) (x : X) → length (xs ++ x ∷ []) ≡ suc (length xs)
 longer xs x = let e = length-append xs (x ∷ []) in omega (arith, e)

@@ -26,10 +26,10 @@ use Rattle.whole_ring.specs.Whole.{OpensBy, StandsBy}
 use Rattle.served_rings.specs.Served.{AreServedEras, IsServedNewest, IsServedLife, NothingCame}
 use Rattle.served_rings.proofs.Epochs.{era_served}
 
-not_open : (o : Opening) → Stand.Opens o ≢ Stand.Open
+pub not_open : (o : Opening) → Stand.Opens o ≢ Stand.Open
 not_open o e = cc
 
-gone_not_open : Stand.Gone ≢ Stand.Open
+pub gone_not_open : Stand.Gone ≢ Stand.Open
 gone_not_open e = cc
 
 -- of an epoch that is new nothing came into hand

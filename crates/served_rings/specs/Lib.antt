@@ -12,3 +12,4 @@ pub mod Serves
 pub mod Servings
 pub mod Speakers
 pub mod Told
+pub mod ToldEras

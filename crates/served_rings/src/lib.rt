@@ -29,6 +29,7 @@ pub mod served_eras;
 pub mod served_lives;
 pub mod served_replies;
 pub mod served_rests;
+pub mod told_eras;
 
 /// A MASTER THAT LEADS A SERVING, by frames that went round the ring of its plan's slaves, with mails asked between them, leads lives that the nodes of the ring live
 /// as they are led: whatever frames are lost, and where slaves are given up, taken up again or returned to Init.

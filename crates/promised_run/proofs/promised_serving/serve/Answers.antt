@@ -5,6 +5,7 @@ use Rattle.promised_run.proofs.Given.{all_given}
 use Rattle.promised_run.proofs.Rested.{rested}
 use Rattle.promised_run.proofs.ServedBounded.{bounded}
 use Rattle.promised_run.proofs.ServedPorts.{at_ports}
+use Rattle.promised_run.proofs.ServedReported.{all_reported_so}
 use Rattle.promised_run.proofs.Through.{through}
 use Rattle.promised_run.proofs.Whole.{whole}
 use Rattle.promised_run.proofs.promised_serving.serve.Goals as goal
@@ -47,3 +48,6 @@ pub returns-clause-rests : goal.returns-clause-rests
 returns-clause-rests g c =
     rested c.args.plan.now c.args.count (told g.P.Port.heard g.P.Port.sent g.P.Port.over g.P.Port.port_faults c.args.port.now) (told g.P.Port.heard g.P.Port.sent g.P.Port.over g.P.Port.port_faults c.serve.new.port) c.serve.new.book c.serve.result
     c.requires.plan c.requires.told c.served_rests_law.ensures c.serve.ensures.frames c.serve.ensures.served c.serve.ensures.ending
+
+pub returns-clause-replied : goal.returns-clause-replied
+returns-clause-replied g c = all_reported_so c.args.plan.now c.args.count c.serve.new.book c.requires.plan c.requires.told c.told_eras_law.ensures c.serve.ensures.frames

@@ -1,0 +1,181 @@
+-- WHAT THE BOOK OF A SERVING REPORTS is what its frames give.
+use Rattle.std.proofs.Common.{◌≡◌, ℕ, suc, Bool, true, false, Option, Some, None, option_map, List, [], ◌∷◌, ◌++◌, map, refl, ap, sym, ◌∙◌, subst}
+use Rattle.std.proofs.lemmas.List.{map-append}
+use Rattle.exchange_model.specs.Exchange.{Exchange}
+use Rattle.exchange_model.specs.Rows.{Row}
+use Rattle.life_frames.specs.Shares.{AllBoth}
+use Rattle.life_model.specs.Eras.{era_frames}
+use Rattle.life_model.specs.Lives.{Spot, Era, Life, Stand}
+use Rattle.life_runs.specs.First.{first_leads, lens_of, spot_of}
+use Rattle.life_runs.specs.Led.{Exchanged}
+use Rattle.link_mails.specs.Body.{Body}
+use Rattle.master_duty.specs.Reply.{Reply}
+use Rattle.master_hand.specs.Spoken.{Asked, is_followed, sdo, file, drive, net, passed}
+use Rattle.master_node.specs.Serving.{run_lead}
+use Rattle.plan_ring.specs.Lives.{IsKnown}
+use Rattle.plan_ring.specs.Round.{AllRound, all_seen, ring_of}
+use Rattle.promised_run.proofs.Reported.{Found, FoundFirst, first_row, found_first, mails_noted, none_noted, parts, state_noted, unopened_none}
+use Rattle.promised_run.proofs.Rounds.{all_round}
+use Rattle.promised_run.specs.Reported.{IsNotedBy, NotedBy}
+use Rattle.promised_run.specs.ServedReported.{AllReportedSo, AreNoted, EraNoted, IsServedReported, LifeNoted, NewestNoted, PastNoted}
+use Rattle.run_book.specs.declared.book.Book.{Book}
+use Rattle.run_book.specs.declared.book.SlaveBook.{SlaveBook}
+use Rattle.run_promises.proofs.Known.{known}
+use Rattle.run_promises.specs.Slaves.{services_of}
+use Rattle.run_record.specs.Led.{exchanged}
+use Rattle.run_record.specs.Ran.{HasSent}
+use Rattle.run_record.specs.Replay.{first_ring}
+use Rattle.run_record.specs.of_run_notes.Reports.{IsBooked, noted_in}
+use Rattle.scenario.specs.Told.{IsTold}
+use Rattle.script_runs.specs.Answers.{AllNoted, Came, Noted, Scripted, answers_in, change_outcome, changes_behind, era_scripted, eras_scripted, first_change, life_scripted, next_opened, opened_anew, scripted_by, scripted_in, scripted_mails}
+use Rattle.script_runs.specs.Came.{is_beside}
+use Rattle.segment_model.specs.Laws.{AllAnswered, IsAnswered}
+use Rattle.segment_model.specs.Record.{Frame}
+use Rattle.segment_model.specs.Seats.{Side, newest, rows_of}
+use Rattle.segment_plan.specs.Sound.{IsPlan}
+use Rattle.segment_plan.specs.declared.plan.Scenario.{Scenario}
+use Rattle.segment_plan.specs.declared.slave.SlaveSpec.{SlaveSpec}
+use Rattle.served_rings.specs.ToldEras.{AllToldEras, AllToldLives, IsToldEra, IsToldLife, IsToldNewest, WasToldEra, next_cleared, unpassed_answer, unpassed_row, unpassed_side}
+use Rattle.served_rings.proofs.Unpassed.{rows_keys}
+use Rattle.served_runs.specs.Served.{IsServedLed, Serves, all_serve}
+use Rattle.slave_lives.specs.Lived.{Behind, table_of}
+use Rattle.state_exchange.specs.Stated.{Service, Stated}
+use Rattle.life_runs.specs.of_state_model.States.{Table}
+use Rattle.life_model.specs.Lives.{returns_to_init}
+use Rattle.task_model.specs.Accounts.{Change, Started}
+use Rattle.task_model.specs.Promise.{mail_of, mails_started, rows_started, state_of, states_started}
+
+-- the law
+abbrev pub ErasLaw : Type 0
+ErasLaw =
+    (plan : Scenario) → IsPlan plan → IsKnown plan → (fs : List Exchanged) (missed : ℕ) (ws : List Serves) → IsServedLed (lens_of plan.slaves) plan.recover plan.retry (all_serve plan.paces (first_leads plan)) fs missed ws →
+    AllRound (ring_of plan) fs → AllToldLives plan (all_seen (lens_of plan.slaves) fs) 0 plan.slaves ws
+
+abbrev Held : Type 0
+Held = Row Body Asked Reply
+
+-- all rows of a side without the answers of mails that are passed on
+rows_are : (d : Side Body Asked Reply) → rows_of (unpassed_side d) ≡ map (λ r. unpassed_row r) (rows_of d)
+rows_are d = go d.now
+  where
+    go : (now : Option Held) → map (λ r. unpassed_row r) d.past ++ newest (option_map (λ r. unpassed_row r) now) ≡ map (λ r. unpassed_row r) (d.past ++ newest now)
+    go None = sym (map-append (λ (r : Held). unpassed_row r) d.past [])
+    go (Some r) = sym (map-append (λ (r : Held). unpassed_row r) d.past (r ∷ []))
+
+-- a service of the script keeps its answer
+keeps : (q : Asked) (answer : Option (Reply × ℕ)) → is_beside (Service.Mails q) ≡ false → unpassed_answer q answer ≡ answer
+keeps (sdo q) answer own = refl
+keeps (file q) answer own = refl
+keeps (drive q) answer own = refl
+keeps (net q) answer own = refl
+keeps (passed m) answer own = absurd (let no : true ≡ false = own in cc)
+
+-- ---- ONE EPOCH, of a slave with these services
+module _ {S V A : Type 0} (w : Behind S V A Asked Reply) (spot : Spot) (gs : List (Frame Body)) where
+  abbrev x : Exchange V A Body Asked Reply
+  x = w.exchange
+
+  abbrev s : Stated V A Asked
+  s = w.states
+
+  abbrev table : Table
+  table = table_of w spot.station
+
+  abbrev Answered : List Held → Type 0
+  Answered rs = AllAnswered x.speech is_followed spot.station gs (map (λ r. unpassed_row r) rs)
+
+  abbrev FoundBy : List (ℕ × ℕ) → List (Change Reply) → Type 0
+  FoundBy ms cs = Found x s table spot.station gs ms cs
+
+  are_noted : (anew : Option ℕ) (ss : List (Started Asked)) (rs : List Held) (cs : List (Change Reply)) (ns : List Noted) → mails_started ss ≡ rows_started rs → Answered rs → FoundBy (states_started ss) cs →
+      AllNoted (scripted_in anew ss (answers_in rs) cs) ns → AreNoted x.speech spot.station gs anew ss ns
+  are_noted anew [] rs cs ns m y f h = none_noted ns h
+  are_noted anew (r ∷ ss) rs cs ns m y f h = go r.service rs m y f h (λ rs ds ms m y f h. are_noted anew ss rs ds ms m y f h)
+    where
+      noted_by : (b : Bool) (q : Asked) → is_beside (Service.Mails q) ≡ b → (t : Held) (ts : List Scripted) (ns : List Noted) → AllNoted (scripted_mails b r.frame t.answer ts) ns → t.service ≡ q → t.frame ≡ r.frame →
+          IsAnswered x.speech is_followed spot.station gs (unpassed_row t) → (more : List Noted → Type 0) → ((ms : List Noted) → AllNoted ts ms → more ms) → NotedBy b ns (IsNotedBy x.speech spot.station gs anew (Service.Mails q) r.frame) more
+      noted_by true q own t ts ns h sq sf y more k = k ns h
+      noted_by false q own t ts [] h sq sf y more k = absurd h
+      noted_by false q own t ts (n ∷ ns) h sq sf y more k =
+          let kept = keeps t.service t.answer (ap (λ z. is_beside (Service.Mails z)) sq ∙ own) in
+          (mails_noted x s table spot.station gs anew q r.frame (unpassed_row t) n sq sf y h.0.0 (h.0.1 ∙ sym kept), k ns h.1)
+
+      go : (z : Service Asked) (rs : List Held) → mail_of z r.frame ++ mails_started ss ≡ rows_started rs → Answered rs → FoundBy (state_of z r.frame ++ states_started ss) cs →
+          AllNoted (scripted_by anew z r.frame (answers_in rs) cs (λ more others. scripted_in anew ss more others)) ns →
+          ((rs : List Held) (ds : List (Change Reply)) (ms : List Noted) → mails_started ss ≡ rows_started rs → Answered rs → FoundBy (states_started ss) ds → AllNoted (scripted_in anew ss (answers_in rs) ds) ms → AreNoted x.speech spot.station gs anew ss ms) →
+          NotedBy (is_beside z) ns (IsNotedBy x.speech spot.station gs anew z r.frame) (λ more. AreNoted x.speech spot.station gs anew ss more)
+      go (Service.State target) rs m y f h more = state_by ns h
+        where
+          first : FoundFirst x s table spot.station gs target r.frame (states_started ss) cs
+          first = found_first x s table spot.station gs target r.frame (states_started ss) cs f
+
+          state_by : (ns : List Noted) → AllNoted (record { frame = r.frame; came = Came.state (change_outcome (returns_to_init target) anew (first_change cs)) } ∷ scripted_in anew ss (answers_in rs) (changes_behind cs)) ns →
+              NotedBy false ns (IsNotedBy x.speech spot.station gs anew (Service.State target) r.frame) (λ more. AreNoted x.speech spot.station gs anew ss more)
+          state_by [] h = absurd h
+          state_by (n ∷ ns) h = (state_noted x s table spot.station gs anew target r.frame (first_change cs) n first.is h.0.0 h.0.1, more rs (changes_behind cs) ns m y first.rest h.1)
+      go (Service.Mails q) [] m y f h more = absurd (let bad : (q, r.frame) ∷ mails_started ss ≡ [] = m in cc)
+      go (Service.Mails q) (t ∷ rs) m y f h more =
+          let e = first_row x s table spot.station gs q r.frame t (mails_started ss) rs m in
+          noted_by (is_beside (Service.Mails q)) q refl t (scripted_in anew ss (answers_in rs) cs) ns h e.0 e.1 y.0 (λ ms. AreNoted x.speech spot.station gs anew ss ms) (λ ms k. more rs cs ms e.2 y.1 f k)
+
+-- ---- ALL EPOCHS of a life
+module _ {S V A : Type 0} (w : Behind S V A Asked Reply) (spot : Spot) (fs : List (Frame Body)) where
+  era_noted : (anew : Option ℕ) (e : Era Body Asked Reply) (until : ℕ) → IsToldEra w spot fs e until → (ns : List Noted) → AllNoted (era_scripted anew e) ns → EraNoted w.exchange.speech spot fs anew e until ns
+  era_noted anew e until t ns h =
+      let gs = era_frames spot t.opened until fs in
+      record {
+        opened = t.opened;
+        opened_at = t.opened_at;
+        before = t.before;
+        within = t.within;
+        noted = are_noted w spot gs anew e.account.started (rows_of e.side) e.account.over ns (t.told.mails ∙ rows_keys e.side) (subst (λ rs. AllAnswered w.exchange.speech is_followed spot.station gs rs) (rows_are e.side) t.told.answers)
+            (record { hand = e.account.hand; whole = t.told.states; over = t.told.over; none = t.told.hand }) h;
+      }
+
+  past_noted : (gave : List ℕ) (cleared opened : Option ℕ) (es : List (Era Body Asked Reply)) → AllToldEras w spot fs es cleared → (ns : List Noted) → AllNoted (eras_scripted gave es opened) ns → PastNoted w.exchange.speech spot fs gave cleared opened es ns
+  past_noted gave cleared opened [] told ns h = subst (λ ms. PastNoted w.exchange.speech spot fs gave cleared opened [] ms) (sym (none_noted ns h)) PastNoted.none
+  past_noted gave cleared opened (e ∷ es) told ns h =
+      let anew = opened_anew gave e.opened (next_opened es opened) in
+      let p = parts (era_scripted anew e) (eras_scripted gave es opened) ns h in
+      subst (λ ms. PastNoted w.exchange.speech spot fs gave cleared opened (e ∷ es) ms) (sym p.whole) (go anew p.front p.behind told.0 p.first (past_noted gave cleared opened es told.1 p.behind p.last))
+    where
+      go : (anew : Option ℕ) (ms ns : List Noted) → WasToldEra w spot fs (next_cleared es cleared) e → AllNoted (era_scripted (opened_anew gave e.opened (next_opened es opened)) e) ms → PastNoted w.exchange.speech spot fs gave cleared opened es ns →
+          PastNoted w.exchange.speech spot fs gave cleared opened (e ∷ es) (ms ++ ns)
+      go anew ms ns (WasToldEra.unopened none nothing) h rest =
+          let same : ms ≡ [] = none_noted ms (subst (λ ts. AllNoted ts ms) (unopened_none w spot fs (opened_anew gave e.opened (next_opened es opened)) e nothing) h) in
+          subst (λ ks. PastNoted w.exchange.speech spot fs gave cleared opened (e ∷ es) (ks ++ ns)) (sym same) (PastNoted.unopened e es ns none nothing rest)
+      go anew ms ns (WasToldEra.opened until t late) h rest = PastNoted.over e es until ms ns (era_noted (opened_anew gave e.opened (next_opened es opened)) e until t ms h) late rest
+
+  newest_noted : (e : Era Body Asked Reply) (stand : Stand) → IsToldNewest w spot fs e stand → (ns : List Noted) → AllNoted (era_scripted None e) ns → NewestNoted w.exchange.speech spot fs e stand ns
+  newest_noted e _ (IsToldNewest.lives t) ns h = NewestNoted.lives ns (era_noted None e _ t ns h)
+  newest_noted e _ (IsToldNewest.unopened stand shut none nothing) ns h =
+      subst (λ ms. NewestNoted w.exchange.speech spot fs e stand ms) (sym (none_noted ns (subst (λ ts. AllNoted ts ns) (unopened_none w spot fs None e nothing) h))) (NewestNoted.unopened stand shut none nothing)
+  newest_noted e _ (IsToldNewest.over stand shut until t) ns h = NewestNoted.over stand shut until ns (era_noted None e until t ns h)
+
+  life_noted : (l : Life Body Asked Reply) → IsToldLife w spot fs l → (ns : List Noted) → AllNoted (life_scripted l) ns → LifeNoted w.exchange.speech spot fs l ns
+  life_noted l told ns h =
+      let p = parts (eras_scripted l.gave l.past l.era.opened) (era_scripted None l.era) ns h in
+      record {
+        front = p.front;
+        behind = p.behind;
+        whole = p.whole;
+        past = past_noted l.gave l.era.cleared l.era.opened l.past told.past p.front p.first;
+        newest = newest_noted l.era l.stand told.newest p.behind p.last;
+      }
+
+-- ---- ALL SLAVES
+all_noted : (plan : Scenario) (fs : List (Frame Body)) (place : ℕ) (ss : List SlaveSpec) (ws : List Serves) (rows : List SlaveBook) → AllToldLives plan fs place ss ws → AllBoth IsBooked (map run_lead ws) rows → AllReportedSo plan fs place ss ws rows
+all_noted plan fs place [] [] [] told booked = tt
+all_noted plan fs place [] [] (row ∷ rows) told booked = absurd booked
+all_noted plan fs place [] (w ∷ ws) rows told booked = absurd told
+all_noted plan fs place (s ∷ ss) [] rows told booked = absurd told
+all_noted plan fs place (s ∷ ss) (w ∷ ws) [] told booked = absurd booked
+all_noted plan fs place (s ∷ ss) (w ∷ ws) (row ∷ rows) told booked =
+    (life_noted (services_of plan s) (spot_of place s) fs w.lead.lived.life told.0 (noted_in row.begun row.answers) booked.0, all_noted plan fs (suc place) ss ws rows told.1 booked.1)
+
+-- WHAT THE BOOK REPORTS
+pub all_reported_so : (plan : Scenario) (count : ℕ) (book : Book) → IsPlan plan → IsTold plan → ErasLaw → HasSent plan count book → IsServedReported plan count book
+all_reported_so plan count book is told law sent = λ ending a.
+    let l = a.answers.serving.leading in
+    all_noted plan (all_seen (lens_of plan.slaves) (map exchanged book.frames)) 0 plan.slaves l.serves book.slaves
+    (law plan is (known plan told) (map exchanged book.frames) l.missed l.serves l.lives (all_round (first_ring plan) book.frames sent.recorded)) a.reported

@@ -1,0 +1,212 @@
+-- WITHOUT THE ANSWERS OF MAILS THAT ARE PASSED ON a master's side goes on as one whose services all owe the laws of answers: as if no such mail had a reply.
+use Rattle.std.proofs.Common.{◌≡◌, ℕ, ◌&&◌, Bool, true, false, Option, Some, None, option_map, List, [], ◌∷◌, ◌++◌, map, refl, ap, sym, ◌∙◌, append_assoc, append-nil, if◌then◌else◌}
+use Rattle.std.specs.Prelude.{not, is_none, is_some}
+use Rattle.std.proofs.lemmas.List.{map-append}
+use Rattle.exchange_model.specs.Exchange.{Exchange, Speech, IsLawful, plain}
+use Rattle.exchange_model.specs.Rows.{Row, begun, left, row_heard, row_told, answer_after}
+use Rattle.frame_view.specs.View.{Lens}
+use Rattle.link_mails.specs.Body.{Body}
+use Rattle.link_model.specs.Frames.{all_accepted}
+use Rattle.link_model.specs.Mails.{LinkMail}
+use Rattle.link_model.specs.Master.{out_hold}
+use Rattle.master_duty.specs.Reply.{Reply}
+use Rattle.master_hand.specs.Spoken.{Asked, sdo, file, drive, net, passed, hand_speech, handed, valid}
+use Rattle.plan_ring.specs.Asked.{asked}
+use Rattle.segment_model.specs.Seats.{Side, Choice, is_none_left, is_over, newest, next_mail, rows_of, side_back, side_begins, side_holds, side_next}
+use Rattle.segment_model.specs.Slaves.{Datagram, grams}
+use Rattle.served_rings.specs.ToldEras.{unpassed_answer, unpassed_row, unpassed_side}
+use Rattle.slave_model.specs.Profile.{Profile, areas_of}
+use Rattle.slave_parts.specs.Parts.{Core, Server}
+use Rattle.slave_parts.specs.of_eoe_model.Network.{Station}
+use Rattle.state_exchange.specs.Families.{InState}
+use Rattle.state_exchange.specs.Stated.{Service}
+use Rattle.task_model.specs.Accounts.{Account, Duty, Pick, Started, account_back, account_begins, account_next, is_acknowledged, is_free, mails_begin, mails_choice, starts, state_begins}
+use Rattle.task_model.specs.Promise.{mail_of, mails_started, rows_started}
+use Rattle.task_model.proofs.Completed.{started_back}
+
+never : {T : Type 0} → false ≡ true → T
+never e = absurd (cc)
+
+abbrev Held : Type 0
+Held = Row Body Asked Reply
+
+-- a row that comes into hand has no answer
+none_is : (q : Asked) → unpassed_answer q None ≡ None
+none_is (sdo q) = refl
+none_is (file q) = refl
+none_is (drive q) = refl
+none_is (net q) = refl
+none_is (passed m) = refl
+
+module _ (p : Profile) (boot : Bool) (lens : ℕ → Lens) where
+  -- THE SERVICES ALONE, beside mails of which none has a reply: of its servers, none of which is ready, it owes nothing
+  abbrev pub silent : Exchange (InState Server) (InState (Station Core)) Body Asked Reply
+  silent = let x = (asked p boot lens).exchange in record x { ready = λ v. false; speech = record x.speech { valid = valid (areas_of p) } }
+
+  pub silent_lawful : IsLawful (asked p boot lens).exchange → IsLawful silent
+  silent_lawful law = record {
+    ready = λ v q no ok. never no;
+    whole = λ v q no ok. never no;
+    all_emitted = λ v q no ok. never no;
+    replied = λ v q no ok h. never no;
+    silent = λ v q no ok h. never no;
+    part = λ v q no ok a b e. never no;
+    counted = λ v q no ok h a b e f. never no;
+    none = law.none;
+    ended = law.ended;
+    follows = λ v q no ok hs more e. never no;
+    all_planned = λ v q no ok. never no;
+    unanswered = law.unanswered;
+    some = λ v q no ok h. never no;
+    grows = law.grows;
+  }
+
+  -- what the master speaks, and as if mails that are passed on had no reply
+  abbrev x : Speech Body Asked Reply
+  x = hand_speech (areas_of p)
+
+  abbrev y : Speech Body Asked Reply
+  y = silent.speech
+
+  over_by : (q : Asked) (answer : Option (Reply × ℕ)) (holding : Option (LinkMail Body)) (fresh : Bool) →
+      (if handed (areas_of p) q then is_none holding else is_some (unpassed_answer q answer) && not fresh) ≡ (if handed (areas_of p) q then is_none holding else is_some answer && not fresh)
+  over_by (sdo q) answer holding fresh = refl
+  over_by (file q) answer holding fresh = refl
+  over_by (drive q) answer holding fresh = refl
+  over_by (net q) answer holding fresh = refl
+  over_by (passed m) answer holding fresh = refl
+
+  -- A ROW IS OVER alike
+  over_is : (r : Held) (holding : Option (LinkMail Body)) (fresh : Bool) → is_over y holding fresh (unpassed_row r) ≡ is_over x holding fresh r
+  over_is r holding fresh = ap (λ (b : Bool). is_none_left (left x r) && b) (over_by r.service r.answer holding fresh)
+
+  -- A SERVICE COMES INTO HAND alike
+  begins_is : (frame : ℕ) (d : Side Body Asked Reply) (now : Option Held) (begin : Option Asked) → unpassed_side (side_begins x frame d now begin) ≡ side_begins y frame (unpassed_side d) (option_map (λ r. unpassed_row r) now) begin
+  begins_is frame d now None = refl
+  begins_is frame d None (Some q) = go (x.valid q)
+    where
+      go : (b : Bool) → unpassed_side (if b then record d { now = Some (begun q frame) } else d) ≡ (if b then record (unpassed_side d) { now = Some (begun q frame) } else unpassed_side d)
+      go true = ap (λ (a : Option (Reply × ℕ)). record (unpassed_side d) { now = Some (record (begun q frame) { answer = a }) }) (none_is q)
+      go false = refl
+  begins_is frame d (Some r) (Some q) =
+      go (x.valid q && is_over x d.halves.out.holding d.fresh r) ∙ ap (λ (b : Bool). if x.valid q && b then behind else unpassed_side d) (sym (over_is r d.halves.out.holding d.fresh))
+    where
+      behind : Side Body Asked Reply
+      behind = record (unpassed_side d) { past = map (λ r. unpassed_row r) d.past ++ unpassed_row r ∷ []; now = Some (begun q frame) }
+
+      go : (b : Bool) → unpassed_side (if b then record d { past = d.past ++ r ∷ []; now = Some (begun q frame) } else d) ≡ (if b then behind else unpassed_side d)
+      go true = λ i. record (unpassed_side d) { past = map-append (λ (t : Held). unpassed_row t) d.past (r ∷ []) i; now = Some (record (begun q frame) { answer = none_is q i }) }
+      go false = refl
+
+  -- AND A MAIL IS TAKEN UP alike
+  told_is : (m : Body) (now : Option Held) → option_map (λ r. unpassed_row r) (option_map (λ r. row_told m r) now) ≡ option_map (λ r. row_told m r) (option_map (λ r. unpassed_row r) now)
+  told_is m None = refl
+  told_is m (Some r) = refl
+
+  holds_is : (d : Side Body Asked Reply) (ms : List Body) → unpassed_side (side_holds d ms) ≡ side_holds (unpassed_side d) ms
+  holds_is d [] = refl
+  holds_is d (m ∷ ms) = ap (λ (n : Option Held). record { halves = record d.halves { out = out_hold d.halves.out m }; fresh = true; past = map (λ r. unpassed_row r) d.past; now = n }) (told_is m d.now)
+
+  mail_is : (now : Option Held) (holding : Option (LinkMail Body)) (hold : Bool) → next_mail y (option_map (λ r. unpassed_row r) now) holding hold ≡ next_mail x now holding hold
+  mail_is now holding false = refl
+  mail_is None holding true = refl
+  mail_is (Some r) (Some m) true = refl
+  mail_is (Some r) None true = refl
+
+  -- BEFORE A FRAME
+  pub next_is : (frame : ℕ) (d : Side Body Asked Reply) (c : Choice Asked) → side_next y frame (unpassed_side d) c ≡ unpassed_side (side_next x frame d c)
+  next_is frame d c =
+      let e = side_begins x frame d d.now c.begin in
+      sym (holds_is e (next_mail x e.now e.halves.out.holding c.hold) ∙ ap (side_holds (unpassed_side e)) (sym (mail_is e.now e.halves.out.holding c.hold))
+      ∙ ap (λ (f : Side Body Asked Reply). side_holds f (next_mail y f.now f.halves.out.holding c.hold)) (begins_is frame d d.now c.begin))
+
+  heard_by : (frame : ℕ) (hs : List Body) (q : Asked) (answer : Option (Reply × ℕ)) → answer_after frame (unpassed_answer q answer) (y.ends q hs) ≡ unpassed_answer q (answer_after frame answer (x.ends q hs))
+  heard_by frame hs (sdo q) answer = refl
+  heard_by frame hs (file q) answer = refl
+  heard_by frame hs (drive q) answer = refl
+  heard_by frame hs (net q) answer = refl
+  heard_by frame hs (passed m) answer = refl
+
+  heard_is : (frame : ℕ) (ms : List Body) (now : Option Held) → option_map (λ r. row_heard y frame ms r) (option_map (λ r. unpassed_row r) now) ≡ option_map (λ r. unpassed_row r) (option_map (λ r. row_heard x frame ms r) now)
+  heard_is frame ms None = refl
+  heard_is frame ms (Some r) =
+      ap (λ (a : Option (Reply × ℕ)). Some (record r { heard = r.heard ++ ms; answer = a })) (heard_by frame (plain x.emission (r.heard ++ ms)) r.service r.answer)
+
+  -- BEHIND ONE THAT CAME BACK
+  pub back_is : (frame station : ℕ) (back : List (Datagram Body)) (d : Side Body Asked Reply) → side_back y frame station back (unpassed_side d) ≡ unpassed_side (side_back x frame station back d)
+  back_is frame station back d =
+      let behind = side_back x frame station back d in
+      ap (λ (n : Option Held). record (unpassed_side behind) { now = n }) (heard_is frame (all_accepted station d.halves (grams back)) d.now)
+
+-- THE ROWS ARE THE SERVICES BY MAILS THAT CAME INTO HAND
+abbrev key : Held → Asked × ℕ
+key r = (r.service, r.frame)
+
+keys_push : (rs : List Held) (r : Held) → rows_started (rs ++ r ∷ []) ≡ rows_started rs ++ (r.service, r.frame) ∷ []
+keys_push rs r = map-append key rs (r ∷ [])
+
+mails_push : (ss : List (Started Asked)) (q : Asked) (frame : ℕ) → mails_started (ss ++ record { service = Service.Mails q; frame = frame } ∷ []) ≡ mails_started ss ++ (q, frame) ∷ []
+mails_push [] q frame = refl
+mails_push (s ∷ ss) q frame = ap (λ l. mail_of s.service s.frame ++ l) (mails_push ss q frame) ∙ sym (append_assoc (mail_of s.service s.frame) (mails_started ss) ((q, frame) ∷ []))
+
+state_push : (ss : List (Started Asked)) (target frame : ℕ) → mails_started (ss ++ record { service = Service.State target; frame = frame } ∷ []) ≡ mails_started ss
+state_push [] target frame = refl
+state_push (s ∷ ss) target frame = ap (λ l. mail_of s.service s.frame ++ l) (state_push ss target frame)
+
+abbrev pub AreBegun : Side Body Asked Reply → Account Asked Reply → Type 0
+AreBegun d a = mails_started a.started ≡ rows_started (rows_of d)
+
+-- one newest row more or less told or heard
+keys_same : (rs : List Held) (f : Held → Held) → ((r : Held) → key (f r) ≡ key r) → (now : Option Held) → rows_started (rs ++ newest (option_map f now)) ≡ rows_started (rs ++ newest now)
+keys_same rs f same None = refl
+keys_same rs f same (Some r) = keys_push rs (f r) ∙ ap (λ k. rows_started rs ++ k ∷ []) (same r) ∙ sym (keys_push rs r)
+
+holds_keys : (d : Side Body Asked Reply) (ms : List Body) → rows_started (rows_of (side_holds d ms)) ≡ rows_started (rows_of d)
+holds_keys d [] = refl
+holds_keys d (m ∷ ms) = keys_same d.past (λ r. row_told m r) (λ r. refl) d.now
+
+all_keys : (rs : List Held) → rows_started (map (λ r. unpassed_row r) rs) ≡ rows_started rs
+all_keys [] = refl
+all_keys (r ∷ rs) = ap (λ l. (r.service, r.frame) ∷ l) (all_keys rs)
+
+-- so they are without some answers
+pub rows_keys : (d : Side Body Asked Reply) → rows_started (rows_of (unpassed_side d)) ≡ rows_started (rows_of d)
+rows_keys d =
+    keys_same (map (λ r. unpassed_row r) d.past) (λ r. unpassed_row r) (λ r. refl) d.now
+    ∙ map-append key (map (λ r. unpassed_row r) d.past) (newest d.now) ∙ ap (λ l. l ++ rows_started (newest d.now)) (all_keys d.past) ∙ sym (map-append key d.past (newest d.now))
+
+module _ (x : Speech Body Asked Reply) (acknowledged : Asked → Bool) (frame : ℕ) (d : Side Body Asked Reply) (a : Account Asked Reply) (begun_so : AreBegun d a) where
+  begins_mails : (q : Asked) (now : Option Held) → d.now ≡ now → mails_started (if x.valid q && is_free x d now then record a { started = starts a (Service.Mails q) frame } else a).started ≡ rows_started (rows_of (side_begins x frame d now (Some q)))
+  begins_mails q None e = go (x.valid q)
+    where
+      go : (b : Bool) → mails_started (if b && true then record a { started = starts a (Service.Mails q) frame } else a).started ≡ rows_started (rows_of (if b then record d { now = Some (begun q frame) } else d))
+      go true =
+          mails_push a.started q frame ∙ ap (λ l. l ++ (q, frame) ∷ []) (begun_so ∙ ap (λ (n : Option Held). rows_started (d.past ++ newest n)) e ∙ ap (λ l. rows_started l) (append-nil d.past))
+          ∙ sym (keys_push d.past (begun q frame))
+      go false = begun_so
+  begins_mails q (Some r) e = go (x.valid q && is_over x d.halves.out.holding d.fresh r)
+    where
+      go : (b : Bool) → mails_started (if b then record a { started = starts a (Service.Mails q) frame } else a).started ≡ rows_started (rows_of (if b then record d { past = d.past ++ r ∷ []; now = Some (begun q frame) } else d))
+      go true =
+          mails_push a.started q frame ∙ ap (λ l. l ++ (q, frame) ∷ []) (begun_so ∙ ap (λ (n : Option Held). rows_started (d.past ++ newest n)) e) ∙ sym (keys_push (d.past ++ r ∷ []) (begun q frame))
+      go false = begun_so
+
+  begins_begun : (hand : Option Duty) (wish : Option (Service Asked)) → mails_started (account_begins x acknowledged frame d a hand wish).started ≡ rows_started (rows_of (side_begins x frame d d.now (mails_begin hand wish)))
+  begins_begun None None = begun_so
+  begins_begun (Some duty) None = begun_so
+  begins_begun (Some duty) (Some wish) = begun_so
+  begins_begun None (Some (Service.Mails q)) = begins_mails q d.now refl
+  begins_begun None (Some (Service.State target)) = go (is_free x d d.now && is_acknowledged acknowledged d d.now)
+    where
+      go : (b : Bool) → mails_started (if b then state_begins a target frame else a).started ≡ rows_started (rows_of d)
+      go true = state_push a.started target frame ∙ begun_so
+      go false = begun_so
+
+  pub next_begun : (pick : Pick Asked) → AreBegun (side_next x frame d (mails_choice a pick)) (account_next x acknowledged frame d a pick)
+  next_begun pick =
+      let e = side_begins x frame d d.now (mails_begin a.hand pick.begin) in
+      begins_begun a.hand pick.begin ∙ sym (holds_keys e (next_mail x e.now e.halves.out.holding pick.hold))
+
+  pub back_begun : (station : ℕ) (back : List (Datagram Body)) → AreBegun (side_back x frame station back d) (account_back station frame a back)
+  back_begun station back =
+      ap (λ l. mails_started l) (started_back station frame a back) ∙ begun_so ∙ sym (keys_same d.past (λ r. row_heard x frame (all_accepted station d.halves (grams back)) r) (λ r. refl) d.now)
