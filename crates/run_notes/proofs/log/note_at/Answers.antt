@@ -48,4 +48,7 @@ returns-in-GatewayDone-clause-mails c =
     subst (λ (e : Event). GoesBy c.args.moment.frame (kind_told e) c.args.notes.now c.args.notes.now) (sym c.in-GatewayDone.is) (same_goes c.args.moment.frame c.args.notes.now c.args.notes.now refl refl refl refl refl)
 
 pub returns-in-Cleared-clause-mails : goal.returns-in-Cleared-clause-mails
-returns-in-Cleared-clause-mails c = ?
+returns-in-Cleared-clause-mails c =
+    let n = c.args.notes.now in
+    let m : Notes = record n { own = c.in-Cleared.own } in
+    subst (λ (e : Event). GoesBy c.args.moment.frame (kind_told e) n m) (sym c.in-Cleared.is) (same_goes c.args.moment.frame n m refl refl refl refl refl)

@@ -1,4 +1,4 @@
-use Rattle.std.proofs.Common.{◌∙◌}
+use Rattle.std.proofs.Common.{[], ◌∙◌}
 use Rattle.std.proofs.lemmas.Result.{on_ok_weaker}
 use Rattle.run_notes.proofs.Handings.{mails_then, stay_services}
 use Rattle.run_notes.proofs.standing.Log.note_returned.Goals as goal
