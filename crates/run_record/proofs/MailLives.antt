@@ -126,10 +126,10 @@ module _ (areas : Areas) (made place : ℕ) (spot : Spot) (ns : List (News Body)
   changes_none : l.era.account.hand ≡ None → changes_told place (length l.era.account.over) e.account.over ≡ []
   changes_none h = ap (λ (a : Account Asked Reply). changes_told place (length l.era.account.over) a.over) (same_account h) ∙ none_more place l.era.account.over
 
-  has_row : (work : Work) → IsThere hand l → HasInHand x knows l l.stand work → HasPassed l.era.side.now
-  has_row work t h = go l.era.passing t.some (subst (λ z. OpenHas x knows l.era.side z l.era.passing work) t.alone (subst (λ z. HasInHand x knows l z work) t.opened h))
+  has_row : (known : Bool) (work : Work) → IsThere hand l → HasInHand x known l l.stand work → HasPassed l.era.side.now
+  has_row known work t h = go l.era.passing t.some (subst (λ z. OpenHas x known l.era.side z l.era.passing work) t.alone (subst (λ z. HasInHand x known l z work) t.opened h))
     where
-      go : (o : Option Passing) → is_some o ≡ true → OpenHas x knows l.era.side None o work → HasPassed l.era.side.now
+      go : (o : Option Passing) → is_some o ≡ true → OpenHas x known l.era.side None o work → HasPassed l.era.side.now
       go None s h = absurd (let bad : false ≡ true = s in cc)
       go (Some y) s h = h.0
 
@@ -166,15 +166,15 @@ module _ (areas : Areas) (made place : ℕ) (spot : Spot) (ns : List (News Body)
         ++ kinds_in place (packet_none p (is_free x l.era.side l.era.side.now) (is_free x m.era.side m.era.side.now) i)
         ++ kinds_in place ((ap (λ (z : Era Body Asked Reply). changes_told place (length l.era.account.over) z.account.over) era ∙ changes_none t.alone) i))
 
-    back_there : (work : Work) → IsThere hand l → HasInHand x knows l l.stand work → has_passing l ≡ true → Goes (has_passing l) (has_passing m) (kinds_in place told)
-    back_there work t h was = go (is_some m.era.passing) refl
+    back_there : (known : Bool) (work : Work) → IsThere hand l → HasInHand x known l l.stand work → has_passing l ≡ true → Goes (has_passing l) (has_passing m) (kinds_in place told)
+    back_there known work t h was = go (is_some m.era.passing) refl
       where
         go : (b : Bool) → is_some m.era.passing ≡ b → Goes (has_passing l) (has_passing m) (kinds_in place told)
         go true s =
             Goes.on was (is_there t ∙ s)
             (open_kinds t
             ∙ ap (λ z. z ++ kinds_in place (answer_told place (kind_of l.era.side.now) (kind_of m.era.side.now)) ++ kinds_in place (packet_told place (has_packet l.era.side.now) knows (is_free x l.era.side l.era.side.now) (is_free x m.era.side m.era.side.now)) ++ kinds_in place (changes_told place (length l.era.account.over) m.era.account.over)) (ended_goes place t.passed.key (is_some m.era.passing) s)
-            ∙ rest_none t (has_row work t h))
+            ∙ rest_none t (has_row known work t h))
         go false s =
             Goes.over _ was (is_there t ∙ s)
             (open_kinds t
@@ -205,11 +205,11 @@ module _ (areas : Areas) (made place : ℕ) (spot : Spot) (ns : List (News Body)
         go false is = is
 
     -- OF A SLAVE THAT THE FRAME CARRIED
-    pub back_goes : (work : Work) → IsHanded work hand l → HasInHand x knows l l.stand work → Goes (has_passing l) (has_passing m) (kinds_in place told)
-    back_goes work i h = go (has_passing l) refl
+    pub back_goes : (known : Bool) (work : Work) → IsHanded work hand l → HasInHand x known l l.stand work → Goes (has_passing l) (has_passing m) (kinds_in place told)
+    back_goes known work i h = go (has_passing l) refl
       where
         go : (b : Bool) → has_passing l ≡ b → Goes (has_passing l) (has_passing m) (kinds_in place told)
-        go true was = back_there work (there work hand l i was) h was
+        go true was = back_there known work (there work hand l i was) h was
         go false was = Goes.none was (back_none work i was)
 
     -- and of one that it left out

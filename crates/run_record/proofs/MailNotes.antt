@@ -11,13 +11,13 @@ use Rattle.master_node.specs.of_master_hand.Spoken.{Asked, is_passed}
 use Rattle.run_book.specs.declared.book.Answer.{Answer}
 use Rattle.run_book.specs.declared.book.Answer.TheVariants.{InDoubt}
 use Rattle.run_book.specs.declared.book.Begun.{Begun}
-use Rattle.run_notes.specs.Handed.{Doubts, GoesBy, HandedFirst, IsHanded, Sound, answers_told, doubts, hand_behind, handed, has_mail, is_mail, last_set, mail_answer, mail_answers, mails_noted, newest_mail, over_answer, still_there}
+use Rattle.run_notes.specs.Handed.{Doubts, GoesBy, HandedFirst, IsHanded, Sound, answers_told, doubts, hand_behind, has_mail, is_mail, mail_answer, mail_answers, mails_noted, newest_mail, over_answer, still_there}
 use Rattle.run_notes.specs.Notes.{answers_doubted}
 use Rattle.run_notes.specs.Packets.{mail_row, packet_row, rows_with}
 use Rattle.run_notes.specs.Unsent.{numbers_in, with_number}
 use Rattle.run_notes.specs.declared.notes.Notes.{Notes}
 use Rattle.run_notes.proofs.Handed.{all_answered, answers_append, last_map}
-use Rattle.run_record.proofs.MailLives.{Goes, Goes.on, Goes.over, Goes.none}
+use Rattle.run_record.proofs.MailLives.{Goes}
 use Rattle.run_record.specs.Mails.{mail_begun, mail_over, overs_behind}
 use Rattle.segment_ring.specs.declared.wire.Fate.TheVariants as Fates
 
@@ -25,20 +25,20 @@ use Rattle.segment_ring.specs.declared.wire.Fate.TheVariants as Fates
 
 module _ (frame : ℕ) (kinds : List ReplyKind) (n n' : Notes) (overs : List (Option ℕ)) where
   first_so : (was is : Bool) → Goes was is kinds → was ≡ true → HandedFirst kinds
-  first_so was is (on w i k) t = subst HandedFirst (sym k) tt
-  first_so was is (over rest w i k) t = subst HandedFirst (sym k) refl
-  first_so was is (none w i) t = absurd (let bad : true ≡ false = sym t ∙ w in cc)
+  first_so was is (Goes.on w i k) t = subst HandedFirst (sym k) tt
+  first_so was is (Goes.over rest w i k) t = subst HandedFirst (sym k) refl
+  first_so was is (Goes.none w i) t = absurd (let bad : true ≡ false = sym t ∙ w in cc)
 
   told_so : (was is : Bool) → Goes was is kinds → answers_told frame was kinds (map over_answer overs) ≡ map over_answer (overs_behind Fates.Pass frame was is overs)
-  told_so was is (on w i k) = (λ j. answers_told frame (w j) (k j) (map over_answer overs)) ∙ sym (λ j. map over_answer (overs_behind Fates.Pass frame (w j) (i j) overs))
-  told_so was is (over rest w i k) =
+  told_so was is (Goes.on w i k) = (λ j. answers_told frame (w j) (k j) (map over_answer overs)) ∙ sym (λ j. map over_answer (overs_behind Fates.Pass frame (w j) (i j) overs))
+  told_so was is (Goes.over rest w i k) =
       (λ j. answers_told frame (w j) (k j) (map over_answer overs)) ∙ last_map over_answer (Some frame) overs ∙ sym (λ j. map over_answer (overs_behind Fates.Pass frame (w j) (i j) overs))
-  told_so was is (none w i) = (λ j. answers_told frame (w j) kinds (map over_answer overs)) ∙ sym (λ j. map over_answer (overs_behind Fates.Pass frame (w j) is overs))
+  told_so was is (Goes.none w i) = (λ j. answers_told frame (w j) kinds (map over_answer overs)) ∙ sym (λ j. map over_answer (overs_behind Fates.Pass frame (w j) is overs))
 
   there_so : (was is : Bool) → Goes was is kinds → still_there was kinds ≡ is
-  there_so was is (on w i k) = (λ j. still_there (w j) (k j)) ∙ sym i
-  there_so was is (over rest w i k) = (λ j. still_there (w j) (k j)) ∙ sym i
-  there_so was is (none w i) = (λ j. still_there (w j) kinds) ∙ sym i
+  there_so was is (Goes.on w i k) = (λ j. still_there (w j) (k j)) ∙ sym i
+  there_so was is (Goes.over rest w i k) = (λ j. still_there (w j) (k j)) ∙ sym i
+  there_so was is (Goes.none w i) = (λ j. still_there (w j) kinds) ∙ sym i
 
   pub back_handed : (was is : Bool) → IsHanded overs was n → Sound n → GoesBy frame kinds n n' → Goes was is kinds → length n'.gave ≡ length n.gave → IsHanded (overs_behind Fates.Pass frame was is overs) is n'
   back_handed was is h s by goes same =
