@@ -69,7 +69,7 @@ module _ (k p : ℕ) (off : (p == k) ≡ false) where
   turned_off true (Some Turned.Opened) = one_off ReplyKind.Done [] refl
   turned_off false (Some Turned.Opened) = refl
 
-  returned_off : (x : Speech Body Asked Reply) (knows : Bool) (hand : Option Passed) (ms : List Body) (l m : Life Body Asked Reply) (stand : Stand) → kinds_in k (returned_told x knows p hand ms l m stand) ≡ []
+  pub returned_off : (x : Speech Body Asked Reply) (knows : Bool) (hand : Option Passed) (ms : List Body) (l m : Life Body Asked Reply) (stand : Stand) → kinds_in k (returned_told x knows p hand ms l m stand) ≡ []
   returned_off x knows hand ms l m (Stand.Opens o) = turned_off o.own (turned l m)
   returned_off x knows hand ms l m Stand.Gone = refl
   returned_off x knows hand ms l m Stand.Open =

@@ -65,19 +65,19 @@ pub data Goes (was is : Bool) (kinds : List ReplyKind) : Type 0 where
 
 -- ---- what is told of an open slave
 
-emergency_kinds : (k place : ℕ) (os : List (List ℕ)) → kinds_in k (emergencies_told place os) ≡ []
+pub emergency_kinds : (k place : ℕ) (os : List (List ℕ)) → kinds_in k (emergencies_told place os) ≡ []
 emergency_kinds k place [] = refl
 emergency_kinds k place (o ∷ os) = emergency_kinds k place os
 
-reply_kinds : (k key : ℕ) (bs : List Body) → kinds_in k (replies_told key bs) ≡ []
+pub reply_kinds : (k key : ℕ) (bs : List Body) → kinds_in k (replies_told key bs) ≡ []
 reply_kinds k key [] = refl
 reply_kinds k key (Ok m ∷ bs) = reply_kinds k key bs
 reply_kinds k key (Err fault ∷ bs) = reply_kinds k key bs
 
-five_kinds : (k : ℕ) (e p a q c : List Event) → kinds_in k e ≡ [] → kinds_in k (e ++ p ++ a ++ q ++ c) ≡ kinds_in k p ++ kinds_in k a ++ kinds_in k q ++ kinds_in k c
-five_kinds k e p a q c none =
+pub five_kinds : (k : ℕ) (e p a q c : List Event) → kinds_in k e ≡ [] → kinds_in k (e ++ p ++ a ++ q ++ c) ≡ kinds_in k p ++ kinds_in k a ++ kinds_in k q ++ kinds_in k c
+five_kinds k e p a q c quiet =
     kinds_append k (e ++ p ++ a ++ q) c
-    ∙ ap (λ z. z ++ kinds_in k c) (kinds_append k (e ++ p ++ a) q ∙ ap (λ z. z ++ kinds_in k q) (kinds_append k (e ++ p) a ∙ ap (λ z. z ++ kinds_in k a) (kinds_append k e p ∙ ap (λ z. z ++ kinds_in k p) none)))
+    ∙ ap (λ z. z ++ kinds_in k c) (kinds_append k (e ++ p ++ a) q ∙ ap (λ z. z ++ kinds_in k q) (kinds_append k (e ++ p) a ∙ ap (λ z. z ++ kinds_in k a) (kinds_append k e p ∙ ap (λ z. z ++ kinds_in k p) quiet)))
 
 -- of the mail in hand
 mail_kinds : (place : ℕ) (hand : Option Passed) (p : Passed) (old new : Option Passing) (ms : List Body) → hand ≡ Some p → is_some old ≡ true → kinds_in place (passed_told place hand old new ms) ≡ kinds_in place (ended_told place p.key true (is_some new))

@@ -1,25 +1,31 @@
 -- WHAT IS NOTED OF ONE SLAVE'S MAILS over a frame goes with its life.
-use Rattle.std.proofs.Common.{◌≡◌, ◌==◌, ℕ, Bool, true, false, Option, Some, None, List, [], ◌∷◌, ◌++◌, length, map, refl, sym, ap, ◌∙◌, subst, append-nil}
-use Rattle.std.specs.Prelude.{◌&&◌, if◌then◌else◌}
+use Rattle.std.proofs.Common.{◌≡◌, ◌==◌, ℕ, zero, suc, Bool, true, false, Option, Some, None, List, [], ◌∷◌, ◌++◌, length, map, refl, sym, ap, ◌∙◌, subst, append-nil}
+use Rattle.std.specs.Prelude.{◌&&◌, if◌then◌else◌, replicate}
 use Rattle.std.proofs.lemmas.Bool.{eq-eqb}
 use Rattle.std.proofs.lemmas.List.{map-append}
 use Rattle.mailbox_mail.specs.declared.outcome.ReplyKind.{ReplyKind}
 use Rattle.master_node.specs.declared.event.Origin.{Origin}
 use Rattle.master_node.specs.declared.event.Origin.TheVariants.{Script, Forward, Gateway}
+use Rattle.master_node.specs.of_life_runs.Led.{Leads}
 use Rattle.master_node.specs.of_master_duty.of_state_exchange.Stated.{Service}
 use Rattle.master_node.specs.of_master_hand.Spoken.{Asked, is_passed}
 use Rattle.run_book.specs.declared.book.Answer.{Answer}
-use Rattle.run_book.specs.declared.book.Answer.TheVariants.{InDoubt}
+use Rattle.run_book.specs.declared.book.Answer.TheVariants.{InDoubt, NotSent}
 use Rattle.run_book.specs.declared.book.Begun.{Begun}
-use Rattle.run_notes.specs.Handed.{Doubts, GoesBy, HandedFirst, IsHanded, Sound, answers_told, doubts, hand_behind, has_mail, is_mail, mail_answer, mail_answers, mails_noted, newest_mail, over_answer, still_there}
-use Rattle.run_notes.specs.Notes.{answers_doubted}
+use Rattle.run_book.specs.declared.book.SlaveBook.{SlaveBook}
+use Rattle.run_notes.specs.Handed.{AllHanded, AreHanded, Doubts, GoesBy, HandedFirst, IsHanded, Sound, answers_told, doubts, hand_behind, has_mail, is_mail, mail_answer, mail_answers, mails_noted, newest_mail, over_answer, still_there}
+use Rattle.run_notes.specs.Notes.{answers_doubted, ended}
 use Rattle.run_notes.specs.Packets.{mail_row, packet_row, rows_with}
+use Rattle.run_notes.specs.Reports.{AllReport}
+use Rattle.run_notes.specs.Slaves.{slave_row, slave_rows}
 use Rattle.run_notes.specs.Unsent.{numbers_in, with_number}
 use Rattle.run_notes.specs.declared.notes.Notes.{Notes}
 use Rattle.run_notes.proofs.Handed.{all_answered, answers_append, last_map}
 use Rattle.run_record.proofs.MailLives.{Goes}
 use Rattle.run_record.specs.Mails.{mail_begun, mail_over, overs_behind}
 use Rattle.segment_ring.specs.declared.wire.Fate.TheVariants as Fates
+use Rattle.slave_node.specs.of_slave_steps.Node.{Node}
+use Rattle.slave_server.specs.declared.server.SlaveServer.{SlaveServer}
 
 -- ---- BEHIND A RETURN
 
@@ -142,7 +148,7 @@ begun_answers number frame None = refl
 begun_answers number frame (Some (Service.State target)) = refl
 begun_answers number frame (Some (Service.Mails q)) = go (is_passed q)
   where
-    go : (z : Bool) → map (λ r. InDoubt) (if z then (number, frame) ∷ [] else []) ≡ map over_answer (if z then None ∷ [] else [])
+    go : (z : Bool) → map {A = ℕ × ℕ} (λ r. InDoubt) (if z then (number, frame) ∷ [] else []) ≡ map over_answer (if z then None ∷ [] else [])
     go true = refl
     go false = refl
 
@@ -183,3 +189,25 @@ turn_handed n n' overs was is number frame b d s h came comes = record {
             cc)
         go (c ∷ cs) same only = (λ i. hand_behind (same i) n.in_hand && newest_mail (n.begun ++ same i)) ∙ newest_append n.begun c cs ∙ newest_only c cs (subst AreOnly same only)
     by (Comes.other none was_not not) = some_more d.more false (newest_none d.more (came.mails ∙ none number frame)) refl (λ e. was_not) ∙ sym not
+
+-- ---- AT THE END
+
+ended_answers : (n : Notes) → Sound n → mail_answers n.begun (ended n) ≡ mails_noted n
+ended_answers n s =
+    ap (λ (bs : List Begun). mail_answers bs (ended n)) (sym (append-nil n.begun)) ∙ answers_append n.begun [] (answers_doubted n) (replicate n.left NotSent) (all_answered n s) ∙ append-nil (mails_noted n)
+
+first_row : (overs : ℕ → List (Option ℕ)) (row : SlaveBook) (rows : List SlaveBook) → mail_answers row.begun row.answers ≡ map over_answer (overs 0) → AreHanded (λ k. overs (suc k)) rows → AreHanded overs (row ∷ rows)
+first_row overs row rows h rest zero r at = subst (λ (z : SlaveBook). mail_answers z.begun z.answers ≡ map over_answer (overs 0)) (let same : row ≡ r = cc in same) h
+first_row overs row rows h rest (suc k) r at = rest k r at
+
+no_row : (overs : ℕ → List (Option ℕ)) → AreHanded overs []
+no_row overs k row at = absurd (let bad : None ≡ Some row = at in cc)
+
+-- what is noted stands in the book
+pub rows_handed : (recover : ℕ) (nodes : List (Node SlaveServer)) (notes : List Notes) (as' : List Leads) (overs : ℕ → List (Option ℕ)) (goes : ℕ → Bool) → AllReport as' notes → AllHanded overs goes notes → AreHanded overs (slave_rows recover nodes notes)
+rows_handed recover [] notes as' overs goes r h = no_row overs
+rows_handed recover (node ∷ nodes) [] as' overs goes r h = no_row overs
+rows_handed recover (node ∷ nodes) (n ∷ notes) [] overs goes r h = absurd r
+rows_handed recover (node ∷ nodes) (n ∷ notes) (a ∷ as') overs goes r h =
+    first_row overs (slave_row recover node n) (slave_rows recover nodes notes) (ended_answers n (record { aligned = r.0.aligned; last = r.0.last }) ∙ (h 0 n refl).answers)
+    (rows_handed recover nodes notes as' (λ k. overs (suc k)) (λ k. goes (suc k)) r.1 (λ k m e. h (suc k) m e))
