@@ -141,7 +141,7 @@ course_rowed plan count is _ _ _ _ _ (begins s first serves) = first_rowed plan 
 course_rowed plan count is _ _ _ _ _ (hears s s' fs gs g rs rs' os more c at few judges) =
     let l = course_led plan count is s fs gs rs os c in
     let old = course_rowed plan count is s fs gs rs os c in
-    let on = answers_heard plan s s' (map exchanged fs) gs g rs os (dones_of plan count s fs gs rs os c) old.0 (let many = length-map fs exchanged in omega (arith, at, many)) is l.homes few rs' more judges in
+    let on = answers_heard plan s s' (map exchanged fs) gs g rs os (dones_of plan count s fs gs rs os c) old.0 (at ∙ sym (length-map fs exchanged)) is l.homes few rs' more judges in
     (on.0, on.1 ∙ old.1, on.2 ∙ old.2)
 course_rowed plan count is _ _ _ _ _ (steps s s' fs f gs rs os c m) =
     let l = course_led plan count is s fs gs rs os c in

@@ -15,6 +15,7 @@ use Rattle.master_node.specs.Begins.{is_other}
 use Rattle.master_node.specs.Events.{begun_told}
 use Rattle.master_node.specs.Listing.{origin_of}
 use Rattle.master_node.specs.Serving.{serves_of}
+use Rattle.master_node.specs.Wants.{gave_of}
 use Rattle.master_node.specs.declared.event.Event.TheVariants as events
 use Rattle.master_node.specs.declared.event.Origin.{Origin}
 use Rattle.master_node.specs.of_datagrams.Datagram as Raw
@@ -27,7 +28,7 @@ use Rattle.master_node.specs.of_master_side.Passing.{passing_behind}
 use Rattle.run_book.specs.declared.book.GramIn.{GramIn}
 use Rattle.gateway_run.specs.Account.{Owing, begun_first, left_by, left_by_all, waits_at}
 use Rattle.gateway_run.specs.Rooms.{begun_of, owed_for, waiting_of}
-use Rattle.gateway_run.specs.Replies.{Fares, GivesAll, IsDesk, IsFor, IsNew, WasGivenUp, keyed_in}
+use Rattle.gateway_run.specs.Replies.{Fares, GivesAll, IsDesk, IsFor, IsNew, keyed_in}
 use Rattle.gateway_run.specs.declared.desk.Request.{Request}
 use Rattle.gateway_run.proofs.Rooms.{both_left}
 use Rattle.gateway_run.proofs.Desking.{comes_here}
@@ -55,10 +56,10 @@ module _ (lens : ℕ → Lens) (made : ℕ) (ds : List Raw.Datagram) (w : Serves
     pub comes : List ℕ
     pub desk : IsDesk gs os slave (serves_of v) comes (waiting_of slave qs) (begun_of slave qs)
     pub fares : (done : Bool) (number : ℕ) (asked : Mail) (gram : GramIn) → slice_get gs number ≡ Some gram → request_in gram.bytes ≡ Ok asked →
-        Fares w came (waiting_of slave rs) (begun_of slave rs) done number asked (owed_for number os) → Fares (serves_of v) comes (waiting_of slave qs) (begun_of slave qs) done number asked (owed_for number os)
+        Fares w came (waiting_of slave rs) (begun_of slave rs) done number gram.frame asked (owed_for number os) → Fares (serves_of v) comes (waiting_of slave qs) (begun_of slave qs) done number gram.frame asked (owed_for number os)
     pub whole : (done : ℕ → Bool) → All (λ (r : Request). done r.gram ≡ false) rs → GivesAll os done w came → GivesAll os done (serves_of v) comes
 
-  module _ (given : WasGivenUp w → WasGivenUp (serves_of v)) (early : All (λ (g : GramIn). g.frame ≤ made) gs) (d : IsDesk gs os slave w came (waiting_of slave rs) (begun_of slave rs)) where
+  module _ (gave : gave_of (serves_of v).lead ≡ gave_of w.lead) (early : All (λ (g : GramIn). g.frame ≤ made) gs) (d : IsDesk gs os slave w came (waiting_of slave rs) (begun_of slave rs)) where
     stays : row_begun made v.turn.begun ≡ [] → AllBoth Stays (passed_rows w.lead.lived.life) (passed_rows v.turn.lived.life)
     stays e = subst (λ z. AllBoth Stays z (passed_rows v.turn.lived.life)) (append-nil (passed_rows w.lead.lived.life)) (subst (λ z. AllBoth Stays (passed_rows w.lead.lived.life ++ z) (passed_rows v.turn.lived.life)) e (next_stays lens made ds w v t))
 
@@ -74,7 +75,7 @@ module _ (lens : ℕ → Lens) (made : ℕ) (ds : List Raw.Datagram) (w : Serves
     quiet same keyed hand none = record {
       comes = came;
       desk = desk_same gs slave w (serves_of v) came (waiting_of slave rs) (begun_of slave rs) os same keyed hand (stays none) d;
-      fares = λ done number asked gram there request f. fares_same gs slave w (serves_of v) came (waiting_of slave rs) (begun_of slave rs) done number asked (owed_for number os) given (stays none) f;
+      fares = λ done number asked gram there request f. fares_same gs slave w (serves_of v) came (waiting_of slave rs) (begun_of slave rs) done number gram.frame asked (owed_for number os) gave (stays none) f;
       whole = λ done undone all. gives_same os done w (serves_of v) came (heard_none none) (over_none none) all;
     }
 
@@ -103,10 +104,10 @@ module _ (lens : ℕ → Lens) (made : ℕ) (ds : List Raw.Datagram) (w : Serves
               (subst (λ z. IsDesk gs os slave (serves_of v) (came ++ o.request.gram ∷ []) o.rest z) (sym after.1)
               (desk_mail gs slave w (serves_of v) came k rest (begun (passed k.mail) made) os comes o.request o.rest (begun_of slave rs) old here));
           fares = λ done number asked gram there request f.
-              subst (λ z. Fares (serves_of v) (came ++ o.request.gram ∷ []) z (begun_of slave (begun_first slave rs)) done number asked (owed_for number os)) (sym after.0)
-              (subst (λ z. Fares (serves_of v) (came ++ o.request.gram ∷ []) o.rest z done number asked (owed_for number os)) (sym after.1)
-              (fares_mail gs slave w (serves_of v) came k rest (begun (passed k.mail) made) os comes o.request o.rest (begun_of slave rs) old done number asked (owed_for number os) gram there request given
-              (subst (λ z. Fares w came z (begun_of slave rs) done number asked (owed_for number os)) o.is f)));
+              subst (λ z. Fares (serves_of v) (came ++ o.request.gram ∷ []) z (begun_of slave (begun_first slave rs)) done number gram.frame asked (owed_for number os)) (sym after.0)
+              (subst (λ z. Fares (serves_of v) (came ++ o.request.gram ∷ []) o.rest z done number gram.frame asked (owed_for number os)) (sym after.1)
+              (fares_mail gs slave w (serves_of v) came k rest (begun (passed k.mail) made) os comes o.request o.rest (begun_of slave rs) old done number asked (owed_for number os) gram there request gave
+              (subst (λ z. Fares w came z (begun_of slave rs) done number gram.frame asked (owed_for number os)) o.is f)));
           whole = λ done undone all.
               gives_mail os done w (serves_of v) came o.request.gram (All-head (IsNew os) o.request o.rest (subst (All (IsNew os)) o.is d.new))
               (All-head (λ (r : Request). done r.gram ≡ false) o.request o.rest (subst (All (λ (r : Request). done r.gram ≡ false)) o.is (All-filter (waits_at slave) (λ (r : Request). done r.gram ≡ false) rs undone)))

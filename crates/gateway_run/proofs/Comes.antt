@@ -1,7 +1,8 @@
 -- A MAIL COMES INTO HAND of a slave: the oldest of its requests that wait is the one whose mail is in hand.
-use Rattle.std.proofs.Common.{◌≡◌, ℕ, zero, suc, ◌+◌, ◌<◌, ◌≤◌, Bool, true, false, inl, inr, Option, Some, None, List, [], ◌∷◌, ◌++◌, length, refl, sym, ap, ◌∙◌, subst, eqb-true, append_assoc, length-append, arith}
+use Rattle.std.proofs.Common.{◌≡◌, ℕ, zero, suc, ◌+◌, ◌<◌, ◌≤◌, ◌⊎◌, Bool, true, false, inl, Option, Some, None, List, [], ◌∷◌, ◌++◌, length, refl, sym, ap, ◌∙◌, subst, eqb-true, append_assoc, length-append, arith}
 use Rattle.std.specs.Prelude.{◌==◌, slice_get, All, Ok}
 use Rattle.std.proofs.lemmas.List.Elements.{All-head, All-tail, All-push, All-weaker}
+use Rattle.master_node.specs.Wants.{gave_of}
 use Rattle.master_node.specs.of_life_frames.of_exchange_model.Exchange.{plain}
 use Rattle.master_node.specs.of_life_frames.of_exchange_model.Rows.{Row, begun}
 use Rattle.gateway_core.specs.Framing.{request_in}
@@ -18,9 +19,10 @@ use Rattle.master_node.specs.of_segment_model.Ends.{Passing}
 use Rattle.run_book.specs.declared.book.GramIn.{GramIn}
 use Rattle.gateway_run.specs.Account.{Owing}
 use Rattle.gateway_run.specs.Rooms.{AreRising, grams_of}
-use Rattle.gateway_run.specs.Replies.{Fares, Fares.dropped, Fares.replies, Fares.waits, HasRow, IsDesk, IsFor, IsLate, IsNew, IsNewest, IsOurs, StandsSo, WasGivenUp, keyed_in}
+use Rattle.gateway_run.specs.Replies.{Fares, Fares.dropped, Fares.replies, Fares.waits, IsDesk, IsFor, IsLate, IsNew, IsNewest, IsOurs, IsSame, StandsSo, keyed_in}
+use Rattle.gateway_run.specs.Since.{GaveSince, NoneSince}
 use Rattle.gateway_run.specs.declared.desk.Request.{Request}
-use Rattle.gateway_run.proofs.Hands.{all_got, at_last, both_at, both_many, both_push, in_append, in_head, late_stays, row_stays}
+use Rattle.gateway_run.proofs.Hands.{KeepsRow, all_got, at_last, both_at, both_many, both_push, in_append, in_head, late_stays, replies_same, row_stays}
 
 -- the oldest that waits
 pub record Oldest (waiting : List Request) : Type 0 where
@@ -114,29 +116,37 @@ module _ (gs : List GramIn) (slave : ℕ) (w v : Serves) (came : List ℕ) (k : 
     }
 
     -- its row is the last of those that were passed on
-    pub first_row : HasRow v (came ++ r.gram ∷ []) r.gram is_for.asked []
-    first_row =
+    pub first_row : (number : ℕ) (asked : Mail) → number ≡ r.gram → is_for.asked ≡ asked → KeepsRow v (came ++ r.gram ∷ []) number asked [] row.frame
+    first_row number asked number_is asked_is =
         let at = both_at Stays (passed_rows w.lead.lived.life ++ row ∷ []) (passed_rows v.lead.lived.life) (length came) row c.stay (ap (slice_get (passed_rows w.lead.lived.life ++ row ∷ [])) d.many ∙ at_last (passed_rows w.lead.lived.life) row) in
         record {
-          index = length came;
-          its = at_last came r.gram;
-          row = at.0;
-          is = at.1;
-          mail = k.mail;
-          same = is_for.same;
-          service = at.2.service ∙ c.its;
-          rest = plain emission at.0.heard;
-          heard = refl;
+          its = record {
+            index = length came;
+            its = at_last came r.gram ∙ ap Some (sym number_is);
+            row = at.0;
+            is = at.1;
+            mail = k.mail;
+            same = subst (λ m. IsSame m k.mail) asked_is is_for.same;
+            service = at.2.service ∙ c.its;
+            rest = plain emission at.0.heard;
+            heard = refl;
+          };
+          frame = at.2.frame;
         }
 
     -- what its datagrams got
-    pub fares_mail : (done : Bool) (number : ℕ) (asked : Mail) (mails : List Mail) → (gram : GramIn) → slice_get gs number ≡ Some gram → request_in gram.bytes ≡ Ok asked → (WasGivenUp w → WasGivenUp v) →
-        Fares w came (r ∷ more) begun done number asked mails → Fares v (came ++ r.gram ∷ []) more (with_mail r ∷ []) done number asked mails
-    fares_mail done number asked mails gram there request gone (waits a b e) = go (number == r.gram) refl
+    pub fares_mail : (done : Bool) (number : ℕ) (asked : Mail) (mails : List Mail) → (gram : GramIn) → slice_get gs number ≡ Some gram → request_in gram.bytes ≡ Ok asked → gave_of v.lead ≡ gave_of w.lead →
+        Fares w came (r ∷ more) begun done number gram.frame asked mails → Fares v (came ++ r.gram ∷ []) more (with_mail r ∷ []) done number gram.frame asked mails
+    fares_mail done number asked mails gram there request gave (waits a b none e) = go (number == r.gram) refl
       where
-        go : (z : Bool) → (number == r.gram) ≡ z → Fares v (came ++ r.gram ∷ []) more (with_mail r ∷ []) done number asked mails
-        go false f = waits (sym (in_head number r.gram false f (grams_of more)) ∙ a) b e
-        go true f = replies [] first_here (subst (StandsSo v (with_mail r ∷ []) number []) (sym b) (inl (in_head number r.gram true f []))) e
+        still : NoneSince gram.frame (gave_of v.lead)
+        still = subst (NoneSince gram.frame) (sym gave) none
+
+        go : (z : Bool) → (number == r.gram) ≡ z → Fares v (came ++ r.gram ∷ []) more (with_mail r ∷ []) done number gram.frame asked mails
+        go false f = waits (sym (in_head number r.gram false f (grams_of more)) ∙ a) b still e
+        go true f =
+            replies [] kept.its (All-weaker (λ (at : ℕ). at < gram.frame) (λ (at : ℕ). (at < gram.frame) ⊎ (kept.its.row.frame ≤ at)) (λ at less. inl less) (gave_of v.lead) still)
+            (subst (StandsSo v (with_mail r ∷ []) number kept.its.row.frame []) (sym b) (inl (in_head number r.gram true f [], since))) e
           where
             number_is : number ≡ r.gram
             number_is = eqb-true number r.gram f
@@ -145,19 +155,23 @@ module _ (gs : List GramIn) (slave : ℕ) (w v : Serves) (came : List ℕ) (k : 
             same_asked = (let g : is_for.of_gram.gram ≡ gram = (let all : Some is_for.of_gram.gram ≡ Some gram = sym is_for.of_gram.there ∙ ap (slice_get gs) (sym number_is) ∙ there in cc) in
                 let both = sym is_for.request ∙ ap (λ (z : GramIn). request_in z.bytes) g ∙ request in cc)
 
-            first_here : HasRow v (came ++ r.gram ∷ []) number asked []
-            first_here = subst (λ n. HasRow v (came ++ r.gram ∷ []) n asked []) (sym number_is) (subst (λ m. HasRow v (came ++ r.gram ∷ []) r.gram m []) same_asked first_row)
-    fares_mail done number asked mails gram there request gone (dropped a b g e f h) = go (number == r.gram) refl
+            kept : KeepsRow v (came ++ r.gram ∷ []) number asked [] row.frame
+            kept = first_row number asked number_is same_asked
+
+            -- it began no earlier than it was heard
+            since : NoneSince kept.its.row.frame (gave_of v.lead)
+            since = All-weaker (λ (at : ℕ). at < gram.frame) (λ (at : ℕ). at < kept.its.row.frame)
+                (λ at less. (let due : gram.frame ≤ row.frame = all_got (λ (g : GramIn). g.frame ≤ row.frame) gs number gram c.early there in let began = kept.frame in omega (arith, less, due, began))) (gave_of v.lead) still
+    fares_mail done number asked mails gram there request gave (dropped a b g e given h) = go (number == r.gram) refl
       where
-        go : (z : Bool) → (number == r.gram) ≡ z → Fares v (came ++ r.gram ∷ []) more (with_mail r ∷ []) done number asked mails
+        go : (z : Bool) → (number == r.gram) ≡ z → Fares v (came ++ r.gram ∷ []) more (with_mail r ∷ []) done number gram.frame asked mails
         go true t = absurd (let bad : true ≡ false = sym (in_head number r.gram true t (grams_of more)) ∙ a in cc)
-        go false t = dropped (sym (in_head number r.gram false t (grams_of more)) ∙ a) (in_head number r.gram false t []) (in_append number came (r.gram ∷ []) g ∙ in_head number r.gram false t []) e (gone f) h
-    fares_mail done number asked mails gram there request gone (replies told row' stands same) = replies told (row_stays w v came (r.gram ∷ []) number asked told (row ∷ []) c.stay row') (stands_so done stands) same
+        go false t =
+            dropped (sym (in_head number r.gram false t (grams_of more)) ∙ a) (in_head number r.gram false t []) (in_append number came (r.gram ∷ []) g ∙ in_head number r.gram false t []) e
+            (subst (GaveSince gram.frame) (sym gave) given) h
+    fares_mail done number asked mails gram there request gave (replies told row' spared stands same) =
+        replies_same w v came (came ++ r.gram ∷ []) more begun (with_mail r ∷ []) done number gram.frame asked mails told row' (row_stays w v came (r.gram ∷ []) number asked told (row ∷ []) c.stay row') gave
+        (λ here. absurd (let bad : false ≡ true = sym (ap (λ rs. is_in number (grams_of rs)) none) ∙ here in cc)) spared stands same
       where
         none : begun ≡ []
         none = none_begun gs w begun c.free d.in_hand
-
-        stands_so : (z : Bool) → StandsSo w begun number told z → StandsSo v (with_mail r ∷ []) number told z
-        stands_so true s = s
-        stands_so false (inl here) = absurd (let bad : false ≡ true = sym (ap (λ rs. is_in number (grams_of rs)) none) ∙ here in cc)
-        stands_so false (inr given) = inr (gone given)

@@ -1,4 +1,4 @@
--- WHERE A SERVING LEAVES NOTHING no request is unfinished, so each datagram that was queued at a slave is done, unless that slave was given up.
+-- WHERE A SERVING LEAVES NOTHING no request is unfinished, so each datagram that was queued at a slave is done, or a give-up of that slave ended it.
 use Rattle.std.proofs.Common.{◌≡◌, ◌⊎◌, ◌+◌, inl, inr, ℕ, zero, suc, Bool, true, false, Option, Some, None, List, [], ◌∷◌, length, map, refl, sym, ap, ◌∙◌, subst, arith, eq-eqb}
 use Rattle.std.specs.Prelude.{All, ◌==◌, ◌&&◌, cond, not, slice_get}
 use Rattle.std.specs.Bool.{OnTrue}
@@ -25,8 +25,8 @@ use Rattle.run_record.specs.Session.{SessionState}
 use Rattle.run_record.proofs.ServedGaves.{served_counted}
 use Rattle.segment_plan.specs.declared.plan.Scenario.{Scenario}
 use Rattle.gateway_run.specs.Account.{Owing, waits_at}
-use Rattle.gateway_run.specs.Done.{AllDone, IsDone}
-use Rattle.gateway_run.specs.Replies.{AllDesk, AllGot, Answers, Fares, Fares.dropped, Fares.replies, Fares.waits, Got, Got.ignored, Got.queued, Got.refused, IsDesk, IsFor, IsHeard, StandsSo, WasGivenUp, dones_of, keyed_in}
+use Rattle.gateway_run.specs.Done.{AllDone, IsDone, IsOver, IsOver.cut, IsOver.dropped as is_dropped, IsOver.whole}
+use Rattle.gateway_run.specs.Replies.{AllDesk, AllGot, Answers, Fares, Fares.dropped, Fares.replies, Fares.waits, Got, Got.ignored, Got.queued, Got.refused, IsDesk, IsFor, IsHeard, StandsSo, dones_of, keyed_in}
 use Rattle.gateway_run.specs.Rooms.{begun_of, has_begun, owed_for, waiting_of}
 use Rattle.gateway_run.specs.Serving.{EmptyWhere, IsOn}
 use Rattle.gateway_run.specs.declared.desk.Request.{Request}
@@ -144,28 +144,35 @@ none_unfinished plan count v b on rests =
 pub empty_on : (plan : Scenario) (count : ℕ) (v : Serving) (b : Book) → IsOn plan count v b → (settled : Bool) → OnTrue settled (ServingRests v.session) → EmptyWhere settled v
 empty_on plan count v b on settled rests = OnTrue_from settled (v.desk.requests.items ≡ []) (λ is. none_unfinished plan count v b on (OnTrue_at is rests))
 
--- WHERE NONE IS each datagram that was queued at a slave is done
-over : (w : Serves) (numbers : List ℕ) (done : Bool) (number : ℕ) (asked : Mail) (mails : List Mail) → Fares w numbers [] [] done number asked mails → (done ≡ true) ⊎ WasGivenUp w
-over w numbers done number asked mails (waits a b c) = absurd (cc)
-over w numbers done number asked mails (dropped a b c e given m) = inr given
-over w numbers done number asked mails (replies told row s m) = stands done s
+-- WHERE NONE IS each datagram that was queued at a slave is over
+over : (w : Serves) (numbers : List ℕ) (done : Bool) (number heard : ℕ) (asked : Mail) (mails : List Mail) → Fares w numbers [] [] done number heard asked mails → IsOver w numbers done number heard mails
+over w numbers done number heard asked mails (waits a b none c) = absurd (cc)
+over w numbers done number heard asked mails (dropped a b c e given m) = is_dropped c given m e
+over w numbers done number heard asked mails (replies told row spared s m) = stands done refl s
   where
-    stands : (z : Bool) → StandsSo w [] number told z → (z ≡ true) ⊎ WasGivenUp w
-    stands true s' = inl refl
-    stands false (inl e) = absurd (cc)
-    stands false (inr given) = inr given
+    stands : (z : Bool) → done ≡ z → StandsSo w [] number row.row.frame told z → IsOver w numbers done number heard mails
+    stands true e all = whole asked told row all m e
+    stands false e (inl here) = absurd (let bad : false ≡ true = here.0 in cc)
+    stands false e (inr given) = cut asked told row given m e
 
 module _ (serves : List Serves) (came : List (List ℕ)) (os : List Owing) (dones : List ℕ) where
-  one_done : (number : ℕ) (g : GramIn) (mails : List Mail) → Got serves came [] dones number g mails → IsDone serves dones number g.queued
-  one_done number g mails (ignored fault request nowhere none) = subst (IsDone serves dones number) (sym nowhere) tt
-  one_done number g mails (refused asked detail request nowhere seldom error) = subst (IsDone serves dones number) (sym nowhere) tt
-  one_done number g mails (queued asked slave w numbers request there at its fares) = subst (IsDone serves dones number) (sym there) (w, at, over w numbers (is_in number dones) number asked mails fares)
+  one_done : (number : ℕ) (g : GramIn) → Got serves came [] dones number g (owed_for number os) → IsDone serves came dones os number g
+  one_done number g (ignored fault request nowhere none) = λ slave at. absurd (let bad : None ≡ Some slave = sym nowhere ∙ at in cc)
+  one_done number g (refused asked detail request nowhere seldom error) = λ slave at. absurd (let bad : None ≡ Some slave = sym nowhere ∙ at in cc)
+  one_done number g (queued asked place w numbers request there at_w at_came fares) = λ slave at.
+      let same : place ≡ slave = (let both : Some place ≡ Some slave = sym there ∙ at in cc) in (
+        w,
+        numbers,
+        subst (λ k. slice_get serves k ≡ Some w) same at_w,
+        subst (λ k. slice_get came k ≡ Some numbers) same at_came,
+        over w numbers (is_in number dones) number g.frame asked (owed_for number os) fares,
+      )
 
-  each_done : (n : ℕ) (gs : List GramIn) → AllGot serves came [] dones os n gs → AllDone serves dones n gs
+  each_done : (n : ℕ) (gs : List GramIn) → AllGot serves came [] dones os n gs → AllDone serves came dones os n gs
   each_done n [] a = tt
-  each_done n (g ∷ gs) a = (one_done n g (owed_for n os) a.0, each_done (suc n) gs a.1)
+  each_done n (g ∷ gs) a = (one_done n g a.0, each_done (suc n) gs a.1)
 
-pub all_done : (plan : Scenario) (s : SessionState) (fs : List Exchanged) (gs : List GramIn) (rs : List Request) (os : List Owing) (dones : List ℕ) (a : Answers plan s fs gs rs os dones) → rs ≡ [] → AllDone a.serving.leading.serves dones 0 gs
+pub all_done : (plan : Scenario) (s : SessionState) (fs : List Exchanged) (gs : List GramIn) (rs : List Request) (os : List Owing) (dones : List ℕ) (a : Answers plan s fs gs rs os dones) → rs ≡ [] → AllDone a.serving.leading.serves a.came dones os 0 gs
 all_done plan s fs gs rs os dones a none =
     let serves = a.serving.leading.serves in
     each_done serves a.came os dones 0 gs (subst (λ (qs : List Request). AllGot serves a.came qs dones os 0 gs) none a.got)

@@ -9,6 +9,7 @@ use Rattle.served_places.specs.of_served_runs.Told.{Passed, replies_in, told_on}
 use Rattle.master_node.specs.Gateways.{done_told, life_told, replies_told}
 use Rattle.master_node.specs.Named.{is_left}
 use Rattle.master_node.specs.Serving.{serves_of}
+use Rattle.master_node.specs.Wants.{gave_of}
 use Rattle.master_node.specs.declared.event.Event.{Event}
 use Rattle.master_node.specs.of_frame_view.Seen.{seen}
 use Rattle.master_node.specs.of_frame_view.View.{Lens}
@@ -23,7 +24,7 @@ use Rattle.run_book.specs.declared.book.GramIn.{GramIn}
 use Rattle.gateway_run.specs.Account.{Owing, left_by_all}
 use Rattle.gateway_run.specs.Desk.{AreApart}
 use Rattle.gateway_run.specs.Rooms.{begun_of, owed_for, waiting_of}
-use Rattle.gateway_run.specs.Replies.{Fares, IsDesk, IsFor, IsOurs, WasGivenUp, keyed_in}
+use Rattle.gateway_run.specs.Replies.{Fares, IsDesk, IsFor, IsOurs, keyed_in}
 use Rattle.gateway_run.specs.declared.desk.Request.{Request}
 use Rattle.gateway_run.proofs.Behind.{ends, stays, in_hand, told_of}
 use Rattle.gateway_run.proofs.Gives.{gives_told, over_same, owed_none_more}
@@ -32,9 +33,9 @@ use Rattle.gateway_run.proofs.Telling.{HasTold, IsBehind, OwesBesides, tells_not
 
 -- NO MAIL WAS PASSED ON LAST: nothing is told
 module _ (gs : List GramIn) (slave : ℕ) (w v : Serves) (os more : List Owing) (came : List ℕ) (rs : List Request) (done done' : ℕ → Bool) where
-  pub tells_none : w.hand ≡ None → v.hand ≡ None → v.waits ≡ w.waits → AllBoth Stays (passed_rows w.lead.lived.life) (passed_rows v.lead.lived.life) → (WasGivenUp w → WasGivenUp v) → OwesBesides gs slave os more rs [] done done' →
+  pub tells_none : w.hand ≡ None → v.hand ≡ None → v.waits ≡ w.waits → AllBoth Stays (passed_rows w.lead.lived.life) (passed_rows v.lead.lived.life) → gave_of v.lead ≡ gave_of w.lead → OwesBesides gs slave os more rs [] done done' →
       All (λ (r : Request). IsOurs gs slave r.gram) rs → IsDesk gs os slave w came (waiting_of slave rs) (begun_of slave rs) → HasTold gs slave w v os more came rs done done' [] rs
-  tells_none none after same stay gone besides ours d = record {
+  tells_none none after same stay gave besides ours d = record {
     desk = record {
       waits = kept.waits;
       in_hand = kept.in_hand;
@@ -47,9 +48,9 @@ module _ (gs : List GramIn) (slave : ℕ) (w v : Serves) (os more : List Owing) 
       late = kept.late;
     };
     fares = λ number asked o request f.
-        subst (λ z. Fares v came (waiting_of slave rs) (begun_of slave rs) z number asked (owed_for number (os ++ more))) (sym (besides.ended number o))
-        (subst (λ ms. Fares v came (waiting_of slave rs) (begun_of slave rs) (done number) number asked ms) (sym (same_owed number o))
-        (fares_same gs slave w v came (waiting_of slave rs) (begun_of slave rs) (done number) number asked (owed_for number os) gone stay f));
+        subst (λ z. Fares v came (waiting_of slave rs) (begun_of slave rs) z number o.gram.frame asked (owed_for number (os ++ more))) (sym (besides.ended number o))
+        (subst (λ ms. Fares v came (waiting_of slave rs) (begun_of slave rs) (done number) number o.gram.frame asked ms) (sym (same_owed number o))
+        (fares_same gs slave w v came (waiting_of slave rs) (begun_of slave rs) (done number) number o.gram.frame asked (owed_for number os) gave stay f));
     whole = λ heard over all.
         gives_told os done w v came (os ++ more) done' [] (owed_none_more os (os ++ more) came [] refl (All-weaker (IsOurs gs slave) (λ n. owed_for n (os ++ more) ≡ owed_for n os) same_owed came d.ours))
         (λ a. over_same done done' came (passings w.lead.lived.life) (passings v.lead.lived.life) (All-weaker (IsOurs gs slave) (λ n. done' n ≡ done n) besides.ended came d.ours) a over) heard all;
@@ -84,7 +85,7 @@ module _ (lens : ℕ → Lens) (recover retry : ℕ) (gives : Bool) (made : ℕ)
     pub opened : (p : Passed) → v.hand ≡ Some p → v.turn.lived.life.stand ≡ Stand.Open
     pub own : TellsSo (behind Pass)
     pub all : (p : Passed) → v.hand ≡ Some p → (x : Passing) → v.turn.lived.life.era.passing ≡ Some x → (behind Pass).lead.lived.life.era.passing ≡ None → AreAll (p.told ++ replies_in v.turn.lived.life.era.passing accepted)
-    pub gone : WasGivenUp before → WasGivenUp (behind Pass)
+    pub gave : gave_of (behind Pass).lead ≡ gave_of before.lead
     pub apart : AreApart rs
     pub besides : OwesBesides gs slave os more rs tells done done'
     pub ours : All (λ (r : Request). IsOurs gs slave r.gram) rs
@@ -111,7 +112,7 @@ module _ (lens : ℕ → Lens) (recover retry : ℕ) (gives : Bool) (made : ℕ)
         hand = e;
         behind = hand_is;
         stay = stay;
-        gone = k.gone;
+        gave = k.gave;
         own = k.own (record p { told = p.told ++ new }) hand_is;
         owes = subst (λ l. OwesBesides gs slave os more rs l done done') t k.besides;
         ours = k.ours;
@@ -148,7 +149,7 @@ module _ (lens : ℕ → Lens) (recover retry : ℕ) (gives : Bool) (made : ℕ)
     by_hand None e =
         let quiet : tells ≡ [] = ap (λ h. life_told h accepted v.turn.lived.life (behind Pass).lead.lived.life) e in
         subst (Told []) (sym (ap (λ l. left_by_all l rs) quiet))
-        (tells_none gs slave before (behind Pass) os more came rs done done' e (ap (told_on v.turn.lived.life.era.passing accepted) e) refl stay k.gone (subst (λ l. OwesBesides gs slave os more rs l done done') quiet k.besides) k.ours d)
+        (tells_none gs slave before (behind Pass) os more came rs done done' e (ap (told_on v.turn.lived.life.era.passing accepted) e) refl stay k.gave (subst (λ l. OwesBesides gs slave os more rs l done done') quiet k.besides) k.ours d)
     by_hand (Some p) e = by_passing p e v.turn.lived.life.era.passing refl (behind Pass).lead.lived.life.era.passing refl
 
     pub slave_back : Told (told_besides v.hand v.turn.lived.life.era.passing accepted) (left_by_all tells rs)

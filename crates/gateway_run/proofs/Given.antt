@@ -1,7 +1,9 @@
 -- WHAT IS TOLD OF THE MAIL IN HAND OF A SLAVE, and a give-up of that slave, as its desk has it.
-use Rattle.std.proofs.Common.{◌≡◌, ℕ, suc, Bool, true, false, inl, inr, Option, Some, None, List, [], ◌∷◌, ◌++◌, length, refl, sym, ap, ◌∙◌, subst, append-nil, append_assoc, length-append, arith}
+use Rattle.std.proofs.Common.{◌≡◌, ◌<◌, ◌≤◌, ◌⊎◌, ℕ, suc, Bool, true, false, inr, Option, Some, None, List, [], ◌∷◌, ◌++◌, length, refl, sym, ap, ◌∙◌, subst, append-nil, append_assoc, length-append, arith}
 use Rattle.std.specs.Prelude.{cond, filter, slice_get, All, Ok, Err}
-use Rattle.std.proofs.lemmas.List.Elements.{All-nil, All-cons, filter-append}
+use Rattle.std.proofs.lemmas.List.Elements.{All-nil, All-cons, All-push, filter-append}
+use Rattle.std.proofs.lemmas.List.Quantifiers.{Any-push}
+use Rattle.master_node.specs.Wants.{gave_of}
 use Rattle.master_node.specs.of_life_frames.of_exchange_model.Rows.{Row}
 use Rattle.gateway_core.specs.Framing.{request_in}
 use Rattle.served_places.specs.Rows.{Stays, eras_rows, is_passed_row, passed_rows}
@@ -20,9 +22,11 @@ use Rattle.master_node.specs.of_segment_model.Seats.{newest}
 use Rattle.run_book.specs.declared.book.GramIn.{GramIn}
 use Rattle.gateway_run.specs.Account.{Owing}
 use Rattle.gateway_run.specs.Rooms.{AreRising, grams_of, owed_for}
-use Rattle.gateway_run.specs.Replies.{Fares, Fares.dropped, Fares.replies, Fares.waits, HasRow, IsDesk, IsFor, IsNew, IsNewest, IsSame, StandsSo, WasGivenUp, keyed_in, mails_told}
+use Rattle.gateway_run.specs.Replies.{Fares, Fares.dropped, Fares.replies, Fares.waits, HasRow, IsDesk, IsFor, IsNew, IsNewest, IsSame, StandsSo, keyed_in, mails_told}
+use Rattle.gateway_run.specs.Since.{GaveSince, NoneSince, SparedBetween}
 use Rattle.gateway_run.specs.declared.desk.Request.{Request}
-use Rattle.gateway_run.proofs.Hands.{all_in, among_at, at_last, both_many, late_stays, rises_apart, rises_first, row_stays}
+use Rattle.gateway_run.proofs.Befores.{AreBegun}
+use Rattle.gateway_run.proofs.Hands.{KeepsRow, all_got, all_in, among_at, at_last, both_many, late_stays, replies_same, rises_apart, rises_first, row_alone, row_same}
 
 pub told_append : (as' bs : List Body) → mails_told (as' ++ bs) ≡ mails_told as' ++ mails_told bs
 told_append [] bs = refl
@@ -83,25 +87,38 @@ module _ (gs : List GramIn) (slave : ℕ) (w v : Serves) (came : List ℕ) (wait
     late = late_stays gs came (passed_rows w.lead.lived.life) (passed_rows v.lead.lived.life) d.late stay;
   }
 
-  pub fares_gone : (done : Bool) (number : ℕ) (asked : Mail) (mails mails' : List Mail) → WasGivenUp v → AllBoth Stays (passed_rows w.lead.lived.life) (passed_rows v.lead.lived.life) → IsDesk gs os slave w came waiting begun →
+  pub fares_gone : (made : ℕ) (done : Bool) (number heard : ℕ) (asked : Mail) (mails mails' : List Mail) → gave_of v.lead ≡ gave_of w.lead ++ made ∷ [] → heard ≤ made →
+      AreBegun (suc made) (passed_rows w.lead.lived.life) → AllBoth Stays (passed_rows w.lead.lived.life) (passed_rows v.lead.lived.life) → IsDesk gs os slave w came waiting begun →
       (is_in number (grams_of waiting) ≡ true → mails' ≡ mails ++ error_of 5 ∷ []) → (is_in number (grams_of waiting) ≡ false → mails' ≡ mails) →
-      Fares w came waiting begun done number asked mails → Fares v came [] [] done number asked mails'
-  fares_gone done number asked mails mails' given stay d here there (waits a b c) = dropped refl refl (not_came (is_in number came) refl) b given (here a ∙ ap (λ l. l ++ error_of 5 ∷ []) c)
+      Fares w came waiting begun done number heard asked mails → Fares v came [] [] done number heard asked mails'
+  fares_gone made done number heard asked mails mails' given due early stay d here there f = by f
     where
-      not_came : (z : Bool) → is_in number came ≡ z → z ≡ false
-      not_came false e = refl
-      not_came true e = absurd (let bad : true ≡ false = sym a ∙ rises_apart number came (grams_of waiting) d.rising e in cc)
-  fares_gone done number asked mails mails' given stay d here there (dropped a b c e f h) = dropped refl refl c e given (there a ∙ h)
-  fares_gone done number asked mails mails' given stay d here there (replies told row stands same) =
-      replies told (subst (λ ns. HasRow v ns number asked told) (append-nil came) (row_stays w v came [] number asked told [] (subst (λ rs. AllBoth Stays rs (passed_rows v.lead.lived.life)) (sym (append-nil (passed_rows w.lead.lived.life))) stay) row))
-      (stands_so done stands) (there (not_waiting (is_in number (grams_of waiting)) refl) ∙ same)
-    where
-      stands_so : (z : Bool) → StandsSo w begun number told z → StandsSo v [] number told z
-      stands_so true s = s
-      stands_so false s = inr given
+      -- it was given up since
+      since : (frame : ℕ) → frame ≤ made → GaveSince frame (gave_of v.lead)
+      since frame less = subst (GaveSince frame) (sym given) (Any-push (λ (at : ℕ). frame ≤ at) (gave_of w.lead) made less)
 
-      not_waiting : (z : Bool) → is_in number (grams_of waiting) ≡ z → is_in number (grams_of waiting) ≡ false
-      not_waiting z e = rises_apart number came (grams_of waiting) d.rising (among_at number came row.index row.its)
+      not_came : is_in number (grams_of waiting) ≡ true → (z : Bool) → is_in number came ≡ z → z ≡ false
+      not_came a false e = refl
+      not_came a true e = absurd (let bad : true ≡ false = sym a ∙ rises_apart number came (grams_of waiting) d.rising e in cc)
+
+      by : Fares w came waiting begun done number heard asked mails → Fares v came [] [] done number heard asked mails'
+      by (waits a b none c) = dropped refl refl (not_came a (is_in number came) refl) b (since heard due) (here a ∙ ap (λ l. l ++ error_of 5 ∷ []) c)
+      by (dropped a b c e before h) = dropped refl refl c e (since heard due) (there a ∙ h)
+      by (replies told row spared stands same) =
+          replies told kept.its
+          (subst (SparedBetween heard kept.its.row.frame) (sym given) (All-push (λ (at : ℕ). (at < heard) ⊎ (kept.its.row.frame ≤ at)) (gave_of w.lead) made (subst (λ n. SparedBetween heard n (gave_of w.lead)) (sym kept.frame) spared) (inr began)))
+          (stands_so done stands) (there (rises_apart number came (grams_of waiting) d.rising (among_at number came row.index row.its)) ∙ same)
+        where
+          kept : KeepsRow v came number asked told row.row.frame
+          kept = row_same w v came number asked told stay row
+
+          -- its mail came into hand before
+          began : kept.its.row.frame ≤ made
+          began = (let less : row.row.frame < suc made = all_got (λ (r : Row Body Asked Reply). r.frame < suc made) (passed_rows w.lead.lived.life) row.index row.row early row.is in let same = kept.frame in omega (arith, less, same))
+
+          stands_so : (z : Bool) → StandsSo w begun number row.row.frame told z → StandsSo v [] number kept.its.row.frame told z
+          stands_so true s = s
+          stands_so false s = inr (since kept.its.row.frame began)
 
 -- THE ROW OF THE MAIL IN HAND is the last of those that were passed on
 pub last_same : {T : Type 0} (xs ys : List T) (x y : T) → xs ++ x ∷ [] ≡ ys ++ y ∷ [] → (x ≡ y) × (length xs ≡ length ys)
@@ -128,8 +145,9 @@ passed_last l row e p = (
 )
 
 module _ (gs : List GramIn) (slave : ℕ) (v : Serves) (came : List ℕ) (os : List Owing) (p q : Passed) where
-  pub newest_row : (n : IsNewest gs slave came os p) → q.mail ≡ p.mail → length came ≡ length (passed_rows v.lead.lived.life) → TellsOwn q v.lead.lived.life.era.passing v.lead.lived.life.era.side.now → HasRow v came n.number n.asked q.told
-  newest_row n mail many t =
+  newest_row : (n : IsNewest gs slave came os p) (number : ℕ) (asked : Mail) → number ≡ n.number → n.asked ≡ asked → q.mail ≡ p.mail → length came ≡ length (passed_rows v.lead.lived.life) →
+      TellsOwn q v.lead.lived.life.era.passing v.lead.lived.life.era.side.now → HasRow v came number asked q.told
+  newest_row n number asked number_is asked_is mail many t =
       let last = passed_last v.lead.lived.life t.row t.is (ap is_passed t.service) in
       let place : length n.before ≡ length last.0 = (
       let a = ap length n.last ∙ length-append n.before (n.number ∷ []) in
@@ -138,11 +156,11 @@ module _ (gs : List GramIn) (slave : ℕ) (v : Serves) (came : List ℕ) (os : L
       omega (arith, a, b, c)) in
       record {
         index = length n.before;
-        its = ap (λ ns. slice_get ns (length n.before)) n.last ∙ at_last n.before n.number;
+        its = ap (λ ns. slice_get ns (length n.before)) n.last ∙ at_last n.before n.number ∙ ap Some (sym number_is);
         row = t.row;
         is = ap (λ rs. slice_get rs (length n.before)) last.1 ∙ ap (slice_get (last.0 ++ t.row ∷ [])) place ∙ at_last last.0 t.row;
         mail = q.mail;
-        same = subst (IsSame n.asked) (sym mail) n.same;
+        same = subst (λ m. IsSame m q.mail) asked_is (subst (IsSame n.asked) (sym mail) n.same);
         service = t.service;
         rest = t.rest;
         heard = t.heard;
@@ -169,10 +187,11 @@ module _ (gs : List GramIn) (slave : ℕ) (w v : Serves) (came : List ℕ) (wait
       go (r ∷ (s ∷ rs)) (k ∷ (l ∷ ks)) a f few = absurd (few k l ks refl)
 
   pub fares_told : IsTold gs slave w v came waiting begun left p new os more → IsDesk gs os slave w came waiting begun → (done done' : Bool) (number : ℕ) (asked : Mail) (gram : GramIn) → slice_get gs number ≡ Some gram → request_in gram.bytes ≡ Ok asked →
-      (WasGivenUp w → WasGivenUp v) → TellsOwn (record p { told = p.told ++ new }) v.lead.lived.life.era.passing v.lead.lived.life.era.side.now →
-      (is_in number (grams_of begun) ≡ true → StandsSo v left number (p.told ++ new) done') → (is_in number (grams_of begun) ≡ false → (owed_for number (os ++ more) ≡ owed_for number os) × (done' ≡ done) × (is_in number (grams_of left) ≡ false)) →
-      Fares w came waiting begun done number asked (owed_for number os) → Fares v came waiting left done' number asked (owed_for number (os ++ more))
-  fares_told t d done done' number asked gram there request gone own here off f = by f (is_in number (grams_of begun)) refl
+      gave_of v.lead ≡ gave_of w.lead → TellsOwn (record p { told = p.told ++ new }) v.lead.lived.life.era.passing v.lead.lived.life.era.side.now →
+      ((began : ℕ) (told : List Body) → is_in number (grams_of begun) ≡ true → StandsSo w begun number began told done → StandsSo v left number began (p.told ++ new) done') →
+      (is_in number (grams_of begun) ≡ false → (owed_for number (os ++ more) ≡ owed_for number os) × (done' ≡ done) × (is_in number (grams_of left) ≡ false)) →
+      Fares w came waiting begun done number gram.frame asked (owed_for number os) → Fares v came waiting left done' number gram.frame asked (owed_for number (os ++ more))
+  fares_told t d done done' number asked gram there request gave own here off f = by f (is_in number (grams_of begun)) refl
     where
       last : IsNewest gs slave came os p
       last = d.newest p t.hand
@@ -190,26 +209,30 @@ module _ (gs : List GramIn) (slave : ℕ) (w v : Serves) (came : List ℕ) (wait
           let both : Ok last.asked ≡ Ok asked = sym last.request ∙ ap (λ (z : GramIn). request_in z.bytes) g ∙ request in
           cc
 
-      in_hand : is_in number (grams_of begun) ≡ true → Fares v came waiting left done' number asked (owed_for number (os ++ more))
-      in_hand e =
-          replies (p.told ++ new)
-          (subst (λ n. HasRow v came n asked (p.told ++ new)) (sym (its e)) (subst (λ m. HasRow v came last.number m (p.told ++ new)) (same_asked e)
-          (newest_row gs slave v came os p (record p { told = p.told ++ new }) last refl (d.many ∙ both_many Stays (passed_rows w.lead.lived.life) (passed_rows v.lead.lived.life) t.stay) own)))
-          (here e)
+      -- its row is the newest
+      in_hand : is_in number (grams_of begun) ≡ true → (told : List Body) (row : HasRow w came number asked told) → SparedBetween gram.frame row.row.frame (gave_of w.lead) → StandsSo w begun number row.row.frame told done →
+          Fares v came waiting left done' number gram.frame asked (owed_for number (os ++ more))
+      in_hand e told row spared stands =
+          replies (p.told ++ new) now
+          (subst (λ n. SparedBetween gram.frame n (gave_of v.lead)) (sym began) (subst (SparedBetween gram.frame row.row.frame) (sym gave) spared))
+          (subst (λ n. StandsSo v left number n (p.told ++ new) done') (sym began) (here row.row.frame told e stands))
           (ap (λ n. owed_for n (os ++ more)) (its e) ∙ t.owed last ∙ ap (λ l. l ++ mails_told new) last.owed ∙ sym (told_append p.told new))
-
-      by : Fares w came waiting begun done number asked (owed_for number os) → (b : Bool) → is_in number (grams_of begun) ≡ b → Fares v came waiting left done' number asked (owed_for number (os ++ more))
-      by (waits a b c) true e = absurd (let bad : true ≡ false = sym a ∙ not_waiting e in cc)
-      by (waits a b c) false e = (let o = off e in waits a (o.1 ∙ b) (o.0 ∙ c))
-      by (dropped a b c x y z) true e = absurd (let bad : true ≡ false = sym e ∙ b in cc)
-      by (dropped a b c x y z) false e = (let o = off e in dropped a o.2 c (o.1 ∙ x) (gone y) (o.0 ∙ z))
-      by (replies told row stands same) true e = in_hand e
-      by (replies told row stands same) false e =
-          let o = off e in
-          replies told (subst (λ ns. HasRow v ns number asked told) (append-nil came) (row_stays w v came [] number asked told [] (subst (λ rs. AllBoth Stays rs (passed_rows v.lead.lived.life)) (sym (append-nil (passed_rows w.lead.lived.life))) t.stay) row))
-          (subst (StandsSo v left number told) (sym o.1) (stands_so done stands)) (o.0 ∙ same)
         where
-          stands_so : (z : Bool) → StandsSo w begun number told z → StandsSo v left number told z
-          stands_so true s = s
-          stands_so false (inl h) = absurd (let bad : true ≡ false = sym h ∙ e in cc)
-          stands_so false (inr given) = inr (gone given)
+          now : HasRow v came number asked (p.told ++ new)
+          now = newest_row gs slave v came os p (record p { told = p.told ++ new }) last number asked (its e) (same_asked e) refl (d.many ∙ both_many Stays (passed_rows w.lead.lived.life) (passed_rows v.lead.lived.life) t.stay) own
+
+          began : now.row.frame ≡ row.row.frame
+          began = (let kept = row_same w v came number asked told t.stay row in
+              ap (λ (r : Row Body Asked Reply). r.frame) (row_alone v came number asked asked (p.told ++ new) told (rises_first came (grams_of waiting) d.rising) now kept.its) ∙ kept.frame)
+
+      by : Fares w came waiting begun done number gram.frame asked (owed_for number os) → (b : Bool) → is_in number (grams_of begun) ≡ b → Fares v came waiting left done' number gram.frame asked (owed_for number (os ++ more))
+      by (waits a b none c) true e = absurd (let bad : true ≡ false = sym a ∙ not_waiting e in cc)
+      by (waits a b none c) false e = (let o = off e in waits a (o.1 ∙ b) (subst (NoneSince gram.frame) (sym gave) none) (o.0 ∙ c))
+      by (dropped a b c x given z) true e = absurd (let bad : true ≡ false = sym e ∙ b in cc)
+      by (dropped a b c x given z) false e = (let o = off e in dropped a o.2 c (o.1 ∙ x) (subst (GaveSince gram.frame) (sym gave) given) (o.0 ∙ z))
+      by (replies told row spared stands same) true e = in_hand e told row spared stands
+      by (replies told row spared stands same) false e =
+          let o = off e in
+          subst (λ z. Fares v came waiting left z number gram.frame asked (owed_for number (os ++ more))) (sym o.1)
+          (replies_same w v came came waiting begun left done number gram.frame asked (owed_for number (os ++ more)) told row (row_same w v came number asked told t.stay row) gave
+          (λ h. absurd (let bad : true ≡ false = sym h ∙ e in cc)) spared stands (o.0 ∙ same))

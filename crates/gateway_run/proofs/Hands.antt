@@ -1,7 +1,8 @@
 -- WHAT COMES INTO HAND OF A SLAVE, AND WHAT IS TOLD OF IT, as its desk has it.
-use Rattle.std.proofs.Common.{◌≡◌, ℕ, zero, suc, ◌<◌, ◌≤◌, Bool, true, false, inl, inr, Option, Some, None, List, [], ◌∷◌, ◌++◌, length, refl, sym, ap, ◌∙◌, subst, eq-eqb, eqb-true, append-nil, append_assoc, arith}
+use Rattle.std.proofs.Common.{◌≡◌, ℕ, zero, suc, ◌<◌, ◌≤◌, Bool, true, false, inl, inr, Option, Some, None, List, [], ◌∷◌, ◌++◌, length, refl, sym, ap, ◌∙◌, subst, eq-eqb, eqb-true, append_assoc, arith}
 use Rattle.std.specs.Prelude.{◌==◌, if◌then◌else◌, slice_get, All}
 use Rattle.std.proofs.lemmas.List.Elements.{All-nil, All-head, All-tail, All-cons, All-push, All-weaker}
+use Rattle.master_node.specs.Wants.{gave_of}
 use Rattle.master_node.specs.of_life_frames.of_exchange_model.Exchange.{plain}
 use Rattle.master_node.specs.of_life_frames.of_exchange_model.Rows.{Row}
 use Rattle.served_places.proofs.of_exchange_model.Words.{plain-append}
@@ -17,7 +18,8 @@ use Rattle.master_node.specs.of_master_tour.Made.{is_in}
 use Rattle.run_book.specs.declared.book.GramIn.{GramIn}
 use Rattle.gateway_run.specs.Account.{Owing}
 use Rattle.gateway_run.specs.Rooms.{AreRising, grams_of}
-use Rattle.gateway_run.specs.Replies.{Fares, Fares.dropped, Fares.replies, Fares.waits, HasRow, IsDesk, IsFor, IsLate, StandsSo, WasGivenUp, keyed_in}
+use Rattle.gateway_run.specs.Replies.{Fares, Fares.dropped, Fares.replies, Fares.waits, HasRow, IsDesk, IsFor, IsLate, StandsSo, keyed_in, mails_told}
+use Rattle.gateway_run.specs.Since.{GaveSince, NoneSince, SparedBetween}
 use Rattle.gateway_run.specs.declared.desk.Request.{Request}
 use Rattle.gateway_run.proofs.Accounts.{get_on}
 
@@ -70,6 +72,14 @@ all_left P (n ∷ ns) ms a = All-cons P n ns (All-head P n (ns ++ ms) a) (all_le
 pub rises_first : (ns ms : List ℕ) → AreRising (ns ++ ms) → AreRising ns
 rises_first [] ms r = tt
 rises_first (n ∷ ns) ms r = (all_left (λ m. n < m) ns ms r.0, rises_first ns ms r.1)
+
+-- of numbers that rise each stands at one place
+rises_at : (ns : List ℕ) (i j n : ℕ) → AreRising ns → slice_get ns i ≡ Some n → slice_get ns j ≡ Some n → i ≡ j
+rises_at [] i j n r a b = absurd (cc)
+rises_at (m ∷ ns) zero zero n r a b = refl
+rises_at (m ∷ ns) zero (suc j) n r a b = absurd (let less : m < n = all_got (λ k. m < k) ns j n r.0 b in let same : m ≡ n = cc in omega (arith, less, same))
+rises_at (m ∷ ns) (suc i) zero n r a b = absurd (let less : m < n = all_got (λ k. m < k) ns i n r.0 a in let same : m ≡ n = cc in omega (arith, less, same))
+rises_at (m ∷ ns) (suc i) (suc j) n r a b = ap suc (rises_at ns i j n r.1 a b)
 
 -- one that is among these
 pub in_head : (n m : ℕ) (b : Bool) → (n == m) ≡ b → (ns : List ℕ) → is_in n (m ∷ ns) ≡ (if b then true else is_in n ns)
@@ -135,22 +145,67 @@ pub at_last : {T : Type 0} (xs : List T) (y : T) → slice_get (xs ++ y ∷ []) 
 at_last [] y = refl
 at_last (x ∷ xs) y = at_last xs y
 
--- THE ROW OF A DATAGRAM stays its row
+-- THE ROW OF A DATAGRAM stays its row, and began when it did
+pub record KeepsRow (v : Serves) (came : List ℕ) (number : ℕ) (asked : Mail) (told : List Body) (began : ℕ) : Type 0 where
+  pub its : HasRow v came number asked told
+  pub frame : its.row.frame ≡ began
+
+row_kept : (w v : Serves) (came now : List ℕ) (number : ℕ) (asked : Mail) (told : List Body) (h : HasRow w came number asked told) → slice_get now h.index ≡ Some number →
+    (row : Row Body Asked Reply) → slice_get (passed_rows v.lead.lived.life) h.index ≡ Some row → Stays h.row row → KeepsRow v now number asked told h.row.frame
+row_kept w v came now number asked told h its row is stays = record {
+  its = record {
+    index = h.index;
+    its = its;
+    row = row;
+    is = is;
+    mail = h.mail;
+    same = h.same;
+    service = stays.service ∙ h.service;
+    rest = h.rest ++ plain emission stays.more;
+    heard = ap (plain emission) stays.heard ∙ plain-append emission h.row.heard stays.more ∙ ap (λ l. l ++ plain emission stays.more) h.heard ∙ append_assoc told h.rest (plain emission stays.more);
+  };
+  frame = stays.frame;
+}
+
 pub row_stays : (w v : Serves) (came more : List ℕ) (number : ℕ) (asked : Mail) (told : List Body) (rows : List (Row Body Asked Reply)) → AllBoth Stays (passed_rows w.lead.lived.life ++ rows) (passed_rows v.lead.lived.life) →
-    HasRow w came number asked told → HasRow v (came ++ more) number asked told
+    (h : HasRow w came number asked told) → KeepsRow v (came ++ more) number asked told h.row.frame
 row_stays w v came more number asked told rows stay h =
     let at = both_at Stays (passed_rows w.lead.lived.life ++ rows) (passed_rows v.lead.lived.life) h.index h.row stay (get_on (passed_rows w.lead.lived.life) rows h.index h.row h.is) in
-    record {
-      index = h.index;
-      its = get_on came more h.index number h.its;
-      row = at.0;
-      is = at.1;
-      mail = h.mail;
-      same = h.same;
-      service = at.2.service ∙ h.service;
-      rest = h.rest ++ plain emission at.2.more;
-      heard = ap (plain emission) at.2.heard ∙ plain-append emission h.row.heard at.2.more ∙ ap (λ l. l ++ plain emission at.2.more) h.heard ∙ append_assoc told h.rest (plain emission at.2.more);
-    }
+    row_kept w v came (came ++ more) number asked told h (get_on came more h.index number h.its) at.0 at.1 at.2
+
+pub row_same : (w v : Serves) (came : List ℕ) (number : ℕ) (asked : Mail) (told : List Body) → AllBoth Stays (passed_rows w.lead.lived.life) (passed_rows v.lead.lived.life) →
+    (h : HasRow w came number asked told) → KeepsRow v came number asked told h.row.frame
+row_same w v came number asked told stay h =
+    let at = both_at Stays (passed_rows w.lead.lived.life) (passed_rows v.lead.lived.life) h.index h.row stay h.is in
+    row_kept w v came came number asked told h h.its at.0 at.1 at.2
+
+-- and it has one alone
+pub row_alone : (v : Serves) (came : List ℕ) (number : ℕ) (asked asked' : Mail) (told told' : List Body) → AreRising came → (a : HasRow v came number asked told) (b : HasRow v came number asked' told') → a.row ≡ b.row
+row_alone v came number asked asked' told told' rising a b =
+    let place : a.index ≡ b.index = rises_at came a.index b.index number rising a.its b.its in
+    let same : Some a.row ≡ Some b.row = sym a.is ∙ ap (slice_get (passed_rows v.lead.lived.life)) place ∙ b.is in
+    cc
+
+-- WHERE THE SLAVE WASN'T GIVEN UP MEANWHILE its row stands as it did, while its request is left
+pub stands_same : (w v : Serves) (begun left : List Request) (number began : ℕ) (told : List Body) (done : Bool) → gave_of v.lead ≡ gave_of w.lead → (is_in number (grams_of begun) ≡ true → is_in number (grams_of left) ≡ true) →
+    StandsSo w begun number began told done → StandsSo v left number began told done
+stands_same w v begun left number began told true same still s = s
+stands_same w v begun left number began told false same still (inl here) = inl (still here.0, subst (NoneSince began) (sym same) here.1)
+stands_same w v begun left number began told false same still (inr given) = inr (subst (GaveSince began) (sym same) given)
+
+-- one that isn't done does whatever is told of it
+pub stands_undone : (w v : Serves) (begun left : List Request) (number began : ℕ) (told more : List Body) (done done' : Bool) → done ≡ false → done' ≡ false → gave_of v.lead ≡ gave_of w.lead → (is_in number (grams_of begun) ≡ true → is_in number (grams_of left) ≡ true) →
+    StandsSo w begun number began told done → StandsSo v left number began more done'
+stands_undone w v begun left number began told more done done' undone off same still s =
+    subst (StandsSo v left number began more) (sym off) (stands_same w v begun left number began told false same still (subst (StandsSo w begun number began told) undone s))
+
+-- so it has the first of its replies
+pub replies_same : (w v : Serves) (came now : List ℕ) (waiting begun left : List Request) (done : Bool) (number heard : ℕ) (asked : Mail) (mails : List Mail) (told : List Body) (row : HasRow w came number asked told) → KeepsRow v now number asked told row.row.frame →
+    gave_of v.lead ≡ gave_of w.lead → (is_in number (grams_of begun) ≡ true → is_in number (grams_of left) ≡ true) → SparedBetween heard row.row.frame (gave_of w.lead) → StandsSo w begun number row.row.frame told done → mails ≡ mails_told told →
+    Fares v now waiting left done number heard asked mails
+replies_same w v came now waiting begun left done number heard asked mails told row kept same still spared stands are =
+    replies told kept.its (subst (λ n. SparedBetween heard n (gave_of v.lead)) (sym kept.frame) (subst (SparedBetween heard row.row.frame) (sym same) spared))
+    (subst (λ n. StandsSo v left number n told done) (sym kept.frame) (stands_same w v begun left number row.row.frame told done same still stands)) are
 
 -- NOTHING COMES INTO HAND, or a service of its own: its desk stays, where what is passed on stays
 pub keyed_none : (hand : Option Passed) → keyed_in hand None ≡ []
@@ -172,15 +227,9 @@ module _ (gs : List GramIn) (slave : ℕ) (w v : Serves) (came : List ℕ) (wait
     late = late_stays gs came (passed_rows w.lead.lived.life) (passed_rows v.lead.lived.life) d.late stay;
   }
 
-  pub fares_same : (done : Bool) (number : ℕ) (asked : Mail) (mails : List Mail) → (WasGivenUp w → WasGivenUp v) → AllBoth Stays (passed_rows w.lead.lived.life) (passed_rows v.lead.lived.life) →
-      Fares w came waiting begun done number asked mails → Fares v came waiting begun done number asked mails
-  fares_same done number asked mails gone stay (waits a b c) = waits a b c
-  fares_same done number asked mails gone stay (dropped a b c d e f) = dropped a b c d (gone e) f
-  fares_same done number asked mails gone stay (replies told row stands same) =
-      replies told (subst (λ ns. HasRow v ns number asked told) (append-nil came) (row_stays w v came [] number asked told [] (subst (λ rs. AllBoth Stays rs (passed_rows v.lead.lived.life)) (sym (append-nil (passed_rows w.lead.lived.life))) stay) row))
-      (stands_so done stands) same
-    where
-      stands_so : (z : Bool) → StandsSo w begun number told z → StandsSo v begun number told z
-      stands_so true s = s
-      stands_so false (inl here) = inl here
-      stands_so false (inr given) = inr (gone given)
+  pub fares_same : (done : Bool) (number heard : ℕ) (asked : Mail) (mails : List Mail) → gave_of v.lead ≡ gave_of w.lead → AllBoth Stays (passed_rows w.lead.lived.life) (passed_rows v.lead.lived.life) →
+      Fares w came waiting begun done number heard asked mails → Fares v came waiting begun done number heard asked mails
+  fares_same done number heard asked mails same stay (waits a b none c) = waits a b (subst (NoneSince heard) (sym same) none) c
+  fares_same done number heard asked mails same stay (dropped a b c d given f) = dropped a b c d (subst (GaveSince heard) (sym same) given) f
+  fares_same done number heard asked mails same stay (replies told row spared stands are) =
+      replies_same w v came came waiting begun begun done number heard asked mails told row (row_same w v came number asked told stay row) same (λ here. here) spared stands are

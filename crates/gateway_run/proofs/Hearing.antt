@@ -1,5 +1,5 @@
 -- A DATAGRAM MORE OF A SERVING: its desks and its datagrams behind that.
-use Rattle.std.proofs.Common.{◌≡◌, ◌<◌, ◌≤◌, ℕ, zero, suc, ◌+◌, Bool, true, false, inl, inr, Some, List, [], ◌∷◌, ◌++◌, length, map, refl, sym, ap, ◌∙◌, subst, append-nil, append_assoc, length-append, eq-eqb, eqb-true, arith}
+use Rattle.std.proofs.Common.{◌≡◌, ◌<◌, ◌≤◌, ℕ, zero, suc, ◌+◌, Bool, true, false, Some, List, [], ◌∷◌, ◌++◌, length, map, refl, sym, ap, ◌∙◌, subst, append-nil, append_assoc, length-append, eq-eqb, eqb-true, arith}
 use Rattle.std.specs.Prelude.{◌≢◌, ◌==◌, ◌&&◌, cond, filter, if◌then◌else◌, not, slice_get, slice_index_or, All}
 use Rattle.std.proofs.lemmas.List.{map-append}
 use Rattle.std.proofs.lemmas.List.Elements.{All-nil, All-append, All-cons, All-head, All-map, All-push, All-tail, All-weaker, filter-append}
@@ -7,6 +7,7 @@ use Rattle.served_places.specs.Rows.{ToldAll, passed_rows}
 use Rattle.served_places.specs.of_served_runs.Served.{Keyed, Serves, asked_at}
 use Rattle.served_places.specs.of_served_runs.Told.{Passed}
 use Rattle.mailbox_mail.specs.declared.mail.Mail.{Mail}
+use Rattle.master_node.specs.Wants.{gave_of}
 use Rattle.master_node.specs.of_life_frames.Shares.{AllBoth}
 use Rattle.master_node.specs.of_life_frames.of_exchange_model.Rows.{Row}
 use Rattle.master_node.specs.of_life_runs.of_link_mails.Body.{Body}
@@ -16,11 +17,12 @@ use Rattle.master_node.specs.of_master_tour.Made.{is_in}
 use Rattle.run_book.specs.declared.book.GramIn.{GramIn}
 use Rattle.gateway_run.specs.Account.{Owing, waits_at}
 use Rattle.gateway_run.specs.Rooms.{AreRising, begun_of, grams_of, has_begun, owed_for, waiting_of}
-use Rattle.gateway_run.specs.Replies.{AllDesk, Fares, Fares.dropped, Fares.replies, Fares.waits, HasRow, IsDesk, IsFor, IsHeard, IsLate, IsNew, IsNewest, IsOurs, StandsSo, keyed_in}
+use Rattle.gateway_run.specs.Replies.{AllDesk, Fares, Fares.dropped, Fares.replies, Fares.waits, HasRow, IsDesk, IsFor, IsHeard, IsLate, IsNew, IsNewest, IsOurs, keyed_in}
+use Rattle.gateway_run.specs.Since.{GaveSince, NoneSince, SparedBetween}
 use Rattle.gateway_run.specs.declared.desk.Request.{Request}
 use Rattle.gateway_run.proofs.Accounts.{get_on}
 use Rattle.gateway_run.proofs.Comes.{known_at, ours_known}
-use Rattle.gateway_run.proofs.Hands.{both_push, in_head, rises_on}
+use Rattle.gateway_run.proofs.Hands.{both_push, in_head, rises_on, stands_same}
 use Rattle.gateway_run.proofs.Rooms.{not_same}
 
 -- NUMBERS BELOW
@@ -207,9 +209,9 @@ module _ (gs : List GramIn) (g : GramIn) (os more : List Owing) (quiet : (n : �
         )
 
     -- WHAT AN EARLIER DATAGRAM GOT
-    pub fares_asked : (j n : ℕ) (w u : Serves) (came : List ℕ) (done : Bool) (asked : Mail) (mails : List Mail) → u.lead ≡ w.lead → n < length gs → Fares w came (waiting_of j rs) (begun_of j rs) done n asked mails →
-        Fares u came (waiting_of j (rs ++ r ∷ [])) (begun_of j (rs ++ r ∷ [])) done n asked mails
-    fares_asked j n w u came done asked mails lead less fares = by fares
+    pub fares_asked : (j n heard : ℕ) (w u : Serves) (came : List ℕ) (done : Bool) (asked : Mail) (mails : List Mail) → u.lead ≡ w.lead → n < length gs → Fares w came (waiting_of j rs) (begun_of j rs) done n heard asked mails →
+        Fares u came (waiting_of j (rs ++ r ∷ [])) (begun_of j (rs ++ r ∷ [])) done n heard asked mails
+    fares_asked j n heard w u came done asked mails lead less fares = by fares
       where
         same_in : is_in n (grams_of (waiting_of j (rs ++ r ∷ []))) ≡ is_in n (grams_of (waiting_of j rs))
         same_in = go (r.slave == j) refl
@@ -221,8 +223,8 @@ module _ (gs : List GramIn) (g : GramIn) (os more : List Owing) (quiet : (n : �
         begun_is : begun_of j (rs ++ r ∷ []) ≡ begun_of j rs
         begun_is = begun_same j rs r new
 
-        gone : w.lead.lived.life.gave ≢ [] → u.lead.lived.life.gave ≢ []
-        gone h e = h (sym (ap (λ z. z.lived.life.gave) lead) ∙ e)
+        gave : gave_of u.lead ≡ gave_of w.lead
+        gave = ap (λ z. gave_of z) lead
 
         row_is : (told : List Body) → HasRow w came n asked told → HasRow u came n asked told
         row_is told row = record {
@@ -237,12 +239,9 @@ module _ (gs : List GramIn) (g : GramIn) (os more : List Owing) (quiet : (n : �
           heard = row.heard;
         }
 
-        stands_so : (told : List Body) (z : Bool) → StandsSo w (begun_of j rs) n told z → StandsSo u (begun_of j (rs ++ r ∷ [])) n told z
-        stands_so told true s = s
-        stands_so told false (inl here) = inl (ap (λ l. is_in n (grams_of l)) begun_is ∙ here)
-        stands_so told false (inr given) = inr (gone given)
-
-        by : Fares w came (waiting_of j rs) (begun_of j rs) done n asked mails → Fares u came (waiting_of j (rs ++ r ∷ [])) (begun_of j (rs ++ r ∷ [])) done n asked mails
-        by (waits a b c) = waits (same_in ∙ a) b c
-        by (dropped a b c d e m) = dropped (same_in ∙ a) (ap (λ l. is_in n (grams_of l)) begun_is ∙ b) c d (gone e) m
-        by (replies told row stands m) = replies told (row_is told row) (stands_so told done stands) m
+        by : Fares w came (waiting_of j rs) (begun_of j rs) done n heard asked mails → Fares u came (waiting_of j (rs ++ r ∷ [])) (begun_of j (rs ++ r ∷ [])) done n heard asked mails
+        by (waits a b none c) = waits (same_in ∙ a) b (subst (NoneSince heard) (sym gave) none) c
+        by (dropped a b c d given m) = dropped (same_in ∙ a) (ap (λ l. is_in n (grams_of l)) begun_is ∙ b) c d (subst (GaveSince heard) (sym gave) given) m
+        by (replies told row spared stands m) =
+            replies told (row_is told row) (subst (SparedBetween heard row.row.frame) (sym gave) spared)
+            (stands_same w u (begun_of j rs) (begun_of j (rs ++ r ∷ [])) n row.row.frame told done gave (λ here. ap (λ l. is_in n (grams_of l)) begun_is ∙ here) stands) m

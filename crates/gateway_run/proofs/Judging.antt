@@ -8,6 +8,7 @@ use Rattle.served_places.specs.Rows.{ToldAll}
 use Rattle.served_places.specs.of_served_runs.Served.{Keyed, MayAsk, Serves, asked_at}
 use Rattle.mailbox_mail.specs.Mail.{error_of}
 use Rattle.mailbox_mail.specs.declared.mail.Mail.{Mail}
+use Rattle.master_node.specs.Wants.{gave_of}
 use Rattle.master_node.specs.of_frame_view.View.{Lens}
 use Rattle.master_node.specs.of_life_frames.Shares.{AllBoth}
 use Rattle.master_node.specs.of_life_runs.First.{lens_of}
@@ -23,11 +24,13 @@ use Rattle.segment_plan.specs.declared.plan.Scenario.{Scenario}
 use Rattle.gateway_run.specs.Account.{IsFree, Judges, Judges.ignored as is_ignored, Judges.refused as is_refused, Judges.too_many, Judges.queues, Owing, waits_at}
 use Rattle.gateway_run.specs.Rooms.{begun_of, grams_of, owed_for, waiting_of}
 use Rattle.gateway_run.specs.Replies.{AllDesk, AllGot, Answers, Fares, Fares.waits, GivesAll, Got, Got.ignored, Got.queued, Got.refused, IsFor, IsHeard, IsUndone}
+use Rattle.gateway_run.specs.Since.{NoneSince}
 use Rattle.gateway_run.specs.declared.desk.Request.{Request}
 use Rattle.gateway_run.proofs.Accounts.{apart_push, unlike_push}
+use Rattle.gateway_run.proofs.Befores.{HasBefore, serve_before}
 use Rattle.gateway_run.proofs.Comes.{known_at}
 use Rattle.gateway_run.proofs.Gives.{all_give, asked_give}
-use Rattle.gateway_run.proofs.Hands.{among_at, at_last, both_many}
+use Rattle.gateway_run.proofs.Hands.{all_got, among_at, at_last, both_many}
 use Rattle.gateway_run.proofs.Hearing.{asked_lookup, asked_told, below_out, desks_asked, desks_more, fares_asked, grams_push, heard_more, longer, none_owed, waits_push}
 use Rattle.gateway_run.proofs.Rooms.{owed_append, owed_one, owed_other}
 use Rattle.gateway_run.proofs.Rowed.{Rowed}
@@ -88,7 +91,7 @@ error_quiet n m detail os less =
 pub nothing_quiet : (m : ℕ) (os : List Owing) → owed_for m (os ++ []) ≡ owed_for m os
 nothing_quiet m os = ap (owed_for m) (append-nil os)
 
-module _ (plan : Scenario) (s s' : SessionState) (fs : List Exchanged) (gs : List GramIn) (g : GramIn) (rs : List Request) (os : List Owing) (dones : List ℕ) (old : Answers plan s fs gs rs os dones) (due : g.frame ≤ length fs) where
+module _ (plan : Scenario) (s s' : SessionState) (fs : List Exchanged) (gs : List GramIn) (g : GramIn) (rs : List Request) (os : List Owing) (dones : List ℕ) (old : Answers plan s fs gs rs os dones) (due : g.frame ≡ length fs) where
   abbrev n : ℕ
   n = length gs
 
@@ -103,7 +106,7 @@ module _ (plan : Scenario) (s s' : SessionState) (fs : List Exchanged) (gs : Lis
   known = All-weaker (IsHeard gs) (λ (r : Request). r.gram < length gs) (λ r h. known_at gs r.gram h.gram h.there) rs old.heard
 
   all_early : All (λ (h : GramIn). h.frame ≤ length fs) (gs ++ g ∷ [])
-  all_early = All-push (λ (h : GramIn). h.frame ≤ length fs) gs g old.early due
+  all_early = All-push (λ (h : GramIn). h.frame ≤ length fs) gs g old.early (let now = due in omega (arith, now))
 
   -- IT ISN'T PASSED ON: the lives stay, and this is owed at once
   module _ (more : List Owing) (quiet : (m : ℕ) → m < length gs → owed_for m (os ++ more) ≡ owed_for m os) (few : All (λ (o : Owing). o.gram < length (gs ++ g ∷ [])) more) where
@@ -166,9 +169,13 @@ module _ (plan : Scenario) (s s' : SessionState) (fs : List Exchanged) (gs : Lis
         ap (λ l. is_in n (grams_of l)) (waits_push slave rs r refl refl) ∙ ap (is_in n) (grams_push (waiting_of slave rs) r)
         ∙ among_at n (grams_of (waiting_of slave rs) ++ n ∷ []) (length (grams_of (waiting_of slave rs))) (at_last (grams_of (waiting_of slave rs)) n)
 
+    all_before : All (HasBefore (length fs)) (asked_at slave k ws)
+    all_before = subst (All (HasBefore (length fs))) on.serves (serve_before plan fs on.new.leading.missed on.new.leading.serves on.new.leading.lives)
+
     got_new : Got (asked_at slave k ws) old.came (rs ++ r ∷ []) dones n g (owed_for n (os ++ []))
     got_new = (let a = asked_there (lens_of plan.slaves) gs rs os 0 slave k ws old.came on.may old.desk in
-        queued mail slave a.0 a.2.0 request there a.1 a.2.1 (waits waits_new undone_new none))
+        let before = all_got (HasBefore (length fs)) (asked_at slave k ws) slave a.0 all_before a.1 in
+        queued mail slave a.0 a.2.0 request there a.1 a.2.1 (waits waits_new undone_new (subst (λ (n : ℕ). NoneSince n (gave_of a.0.lead)) (sym due) before.gave) none))
 
     got_old : (j m : ℕ) (h : GramIn) → m ≡ 0 + j → slice_get gs j ≡ Some h → Got ws old.came rs dones m h (owed_for m os) → Got (asked_at slave k ws) old.came (rs ++ r ∷ []) dones m h (owed_for m (os ++ []))
     got_old j m h e at (ignored fault f q ms) = ignored fault f q (nothing_quiet m os ∙ ms)
@@ -177,8 +184,8 @@ module _ (plan : Scenario) (s s' : SessionState) (fs : List Exchanged) (gs : Lis
         let a = asked_lookup slave k ws place w at_w in
         let less : m < length gs = (let known = known_at gs j h at in omega (arith, known, e)) in
         queued asked place a.0 numbers f q a.1 at_came
-        (subst (Fares a.0 numbers (waiting_of place (rs ++ r ∷ [])) (begun_of place (rs ++ r ∷ [])) (is_in m dones) m asked) (sym (nothing_quiet m os))
-        (fares_asked gs g os [] quiet rs r k refl is_for refl none place m w a.0 numbers (is_in m dones) asked (owed_for m os) a.2 less fares))
+        (subst (Fares a.0 numbers (waiting_of place (rs ++ r ∷ [])) (begun_of place (rs ++ r ∷ [])) (is_in m dones) m h.frame asked) (sym (nothing_quiet m os))
+        (fares_asked gs g os [] quiet rs r k refl is_for refl none place m h.frame w a.0 numbers (is_in m dones) asked (owed_for m os) a.2 less fares))
 
     passed : Same s' (gs ++ g ∷ []) (rs ++ r ∷ []) (os ++ [])
     passed = (

@@ -1,5 +1,6 @@
 pub mod Accounts
 pub mod Answering
+pub mod Befores
 pub mod Begins
 pub mod Behind
 pub mod Comes

@@ -1,5 +1,5 @@
 -- BEHIND A LOST FRAME one slave's desk is what its life has: nothing is told, or the slave was given up.
-use Rattle.std.proofs.Common.{◌≡◌, ℕ, Bool, true, false, Option, Some, None, List, [], ◌∷◌, ◌++◌, map, refl, sym, ap, ◌∙◌, subst, append-nil}
+use Rattle.std.proofs.Common.{◌≡◌, ◌≤◌, ℕ, suc, Bool, true, false, Option, Some, None, List, [], ◌∷◌, ◌++◌, map, refl, sym, ap, ◌∙◌, subst, append-nil}
 use Rattle.std.specs.Prelude.{if◌then◌else◌, slice_index_or, All}
 use Rattle.std.proofs.lemmas.List.Elements.{All-weaker}
 use Rattle.served_places.proofs.Behind.{Goes, behind_stays, lost_goes, unpassed_behind}
@@ -9,6 +9,7 @@ use Rattle.served_places.specs.of_served_runs.Served.{Serves, ServedTurn, TellsS
 use Rattle.served_places.specs.of_served_runs.Told.{Passed, replies_in, told_on}
 use Rattle.mailbox_mail.specs.Mail.{error_of}
 use Rattle.master_node.specs.Serving.{serves_of}
+use Rattle.master_node.specs.Wants.{gave_of}
 use Rattle.master_node.specs.declared.event.Event.{Event}
 use Rattle.master_node.specs.declared.event.Event.TheVariants as events
 use Rattle.master_node.specs.of_frame_view.View.{Lens}
@@ -21,14 +22,15 @@ use Rattle.master_node.specs.of_segment_ring.declared.wire.Fate.TheVariants.{Los
 use Rattle.run_book.specs.declared.book.GramIn.{GramIn}
 use Rattle.gateway_run.specs.Account.{Owing, elsewhere, left_by_all, owing}
 use Rattle.gateway_run.specs.Rooms.{AreFiled, begun_of, grams_of, owed_for, waiting_of}
-use Rattle.gateway_run.specs.Replies.{Fares, IsDesk, IsFor, IsOurs, WasGivenUp, keyed_in}
+use Rattle.gateway_run.specs.Replies.{Fares, IsDesk, IsFor, IsOurs, keyed_in}
 use Rattle.gateway_run.specs.declared.desk.Request.{Request}
+use Rattle.gateway_run.proofs.Befores.{AreBegun}
 use Rattle.gateway_run.proofs.Desking.{cut_among, gone_begun, gone_waits, none_in}
 use Rattle.gateway_run.proofs.Views.{cut_none}
 use Rattle.gateway_run.proofs.Frames.{tells_none}
 use Rattle.gateway_run.proofs.Given.{desk_gone, fares_gone}
 use Rattle.gateway_run.proofs.Gives.{each_among, gives_told, over_same, owed_none_more}
-use Rattle.gateway_run.proofs.Hands.{keyed_none, rises_apart}
+use Rattle.gateway_run.proofs.Hands.{all_got, keyed_none, rises_apart}
 use Rattle.gateway_run.proofs.Telling.{HasTold, IsBehind, OwesBesides, tells_nothing}
 
 module _ (lens : ℕ → Lens) (recover retry : ℕ) (gives : Bool) (made after : ℕ) (sent back : List ℕ) (v : ServedTurn) (gs : List GramIn) (slave : ℕ) (os more : List Owing) (came : List ℕ) (rs : List Request) (done done' : ℕ → Bool) where
@@ -49,8 +51,10 @@ module _ (lens : ℕ → Lens) (recover retry : ℕ) (gives : Bool) (made after 
   pub record IsKnownLost : Type 0 where
     pub opened : (p : Passed) → v.hand ≡ Some p → v.turn.lived.life.stand ≡ Stand.Open
     pub own : TellsSo lost
-    pub gone : WasGivenUp (serves_of v) → WasGivenUp lost
-    pub given_up : given ≡ true → WasGivenUp lost
+    pub spared : given ≡ false → gave_of lost.lead ≡ gave_of (serves_of v).lead
+    pub given_up : given ≡ true → gave_of lost.lead ≡ gave_of (serves_of v).lead ++ made ∷ []
+    pub early : All (λ (g : GramIn). g.frame ≤ made) gs
+    pub rows : AreBegun (suc made) (passed_rows v.turn.lived.life)
     pub filed : AreFiled (waiting_of slave rs)
     pub besides : OwesBesides gs slave os more rs (tells_lost given) done done'
     pub ours : All (λ (r : Request). IsOurs gs slave r.gram) rs
@@ -69,9 +73,10 @@ module _ (lens : ℕ → Lens) (recover retry : ℕ) (gives : Bool) (made after 
       desk = subst (λ bs. IsDesk gs (os ++ more) slave lost came (waiting_of slave (elsewhere slave rs)) bs) (sym (gone_begun slave rs)) (subst (λ ws. IsDesk gs (os ++ more) slave lost came ws []) (sym (gone_waits slave rs))
           (desk_gone gs slave (serves_of v) lost came (waiting_of slave rs) (begun_of slave rs) os more (ap (λ z. if z then [] else v.waits) g) (ap (λ z. if z then None else told_on v.turn.lived.life.era.passing [] v.hand) g) stay d));
       fares = λ number asked o request f.
-          subst (λ z. Fares lost came (waiting_of slave (elsewhere slave rs)) (begun_of slave (elsewhere slave rs)) z number asked (owed_for number (os ++ more))) (sym (besides.ended number o))
-          (subst (λ bs. Fares lost came (waiting_of slave (elsewhere slave rs)) bs (done number) number asked (owed_for number (os ++ more))) (sym (gone_begun slave rs)) (subst (λ ws. Fares lost came ws [] (done number) number asked (owed_for number (os ++ more))) (sym (gone_waits slave rs))
-          (fares_gone gs slave (serves_of v) lost came (waiting_of slave rs) (begun_of slave rs) os more (done number) number asked (owed_for number os) (owed_for number (os ++ more)) (k.given_up g) stay d
+          subst (λ z. Fares lost came (waiting_of slave (elsewhere slave rs)) (begun_of slave (elsewhere slave rs)) z number o.gram.frame asked (owed_for number (os ++ more))) (sym (besides.ended number o))
+          (subst (λ bs. Fares lost came (waiting_of slave (elsewhere slave rs)) bs (done number) number o.gram.frame asked (owed_for number (os ++ more))) (sym (gone_begun slave rs)) (subst (λ ws. Fares lost came ws [] (done number) number o.gram.frame asked (owed_for number (os ++ more))) (sym (gone_waits slave rs))
+          (fares_gone gs slave (serves_of v) lost came (waiting_of slave rs) (begun_of slave rs) os more made (done number) number o.gram.frame asked (owed_for number os) (owed_for number (os ++ more)) (k.given_up g)
+          (all_got (λ (g : GramIn). g.frame ≤ made) gs number o.gram k.early o.there) k.rows stay d
           (λ e. besides.owed number o ∙ ap (λ ms. owed_for number os ++ ms) (ap (owed_for number) (append-nil (map (owing (error_of 5)) (waiting_of slave rs))) ∙ cut_among number (waiting_of slave rs) k.filed e))
           (λ e. besides.owed number o ∙ ap (λ ms. owed_for number os ++ ms) (ap (owed_for number) (append-nil (map (owing (error_of 5)) (waiting_of slave rs))) ∙ cut_none number (waiting_of slave rs) (none_in number (waiting_of slave rs) e)) ∙ append-nil (owed_for number os))
           f)));
@@ -104,7 +109,7 @@ module _ (lens : ℕ → Lens) (recover retry : ℕ) (gives : Bool) (made after 
       hand_is h e = ap (λ z. if z then None else told_on v.turn.lived.life.era.passing [] v.hand) g ∙ ap (told_on v.turn.lived.life.era.passing []) e
 
       by_none : v.hand ≡ None → Told [] rs
-      by_none e = tells_none gs slave (serves_of v) lost os more came rs done done' e (hand_is None e) waits_is stay k.gone besides k.ours d
+      by_none e = tells_none gs slave (serves_of v) lost os more came rs done done' e (hand_is None e) waits_is stay (k.spared g) besides k.ours d
 
       nothing : (o : Option Passing) → replies_in o [] ≡ []
       nothing None = refl
@@ -125,7 +130,7 @@ module _ (lens : ℕ → Lens) (recover retry : ℕ) (gives : Bool) (made after 
             hand = e;
             behind = behind;
             stay = stay;
-            gone = k.gone;
+            gave = k.spared g;
             own = k.own (record p { told = p.told ++ new }) behind;
             owes = besides;
             ours = k.ours;

@@ -1,15 +1,16 @@
 -- ONE FRAME OF A SERVING, of the slave at each place: its desk and its datagrams go on by what is listed of it alone.
-use Rattle.std.proofs.Common.{◌≡◌, ℕ, ◌≤◌, Bool, true, false, Some, None, List, [], ◌∷◌, ◌++◌, refl, sym, ap, ◌∙◌, subst, eqb-true}
+use Rattle.std.proofs.Common.{◌≡◌, ℕ, suc, ◌≤◌, Bool, true, false, Some, None, List, [], ◌∷◌, ◌++◌, refl, sym, ap, ◌∙◌, subst, eqb-true}
 use Rattle.std.specs.Prelude.{◌==◌, cond, if◌then◌else◌, slice_get, slice_index_or, All, Ok}
 use Rattle.std.proofs.lemmas.List.Elements.{All-filter, filter-append, filter_passes}
 use Rattle.gateway_core.specs.Framing.{request_in}
 use Rattle.served_places.proofs.Hears.{behind_heard, behind_over}
-use Rattle.served_places.specs.Rows.{AreAll, HearsNoMore, told_besides}
+use Rattle.served_places.specs.Rows.{AreAll, HearsNoMore, passed_rows, told_besides}
 use Rattle.served_places.specs.of_served_runs.Served.{Serves, ServedTurn, IsServedTurn, TellsSo, accepted_by, gives_it, served_behind}
 use Rattle.served_places.specs.of_served_runs.Told.{Passed, TellsOwn, replies_in}
 use Rattle.mailbox_mail.specs.declared.mail.Mail.{Mail}
 use Rattle.master_node.specs.Events.{begun_told}
 use Rattle.master_node.specs.Serving.{serves_of}
+use Rattle.master_node.specs.Wants.{gave_of}
 use Rattle.master_node.specs.declared.event.Event.{Event}
 use Rattle.master_node.specs.Listing.{told_in}
 use Rattle.master_node.specs.of_datagrams.Datagram as Raw
@@ -25,12 +26,13 @@ use Rattle.run_book.specs.declared.book.GramIn.{GramIn}
 use Rattle.gateway_run.specs.Account.{Owing, is_of, left_by_all, owed_by, owed_by_all, waits_at}
 use Rattle.gateway_run.specs.Desk.{AreApart}
 use Rattle.gateway_run.specs.Rooms.{AreFiled, begun_of, done_by, done_by_all, only, owed_for, requests_of, waiting_of}
-use Rattle.gateway_run.specs.Replies.{Fares, GivesAll, IsDesk, IsHeard, IsOurs, IsUndone, WasGivenUp}
+use Rattle.gateway_run.specs.Replies.{Fares, GivesAll, IsDesk, IsHeard, IsOurs, IsUndone}
 use Rattle.gateway_run.specs.declared.desk.Request.{Request}
 use Rattle.gateway_run.proofs.Accounts.{unlike_filter}
 use Rattle.gateway_run.proofs.Rooms.{begun_here, owed_append, waits_here}
 use Rattle.gateway_run.proofs.Views.{AreOf, done_is_here, done_none, events_keep, events_unlike, owed_is, owed_is_here, owed_none}
 use Rattle.gateway_run.proofs.Places.{IsAlone, places_give, places_leave, told_where}
+use Rattle.gateway_run.proofs.Befores.{AreBegun}
 use Rattle.gateway_run.proofs.Begins.{HasBegun, slave_begins}
 use Rattle.gateway_run.proofs.Telling.{HasTold, OwesBesides}
 use Rattle.gateway_run.proofs.Frames.{accepted, slave_back, tells}
@@ -112,16 +114,19 @@ module _ (lens : ℕ → Lens) (recover retry : ℕ) (gives : Bool) (made : ℕ)
       pub had : (p : Passed) → v.hand ≡ Some p → TellsOwn p v.turn.lived.life.era.passing v.turn.lived.life.era.side.now
       pub free : v.hand ≡ None → v.turn.lived.life.stand ≡ Stand.Open → v.turn.lived.life.era.passing ≡ None
       pub all : fate ≡ Pass → (p : Passed) → v.hand ≡ Some p → (x : Passing) → v.turn.lived.life.era.passing ≡ Some x → (slave_by Pass).lead.lived.life.era.passing ≡ None → AreAll (p.told ++ replies_in v.turn.lived.life.era.passing (accepted lens recover retry gives made sent back v gs i os more came rs1 (λ n. is_in n dones) (λ n. is_in n (dones ++ ended))))
-      pub gone_next : WasGivenUp w → WasGivenUp (serves_of v)
-      pub gone : WasGivenUp (serves_of v) → WasGivenUp (slave_by fate)
-      pub given_up : (after : ℕ) → fate ≡ Lost after → gives_it lens recover retry gives (Lost after) v ≡ true → WasGivenUp (slave_by fate)
+      -- before the frame it is given up no more, and its rows are there; behind it once more, where the frame gives it up
+      pub gave_next : gave_of (serves_of v).lead ≡ gave_of w.lead
+      pub rows_next : AreBegun (suc made) (passed_rows v.turn.lived.life)
+      pub spared : gives_it lens recover retry gives fate v ≡ false → gave_of (slave_by fate).lead ≡ gave_of (serves_of v).lead
+      pub given_up : gives_it lens recover retry gives fate v ≡ true → gave_of (slave_by fate).lead ≡ gave_of (serves_of v).lead ++ made ∷ []
 
     -- ITS DESK BEHIND THE FRAME, and what each of its datagrams got
     pub record HasStepped (fate : Fate) : Type 0 where
       pub comes : List ℕ
       pub desk : IsDesk gs (os ++ more) i (slave_by fate) comes (waiting_of i rs2) (begun_of i rs2)
       pub fares : (number : ℕ) (asked : Mail) (o : IsOurs gs i number) → request_in o.gram.bytes ≡ Ok asked →
-          Fares w came (waiting_of i rs) (begun_of i rs) (is_in number dones) number asked (owed_for number os) → Fares (slave_by fate) comes (waiting_of i rs2) (begun_of i rs2) (is_in number (dones ++ ended)) number asked (owed_for number (os ++ more))
+          Fares w came (waiting_of i rs) (begun_of i rs) (is_in number dones) number o.gram.frame asked (owed_for number os) →
+          Fares (slave_by fate) comes (waiting_of i rs2) (begun_of i rs2) (is_in number (dones ++ ended)) number o.gram.frame asked (owed_for number (os ++ more))
       pub whole : HearsNoMore lens recover retry (record { sent = sent; fate = fate; back = back }) v → GivesAll os (λ n. is_in n dones) w came → GivesAll (os ++ more) (λ n. is_in n (dones ++ ended)) (slave_by fate) comes
 
     -- what is said of the slave's own requests is said of all
@@ -132,11 +137,11 @@ module _ (lens : ℕ → Lens) (recover retry : ℕ) (gives : Bool) (made : ℕ)
     to_own P all p = subst (λ bs. P (waiting_of i (requests_of i all)) bs) (sym (begun_here i all)) (subst (λ ws. P ws (begun_of i all)) (sym (waits_here i all)) p)
 
     -- ITS DESK BEFORE THE FRAME, and what each of its datagrams got
-    module _ (once : AreOnce first) (own : (k : ℕ) → AreOf k rs (begins k)) (datagrams : List Raw.Datagram) (turn : IsServedTurn lens made datagrams w v) (number forwards oldest : ℕ) (is : told_where begins i first ≡ begun_told i number forwards oldest v.turn.begun) (gone : WasGivenUp w → WasGivenUp (serves_of v)) (early : All (λ (g : GramIn). g.frame ≤ made) gs) where
+    module _ (once : AreOnce first) (own : (k : ℕ) → AreOf k rs (begins k)) (datagrams : List Raw.Datagram) (turn : IsServedTurn lens made datagrams w v) (number forwards oldest : ℕ) (is : told_where begins i first ≡ begun_told i number forwards oldest v.turn.begun) (gave : gave_of (serves_of v).lead ≡ gave_of w.lead) (early : All (λ (g : GramIn). g.frame ≤ made) gs) where
       pub slave_first : IsDesk gs os i w came (waiting_of i rs) (begun_of i rs) → HasBegun lens made datagrams w v turn gs i os came (requests_of i rs) (requests_of i rs1)
       slave_first d = subst (HasBegun lens made datagrams w v turn gs i os came (requests_of i rs))
           (sym (places_leave i 0 begins first rs once own ∙ ap (λ es. left_by_all es (requests_of i rs)) is))
-          (slave_begins lens made datagrams w v turn gs i os came (requests_of i rs) gone early (to_own (IsDesk gs os i w came) rs d) number forwards oldest)
+          (slave_begins lens made datagrams w v turn gs i os came (requests_of i rs) gave early (to_own (IsDesk gs os i w came) rs d) number forwards oldest)
 
     module _ (a : AllKnown) where
       heard1 : All (IsHeard gs) rs1
@@ -183,7 +188,7 @@ module _ (lens : ℕ → Lens) (recover retry : ℕ) (gives : Bool) (made : ℕ)
         exchanged = record { sent = sent; fate = fate; back = back }
 
         begun1 : HasBegun lens made s.datagrams w v s.turn gs i os came (requests_of i rs) (requests_of i rs1)
-        begun1 = slave_first a.once1 a.own1 s.datagrams s.turn s.number s.forwards s.oldest s.begins_is s.gone_next a.early d
+        begun1 = slave_first a.once1 a.own1 s.datagrams s.turn s.number s.forwards s.oldest s.begins_is s.gave_next a.early d
 
         -- behind the frame
         stepped : HasTold gs i (serves_of v) (slave_by fate) os more begun1.comes (requests_of i rs1) (λ n. is_in n dones) (λ n. is_in n (dones ++ ended)) (told_besides v.hand v.turn.lived.life.era.passing (accepted_by lens recover retry exchanged fate v)) (left_by_all (tells_by fate) (requests_of i rs1)) → HasStepped fate
@@ -191,8 +196,8 @@ module _ (lens : ℕ → Lens) (recover retry : ℕ) (gives : Bool) (made : ℕ)
           comes = begun1.comes;
           desk = to_all (IsDesk gs (os ++ more) i (slave_by fate) begun1.comes) (left_by_all (tells_by fate) (requests_of i rs1)) rs2 left2 t.desk;
           fares = λ number asked o request f.
-              to_all (λ ws bs. Fares (slave_by fate) begun1.comes ws bs (is_in number (dones ++ ended)) number asked (owed_for number (os ++ more))) (left_by_all (tells_by fate) (requests_of i rs1)) rs2 left2
-              (t.fares number asked o request (begun1.fares (is_in number dones) number asked o.gram o.there request (to_own (λ ws bs. Fares w came ws bs (is_in number dones) number asked (owed_for number os)) rs f)));
+              to_all (λ ws bs. Fares (slave_by fate) begun1.comes ws bs (is_in number (dones ++ ended)) number o.gram.frame asked (owed_for number (os ++ more))) (left_by_all (tells_by fate) (requests_of i rs1)) rs2 left2
+              (t.fares number asked o request (begun1.fares (is_in number dones) number asked o.gram o.there request (to_own (λ ws bs. Fares w came ws bs (is_in number dones) number o.gram.frame asked (owed_for number os)) rs f)));
           whole = λ quiet all.
               t.whole (behind_heard lens recover retry gives made exchanged v s.had s.free quiet) (behind_over lens recover retry gives made exchanged v)
               (begun1.whole (λ n. is_in n dones) (All-filter (is_of i) (IsUndone dones) rs a.undone) all);
@@ -208,7 +213,7 @@ module _ (lens : ℕ → Lens) (recover retry : ℕ) (gives : Bool) (made : ℕ)
             opened = s.opened;
             own = s.own;
             all = s.all refl;
-            gone = s.gone;
+            gave = s.spared refl;
             apart = apart1;
             besides = subst (λ es. OwesBesides gs i os more (requests_of i rs1) es (λ n. is_in n dones) (λ n. is_in n (dones ++ ended))) s.shows_is besides;
             ours = ours1;
@@ -221,8 +226,10 @@ module _ (lens : ℕ → Lens) (recover retry : ℕ) (gives : Bool) (made : ℕ)
           (record {
             opened = s.opened;
             own = s.own;
-            gone = s.gone;
-            given_up = s.given_up after refl;
+            spared = s.spared;
+            given_up = s.given_up;
+            early = a.early;
+            rows = s.rows_next;
             filed = filed1;
             besides = subst (λ es. OwesBesides gs i os more (requests_of i rs1) es (λ n. is_in n dones) (λ n. is_in n (dones ++ ended))) s.shows_is besides;
             ours = ours1;

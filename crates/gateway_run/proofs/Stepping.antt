@@ -42,6 +42,7 @@ use Rattle.gateway_run.specs.Events.{events_of}
 use Rattle.gateway_run.specs.Rooms.{AreFiled, done_by, done_by_all, grams_of, owed_for}
 use Rattle.gateway_run.specs.Replies.{AllDesk, AllGot, Answers, GivesAll, Got, Got.ignored, Got.queued, Got.refused, HearNoMore, IsHeard, IsUndone}
 use Rattle.gateway_run.specs.declared.desk.Request.{Request}
+use Rattle.gateway_run.proofs.Befores.{HasBefore, serve_before}
 use Rattle.gateway_run.proofs.Comes.{known_at}
 use Rattle.gateway_run.proofs.Rooms.{owed_append}
 use Rattle.gateway_run.proofs.Rowed.{Rowed}
@@ -67,17 +68,18 @@ none_handed work w h none opened = go w.lead.lived.life.era.passing refl
 abbrev Had : Serves → Type 0
 Had w = (p : Passed) → w.hand ≡ Some p → HasPassed p w.lead.lived.life
 
-pub lively : {G : Ghosts InHand} (lens : ℕ → Lens) (recover made : ℕ) (ws : List Serves) (ps : List Post) (ss : List (Stop InHand G)) → AllThree (λ w p s. IsServed lens recover made w p s) ws ps ss → All Had ws → All ToldAll ws → All IsLively ws
-lively lens recover made [] [] [] h a b = All-nil IsLively
-lively lens recover made [] [] (s ∷ ss) h a b = absurd h
-lively lens recover made [] (p ∷ ps) [] h a b = absurd h
-lively lens recover made [] (p ∷ ps) (s ∷ ss) h a b = absurd h
-lively lens recover made (w ∷ ws) [] [] h a b = absurd h
-lively lens recover made (w ∷ ws) [] (s ∷ ss) h a b = absurd h
-lively lens recover made (w ∷ ws) (p ∷ ps) [] h a b = absurd h
-lively lens recover made (w ∷ ws) (p ∷ ps) (s ∷ ss) h a b =
-    All-cons IsLively w ws
+pub lively : {G : Ghosts InHand} (lens : ℕ → Lens) (recover made : ℕ) (ws : List Serves) (ps : List Post) (ss : List (Stop InHand G)) → AllThree (λ w p s. IsServed lens recover made w p s) ws ps ss → All Had ws → All ToldAll ws → All (HasBefore made) ws → All (IsLively made) ws
+lively lens recover made [] [] [] h a b before = All-nil (IsLively made)
+lively lens recover made [] [] (s ∷ ss) h a b before = absurd h
+lively lens recover made [] (p ∷ ps) [] h a b before = absurd h
+lively lens recover made [] (p ∷ ps) (s ∷ ss) h a b before = absurd h
+lively lens recover made (w ∷ ws) [] [] h a b before = absurd h
+lively lens recover made (w ∷ ws) [] (s ∷ ss) h a b before = absurd h
+lively lens recover made (w ∷ ws) (p ∷ ps) [] h a b before = absurd h
+lively lens recover made (w ∷ ws) (p ∷ ps) (s ∷ ss) h a b before =
+    All-cons (IsLively made) w ws
     (record {
+      before = All-head (HasBefore made) w ws before;
       held = λ p e. (All-head Had w ws a p e).opened;
       had = All-head Had w ws a;
       free = none_handed p.work w h.0.handed;
@@ -85,7 +87,7 @@ lively lens recover made (w ∷ ws) (p ∷ ps) (s ∷ ss) h a b =
       named = leb-true 1 w.lead.lived.spot.station (subst (λ z. nat_le 1 z ≡ true) h.0.lives.planned.stands.station_is s.named);
       kept = h.0.kept;
     })
-    (lively lens recover made ws ps ss h.1 (All-tail Had w ws a) (All-tail ToldAll w ws b))
+    (lively lens recover made ws ps ss h.1 (All-tail Had w ws a) (All-tail ToldAll w ws b) (All-tail (HasBefore made) w ws before))
 
 -- A ROW THAT AN EVENT ENDS has no request behind it
 module _ (key : ℕ) where
@@ -260,10 +262,11 @@ module _ (plan : Scenario) (s s' : SessionState) (fs : List Exchanged) (f : Exch
     early = old.early;
   }
 
-  all_lively : All IsLively ws
+  all_lively : All (IsLively (length fs)) ws
   all_lively =
       lively lens plan.recover (length fs) ws s.master.posts.items s.master.tour.stops.items old.serving.leading.shows.each
       (all_has lens plan.recover plan.retry plan.paces (first_leads plan) fs old.serving.leading.missed ws old.serving.leading.lives) old.told
+      (serve_before plan fs old.serving.leading.missed ws old.serving.leading.lives)
 
   own : All TellsSo (map goes on.turns)
   own = subst (All TellsSo) on.serves (serves_tell lens plan.recover plan.retry plan.paces (first_leads plan) (fs ++ f ∷ []) on.new.leading.missed on.new.leading.serves on.new.leading.lives)

@@ -2,7 +2,7 @@
 use Rattle.std.proofs.Common.{◌≡◌, ◌<◌, ◌≤◌, ◌⊎◌, inl, inr, ℕ, zero, suc, ◌+◌, Bool, true, false, Option, Some, None, List, [], ◌∷◌, ◌++◌, length, length-append, map, refl, sym, ap, ◌∙◌, subst, eq-eqb, arith}
 use Rattle.std.specs.Prelude.{◌==◌, All, Ok, Err, if◌then◌else◌, is_some, nat_le, nat_lt, slice_get, slice_index_or}
 use Rattle.std.proofs.lemmas.List.{length-map}
-use Rattle.std.proofs.lemmas.List.Elements.{All-nil, All-head, All-push, All-tail, All-weaker}
+use Rattle.std.proofs.lemmas.List.Elements.{All-nil, All-head, All-push, All-tail}
 use Rattle.gateway_core.specs.Framing.{request_in}
 use Rattle.gateway_core.specs.Gateway.{is_passed, judged_at, place_from, unfinished_at}
 use Rattle.gateway_core.specs.declared.asker.Asker.{Asker}
@@ -40,6 +40,7 @@ use Rattle.gateway_run.specs.Stray.{DontFall, IsStray}
 use Rattle.gateway_run.specs.declared.desk.Request.{Request}
 use Rattle.gateway_run.proofs.Accounts.{get_on}
 use Rattle.gateway_run.proofs.Answering.{course_answers}
+use Rattle.gateway_run.proofs.Befores.{gives_below}
 use Rattle.gateway_run.proofs.Comes.{known_at}
 use Rattle.gateway_run.proofs.Judging.{error_alone, error_quiet, nothing_quiet}
 use Rattle.gateway_run.proofs.Leds.{course_led}
@@ -62,20 +63,6 @@ gives_get (Fates.Lost after) made old now g k at e = subst (λ (l : List ℕ). s
     go : (b : Bool) → slice_get (if b then old ++ made ∷ [] else old) k ≡ Some at
     go true = get_on old (made ∷ []) k at e
     go false = e
-
-gives_below : (fate : Fate) (made : ℕ) (old now : List ℕ) → GivesOne fate made old now → All (λ (at : ℕ). at < made) old → All (λ (at : ℕ). at < suc made) now
-gives_below fate made old now g all = by fate g
-  where
-    before : All (λ (at : ℕ). at < suc made) old
-    before = All-weaker (λ (at : ℕ). at < made) (λ (at : ℕ). at < suc made) (λ at less. omega (arith, less)) old all
-
-    go : (b : Bool) → All (λ (at : ℕ). at < suc made) (if b then old ++ made ∷ [] else old)
-    go true = All-push (λ (at : ℕ). at < suc made) old made before (omega arith)
-    go false = before
-
-    by : (z : Fate) → GivesOne z made old now → All (λ (at : ℕ). at < suc made) now
-    by Fates.Pass e = subst (All (λ (at : ℕ). at < suc made)) (sym e) before
-    by (Fates.Lost after) e = subst (All (λ (at : ℕ). at < suc made)) e (go (nat_lt (length old) (length now)))
 
 -- what stands at a place had something there before
 both_back : {S T : Type 0} (P : S → T → Type 0) (xs : List S) (ys : List T) (k : ℕ) (y : T) → AllBoth P xs ys → slice_get ys k ≡ Some y → (x : S) × (slice_get xs k ≡ Some x) × P x y

@@ -1,5 +1,5 @@
 -- BEHIND A FRAME the desk of a slave is what its life has, and each of its datagrams got what is its own.
-use Rattle.std.proofs.Common.{◌≡◌, ℕ, Bool, true, false, inl, Option, Some, None, List, [], ◌∷◌, ◌++◌, map, refl, sym, ap, ◌∙◌, subst, append-nil, eq-eqb, length-append, arith}
+use Rattle.std.proofs.Common.{◌≡◌, ℕ, Bool, true, false, Option, Some, None, List, [], ◌∷◌, ◌++◌, map, refl, sym, ap, ◌∙◌, subst, append-nil, eq-eqb, length-append, arith}
 use Rattle.std.specs.Prelude.{◌≢◌, if◌then◌else◌, length, slice_get, slice_index_or, All, Ok}
 use Rattle.std.proofs.lemmas.List.Elements.{All-filter, All-map, All-weaker}
 use Rattle.gateway_core.specs.Framing.{request_in}
@@ -8,6 +8,7 @@ use Rattle.served_places.specs.Rows.{AreAll, Stays, last_more, passed_rows, pass
 use Rattle.served_places.specs.of_served_runs.Served.{Serves}
 use Rattle.served_places.specs.of_served_runs.Told.{Passed, TellsOwn}
 use Rattle.mailbox_mail.specs.declared.mail.Mail.{Mail}
+use Rattle.master_node.specs.Wants.{gave_of}
 use Rattle.master_node.specs.declared.event.Event.{Event}
 use Rattle.master_node.specs.of_life_frames.Shares.{AllBoth}
 use Rattle.master_node.specs.of_life_runs.of_link_mails.Body.{Body}
@@ -18,10 +19,10 @@ use Rattle.run_book.specs.declared.book.GramIn.{GramIn}
 use Rattle.gateway_run.specs.Account.{Owing, owing, others, owed_by_all, waits_at}
 use Rattle.gateway_run.specs.Desk.{AreApart}
 use Rattle.gateway_run.specs.Rooms.{AreRising, begun_of, done_by_all, grams_of, has_begun, owed_for, waiting_of}
-use Rattle.gateway_run.specs.Replies.{Fares, GivesAll, IsDesk, IsFor, IsNewest, IsOurs, StandsSo, WasGivenUp, keyed_in, mails_told, owed_in}
+use Rattle.gateway_run.specs.Replies.{Fares, GivesAll, IsDesk, IsFor, IsNewest, IsOurs, StandsSo, keyed_in, mails_told, owed_in}
 use Rattle.gateway_run.specs.declared.desk.Request.{Request}
 use Rattle.gateway_run.proofs.Desking.{owed_its, owed_not}
-use Rattle.gateway_run.proofs.Hands.{all_among, all_in, all_left, among_at, at_last, both_many, in_head, rises_apart, rises_first}
+use Rattle.gateway_run.proofs.Hands.{all_among, all_in, all_left, among_at, at_last, both_many, in_head, rises_apart, rises_first, stands_undone}
 use Rattle.gateway_run.proofs.Behind.{InHand, done_none, done_one, finished, in_hand, owes, told_of}
 use Rattle.gateway_run.proofs.Given.{IsTold, desk_told, fares_told, last_same}
 use Rattle.gateway_run.proofs.Gives.{OverIf, gives_told, over_last, over_same, owed_last_more, owed_none_more, rises_less}
@@ -36,7 +37,7 @@ pub record OwesBesides (gs : List GramIn) (slave : ℕ) (os more : List Owing) (
 pub record HasTold (gs : List GramIn) (slave : ℕ) (w v : Serves) (os more : List Owing) (came : List ℕ) (rs : List Request) (done done' : ℕ → Bool) (told : List Body) (qs : List Request) : Type 0 where
   pub desk : IsDesk gs (os ++ more) slave v came (waiting_of slave qs) (begun_of slave qs)
   pub fares : (number : ℕ) (asked : Mail) (o : IsOurs gs slave number) → request_in o.gram.bytes ≡ Ok asked →
-      Fares w came (waiting_of slave rs) (begun_of slave rs) (done number) number asked (owed_for number os) → Fares v came (waiting_of slave qs) (begun_of slave qs) (done' number) number asked (owed_for number (os ++ more))
+      Fares w came (waiting_of slave rs) (begun_of slave rs) (done number) number o.gram.frame asked (owed_for number os) → Fares v came (waiting_of slave qs) (begun_of slave qs) (done' number) number o.gram.frame asked (owed_for number (os ++ more))
   pub whole : replies_of (passed_rows v.lead.lived.life) ≡ last_more told (replies_of (passed_rows w.lead.lived.life)) → AllBoth StaysOver (passings w.lead.lived.life) (passings v.lead.lived.life) → GivesAll os done w came → GivesAll (os ++ more) done' v came
 
 module _ (gs : List GramIn) (slave : ℕ) (w v : Serves) (os more : List Owing) (came : List ℕ) (rs : List Request) (es : List Event) (done done' : ℕ → Bool) where
@@ -47,7 +48,7 @@ module _ (gs : List GramIn) (slave : ℕ) (w v : Serves) (os more : List Owing) 
       pub hand : w.hand ≡ Some p
       pub behind : v.hand ≡ Some (record p { told = p.told ++ new })
       pub stay : AllBoth Stays (passed_rows w.lead.lived.life) (passed_rows v.lead.lived.life)
-      pub gone : WasGivenUp w → WasGivenUp v
+      pub gave : gave_of v.lead ≡ gave_of w.lead
       pub own : TellsOwn (record p { told = p.told ++ new }) v.lead.lived.life.era.passing v.lead.lived.life.era.side.now
       pub owes : OwesBesides gs slave os more rs es done done'
       pub ours : All (λ (r : Request). IsOurs gs slave r.gram) rs
@@ -99,8 +100,8 @@ module _ (gs : List GramIn) (slave : ℕ) (w v : Serves) (os more : List Owing) 
         pub tells_nothing : HasTold gs slave w v os more came rs done done' new rs
         tells_nothing = record {
           desk = desk_told gs slave w v came (waiting_of slave rs) (begun_of slave rs) (begun_of slave rs) p new os more told d;
-          fares = λ number asked o request f. fares_told gs slave w v came (waiting_of slave rs) (begun_of slave rs) (begun_of slave rs) p new os more told d (done number) (done' number) number asked o.gram o.there request b.gone b.own
-              (λ e. subst (StandsSo v (begun_of slave rs) number (p.told ++ new)) (sym (same_done number o ∙ all_in_requests number e)) (inl e))
+          fares = λ number asked o request f. fares_told gs slave w v came (waiting_of slave rs) (begun_of slave rs) (begun_of slave rs) p new os more told d (done number) (done' number) number asked o.gram o.there request b.gave b.own
+              (λ began told e s. stands_undone w v (begun_of slave rs) (begun_of slave rs) number began told (p.told ++ new) (done number) (done' number) (all_in_requests number e) (same_done number o ∙ all_in_requests number e) b.gave (λ here. here) s)
               (λ e. (same_owed number o, same_done number o, e)) f;
           whole = λ heard over all.
               gives_told os done w v came (os ++ more) done' new
@@ -155,8 +156,8 @@ module _ (gs : List GramIn) (slave : ℕ) (w v : Serves) (os more : List Owing) 
         pub tells_on : (y : Passing) → v.lead.lived.life.era.passing ≡ Some y → es ≡ told_of gs slave w v os more came rs p new true true → HasTold gs slave w v os more came rs done done' new rs
         tells_on y goes tells = record {
           desk = desk_told gs slave w v came (waiting_of slave rs) (begun_of slave rs) (begun_of slave rs) p new os more told d;
-          fares = λ number asked o request f. fares_told gs slave w v came (waiting_of slave rs) (begun_of slave rs) (begun_of slave rs) p new os more told d (done number) (done' number) number asked o.gram o.there request b.gone b.own
-              (λ e. subst (StandsSo v (begun_of slave rs) number (p.told ++ new)) (sym (same_done number o ∙ undone number e)) (inl e))
+          fares = λ number asked o request f. fares_told gs slave w v came (waiting_of slave rs) (begun_of slave rs) (begun_of slave rs) p new os more told d (done number) (done' number) number asked o.gram o.there request b.gave b.own
+              (λ began told e s. stands_undone w v (begun_of slave rs) (begun_of slave rs) number began told (p.told ++ new) (done number) (done' number) (undone number e) (same_done number o ∙ undone number e) b.gave (λ here. here) s)
               (λ e. (owed_others true tells number o (not_begun true tells number e), same_done number o, e)) f;
           whole = λ heard over all.
               gives_told os done w v came (os ++ more) done' new (owed_all_last true tells)
@@ -187,9 +188,9 @@ module _ (gs : List GramIn) (slave : ℕ) (w v : Serves) (os more : List Owing) 
           desk = subst (λ bs. IsDesk gs (os ++ more) slave v came (waiting_of slave (others p.key rs)) bs) (sym left.1) (subst (λ ws. IsDesk gs (os ++ more) slave v came ws []) (sym left.0)
               (desk_told gs slave w v came (waiting_of slave rs) (begun_of slave rs) [] p new os more told d));
           fares = λ number asked o request f.
-              subst (λ bs. Fares v came (waiting_of slave (others p.key rs)) bs (done' number) number asked (owed_for number (os ++ more))) (sym left.1) (subst (λ ws. Fares v came ws [] (done' number) number asked (owed_for number (os ++ more))) (sym left.0)
-              (fares_told gs slave w v came (waiting_of slave rs) (begun_of slave rs) [] p new os more told d (done number) (done' number) number asked o.gram o.there request b.gone b.own
-              (λ e. subst (StandsSo v [] number (p.told ++ new)) (sym (b.owes.ended number o ∙ ap (λ z. if z then true else done number) (in_done number e))) all)
+              subst (λ bs. Fares v came (waiting_of slave (others p.key rs)) bs (done' number) number o.gram.frame asked (owed_for number (os ++ more))) (sym left.1) (subst (λ ws. Fares v came ws [] (done' number) number o.gram.frame asked (owed_for number (os ++ more))) (sym left.0)
+              (fares_told gs slave w v came (waiting_of slave rs) (begun_of slave rs) [] p new os more told d (done number) (done' number) number asked o.gram o.there request b.gave b.own
+              (λ began told e s. subst (StandsSo v [] number began (p.told ++ new)) (sym (b.owes.ended number o ∙ ap (λ z. if z then true else done number) (in_done number e))) all)
               (λ e. (owed_others false tells number o (not_begun false tells number e), b.owes.ended number o ∙ ap (λ z. if z then true else done number) (not_done number e), refl)) f));
           whole = λ heard stays all. gives_told os done w v came (os ++ more) done' new (owed_all_last false tells) (λ a. all_over a stays) heard all;
         }

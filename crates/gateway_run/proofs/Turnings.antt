@@ -18,6 +18,7 @@ use Rattle.master_node.specs.Events.{begun_told, oldest_in, served_tells}
 use Rattle.master_node.specs.Listing.{number_at, told_in}
 use Rattle.master_node.specs.Serving.{run_lead, run_turn, serves_of}
 use Rattle.master_node.specs.Shows.{is_carried}
+use Rattle.master_node.specs.Wants.{gave_of}
 use Rattle.master_node.specs.declared.event.Event.{Event}
 use Rattle.master_node.specs.declared.event.Event.TheVariants as events
 use Rattle.served_places.specs.of_counters_kept.Lives.{LifeKept}
@@ -26,7 +27,7 @@ use Rattle.master_node.specs.of_datagrams.Frame.{IsFrame, chained}
 use Rattle.master_node.specs.of_frame_view.Seen.{seen}
 use Rattle.master_node.specs.of_frame_view.View.{Lens}
 use Rattle.master_node.specs.of_life_frames.Shares.{AllBoth, given_where}
-use Rattle.master_node.specs.of_life_model.Lives.{Life, Spot, Stand, life_lost}
+use Rattle.master_node.specs.of_life_model.Lives.{Life, Stand, life_lost}
 use Rattle.master_node.specs.of_life_runs.Led.{speech_at}
 use Rattle.master_node.specs.of_life_runs.of_link_mails.Body.{Body}
 use Rattle.master_node.specs.of_life_runs.of_segment_plan.declared.service.Service as Plan
@@ -39,7 +40,6 @@ use Rattle.master_node.specs.of_master_tour.Goes.{holds_at}
 use Rattle.master_node.specs.of_master_tour.Made.{is_in}
 use Rattle.master_node.specs.of_master_tour.Orders.{AreOnce}
 use Rattle.master_node.specs.of_segment_model.Ends.{Passing}
-use Rattle.master_node.specs.of_segment_model.Record.{News}
 use Rattle.master_node.specs.of_segment_model.Returned.{Returns}
 use Rattle.master_node.specs.of_segment_ring.declared.wire.Fate.{Fate}
 use Rattle.master_node.specs.of_segment_ring.declared.wire.Fate.TheVariants.{Pass, Lost}
@@ -48,9 +48,10 @@ use Rattle.run_record.proofs.Noted.{next_gives, pass_gives}
 use Rattle.gateway_run.specs.Account.{Owing, left_by_all, owed_by_all}
 use Rattle.gateway_run.specs.Desk.{AreApart}
 use Rattle.gateway_run.specs.Rooms.{AreFiled, begun_of, done_by_all, has_begun, owed_for, requests_of, waiting_of}
-use Rattle.gateway_run.specs.Replies.{AllDesk, Fares, GivesAll, IsDesk, IsHeard, IsOurs, IsUndone, WasGivenUp}
+use Rattle.gateway_run.specs.Replies.{AllDesk, Fares, GivesAll, IsDesk, IsHeard, IsOurs, IsUndone}
 use Rattle.gateway_run.specs.declared.desk.Request.{Request}
 use Rattle.gateway_run.proofs.Behind.{in_hand}
+use Rattle.gateway_run.proofs.Befores.{HasBefore, rows_next}
 use Rattle.gateway_run.proofs.Begins.{HasBegun}
 use Rattle.gateway_run.proofs.Losts.{tells_lost}
 use Rattle.gateway_run.proofs.Places.{told_where}
@@ -94,15 +95,6 @@ holds_here test [] k x e = absurd (cc)
 holds_here test (y ∷ xs) zero x e = ap test (let same : y ≡ x = cc in same)
 holds_here test (y ∷ xs) (suc k) x e = holds_here test xs k x e
 
--- ONE GIVE-UP stays
-some_last : (xs : List ℕ) (x : ℕ) → xs ++ x ∷ [] ≢ []
-some_last [] x f = cc
-some_last (y ∷ xs) x f = cc
-
-some_gave : (b : Bool) (recover made : ℕ) (spot : Spot) (l m : Life Body Asked Reply) → m.gave ≡ l.gave → l.gave ≢ [] → (given_where b recover spot made m).gave ≢ []
-some_gave true recover made spot l m e h f = some_last m.gave made f
-some_gave false recover made spot l m e h f = h (sym e ∙ f)
-
 -- WHERE NO MAIL IS IN HAND that was passed on, none is under way of an open slave, before a frame too
 module _ (lens : ℕ → Lens) (made : ℕ) (ds : List Raw.Datagram) (w : Serves) (v : ServedTurn) (t : IsServedTurn lens made ds w v) (free : w.hand ≡ None → w.lead.lived.life.stand ≡ Stand.Open → w.lead.lived.life.era.passing ≡ None) where
   turn_free : v.hand ≡ None → v.turn.lived.life.stand ≡ Stand.Open → v.turn.lived.life.era.passing ≡ None
@@ -123,8 +115,9 @@ module _ (lens : ℕ → Lens) (made : ℕ) (ds : List Raw.Datagram) (w : Serves
       go _ _ _ _ _ _ _ _ _ (ServedComes.mail k rest q) h e a = absurd (let bad : Some (record { key = k.key; mail = k.mail; told = [] }) ≡ None = a in cc)
 
 -- WHAT IS KNOWN OF A SLAVE between frames: it is open while the mail passed on last is its newest, what was told of that are all its replies where it is over; it
--- has a station, and the record its counters
-pub record IsLively (w : Serves) : Type 0 where
+-- has a station, and the record its counters; and before the frame of this number it was given up and its rows began
+pub record IsLively (made : ℕ) (w : Serves) : Type 0 where
+  pub before : HasBefore made w
   pub held : IsHeld w
   pub had : (p : Passed) → w.hand ≡ Some p → HasPassed p w.lead.lived.life
   pub free : w.hand ≡ None → w.lead.lived.life.stand ≡ Stand.Open → w.lead.lived.life.era.passing ≡ None
@@ -174,7 +167,7 @@ module _ (lens : ℕ → Lens) (recover retry : ℕ) (gives : Bool) (made : ℕ)
     begins_own j = begun_own j (number_at (map run_lead ws) j) (forwards j) (oldest_in ws j) (began_of (map run_turn vs) j) rs
 
     -- ONE SLAVE
-    module _ (i : ℕ) (w : Serves) (v : ServedTurn) (came : List ℕ) (at_v : slice_get vs i ≡ Some v) (turn : IsServedTurn lens made k.datagrams w v) (lively : IsLively w) where
+    module _ (i : ℕ) (w : Serves) (v : ServedTurn) (came : List ℕ) (at_v : slice_get vs i ≡ Some v) (turn : IsServedTurn lens made k.datagrams w v) (lively : IsLively made w) where
       -- the frame left it out
       left_out : is_in i second ≡ false → v.turn.share.under ≡ false
       left_out e = go v.turn.share.under refl
@@ -194,12 +187,9 @@ module _ (lens : ℕ → Lens) (recover retry : ℕ) (gives : Bool) (made : ℕ)
           (λ e. shows_at lens recover retry gives made sent back vs fate i v at_v ∙ shown_none lens recover retry gives made sent back fate k.datagrams w v k.is turn k.returns lively.named (left_out e) i)
           ∙ shows_at lens recover retry gives made sent back vs fate i v at_v
 
-      gone_next : WasGivenUp w → WasGivenUp (serves_of v)
-      gone_next h e = h (sym (next_gives lens made w.lead.lived v.turn.lived turn.next) ∙ e)
-
       first_desk : IsDesk gs os i w came (waiting_of i rs) (begun_of i rs) → HasBegun lens made k.datagrams w v turn gs i os came (requests_of i rs) (requests_of i after_begins)
       first_desk d =
-          slave_first lens recover retry gives made sent back gs rs os dones begins turned_shows first second i w v came k.once1 begins_own k.datagrams turn (number_at (map run_lead ws) i) (forwards i) (oldest_in ws i) begins_is gone_next k.early d
+          slave_first lens recover retry gives made sent back gs rs os dones begins turned_shows first second i w v came k.once1 begins_own k.datagrams turn (number_at (map run_lead ws) i) (forwards i) (oldest_in ws i) begins_is (next_gives lens made w.lead.lived v.turn.lived turn.next) k.early d
 
       -- what is told of it behind the frame is told under its own keys
       shows_own : IsDesk gs os i w came (waiting_of i rs) (begun_of i rs) → AreOf i after_begins (turned_shows i)
@@ -220,21 +210,21 @@ module _ (lens : ℕ → Lens) (recover retry : ℕ) (gives : Bool) (made : ℕ)
       pub slave : Serves
       pub came : List ℕ
       pub turn : IsServedTurn lens made k.datagrams slave v
-      pub lively : IsLively slave
+      pub lively : IsLively made slave
       pub desk : IsDesk gs os n slave came (waiting_of n rs) (begun_of n rs)
 
-    at_place : (i : ℕ) (ws' : List Serves) (vs' : List ServedTurn) (nss : List (List ℕ)) → AllServedTurn lens made k.datagrams ws' vs' → All IsLively ws' → AllDesk gs rs os i ws' nss → (j n : ℕ) (v : ServedTurn) → n ≡ i + j → slice_get vs' j ≡ Some v → IsAt n v
+    at_place : (i : ℕ) (ws' : List Serves) (vs' : List ServedTurn) (nss : List (List ℕ)) → AllServedTurn lens made k.datagrams ws' vs' → All (IsLively made) ws' → AllDesk gs rs os i ws' nss → (j n : ℕ) (v : ServedTurn) → n ≡ i + j → slice_get vs' j ≡ Some v → IsAt n v
     at_place i ws' [] nss t l d j n v e a = absurd (cc)
     at_place i [] (u ∷ vs') nss t l d j n v e a = absurd t
     at_place i (w ∷ ws') (u ∷ vs') [] t l d j n v e a = absurd d
     at_place i (w ∷ ws') (u ∷ vs') (ns ∷ nss) t l d zero n v e a =
         let same : u ≡ v = cc in
         let here : i ≡ n = omega (arith, e) in
-        subst (λ m. IsAt m v) here (subst (λ z. IsAt i z) same (record { slave = w; came = ns; turn = t.0; lively = All-head IsLively w ws' l; desk = d.0 }))
-    at_place i (w ∷ ws') (u ∷ vs') (ns ∷ nss) t l d (suc j) n v e a = at_place (suc i) ws' vs' nss t.1 (All-tail IsLively w ws' l) d.1 j n v (omega (arith, e)) a
+        subst (λ m. IsAt m v) here (subst (λ z. IsAt i z) same (record { slave = w; came = ns; turn = t.0; lively = All-head (IsLively made) w ws' l; desk = d.0 }))
+    at_place i (w ∷ ws') (u ∷ vs') (ns ∷ nss) t l d (suc j) n v e a = at_place (suc i) ws' vs' nss t.1 (All-tail (IsLively made) w ws' l) d.1 j n v (omega (arith, e)) a
 
     -- so all that is told behind the frame is told under keys of its own
-    module _ (each : AllServedTurn lens made k.datagrams ws vs) (lively : All IsLively ws) (came : List (List ℕ)) (desk : AllDesk gs rs os 0 ws came) where
+    module _ (each : AllServedTurn lens made k.datagrams ws vs) (lively : All (IsLively made) ws) (came : List (List ℕ)) (desk : AllDesk gs rs os 0 ws came) where
       all_own : (j : ℕ) → AreOf j after_begins (turned_shows j)
       all_own j = go (slice_get vs j) refl
         where
@@ -256,7 +246,7 @@ module _ (lens : ℕ → Lens) (recover retry : ℕ) (gives : Bool) (made : ℕ)
       }
 
       -- ONE SLAVE over the frame
-      module _ (i : ℕ) (w : Serves) (v : ServedTurn) (ns : List ℕ) (at_v : slice_get vs i ≡ Some v) (turn : IsServedTurn lens made k.datagrams w v) (l : IsLively w) (own : TellsSo (goes v)) where
+      module _ (i : ℕ) (w : Serves) (v : ServedTurn) (ns : List ℕ) (at_v : slice_get vs i ≡ Some v) (turn : IsServedTurn lens made k.datagrams w v) (l : IsLively made w) (own : TellsSo (goes v)) where
         -- what is told of it, as it is written of one slave
         shown_as : (z : Fate) → shown lens recover retry gives made sent back z i v ≡ tells_by lens recover retry gives made sent back gs rs os dones begins turned_shows first second i w v ns z
         shown_as Pass = refl
@@ -279,24 +269,21 @@ module _ (lens : ℕ → Lens) (recover retry : ℕ) (gives : Bool) (made : ℕ)
         pub told_all : ToldAll (goes v)
         told_all = goes_told lens recover retry gives made k.datagrams (frame_so lens recover retry gives made sent back fate) w v k.is turn k.returns l.named l.kept l.held l.told
 
-        lost_is : (ns : List (News Body)) (b : Bool) → v.turn.lived.life.gave ≢ [] →
-            (given_where b recover v.turn.lived.spot made (life_lost (speech_at lens v.turn.lived.spot) acknowledged is_followed is_passed v.turn.lived.spot ns (seen lens sent) v.turn.lived.life v.turn.lived.life.stand)).gave ≢ []
-        lost_is ns b h =
-            some_gave b recover made v.turn.lived.spot v.turn.lived.life (life_lost (speech_at lens v.turn.lived.spot) acknowledged is_followed is_passed v.turn.lived.spot ns (seen lens sent) v.turn.lived.life v.turn.lived.life.stand)
-            (lost_gave (speech_at lens v.turn.lived.spot) acknowledged is_followed is_passed recover v.turn.lived.spot v.turn.lived.life ns (seen lens sent) v.turn.lived.life.stand) h
+        -- how often it was given up
+        abbrev lost : Life Body Asked Reply
+        lost = life_lost (speech_at lens v.turn.lived.spot) acknowledged is_followed is_passed v.turn.lived.spot (news_lost v.turn.lived.spot.station v.kept (seen lens sent)) (seen lens sent) v.turn.lived.life v.turn.lived.life.stand
 
-        gone : (z : Fate) → WasGivenUp (serves_of v) → WasGivenUp (goes_so lens recover retry gives made sent back z v)
-        gone Pass h e =
-            h (sym (pass_gives lens recover gives made (frame_so lens recover retry gives made sent back Pass) v.turn.lived v.turn.share (news_back v.turn.lived.spot.station v.kept v.counts (seen lens back)) v.turn.lived.life.gave refl) ∙ e)
-        gone (Lost after) h e = lost_is (news_lost v.turn.lived.spot.station v.kept (seen lens sent)) (gives && v.turn.share.under) h e
+        lost_same : lost.gave ≡ v.turn.lived.life.gave
+        lost_same = lost_gave (speech_at lens v.turn.lived.spot) acknowledged is_followed is_passed recover v.turn.lived.spot v.turn.lived.life (news_lost v.turn.lived.spot.station v.kept (seen lens sent)) (seen lens sent) v.turn.lived.life.stand
 
-        given_so : (z : Fate) (after : ℕ) → z ≡ Lost after → gives_it lens recover retry gives (Lost after) v ≡ true → WasGivenUp (goes_so lens recover retry gives made sent back z v)
-        given_so Pass after s g e = absurd (cc)
-        given_so (Lost other) after s g e =
-            some_last lost.gave made (sym (ap (λ b. (given_where b recover v.turn.lived.spot made lost).gave) g) ∙ e)
-          where
-            lost : Life Body Asked Reply
-            lost = life_lost (speech_at lens v.turn.lived.spot) acknowledged is_followed is_passed v.turn.lived.spot (news_lost v.turn.lived.spot.station v.kept (seen lens sent)) (seen lens sent) v.turn.lived.life v.turn.lived.life.stand
+        spared_so : (z : Fate) → gives_it lens recover retry gives z v ≡ false → gave_of (goes_so lens recover retry gives made sent back z v).lead ≡ v.turn.lived.life.gave
+        spared_so Pass g =
+            pass_gives lens recover gives made (frame_so lens recover retry gives made sent back Pass) v.turn.lived v.turn.share (news_back v.turn.lived.spot.station v.kept v.counts (seen lens back)) v.turn.lived.life.gave refl
+        spared_so (Lost after) g = ap (λ b. (given_where b recover v.turn.lived.spot made lost).gave) g ∙ lost_same
+
+        given_so : (z : Fate) → gives_it lens recover retry gives z v ≡ true → gave_of (goes_so lens recover retry gives made sent back z v).lead ≡ v.turn.lived.life.gave ++ made ∷ []
+        given_so Pass g = absurd (cc)
+        given_so (Lost after) g = ap (λ b. (given_where b recover v.turn.lived.spot made lost).gave) g ∙ ap (λ l. l ++ made ∷ []) lost_same
 
         steps : SlaveSteps lens recover retry gives made sent back gs rs os dones begins turned_shows first second i w v ns fate
         steps = record {
@@ -312,9 +299,10 @@ module _ (lens : ℕ → Lens) (recover retry : ℕ) (gives : Bool) (made : ℕ)
           had = λ p e. (next_has lens made k.datagrams w v turn l.had p e).tells;
           free = turn_free lens made k.datagrams w v turn l.free;
           all = λ s p e x g n. all_so fate told_all s p e n;
-          gone_next = gone_next i w v ns at_v turn l;
-          gone = gone fate;
-          given_up = λ after s g. given_so fate after s g;
+          gave_next = next_gives lens made w.lead.lived v.turn.lived turn.next;
+          rows_next = rows_next lens recover retry made k.datagrams w v turn l.before;
+          spared = spared_so fate;
+          given_up = given_so fate;
         }
 
         pub one_stepped : IsDesk gs os i w ns (waiting_of i rs) (begun_of i rs) → HasStepped lens recover retry gives made sent back gs rs os dones begins turned_shows first second i w v ns fate
@@ -326,8 +314,8 @@ module _ (lens : ℕ → Lens) (recover retry : ℕ) (gives : Bool) (made : ℕ)
         pub is : b ≡ Some after
         pub comes : List ℕ
         pub there : c ≡ Some comes
-        pub fares : (number : ℕ) (asked : Mail) (o : IsOurs gs n number) → request_in o.gram.bytes ≡ Ok asked → Fares w ns (waiting_of n rs) (begun_of n rs) (is_in number dones) number asked (owed_for number os) →
-            Fares after comes (waiting_of n after_all) (begun_of n after_all) (is_in number (dones ++ ends)) number asked (owed_for number (os ++ besides))
+        pub fares : (number : ℕ) (asked : Mail) (o : IsOurs gs n number) → request_in o.gram.bytes ≡ Ok asked → Fares w ns (waiting_of n rs) (begun_of n rs) (is_in number dones) number o.gram.frame asked (owed_for number os) →
+            Fares after comes (waiting_of n after_all) (begun_of n after_all) (is_in number (dones ++ ends)) number o.gram.frame asked (owed_for number (os ++ besides))
 
       pub record AllStepped (i : ℕ) (ws' : List Serves) (vs' : List ServedTurn) (nss : List (List ℕ)) : Type 0 where
         pub comes : List (List ℕ)
@@ -336,7 +324,7 @@ module _ (lens : ℕ → Lens) (recover retry : ℕ) (gives : Bool) (made : ℕ)
         pub whole : All (HearsNoMore lens recover retry (frame_so lens recover retry gives made sent back fate)) vs' → AllBoth (GivesAll os (λ n. is_in n dones)) ws' nss → AllBoth (GivesAll (os ++ besides) (λ n. is_in n (dones ++ ends))) (map goes vs') comes
         pub at : (j n : ℕ) (w : Serves) (ns : List ℕ) → n ≡ i + j → slice_get ws' j ≡ Some w → slice_get nss j ≡ Some ns → AtPlace n w ns (slice_get (map goes vs') j) (slice_get comes j)
 
-      all_stepped : (i : ℕ) (ws' : List Serves) (vs' : List ServedTurn) (nss : List (List ℕ)) → ((j n : ℕ) → n ≡ i + j → slice_get vs n ≡ slice_get vs' j) → AllServedTurn lens made k.datagrams ws' vs' → All IsLively ws' → All TellsSo (map goes vs') →
+      all_stepped : (i : ℕ) (ws' : List Serves) (vs' : List ServedTurn) (nss : List (List ℕ)) → ((j n : ℕ) → n ≡ i + j → slice_get vs n ≡ slice_get vs' j) → AllServedTurn lens made k.datagrams ws' vs' → All (IsLively made) ws' → All TellsSo (map goes vs') →
           AllDesk gs rs os i ws' nss → AllStepped i ws' vs' nss
       all_stepped i [] [] [] front t l o d = record { comes = []; desks = tt; told = All-nil ToldAll; whole = λ quiet all. tt; at = λ j n w ns e a b. absurd (let bad : None ≡ Some w = a in cc) }
       all_stepped i [] [] (ns ∷ nss) front t l o d = absurd d
@@ -345,10 +333,10 @@ module _ (lens : ℕ → Lens) (recover retry : ℕ) (gives : Bool) (made : ℕ)
       all_stepped i (w ∷ ws') (v ∷ vs') [] front t l o d = absurd d
       all_stepped i (w ∷ ws') (v ∷ vs') (ns ∷ nss) front t l o d =
           let here : slice_get vs i ≡ Some v = front 0 i (omega arith) in
-          let lively_here = All-head IsLively w ws' l in
+          let lively_here = All-head (IsLively made) w ws' l in
           let own_here = All-head TellsSo (goes v) (map goes vs') o in
           let s = one_stepped i w v ns here t.0 lively_here own_here d.0 in
-          let later = all_stepped (suc i) ws' vs' nss (λ j n e. front (suc j) n (omega (arith, e))) t.1 (All-tail IsLively w ws' l) (All-tail TellsSo (goes v) (map goes vs') o) d.1 in
+          let later = all_stepped (suc i) ws' vs' nss (λ j n e. front (suc j) n (omega (arith, e))) t.1 (All-tail (IsLively made) w ws' l) (All-tail TellsSo (goes v) (map goes vs') o) d.1 in
           let one : AtPlace i w ns (Some (goes v)) (Some s.comes) = record { after = goes v; is = refl; comes = s.comes; there = refl; fares = s.fares } in
           record {
             comes = s.comes ∷ later.comes;

@@ -1,6 +1,8 @@
 -- WORKED ROWS: a datagram that asks for the value of IDN 1 from the drive at station 1001, and what it got. Its slave replies in three parts.
-use Rattle.std.proofs.Common.{ℕ, true, false, inl, inr, List, [], ◌∷◌, refl, arith}
-use Rattle.std.specs.Prelude.{◌≢◌, Option, Some, None, Ok}
+use Rattle.std.proofs.Common.{◌≡◌, ◌<◌, ◌≤◌, ◌⊎◌, ℕ, true, false, inl, inr, List, [], ◌∷◌, refl, sym, ap, ◌∙◌, arith}
+use Rattle.std.specs.Prelude.{Option, Some, None, Ok, slice_index_or}
+use Rattle.std.proofs.lemmas.List.Elements.{All-cons, All-nil}
+use Rattle.std.proofs.lemmas.List.Quantifiers.{Any-push}
 use Rattle.served_places.specs.of_served_runs.Served.{Serves}
 use Rattle.mailbox_mail.specs.Mail.{error_of}
 use Rattle.mailbox_mail.specs.declared.mail.Kind.TheVariants.{SoE}
@@ -13,6 +15,7 @@ use Rattle.master_node.specs.of_master_hand.Spoken.{Asked, passed}
 use Rattle.run_book.specs.declared.book.GramIn.{GramIn}
 use Rattle.gateway_run.specs.Account.{Owing}
 use Rattle.gateway_run.specs.Replies.{AllGot, Fares.dropped, Fares.replies, Fares.waits, Got.ignored, Got.queued, Got.refused}
+use Rattle.gateway_run.specs.Since.{GaveSince, NoneSince, SparedBetween}
 use Rattle.gateway_run.specs.declared.desk.Request.{Request}
 
 -- a mail of SoE with this body, to the station and from it, with a counter
@@ -36,9 +39,9 @@ part2 = 10 ∷ 64 ∷ 1 ∷ 0 ∷ 66 ∷ []
 abbrev part3 : List ℕ
 part3 = 2 ∷ 64 ∷ 1 ∷ 0 ∷ 67 ∷ []
 
--- THE DATAGRAM of that mail, with this about where it was passed on; and one that is too short
+-- THE DATAGRAM of that mail, heard before frame 2, with this about where it was passed on; and one that is too short
 abbrev heard_at : Option ℕ → GramIn
-heard_at slave = record { peer = record { ip = 2130706433; port = 34980 }; bytes = 10 ∷ 80 ∷ 4 ∷ 0 ∷ 233 ∷ 3 ∷ 0 ∷ 21 ∷ asking; queued = slave; frame = 0 }
+heard_at slave = record { peer = record { ip = 2130706433; port = 34980 }; bytes = 10 ∷ 80 ∷ 4 ∷ 0 ∷ 233 ∷ 3 ∷ 0 ∷ 21 ∷ asking; queued = slave; frame = 2 }
 
 abbrev short : GramIn
 short = record { peer = record { ip = 2130706433; port = 34980 }; bytes = 2 ∷ 80 ∷ 4 ∷ 0 ∷ 233 ∷ 3 ∷ 0 ∷ []; queued = None; frame = 0 }
@@ -62,46 +65,69 @@ ignored_row ws came = (ignored faults.Short refl refl refl, tt)
 pub refused_row : (ws : List Serves) (came : List (List ℕ)) → AllGot ws came [] [] (owed (error_of 5) ∷ []) 0 (heard_at None ∷ [])
 refused_row ws came = (refused (counted 1 asking) 5 refl refl (λ same. omega (arith, same)) refl, tt)
 
+-- a give-up at frame 1 was before the datagram was heard; one at frame 2 or later wasn't
+pub since_one : GaveSince 2 (1 ∷ []) → ⊥
+since_one given =
+    let few = given.2 in
+    let first : given.0 ≡ 0 = omega (arith, few) in
+    let same : 1 ≡ given.1 = sym (ap (λ (k : ℕ). slice_index_or (1 ∷ []) k given.1) first) ∙ given.3 in
+    let due = given.4 in
+    omega (arith, same, due)
+
+since_three : GaveSince 2 (1 ∷ 3 ∷ [])
+since_three = Any-push (λ (at : ℕ). 2 ≤ at) (1 ∷ []) 3 (omega arith)
+
+before_two : NoneSince 2 (1 ∷ [])
+before_two = All-cons (λ (at : ℕ). at < 2) 1 [] (omega arith) (All-nil (λ (at : ℕ). at < 2))
+
 module _ (w : Serves) where
-  -- ITS MAIL WAITS
-  pub waits_row : AllGot (w ∷ []) ([] ∷ []) asked_for [] [] 0 (heard_at (Some 0) ∷ [])
-  waits_row = (queued (counted 1 asking) 0 w [] refl refl refl refl (waits refl refl refl), tt)
-
-  -- ITS SLAVE WAS GIVEN UP before the mail came into hand: one mailbox error 5
-  pub dropped_row : w.lead.lived.life.gave ≢ [] → AllGot (w ∷ []) ([] ∷ []) [] [] (owed (error_of 5) ∷ []) 0 (heard_at (Some 0) ∷ [])
-  dropped_row gave = (queued (counted 1 asking) 0 w [] refl refl refl refl (dropped refl refl refl refl gave refl), tt)
-
-  -- the row of its mail, in which these mails were heard
+  -- the row of its mail, which came into hand before frame 3, and in which these mails were heard
   abbrev row : List Body → Row Body Asked Reply
   row heard = record { service = passed (bare asking); frame = 3; told = Ok (bare asking) ∷ []; heard = heard; answer = None }
 
-  -- the slave with just that row
-  abbrev with_row : List Body → Serves
-  with_row heard = record w {
+  -- the slave with no row, or with just this one, given up at these frames
+  abbrev with_rows : Option (Row Body Asked Reply) → List ℕ → Serves
+  with_rows newest gave = record w {
     lead = record w.lead {
       lived = record w.lead.lived {
-        life = record w.lead.lived.life { past = []; era = record w.lead.lived.life.era { side = record w.lead.lived.life.era.side { past = []; now = Some (row heard) } } };
+        life = record w.lead.lived.life { past = []; gave = gave; era = record w.lead.lived.life.era { side = record w.lead.lived.life.era.side { past = []; now = newest } } };
       };
     };
   }
+
+  -- ITS MAIL WAITS, of a slave that was given up before the datagram was heard
+  pub waits_row : AllGot (with_rows None (1 ∷ []) ∷ []) ([] ∷ []) asked_for [] [] 0 (heard_at (Some 0) ∷ [])
+  waits_row = (queued (counted 1 asking) 0 (with_rows None (1 ∷ [])) [] refl refl refl refl (waits refl refl before_two refl), tt)
+
+  -- ITS SLAVE WAS GIVEN UP since, before the mail came into hand: one mailbox error 5
+  pub dropped_row : AllGot (with_rows None (1 ∷ 3 ∷ []) ∷ []) ([] ∷ []) [] [] (owed (error_of 5) ∷ []) 0 (heard_at (Some 0) ∷ [])
+  dropped_row = (queued (counted 1 asking) 0 (with_rows None (1 ∷ 3 ∷ [])) [] refl refl refl refl (dropped refl refl refl refl since_three refl), tt)
 
   -- all three parts, as they were heard
   abbrev all : List Body
   all = Ok (counted 1 part1) ∷ Ok (counted 2 part2) ∷ Ok (counted 3 part3) ∷ []
 
+  -- the datagram's slave wasn't given up while its mail waited, nor since
+  spared : SparedBetween 2 3 (1 ∷ [])
+  spared = All-cons (λ (at : ℕ). (at < 2) ⊎ (3 ≤ at)) 1 [] (inl (omega arith)) (All-nil (λ (at : ℕ). (at < 2) ⊎ (3 ≤ at)))
+
+  before_three : NoneSince 3 (1 ∷ [])
+  before_three = All-cons (λ (at : ℕ). at < 3) 1 [] (omega arith) (All-nil (λ (at : ℕ). at < 3))
+
   -- TWO OF THREE REPLIES were told so far, and its request is unfinished
-  pub begun_row : AllGot (with_row all ∷ []) ((0 ∷ []) ∷ []) begun_for [] (owed (bare part1) ∷ owed (bare part2) ∷ []) 0 (heard_at (Some 0) ∷ [])
+  pub begun_row : AllGot (with_rows (Some (row all)) (1 ∷ []) ∷ []) ((0 ∷ []) ∷ []) begun_for [] (owed (bare part1) ∷ owed (bare part2) ∷ []) 0 (heard_at (Some 0) ∷ [])
   begun_row = (
-    queued (counted 1 asking) 0 (with_row all) (0 ∷ []) refl refl refl refl
+    queued (counted 1 asking) 0 (with_rows (Some (row all)) (1 ∷ [])) (0 ∷ []) refl refl refl refl
         (replies (Ok (counted 1 part1) ∷ Ok (counted 2 part2) ∷ [])
-        (record { index = 0; its = refl; row = row all; is = refl; mail = bare asking; same = record { kind = refl; body = refl }; service = refl; rest = Ok (counted 3 part3) ∷ []; heard = refl }) (inl refl) refl),
+        (record { index = 0; its = refl; row = row all; is = refl; mail = bare asking; same = record { kind = refl; body = refl }; service = refl; rest = Ok (counted 3 part3) ∷ []; heard = refl })
+        spared (inl (refl, before_three)) refl),
     tt,
   )
 
   -- ITS ROW IS DONE: it has all three
-  pub done_row : AllGot (with_row all ∷ []) ((0 ∷ []) ∷ []) [] (0 ∷ []) (owed (bare part1) ∷ owed (bare part2) ∷ owed (bare part3) ∷ []) 0 (heard_at (Some 0) ∷ [])
+  pub done_row : AllGot (with_rows (Some (row all)) (1 ∷ []) ∷ []) ((0 ∷ []) ∷ []) [] (0 ∷ []) (owed (bare part1) ∷ owed (bare part2) ∷ owed (bare part3) ∷ []) 0 (heard_at (Some 0) ∷ [])
   done_row = (
-    queued (counted 1 asking) 0 (with_row all) (0 ∷ []) refl refl refl refl
-        (replies all (record { index = 0; its = refl; row = row all; is = refl; mail = bare asking; same = record { kind = refl; body = refl }; service = refl; rest = []; heard = refl }) (inr refl) refl),
+    queued (counted 1 asking) 0 (with_rows (Some (row all)) (1 ∷ [])) (0 ∷ []) refl refl refl refl
+        (replies all (record { index = 0; its = refl; row = row all; is = refl; mail = bare asking; same = record { kind = refl; body = refl }; service = refl; rest = []; heard = refl }) spared (inr refl) refl),
     tt,
   )

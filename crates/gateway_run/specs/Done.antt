@@ -1,26 +1,45 @@
--- WHERE A SERVING LEAVES NOTHING each datagram that was queued at a slave is done, unless that slave was given up; and each slave rests.
-use Rattle.std.specs.Prelude.{◌≡◌, ◌⊎◌, ℕ, suc, true, Option, Some, None, List, [], ◌∷◌, slice_get, ⊤}
+-- WHERE A SERVING LEAVES NOTHING each datagram that was queued at a slave is done, or was ended by a give-up of that slave; and each slave rests.
+use Rattle.std.specs.Prelude.{◌≡◌, ◌⊎◌, ℕ, suc, Bool, true, false, Some, List, [], ◌∷◌, slice_get, ⊤}
+use Rattle.mailbox_mail.specs.Mail.{error_of}
+use Rattle.mailbox_mail.specs.declared.mail.Mail.{Mail}
+use Rattle.served_places.specs.Rows.{AreAll}
 use Rattle.served_places.specs.of_served_runs.Served.{Serves}
 use Rattle.master_node.specs.of_master_tour.Made.{is_in}
-use Rattle.master_node.specs.Wants.{IsMailless}
+use Rattle.master_node.specs.Wants.{IsMailless, gave_of}
 use Rattle.master_node.specs.of_frame_view.View.{Lens}
 use Rattle.master_node.specs.of_life_model.Lives.{Stand}
+use Rattle.master_node.specs.of_life_runs.of_link_mails.Body.{Body}
 use Rattle.run_book.specs.declared.book.GramIn.{GramIn}
 use Rattle.run_book.specs.declared.book.SlaveBook.{SlaveBook}
 use Rattle.run_book.specs.of_slave_server.Serving.{next_mail}
 use Rattle.run_book.specs.of_slave_steps.Node.{is_settled}
 pub use Rattle.run_record.specs.Led.{LeavesNone}
-use Rattle.gateway_run.specs.Replies.{WasGivenUp}
+use Rattle.gateway_run.specs.Account.{Owing}
+use Rattle.gateway_run.specs.Replies.{HasRow, mails_told}
+use Rattle.gateway_run.specs.Rooms.{owed_for}
+use Rattle.gateway_run.specs.Since.{GaveSince}
 
--- A DATAGRAM IS DONE, by the slave at which it was queued: its row is among those that were done, or that slave was given up
-abbrev pub IsDone : List Serves → List ℕ → ℕ → Option ℕ → Type 0
-IsDone serves dones number None = ⊤
-IsDone serves dones number (Some slave) = (w : Serves) × (slice_get serves slave ≡ Some w) × ((is_in number dones ≡ true) ⊎ WasGivenUp w)
+-- HOW A DATAGRAM ENDED THAT WAS PASSED ON, heard before this frame: it began and its row is done, with all its replies; it never began and has error 5, since its
+-- slave was given up from that frame on; or it began and its slave was given up since, so it didn't begin in the slave's last epoch
+pub data IsOver (w : Serves) (came : List ℕ) (done : Bool) (number heard : ℕ) (mails : List Mail) : Type 0 where
+  whole :
+      (asked : Mail) (told : List Body) → HasRow w came number asked told → AreAll told → mails ≡ mails_told told → done ≡ true → IsOver w came done number heard mails
+  dropped : is_in number came ≡ false → GaveSince heard (gave_of w.lead) → mails ≡ error_of 5 ∷ [] → done ≡ false → IsOver w came done number heard mails
+  cut :
+      (asked : Mail) (told : List Body) (its : HasRow w came number asked told) → GaveSince its.row.frame (gave_of w.lead) → mails ≡ mails_told told → done ≡ false
+      → IsOver w came done number heard mails
+
+-- A DATAGRAM IS OVER at the slave at which it was queued, by the datagrams whose mails came into hand, those whose rows were done and what was owed
+abbrev pub IsDone : List Serves → List (List ℕ) → List ℕ → List Owing → ℕ → GramIn → Type 0
+IsDone serves came dones os number g =
+    (slave : ℕ) → g.queued ≡ Some slave
+    → (w : Serves) × (numbers : List ℕ) × (slice_get serves slave ≡ Some w) × (slice_get came slave ≡ Some numbers)
+    × IsOver w numbers (is_in number dones) number g.frame (owed_for number os)
 
 -- those heard from a number on
-abbrev pub AllDone : List Serves → List ℕ → ℕ → List GramIn → Type 0
-AllDone serves dones n [] = ⊤
-AllDone serves dones n (g ∷ gs) = IsDone serves dones n g.queued × AllDone serves dones (suc n) gs
+abbrev pub AllDone : List Serves → List (List ℕ) → List ℕ → List Owing → ℕ → List GramIn → Type 0
+AllDone serves came dones os n [] = ⊤
+AllDone serves came dones os n (g ∷ gs) = IsDone serves came dones os n g × AllDone serves came dones os (suc n) gs
 
 -- NOTHING IS LEFT of a slave of a serving at the end: it was given up for good; or its master wants nothing of it, not even by a mail that is passed on, and the slave is settled
 abbrev pub ServedRestsSo : (ℕ → Lens) → Serves → SlaveBook → Type 0

@@ -4,6 +4,7 @@ pub mod Heard
 pub mod Account
 pub mod Desk
 pub mod Rooms
+pub mod Since
 pub mod Serving
 pub mod Replies
 pub mod Done

@@ -2,6 +2,7 @@
 -- done.
 use Rattle.std.specs.Prelude.{◌≡◌, ◌≢◌, ◌<◌, ◌≤◌, ◌⊎◌, ℕ, suc, Bool, true, false, Option, Some, None, List, [], ◌∷◌, ◌++◌, length, map, slice_get, All, Ok, Err, ⊤}
 use Rattle.master_node.specs.of_life_frames.of_exchange_model.Exchange.{plain}
+use Rattle.master_node.specs.Wants.{gave_of}
 use Rattle.master_node.specs.of_life_frames.of_exchange_model.Rows.{Row}
 use Rattle.gateway_core.specs.Framing.{request_in}
 use Rattle.gateway_core.specs.declared.framing.GatewayFault.{GatewayFault}
@@ -27,6 +28,7 @@ use Rattle.gateway_run.specs.Account.{Course, Course.begins, Course.hears, Cours
 use Rattle.gateway_run.specs.Desk.{AreApart}
 use Rattle.gateway_run.specs.Events.{events_of}
 use Rattle.gateway_run.specs.Rooms.{AreFiled, AreRising, begun_of, done_by_all, grams_of, owed_for, waiting_of}
+use Rattle.gateway_run.specs.Since.{GaveSince, NoneSince, SparedBetween}
 use Rattle.gateway_run.specs.declared.desk.Request.{Request}
 
 -- mails of a slave as they are told, without address and counter
@@ -53,23 +55,23 @@ pub record HasRow (w : Serves) (came : List ℕ) (number : ℕ) (asked : Mail) (
   pub rest : List Body
   pub heard : plain emission row.heard ≡ told ++ rest
 
--- a slave was given up, for good or not
-abbrev pub WasGivenUp : Serves → Type 0
-WasGivenUp w = w.lead.lived.life.gave ≢ []
+-- WHERE THE ROW OF A DATAGRAM IS DONE, which began at this frame, it has all its replies; where it isn't, one of these requests is its datagram's and its slave
+-- wasn't given up since, or its slave was
+abbrev pub StandsSo : Serves → List Request → ℕ → ℕ → List Body → Bool → Type 0
+StandsSo w begun number began told true = AreAll told
+StandsSo w begun number began told false = ((is_in number (grams_of begun) ≡ true) × NoneSince began (gave_of w.lead)) ⊎ GaveSince began (gave_of w.lead)
 
--- WHERE A ROW IS DONE it has all its replies; where it isn't, one of these requests is its datagram's, or its slave was given up
-abbrev pub StandsSo : Serves → List Request → ℕ → List Body → Bool → Type 0
-StandsSo w begun number told true = AreAll told
-StandsSo w begun number told false = (is_in number (grams_of begun) ≡ true) ⊎ WasGivenUp w
-
--- WHAT A DATAGRAM GOT THAT WAS PASSED ON, by the requests of its slave whose mails wait and that whose mail is in hand: nothing while its mail waits; error 5
--- where its slave was given up before it came into hand; or the first replies of its row
-pub data Fares (w : Serves) (came : List ℕ) (waiting begun : List Request) (done : Bool) (number : ℕ) (asked : Mail) (mails : List Mail) : Type 0 where
-  waits : is_in number (grams_of waiting) ≡ true → done ≡ false → mails ≡ [] → Fares w came waiting begun done number asked mails
+-- WHAT A DATAGRAM GOT THAT WAS PASSED ON, heard before this frame, by the requests of its slave whose mails wait and that whose mail is in hand: nothing while its
+-- mail waits, and its slave wasn't given up since; error 5 where its slave was given up since, and its mail never came into hand; or the first replies of its row,
+-- and its slave wasn't given up while its mail waited
+pub data Fares (w : Serves) (came : List ℕ) (waiting begun : List Request) (done : Bool) (number heard : ℕ) (asked : Mail) (mails : List Mail) : Type 0 where
+  waits : is_in number (grams_of waiting) ≡ true → done ≡ false → NoneSince heard (gave_of w.lead) → mails ≡ [] → Fares w came waiting begun done number heard asked mails
   dropped :
-      is_in number (grams_of waiting) ≡ false → is_in number (grams_of begun) ≡ false → is_in number came ≡ false → done ≡ false → WasGivenUp w → mails ≡ error_of 5 ∷ []
-      → Fares w came waiting begun done number asked mails
-  replies : (told : List Body) → HasRow w came number asked told → StandsSo w begun number told done → mails ≡ mails_told told → Fares w came waiting begun done number asked mails
+      is_in number (grams_of waiting) ≡ false → is_in number (grams_of begun) ≡ false → is_in number came ≡ false → done ≡ false → GaveSince heard (gave_of w.lead)
+      → mails ≡ error_of 5 ∷ [] → Fares w came waiting begun done number heard asked mails
+  replies :
+      (told : List Body) (its : HasRow w came number asked told) → SparedBetween heard its.row.frame (gave_of w.lead) → StandsSo w begun number its.row.frame told done
+      → mails ≡ mails_told told → Fares w came waiting begun done number heard asked mails
 
 -- WHAT A DATAGRAM GOT: one that is no request nothing, one that the gateway answered by itself one error, which is never 7, and any other what it got that was passed on; `dones`
 -- are those whose rows are done
@@ -78,7 +80,7 @@ pub data Got (serves : List Serves) (came : List (List ℕ)) (rs : List Request)
   refused : (asked : Mail) (detail : ℕ) → request_in g.bytes ≡ Ok asked → g.queued ≡ None → detail ≢ 7 → mails ≡ error_of detail ∷ [] → Got serves came rs dones number g mails
   queued :
       (asked : Mail) (slave : ℕ) (w : Serves) (numbers : List ℕ) → request_in g.bytes ≡ Ok asked → g.queued ≡ Some slave → slice_get serves slave ≡ Some w → slice_get came slave ≡ Some numbers
-      → Fares w numbers (waiting_of slave rs) (begun_of slave rs) (is_in number dones) number asked mails → Got serves came rs dones number g mails
+      → Fares w numbers (waiting_of slave rs) (begun_of slave rs) (is_in number dones) number g.frame asked mails → Got serves came rs dones number g mails
 
 -- those heard from a number on, each by what was owed for it
 abbrev pub AllGot : List Serves → List (List ℕ) → List Request → List ℕ → List Owing → ℕ → List GramIn → Type 0

@@ -66,9 +66,9 @@ pub record HasAccount (plan : Scenario) (count : ℕ) (book : Book) (ending : En
   pub spelled : AreSpelled (map heard_as book.grams) owed (book.replies ++ later)
   -- by the lives that these frames lead each datagram got what is its own
   pub answers : Answers plan session (map exchanged book.frames) book.grams requests owed (dones_of plan count session book.frames book.grams requests owed course)
-  -- where nothing was left to do no request is unfinished, and each that was queued at a slave is done, unless that slave was given up
+  -- where nothing was left to do no request is unfinished, and each that was queued at a slave is done, or a give-up of that slave ended it
   pub none : LeavesNone ending → requests ≡ []
-  pub done : LeavesNone ending → AllDone answers.serving.leading.serves (dones_of plan count session book.frames book.grams requests owed course) 0 book.grams
+  pub done : LeavesNone ending → AllDone answers.serving.leading.serves answers.came (dones_of plan count session book.frames book.grams requests owed course) owed 0 book.grams
   pub rows : book.slaves ≡ session_rows session
   -- The book has just what these lives made: of each slave the services of its script that came into hand, with what they came to, and those that weren't sent; its
   -- epochs, each with its frames; and the emergencies that were accepted of it and the packets that came into its hand, each with its frame.

@@ -20,6 +20,7 @@ use Rattle.life_runs.specs.First.{first_leads, lens_of}
 use Rattle.life_runs.specs.Led.{Exchanged}
 use Rattle.link_mails.specs.Body.{Body}
 use Rattle.mailbox_mail.specs.declared.mail.Mail.{Mail}
+use Rattle.master_node.specs.Wants.{gave_of}
 use Rattle.master_duty.specs.Reply.{Reply}
 use Rattle.master_hand.specs.Spoken.{Asked, emission, passed}
 use Rattle.plan_ring.specs.Lives.{IsKnown}
@@ -115,28 +116,29 @@ module _ (laws : RowsLaw) (law : RowLaw) (s : SlaveSpec) (w : Serves) (n : Node 
           all = λ done. owed_is ∙ ap mails_told (g.4.heard.all (sym stands ∙ over.2 done));
         }
 
-  given_to : (waiting begun : List Request) (number : ℕ) (asked : Mail) → Fares w came waiting begun (is_in number dones) number asked (owed_for number os) → IsGivenTo s steps came number asked (is_in number dones) (owed_for number os)
-  given_to waiting begun number asked (waits a b c) = still_waits b c
-  given_to waiting begun number asked (dropped a b c e f h) = is_dropped e h
-  given_to waiting begun number asked (replies told row stands same) = takes (step_of number asked told row)
+  given_to : (waiting begun : List Request) (number heard : ℕ) (asked : Mail) → Fares w came waiting begun (is_in number dones) number heard asked (owed_for number os) →
+      IsGivenTo s steps (gave_of w.lead) came number heard asked (is_in number dones) (owed_for number os)
+  given_to waiting begun number heard asked (waits a b none c) = still_waits b none c
+  given_to waiting begun number heard asked (dropped a b c e given h) = is_dropped e c given h
+  given_to waiting begun number heard asked (replies told row spared stands same) = takes (step_of number asked told row)
 
 -- THE SLAVE AT A PLACE
 given_at : RowsLaw → RowLaw → (os : List Owing) (dones : List ℕ) (ss : List SlaveSpec) (ws : List Serves) (ns : List (Node Serving)) (served : AllServeSo ss ws ns) (nss : List (List ℕ)) → AllBoth (GivesAll os (λ k. is_in k dones)) ws nss →
-    (place : ℕ) (w : Serves) (came : List ℕ) → slice_get ws place ≡ Some w → slice_get nss place ≡ Some came → (waiting begun : List Request) (number : ℕ) (asked : Mail) → Fares w came waiting begun (is_in number dones) number asked (owed_for number os) →
-    IsGivenAt ss ws ns served nss place number asked (is_in number dones) (owed_for number os)
-given_at laws law os dones [] [] [] served nss all place w came at_w at_came waiting begun number asked f = absurd (let bad : None ≡ Some w = at_w in cc)
-given_at laws law os dones [] [] (n ∷ ns) served nss all place w came at_w at_came waiting begun number asked f = absurd served
-given_at laws law os dones [] (u ∷ ws) ns served nss all place w came at_w at_came waiting begun number asked f = absurd served
-given_at laws law os dones (s ∷ ss) [] ns served nss all place w came at_w at_came waiting begun number asked f = absurd served
-given_at laws law os dones (s ∷ ss) (u ∷ ws) [] served nss all place w came at_w at_came waiting begun number asked f = absurd served
-given_at laws law os dones (s ∷ ss) (u ∷ ws) (n ∷ ns) served [] all place w came at_w at_came waiting begun number asked f = absurd all
-given_at laws law os dones (s ∷ ss) (u ∷ ws) (n ∷ ns) served (ks ∷ nss) all zero w came at_w at_came waiting begun number asked f =
+    (place : ℕ) (w : Serves) (came : List ℕ) → slice_get ws place ≡ Some w → slice_get nss place ≡ Some came → (waiting begun : List Request) (number heard : ℕ) (asked : Mail) → Fares w came waiting begun (is_in number dones) number heard asked (owed_for number os) →
+    IsGivenAt ss ws ns served nss place number heard asked (is_in number dones) (owed_for number os)
+given_at laws law os dones [] [] [] served nss all place w came at_w at_came waiting begun number heard asked f = absurd (let bad : None ≡ Some w = at_w in cc)
+given_at laws law os dones [] [] (n ∷ ns) served nss all place w came at_w at_came waiting begun number heard asked f = absurd served
+given_at laws law os dones [] (u ∷ ws) ns served nss all place w came at_w at_came waiting begun number heard asked f = absurd served
+given_at laws law os dones (s ∷ ss) [] ns served nss all place w came at_w at_came waiting begun number heard asked f = absurd served
+given_at laws law os dones (s ∷ ss) (u ∷ ws) [] served nss all place w came at_w at_came waiting begun number heard asked f = absurd served
+given_at laws law os dones (s ∷ ss) (u ∷ ws) (n ∷ ns) served [] all place w came at_w at_came waiting begun number heard asked f = absurd all
+given_at laws law os dones (s ∷ ss) (u ∷ ws) (n ∷ ns) served (ks ∷ nss) all zero w came at_w at_came waiting begun number heard asked f =
     let same : w ≡ u = (let is : Some u ≡ Some w = at_w in cc) in
     let came_same : came ≡ ks = (let is : Some ks ≡ Some came = at_came in cc) in
-    given_to laws law s u n served.0 ks os dones all.0 waiting begun number asked
-    (subst (λ (z : Serves). Fares z ks waiting begun (is_in number dones) number asked (owed_for number os)) same (subst (λ (z : List ℕ). Fares w z waiting begun (is_in number dones) number asked (owed_for number os)) came_same f))
-given_at laws law os dones (s ∷ ss) (u ∷ ws) (n ∷ ns) served (ks ∷ nss) all (suc place) w came at_w at_came waiting begun number asked f =
-    given_at laws law os dones ss ws ns served.1 nss all.1 place w came at_w at_came waiting begun number asked f
+    given_to laws law s u n served.0 ks os dones all.0 waiting begun number heard asked
+    (subst (λ (z : Serves). Fares z ks waiting begun (is_in number dones) number heard asked (owed_for number os)) same (subst (λ (z : List ℕ). Fares w z waiting begun (is_in number dones) number heard asked (owed_for number os)) came_same f))
+given_at laws law os dones (s ∷ ss) (u ∷ ws) (n ∷ ns) served (ks ∷ nss) all (suc place) w came at_w at_came waiting begun number heard asked f =
+    given_at laws law os dones ss ws ns served.1 nss all.1 place w came at_w at_came waiting begun number heard asked f
 
 -- ALL OF THE BOOK
 module _ (plan : Scenario) (count : ℕ) (book : Book) (is : IsPlan plan) (told : IsTold plan) (replies_law : RepliesLaw) (stays : StaysLaw) (laws : RowsLaw) (law : RowLaw) (sent : HasSent plan count book) (ending : Ending) (a : HasAccount plan count book ending) where
@@ -155,15 +157,15 @@ module _ (plan : Scenario) (count : ℕ) (book : Book) (is : IsPlan plan) (told 
       (replies_law plan is (known plan told) (map exchanged book.frames) a.answers.serving.leading.missed ws a.answers.serving.leading.lives (all_round (first_ring plan) book.frames sent.recorded))
 
   by_got : (number : ℕ) (g : GramIn) (slave : ℕ) → g.queued ≡ Some slave → Got ws a.answers.came a.requests dones number g (owed_for number a.owed) →
-      (asked : Mail) × (request_in g.bytes ≡ Ok asked) × IsGivenAt plan.slaves ws nodes served a.answers.came slave number asked (is_in number dones) (owed_for number a.owed)
+      (asked : Mail) × (request_in g.bytes ≡ Ok asked) × IsGivenAt plan.slaves ws nodes served a.answers.came slave number g.frame asked (is_in number dones) (owed_for number a.owed)
   by_got number g slave q (ignored fault request nowhere none) = absurd (let bad : None ≡ Some slave = sym nowhere ∙ q in cc)
   by_got number g slave q (refused asked detail request nowhere seldom one) = absurd (let bad : None ≡ Some slave = sym nowhere ∙ q in cc)
   by_got number g slave q (queued asked place w numbers request there at_w at_came fares) =
       let same : place ≡ slave = (let both : Some place ≡ Some slave = sym there ∙ q in cc) in (
         asked,
         request,
-        subst (λ k. IsGivenAt plan.slaves ws nodes served a.answers.came k number asked (is_in number dones) (owed_for number a.owed)) same
-            (given_at laws law a.owed dones plan.slaves ws nodes served a.answers.came (a.answers.whole (quiet plan count book is told stays sent)) place w numbers at_w at_came (waiting_of place a.requests) (begun_of place a.requests) number asked fares),
+        subst (λ k. IsGivenAt plan.slaves ws nodes served a.answers.came k number g.frame asked (is_in number dones) (owed_for number a.owed)) same
+            (given_at laws law a.owed dones plan.slaves ws nodes served a.answers.came (a.answers.whole (quiet plan count book is told stays sent)) place w numbers at_w at_came (waiting_of place a.requests) (begun_of place a.requests) number g.frame asked fares),
       )
 
   given_all : IsGiven plan count book ending a

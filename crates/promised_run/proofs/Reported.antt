@@ -1,7 +1,7 @@
 -- WHAT A BOOK REPORTS IS WHAT THE FRAMES GIVE, and what the application replied.
-use Rattle.std.specs.Prelude.{◌==◌, not, if◌then◌else◌}
+use Rattle.std.specs.Prelude.{◌==◌, not, option_map, if◌then◌else◌}
 use Rattle.std.proofs.Common.{◌≡◌, ℕ, suc, Bool, true, false, Option, Some, None, List, [], ◌∷◌, ◌++◌, refl, ap, sym, ◌∙◌, subst, append-nil}
-use Rattle.segment_plan.specs.of_exchange_model.Exchange.{Exchange}
+use Rattle.segment_plan.specs.of_exchange_model.Exchange.{Exchange, Speech, plain}
 use Rattle.segment_plan.specs.of_exchange_model.Rows.{Row}
 use Rattle.run_promises.specs.of_plan_ring.Epochs.{IsKept, AreKept, IsNewest, IsKeptLife}
 use Rattle.life_runs.specs.of_life_frames.Shares.{AllBoth}
@@ -14,7 +14,7 @@ use Rattle.life_runs.specs.of_master_duty.Reply.{Reply}
 use Rattle.life_runs.specs.of_master_hand.Spoken.{Asked, is_followed}
 use Rattle.run_promises.specs.Promise.{AllKeep}
 use Rattle.run_promises.specs.Plan.{first_app}
-use Rattle.promised_run.specs.Reported.{IsNotedBy, IsReportedBy, RepliesBy, AreReplies, EraReplies, PastReplies, NewestReplies, LifeReplies, AllReported}
+use Rattle.promised_run.specs.Reported.{AreNoted, IsNotedBy, IsReplyBy, NotedBy, RepliesBy, has_reply, stays, AreReplies, EraReplies, PastReplies, NewestReplies, LifeReplies, AllReported}
 use Rattle.promised_run.proofs.Unopened.{NothingBefore, AllNothing, Opened, AllOpened}
 use Rattle.run_book.specs.declared.book.SlaveBook.{SlaveBook}
 use Rattle.run_promises.specs.Round.{all_seen}
@@ -24,9 +24,9 @@ use Rattle.run_record.specs.of_script_runs.Answers.{Came, Scripted, Noted, AllNo
 use Rattle.run_record.proofs.of_script_runs.Lists.{eras_more}
 use Rattle.script_runs.specs.Came.{is_beside}
 use Rattle.script_runs.specs.of_link_model.Mails.{first_of}
-use Rattle.script_runs.specs.of_segment_model.Ends.{Outcome, state_ends}
+use Rattle.script_runs.specs.of_segment_model.Ends.{Outcome, mails_end, state_ends}
 use Rattle.script_runs.specs.of_segment_model.Laws.{IsAnswered, AllAnswered, as_outcome}
-use Rattle.script_runs.specs.of_segment_model.Record.{Frame, News, first_end, or_later, news_from}
+use Rattle.script_runs.specs.of_segment_model.Record.{Frame, News, first_end, mails_heard, or_later, news_from}
 use Rattle.script_runs.specs.of_segment_model.Seats.{rows_of}
 use Rattle.segment_plan.specs.declared.plan.Scenario.{Scenario}
 use Rattle.segment_plan.specs.declared.slave.SlaveSpec.{SlaveSpec}
@@ -98,71 +98,52 @@ first_reply target frame before (ns ∷ nss) w e = by (state_ends target None (b
     by None f g more = more g
     by (Some o) f g more = let same : o ≡ w.0 = ap (outcome_or o) g in subst (λ (z : Outcome Reply). IsReply z) same (ends_reply target None (before ++ ns) o f)
 
-module _ {V A : Type 0} (x : Exchange V A Body Asked Reply) (s : Stated V A Asked) (table : Table) (station : ℕ) (gs : List (Frame Body)) where
-  abbrev exec : A × ℕ → Service Asked → A × ℕ
-  exec a q = (with_states x s table).exec a q
+pub first_row : (q : Asked) (frame : ℕ) (r : Held) (ms : List (Asked × ℕ)) (rs : List Held) → (q, frame) ∷ ms ≡ rows_started (r ∷ rs) → (r.service ≡ q) × (r.frame ≡ frame) × (ms ≡ rows_started rs)
+first_row q frame r ms rs e = let head : (q, frame) ≡ (r.service, r.frame) = cc in let tail : ms ≡ rows_started rs = cc in (sym (ap (λ (p : Asked × ℕ). p.0) head), sym (ap (λ (p : Asked × ℕ). p.1) head), tail)
 
-  abbrev replies : A × ℕ → Service Asked → Outcome Reply
-  replies a q = (with_states x s table).reply a q
+-- the reply of one that is reported
+abbrev reply_or : Reply → Option (Reply × ℕ) → Reply
+reply_or y None = y
+reply_or y (Some k) = k.0
 
-  abbrev found : Service Asked → ℕ → Option (Outcome Reply × ℕ)
-  found q frame = outcome_of x.speech is_followed station gs (record { service = q; frame = frame })
+-- AN OUTCOME OF A SERVICE BY MAILS that has a reply is that reply
+first_replied : (replies : List (News Body) → Option Reply) (frame : ℕ) (before : List (News Body)) (nss : List (List (News Body))) (w : Outcome Reply × ℕ) →
+    first_end (λ ns. option_map (λ r. Outcome.Replied r) (replies ns)) frame before nss ≡ Some w → w.0 ≡ Outcome.Replied (reply_by w.0)
+first_replied replies frame before [] w e = absurd (let bad : None ≡ Some w = e in cc)
+first_replied replies frame before (ns ∷ nss) w e = by (replies (before ++ ns)) e (λ g. first_replied replies (suc frame) (before ++ ns) nss w g)
+  where
+    by : (r : Option Reply) → or_later (option_map (λ r. Outcome.Replied r) r) frame (first_end (λ ns. option_map (λ r. Outcome.Replied r) (replies ns)) (suc frame) (before ++ ns) nss) ≡ Some w →
+        (first_end (λ ns. option_map (λ r. Outcome.Replied r) (replies ns)) (suc frame) (before ++ ns) nss ≡ Some w → w.0 ≡ Outcome.Replied (reply_by w.0)) → w.0 ≡ Outcome.Replied (reply_by w.0)
+    by None g more = more g
+    by (Some r) g more = let same : ◌≡◌ {A = Outcome Reply × ℕ} (Outcome.Replied r, frame) w = cc in subst (λ (k : Outcome Reply × ℕ). k.0 ≡ Outcome.Replied (reply_by k.0)) same refl
 
-  abbrev Replied : A × ℕ → Service Asked → ℕ → Type 0
-  Replied a q frame = (o : Outcome Reply × ℕ) → found q frame ≡ Some o → IsReply o.0 → o.0 ≡ replies a q
+-- WHAT THE FRAMES GIVE of a slave's services
+module _ (x : Speech Body Asked Reply) (station : ℕ) (gs : List (Frame Body)) where
+  abbrev pub found : Service Asked → ℕ → Option (Outcome Reply × ℕ)
+  found q frame = outcome_of x is_followed station gs (record { service = q; frame = frame })
 
-  -- BY MAILS: the answer of a row is what the frames give, the reply of its service
-  row_found : (q : Asked) (frame : ℕ) (r : Held) → r.service ≡ q → r.frame ≡ frame → IsAnswered x.speech is_followed station gs r → x.speech.handed q ≡ false → as_outcome r.answer ≡ found (Service.Mails q) frame
-  row_found q frame r sq sf answered h = answered.replied (ap x.speech.handed sq ∙ h) ∙ (λ i. outcome_of x.speech is_followed station gs (record { service = Service.Mails (sq i); frame = sf i }))
+  -- BY MAILS: the answer of a row is what the frames give
+  row_found : (q : Asked) (frame : ℕ) (r : Held) → r.service ≡ q → r.frame ≡ frame → IsAnswered x is_followed station gs r → x.handed q ≡ false → as_outcome r.answer ≡ found (Service.Mails q) frame
+  row_found q frame r sq sf answered h = answered.replied (ap x.handed sq ∙ h) ∙ (λ i. outcome_of x is_followed station gs (record { service = Service.Mails (sq i); frame = sf i }))
 
-  pub mails_noted : (anew : Option ℕ) (q : Asked) (frame : ℕ) (r : Held) (n : Noted) → r.service ≡ q → r.frame ≡ frame → IsAnswered x.speech is_followed station gs r → n.frame ≡ frame → n.reply ≡ r.answer → IsNotedBy x.speech station gs anew (Service.Mails q) frame n
-  mails_noted anew q frame r n sq sf answered at is = record { at = at; given = λ h. is ∙ sym (outcome_back r.answer) ∙ ap outcome_reply (row_found q frame r sq sf answered (not_true (x.speech.handed q) h)) }
-
-  mails_reported : (anew : Option ℕ) (a : A × ℕ) (q : Asked) (frame : ℕ) (r : Held) (n : Noted) → r.service ≡ q → r.frame ≡ frame → IsAnswered x.speech is_followed station gs r → Replied a (Service.Mails q) frame → n.frame ≡ frame → n.reply ≡ r.answer → IsReportedBy x s table station gs anew a (Service.Mails q) frame n
-  mails_reported anew a q frame r n sq sf answered replied at is = record {
-    noted = mails_noted anew q frame r n sq sf answered at is;
-    own = λ h stay z g e. replied (Outcome.Replied z, g) (sym (row_found q frame r sq sf answered (not_true (x.speech.handed q) h)) ∙ ap as_outcome (sym is ∙ e)) tt;
-  }
-
-  pub first_row : (q : Asked) (frame : ℕ) (r : Held) (ms : List (Asked × ℕ)) (rs : List Held) → (q, frame) ∷ ms ≡ rows_started (r ∷ rs) → (r.service ≡ q) × (r.frame ≡ frame) × (ms ≡ rows_started rs)
-  first_row q frame r ms rs e = let head : (q, frame) ≡ (r.service, r.frame) = cc in let tail : ms ≡ rows_started rs = cc in (sym (ap (λ (p : Asked × ℕ). p.0) head), sym (ap (λ (p : Asked × ℕ). p.1) head), tail)
+  mails_noted : (anew : Option ℕ) (q : Asked) (frame : ℕ) (r : Held) (n : Noted) → r.service ≡ q → r.frame ≡ frame → IsAnswered x is_followed station gs r → n.frame ≡ frame → n.reply ≡ r.answer → IsNotedBy x station gs anew (Service.Mails q) frame n
+  mails_noted anew q frame r n sq sf answered at is = record { at = at; given = λ h. is ∙ sym (outcome_back r.answer) ∙ ap outcome_reply (row_found q frame r sq sf answered (not_true (x.handed q) h)) }
 
   -- A CHANGE OF STATE
-  stays_so : (b : Bool) (anew : Option ℕ) (outcome : Option (Outcome Reply × ℕ)) → b ≡ false → change_outcome b anew outcome ≡ outcome
-  stays_so b anew None e = ap (λ (z : Bool). change_outcome z anew None) e
-  stays_so b anew (Some o) e = refl
-
-  outcome_own : (a : A × ℕ) (target frame : ℕ) (o : Option (Outcome Reply × ℕ)) → found (Service.State target) frame ≡ o → Replied a (Service.State target) frame → (r : Reply) (g : ℕ) → outcome_reply o ≡ Some (r, g) → r ≡ reply_by (replies a (Service.State target))
-  outcome_own a target frame None f replied r g e = absurd (let bad : None ≡ Some (r, g) = e in cc)
-  outcome_own a target frame (Some w) f replied r g e =
-      let same : reply_by w.0 ≡ r = ap (reply_or r) e in
-      sym same ∙ ap reply_by (replied w f (first_reply target frame [] (news_from station frame gs) w f))
-    where
-      reply_or : Reply → Option (Reply × ℕ) → Reply
-      reply_or y None = y
-      reply_or y (Some k) = k.0
-
-  pub state_noted : (anew : Option ℕ) (target frame : ℕ) (outcome : Option (Outcome Reply × ℕ)) (n : Noted) → found (Service.State target) frame ≡ outcome → n.frame ≡ frame → n.reply ≡ outcome_reply (change_outcome (returns_to_init target) anew outcome) → IsNotedBy x.speech station gs anew (Service.State target) frame n
+  state_noted : (anew : Option ℕ) (target frame : ℕ) (outcome : Option (Outcome Reply × ℕ)) (n : Noted) → found (Service.State target) frame ≡ outcome → n.frame ≡ frame → n.reply ≡ outcome_reply (change_outcome (returns_to_init target) anew outcome) → IsNotedBy x station gs anew (Service.State target) frame n
   state_noted anew target frame outcome n is at h = record { at = at; given = λ e. h ∙ ap (λ (z : Option (Outcome Reply × ℕ)). outcome_reply (change_outcome (returns_to_init target) anew z)) (sym is) }
-
-  state_reported : (anew : Option ℕ) (a : A × ℕ) (target frame : ℕ) (outcome : Option (Outcome Reply × ℕ)) (n : Noted) → found (Service.State target) frame ≡ outcome → Replied a (Service.State target) frame → n.frame ≡ frame →
-      n.reply ≡ outcome_reply (change_outcome (returns_to_init target) anew outcome) → IsReportedBy x s table station gs anew a (Service.State target) frame n
-  state_reported anew a target frame outcome n is replied at h = record {
-    noted = state_noted anew target frame outcome n is at h;
-    own = λ e stay r g f. outcome_own a target frame outcome is replied r g (sym (h ∙ ap outcome_reply (stays_so (returns_to_init target) anew outcome (not_true (returns_to_init target) stay))) ∙ f);
-  }
 
   -- the changes of state that are over, and the one in hand, have what the frames give
   pub record Found (ms : List (ℕ × ℕ)) (cs : List (Change Reply)) : Type 0 where
     pub hand : Option Duty
     pub whole : ms ≡ changes_in cs ++ duty_in hand
-    pub over : AllFound x.speech is_followed station gs cs
-    pub none : IsOpenYet x.speech is_followed station gs hand
+    pub over : AllFound x is_followed station gs cs
+    pub none : IsOpenYet x is_followed station gs hand
 
   -- the first of them
-  pub record FoundFirst (target frame : ℕ) (ms : List (ℕ × ℕ)) (cs : List (Change Reply)) : Type 0 where
-    pub is : found (Service.State target) frame ≡ first_change cs
-    pub rest : Found ms (changes_behind cs)
+  record FoundFirst (target frame : ℕ) (ms : List (ℕ × ℕ)) (cs : List (Change Reply)) : Type 0 where
+    is : found (Service.State target) frame ≡ first_change cs
+    rest : Found ms (changes_behind cs)
 
   heads : (p q : ℕ × ℕ) (ps qs : List (ℕ × ℕ)) → p ∷ ps ≡ q ∷ qs → (p ≡ q) × (ps ≡ qs)
   heads p q ps qs e = (cc, cc)
@@ -170,52 +151,99 @@ module _ {V A : Type 0} (x : Exchange V A Body Asked Reply) (s : Stated V A Aske
   found_at : (p q : ℕ × ℕ) → p ≡ q → found (Service.State p.0) p.1 ≡ found (Service.State q.0) q.1
   found_at p q e = λ i. found (Service.State (e i).0) (e i).1
 
-  pub found_first : (target frame : ℕ) (ms : List (ℕ × ℕ)) (cs : List (Change Reply)) → Found ((target, frame) ∷ ms) cs → FoundFirst target frame ms cs
+  found_first : (target frame : ℕ) (ms : List (ℕ × ℕ)) (cs : List (Change Reply)) → Found ((target, frame) ∷ ms) cs → FoundFirst target frame ms cs
   found_first target frame ms (c ∷ cs) h =
       let e = heads (target, frame) (c.target, c.frame) ms (changes_in cs ++ duty_in h.hand) h.whole in
       record { is = found_at (target, frame) (c.target, c.frame) e.0 ∙ h.over.0; rest = record { hand = h.hand; whole = e.1; over = h.over.1; none = h.none } }
   found_first target frame ms [] h = by h.hand h.whole h.none
     where
-      by : (hand : Option Duty) → (target, frame) ∷ ms ≡ duty_in hand → IsOpenYet x.speech is_followed station gs hand → FoundFirst target frame ms []
+      by : (hand : Option Duty) → (target, frame) ∷ ms ≡ duty_in hand → IsOpenYet x is_followed station gs hand → FoundFirst target frame ms []
       by None e o = absurd (let bad : (target, frame) ∷ ms ≡ [] = e in cc)
       by (Some duty) e o =
           let k = heads (target, frame) (duty.target, duty.frame) ms [] e in record { is = found_at (target, frame) (duty.target, duty.frame) k.0 ∙ o; rest = record { hand = None; whole = k.1; over = tt; none = tt } }
 
-  pub are_replies : (anew : Option ℕ) (a : A × ℕ) (ss : List (Started Asked)) (rs : List Held) (cs : List (Change Reply)) (ns : List Noted) → mails_started ss ≡ rows_started rs → AllAnswered x.speech is_followed station gs rs → Found (states_started ss) cs →
-      AllReplied x s table is_followed station gs a ss → AllNoted (scripted_in anew ss (answers_in rs) cs) ns → AreReplies x s table station gs anew a ss ns
-  are_replies anew a [] rs cs ns m y f p h = none_noted ns h
-  are_replies anew a (r ∷ ss) rs cs ns m y f p h = go r.service rs m y f p.0 h (λ rs ds ms m y f h. are_replies anew (exec a r.service) ss rs ds ms m y f p.1 h)
+  -- SO OF ALL THAT CAME INTO HAND just what the frames give is noted
+  pub are_noted : (anew : Option ℕ) (ss : List (Started Asked)) (rs : List Held) (cs : List (Change Reply)) (ns : List Noted) → mails_started ss ≡ rows_started rs → AllAnswered x is_followed station gs rs → Found (states_started ss) cs →
+      AllNoted (scripted_in anew ss (answers_in rs) cs) ns → AreNoted x station gs anew ss ns
+  are_noted anew [] rs cs ns m y f h = none_noted ns h
+  are_noted anew (r ∷ ss) rs cs ns m y f h = go r.service rs m y f h (λ rs ds ms m y f h. are_noted anew ss rs ds ms m y f h)
     where
-      noted_by : (b : Bool) (q : Asked) (t : Held) (ts : List Scripted) (ns : List Noted) → AllNoted (scripted_mails b r.frame t.answer ts) ns → t.service ≡ q → t.frame ≡ r.frame → IsAnswered x.speech is_followed station gs t → Replied a (Service.Mails q) r.frame →
-          (more : List Noted → Type 0) → ((ms : List Noted) → AllNoted ts ms → more ms) → RepliesBy x s table station gs anew b r.frame a (Service.Mails q) ns more
-      noted_by true q t ts ns h sq sf y p more k = k ns h
-      noted_by false q t ts [] h sq sf y p more k = absurd h
-      noted_by false q t ts (n ∷ ns) h sq sf y p more k = (mails_reported anew a q r.frame t n sq sf y p h.0.0 h.0.1, k ns h.1)
+      noted_by : (b : Bool) (q : Asked) (t : Held) (ts : List Scripted) (ns : List Noted) → AllNoted (scripted_mails b r.frame t.answer ts) ns → t.service ≡ q → t.frame ≡ r.frame → IsAnswered x is_followed station gs t →
+          (more : List Noted → Type 0) → ((ms : List Noted) → AllNoted ts ms → more ms) → NotedBy b ns (IsNotedBy x station gs anew (Service.Mails q) r.frame) more
+      noted_by true q t ts ns h sq sf y more k = k ns h
+      noted_by false q t ts [] h sq sf y more k = absurd h
+      noted_by false q t ts (n ∷ ns) h sq sf y more k = (mails_noted anew q r.frame t n sq sf y h.0.0 h.0.1, k ns h.1)
 
-      go : (z : Service Asked) (rs : List Held) → mail_of z r.frame ++ mails_started ss ≡ rows_started rs → AllAnswered x.speech is_followed station gs rs → Found (state_of z r.frame ++ states_started ss) cs → Replied a z r.frame →
+      go : (z : Service Asked) (rs : List Held) → mail_of z r.frame ++ mails_started ss ≡ rows_started rs → AllAnswered x is_followed station gs rs → Found (state_of z r.frame ++ states_started ss) cs →
           AllNoted (scripted_by anew z r.frame (answers_in rs) cs (λ more others. scripted_in anew ss more others)) ns →
-          ((rs : List Held) (ds : List (Change Reply)) (ms : List Noted) → mails_started ss ≡ rows_started rs → AllAnswered x.speech is_followed station gs rs → Found (states_started ss) ds → AllNoted (scripted_in anew ss (answers_in rs) ds) ms → AreReplies x s table station gs anew (exec a r.service) ss ms) →
-          RepliesBy x s table station gs anew (is_beside z) r.frame a z ns (λ more. AreReplies x s table station gs anew (exec a r.service) ss more)
-      go (Service.State target) rs m y f p h more = state_by ns h
+          ((rs : List Held) (ds : List (Change Reply)) (ms : List Noted) → mails_started ss ≡ rows_started rs → AllAnswered x is_followed station gs rs → Found (states_started ss) ds → AllNoted (scripted_in anew ss (answers_in rs) ds) ms → AreNoted x station gs anew ss ms) →
+          NotedBy (is_beside z) ns (IsNotedBy x station gs anew z r.frame) (λ more. AreNoted x station gs anew ss more)
+      go (Service.State target) rs m y f h more = state_by ns h
         where
           first : FoundFirst target r.frame (states_started ss) cs
           first = found_first target r.frame (states_started ss) cs f
 
           state_by : (ns : List Noted) → AllNoted (record { frame = r.frame; came = Came.state (change_outcome (returns_to_init target) anew (first_change cs)) } ∷ scripted_in anew ss (answers_in rs) (changes_behind cs)) ns →
-              RepliesBy x s table station gs anew false r.frame a (Service.State target) ns (λ ms. AreReplies x s table station gs anew (exec a r.service) ss ms)
+              NotedBy false ns (IsNotedBy x station gs anew (Service.State target) r.frame) (λ more. AreNoted x station gs anew ss more)
           state_by [] h = absurd h
-          state_by (n ∷ ns) h = (state_reported anew a target r.frame (first_change cs) n first.is p h.0.0 h.0.1, more rs (changes_behind cs) ns m y first.rest h.1)
-      go (Service.Mails q) [] m y f p h more = absurd (let bad : (q, r.frame) ∷ mails_started ss ≡ [] = m in cc)
-      go (Service.Mails q) (t ∷ rs) m y f p h more =
+          state_by (n ∷ ns) h = (state_noted anew target r.frame (first_change cs) n first.is h.0.0 h.0.1, more rs (changes_behind cs) ns m y first.rest h.1)
+      go (Service.Mails q) [] m y f h more = absurd (let bad : (q, r.frame) ∷ mails_started ss ≡ [] = m in cc)
+      go (Service.Mails q) (t ∷ rs) m y f h more =
           let e = first_row q r.frame t (mails_started ss) rs m in
-          noted_by (is_beside (Service.Mails q)) q t (scripted_in anew ss (answers_in rs) cs) ns h e.0 e.1 y.0 p (λ ms. AreReplies x s table station gs anew (exec a r.service) ss ms) (λ ms k. more rs cs ms e.2 y.1 f k)
+          noted_by (is_beside (Service.Mails q)) q t (scripted_in anew ss (answers_in rs) cs) ns h e.0 e.1 y.0 (λ ms. AreNoted x station gs anew ss ms) (λ ms k. more rs cs ms e.2 y.1 f k)
+
+-- AND IT IS THE APPLICATION'S OWN
+module _ {V A : Type 0} (x : Exchange V A Body Asked Reply) (s : Stated V A Asked) (table : Table) (station : ℕ) (gs : List (Frame Body)) where
+  abbrev exec : A × ℕ → Service Asked → A × ℕ
+  exec a q = (with_states x s table).exec a q
+
+  abbrev replies : A × ℕ → Service Asked → Outcome Reply
+  replies a q = (with_states x s table).reply a q
+
+  abbrev given : Service Asked → ℕ → Option (Outcome Reply × ℕ)
+  given q frame = found x.speech station gs q frame
+
+  abbrev Replied : A × ℕ → Service Asked → ℕ → Type 0
+  Replied a q frame = (o : Outcome Reply × ℕ) → given q frame ≡ Some o → IsReply o.0 → o.0 ≡ replies a q
+
+  mails_own : (a : A × ℕ) (q : Asked) (frame : ℕ) → x.speech.handed q ≡ false → (o : Option (Outcome Reply × ℕ)) → given (Service.Mails q) frame ≡ o → Replied a (Service.Mails q) frame → (r : Reply) (g : ℕ) → outcome_reply o ≡ Some (r, g) → Outcome.Replied r ≡ replies a (Service.Mails q)
+  mails_own a q frame h None f replied r g e = absurd (let bad : None ≡ Some (r, g) = e in cc)
+  mails_own a q frame h (Some w) f replied r g e =
+      let is = first_replied (λ ns. x.speech.ends q (plain x.speech.emission (mails_heard ns))) frame [] (news_from station frame gs) w (subst (λ (b : Bool). first_end (mails_end x.speech q b) frame [] (news_from station frame gs) ≡ Some w) h f) in
+      ap (λ (z : Reply). Outcome.Replied z) (sym (ap (reply_or r) e)) ∙ sym is ∙ replied w f (subst IsReply (sym is) tt)
+
+  stays_so : (b : Bool) (anew : Option ℕ) (outcome : Option (Outcome Reply × ℕ)) → b ≡ false → change_outcome b anew outcome ≡ outcome
+  stays_so b anew None e = ap (λ (z : Bool). change_outcome z anew None) e
+  stays_so b anew (Some o) e = refl
+
+  state_own : (a : A × ℕ) (target frame : ℕ) (o : Option (Outcome Reply × ℕ)) → given (Service.State target) frame ≡ o → Replied a (Service.State target) frame → (r : Reply) (g : ℕ) → outcome_reply o ≡ Some (r, g) → r ≡ reply_by (replies a (Service.State target))
+  state_own a target frame None f replied r g e = absurd (let bad : None ≡ Some (r, g) = e in cc)
+  state_own a target frame (Some w) f replied r g e = sym (ap (reply_or r) e) ∙ ap reply_by (replied w f (first_reply target frame [] (news_from station frame gs) w f))
+
+  own_by : (anew : Option ℕ) (a : A × ℕ) (q : Service Asked) (frame : ℕ) (n : Noted) → IsNotedBy x.speech station gs anew q frame n → Replied a q frame → has_reply x.speech q ≡ true → stays q ≡ true → (r : Reply) (g : ℕ) → n.reply ≡ Some (r, g) → IsReplyBy q r (replies a q)
+  own_by anew a (Service.Mails q) frame n k replied h stay r g e = mails_own a q frame (not_true (x.speech.handed q) h) (given (Service.Mails q) frame) refl replied r g (sym (k.given h) ∙ e)
+  own_by anew a (Service.State target) frame n k replied h stay r g e =
+      let outcome = given (Service.State target) frame in
+      state_own a target frame outcome refl replied r g (sym (k.given h ∙ ap outcome_reply (stays_so (returns_to_init target) anew outcome (not_true (returns_to_init target) stay))) ∙ e)
+
+  are_replies : (anew : Option ℕ) (a : A × ℕ) (ss : List (Started Asked)) (ns : List Noted) → AreNoted x.speech station gs anew ss ns → AllReplied x s table is_followed station gs a ss → AreReplies x s table station gs anew a ss ns
+  are_replies anew a [] ns h p = h
+  are_replies anew a (r ∷ ss) ns h p = go (is_beside r.service) ns h (λ ms k. are_replies anew (exec a r.service) ss ms k p.1)
+    where
+      go : (b : Bool) (ns : List Noted) → NotedBy b ns (IsNotedBy x.speech station gs anew r.service r.frame) (λ more. AreNoted x.speech station gs anew ss more) →
+          ((ms : List Noted) → AreNoted x.speech station gs anew ss ms → AreReplies x s table station gs anew (exec a r.service) ss ms) →
+          RepliesBy x s table station gs anew b r.frame a r.service ns (λ more. AreReplies x s table station gs anew (exec a r.service) ss more)
+      go true ns h more = more ns h
+      go false [] h more = absurd h
+      go false (n ∷ ns) h more = (record { noted = h.0; own = own_by anew a r.service r.frame n h.0 p.0 }, more ns h.1)
 
 -- ALL EPOCHS
 module _ {S V A : Type 0} (w : Behind S V A Asked Reply) (spot : Spot) (fs : List (Frame Body)) where
   kept_replies : (anew : Option ℕ) (e : Era Body Asked Reply) (from to : A) (until : ℕ) (k : IsKept w is_followed spot fs e from to until) (ns : List Noted) → AllNoted (era_scripted anew e) ns → EraReplies w spot fs anew k ns
   kept_replies anew e from to until k ns h =
-      are_replies w.exchange w.states (table_of w spot.station) spot.station (era_frames spot k.opened until fs) anew (w.states.told k.state from, 0) e.account.started (rows_of e.side) e.account.over ns k.told.mails k.told.answers
-      (record { hand = e.account.hand; whole = k.told.states; over = k.told.over; none = k.told.hand }) k.answered.replies h
+      let gs = era_frames spot k.opened until fs in
+      are_replies w.exchange w.states (table_of w spot.station) spot.station gs anew (w.states.told k.state from, 0) e.account.started ns
+      (are_noted w.exchange.speech spot.station gs anew e.account.started (rows_of e.side) e.account.over ns k.told.mails k.told.answers (record { hand = e.account.hand; whole = k.told.states; over = k.told.over; none = k.told.hand }) h) k.answered.replies
 
   pub unopened_none : (anew : Option ℕ) (e : Era Body Asked Reply) → e.account.started ≡ [] → era_scripted anew e ≡ []
   unopened_none anew e none = ap (λ ss. scripted_in anew ss (side_answers e.side) e.account.over) none

@@ -312,23 +312,23 @@ not_both (Service.State target) e = refl
 module _ (P : ℕ → Type 0) where
   scripts_hold : (rs : Rows) → All P (plain_frames rs) → All P (other_frames rs)
   scripts_hold [] all = all
-  scripts_hold (r ∷ rs) all = go (is_packet r.service) (is_beside r.service) (beside_too r.service) all
+  scripts_hold (r ∷ rs) all = go (is_packet r.service) (is_beside r.service) (beside_too r.service) (λ rest. scripts_hold rs rest) all
     where
-      go : (p b : Bool) → (p ≡ true → b ≡ true) → All P (if p then plain_frames rs else r.frame ∷ plain_frames rs) → All P (if b then other_frames rs else r.frame ∷ other_frames rs)
-      go true true too all = scripts_hold rs all
-      go true false too all = absurd (let bad : false ≡ true = too refl in cc)
-      go false true too all = scripts_hold rs (All-tail P r.frame (plain_frames rs) all)
-      go false false too all = All-cons P r.frame (other_frames rs) (All-head P r.frame (plain_frames rs) all) (scripts_hold rs (All-tail P r.frame (plain_frames rs) all))
+      go : (p b : Bool) → (p ≡ true → b ≡ true) → (All P (plain_frames rs) → All P (other_frames rs)) → All P (if p then plain_frames rs else r.frame ∷ plain_frames rs) → All P (if b then other_frames rs else r.frame ∷ other_frames rs)
+      go true true too more all = more all
+      go true false too more all = absurd (let bad : false ≡ true = too refl in cc)
+      go false true too more all = more (All-tail P r.frame (plain_frames rs) all)
+      go false false too more all = All-cons P r.frame (other_frames rs) (All-head P r.frame (plain_frames rs) all) (more (All-tail P r.frame (plain_frames rs) all))
 
   mails_hold : (rs : Rows) → All P (plain_frames rs) → All P (mail_frames rs)
   mails_hold [] all = all
-  mails_hold (r ∷ rs) all = go (is_packet r.service) (is_mail r.service) (not_both r.service) all
+  mails_hold (r ∷ rs) all = go (is_packet r.service) (is_mail r.service) (not_both r.service) (λ rest. mails_hold rs rest) all
     where
-      go : (p m : Bool) → (p ≡ true → m ≡ false) → All P (if p then plain_frames rs else r.frame ∷ plain_frames rs) → All P (if m then r.frame ∷ mail_frames rs else mail_frames rs)
-      go true true one all = absurd (let bad : true ≡ false = one refl in cc)
-      go true false one all = mails_hold rs all
-      go false true one all = All-cons P r.frame (mail_frames rs) (All-head P r.frame (plain_frames rs) all) (mails_hold rs (All-tail P r.frame (plain_frames rs) all))
-      go false false one all = mails_hold rs (All-tail P r.frame (plain_frames rs) all)
+      go : (p m : Bool) → (p ≡ true → m ≡ false) → (All P (plain_frames rs) → All P (mail_frames rs)) → All P (if p then plain_frames rs else r.frame ∷ plain_frames rs) → All P (if m then r.frame ∷ mail_frames rs else mail_frames rs)
+      go true true one more all = absurd (let bad : true ≡ false = one refl in cc)
+      go true false one more all = more all
+      go false true one more all = All-cons P r.frame (mail_frames rs) (All-head P r.frame (plain_frames rs) all) (more (All-tail P r.frame (plain_frames rs) all))
+      go false false one more all = more (All-tail P r.frame (plain_frames rs) all)
 
   pub both_hold : (rs : Rows) → All P (plain_frames rs) → All P (other_frames rs ++ mail_frames rs)
   both_hold rs all = All-append P (other_frames rs) (mail_frames rs) (scripts_hold rs all) (mails_hold rs all)

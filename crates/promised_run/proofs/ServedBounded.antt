@@ -1,10 +1,13 @@
 -- A serving that isn't cut off and gives no slave up ends as done, with each datagram that was queued at a slave done.
-use Rattle.std.proofs.Common.{◌≡◌, ◌≢◌, ◌≤◌, ℕ, zero, suc, Bool, true, false, is_some, Option, Some, None, List, [], ◌∷◌, map, length, refl, sym, ap, ◌∙◌, subst, inl, inr, arith}
+use Rattle.std.proofs.Common.{◌≡◌, ◌≢◌, ◌<◌, ◌≤◌, ℕ, zero, suc, Bool, true, false, is_some, Option, Some, None, List, [], ◌∷◌, map, length, refl, sym, ap, ◌∙◌, subst, arith}
 use Rattle.std.specs.Prelude.{slice_get}
-use Rattle.gateway_run.specs.Done.{AllDone, IsDone, LeavesNone}
+use Rattle.gateway_run.specs.Account.{Owing}
+use Rattle.gateway_run.specs.Done.{AllDone, IsDone, IsOver, IsOver.cut as is_cut, IsOver.dropped as is_dropped, IsOver.whole as is_whole, LeavesNone}
 use Rattle.gateway_run.specs.Replies.{dones_of}
+use Rattle.gateway_run.specs.Rooms.{owed_for}
 use Rattle.gateway_run.specs.Served.{HasAccount, IsServed}
 use Rattle.gateway_run.specs.Serving.{Told}
+use Rattle.gateway_run.specs.Since.{GaveSince}
 use Rattle.life_runs.specs.First.{lens_of, first_leads}
 use Rattle.life_runs.specs.Led.{Exchanged, Leads, gives_up_at, speech_at}
 use Rattle.life_runs.specs.of_datagrams.Datagram as Raw
@@ -14,6 +17,7 @@ use Rattle.life_runs.specs.of_life_frames.Shares.{came_at}
 use Rattle.life_runs.specs.of_master_side.Passing.{news_back, news_lost}
 use Rattle.life_runs.specs.of_segment_ring.declared.wire.Fate.{Fate}
 use Rattle.life_runs.specs.of_segment_ring.declared.wire.Fate.TheVariants.{Pass, Lost}
+use Rattle.mailbox_mail.specs.declared.mail.Mail.{Mail}
 use Rattle.promised_run.proofs.Few.{AreFated, LifeOf, NoneGave, Stands, back_gave, fated_split, lost_gave, next_gave, none_any, none_first, recorded_fates, stands_on}
 use Rattle.promised_run.specs.Few.{AreFewLost, IsLost, NoneGivenUp}
 use Rattle.promised_run.specs.ServedBounded.{AreDone, HearsFair, IsServedBounded}
@@ -101,14 +105,26 @@ none_at [] place w n at = absurd (let no : None ≡ Some w = at in cc)
 none_at (z ∷ ws) zero w n at = let same : z ≡ w = (let is : Some z ≡ Some w = at in cc) in ap (λ (y : Serves). y.lead.lived.life.gave) (sym same) ∙ n.0
 none_at (z ∷ ws) (suc place) w n at = none_at ws place w n.1 at
 
--- so each datagram that was queued at one is done
-one_done : (ws : List Serves) (dones : List ℕ) (number : ℕ) (queued : Option ℕ) → NoneGave (map run_lead ws) → IsDone ws dones number queued → is_some queued ≡ true → is_in number dones ≡ true
-one_done ws dones number None n d some = absurd (let no : false ≡ true = some in cc)
-one_done ws dones number (Some slave) n d some = elim d.2 [ inl all ↦ all | inr given ↦ absurd (given (none_at ws slave d.0 n d.1)) ]
+-- of one that wasn't given up there is no give-up since
+none_since : (frame : ℕ) (gave : List ℕ) → gave ≡ [] → GaveSince frame gave → ⊥
+none_since frame gave none given = (let many : length gave ≡ 0 = ap length none in let less : given.0 < length gave = given.2 in omega (arith, many, less))
 
-all_done : (ws : List Serves) (dones : List ℕ) (number : ℕ) (gs : List GramIn) → NoneGave (map run_lead ws) → AllDone ws dones number gs → AreDone dones number gs
-all_done ws dones number [] n d = tt
-all_done ws dones number (g ∷ gs) n d = (one_done ws dones number g.queued n d.0, all_done ws dones (suc number) gs n d.1)
+-- so each datagram that was queued at one is done
+over_done : (w : Serves) (came : List ℕ) (done : Bool) (number heard : ℕ) (mails : List Mail) → gave_of w.lead ≡ [] → IsOver w came done number heard mails → done ≡ true
+over_done w came done number heard mails none (is_whole asked told row all same is) = is
+over_done w came done number heard mails none (is_dropped off given error undone) = absurd (none_since heard (gave_of w.lead) none given)
+over_done w came done number heard mails none (is_cut asked told row given same undone) = absurd (none_since row.row.frame (gave_of w.lead) none given)
+
+one_done : (ws : List Serves) (came : List (List ℕ)) (dones : List ℕ) (os : List Owing) (number : ℕ) (g : GramIn) → NoneGave (map run_lead ws) → IsDone ws came dones os number g → is_some g.queued ≡ true → is_in number dones ≡ true
+one_done ws came dones os number g n d some = go g.queued refl some
+  where
+    go : (queued : Option ℕ) → g.queued ≡ queued → is_some queued ≡ true → is_in number dones ≡ true
+    go None at is = absurd (let no : false ≡ true = is in cc)
+    go (Some slave) at is = (let o = d slave at in over_done o.0 o.1 (is_in number dones) number g.frame (owed_for number os) (none_at ws slave o.0 n o.2) o.4)
+
+all_done : (ws : List Serves) (came : List (List ℕ)) (dones : List ℕ) (os : List Owing) (number : ℕ) (gs : List GramIn) → NoneGave (map run_lead ws) → AllDone ws came dones os number gs → AreDone dones number gs
+all_done ws came dones os number [] n d = tt
+all_done ws came dones os number (g ∷ gs) n d = (one_done ws came dones os number g n d.0, all_done ws came dones os (suc number) gs n d.1)
 
 -- ---- how it ends
 
@@ -126,7 +142,7 @@ module _ (plan : Scenario) (count : ℕ) (first last : Told) (book : Book) (sent
 
   answered : AreFewLost plan.lose plan.retry → (ending : Ending) (a : HasAccount plan count book ending) → LeavesNone ending → AreDone (dones_of plan count a.session book.frames book.grams a.requests a.owed a.course) 0 book.grams
   answered few ending a leaves =
-      all_done a.answers.serving.leading.serves (dones_of plan count a.session book.frames book.grams a.requests a.owed a.course) 0 book.grams (none_gave few ending a) (a.done leaves)
+      all_done a.answers.serving.leading.serves a.answers.came (dones_of plan count a.session book.frames book.grams a.requests a.owed a.course) a.owed 0 book.grams (none_gave few ending a) (a.done leaves)
 
   by_account : AreFewLost plan.lose plan.retry → (ending : Ending) → HasAccount plan count book ending → NoneGivenUp book.slaves
   by_account few ending a =

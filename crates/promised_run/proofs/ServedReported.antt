@@ -1,7 +1,6 @@
 -- WHAT THE BOOK OF A SERVING REPORTS is what its frames give.
-use Rattle.std.proofs.Common.{◌≡◌, ℕ, suc, Bool, true, false, Option, Some, None, option_map, List, [], ◌∷◌, ◌++◌, map, refl, ap, sym, ◌∙◌, subst}
+use Rattle.std.proofs.Common.{◌≡◌, ℕ, suc, Bool, true, false, Option, Some, None, option_map, List, [], ◌∷◌, ◌++◌, map, refl, ap, ap₂, sym, ◌∙◌, subst}
 use Rattle.std.proofs.lemmas.List.{map-append}
-use Rattle.exchange_model.specs.Exchange.{Exchange}
 use Rattle.exchange_model.specs.Rows.{Row}
 use Rattle.life_frames.specs.Shares.{AllBoth}
 use Rattle.life_model.specs.Eras.{era_frames}
@@ -10,14 +9,13 @@ use Rattle.life_runs.specs.First.{first_leads, lens_of, spot_of}
 use Rattle.life_runs.specs.Led.{Exchanged}
 use Rattle.link_mails.specs.Body.{Body}
 use Rattle.master_duty.specs.Reply.{Reply}
-use Rattle.master_hand.specs.Spoken.{Asked, is_followed, sdo, file, drive, net, passed}
+use Rattle.master_hand.specs.Spoken.{Asked, sdo, file, drive, net, passed}
 use Rattle.master_node.specs.Serving.{run_lead}
 use Rattle.plan_ring.specs.Lives.{IsKnown}
 use Rattle.plan_ring.specs.Round.{AllRound, all_seen, ring_of}
-use Rattle.promised_run.proofs.Reported.{Found, FoundFirst, first_row, found_first, mails_noted, none_noted, parts, state_noted, unopened_none}
+use Rattle.promised_run.proofs.Reported.{are_noted, first_row, none_noted, parts, unopened_none}
 use Rattle.promised_run.proofs.Rounds.{all_round}
-use Rattle.promised_run.specs.Reported.{IsNotedBy, NotedBy}
-use Rattle.promised_run.specs.ServedReported.{AllReportedSo, AreNoted, EraNoted, IsServedReported, LifeNoted, NewestNoted, PastNoted}
+use Rattle.promised_run.specs.ServedReported.{AllReportedSo, EraNoted, IsServedReported, LifeNoted, NewestNoted, PastNoted}
 use Rattle.run_book.specs.declared.book.Book.{Book}
 use Rattle.run_book.specs.declared.book.SlaveBook.{SlaveBook}
 use Rattle.run_promises.proofs.Known.{known}
@@ -29,7 +27,6 @@ use Rattle.run_record.specs.of_run_notes.Reports.{IsBooked, noted_in}
 use Rattle.scenario.specs.Told.{IsTold}
 use Rattle.script_runs.specs.Answers.{AllNoted, Came, Noted, Scripted, answers_in, change_outcome, changes_behind, era_scripted, eras_scripted, first_change, life_scripted, next_opened, opened_anew, scripted_by, scripted_in, scripted_mails}
 use Rattle.script_runs.specs.Came.{is_beside}
-use Rattle.segment_model.specs.Laws.{AllAnswered, IsAnswered}
 use Rattle.segment_model.specs.Record.{Frame}
 use Rattle.segment_model.specs.Seats.{Side, newest, rows_of}
 use Rattle.segment_plan.specs.Sound.{IsPlan}
@@ -38,12 +35,11 @@ use Rattle.segment_plan.specs.declared.slave.SlaveSpec.{SlaveSpec}
 use Rattle.served_rings.specs.ToldEras.{AllToldEras, AllToldLives, IsToldEra, IsToldLife, IsToldNewest, WasToldEra, next_cleared, unpassed_answer, unpassed_row, unpassed_side}
 use Rattle.served_rings.proofs.Unpassed.{rows_keys}
 use Rattle.served_runs.specs.Served.{IsServedLed, Serves, all_serve}
-use Rattle.slave_lives.specs.Lived.{Behind, table_of}
-use Rattle.state_exchange.specs.Stated.{Service, Stated}
-use Rattle.life_runs.specs.of_state_model.States.{Table}
+use Rattle.slave_lives.specs.Lived.{Behind}
+use Rattle.state_exchange.specs.Stated.{Service}
 use Rattle.life_model.specs.Lives.{returns_to_init}
 use Rattle.task_model.specs.Accounts.{Change, Started}
-use Rattle.task_model.specs.Promise.{mail_of, mails_started, rows_started, state_of, states_started}
+use Rattle.task_model.specs.Promise.{mail_of, mails_started, rows_started}
 
 -- the law
 abbrev pub ErasLaw : Type 0
@@ -70,53 +66,26 @@ keeps (drive q) answer own = refl
 keeps (net q) answer own = refl
 keeps (passed m) answer own = absurd (let no : true ≡ false = own in cc)
 
--- ---- ONE EPOCH, of a slave with these services
-module _ {S V A : Type 0} (w : Behind S V A Asked Reply) (spot : Spot) (gs : List (Frame Body)) where
-  abbrev x : Exchange V A Body Asked Reply
-  x = w.exchange
+-- so without those answers the script came to the same
+abbrev SameScript : Option ℕ → List (Started Asked) → List Held → List (Change Reply) → Type 0
+SameScript anew ss rs cs = mails_started ss ≡ rows_started rs → scripted_in anew ss (answers_in (map (λ r. unpassed_row r) rs)) cs ≡ scripted_in anew ss (answers_in rs) cs
 
-  abbrev s : Stated V A Asked
-  s = w.states
+scripted_same : (anew : Option ℕ) (ss : List (Started Asked)) (rs : List Held) (cs : List (Change Reply)) → SameScript anew ss rs cs
+scripted_same anew [] rs cs m = refl
+scripted_same anew (r ∷ ss) rs cs m = go r.service rs m (λ rs ds m. scripted_same anew ss rs ds m)
+  where
+    by : (q : Asked) (t : Held) (b : Bool) → is_beside (Service.Mails q) ≡ b → t.service ≡ q → (ts us : List Scripted) → ts ≡ us → scripted_mails b r.frame (unpassed_answer t.service t.answer) ts ≡ scripted_mails b r.frame t.answer us
+    by q t true own same ts us rest = rest
+    by q t false own same ts us rest = ap₂ (λ (a : Option (Reply × ℕ)) (ts : List Scripted). record { frame = r.frame; came = Came.mails a } ∷ ts) (keeps t.service t.answer (ap (λ z. is_beside (Service.Mails z)) same ∙ own)) rest
 
-  abbrev table : Table
-  table = table_of w spot.station
-
-  abbrev Answered : List Held → Type 0
-  Answered rs = AllAnswered x.speech is_followed spot.station gs (map (λ r. unpassed_row r) rs)
-
-  abbrev FoundBy : List (ℕ × ℕ) → List (Change Reply) → Type 0
-  FoundBy ms cs = Found x s table spot.station gs ms cs
-
-  are_noted : (anew : Option ℕ) (ss : List (Started Asked)) (rs : List Held) (cs : List (Change Reply)) (ns : List Noted) → mails_started ss ≡ rows_started rs → Answered rs → FoundBy (states_started ss) cs →
-      AllNoted (scripted_in anew ss (answers_in rs) cs) ns → AreNoted x.speech spot.station gs anew ss ns
-  are_noted anew [] rs cs ns m y f h = none_noted ns h
-  are_noted anew (r ∷ ss) rs cs ns m y f h = go r.service rs m y f h (λ rs ds ms m y f h. are_noted anew ss rs ds ms m y f h)
-    where
-      noted_by : (b : Bool) (q : Asked) → is_beside (Service.Mails q) ≡ b → (t : Held) (ts : List Scripted) (ns : List Noted) → AllNoted (scripted_mails b r.frame t.answer ts) ns → t.service ≡ q → t.frame ≡ r.frame →
-          IsAnswered x.speech is_followed spot.station gs (unpassed_row t) → (more : List Noted → Type 0) → ((ms : List Noted) → AllNoted ts ms → more ms) → NotedBy b ns (IsNotedBy x.speech spot.station gs anew (Service.Mails q) r.frame) more
-      noted_by true q own t ts ns h sq sf y more k = k ns h
-      noted_by false q own t ts [] h sq sf y more k = absurd h
-      noted_by false q own t ts (n ∷ ns) h sq sf y more k =
-          let kept = keeps t.service t.answer (ap (λ z. is_beside (Service.Mails z)) sq ∙ own) in
-          (mails_noted x s table spot.station gs anew q r.frame (unpassed_row t) n sq sf y h.0.0 (h.0.1 ∙ sym kept), k ns h.1)
-
-      go : (z : Service Asked) (rs : List Held) → mail_of z r.frame ++ mails_started ss ≡ rows_started rs → Answered rs → FoundBy (state_of z r.frame ++ states_started ss) cs →
-          AllNoted (scripted_by anew z r.frame (answers_in rs) cs (λ more others. scripted_in anew ss more others)) ns →
-          ((rs : List Held) (ds : List (Change Reply)) (ms : List Noted) → mails_started ss ≡ rows_started rs → Answered rs → FoundBy (states_started ss) ds → AllNoted (scripted_in anew ss (answers_in rs) ds) ms → AreNoted x.speech spot.station gs anew ss ms) →
-          NotedBy (is_beside z) ns (IsNotedBy x.speech spot.station gs anew z r.frame) (λ more. AreNoted x.speech spot.station gs anew ss more)
-      go (Service.State target) rs m y f h more = state_by ns h
-        where
-          first : FoundFirst x s table spot.station gs target r.frame (states_started ss) cs
-          first = found_first x s table spot.station gs target r.frame (states_started ss) cs f
-
-          state_by : (ns : List Noted) → AllNoted (record { frame = r.frame; came = Came.state (change_outcome (returns_to_init target) anew (first_change cs)) } ∷ scripted_in anew ss (answers_in rs) (changes_behind cs)) ns →
-              NotedBy false ns (IsNotedBy x.speech spot.station gs anew (Service.State target) r.frame) (λ more. AreNoted x.speech spot.station gs anew ss more)
-          state_by [] h = absurd h
-          state_by (n ∷ ns) h = (state_noted x s table spot.station gs anew target r.frame (first_change cs) n first.is h.0.0 h.0.1, more rs (changes_behind cs) ns m y first.rest h.1)
-      go (Service.Mails q) [] m y f h more = absurd (let bad : (q, r.frame) ∷ mails_started ss ≡ [] = m in cc)
-      go (Service.Mails q) (t ∷ rs) m y f h more =
-          let e = first_row x s table spot.station gs q r.frame t (mails_started ss) rs m in
-          noted_by (is_beside (Service.Mails q)) q refl t (scripted_in anew ss (answers_in rs) cs) ns h e.0 e.1 y.0 (λ ms. AreNoted x.speech spot.station gs anew ss ms) (λ ms k. more rs cs ms e.2 y.1 f k)
+    go : (z : Service Asked) (rs : List Held) → mail_of z r.frame ++ mails_started ss ≡ rows_started rs → ((rs : List Held) (ds : List (Change Reply)) → SameScript anew ss rs ds) →
+        scripted_by anew z r.frame (answers_in (map (λ r. unpassed_row r) rs)) cs (λ more others. scripted_in anew ss more others) ≡ scripted_by anew z r.frame (answers_in rs) cs (λ more others. scripted_in anew ss more others)
+    go (Service.State target) rs m more =
+        ap (λ (ts : List Scripted). record { frame = r.frame; came = Came.state (change_outcome (returns_to_init target) anew (first_change cs)) } ∷ ts) (more rs (changes_behind cs) m)
+    go (Service.Mails q) [] m more = absurd (let bad : (q, r.frame) ∷ mails_started ss ≡ [] = m in cc)
+    go (Service.Mails q) (t ∷ rs) m more =
+        let e = first_row q r.frame t (mails_started ss) rs m in
+        by q t (is_beside (Service.Mails q)) refl e.0 (scripted_in anew ss (answers_in (map (λ r. unpassed_row r) rs)) cs) (scripted_in anew ss (answers_in rs) cs) (more rs cs e.2)
 
 -- ---- ALL EPOCHS of a life
 module _ {S V A : Type 0} (w : Behind S V A Asked Reply) (spot : Spot) (fs : List (Frame Body)) where
@@ -128,8 +97,9 @@ module _ {S V A : Type 0} (w : Behind S V A Asked Reply) (spot : Spot) (fs : Lis
         opened_at = t.opened_at;
         before = t.before;
         within = t.within;
-        noted = are_noted w spot gs anew e.account.started (rows_of e.side) e.account.over ns (t.told.mails ∙ rows_keys e.side) (subst (λ rs. AllAnswered w.exchange.speech is_followed spot.station gs rs) (rows_are e.side) t.told.answers)
-            (record { hand = e.account.hand; whole = t.told.states; over = t.told.over; none = t.told.hand }) h;
+        noted = are_noted w.exchange.speech spot.station gs anew e.account.started (rows_of (unpassed_side e.side)) e.account.over ns t.told.mails t.told.answers
+            (record { hand = e.account.hand; whole = t.told.states; over = t.told.over; none = t.told.hand })
+            (subst (λ ts. AllNoted ts ns) (sym (ap (λ rs. scripted_in anew e.account.started (answers_in rs) e.account.over) (rows_are e.side) ∙ scripted_same anew e.account.started (rows_of e.side) e.account.over (t.told.mails ∙ rows_keys e.side))) h);
       }
 
   past_noted : (gave : List ℕ) (cleared opened : Option ℕ) (es : List (Era Body Asked Reply)) → AllToldEras w spot fs es cleared → (ns : List Noted) → AllNoted (eras_scripted gave es opened) ns → PastNoted w.exchange.speech spot fs gave cleared opened es ns

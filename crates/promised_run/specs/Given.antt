@@ -5,8 +5,10 @@ use Rattle.gateway_core.specs.Framing.{request_in}
 use Rattle.gateway_run.specs.Replies.{IsSame, dones_of, mails_told}
 use Rattle.gateway_run.specs.Rooms.{owed_for}
 use Rattle.gateway_run.specs.Served.{HasAccount}
+use Rattle.gateway_run.specs.Since.{GaveSince, NoneSince}
 use Rattle.mailbox_mail.specs.Mail.{error_of}
 use Rattle.mailbox_mail.specs.declared.mail.Mail.{Mail}
+use Rattle.master_node.specs.Wants.{gave_of}
 use Rattle.run_book.specs.declared.book.Book.{Book}
 use Rattle.run_book.specs.declared.book.Ending.{Ending}
 use Rattle.run_book.specs.declared.book.GramIn.{GramIn}
@@ -37,21 +39,22 @@ pub record IsStepOf (s : SlaveSpec) (steps : List Given) (came : List ℕ) (numb
   pub first : IsPrefixOf mails (mails_given s step)
   pub all : done ≡ true → mails ≡ mails_given s step
 
--- WHAT A DATAGRAM GOT that was queued at a slave: nothing while its mail waits; error 5 where that never came into hand; or what its slave's server gives for it
-pub data IsGivenTo (s : SlaveSpec) (steps : List Given) (came : List ℕ) (number : ℕ) (asked : Mail) (done : Bool) (mails : List Mail) : Type 0 where
-  waits : done ≡ false → mails ≡ [] → IsGivenTo s steps came number asked done mails
-  dropped : done ≡ false → mails ≡ error_of 5 ∷ [] → IsGivenTo s steps came number asked done mails
-  takes : IsStepOf s steps came number asked done mails → IsGivenTo s steps came number asked done mails
+-- WHAT A DATAGRAM GOT that was queued at a slave, heard before this frame, by the frames at which the slave was given up: nothing while its mail waits, where it
+-- wasn't given up since; error 5 where it was, and the mail never came into hand; or what its slave's server gives for it
+pub data IsGivenTo (s : SlaveSpec) (steps : List Given) (gave came : List ℕ) (number heard : ℕ) (asked : Mail) (done : Bool) (mails : List Mail) : Type 0 where
+  waits : done ≡ false → NoneSince heard gave → mails ≡ [] → IsGivenTo s steps gave came number heard asked done mails
+  dropped : done ≡ false → is_in number came ≡ false → GaveSince heard gave → mails ≡ error_of 5 ∷ [] → IsGivenTo s steps gave came number heard asked done mails
+  takes : IsStepOf s steps came number asked done mails → IsGivenTo s steps gave came number heard asked done mails
 
 -- of one that was queued at the slave at this place, by what the slaves did
-abbrev pub IsGivenAt : (ss : List SlaveSpec) (ws : List Serves) (ns : List (Node Serving)) → AllServeSo ss ws ns → List (List ℕ) → ℕ → ℕ → Mail → Bool → List Mail → Type 0
-IsGivenAt [] ws ns d cames place number asked done mails = ⊥
-IsGivenAt (s ∷ ss) [] ns d cames place number asked done mails = ⊥
-IsGivenAt (s ∷ ss) (w ∷ ws) [] d cames place number asked done mails = ⊥
-IsGivenAt (s ∷ ss) (w ∷ ws) (n ∷ ns) d [] place number asked done mails = ⊥
-IsGivenAt (s ∷ ss) (w ∷ ws) (n ∷ ns) d (came ∷ cames) zero number asked done mails =
-    IsGivenTo s (given (profile_of s) s.boot s.station s.start (first_server s) w.lead.lived.life n d.0) came number asked done mails
-IsGivenAt (s ∷ ss) (w ∷ ws) (n ∷ ns) d (came ∷ cames) (suc place) number asked done mails = IsGivenAt ss ws ns d.1 cames place number asked done mails
+abbrev pub IsGivenAt : (ss : List SlaveSpec) (ws : List Serves) (ns : List (Node Serving)) → AllServeSo ss ws ns → List (List ℕ) → ℕ → ℕ → ℕ → Mail → Bool → List Mail → Type 0
+IsGivenAt [] ws ns d cames place number heard asked done mails = ⊥
+IsGivenAt (s ∷ ss) [] ns d cames place number heard asked done mails = ⊥
+IsGivenAt (s ∷ ss) (w ∷ ws) [] d cames place number heard asked done mails = ⊥
+IsGivenAt (s ∷ ss) (w ∷ ws) (n ∷ ns) d [] place number heard asked done mails = ⊥
+IsGivenAt (s ∷ ss) (w ∷ ws) (n ∷ ns) d (came ∷ cames) zero number heard asked done mails =
+    IsGivenTo s (given (profile_of s) s.boot s.station s.start (first_server s) w.lead.lived.life n d.0) (gave_of w.lead) came number heard asked done mails
+IsGivenAt (s ∷ ss) (w ∷ ws) (n ∷ ns) d (came ∷ cames) (suc place) number heard asked done mails = IsGivenAt ss ws ns d.1 cames place number heard asked done mails
 
 -- EACH DATAGRAM THAT WAS QUEUED AT A SLAVE got what that gives for its mail, by the lives that the frames of the book lead, which the slaves of the ring behind all
 -- of them served
@@ -59,7 +62,7 @@ pub record IsGiven (plan : Scenario) (count : ℕ) (book : Book) (ending : Endin
   pub served : AllServeSo plan.slaves a.answers.serving.leading.serves (ring_after (first_ring plan) book.frames).nodes
   pub each : (number : ℕ) (g : GramIn) (slave : ℕ) → slice_get book.grams number ≡ Some g → g.queued ≡ Some slave →
       (asked : Mail) × (request_in g.bytes ≡ Ok asked)
-      × IsGivenAt plan.slaves a.answers.serving.leading.serves (ring_after (first_ring plan) book.frames).nodes served a.answers.came slave number asked
+      × IsGivenAt plan.slaves a.answers.serving.leading.serves (ring_after (first_ring plan) book.frames).nodes served a.answers.came slave number g.frame asked
       (is_in number (dones_of plan count a.session book.frames book.grams a.requests a.owed a.course)) (owed_for number a.owed)
 
 -- by each account of the book

@@ -64,6 +64,11 @@ module _ (x : Speech Body Asked Reply) (station : ℕ) (gs : List (Frame Body)) 
     pub at : n.frame ≡ frame
     pub given : has_reply x q ≡ true → n.reply ≡ outcome_reply (came_to anew q (outcome_of x is_followed station gs (record { service = q; frame = frame })))
 
+  -- OF THE SERVICES OF AN EPOCH, one after the other
+  abbrev pub AreNoted : Option ℕ → List (Started Asked) → List Noted → Type 0
+  AreNoted anew [] ns = ns ≡ []
+  AreNoted anew (r ∷ rs) ns = NotedBy (is_beside r.service) ns (IsNotedBy anew r.service r.frame) (λ more. AreNoted anew rs more)
+
 module _ {V A : Type 0} (x : Exchange V A Body Asked Reply) (s : Stated V A Asked) (table : Table) (station : ℕ) (gs : List (Frame Body)) where
   -- WHAT IS REPORTED OF A SERVICE: just the reply that these frames give; and each reply is that of the application, with its AL state, behind the services before it
   pub record IsReportedBy (anew : Option ℕ) (a : A × ℕ) (q : Service Asked) (frame : ℕ) (n : Noted) : Type 0 where

@@ -8,7 +8,7 @@ use Rattle.link_mails.specs.Body.{Body}
 use Rattle.master_duty.specs.Reply.{Reply}
 use Rattle.master_hand.specs.Spoken.{Asked}
 use Rattle.plan_ring.specs.Round.{all_seen}
-use Rattle.promised_run.specs.Reported.{IsNotedBy, NotedBy}
+use Rattle.promised_run.specs.Reported.{AreNoted}
 use Rattle.run_book.specs.declared.book.Book.{Book}
 use Rattle.run_book.specs.declared.book.Ending.{Ending}
 use Rattle.run_book.specs.declared.book.SlaveBook.{SlaveBook}
@@ -16,20 +16,12 @@ use Rattle.run_promises.specs.Slaves.{services_of}
 use Rattle.run_record.specs.Led.{exchanged}
 use Rattle.run_record.specs.of_run_notes.Reports.{noted_in}
 use Rattle.script_runs.specs.Answers.{Noted, next_opened, opened_anew}
-use Rattle.script_runs.specs.Came.{is_beside}
 use Rattle.segment_model.specs.Record.{Frame}
 use Rattle.segment_plan.specs.declared.plan.Scenario.{Scenario}
 use Rattle.segment_plan.specs.declared.slave.SlaveSpec.{SlaveSpec}
 use Rattle.segment_plan.specs.of_exchange_model.Exchange.{Speech}
 use Rattle.served_rings.specs.ToldEras.{next_cleared}
 use Rattle.served_runs.specs.Served.{Serves}
-use Rattle.task_model.specs.Accounts.{Started}
-
-module _ (x : Speech Body Asked Reply) (station : ℕ) (gs : List (Frame Body)) where
-  -- OF THE SERVICES OF AN EPOCH with these frames, one after the other; packets and mails that are passed on aren't of the script
-  abbrev pub AreNoted : Option ℕ → List (Started Asked) → List Noted → Type 0
-  AreNoted anew [] ns = ns ≡ []
-  AreNoted anew (r ∷ rs) ns = NotedBy (is_beside r.service) ns (IsNotedBy x station gs anew r.service r.frame) (λ more. AreNoted anew rs more)
 
 module _ (x : Speech Body Asked Reply) (spot : Spot) (fs : List (Frame Body)) where
   -- OF AN EPOCH from the frame that opened it to another, with the frame that opened its slave anew behind it: each service of the script that came into hand of it
