@@ -11,13 +11,14 @@ use Rattle.master_node.specs.Ports.{ports_behind, ports_of}
 use Rattle.master_node.specs.Serving.{run_lead}
 use Rattle.master_node.specs.of_life_frames.Shares.{AllBoth}
 use Rattle.master_node.specs.of_life_runs.First.{lens_of}
-use Rattle.run_record.specs.Mails.{served_mails}
+use Rattle.run_record.specs.Mails.{served_mails, served_overs}
 use Rattle.run_record.specs.AcceptedMails.{AllNoted}
 use Rattle.run_record.specs.Led.{LeavesNoPacket, LeavesNone, exchanged}
 use Rattle.run_record.specs.Served.{served_heard}
 use Rattle.run_record.specs.Session.{SessionState, session_rows}
 use Rattle.run_record.specs.of_packets_heard.Servings.{AreServedBegun, ServedListed, ServedNumbered, served_begun}
 use Rattle.run_record.specs.of_run_notes.Epochs.{HasEpochs}
+use Rattle.run_record.specs.of_run_notes.Handed.{AreHanded}
 use Rattle.run_record.specs.of_run_notes.Heard.{emergencies_in}
 use Rattle.run_record.specs.of_run_notes.Packets.{AreMails, AreNumbered, begun_in}
 use Rattle.run_record.specs.of_run_notes.Reports.{IsBooked}
@@ -84,6 +85,8 @@ pub record HasAccount (plan : Scenario) (count : ℕ) (book : Book) (ending : En
   pub mails : AreMails (λ k. served_mails answers.serving.leading.lives k) (begun_in book.slaves)
   pub acts : AllBoth HasMails answers.serving.leading.serves book.slaves
   pub late : AllBoth (AreLate book.grams) answers.came book.slaves
+  -- and each has its answer there: `Handed`, of the frame with which it was over, or in doubt where it wasn't
+  pub handed : AreHanded (λ k. served_overs answers.serving.leading.lives k) book.slaves
   pub rests : LeavesNone ending → AllBoth (ServedRestsSo (lens_of plan.slaves)) answers.serving.leading.serves book.slaves
   pub packets : HasPackets plan book
   pub come : LeavesNone ending → LeavesNoPacket plan (map run_lead answers.serving.leading.serves) book.switch

@@ -3,6 +3,8 @@ pub mod Epochs
 pub mod Firsts
 pub mod Frees
 pub mod Gaves
+pub mod Handed
+pub mod Handings
 pub mod Heard
 pub mod Kept
 pub mod Lists

@@ -5,6 +5,7 @@ pub mod Unsent
 pub mod Epochs
 pub mod Heard
 pub mod Reports
+pub mod Handed
 pub mod Packets
 pub mod Switched
 pub mod Slaves

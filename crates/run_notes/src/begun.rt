@@ -1,6 +1,7 @@
 //! The packets and the mails passed on that came into hand of the slaves before a frame, as their master lists them.
 
 ghost use Rattle.std.specs.Prelude.{◌≡◌, ◌∷◌, [], OnOk};
+ghost use Rattle.run_notes.specs.Handed.{AllDoubts};
 ghost use Rattle.run_notes.specs.Heard.{emergencies_noted};
 ghost use Rattle.run_notes.specs.Slaves.{gaves_noted};
 ghost use Rattle.run_notes.specs.Packets.{NotesBeside, StayFree};
@@ -23,6 +24,7 @@ impl Log {
         ensures heard { OnOk result (emergencies_noted self.new.notes ≡ emergencies_noted self.old.notes) }
         ensures told { OnOk result (KeepsReports self.old.notes self.new.notes) }
         ensures beside { OnOk result (NotesBeside frame (Event.Began at origin ∷ []) self.old.notes self.new.notes) }
+        ensures doubts { OnOk result (AllDoubts self.old.notes self.new.notes) }
         ensures free { OnOk result (StayFree self.old.notes self.new.notes) }
     {
         let place = at as usize;
@@ -39,6 +41,7 @@ impl Log {
         ensures heard { OnOk result (emergencies_noted self.new.notes ≡ emergencies_noted self.old.notes) }
         ensures told { OnOk result (KeepsReports self.old.notes self.new.notes) }
         ensures beside { OnOk result (NotesBeside frame (event.now ∷ []) self.old.notes self.new.notes) }
+        ensures doubts { OnOk result (AllDoubts self.old.notes self.new.notes) }
         ensures free { OnOk result (StayFree self.old.notes self.new.notes) }
     {
         match event {
@@ -60,6 +63,7 @@ impl Log {
         ensures heard { OnOk result (emergencies_noted self.new.notes ≡ emergencies_noted self.old.notes) }
         ensures told { OnOk result (KeepsReports self.old.notes self.new.notes) }
         ensures beside { OnOk result (NotesBeside frame events.now self.old.notes self.new.notes) }
+        ensures doubts { OnOk result (AllDoubts self.old.notes self.new.notes) }
     {
         for event in events {
             self.note_begun_by(event, frame)?;

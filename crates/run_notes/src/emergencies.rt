@@ -1,6 +1,7 @@
 //! The emergencies that a frame which came back brought, as the master has them.
 
 ghost use Rattle.std.specs.Prelude.{◌≡◌, ◌<◌, ◌≤◌, length, vec_len, OnOk};
+ghost use Rattle.run_notes.specs.Handed.{MailsStay, services_noted};
 ghost use Rattle.run_notes.specs.Heard.{HeardAll, HeardNext};
 ghost use Rattle.run_notes.specs.Slaves.{gaves_noted};
 ghost use Rattle.run_notes.specs.Packets.{begun_noted};
@@ -27,6 +28,7 @@ impl Log {
         ensures gave { OnOk result (gaves_noted self.new.notes ≡ gaves_noted self.old.notes) }
         ensures heard { OnOk result (HeardNext frame at master.now self.old.notes self.new.notes) }
         ensures rows { OnOk result (begun_noted self.new.notes ≡ begun_noted self.old.notes) }
+        ensures services { OnOk result (services_noted self.new.notes ≡ services_noted self.old.notes) }
         ensures told { OnOk result (KeepsReports self.old.notes self.new.notes) }
     {
         let Some(found) = master.emergency(at) else {
@@ -49,6 +51,7 @@ impl Log {
         ensures gave { OnOk result (gaves_noted self.new.notes ≡ gaves_noted self.old.notes) }
         ensures heard { OnOk result (HeardAll frame master.now self.old.notes self.new.notes) }
         ensures rows { OnOk result (begun_noted self.new.notes ≡ begun_noted self.old.notes) }
+        ensures services { OnOk result (services_noted self.new.notes ≡ services_noted self.old.notes) }
         ensures told { OnOk result (KeepsReports self.old.notes self.new.notes) }
     {
         for place in 0..self.notes.len() {
@@ -70,6 +73,7 @@ impl Log {
         ensures gave { OnOk result (gaves_noted self.new.notes ≡ gaves_noted self.old.notes) }
         ensures heard { OnOk result (HeardAll frame master.now self.old.notes self.new.notes) }
         ensures rows { OnOk result (begun_noted self.new.notes ≡ begun_noted self.old.notes) }
+        ensures mails { OnOk result (MailsStay frame self.old.notes self.new.notes) }
         ensures told { OnOk result (PassesAll frame master.now (ReportsOn self.old.notes self.new.notes)) }
     {
         self.note_emergencies(alloc, master, frame)?;

@@ -3,6 +3,9 @@ ghost use Rattle.segment_plan.specs.Sound.{IsLaid};
 ghost use Rattle.run_book.specs.Ports.{ports_of};
 ghost use Rattle.run_notes.specs.Slaves.{scripted, first_notes, home_of, SameFrames, SameSlaves};
 ghost use Rattle.master_node.specs.of_life_runs.Led.{Leads};
+ghost use Rattle.mailbox_mail.specs.declared.outcome.ReplyKind.{ReplyKind};
+ghost use Rattle.master_node.specs.Listing.{events_in};
+ghost use Rattle.run_notes.specs.Handed.{GoesBy, MailsBehind, kind_told, kinds_in, kinds_of, told_only};
 ghost use Rattle.run_notes.specs.Heard.{emergencies_noted};
 ghost use Rattle.run_notes.specs.Slaves.{gaves_noted};
 ghost use Rattle.run_notes.specs.Reports.{Reports, KeepsReports};
@@ -41,7 +44,8 @@ fn reply_of(
     slave: u32,
     kind: ReplyKind,
 ) -> Result<Reply, NoMemory>
-    ensures { IfOk result (λ reply. reply.kind ≡ kind) }
+    ensures kind { IfOk result (λ reply. reply.kind ≡ kind) }
+    ensures value { IfOk result (λ reply. kind ≡ ReplyKind.Handed → reply.value ≡ []) }
 {
     let mut value = Octets::new(alloc);
     if kind == ReplyKind::Value {
@@ -77,6 +81,7 @@ fn note_at(
     ensures heard { OnOk result (notes.new.emergencies ≡ notes.old.emergencies) }
     ensures told { OnOk result ((a : Leads) → Reports a notes.old → Reports a notes.new) }
     ensures rows { OnOk result (notes.new.begun ≡ notes.old.begun) }
+    ensures mails { OnOk result (GoesBy moment.frame (kind_told event.now) notes.old notes.new) }
 {
     match event {
         Event::Answered { slave, kind } => {
@@ -87,12 +92,12 @@ fn note_at(
             notes.own = *own;
             Ok(())
         }
-        Event::Began { .. }
-        | Event::Opened { .. }
-        | Event::Emergency { .. }
-        | Event::GivenUp { .. }
-        | Event::GatewayReply { .. }
-        | Event::GatewayDone { .. } => Ok(()),
+        Event::Began { .. } => Ok(()),
+        Event::Opened { .. } => Ok(()),
+        Event::Emergency { .. } => Ok(()),
+        Event::GivenUp { .. } => Ok(()),
+        Event::GatewayReply { .. } => Ok(()),
+        Event::GatewayDone { .. } => Ok(()),
     }
 }
 
@@ -200,11 +205,12 @@ impl Log {
         ensures gave { OnOk result (gaves_noted self.new.notes ≡ gaves_noted self.old.notes) }
         ensures heard { OnOk result (emergencies_noted self.new.notes ≡ emergencies_noted self.old.notes) }
         ensures rows { OnOk result (begun_noted self.new.notes ≡ begun_noted self.old.notes) }
+        ensures mails { OnOk result (MailsBehind moment.frame (λ k. kinds_in k (events_in master.now)) self.old self.new) }
         ensures told { OnOk result (KeepsReports self.old.notes self.new.notes) }
         ensures frames { SameFrames (1 + length self.old.ports) book.old book.new }
         ensures switch { OnOk result (NotesSwitch (1 + length self.old.ports) moment.sent master.now.lan.happened book.old book.new) }
     {
-        self.note_events(alloc, master, moment)?;
+        self.note_events(alloc, master, moment, master.events())?;
         self.note_happened(alloc, moment, master.happened(), book)
     }
 
@@ -214,14 +220,16 @@ impl Log {
         alloc: Global,
         master: &MasterNode,
         moment: Moment,
+        events: &[Event],
     ) -> Result<(), NoMemory>
         ensures slaves { SameSlaves self.old self.new }
         ensures gave { OnOk result (gaves_noted self.new.notes ≡ gaves_noted self.old.notes) }
         ensures heard { OnOk result (emergencies_noted self.new.notes ≡ emergencies_noted self.old.notes) }
         ensures rows { OnOk result (begun_noted self.new.notes ≡ begun_noted self.old.notes) }
+        ensures mails { OnOk result (MailsBehind moment.frame (λ k. kinds_in k events.now) self.old self.new) }
         ensures told { OnOk result (KeepsReports self.old.notes self.new.notes) }
     {
-        for event in master.events() {
+        for event in events {
             self.note_event(alloc, master, moment, event)?;
         }
         Ok(())
@@ -238,19 +246,24 @@ impl Log {
         ensures gave { OnOk result (gaves_noted self.new.notes ≡ gaves_noted self.old.notes) }
         ensures heard { OnOk result (emergencies_noted self.new.notes ≡ emergencies_noted self.old.notes) }
         ensures rows { OnOk result (begun_noted self.new.notes ≡ begun_noted self.old.notes) }
+        ensures mails { OnOk result (MailsBehind moment.frame (λ k. kinds_of k event.now) self.old self.new) }
         ensures told { OnOk result (KeepsReports self.old.notes self.new.notes) }
     {
         match event {
-            Event::Answered { slave, .. }
-            | Event::Cleared { slave, .. }
-            | Event::Opened { slave } => {
+            Event::Answered { slave, .. } => {
                 self.note_slave(alloc, master, moment, event, *slave as usize)
             }
-            Event::Began { .. }
-            | Event::Emergency { .. }
-            | Event::GivenUp { .. }
-            | Event::GatewayReply { .. }
-            | Event::GatewayDone { .. } => Ok(()),
+            Event::Cleared { slave, .. } => {
+                self.note_slave(alloc, master, moment, event, *slave as usize)
+            }
+            Event::Opened { slave } => {
+                self.note_slave(alloc, master, moment, event, *slave as usize)
+            }
+            Event::Began { .. } => Ok(()),
+            Event::Emergency { .. } => Ok(()),
+            Event::GivenUp { .. } => Ok(()),
+            Event::GatewayReply { .. } => Ok(()),
+            Event::GatewayDone { .. } => Ok(()),
         }
     }
 
@@ -266,6 +279,7 @@ impl Log {
         ensures gave { OnOk result (gaves_noted self.new.notes ≡ gaves_noted self.old.notes) }
         ensures heard { OnOk result (emergencies_noted self.new.notes ≡ emergencies_noted self.old.notes) }
         ensures rows { OnOk result (begun_noted self.new.notes ≡ begun_noted self.old.notes) }
+        ensures mails { OnOk result (MailsBehind moment.frame (told_only at (kind_told event.now)) self.old self.new) }
         ensures told { OnOk result (KeepsReports self.old.notes self.new.notes) }
     {
         let Some(&home) = self.homes.get(at) else {

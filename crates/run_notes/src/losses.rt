@@ -1,4 +1,6 @@
 ghost use Rattle.std.specs.Prelude.{◌≡◌, ◌<◌, ◌≤◌, ◌+◌, suc, length, vec_len, OnOk, Some, slice_get};
+ghost use Rattle.master_node.specs.Listing.{events_in};
+ghost use Rattle.run_notes.specs.Handed.{MailsGo, MailsStay, kinds_in};
 ghost use Rattle.run_notes.specs.Heard.{emergencies_noted, HeardBy};
 ghost use Rattle.run_notes.specs.Slaves.{gaves_noted};
 ghost use Rattle.run_notes.specs.Packets.{begun_noted};
@@ -32,6 +34,7 @@ impl Log {
         ensures gave { OnOk result (GavesAll self.old.recover master.now (λ nows. gaves_noted self.new.notes ≡ gave_at at frame nows (gaves_noted self.old.notes))) }
         ensures heard { OnOk result (emergencies_noted self.new.notes ≡ emergencies_noted self.old.notes) }
         ensures rows { OnOk result (begun_noted self.new.notes ≡ begun_noted self.old.notes) }
+        ensures mails { OnOk result (MailsStay frame self.old.notes self.new.notes) }
         ensures told { OnOk result (LosesAll frame self.old.recover master.now (λ as' bs. ReportsTo at as' bs self.old.notes → ReportsTo (suc at) as' bs self.new.notes)) }
     {
         let place = at as usize;
@@ -57,6 +60,7 @@ impl Log {
         ensures gave { OnOk result (GavesAll self.old.recover master.now (λ nows. gaves_noted self.new.notes ≡ gaves_behind frame nows (gaves_noted self.old.notes))) }
         ensures heard { OnOk result (emergencies_noted self.new.notes ≡ emergencies_noted self.old.notes) }
         ensures rows { OnOk result (begun_noted self.new.notes ≡ begun_noted self.old.notes) }
+        ensures mails { OnOk result (MailsStay frame self.old.notes self.new.notes) }
         ensures told { OnOk result (LosesAll frame self.old.recover master.now (ReportsOn self.old.notes self.new.notes)) }
     {
         for place in 0..self.notes.len() {
@@ -80,6 +84,7 @@ impl Log {
         ensures gave { OnOk result (GaveBy fate frame master.now self.old self.new) }
         ensures heard { OnOk result (HeardBy fate frame master.now self.old self.new) }
         ensures rows { OnOk result (begun_noted self.new.notes ≡ begun_noted self.old.notes) }
+        ensures mails { OnOk result (MailsStay frame self.old.notes self.new.notes) }
         ensures told { OnOk result (ReportsBy fate frame master.now self.old self.new) }
     {
         match fate {
@@ -105,6 +110,7 @@ impl Log {
         ensures gave { OnOk result (GaveBy fate moment.frame master.now self.old self.new) }
         ensures heard { OnOk result (HeardBy fate moment.frame master.now self.old self.new) }
         ensures rows { OnOk result (begun_noted self.new.notes ≡ begun_noted self.old.notes) }
+        ensures mails { OnOk result (MailsGo moment.frame (λ k. kinds_in k (events_in master.now)) self.old.notes self.new.notes) }
         ensures told { OnOk result (ReportsBy fate moment.frame master.now self.old self.new) }
         ensures switch { OnOk result (NotesSwitch (1 + length self.old.ports) moment.sent master.now.lan.happened book.old book.new) }
     {

@@ -1,6 +1,7 @@
 //! What came into hand of the slaves by their scripts, as their master has it.
 
 ghost use Rattle.std.specs.Prelude.{◌≡◌, ◌<◌, ◌≤◌, ◌+◌, suc, length, vec_len, OnOk};
+ghost use Rattle.run_notes.specs.Handed.{AllDoubts};
 ghost use Rattle.run_notes.specs.Heard.{emergencies_noted};
 ghost use Rattle.run_notes.specs.Slaves.{gaves_noted};
 ghost use Rattle.run_notes.specs.Packets.{BeginsOn, SameBeside};
@@ -25,6 +26,7 @@ impl Log {
         ensures heard { OnOk result (emergencies_noted self.new.notes ≡ emergencies_noted self.old.notes) }
         ensures told { OnOk result (TurnsAll frame master.now (λ as' bs. ReportsTo at as' bs self.old.notes → ReportsTo (suc at) as' bs self.new.notes)) }
         ensures beside { OnOk result (SameBeside self.old.notes self.new.notes) }
+        ensures doubts { OnOk result (AllDoubts self.old.notes self.new.notes) }
     {
         let place = at as usize;
         let number = master.scripted(at);
@@ -45,6 +47,7 @@ impl Log {
         ensures heard { OnOk result (emergencies_noted self.new.notes ≡ emergencies_noted self.old.notes) }
         ensures told { OnOk result (TurnsAll frame master.now (ReportsOn self.old.notes self.new.notes)) }
         ensures beside { OnOk result (SameBeside self.old.notes self.new.notes) }
+        ensures doubts { OnOk result (AllDoubts self.old.notes self.new.notes) }
     {
         for place in 0..self.notes.len() {
             self.note_script(master, frame, place as u32)?;
@@ -68,6 +71,7 @@ impl Log {
         ensures frames { SameFrames (1 + length self.old.ports) book.old book.new }
         ensures told { OnOk result (TurnsAll moment.frame master.now (ReportsOn self.old.notes self.new.notes)) }
         ensures begun { OnOk result (TurnsAll moment.frame master.now (BeginsOn moment.frame master.now self.old.notes self.new.notes)) }
+        ensures doubts { OnOk result (AllDoubts self.old.notes self.new.notes) }
         ensures switch { OnOk result (NotesSwitch (1 + length self.old.ports) moment.sent master.now.lan.happened book.old book.new) }
     {
         self.note_scripts(master, moment.frame)?;

@@ -4,6 +4,7 @@ ghost use Rattle.std.specs.Prelude.{◌≡◌, ◌+◌, ◌++◌, ◌∷◌, [],
 ghost use Rattle.std.specs.Bool.{OnTrue};
 ghost use Rattle.master_node.specs.Happened.{handed_by};
 ghost use Rattle.run_book.specs.Ports.{IsAtPort};
+ghost use Rattle.run_notes.specs.Handed.{services_noted};
 ghost use Rattle.run_notes.specs.Heard.{emergencies_noted};
 ghost use Rattle.run_notes.specs.Slaves.{gaves_noted};
 ghost use Rattle.run_notes.specs.Packets.{begun_noted};
@@ -61,6 +62,7 @@ impl Log {
         ensures gave { gaves_noted self.new.notes ≡ gaves_noted self.old.notes }
         ensures heard { emergencies_noted self.new.notes ≡ emergencies_noted self.old.notes }
         ensures rows { begun_noted self.new.notes ≡ begun_noted self.old.notes }
+        ensures services { services_noted self.new.notes ≡ services_noted self.old.notes }
         ensures told { KeepsReports self.old.notes self.new.notes }
         ensures frames { SameFrames (1 + length self.old.ports) book.old book.new }
         ensures switch { OnOk result (NotesSwitch (1 + length self.old.ports) moment.sent rows.now book.old book.new) }
@@ -82,6 +84,7 @@ impl Log {
         ensures gave { gaves_noted self.new.notes ≡ gaves_noted self.old.notes }
         ensures heard { emergencies_noted self.new.notes ≡ emergencies_noted self.old.notes }
         ensures rows { begun_noted self.new.notes ≡ begun_noted self.old.notes }
+        ensures services { services_noted self.new.notes ≡ services_noted self.old.notes }
         ensures told { KeepsReports self.old.notes self.new.notes }
         ensures frames { SameFrames (1 + length self.old.ports) book.old book.new }
         ensures switch { OnOk result (NotesSwitch (1 + length self.old.ports) moment.sent (row.now ∷ []) book.old book.new) }
@@ -118,6 +121,7 @@ impl Log {
         ensures gave { gaves_noted self.new.notes ≡ gaves_noted self.old.notes }
         ensures heard { emergencies_noted self.new.notes ≡ emergencies_noted self.old.notes }
         ensures rows { begun_noted self.new.notes ≡ begun_noted self.old.notes }
+        ensures services { services_noted self.new.notes ≡ services_noted self.old.notes }
         ensures told { KeepsReports self.old.notes self.new.notes }
     {
         if port == 0 {

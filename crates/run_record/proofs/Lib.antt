@@ -13,6 +13,9 @@ pub mod Gones
 pub mod Heads
 pub mod Hearings
 pub mod Leads
+pub mod MailEvents
+pub mod MailLives
+pub mod MailNotes
 pub mod Nexts
 pub mod NoPackets
 pub mod Noted
@@ -25,6 +28,7 @@ pub mod Rows
 pub mod ServedBegan
 pub mod ServedForwards
 pub mod ServedGaves
+pub mod ServedHanded
 pub mod ServedPlaced
 pub mod ServedRecalls
 pub mod ServedReports

@@ -44,6 +44,7 @@ use Rattle.master_node.specs.of_segment_model.Returned.{Returns}
 use Rattle.ring_returns.proofs.Returned as Returned
 use Rattle.run_book.specs.declared.book.SentFrame.{SentFrame}
 use Rattle.run_notes.proofs.Heard.{first_heard}
+use Rattle.run_notes.specs.Handed.{AllDoubts, AllHanded, IsHanded, MailsGo, kinds_in}
 use Rattle.run_notes.specs.Heard.{HeardBy, emergencies_noted}
 use Rattle.run_notes.specs.Packets.{BeginsOn, begun_noted}
 use Rattle.run_notes.specs.Reports.{AllReport, ReportsBy, ReportsOn, TurnsAll}
@@ -54,14 +55,14 @@ use Rattle.run_notes.specs.declared.standing.AskedMail.{AskedMail}
 use Rattle.run_notes.specs.declared.standing.Log.{Log}
 use Rattle.run_record.specs.Forwarded.{PacketsNoted}
 use Rattle.run_record.specs.Led.{exchanged}
-use Rattle.run_record.specs.Mails.{served_mails}
+use Rattle.run_record.specs.Mails.{passing_at, served_mails, served_overs}
 use Rattle.run_record.specs.Recalling.{state_of}
 use Rattle.run_record.specs.Replay.{IsRecorded, behind as behind_ring, first_ring}
 use Rattle.packets_heard.specs.Recalled.{State}
 use Rattle.packets_heard.specs.Served.{IsTourServed, serves_behind}
 use Rattle.packets_heard.specs.Servings.{served_begun}
 use Rattle.packets_heard.specs.Toured.{tour_behind}
-use Rattle.run_record.specs.Served.{ServedLeading, Serving, ServesOn, ServingAsks, ServingGoesOn, TellsBehind, as_asked, served_heard}
+use Rattle.run_record.specs.Served.{ListsBehind, ServedLeading, Serving, ServesOn, ServingAsks, ServingGoesOn, TellsBehind, as_asked, served_heard}
 use Rattle.run_record.specs.Session.{FrameEvents, IsDone, SessionState, asked_mail, asked_more, has_live, numbers_over}
 use Rattle.run_record.proofs.Befores.{one_more}
 use Rattle.run_record.proofs.Began.{packets_first}
@@ -73,6 +74,7 @@ use Rattle.run_record.proofs.Noted.{GivesOne, noted_by, noted_now}
 use Rattle.run_record.proofs.ServedBegan.{packets_stay, served_packets}
 use Rattle.run_record.proofs.ServedForwards.{FrameTells, served_asked, served_events, served_first, served_forwarded_on, served_numbered_on, served_stays}
 use Rattle.run_record.proofs.ServedGaves.{all_give, has_lives, serve_leads, served_counted}
+use Rattle.run_record.proofs.ServedHanded.{first_handed, served_handed}
 use Rattle.run_record.proofs.ServedRecalls.{Recalled, recalled_asked, recalled_at, recalled_first, recalled_stays}
 use Rattle.run_record.proofs.ServedReports.{all_turn, before_turned, served_before, shows_told, told_by, way_told}
 use Rattle.run_record.proofs.ServedTold.{tells_frame}
@@ -114,6 +116,15 @@ first_same g t h (p ∷ ps) rows place [] = refl
 first_same g t h [] rows place (s ∷ ss) = λ i. h 1 (new_leads (script_for place rows) (spot_of place s)) i ∷ first_same g t h [] rows (suc place) ss i
 first_same g t h (p ∷ ps) rows place (s ∷ ss) = λ i. h p (new_leads (script_for place rows) (spot_of place s)) i ∷ first_same g t h ps rows (suc place) ss i
 
+-- and none is in hand
+none_passing : (paces : List ℕ) (rows : List (ℕ × Plan.Service)) (place : ℕ) (ss : List SlaveSpec) (k : ℕ) → passing_at (all_serve paces (leads_from rows place ss)) k ≡ false
+none_passing [] rows place [] k = refl
+none_passing (p ∷ ps) rows place [] k = refl
+none_passing [] rows place (s ∷ ss) zero = refl
+none_passing [] rows place (s ∷ ss) (suc k) = none_passing [] rows (suc place) ss k
+none_passing (p ∷ ps) rows place (s ∷ ss) zero = refl
+none_passing (p ∷ ps) rows place (s ∷ ss) (suc k) = none_passing ps rows (suc place) ss k
+
 pub serving_begins : (plan : Scenario) (s : SessionState) → s.notes ≡ first_notes plan.services 0 plan.slaves → ServedShows (lens_of plan.slaves) plan.recover plan.retry s.master 0 0 (all_serve plan.paces (first_leads plan)) → s.asked ≡ replicate (length plan.slaves) [] → s.waiting ≡ replicate (length plan.slaves) 0 → tour_of s.master ≡ new_tour →
     s.master.lan.ports.items ≡ ports_behind 0 plan.slaves → HasUnfinished s.master (map stand_before (first_leads plan)) (map (λ spec. None) plan.slaves) → HasHappened (ports_of plan.slaves) plan.host [] s.master.lan → AllKnow (recalls s.master) → s.ring ≡ first_ring plan → ((k : ℕ) → forwards_at s.master.posts.items k ≡ 0) → Serving plan s []
 serving_begins plan s notes shown none still tour ports joined happened knows ring counts =
@@ -137,6 +148,8 @@ serving_begins plan s notes shown none still tour ports joined happened knows ri
       numbers = [];
       numbered = (refl, refl);
       packets = packets_first plan s.master s.notes counts notes;
+      handed = subst (λ (ns : List Notes). AllHanded (λ k. []) (λ k. passing_at (all_serve plan.paces (first_leads plan)) k) ns) (sym notes)
+          (first_handed plan.services 0 plan.slaves (all_serve plan.paces (first_leads plan)) (λ k. none_passing plan.paces plan.services 0 plan.slaves k));
       remembers = r.1;
     }
 
@@ -169,6 +182,14 @@ asked_rows key zero mail k (w ∷ ws) i =
     ap (λ z. z ∷ map mails_of ws) (more_asked w.asked k ∙ ap (λ z. map as_asked w.asked ++ z ∷ []) (same_mail key mail k i))
 asked_rows key (suc place) mail k (w ∷ ws) i = ap (λ z. mails_of w ∷ z) (asked_rows key place mail k ws i)
 
+asked_passing : (place : ℕ) (m : Keyed) (ws : List Serves) (k : ℕ) → passing_at (asked_at place m ws) k ≡ passing_at ws k
+asked_passing zero m [] k = refl
+asked_passing (suc place) m [] k = refl
+asked_passing zero m (w ∷ ws) zero = refl
+asked_passing zero m (w ∷ ws) (suc k) = refl
+asked_passing (suc place) m (w ∷ ws) zero = refl
+asked_passing (suc place) m (w ∷ ws) (suc k) = asked_passing place m ws k
+
 one_asked : (s s' : SessionState) (slave key : ℕ) (mail : Mail) →
     ((lens : ℕ → Lens) (recover retry missed made : ℕ) (ws : List Serves) → waiting_at s.master.posts.items slave < 64 → FitsAt lens slave (length mail.body.items) ws → ServedShows lens recover retry s.master missed made ws →
     (k : Keyed) × IsAsked key mail k × MayAsk lens slave k ws × ServedShows lens recover retry s'.master missed made (asked_at slave k ws)) →
@@ -200,6 +221,7 @@ one_asked s s' slave key mail served apart tour lan ring asked waiting notes cou
         rows = old.rows;
         numbers = old.numbers;
         numbered = old.numbered;
+        handed = λ k n at. subst (λ (z : Bool). IsHanded (served_overs l.lives k) z n) (sym (asked_passing slave more.0 l.serves k)) (subst (λ (ns : List Notes). AllHanded (λ k. served_overs l.lives k) (λ k. passing_at l.serves k) ns) (sym notes) old.handed k n at);
         packets = packets_stay (λ k. served_begun l.lives k) (λ k. served_mails l.lives k) s.master s'.master s.notes s'.notes counts notes old.packets;
         forwarded = served_asked plan fs l.missed l.serves l.lives slave more.0 more.2 s'.master old.rows (leads_same (λ a. a) slave more.0 l.serves)
             (served_stays plan fs l.missed l.serves l.lives s.master s'.master old.rows tour lan old.forwarded);
@@ -258,6 +280,7 @@ none_asked s s' slave key mail tour lan ring number stays asked waiting notes = 
         rows = old.rows;
         numbers = old.numbers;
         numbered = old.numbered;
+        handed = subst (λ (ns : List Notes). AllHanded (λ k. served_overs l.lives k) (λ k. passing_at l.serves k) ns) (sym notes) old.handed;
         packets = packets_stay (λ k. served_begun l.lives k) (λ k. served_mails l.lives k) s.master s'.master s.notes s'.notes (λ k. ap (λ z. forwards_at z k) (all_stay slave s.master.posts.items s'.master.posts.items stays)) notes old.packets;
         forwarded = served_stays plan fs l.missed l.serves l.lives s.master s'.master old.rows tour lan old.forwarded;
         remembers = r.1;
@@ -281,12 +304,13 @@ module _ (s s' : SessionState) (m : MasterNode) (f : Exchanged) (result : Next) 
     ServedShows lens recover retry s'.master (missed_behind lens recover retry f.fate missed) (suc made) (map (served_behind lens recover retry (gives_up_at lens recover retry missed) made f) vs))
     (tours : (lens : ℕ → Lens) (recover : ℕ) (as' : List Leads) → HasLives lens recover s'.master (map lived_of as') → tour_of s'.master ≡ tour_behind m.tour.retry f.fate as' (tour_of m) m.tour.visit.items)
     (switch : FrameTells s.master m s'.master f)
-    (whole : listed s'.master.list.rows.items s'.master.list.count ≡ events_in m ++ events_in s'.master) (told : TellsBehind f.fate f.back m s'.master)
+    (whole : listed s'.master.list.rows.items s'.master.list.count ≡ events_in m ++ events_in s'.master) (told : TellsBehind f.fate f.back m s'.master) (lists : ListsBehind f.fate f.back m s'.master)
     (fate : f.fate ≡ fate_at s.ring.lose s.ring.number) (back : f.back ≡ ring_returned node_passed s.ring f.sent) (few : suc s.ring.number < 2 ^ 32) (asked : s'.asked ≡ s.asked) (waiting : s'.waiting ≡ map waiting_of s'.master.posts.items)
     (r r' : Log) (same : r.recover ≡ s.recover) (before : gaves_noted r.notes ≡ gaves_noted s.notes) (after : s'.notes ≡ r'.notes) (noted : GaveBy f.fate s.ring.number s'.master r r')
     (told_before : TurnsAll s.ring.number m (ReportsOn s.notes r.notes)) (told_behind : ReportsBy f.fate s.ring.number s'.master r r')
     (heard_before : emergencies_noted r.notes ≡ emergencies_noted s.notes) (heard_behind : HeardBy f.fate s.ring.number s'.master r r')
     (begun_before : TurnsAll s.ring.number m (BeginsOn s.ring.number m s.notes r.notes)) (begun_behind : begun_noted r'.notes ≡ begun_noted r.notes) (many : length r.notes ≡ length s.notes)
+    (doubts : AllDoubts s.notes r.notes) (mails : MailsGo s.ring.number (λ k. kinds_in k (events_in s'.master)) r.notes r'.notes)
     (plan : Scenario) (fs : List Exchanged) (recover : s.recover ≡ plan.recover) (number : length fs ≡ s.ring.number) (live : has_live s.master ≡ true) (busy : IsDone s → ⊥) (on_ring : s'.ring ≡ behind_ring s.ring f.sent) (old : Serving plan s fs) where
   abbrev lens : ℕ → Lens
   lens = lens_of plan.slaves
@@ -380,6 +404,26 @@ module _ (s s' : SessionState) (m : MasterNode) (f : Exchanged) (result : Next) 
       (served_counted plan (fs ++ f ∷ []) missed behind lives) (before_turned lens (length fs) made.1.datagrams l.serves made.0 made.1.each (served_before plan fs l.missed l.serves l.lives))
       (subst (λ (n : ℕ). ReportsBy f.fate n s'.master r r') (sym number) told_behind) reports)
 
+  -- of the answers of mails that are passed on
+  handed : AllHanded (λ k. served_overs lives k) (λ k. passing_at behind k) s'.notes
+  handed =
+      served_handed plan fs l.missed l.serves l.lives f made.0 made.1 s.master m s'.master s.notes r.notes s'.notes
+      (record {
+        under = made.2;
+        returned = returned;
+        lists = lists lens plan.recover plan.retry l.missed (length fs) made.0 f refl refl made.2 returned;
+        packets = old.packets;
+        packets_on = packets;
+        same = ap begun_noted after ∙ begun_behind;
+        doubts = doubts;
+        goes = subst (λ (n : ℕ). MailsGo n (λ k. kinds_in k (events_in s'.master)) r.notes s'.notes) (sym number) (subst (λ (ns : List Notes). MailsGo s.ring.number (λ k. kinds_in k (events_in s'.master)) r.notes ns) (sym after) mails);
+        reports = old.told;
+        turned_reports = reports;
+        gave = before ∙ old.gave;
+        gave_on = gave;
+      })
+      old.handed
+
   -- and of emergencies
   heard : AllNoted (served_heard lives) (emergencies_noted s'.notes)
   heard =
@@ -400,6 +444,7 @@ module _ (s s' : SessionState) (m : MasterNode) (f : Exchanged) (result : Next) 
     numbers = old.numbers ++ numbers_over (length fs) happened;
     numbered = served_numbered_on plan fs l.missed l.serves l.lives f made.0 made.1 s.master m s'.master made.2 made.4 returned switch old.rows old.forwarded old.numbers old.numbered;
     packets = packets;
+    handed = handed;
     forwarded = served_forwarded_on plan fs l.missed l.serves l.lives f made.0 made.1 s.master m s'.master made.2 made.4 returned switch old.rows old.forwarded;
     remembers = remembered.1;
   }
@@ -424,10 +469,11 @@ pub serving_on : (t s s' : SessionState) (m : MasterNode) (f : SentFrame) (resul
     ((lens : ℕ → Lens) (recover retry missed made : ℕ) (vs : List ServedTurn) → ServedUnder lens recover retry m f.sent missed made vs → (f.fate ≡ Fates.Pass → Returns (seen lens f.sent) (seen lens f.back)) →
     ServedShows lens recover retry s'.master (missed_behind lens recover retry f.fate missed) (suc made) (map (served_behind lens recover retry (gives_up_at lens recover retry missed) made (exchanged f)) vs)) →
     ((lens : ℕ → Lens) (recover : ℕ) (as' : List Leads) → HasLives lens recover s'.master (map lived_of as') → tour_of s'.master ≡ tour_behind m.tour.retry f.fate as' (tour_of m) m.tour.visit.items) → FrameTells t.master m s'.master (exchanged f) →
-    listed s'.master.list.rows.items s'.master.list.count ≡ events_in m ++ events_in s'.master → TellsBehind f.fate f.back m s'.master →
+    listed s'.master.list.rows.items s'.master.list.count ≡ events_in m ++ events_in s'.master → TellsBehind f.fate f.back m s'.master → ListsBehind f.fate f.back m s'.master →
     IsRecorded t.ring f → suc t.ring.number < 2 ^ 32 → s'.asked ≡ t.asked → s'.waiting ≡ map waiting_of s'.master.posts.items →
     (r r' : Log) → r.recover ≡ t.recover → gaves_noted r.notes ≡ gaves_noted t.notes → s'.notes ≡ r'.notes → GaveBy f.fate t.ring.number s'.master r r' → TurnsAll t.ring.number m (ReportsOn t.notes r.notes) → ReportsBy f.fate t.ring.number s'.master r r' → emergencies_noted r.notes ≡ emergencies_noted t.notes → HeardBy f.fate t.ring.number s'.master r r' →
-    TurnsAll t.ring.number m (BeginsOn t.ring.number m t.notes r.notes) → begun_noted r'.notes ≡ begun_noted r.notes → length r.notes ≡ length t.notes → s'.ring ≡ behind_ring t.ring f.sent → ServingGoesOn s s' (record { making = events_of m.lan.happened; behind = events_of s'.master.lan.happened }) f
-serving_on t s s' m f result view idle serves served tours switch whole told recorded few asked waiting r r' same before after noted told_before told_behind heard_before heard_behind begun_before begun_behind many ring =
+    TurnsAll t.ring.number m (BeginsOn t.ring.number m t.notes r.notes) → begun_noted r'.notes ≡ begun_noted r.notes → length r.notes ≡ length t.notes → AllDoubts t.notes r.notes →
+    MailsGo t.ring.number (λ k. kinds_in k (events_in s'.master)) r.notes r'.notes → s'.ring ≡ behind_ring t.ring f.sent → ServingGoesOn s s' (record { making = events_of m.lan.happened; behind = events_of s'.master.lan.happened }) f
+serving_on t s s' m f result view idle serves served tours switch whole told lists recorded few asked waiting r r' same before after noted told_before told_behind heard_before heard_behind begun_before begun_behind many doubts mails ring =
     subst (λ (z : SessionState). ServingGoesOn z s' (record { making = events_of m.lan.happened; behind = events_of s'.master.lan.happened }) f) view
-    (λ plan fs recover number live busy old. on_frame t s' m (exchanged f) result idle serves served tours switch whole told recorded.fate recorded.back few asked waiting r r' same before after noted told_before told_behind heard_before heard_behind begun_before begun_behind many plan fs recover number live busy ring old)
+    (λ plan fs recover number live busy old. on_frame t s' m (exchanged f) result idle serves served tours switch whole told lists recorded.fate recorded.back few asked waiting r r' same before after noted told_before told_behind heard_before heard_behind begun_before begun_behind many doubts mails plan fs recover number live busy ring old)

@@ -3,7 +3,9 @@
 use Rattle.std.specs.Prelude.{◌≡◌, ◌≤◌, ◌+◌, ℕ, Bool, true, false, None, Some, List, [], ◌∷◌, ◌++◌, length, map, filter, slice_get, All}
 use Rattle.life_heard.specs.Heard.{Accepted, AllNoted, brought_by, heard_none, heard_on}
 use Rattle.mailbox_mail.specs.declared.mail.Mail.{Mail}
+use Rattle.master_node.specs.Backtold.{returned_at}
 use Rattle.master_node.specs.Begins.{begun_of}
+use Rattle.master_node.specs.Eager.{recalls}
 use Rattle.master_node.specs.Events.{served_tells}
 use Rattle.master_node.specs.Gateways.{is_gateway, lives_told}
 use Rattle.master_node.specs.Happened.{HasHappened, events_of}
@@ -23,6 +25,7 @@ use Rattle.master_node.specs.of_frame_view.Seen.{seen}
 use Rattle.master_node.specs.of_frame_view.View.{Lens}
 use Rattle.master_node.specs.of_life_runs.First.{lens_of, first_leads}
 use Rattle.master_node.specs.of_life_runs.Led.{Exchanged, gives_up_at, missed_behind}
+use Rattle.master_node.specs.of_master_side.Recall.{Recall}
 use Rattle.master_node.specs.of_master_tour.Goes.{holds_at}
 use Rattle.master_node.specs.of_master_tour.Made.{is_in}
 use Rattle.master_node.specs.of_master_tour.Orders.{AreOnce}
@@ -35,12 +38,13 @@ use Rattle.packets_heard.specs.ServedRecalled.{ServedRecalledIn}
 use Rattle.packets_heard.specs.Servings.{AreServedBegun, ServedListed, ServedNumbered, served_begun, served_joined}
 use Rattle.run_book.specs.declared.book.SentFrame.{SentFrame}
 use Rattle.run_notes.specs.declared.standing.AskedMail.{AskedMail}
+use Rattle.run_notes.specs.Handed.{AllHanded}
 use Rattle.run_notes.specs.Heard.{emergencies_noted}
 use Rattle.run_notes.specs.Reports.{AllReport}
 use Rattle.run_notes.specs.Slaves.{gaves_noted, home_of}
 use Rattle.run_record.specs.Forwarded.{PacketsNoted}
 use Rattle.run_record.specs.Led.{exchanged}
-use Rattle.run_record.specs.Mails.{served_mails}
+use Rattle.run_record.specs.Mails.{passing_at, served_mails, served_overs}
 use Rattle.run_record.specs.Recalling.{state_of}
 use Rattle.run_record.specs.Session.{FrameEvents, IsDone, SessionState, has_live, numbers_over}
 use Rattle.segment_plan.specs.Sound.{IsPlan}
@@ -89,8 +93,8 @@ as_asked k = record { key = k.key; kind = k.mail.kind; body = k.mail.body.items 
 -- HOW A SERVING STANDS behind these frames: its master leads; so often each slave was given up as is noted, and what is noted of its services and epochs goes with
 -- its life; just the emergencies among the mails that its life accepted are noted, each with the frame that brought it; the mails that were asked of each are just
 -- those that the session has, in order, and so many of them still wait; what happened at its switch is by their lives, each event with its number; and just the
--- packets that came into hand are noted, numbered, and just the mails that were passed on, each with its number and its frame. None of its master's visits was
--- in vain, by what it remembers
+-- packets that came into hand are noted, numbered, and just the mails that were passed on, each with its number and its frame, and with its answer by when it was
+-- over. None of its master's visits was in vain, by what it remembers
 pub record Serving (plan : Scenario) (s : SessionState) (fs : List Exchanged) : Type 0 where
   pub leading : ServedLeading plan s.master fs
   pub gave : gaves_noted s.notes ≡ map gave_of (map run_lead leading.serves)
@@ -103,6 +107,7 @@ pub record Serving (plan : Scenario) (s : SessionState) (fs : List Exchanged) : 
   pub numbers : List ℕ
   pub numbered : ServedNumbered (ports_behind 0 plan.slaves) (ports_of plan.slaves) leading.lives (events_of rows) numbers
   pub packets : PacketsNoted (λ k. served_begun leading.lives k) (λ k. served_mails leading.lives k) s.master s.notes
+  pub handed : AllHanded (λ k. served_overs leading.lives k) (λ k. passing_at leading.serves k) s.notes
   pub remembers : ServedRecalledIn plan leading.toured (state_of s.master (events_of rows) s.ring)
 
 -- before its first frame
@@ -131,6 +136,17 @@ abbrev pub TellsBehind : Fate → List ℕ → MasterNode → MasterNode → Typ
 TellsBehind fate back m n =
     (lens : ℕ → Lens) (recover retry missed made : ℕ) (vs : List ServedTurn) (f : Exchanged) → f.fate ≡ fate → f.back ≡ back → ServedUnder lens recover retry m f.sent missed made vs → (fate ≡ Fates.Pass → Returns (seen lens f.sent) (seen lens back)) →
     filter is_gateway (events_in n) ≡ told_in (λ k. told_behind lens f f.fate vs (map (served_behind lens recover retry (gives_up_at lens recover retry missed) made f) vs) k) m.tour.visit.items
+
+-- ALL THAT A FRAME OF THIS FATE TELLS behind it of the slave at a place, by the lives before it and behind it, and by what the master remembers then
+abbrev pub events_behind : (ℕ → Lens) → Exchanged → Fate → List Recall → List ServedTurn → List Serves → ℕ → List Event
+events_behind lens f Fates.Pass rs vs ws k = returned_at lens (seen lens f.back) rs vs ws k
+events_behind lens f (Fates.Lost after) rs vs ws k = lost_at vs ws k
+
+-- JUST THESE EVENTS ARE LISTED behind a frame of this fate, of the slaves that it visited, by whatever lives are with the master while it is under way
+abbrev pub ListsBehind : Fate → List ℕ → MasterNode → MasterNode → Type 0
+ListsBehind fate back m n =
+    (lens : ℕ → Lens) (recover retry missed made : ℕ) (vs : List ServedTurn) (f : Exchanged) → f.fate ≡ fate → f.back ≡ back → ServedUnder lens recover retry m f.sent missed made vs → (fate ≡ Fates.Pass → Returns (seen lens f.sent) (seen lens back)) →
+    events_in n ≡ told_in (λ k. events_behind lens f f.fate (recalls n) vs (map (served_behind lens recover retry (gives_up_at lens recover retry missed) made f) vs) k) m.tour.visit.items
 
 -- ONE FRAME MORE of a serving: it is just what the lives ask for, those behind it are what it leads them to, by them who asked gets to know what the frame tells,
 -- and just this happened at its switch

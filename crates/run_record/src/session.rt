@@ -35,7 +35,7 @@ ghost use Rattle.run_book.specs.Ports.{ports_of};
 ghost use Rattle.run_record.specs.Recalling.{RunBegins};
 ghost use Rattle.run_notes.specs.Switched.{SameSwitch};
 ghost use Rattle.run_record.specs.Replay.{first_ring};
-ghost use Rattle.run_record.specs.Served.{ServingAsks, ServingBegins, ServingGoesOn, ServingLives, ServingRests, TellsBehind};
+ghost use Rattle.run_record.specs.Served.{ListsBehind, ServingAsks, ServingBegins, ServingGoesOn, ServingLives, ServingRests, TellsBehind};
 ghost use Rattle.run_record.specs.Session.{budget_of, smaller_bound, rests_at, session_rows, first_session, are_at_rest, some_given_up, has_live, FrameEvents, IsDone, IsLeftBy, StillWants, Steps, Stops, SwitchGrows, Asks};
 ghost use Rattle.run_notes.specs.Slaves.{slave_row, slave_rows, KeepsRest};
 
@@ -248,6 +248,7 @@ fn tell(master: &mut MasterNode, fate: Fate, back: &FrameBuf)
     ensures served { (lens : ℕ → Lens) (recover retry missed made : ℕ) (vs : List ServedTurn) (f : Exchanged) → f.fate ≡ fate → f.back ≡ back.now.items → ServedUnder lens recover retry master.old f.sent missed made vs → (fate ≡ Fates.Pass → Returns (seen lens f.sent) (seen lens back.now.items)) →
         ServedShows lens recover retry master.new (missed_behind lens recover retry f.fate missed) (suc made) (map (served_behind lens recover retry (gives_up_at lens recover retry missed) made f) vs) }
     ensures told { master.old.list.before ≤ 16 → TellsBehind fate back.now.items master.old master.new }
+    ensures lists { master.old.list.before ≤ 16 → ListsBehind fate back.now.items master.old master.new }
     ensures whole { listed master.new.list.rows.items master.new.list.count ≡ take master.old.list.before master.old.list.rows.items ++ events_in master.new }
 {
     match fate {

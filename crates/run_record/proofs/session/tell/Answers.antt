@@ -1,6 +1,8 @@
 use Rattle.std.proofs.Common.{◌≡◌, ℕ, suc, map, refl, ap, sym, ◌∙◌, subst, List}
 use Rattle.master_node.specs.of_life_runs.Led.{led_behind, gives_up_at, missed_behind}
-use Rattle.master_node.specs.Listing.{events_in}
+use Rattle.master_node.specs.Backtold.{returned_at}
+use Rattle.master_node.specs.Eager.{recalls}
+use Rattle.master_node.specs.Listing.{events_in, told_in}
 use Rattle.master_node.specs.Serving.{ServedShows}
 use Rattle.master_node.specs.Shows.{MasterShows}
 use Rattle.master_node.specs.Toured.{tour_of}
@@ -14,6 +16,7 @@ use Rattle.master_node.specs.of_frame_view.Seen.{seen}
 use Rattle.master_node.specs.Joined.{HasUnfinished, stand_before, unfinished_after, mails_back}
 use Rattle.packets_heard.specs.Listed.{unfinished_of}
 use Rattle.packets_heard.specs.Heard.{mails_by}
+use Rattle.run_record.specs.Served.{events_behind}
 use Rattle.run_record.proofs.ServedTold.{told_lost, told_pass}
 use Rattle.run_record.proofs.session.tell.Goals as goal
 
@@ -150,3 +153,18 @@ returns-in-Pass-clause-stays c = λ after lost. absurd (let bad : Fates.Pass ≡
 
 pub returns-in-Lost-clause-stays : goal.returns-in-Lost-clause-stays
 returns-in-Lost-clause-stays c = λ after lost lens recover retry missed made vs f under. c.lost.ensures.remembers lens recover retry missed made f.sent vs f under
+
+pub returns-in-Pass-clause-lists : goal.returns-in-Pass-clause-lists
+returns-in-Pass-clause-lists c = λ few lens recover retry missed made vs f fate back under returns.
+    let pass : f.fate ≡ Fates.Pass = fate ∙ c.in-Pass.is in
+    let new = map (served_behind lens recover retry (gives_up_at lens recover retry missed) made f) vs in
+    c.returned.ensures.told lens recover retry missed made f.sent vs f pass back under (returns c.in-Pass.is) few
+    ∙ ap (λ (octets : List ℕ). told_in (λ k. returned_at lens (seen lens octets) (recalls c.returned.new.self) vs new k) c.args.master.now.tour.visit.items) (sym back)
+    ∙ ap (λ (z : Fate). told_in (λ k. events_behind lens f z (recalls c.returned.new.self) vs new k) c.args.master.now.tour.visit.items) (sym pass)
+
+pub returns-in-Lost-clause-lists : goal.returns-in-Lost-clause-lists
+returns-in-Lost-clause-lists c = λ few lens recover retry missed made vs f fate back under returns.
+    let lost : f.fate ≡ Fates.Lost c.in-Lost.after = fate ∙ c.in-Lost.is in
+    let new = map (served_behind lens recover retry (gives_up_at lens recover retry missed) made f) vs in
+    c.lost.ensures.told lens recover retry missed made c.in-Lost.after f.sent vs f lost refl under few
+    ∙ ap (λ (z : Fate). told_in (λ k. events_behind lens f z (recalls c.lost.new.self) vs new k) c.args.master.now.tour.visit.items) (sym lost)

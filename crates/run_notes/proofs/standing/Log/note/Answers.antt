@@ -1,9 +1,14 @@
-use Rattle.std.proofs.Common.{◌+◌, length, ◌∙◌, subst}
+use Rattle.std.proofs.Common.{ℕ, List, ◌+◌, length, ◌∙◌, subst}
 use Rattle.std.proofs.lemmas.Result.{on_ok_weaker}
 use Rattle.run_notes.specs.Switched.{NotesSwitch}
 use Rattle.run_notes.proofs.Kept.{slaves_more, at_log}
 use Rattle.run_notes.proofs.Ways.{any_ok}
 use Rattle.run_notes.proofs.Switched.{switch_at}
+use Rattle.run_notes.proofs.Handings.{mails_then, stay_services}
+use Rattle.run_notes.specs.Handed.{kinds_in}
+use Rattle.master_node.specs.declared.event.Event.{Event}
+use Rattle.master_node.specs.Listing.{events_in}
+use Rattle.run_notes.specs.Handed.{MailsBehind}
 use Rattle.run_notes.proofs.standing.Log.note.Goals as goal
 
 pub returns-clause-slaves : goal.returns-clause-slaves
@@ -30,3 +35,12 @@ returns-clause-switch c =
 
 pub returns-clause-rows : goal.returns-clause-rows
 returns-clause-rows c = any_ok c.note_happened.result (c.note_happened.ensures.rows ∙ c.in_ok-note_events.ensures.rows)
+
+pub returns-clause-mails : goal.returns-clause-mails
+returns-clause-mails c =
+    let first = c.args.self.now in
+    let mid = c.note_events.new.self in
+    let kinds = λ (k : ℕ). kinds_in k (events_in c.args.master.now) in
+    let told : MailsBehind c.args.moment.frame kinds first mid = subst (λ (es : List Event). MailsBehind c.args.moment.frame (λ k. kinds_in k es) first mid) c.events.ensures c.in_ok-note_events.ensures.mails in
+    any_ok c.note_happened.result
+    (λ at_home. mails_then c.args.moment.frame kinds first.notes mid.notes c.note_happened.new.self.notes (told at_home) (stay_services c.args.moment.frame mid.notes c.note_happened.new.self.notes c.note_happened.ensures.services c.note_happened.ensures.gave))

@@ -1,4 +1,4 @@
-use Rattle.std.proofs.Common.{◌≡◌, ℕ, List, sym, ap, ◌∙◌, subst}
+use Rattle.std.proofs.Common.{◌≡◌, ℕ, List, sym, ap, ◌∙◌, subst, []}
 use Rattle.std.specs.Prelude.{IfSome, slice_get}
 use Rattle.std.proofs.lemmas.Result.{on_ok_weaker}
 use Rattle.run_notes.specs.declared.notes.Awaited.{Awaited}
@@ -13,6 +13,8 @@ use Rattle.script_runs.specs.Steps.{PassesSo}
 use Rattle.master_node.specs.of_life_model.Lives.{Stand}
 use Rattle.master_node.specs.Told.{Tells}
 use Rattle.run_notes.proofs.Packets.{same_begun}
+use Rattle.run_notes.proofs.Handings.{stay_set, told_goes}
+use Rattle.run_notes.specs.Handed.{GoesBy}
 use Rattle.run_notes.proofs.standing.Log.note_answer.Goals as goal
 
 pub invariant_of-self : goal.invariant_of-self
@@ -47,3 +49,12 @@ returns-clause-heard c =
 pub returns-clause-rows : goal.returns-clause-rows
 returns-clause-rows c =
     any_ok c.note_back.result (same_begun c.args.self.now.notes c.args.at c.at_mut-notes.result.now c.note_back.new.notes (c.note_back.ensures.rows ∙ ap (λ (n : Notes). n.begun) c.at_mut-notes.ensures.value))
+
+pub returns-clause-mails : goal.returns-clause-mails
+returns-clause-mails c =
+    let log = c.args.self.now in
+    let n = c.at_mut-notes.result.now in
+    let got = got_there log.notes c.args.at n c.requires.notes c.at_mut-notes.ensures.value in
+    on_ok_weaker c.note_back.result
+    (λ is. stay_set c.args.frame log.notes c.args.at n c.note_back.new.notes c.at_mut-notes.ensures.value (subst (λ (z : Notes). GoesBy c.args.frame [] n z) (sym is) (told_goes c.args.frame n c.in_ok-told.told c.told.new.into c.is_leaving-leaves.result c.is_open-opens.result c.args.frame (awaited_at Awaited.Reply log.notes c.args.at n got c.requires.awaited))))
+    c.note_back.ensures.is

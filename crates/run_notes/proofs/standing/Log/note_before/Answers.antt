@@ -7,6 +7,7 @@ use Rattle.run_notes.proofs.Frees.{all_free}
 use Rattle.run_notes.proofs.Kept.{slaves_more, at_log}
 use Rattle.run_notes.proofs.Ways.{any_ok}
 use Rattle.run_notes.proofs.Switched.{switch_at}
+use Rattle.run_notes.proofs.Handings.{doubts_services, doubts_then}
 use Rattle.run_notes.proofs.standing.Log.note_before.Goals as goal
 
 pub returns-in_err-note_begun-clause-slaves : goal.returns-in_err-note_begun-clause-slaves
@@ -49,3 +50,12 @@ returns-clause-switch c =
     (λ notes. switch_at c.args.self.now c.note_begun.new.self c.args.moment.sent c.args.master.now.lan.happened c.args.book.now c.note_happened.new.book slaves
     (subst (λ rows. NotesSwitch (1 + length c.note_begun.new.self.ports) c.args.moment.sent rows c.args.book.now c.note_happened.new.book) c.happened.ensures notes))
     c.note_happened.ensures.switch
+
+pub returns-clause-doubts : goal.returns-clause-doubts
+returns-clause-doubts c =
+    let first = c.args.self.now.notes in
+    let scripts = c.note_scripts.new.self.notes in
+    let begun = c.note_begun.new.self.notes in
+    let last = c.note_happened.new.self.notes in
+    any_ok c.note_happened.result
+    (doubts_then first begun last (doubts_then first scripts begun c.in_ok-note_scripts.ensures.doubts c.in_ok-note_begun.ensures.doubts) (doubts_services begun last c.note_happened.ensures.services c.note_happened.ensures.gave))

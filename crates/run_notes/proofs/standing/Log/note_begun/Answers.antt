@@ -1,6 +1,7 @@
 use Rattle.std.proofs.Common.{refl, ◌∙◌}
 use Rattle.run_notes.proofs.Kept.{slaves_more}
 use Rattle.run_notes.proofs.Packets.{noted_first, noted_last, noted_next, stay_then}
+use Rattle.run_notes.proofs.Handings.{doubts_same, doubts_then}
 use Rattle.run_notes.proofs.standing.Log.note_begun.Goals as goal
 
 pub loop-event-init : goal.loop-event-init
@@ -11,6 +12,7 @@ loop-event-init c = record {
   told = λ as' r. r;
   beside = noted_first c.args.frame c.args.events.now c.args.self.now.notes;
   free = λ k f. f;
+  doubts = doubts_same c.args.self.now.notes;
 }
 
 pub loop-event-preserved : goal.loop-event-preserved
@@ -23,6 +25,7 @@ loop-event-preserved c =
       heard = c.in_ok-note_begun_by.ensures.heard ∙ inv.heard;
       told = λ as' r. c.in_ok-note_begun_by.ensures.told as' (inv.told as' r);
       beside = noted_next c.args.frame c.args.events.now c.loop-event.event-index c.event-item.result c.args.self.now.notes c.loop-event.self.notes c.note_begun_by.new.self.notes c.loop-event-test.true c.event-item.is inv.slaves.notes inv.beside inv.free c.in_ok-note_begun_by.ensures.beside;
+      doubts = doubts_then c.args.self.now.notes c.loop-event.self.notes c.note_begun_by.new.self.notes inv.doubts c.in_ok-note_begun_by.ensures.doubts;
       free = stay_then c.args.self.now.notes c.loop-event.self.notes c.note_begun_by.new.self.notes inv.free c.in_ok-note_begun_by.ensures.free;
     }
 

@@ -1,4 +1,4 @@
-use Rattle.std.proofs.Common.{sym, ap, ◌∙◌, arith}
+use Rattle.std.proofs.Common.{sym, ap, ◌∙◌, subst, arith}
 use Rattle.std.proofs.lemmas.Result.{on_ok_weaker}
 use Rattle.run_notes.specs.declared.notes.Notes.{Notes}
 use Rattle.run_notes.proofs.Gaves.{same_gaves}
@@ -7,6 +7,8 @@ use Rattle.run_notes.proofs.Packets.{none_begun, one_begun, one_free}
 use Rattle.run_notes.proofs.Reporting.{set_reports}
 use Rattle.run_notes.proofs.Stations.{same_noted}
 use Rattle.run_notes.proofs.Ways.{any_ok}
+use Rattle.run_notes.proofs.Handings.{began_doubt, doubts_same, doubts_set}
+use Rattle.run_notes.specs.Handed.{Doubts}
 use Rattle.run_notes.proofs.standing.Log.note_begun_at.Goals as goal
 
 pub invariant_of-self : goal.invariant_of-self
@@ -39,3 +41,13 @@ returns-then-place-len-clause-free c = λ k f. f
 pub returns-clause-free : goal.returns-clause-free
 returns-clause-free c =
     on_ok_weaker c.note_began.result (λ is. one_free c.args.self.now.notes c.args.at c.at_mut.result.now c.note_began.new.notes c.args.origin c.args.frame (omega arith) c.at_mut.ensures.value is) c.note_began.ensures.is
+
+pub returns-then-place-len-clause-doubts : goal.returns-then-place-len-clause-doubts
+returns-then-place-len-clause-doubts c = doubts_same c.args.self.now.notes
+
+pub returns-clause-doubts : goal.returns-clause-doubts
+returns-clause-doubts c =
+    let n = c.at_mut.result.now in
+    on_ok_weaker c.note_began.result
+    (λ is. doubts_set c.args.self.now.notes c.args.at n c.note_began.new.notes c.at_mut.ensures.value (subst (λ (z : Notes). Doubts n z) (sym is) (began_doubt n c.args.origin c.args.frame)))
+    c.note_began.ensures.is

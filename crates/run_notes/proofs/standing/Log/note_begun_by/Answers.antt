@@ -2,6 +2,7 @@ use Rattle.std.proofs.Common.{◌∷◌, [], sym, ap, subst}
 use Rattle.std.proofs.lemmas.Result.{on_ok_weaker}
 use Rattle.run_notes.specs.Packets.{NotesBeside, rows_of}
 use Rattle.run_notes.proofs.Packets.{no_rows}
+use Rattle.run_notes.proofs.Handings.{doubts_same}
 use Rattle.run_notes.proofs.standing.Log.note_begun_by.Goals as goal
 
 pub returns-in-Began-clause-beside : goal.returns-in-Began-clause-beside
@@ -49,3 +50,24 @@ returns-in-Opened-clause-beside c = no_rows c.args.frame c.args.event.now c.args
 
 pub returns-in-Opened-clause-free : goal.returns-in-Opened-clause-free
 returns-in-Opened-clause-free c = λ k f. f
+
+pub returns-in-Answered-clause-doubts : goal.returns-in-Answered-clause-doubts
+returns-in-Answered-clause-doubts c = doubts_same c.args.self.now.notes
+
+pub returns-in-Emergency-clause-doubts : goal.returns-in-Emergency-clause-doubts
+returns-in-Emergency-clause-doubts c = doubts_same c.args.self.now.notes
+
+pub returns-in-GatewayReply-clause-doubts : goal.returns-in-GatewayReply-clause-doubts
+returns-in-GatewayReply-clause-doubts c = doubts_same c.args.self.now.notes
+
+pub returns-in-GatewayDone-clause-doubts : goal.returns-in-GatewayDone-clause-doubts
+returns-in-GatewayDone-clause-doubts c = doubts_same c.args.self.now.notes
+
+pub returns-in-GivenUp-clause-doubts : goal.returns-in-GivenUp-clause-doubts
+returns-in-GivenUp-clause-doubts c = doubts_same c.args.self.now.notes
+
+pub returns-in-Cleared-clause-doubts : goal.returns-in-Cleared-clause-doubts
+returns-in-Cleared-clause-doubts c = doubts_same c.args.self.now.notes
+
+pub returns-in-Opened-clause-doubts : goal.returns-in-Opened-clause-doubts
+returns-in-Opened-clause-doubts c = doubts_same c.args.self.now.notes

@@ -4,6 +4,9 @@ use Rattle.run_notes.proofs.Gaves.{gave_after}
 use Rattle.run_notes.proofs.Heard.{heard_after}
 use Rattle.run_notes.proofs.Kept.{slaves_more}
 use Rattle.run_notes.proofs.Ways.{any_ok}
+use Rattle.run_notes.proofs.Handings.{mails_then}
+use Rattle.run_notes.specs.Handed.{kinds_in}
+use Rattle.master_node.specs.Listing.{events_in}
 use Rattle.run_notes.proofs.standing.Log.note_behind.Goals as goal
 
 pub returns-clause-slaves : goal.returns-clause-slaves
@@ -26,3 +29,9 @@ returns-clause-switch c = any_ok c.note_fate.result c.in_ok-note.ensures.switch
 
 pub returns-clause-rows : goal.returns-clause-rows
 returns-clause-rows c = on_ok_weaker c.note_fate.result (λ same. same ∙ c.in_ok-note.ensures.rows) c.note_fate.ensures.rows
+
+pub returns-clause-mails : goal.returns-clause-mails
+returns-clause-mails c =
+    on_ok_weaker c.note_fate.result
+    (λ h. mails_then c.args.moment.frame (λ k. kinds_in k (events_in c.args.master.now)) c.args.self.now.notes c.note.new.self.notes c.note_fate.new.self.notes (c.in_ok-note.ensures.mails c.requires.homes) h)
+    c.note_fate.ensures.mails

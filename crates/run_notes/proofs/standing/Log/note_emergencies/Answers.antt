@@ -13,6 +13,7 @@ loop-place-init c = record {
   gave = refl;
   heard = λ us back hss x noted. noted;
   rows = refl;
+  services = refl;
   told = λ as' r. r;
 }
 
@@ -27,6 +28,7 @@ loop-place-preserved c =
           let e : suc place ≡ place + 1 = omega arith in
           subst (λ (k : ℕ). AllNoted (heard_to (brought_of c.args.frame back) k hss us) (emergencies_noted c.note_emergency.new.self.notes)) e (c.in_ok-note_emergency.ensures.heard us back hss x (inv.heard us back hss x noted));
       rows = c.in_ok-note_emergency.ensures.rows ∙ inv.rows;
+      services = c.in_ok-note_emergency.ensures.services ∙ inv.services;
       told = λ as' r. c.in_ok-note_emergency.ensures.told as' (inv.told as' r);
     }
 

@@ -9,6 +9,8 @@ use Rattle.run_notes.proofs.Reporting.{set_reports}
 use Rattle.run_notes.proofs.Stations.{same_noted}
 use Rattle.run_notes.proofs.Ways.{any_ok}
 use Rattle.run_notes.proofs.Packets.{same_begun}
+use Rattle.run_notes.proofs.Handings.{same_services}
+use Rattle.run_notes.specs.Handed.{services_of}
 use Rattle.run_notes.proofs.standing.Log.note_emergency.Goals as goal
 
 pub invariant_of-self : goal.invariant_of-self
@@ -42,3 +44,9 @@ returns-clause-heard c =
 pub returns-clause-rows : goal.returns-clause-rows
 returns-clause-rows c =
     any_ok c.alarmed.result (same_begun c.args.self.now.notes c.args.at c.at_mut.result.now c.alarmed.new.self (c.alarmed.ensures.rows ∙ ap (λ (n : Notes). n.begun) c.at_mut.ensures.value))
+
+pub returns-clause-services : goal.returns-clause-services
+returns-clause-services c =
+    on_ok_weaker c.alarmed.result
+    (λ is. same_services c.args.self.now.notes c.args.at c.at_mut.result.now c.alarmed.new.self (ap services_of is ∙ ap services_of c.at_mut.ensures.value))
+    c.alarmed.ensures.is

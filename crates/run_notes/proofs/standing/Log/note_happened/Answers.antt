@@ -9,6 +9,7 @@ loop-row-init c = record {
   gave = refl;
   heard = refl;
   rows = refl;
+  services = refl;
   told = λ as' r. r;
   frames = record { frames = refl; rest = record { slaves = refl; grams = refl; replies = refl; serving = refl; at_port = λ all. all } };
   switch = notes_first (1 + length c.args.self.now.ports) c.args.moment.sent c.args.rows.now c.args.book.now;
@@ -23,6 +24,7 @@ loop-row-preserved c =
       gave = c.note_switch.ensures.gave ∙ inv.gave;
       heard = c.note_switch.ensures.heard ∙ inv.heard;
       rows = c.note_switch.ensures.rows ∙ inv.rows;
+      services = c.note_switch.ensures.services ∙ inv.services;
       told = λ as' r. c.note_switch.ensures.told as' (inv.told as' r);
       frames = frames_more ports inv.frames (at_log inv.slaves c.note_switch.ensures.frames);
       switch = notes_next ports c.args.moment.sent c.args.rows.now c.loop-row.row-index c.row-item.result c.args.book.now c.loop-row.book c.note_switch.new.book c.loop-row-test.true c.row-item.is inv.switch
@@ -51,3 +53,6 @@ returns-clause-switch c =
 
 pub returns-in_err-note_switch-clause-rows : goal.returns-in_err-note_switch-clause-rows
 returns-in_err-note_switch-clause-rows c = c.note_switch.ensures.rows ∙ c.loop-row.invariant.rows
+
+pub returns-in_err-note_switch-clause-services : goal.returns-in_err-note_switch-clause-services
+returns-in_err-note_switch-clause-services c = c.note_switch.ensures.services ∙ c.loop-row.invariant.services

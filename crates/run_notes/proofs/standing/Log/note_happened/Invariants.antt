@@ -5,6 +5,7 @@ use Rattle.run_notes.specs.Reports.{KeepsReports}
 use Rattle.run_notes.specs.Slaves.{SameSlaves, SameFrames}
 use Rattle.run_notes.proofs.Switched.{NotesTo}
 use Rattle.run_notes.specs.Packets.{begun_noted}
+use Rattle.run_notes.specs.Handed.{services_noted}
 use Rattle.run_notes.proofs.standing.Log.note_happened.Given as goal
 
 abbrev pub invariant-loop-row : goal.invariant-loop-row
@@ -12,6 +13,7 @@ invariant-loop-row l = record {
   slaves : SameSlaves l.initial.self l.self;
   gave : gaves_noted l.self.notes ≡ gaves_noted l.initial.self.notes;
   heard : emergencies_noted l.self.notes ≡ emergencies_noted l.initial.self.notes;
+  services : services_noted l.self.notes ≡ services_noted l.initial.self.notes;
   rows : begun_noted l.self.notes ≡ begun_noted l.initial.self.notes;
   told : KeepsReports l.initial.self.notes l.self.notes;
   frames : SameFrames (1 + length l.initial.self.ports) l.initial.book l.book;

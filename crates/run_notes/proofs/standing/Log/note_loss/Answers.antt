@@ -16,6 +16,9 @@ use Rattle.run_notes.proofs.Ways.{any_ok}
 use Rattle.run_notes.proofs.Reporting.{to_next, to_same, got_there, same_whole, loss_same, loss_more}
 use Rattle.script_runs.specs.Steps.{LosesSo}
 use Rattle.run_notes.proofs.Packets.{same_begun}
+use Rattle.run_notes.proofs.Handings.{stay_same, stay_set}
+use Rattle.run_notes.specs.Handed.{GoesBy}
+use Rattle.run_notes.proofs.Handed.{given_goes}
 use Rattle.run_notes.proofs.standing.Log.note_loss.Goals as goal
 
 pub returns-then-not-gave_up_more-clause-gave : goal.returns-then-not-gave_up_more-clause-gave
@@ -97,3 +100,14 @@ returns-clause-heard c =
 pub returns-clause-rows : goal.returns-clause-rows
 returns-clause-rows c =
     any_ok c.given_up-noted.result (same_begun c.args.self.now.notes c.args.at c.at_mut-notes.result.now c.given_up-noted.new.self (c.given_up-noted.ensures.rows ∙ ap (λ (n : Notes). n.begun) c.at_mut-notes.ensures.value))
+
+pub returns-then-not-gave_up_more-clause-mails : goal.returns-then-not-gave_up_more-clause-mails
+returns-then-not-gave_up_more-clause-mails c = stay_same c.args.frame c.args.self.now.notes
+
+pub returns-clause-mails : goal.returns-clause-mails
+returns-clause-mails c =
+    let n = c.at_mut-notes.result.now in
+    on_ok_weaker c.given_up-noted.result
+    (λ is. stay_set c.args.frame c.args.self.now.notes c.args.at n c.given_up-noted.new.self c.at_mut-notes.ensures.value
+    (subst (λ (z : Notes). GoesBy c.args.frame [] n z) (sym is) (given_goes c.args.frame n c.is_leaving-leaves.result c.args.frame)))
+    c.given_up-noted.ensures.is

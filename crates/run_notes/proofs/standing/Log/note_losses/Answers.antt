@@ -1,4 +1,4 @@
-use Rattle.std.proofs.Common.{◌≡◌, ◌+◌, ℕ, suc, map, refl, sym, ap, ◌∙◌, subst, arith}
+use Rattle.std.proofs.Common.{◌≡◌, ◌+◌, ℕ, suc, [], map, refl, sym, ap, ◌∙◌, subst, arith}
 use Rattle.std.proofs.lemmas.List.{length-map}
 use Rattle.run_notes.specs.declared.notes.Notes.{Notes}
 use Rattle.master_node.specs.Shows.{lived_of}
@@ -10,6 +10,7 @@ use Rattle.run_notes.proofs.Kept.{slaves_more}
 use Rattle.run_notes.specs.Reports.{ReportsTo}
 use Rattle.run_notes.proofs.Reporting.{to_first, to_last, both_lengths}
 use Rattle.script_runs.specs.Steps.{LosesSo}
+use Rattle.run_notes.proofs.Handings.{mails_then, stay_same}
 use Rattle.run_notes.proofs.standing.Log.note_losses.Goals as goal
 
 pub loop-place-preserved : goal.loop-place-preserved
@@ -22,6 +23,7 @@ loop-place-preserved c =
       slaves = slaves_more inv.slaves c.note_loss.ensures.slaves;
       heard = c.in_ok-note_loss.ensures.heard ∙ inv.heard;
       rows = c.in_ok-note_loss.ensures.rows ∙ inv.rows;
+      mails = mails_then c.args.frame (λ k. []) first.notes now.notes c.note_loss.new.self.notes inv.mails c.in_ok-note_loss.ensures.mails;
       told = λ lens as' bs told all p r.
           let e : suc place ≡ place + 1 = omega arith in
           subst (λ (k : ℕ). ReportsTo k as' bs c.note_loss.new.self.notes) e
@@ -45,6 +47,7 @@ loop-place-init c = record {
   gave = λ lens leads lives all. refl;
   heard = refl;
   rows = refl;
+  mails = stay_same c.args.frame c.args.self.now.notes;
   told = λ lens as' bs told all p r. to_first as' bs c.args.self.now.notes (both_lengths (λ a b. LosesSo c.args.frame a b) as' bs p) r;
 }
 

@@ -1,4 +1,4 @@
-use Rattle.std.proofs.Common.{◌≡◌, sym, ap, ◌∙◌, subst}
+use Rattle.std.proofs.Common.{◌≡◌, sym, ap, ◌∙◌, subst, []}
 use Rattle.std.proofs.lemmas.Result.{on_ok_weaker}
 use Rattle.run_notes.specs.declared.notes.Awaited.{Awaited}
 use Rattle.run_notes.specs.declared.notes.Notes.{Notes}
@@ -10,6 +10,8 @@ use Rattle.run_notes.proofs.Stations.{same_noted}
 use Rattle.run_notes.proofs.Ways.{any_ok}
 use Rattle.script_runs.specs.Steps.{PassesSo}
 use Rattle.run_notes.proofs.Packets.{same_begun}
+use Rattle.run_notes.proofs.Handings.{stay_set, change_goes}
+use Rattle.run_notes.specs.Handed.{GoesBy}
 use Rattle.run_notes.proofs.standing.Log.note_outcome.Goals as goal
 
 pub invariant_of-self : goal.invariant_of-self
@@ -43,3 +45,12 @@ returns-clause-heard c =
 pub returns-clause-rows : goal.returns-clause-rows
 returns-clause-rows c =
     any_ok c.note_turned.result (same_begun c.args.self.now.notes c.args.at c.at_mut-notes.result.now c.note_turned.new.notes (c.note_turned.ensures.rows ∙ ap (λ (n : Notes). n.begun) c.at_mut-notes.ensures.value))
+
+pub returns-clause-mails : goal.returns-clause-mails
+returns-clause-mails c =
+    let log = c.args.self.now in
+    let n = c.at_mut-notes.result.now in
+    let got = got_there log.notes c.args.at n c.requires.notes c.at_mut-notes.ensures.value in
+    on_ok_weaker c.note_turned.result
+    (λ is. stay_set c.args.frame log.notes c.args.at n c.note_turned.new.notes c.at_mut-notes.ensures.value (subst (λ (z : Notes). GoesBy c.args.frame [] n z) (sym is) (change_goes c.args.frame n c.changed-changed.result c.is_leaving-leaves.result c.is_open-opens.result c.args.frame (awaited_at Awaited.Change log.notes c.args.at n got c.requires.awaited))))
+    c.note_turned.ensures.is

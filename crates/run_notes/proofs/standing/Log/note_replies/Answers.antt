@@ -1,8 +1,9 @@
-use Rattle.std.proofs.Common.{◌≡◌, ◌+◌, ℕ, suc, refl, ◌∙◌, subst, arith}
+use Rattle.std.proofs.Common.{◌≡◌, ◌+◌, ℕ, suc, [], refl, ◌∙◌, subst, arith}
 use Rattle.run_notes.proofs.Kept.{slaves_more}
 use Rattle.run_notes.specs.Reports.{ReportsTo}
 use Rattle.run_notes.proofs.Reporting.{to_first, to_last, both_lengths}
 use Rattle.script_runs.specs.Steps.{PassesSo}
+use Rattle.run_notes.proofs.Handings.{mails_then, stay_same}
 use Rattle.run_notes.proofs.standing.Log.note_replies.Goals as goal
 
 pub loop-place-init : goal.loop-place-init
@@ -11,6 +12,7 @@ loop-place-init c = record {
   gave = refl;
   heard = refl;
   rows = refl;
+  mails = stay_same c.args.frame c.args.self.now.notes;
   told = λ lens recover as' bs x p r. to_first as' bs c.args.self.now.notes (both_lengths (λ a b. PassesSo c.args.frame a b) as' bs p) r;
 }
 
@@ -23,6 +25,7 @@ loop-place-preserved c =
       gave = c.in_ok-note_reply.ensures.gave ∙ inv.gave;
       heard = c.in_ok-note_reply.ensures.heard ∙ inv.heard;
       rows = c.in_ok-note_reply.ensures.rows ∙ inv.rows;
+      mails = mails_then c.args.frame (λ k. []) c.args.self.now.notes c.loop-place.self.notes c.note_reply.new.self.notes inv.mails c.in_ok-note_reply.ensures.mails;
       told = λ lens recover as' bs x p r.
           let e : suc place ≡ place + 1 = omega arith in
           subst (λ (k : ℕ). ReportsTo k as' bs c.note_reply.new.self.notes) e (c.in_ok-note_reply.ensures.told lens recover as' bs x p (inv.told lens recover as' bs x p r));

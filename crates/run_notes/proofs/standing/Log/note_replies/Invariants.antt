@@ -4,6 +4,7 @@ use Rattle.run_notes.specs.Slaves.{gaves_noted}
 use Rattle.run_notes.specs.Reports.{AllReport, ReportsTo, PassesAll}
 use Rattle.run_notes.specs.Slaves.{SameSlaves}
 use Rattle.run_notes.specs.Packets.{begun_noted}
+use Rattle.run_notes.specs.Handed.{MailsStay}
 use Rattle.run_notes.proofs.standing.Log.note_replies.Given as goal
 
 abbrev pub invariant-loop-place : goal.invariant-loop-place
@@ -11,6 +12,7 @@ invariant-loop-place l = record {
   slaves : SameSlaves l.initial.self l.self;
   gave : gaves_noted l.self.notes ≡ gaves_noted l.initial.self.notes;
   heard : emergencies_noted l.self.notes ≡ emergencies_noted l.initial.self.notes;
+  mails : MailsStay l.frame l.initial.self.notes l.self.notes;
   rows : begun_noted l.self.notes ≡ begun_noted l.initial.self.notes;
   told : PassesAll l.frame l.master (λ as' bs. AllReport as' l.initial.self.notes → ReportsTo l.place as' bs l.self.notes);
 }

@@ -1,5 +1,6 @@
-use Rattle.std.proofs.Common.{◌∙◌}
+use Rattle.std.proofs.Common.{[], ◌∙◌}
 use Rattle.std.proofs.lemmas.Result.{on_ok_weaker}
+use Rattle.run_notes.proofs.Handings.{mails_then, stay_services}
 use Rattle.run_notes.proofs.standing.Log.note_returned.Goals as goal
 
 pub returns-clause-heard : goal.returns-clause-heard
@@ -12,3 +13,11 @@ returns-clause-told c =
 
 pub returns-clause-rows : goal.returns-clause-rows
 returns-clause-rows c = on_ok_weaker c.note_replies.result (λ same. same ∙ c.in_ok-note_emergencies.ensures.rows) c.note_replies.ensures.rows
+
+pub returns-clause-mails : goal.returns-clause-mails
+returns-clause-mails c =
+    let first = c.args.self.now.notes in
+    let mid = c.note_emergencies.new.self.notes in
+    on_ok_weaker c.note_replies.result
+    (λ h. mails_then c.args.frame (λ k. []) first mid c.note_replies.new.self.notes (stay_services c.args.frame first mid c.in_ok-note_emergencies.ensures.services c.in_ok-note_emergencies.ensures.gave) h)
+    c.note_replies.ensures.mails

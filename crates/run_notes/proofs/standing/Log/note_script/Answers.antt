@@ -10,6 +10,8 @@ use Rattle.run_notes.proofs.Stations.{same_noted}
 use Rattle.run_notes.proofs.Ways.{any_ok}
 use Rattle.script_runs.specs.Steps.{TurnsSo}
 use Rattle.run_notes.proofs.Packets.{script_rows}
+use Rattle.run_notes.proofs.Handings.{doubts_same, doubts_set, script_doubt}
+use Rattle.run_notes.specs.Handed.{Doubts}
 use Rattle.run_notes.proofs.standing.Log.note_script.Goals as goal
 
 pub returns-then-number-rows-clause-told : goal.returns-then-number-rows-clause-told
@@ -59,4 +61,14 @@ returns-clause-beside c =
     let log = c.args.self.now in
     on_ok_weaker c.began_script.result
     (λ is. script_rows log.notes c.args.at c.at_mut.result.now c.began_script.new.self c.scripted-number.result c.changes_state-state.result c.args.frame c.requires.notes c.at_mut.ensures.value is)
+    c.began_script.ensures.is
+
+pub returns-then-number-rows-clause-doubts : goal.returns-then-number-rows-clause-doubts
+returns-then-number-rows-clause-doubts c = doubts_same c.args.self.now.notes
+
+pub returns-clause-doubts : goal.returns-clause-doubts
+returns-clause-doubts c =
+    let n = c.at_mut.result.now in
+    on_ok_weaker c.began_script.result
+    (λ is. doubts_set c.args.self.now.notes c.args.at n c.began_script.new.self c.at_mut.ensures.value (subst (λ (z : Notes). Doubts n z) (sym is) (script_doubt n c.scripted-number.result c.changes_state-state.result c.args.frame)))
     c.began_script.ensures.is

@@ -8,6 +8,8 @@ use Rattle.run_notes.proofs.Heard.{same_heard}
 use Rattle.run_notes.proofs.Reporting.{set_reports}
 use Rattle.run_notes.proofs.Stations.{among_stations, one_noted}
 use Rattle.run_notes.proofs.Packets.{same_begun}
+use Rattle.run_notes.proofs.Handings.{beyond, past_end, told_set}
+use Rattle.run_notes.specs.Handed.{kind_told}
 use Rattle.run_notes.proofs.standing.Log.note_slave.Goals as goal
 
 pub at_mut-requires : goal.at_mut-requires
@@ -50,3 +52,18 @@ returns-clause-rows c =
     on_ok_weaker c.note_at-noted.result
     (λ same. same_begun c.args.self.now.notes c.args.at c.at_mut-notes.result.now c.note_at-noted.new.notes (same ∙ ap (λ (n : Notes). n.begun) c.at_mut-notes.ensures.value))
     c.note_at-noted.ensures.rows
+
+pub returns-in_default-clause-mails : goal.returns-in_default-clause-mails
+returns-in_default-clause-mails c = λ at_home.
+    let log = c.args.self.now in
+    let over = past_end log.homes c.args.at c.in_default.ensures in
+    beyond c.args.moment.frame c.args.at (kind_told c.args.event.now) log.notes (omega (arith, over, at_home))
+
+pub returns-then-at-len-clause-mails : goal.returns-then-at-len-clause-mails
+returns-then-at-len-clause-mails c = λ at_home. beyond c.args.moment.frame c.args.at (kind_told c.args.event.now) c.args.self.now.notes (omega (arith, c.if-at-len.true, c.len.ensures))
+
+pub returns-clause-mails : goal.returns-clause-mails
+returns-clause-mails c =
+    on_ok_weaker c.note_at-noted.result
+    (λ h. λ at_home. told_set c.args.moment.frame c.args.self.now.notes c.args.at c.at_mut-notes.result.now c.note_at-noted.new.notes _ c.at_mut-notes.ensures.value h)
+    c.note_at-noted.ensures.mails

@@ -1,4 +1,4 @@
-use Rattle.std.proofs.Common.{◌≡◌, sym, ap, ◌∙◌, subst}
+use Rattle.std.proofs.Common.{◌≡◌, sym, ap, ◌∙◌, subst, []}
 use Rattle.std.proofs.lemmas.Result.{on_ok_weaker}
 use Rattle.run_notes.specs.declared.notes.Awaited.{Awaited}
 use Rattle.run_notes.specs.declared.notes.Notes.{Notes}
@@ -10,6 +10,8 @@ use Rattle.run_notes.proofs.Stations.{same_noted}
 use Rattle.run_notes.proofs.Ways.{any_ok}
 use Rattle.script_runs.specs.Steps.{PassesSo}
 use Rattle.run_notes.proofs.Packets.{same_begun}
+use Rattle.run_notes.proofs.Handings.{stay_set, stood_goes}
+use Rattle.run_notes.specs.Handed.{GoesBy}
 use Rattle.run_notes.proofs.standing.Log.note_stand.Goals as goal
 
 pub invariant_of-self : goal.invariant_of-self
@@ -43,3 +45,11 @@ returns-clause-heard c =
 pub returns-clause-rows : goal.returns-clause-rows
 returns-clause-rows c =
     any_ok c.stands.result (same_begun c.args.self.now.notes c.args.at c.at_mut-notes.result.now c.stands.new.self (c.stands.ensures.rows ∙ ap (λ (n : Notes). n.begun) c.at_mut-notes.ensures.value))
+
+pub returns-clause-mails : goal.returns-clause-mails
+returns-clause-mails c =
+    let log = c.args.self.now in
+    let n = c.at_mut-notes.result.now in
+    on_ok_weaker c.stands.result
+    (λ is. stay_set c.args.frame log.notes c.args.at n c.stands.new.self c.at_mut-notes.ensures.value (subst (λ (z : Notes). GoesBy c.args.frame [] n z) (sym is) (stood_goes c.args.frame n c.is_leaving-leaves.result c.is_open-opens.result c.args.frame)))
+    c.stands.ensures.is

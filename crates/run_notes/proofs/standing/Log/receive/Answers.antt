@@ -6,6 +6,8 @@ use Rattle.run_notes.proofs.Heard.{same_heard}
 use Rattle.run_notes.proofs.Reporting.{set_reports}
 use Rattle.run_notes.proofs.Stations.{same_noted}
 use Rattle.run_notes.proofs.Packets.{same_begun}
+use Rattle.run_notes.proofs.Handings.{same_services}
+use Rattle.run_notes.specs.Handed.{services_of}
 use Rattle.run_notes.proofs.standing.Log.receive.Goals as goal
 
 pub invariant_of-self : goal.invariant_of-self
@@ -33,3 +35,7 @@ returns-clause-heard c =
 pub returns-clause-rows : goal.returns-clause-rows
 returns-clause-rows c =
     same_begun c.args.self.now.notes c.in-Some.field-0.now c.at_mut.result.now c.received.new.self (ap (λ (n : Notes). n.begun) c.received.ensures ∙ ap (λ (n : Notes). n.begun) c.at_mut.ensures.value)
+
+pub returns-clause-services : goal.returns-clause-services
+returns-clause-services c =
+    same_services c.args.self.now.notes c.in-Some.field-0.now c.at_mut.result.now c.received.new.self (ap services_of c.received.ensures ∙ ap services_of c.at_mut.ensures.value)

@@ -31,6 +31,7 @@ use Rattle.run_record.proofs.Numbered.{numbers_grown}
 use Rattle.run_notes.proofs.Switched.{switched_step, switch_grown, switch_stands, switch_stood}
 use Rattle.std.proofs.lemmas.Result.{on_ok_weaker}
 use Rattle.run_record.proofs.Steps.{holds_on, no_frame, one_frame}
+use Rattle.run_notes.specs.Handed.{MailsGo, kinds_in}
 use Rattle.run_notes.proofs.Ways.{any_err, on_ok_both}
 use Rattle.run_record.proofs.session.Session.step.Goals as goal
 
@@ -133,7 +134,7 @@ returns-clause-ok c =
             stood
             (subst (λ (n : ℕ). (switched n (c.args.book.now.switch ++ events_of c.next.new.self.lan.happened)).switch ≡ c.next.new.self.lan.switch) all
             (switch_stands ports host c.self.inside.number c.self.inside.master.lan c.next.new.self.lan c.args.book.now c.next.ensures.happened now))
-            mine.packets c.tell.ensures.counts (let a = c.self.invariant.1 in let b = c.self.invariant.2 in omega (arith, a, b)) c.note_before.ensures.slaves.notes c.in_ok-note_before.ensures.begun both.1.1.1.1
+            mine.packets c.tell.ensures.counts (let a = c.self.invariant.1 in let b = c.self.invariant.2 in omega (arith, a, b)) c.note_before.ensures.slaves.notes c.in_ok-note_before.ensures.begun both.1.1.1.1.0
             c.self.inside.ring c.exchange-fate.new.self view.remembers c.exchange-fate.ensures.wire c.next.ensures.visits c.next.ensures.takes c.next.ensures.recalled
             (λ pass us frame under visits. c.tell.ensures.recalls pass (lens_of plan.slaves) plan.recover plan.retry l.missed c.next.new.into.items us under
             (returned (lens_of plan.slaves) c.self.inside.ring (exchanged f) (length fs) l.leads us c.exchange-fate.ensures.fate c.exchange-fate.ensures.back frame pass) visits)
@@ -160,7 +161,7 @@ returns-clause-ok c =
               leaves = λ after lost lens recover retry missed made vs under. c.tell.ensures.leaves after lost lens recover retry missed made vs (exchanged f) refl under;
               counts = c.tell.ensures.counts;
             })
-            (c.tell.ensures.whole ∙ ap (λ (es : List Event). es ++ events_in c.tell.new.master) c.next.ensures.whole.1) (c.tell.ensures.told c.next.ensures.few)
+            (c.tell.ensures.whole ∙ ap (λ (es : List Event). es ++ events_in c.tell.new.master) c.next.ensures.whole.1) (c.tell.ensures.told c.next.ensures.few) (c.tell.ensures.lists c.next.ensures.few)
             (record { fate = c.exchange-fate.ensures.fate; back = c.exchange-fate.ensures.back }) (let n = c.self.invariant.0 in let b = c.self.invariant.1 in let most = c.self.invariant.2 in omega (arith, n, b, most))
             (c.note_behind.ensures.slaves.asked ∙ c.note_before.ensures.slaves.asked) refl
             c.note_before.new.self c.note_behind.new.self c.note_before.ensures.slaves.recover c.in_ok-note_before.ensures.gave refl
@@ -168,11 +169,12 @@ returns-clause-ok c =
             (subst (λ (n : ℕ). TurnsAll n c.next.new.self (ReportsOn c.self.inside.log.notes c.note_before.new.self.notes)) c.self.invariant.0 c.in_ok-note_before.ensures.told)
             (subst (λ (n : ℕ). ReportsBy f.fate n c.tell.new.master c.note_before.new.self c.note_behind.new.self) c.self.invariant.0 both.1.0)
             c.in_ok-note_before.ensures.heard (subst (λ (n : ℕ). HeardBy f.fate n c.tell.new.master c.note_before.new.self c.note_behind.new.self) c.self.invariant.0 both.1.1.0)
-            (subst (λ (n : ℕ). TurnsAll n c.next.new.self (BeginsOn n c.next.new.self c.self.inside.log.notes c.note_before.new.self.notes)) c.self.invariant.0 c.in_ok-note_before.ensures.begun) both.1.1.1.1 c.note_before.ensures.slaves.notes
+            (subst (λ (n : ℕ). TurnsAll n c.next.new.self (BeginsOn n c.next.new.self c.self.inside.log.notes c.note_before.new.self.notes)) c.self.invariant.0 c.in_ok-note_before.ensures.begun) both.1.1.1.1.0 c.note_before.ensures.slaves.notes
+            c.in_ok-note_before.ensures.doubts (subst (λ (n : ℕ). MailsGo n (λ k. kinds_in k (events_in c.tell.new.master)) c.note_before.new.self.notes c.note_behind.new.self.notes) c.self.invariant.0 both.1.1.1.1.1)
             c.exchange-fate.ensures.wire,
       ),
     ))
-    (on_ok_both _ _ c.note_behind.result c.note_behind.ensures.gave (on_ok_both _ _ c.note_behind.result c.note_behind.ensures.told (on_ok_both _ _ c.note_behind.result c.note_behind.ensures.heard (on_ok_both _ _ c.note_behind.result c.note_behind.ensures.switch c.note_behind.ensures.rows))))
+    (on_ok_both _ _ c.note_behind.result c.note_behind.ensures.gave (on_ok_both _ _ c.note_behind.result c.note_behind.ensures.told (on_ok_both _ _ c.note_behind.result c.note_behind.ensures.heard (on_ok_both _ _ c.note_behind.result c.note_behind.ensures.switch (on_ok_both _ _ c.note_behind.result c.note_behind.ensures.rows c.note_behind.ensures.mails)))))
 
 pub returns-clause-err : goal.returns-clause-err
 returns-clause-err c =
