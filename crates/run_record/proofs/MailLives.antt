@@ -1,5 +1,5 @@
 -- A MAIL IN HAND THAT IS PASSED ON, over a frame, by the life of its slave; and the answers that the frame tells of that slave.
-use Rattle.std.proofs.Common.{◌≡◌, ◌==◌, ℕ, Bool, true, false, Option, Some, None, List, [], ◌∷◌, ◌++◌, length, refl, sym, ap, ◌∙◌, subst}
+use Rattle.std.proofs.Common.{◌≡◌, ℕ, Bool, true, false, Option, Some, None, List, [], ◌∷◌, ◌++◌, length, refl, sym, ap, ◌∙◌, subst}
 use Rattle.std.specs.Prelude.{◌&&◌, is_some, not, option_map, if◌then◌else◌, Ok, Err}
 use Rattle.std.proofs.lemmas.Bool.{eq-eqb}
 use Rattle.mailbox_mail.specs.declared.outcome.ReplyKind.{ReplyKind}

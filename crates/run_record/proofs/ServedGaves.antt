@@ -1,5 +1,5 @@
 -- HOW OFTEN EACH SLAVE OF A SERVING WAS GIVEN UP, as its lives have it and as it is noted; so some slave is live where not all is at rest.
-use Rattle.std.proofs.Common.{◌≡◌, ◌⊎◌, ℕ, Bool, true, false, List, [], ◌∷◌, ◌++◌, map, length, refl, sym, ap, ◌∙◌, subst}
+use Rattle.std.proofs.Common.{◌≡◌, ◌⊎◌, ℕ, Bool, true, false, List, [], ◌∷◌, map, length, refl, sym, ap, ◌∙◌, subst}
 use Rattle.datagrams.specs.Datagram as Raw
 use Rattle.master_node.specs.Serving.{IsServed, ServedShows, run_lead}
 use Rattle.master_node.specs.Shows.{IsLived, lived_of}

@@ -1,6 +1,5 @@
 -- The switch of a run before its first frame.
 use Rattle.std.proofs.Common.{◌≡◌, ℕ, [], sym, ap, subst, arith}
-use Rattle.eoe_switch.specs.Switch.{switched}
 use Rattle.master_node.specs.Happened.{HasHappened}
 use Rattle.run_book.specs.Book.{IsNew}
 use Rattle.run_book.specs.Ports.{ports_of}

@@ -35,10 +35,11 @@ module _ {lens : ℕ → Lens} {recover retry : ℕ} {first : List Serves} where
 abbrev pub has_passing : Life Body Asked Reply → Bool
 has_passing l = is_open l.stand && is_some l.era.passing
 
--- of the slave at a place, between frames, and before one
+-- of the slave at a place, between frames
 abbrev pub passing_at : List Serves → ℕ → Bool
 passing_at ws k = holds_at (λ w. has_passing w.lead.lived.life) ws k
 
+-- and before one
 abbrev pub passing_before : List ServedTurn → ℕ → Bool
 passing_before vs k = holds_at (λ v. has_passing v.turn.lived.life) vs k
 
