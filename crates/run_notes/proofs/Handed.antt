@@ -1,33 +1,33 @@
--- What is noted of mails that are passed on, and of their answers.
+-- What is noted of rows beside the scripts, of packets and of mails that are passed on, and of their answers.
 use Rattle.std.proofs.Common.{◌≡◌, ◌==◌, ℕ, suc, ◌+◌, ◌≤◌, Bool, true, false, List, [], ◌∷◌, ◌++◌, length, length-append, map, refl, sym, ap, ◌∙◌, arith, append_assoc, append-nil}
 use Rattle.std.specs.Prelude.{◌&&◌, if◌then◌else◌}
 use Rattle.std.proofs.lemmas.Bool.{eq-eqb, eqb-true}
 use Rattle.std.proofs.lemmas.List.{map-append}
 use Rattle.mailbox_mail.specs.declared.outcome.ReplyKind.{ReplyKind}
 use Rattle.master_node.specs.declared.event.Origin.{Origin}
-use Rattle.master_node.specs.declared.event.Origin.TheVariants.{Script, Forward, Gateway}
+use Rattle.master_node.specs.declared.event.Origin.TheVariants.{Script}
 use Rattle.run_book.specs.declared.book.Answer.{Answer}
 use Rattle.run_book.specs.declared.book.Answer.TheVariants.{Replied, InDoubt}
 use Rattle.run_book.specs.declared.book.Begun.{Begun}
 use Rattle.run_book.specs.declared.book.Reply.{Reply}
-use Rattle.run_notes.specs.Handed.{Doubts, GoesBy, HandedFirst, MailGoes, Sound, answers_told, doubts, hand_behind, handed, has_mail, is_mail, last_set, mail_answer, mail_answers, mails_noted, newest_mail, still_there}
+use Rattle.run_notes.specs.Handed.{Doubts, GoesBy, HandedFirst, IsBeside, RowsGo, Sound, answer_where, answers_told, answers_where, doubts, hand_behind, handed, has_where, last_set, newest_where, noted_where, still_there}
 use Rattle.run_notes.specs.Notes.{answered, answered_where, answers_doubted, awaits_nothing, given_up}
 use Rattle.run_notes.specs.Reports.{LastScript, unanswered}
 use Rattle.run_notes.specs.declared.notes.Notes.{Notes}
 
 -- some rows behind others that are answered
-pub answers_append : (bs cs : List Begun) (as' ds : List Answer) → length bs ≡ length as' → mail_answers (bs ++ cs) (as' ++ ds) ≡ mail_answers bs as' ++ mail_answers cs ds
-answers_append [] cs [] ds e = refl
-answers_append [] cs (a ∷ as') ds e = absurd (omega (arith, e))
-answers_append (b ∷ bs) cs [] ds e = absurd (omega (arith, e))
-answers_append (b ∷ bs) cs (a ∷ as') ds e =
-    ap (λ z. mail_answer b.origin a ++ z) (answers_append bs cs as' ds (omega (arith, e))) ∙ sym (append_assoc (mail_answer b.origin a) (mail_answers bs as') (mail_answers cs ds))
+pub answers_append : (test : Origin → Bool) (bs cs : List Begun) (as' ds : List Answer) → length bs ≡ length as' → answers_where test (bs ++ cs) (as' ++ ds) ≡ answers_where test bs as' ++ answers_where test cs ds
+answers_append test [] cs [] ds e = refl
+answers_append test [] cs (a ∷ as') ds e = absurd (omega (arith, e))
+answers_append test (b ∷ bs) cs [] ds e = absurd (omega (arith, e))
+answers_append test (b ∷ bs) cs (a ∷ as') ds e =
+    ap (λ z. answer_where test b.origin a ++ z) (answers_append test bs cs as' ds (omega (arith, e))) ∙ sym (append_assoc (answer_where test b.origin a) (answers_where test bs as') (answers_where test cs ds))
 
 -- the newest row
-pub newest_push : (bs : List Begun) (b : Begun) → newest_mail (bs ++ b ∷ []) ≡ is_mail b.origin
-newest_push [] b = refl
-newest_push (c ∷ []) b = refl
-newest_push (c ∷ d ∷ bs) b = newest_push (d ∷ bs) b
+pub newest_push : (test : Origin → Bool) (bs : List Begun) (b : Begun) → newest_where test (bs ++ b ∷ []) ≡ test b.origin
+newest_push test [] b = refl
+newest_push test (c ∷ []) b = refl
+newest_push test (c ∷ d ∷ bs) b = newest_push test (d ∷ bs) b
 
 record HasNewest (bs : List Begun) : Type 0 where
   front : List Begun
@@ -38,21 +38,19 @@ newest_of : (b : Begun) (bs : List Begun) → HasNewest (b ∷ bs)
 newest_of b [] = record { front = []; row = b; is = refl }
 newest_of b (c ∷ bs) = let n = newest_of c bs in record { front = b ∷ n.front; row = n.row; is = ap (λ (z : List Begun). b ∷ z) n.is }
 
-mail_one : (o : Origin) (a : Answer) → mail_answer o a ++ [] ≡ (if is_mail o then a ∷ [] else [])
-mail_one (Script number) a = refl
-mail_one (Forward number) a = refl
-mail_one (Gateway number) a = refl
+one_answer : (test : Origin → Bool) (o : Origin) (a : Answer) → answer_where test o a ++ [] ≡ answer_where test o a
+one_answer test o a = append-nil (answer_where test o a)
 
 -- its answer is the last
-last_answer : (bs : List Begun) (as' : List Answer) → length bs ≡ suc (length as') → (front : List Answer) × ((a : Answer) → mail_answers bs (as' ++ a ∷ []) ≡ front ++ (if newest_mail bs then a ∷ [] else []))
-last_answer [] as' e = absurd (omega (arith, e))
-last_answer (b ∷ bs) as' e =
+last_answer : (test : Origin → Bool) (bs : List Begun) (as' : List Answer) → length bs ≡ suc (length as') → (front : List Answer) × ((a : Answer) → answers_where test bs (as' ++ a ∷ []) ≡ front ++ (if newest_where test bs then a ∷ [] else []))
+last_answer test [] as' e = absurd (omega (arith, e))
+last_answer test (b ∷ bs) as' e =
     let n = newest_of b bs in
-    let mail : newest_mail (b ∷ bs) ≡ is_mail n.row.origin = ap newest_mail n.is ∙ newest_push n.front n.row in
+    let mail : newest_where test (b ∷ bs) ≡ test n.row.origin = ap (newest_where test) n.is ∙ newest_push test n.front n.row in
     let same : length n.front ≡ length as' = (let k = length-append n.front (n.row ∷ []) in let m = ap length n.is in omega (arith, e, k, m)) in (
-      mail_answers n.front as',
-      λ a. ap (λ (z : List Begun). mail_answers z (as' ++ a ∷ [])) n.is ∙ answers_append n.front (n.row ∷ []) as' (a ∷ []) same
-          ∙ ap (λ z. mail_answers n.front as' ++ z) (mail_one n.row.origin a ∙ ap (λ z. if z then a ∷ [] else []) (sym mail)),
+      answers_where test n.front as',
+      λ a. ap (λ (z : List Begun). answers_where test z (as' ++ a ∷ [])) n.is ∙ answers_append test n.front (n.row ∷ []) as' (a ∷ []) same
+          ∙ ap (λ z. answers_where test n.front as' ++ z) (one_answer test n.row.origin a ∙ ap (λ z. if z then a ∷ [] else []) (sym mail)),
     )
 
 pub last_push : {X : Type 0} (x : X) (xs : List X) (y : X) → last_set x (xs ++ y ∷ []) ≡ xs ++ x ∷ []
@@ -110,24 +108,25 @@ module _ (n : Notes) (s : Sound n) where
       by true e = let k = length-append n.answers (InDoubt ∷ []) in let m = s.aligned in let u = ap unanswered e in omega (arith, k, m, u)
       by false e = let m = s.aligned in let u = ap unanswered e in omega (arith, m, u)
 
+module _ (test : Origin → Bool) (beside : IsBeside test) (n : Notes) (s : Sound n) where
   -- the answer of one in hand is the last
-  hand_answers : n.in_hand ≡ true → (a : Answer) → mail_answers n.begun (n.answers ++ a ∷ []) ≡ (if newest_mail n.begun then last_set a (mails_noted n) else mails_noted n)
+  hand_answers : n.in_hand ≡ true → (a : Answer) → answers_where test n.begun (n.answers ++ a ∷ []) ≡ (if newest_where test n.begun then last_set a (noted_where test n) else noted_where test n)
   hand_answers h a =
       let e : length n.begun ≡ suc (length n.answers) = (let u = ap unanswered h in let m = s.aligned in omega (arith, m, u)) in
-      let l = last_answer n.begun n.answers e in
-      let now : mails_noted n ≡ l.0 ++ (if newest_mail n.begun then InDoubt ∷ [] else []) = ap (λ (z : Bool). mail_answers n.begun (if z then n.answers ++ InDoubt ∷ [] else n.answers)) h ∙ l.1 InDoubt in
-      l.1 a ∙ by l.0 (newest_mail n.begun) ∙ ap (λ (z : List Answer). if newest_mail n.begun then last_set a z else z) (sym now)
+      let l = last_answer test n.begun n.answers e in
+      let now : noted_where test n ≡ l.0 ++ (if newest_where test n.begun then InDoubt ∷ [] else []) = ap (λ (z : Bool). answers_where test n.begun (if z then n.answers ++ InDoubt ∷ [] else n.answers)) h ∙ l.1 InDoubt in
+      l.1 a ∙ by l.0 (newest_where test n.begun) ∙ ap (λ (z : List Answer). if newest_where test n.begun then last_set a z else z) (sym now)
     where
       by : (front : List Answer) (b : Bool) → front ++ (if b then a ∷ [] else []) ≡ (if b then last_set a (front ++ (if b then InDoubt ∷ [] else [])) else front ++ (if b then InDoubt ∷ [] else []))
       by front true = sym (last_push a front InDoubt)
       by front false = refl
 
   -- where one of the script is awaited it is in hand, and no mail is
-  script_there : awaits_nothing n.awaited ≡ false → (n.in_hand ≡ true) × (newest_mail n.begun ≡ false)
+  script_there : awaits_nothing n.awaited ≡ false → (n.in_hand ≡ true) × (newest_where test n.begun ≡ false)
   script_there w =
       let l = s.last w in (
         by n.in_hand refl l,
-        ap newest_mail l.last ∙ newest_push l.front (record { origin = Script l.number; frame = l.frame }),
+        ap (newest_where test) l.last ∙ newest_push test l.front (record { origin = Script l.number; frame = l.frame }) ∙ beside l.number,
       )
     where
       by : (h : Bool) → n.in_hand ≡ h → LastScript n.begun n.answers → n.in_hand ≡ true
@@ -135,14 +134,14 @@ module _ (n : Notes) (s : Sound n) where
       by false e l =
           absurd (let u = ap unanswered e in let m = s.aligned in let k = ap length l.last ∙ length-append l.front (record { origin = Script l.number; frame = l.frame } ∷ []) in let b = l.beside in omega (arith, u, m, k, b))
 
-  script_none : awaits_nothing n.awaited ≡ false → has_mail n ≡ false
+  script_none : awaits_nothing n.awaited ≡ false → has_where test n ≡ false
   script_none w = ap (λ (z : Bool). n.in_hand && z) (script_there w).1 ∙ and_false n.in_hand
 
   -- NO MAIL IS IN HAND: nothing is left to tell
-  idle_goes : (frame : ℕ) (kinds : List ReplyKind) → has_mail n ≡ false → MailGoes frame kinds n n
+  idle_goes : (frame : ℕ) (kinds : List ReplyKind) → has_where test n ≡ false → RowsGo test frame kinds n n
   idle_goes frame kinds e = record {
     sound = s;
-    answers = sym (ap (λ (z : Bool). answers_told frame z kinds (mails_noted n)) e);
+    answers = sym (ap (λ (z : Bool). answers_told frame z kinds (noted_where test n)) e);
     hand = e ∙ sym (ap (λ (z : Bool). still_there z kinds && length n.gave == length n.gave) e);
     gave = omega arith;
   }
@@ -157,80 +156,80 @@ module _ (n : Notes) (s : Sound n) where
   told_so : (frame : ℕ) (kind : ReplyKind) (reply : Reply) → Replied reply frame ≡ handed frame → (as' : List Answer) → last_set (Replied reply frame) as' ≡ answers_told frame true (kind ∷ []) as'
   told_so frame kind reply e as' = ap (λ (a : Answer). last_set a as') e
 
-  mail_answered : (frame : ℕ) (kind : ReplyKind) (reply : Reply) → reply.kind ≡ kind → (kind ≡ ReplyKind.Handed → reply.value ≡ []) → n.in_hand ≡ true → (has_mail n ≡ true → kind ≡ ReplyKind.Handed) → MailGoes frame (kind ∷ []) n (answered n reply frame)
+  mail_answered : (frame : ℕ) (kind : ReplyKind) (reply : Reply) → reply.kind ≡ kind → (kind ≡ ReplyKind.Handed → reply.value ≡ []) → n.in_hand ≡ true → (has_where test n ≡ true → kind ≡ ReplyKind.Handed) → RowsGo test frame (kind ∷ []) n (answered n reply frame)
   mail_answered frame kind reply k value h first = record {
     sound = answered_sound h reply frame;
-    answers = hand_answers h (Replied reply frame) ∙ by (newest_mail n.begun) here;
-    hand = sym (ap (λ (z : Bool). z && length n.gave == length n.gave) (gone (has_mail n)));
+    answers = hand_answers h (Replied reply frame) ∙ by (newest_where test n.begun) here;
+    hand = sym (ap (λ (z : Bool). z && length n.gave == length n.gave) (gone (has_where test n)));
     gave = omega arith;
   }
     where
-      here : has_mail n ≡ newest_mail n.begun
-      here = ap (λ (z : Bool). z && newest_mail n.begun) h
+      here : has_where test n ≡ newest_where test n.begun
+      here = ap (λ (z : Bool). z && newest_where test n.begun) h
 
       gone : (b : Bool) → still_there b (kind ∷ []) ≡ false
       gone true = refl
       gone false = refl
 
-      by : (b : Bool) → has_mail n ≡ b → (if b then last_set (Replied reply frame) (mails_noted n) else mails_noted n) ≡ answers_told frame (has_mail n) (kind ∷ []) (mails_noted n)
+      by : (b : Bool) → has_where test n ≡ b → (if b then last_set (Replied reply frame) (noted_where test n) else noted_where test n) ≡ answers_told frame (has_where test n) (kind ∷ []) (noted_where test n)
       by true e =
           let is = first e in
           let whole : Replied reply frame ≡ handed frame = λ i. Replied (record { kind = (k ∙ is) i; value = value is i }) frame in
-          told_so frame kind reply whole (mails_noted n) ∙ sym (ap (λ (z : Bool). answers_told frame z (kind ∷ []) (mails_noted n)) e)
-      by false e = sym (ap (λ (z : Bool). answers_told frame z (kind ∷ []) (mails_noted n)) e)
+          told_so frame kind reply whole (noted_where test n) ∙ sym (ap (λ (z : Bool). answers_told frame z (kind ∷ []) (noted_where test n)) e)
+      by false e = sym (ap (λ (z : Bool). answers_told frame z (kind ∷ []) (noted_where test n)) e)
 
   -- or it is none of which that is told
-  where_answered : (frame : ℕ) (kind : ReplyKind) (reply : Reply) → reply.kind ≡ kind → (kind ≡ ReplyKind.Handed → reply.value ≡ []) → (has_mail n ≡ true → kind ≡ ReplyKind.Handed) → MailGoes frame (kind ∷ []) n (answered_where n reply frame)
+  where_answered : (frame : ℕ) (kind : ReplyKind) (reply : Reply) → reply.kind ≡ kind → (kind ≡ ReplyKind.Handed → reply.value ≡ []) → (has_where test n ≡ true → kind ≡ ReplyKind.Handed) → RowsGo test frame (kind ∷ []) n (answered_where n reply frame)
   where_answered frame kind reply k value first = by n.in_hand (awaits_nothing n.awaited) refl refl
     where
-      by : (h w : Bool) → n.in_hand ≡ h → awaits_nothing n.awaited ≡ w → MailGoes frame (kind ∷ []) n (if h && w then answered n reply frame else n)
+      by : (h w : Bool) → n.in_hand ≡ h → awaits_nothing n.awaited ≡ w → RowsGo test frame (kind ∷ []) n (if h && w then answered n reply frame else n)
       by true true e f = mail_answered frame kind reply k value e first
       by true false e f = idle_goes frame (kind ∷ []) (script_none f)
-      by false w e f = idle_goes frame (kind ∷ []) (ap (λ (z : Bool). z && newest_mail n.begun) e)
+      by false w e f = idle_goes frame (kind ∷ []) (ap (λ (z : Bool). z && newest_where test n.begun) e)
 
   -- one of the script has its answer
-  script_answered : (frame : ℕ) (reply : Reply) (from : ℕ) → awaits_nothing n.awaited ≡ false → MailGoes frame [] n (answered n reply from)
+  script_answered : (frame : ℕ) (reply : Reply) (from : ℕ) → awaits_nothing n.awaited ≡ false → RowsGo test frame [] n (answered n reply from)
   script_answered frame reply from w =
       let there = script_there w in
       record {
         sound = answered_sound there.0 reply from;
-        answers = hand_answers there.0 (Replied reply from) ∙ ap (λ (z : Bool). if z then last_set (Replied reply from) (mails_noted n) else mails_noted n) there.1 ∙ sym (none_told frame (has_mail n) (mails_noted n));
+        answers = hand_answers there.0 (Replied reply from) ∙ ap (λ (z : Bool). if z then last_set (Replied reply from) (noted_where test n) else noted_where test n) there.1 ∙ sym (none_told frame (has_where test n) (noted_where test n));
         hand = sym (ap (λ (z : Bool). still_there z [] && length n.gave == length n.gave) (script_none w));
         gave = omega arith;
       }
 
   -- the slave was given up
-  mail_given : (frame : ℕ) (leaves : Bool) (from : ℕ) → MailGoes frame [] n (given_up n leaves from)
+  mail_given : (frame : ℕ) (leaves : Bool) (from : ℕ) → RowsGo test frame [] n (given_up n leaves from)
   mail_given frame leaves from =
       let long = length-append n.gave (from ∷ []) in
       record {
-        sound = record { aligned = (let all = all_answered in omega (arith, all)); last = λ bad. never bad };
-        answers = sym (none_told frame (has_mail n) (mails_noted n));
-        hand = sym (ap (λ (z : Bool). still_there (has_mail n) [] && z) (other_count (length (n.gave ++ from ∷ [])) (length n.gave) (λ e. absurd (omega (arith, long, e)))) ∙ and_false (still_there (has_mail n) []));
+        sound = record { aligned = (let all = all_answered n s in omega (arith, all)); last = λ bad. never bad };
+        answers = sym (none_told frame (has_where test n) (noted_where test n));
+        hand = sym (ap (λ (z : Bool). still_there (has_where test n) [] && z) (other_count (length (n.gave ++ from ∷ [])) (length n.gave) (λ e. absurd (omega (arith, long, e)))) ∙ and_false (still_there (has_where test n) []));
         gave = omega (arith, long);
       }
 
 -- nothing of its services changed
 pub same_goes : (frame : ℕ) (n n' : Notes) → n'.begun ≡ n.begun → n'.answers ≡ n.answers → n'.in_hand ≡ n.in_hand → n'.awaited ≡ n.awaited → n'.gave ≡ n.gave → GoesBy frame [] n n'
-same_goes frame n n' b a h w g = λ s first.
+same_goes frame n n' b a h w g = λ test beside s first.
     record {
       sound = record {
         aligned = ap length b ∙ s.aligned ∙ (λ i. length (sym a i) + unanswered (sym h i));
         last = λ f. (let l = s.last (ap awaits_nothing (sym w) ∙ f) in record { front = l.front; number = l.number; frame = l.frame; last = b ∙ l.last; beside = l.beside ∙ ap length (sym a) });
       };
-      answers = (λ i. mail_answers (b i) (if h i then a i ++ InDoubt ∷ [] else a i)) ∙ sym (none_told frame (has_mail n) (mails_noted n));
-      hand = (λ i. h i && newest_mail (b i)) ∙ sym (ap (λ (z : Bool). still_there (has_mail n) [] && z) (same_count (length n'.gave) (length n.gave) (ap length g)) ∙ and_true (still_there (has_mail n) []) ∙ none_there (has_mail n));
+      answers = (λ i. answers_where test (b i) (if h i then a i ++ InDoubt ∷ [] else a i)) ∙ sym (none_told frame (has_where test n) (noted_where test n));
+      hand = (λ i. h i && newest_where test (b i)) ∙ sym (ap (λ (z : Bool). still_there (has_where test n) [] && z) (same_count (length n'.gave) (length n.gave) (ap length g)) ∙ and_true (still_there (has_where test n) []) ∙ none_there (has_where test n));
       gave = (let e = ap length g in omega (arith, e));
     }
 
 pub answered_goes : (frame : ℕ) (n : Notes) (kind : ReplyKind) (reply : Reply) → reply.kind ≡ kind → (kind ≡ ReplyKind.Handed → reply.value ≡ []) → GoesBy frame (kind ∷ []) n (answered_where n reply frame)
-answered_goes frame n kind reply k value = λ s first. where_answered n s frame kind reply k value first
+answered_goes frame n kind reply k value = λ test beside s first. where_answered test beside n s frame kind reply k value first
 
 pub replied_goes : (frame : ℕ) (n : Notes) (reply : Reply) (from : ℕ) → awaits_nothing n.awaited ≡ false → GoesBy frame [] n (answered n reply from)
-replied_goes frame n reply from w = λ s first. script_answered n s frame reply from w
+replied_goes frame n reply from w = λ test beside s first. script_answered test beside n s frame reply from w
 
 pub given_goes : (frame : ℕ) (n : Notes) (leaves : Bool) (from : ℕ) → GoesBy frame [] n (given_up n leaves from)
-given_goes frame n leaves from = λ s first. mail_given n s frame leaves from
+given_goes frame n leaves from = λ test beside s first. mail_given test beside n s frame leaves from
 
 -- ---- ONE STEP BEHIND ANOTHER
 
@@ -255,14 +254,14 @@ told_more frame true (k ∷ ks) ls as' = refl
 
 -- where the slave wasn't given up before the second
 pub goes_more : (frame : ℕ) (ks ls : List ReplyKind) (n m n' : Notes) → length m.gave ≡ length n.gave → GoesBy frame ks n m → GoesBy frame ls m n' → GoesBy frame (ks ++ ls) n n'
-goes_more frame ks ls n m n' same h k = λ s first.
-    let f = h s (λ e. first_of ks ls (first e)) in
-    let there : has_mail m ≡ still_there (has_mail n) ks = f.hand ∙ ap (λ (z : Bool). still_there (has_mail n) ks && z) (same_count (length m.gave) (length n.gave) same) ∙ and_true (still_there (has_mail n) ks) in
-    let g = k f.sound (λ e. second_of (has_mail n) ks ls first (sym there ∙ e)) in
+goes_more frame ks ls n m n' same h k = λ test beside s first.
+    let f = h test beside s (λ e. first_of ks ls (first e)) in
+    let there : has_where test m ≡ still_there (has_where test n) ks = f.hand ∙ ap (λ (z : Bool). still_there (has_where test n) ks && z) (same_count (length m.gave) (length n.gave) same) ∙ and_true (still_there (has_where test n) ks) in
+    let g = k test beside f.sound (λ e. second_of (has_where test n) ks ls first (sym there ∙ e)) in
     record {
       sound = g.sound;
-      answers = g.answers ∙ (λ i. answers_told frame (there i) ls (f.answers i)) ∙ told_more frame (has_mail n) ks ls (mails_noted n);
-      hand = g.hand ∙ (λ i. still_there (there i) ls && length n'.gave == same i) ∙ ap (λ (z : Bool). z && length n'.gave == length n.gave) (there_more (has_mail n) ks ls);
+      answers = g.answers ∙ (λ i. answers_told frame (there i) ls (f.answers i)) ∙ told_more frame (has_where test n) ks ls (noted_where test n);
+      hand = g.hand ∙ (λ i. still_there (there i) ls && length n'.gave == same i) ∙ ap (λ (z : Bool). z && length n'.gave == length n.gave) (there_more (has_where test n) ks ls);
       gave = (let a = f.gave in let b = g.gave in omega (arith, a, b));
     }
 
@@ -279,14 +278,14 @@ and_assoc false b c = refl
 
 -- where nothing is told by the second
 pub goes_then : (frame : ℕ) (ks : List ReplyKind) (n m n' : Notes) → GoesBy frame ks n m → GoesBy frame [] m n' → GoesBy frame ks n n'
-goes_then frame ks n m n' h k = λ s first.
-    let f = h s first in
-    let g = k f.sound (λ e. tt) in
+goes_then frame ks n m n' h k = λ test beside s first.
+    let f = h test beside s first in
+    let g = k test beside f.sound (λ e. tt) in
     record {
       sound = g.sound;
-      answers = g.answers ∙ none_told frame (has_mail m) (mails_noted m) ∙ f.answers;
-      hand = g.hand ∙ ap (λ (z : Bool). z && length n'.gave == length m.gave) (none_there (has_mail m) ∙ f.hand) ∙ and_assoc (still_there (has_mail n) ks) (length m.gave == length n.gave) (length n'.gave == length m.gave)
-          ∙ ap (λ (z : Bool). still_there (has_mail n) ks && z) (both_counts (length n.gave) (length m.gave) (length n'.gave) f.gave g.gave);
+      answers = g.answers ∙ none_told frame (has_where test m) (noted_where test m) ∙ f.answers;
+      hand = g.hand ∙ ap (λ (z : Bool). z && length n'.gave == length m.gave) (none_there (has_where test m) ∙ f.hand) ∙ and_assoc (still_there (has_where test n) ks) (length m.gave == length n.gave) (length n'.gave == length m.gave)
+          ∙ ap (λ (z : Bool). still_there (has_where test n) ks && z) (both_counts (length n.gave) (length m.gave) (length n'.gave) f.gave g.gave);
       gave = (let a = f.gave in let b = g.gave in omega (arith, a, b));
     }
 

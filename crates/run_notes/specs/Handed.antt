@@ -1,4 +1,4 @@
--- THE ANSWERS OF MAILS THAT ARE PASSED ON: as they are noted, as a book has them, and what a frame leaves of them.
+-- THE ANSWERS OF ROWS BESIDE THE SCRIPTS, of packets and of mails that are passed on: as they are noted, as a book has them, and what a frame leaves of them.
 use Rattle.std.specs.Prelude.{◌≡◌, ◌≤◌, ◌+◌, ◌==◌, ◌&&◌, ℕ, Bool, true, false, if◌then◌else◌, Option, Some, None, List, [], ◌∷◌, ◌++◌, length, map, slice_get, ⊤}
 use Rattle.mailbox_mail.specs.declared.outcome.ReplyKind.{ReplyKind}
 use Rattle.master_node.specs.declared.event.Event.{Event}
@@ -23,25 +23,15 @@ abbrev pub over_answer : Option ℕ → Answer
 over_answer None = InDoubt
 over_answer (Some frame) = handed frame
 
--- the answer of a row, where that is one of a mail that is passed on
-abbrev pub mail_answer : Origin → Answer → List Answer
-mail_answer (Script number) answer = []
-mail_answer (Forward number) answer = []
-mail_answer (Gateway number) answer = answer ∷ []
+-- the answer of a row of which this holds
+abbrev pub answer_where : (Origin → Bool) → Origin → Answer → List Answer
+answer_where test origin answer = if test origin then answer ∷ [] else []
 
 -- THE ANSWERS OF SUCH ROWS among these, in order
-abbrev pub mail_answers : List Begun → List Answer → List Answer
-mail_answers [] answers = []
-mail_answers (b ∷ bs) [] = []
-mail_answers (b ∷ bs) (a ∷ answers) = mail_answer b.origin a ++ mail_answers bs answers
-
--- OF EACH SLAVE THE MAILS PASSED ON HAVE JUST THESE ANSWERS IN A BOOK, in order: `Handed`, of the frame with which the mail was over, or in doubt where it wasn't
-abbrev pub AreHanded : (ℕ → List (Option ℕ)) → List SlaveBook → Type 0
-AreHanded overs rows = (k : ℕ) (row : SlaveBook) → slice_get rows k ≡ Some row → mail_answers row.begun row.answers ≡ map over_answer (overs k)
-
--- those that are noted; that of one in hand is in doubt
-abbrev pub mails_noted : Notes → List Answer
-mails_noted n = mail_answers n.begun (answers_doubted n)
+abbrev pub answers_where : (Origin → Bool) → List Begun → List Answer → List Answer
+answers_where test [] answers = []
+answers_where test (b ∷ bs) [] = []
+answers_where test (b ∷ bs) (a ∷ answers) = answer_where test b.origin a ++ answers_where test bs answers
 
 -- a row is one of a mail that is passed on
 abbrev pub is_mail : Origin → Bool
@@ -49,24 +39,78 @@ is_mail (Script number) = false
 is_mail (Forward number) = false
 is_mail (Gateway number) = true
 
--- the newest is
+-- or of a packet
+abbrev pub is_packet : Origin → Bool
+is_packet (Script number) = false
+is_packet (Forward number) = true
+is_packet (Gateway number) = false
+
+-- this holds of rows beside the scripts alone
+abbrev pub IsBeside : (Origin → Bool) → Type 0
+IsBeside test = (number : ℕ) → test (Script number) ≡ false
+
+-- the answer of a row, where that is one of a mail that is passed on
+abbrev pub mail_answer : Origin → Answer → List Answer
+mail_answer origin answer = answer_where is_mail origin answer
+
+-- those of such rows
+abbrev pub mail_answers : List Begun → List Answer → List Answer
+mail_answers bs answers = answers_where is_mail bs answers
+
+-- and of those of packets
+abbrev pub packet_answers : List Begun → List Answer → List Answer
+packet_answers bs answers = answers_where is_packet bs answers
+
+-- OF EACH SLAVE THE MAILS PASSED ON HAVE JUST THESE ANSWERS IN A BOOK, in order: `Handed`, of the frame with which the mail was over, or in doubt where it wasn't
+abbrev pub AreHanded : (ℕ → List (Option ℕ)) → List SlaveBook → Type 0
+AreHanded overs rows = (k : ℕ) (row : SlaveBook) → slice_get rows k ≡ Some row → mail_answers row.begun row.answers ≡ map over_answer (overs k)
+
+-- OF EACH SLAVE THE PACKETS HAVE JUST THESE, likewise: `Handed`, of the frame with whose return the last fragment was written, or in doubt where it wasn't
+abbrev pub AreForwarded : (ℕ → List (Option ℕ)) → List SlaveBook → Type 0
+AreForwarded overs rows = (k : ℕ) (row : SlaveBook) → slice_get rows k ≡ Some row → packet_answers row.begun row.answers ≡ map over_answer (overs k)
+
+-- the answers of such rows that are noted; that of one in hand is in doubt
+abbrev pub noted_where : (Origin → Bool) → Notes → List Answer
+noted_where test n = answers_where test n.begun (answers_doubted n)
+
+-- of mails that are passed on
+abbrev pub mails_noted : Notes → List Answer
+mails_noted n = noted_where is_mail n
+
+-- the newest row is such a one
+abbrev pub newest_where : (Origin → Bool) → List Begun → Bool
+newest_where test [] = false
+newest_where test (b ∷ []) = test b.origin
+newest_where test (b ∷ c ∷ bs) = newest_where test (c ∷ bs)
+
+-- of a mail that is passed on
 abbrev pub newest_mail : List Begun → Bool
-newest_mail [] = false
-newest_mail (b ∷ []) = is_mail b.origin
-newest_mail (b ∷ c ∷ bs) = newest_mail (c ∷ bs)
+newest_mail bs = newest_where is_mail bs
+
+-- the service in hand is such a one
+abbrev pub has_where : (Origin → Bool) → Notes → Bool
+has_where test n = n.in_hand && newest_where test n.begun
 
 -- a mail that is passed on is in hand
 abbrev pub has_mail : Notes → Bool
-has_mail n = n.in_hand && newest_mail n.begun
+has_mail n = has_where is_mail n
 
--- WHAT IS NOTED of a slave's mails goes with its life: just these answers, and whether one is in hand
-pub record IsHanded (overs : List (Option ℕ)) (goes : Bool) (n : Notes) : Type 0 where
-  pub answers : mails_noted n ≡ map over_answer overs
-  pub hand : has_mail n ≡ goes
+-- WHAT IS NOTED of such rows of a slave goes with its life: just these answers, and whether one is in hand
+pub record IsNotedWhere (test : Origin → Bool) (overs : List (Option ℕ)) (goes : Bool) (n : Notes) : Type 0 where
+  pub answers : noted_where test n ≡ map over_answer overs
+  pub hand : has_where test n ≡ goes
+
+-- of all slaves
+abbrev pub AllWhere : (Origin → Bool) → (ℕ → List (Option ℕ)) → (ℕ → Bool) → List Notes → Type 0
+AllWhere test overs goes notes = (k : ℕ) (n : Notes) → slice_get notes k ≡ Some n → IsNotedWhere test (overs k) (goes k) n
+
+-- of mails that are passed on
+abbrev pub IsHanded : List (Option ℕ) → Bool → Notes → Type 0
+IsHanded overs goes n = IsNotedWhere is_mail overs goes n
 
 -- of all slaves
 abbrev pub AllHanded : (ℕ → List (Option ℕ)) → (ℕ → Bool) → List Notes → Type 0
-AllHanded overs goes notes = (k : ℕ) (n : Notes) → slice_get notes k ≡ Some n → IsHanded (overs k) (goes k) n
+AllHanded overs goes notes = AllWhere is_mail overs goes notes
 
 -- ---- what events leave of it
 
@@ -108,7 +152,7 @@ last_set x [] = []
 last_set x (y ∷ []) = x ∷ []
 last_set x (y ∷ z ∷ ys) = y ∷ last_set x (z ∷ ys)
 
--- the answers of the mails behind what is told so, where one was in hand, or none
+-- the answers of such rows behind what is told so, where one was in hand, or none
 abbrev pub answers_told : ℕ → Bool → List ReplyKind → List Answer → List Answer
 answers_told frame false kinds answers = answers
 answers_told frame true [] answers = answers
@@ -129,16 +173,16 @@ pub record IsSound (begun : List Begun) (answers : List Answer) (in_hand : Bool)
 abbrev pub Sound : Notes → Type 0
 Sound n = IsSound n.begun n.answers n.in_hand n.awaited
 
--- WHAT IS LEFT OF THE MAILS behind these answers: the one in hand has the first of them; and it is in hand no more where its slave was given up
-pub record MailGoes (frame : ℕ) (kinds : List ReplyKind) (n n' : Notes) : Type 0 where
+-- WHAT IS LEFT OF SUCH ROWS behind these answers: the one in hand has the first of them; and it is in hand no more where its slave was given up
+pub record RowsGo (test : Origin → Bool) (frame : ℕ) (kinds : List ReplyKind) (n n' : Notes) : Type 0 where
   pub sound : Sound n'
-  pub answers : mails_noted n' ≡ answers_told frame (has_mail n) kinds (mails_noted n)
-  pub hand : has_mail n' ≡ (still_there (has_mail n) kinds && length n'.gave == length n.gave)
+  pub answers : noted_where test n' ≡ answers_told frame (has_where test n) kinds (noted_where test n)
+  pub hand : has_where test n' ≡ (still_there (has_where test n) kinds && length n'.gave == length n.gave)
   pub gave : length n.gave ≤ length n'.gave
 
--- where they are of a mail
+-- of whatever rows beside the scripts, packets' or those of mails that are passed on, where the answers are of the one in hand
 abbrev pub GoesBy : ℕ → List ReplyKind → Notes → Notes → Type 0
-GoesBy frame kinds n n' = Sound n → (has_mail n ≡ true → HandedFirst kinds) → MailGoes frame kinds n n'
+GoesBy frame kinds n n' = (test : Origin → Bool) → IsBeside test → Sound n → (has_where test n ≡ true → HandedFirst kinds) → RowsGo test frame kinds n n'
 
 -- place by place
 abbrev pub EachNotes : (ℕ → Notes → Notes → Type 0) → List Notes → List Notes → Type 0
