@@ -48,7 +48,7 @@ module _ (frame : ℕ) (kinds : List ReplyKind) (n n' : Notes) (overs : List (Op
 
   pub back_handed : (was is : Bool) → IsHanded overs was n → Sound n → GoesBy frame kinds n n' → Goes was is kinds → length n'.gave ≡ length n.gave → IsHanded (overs_behind Fates.Pass frame was is overs) is n'
   back_handed was is h s by goes same =
-      let g = by s (λ t. first_so was is goes (sym h.hand ∙ t)) in
+      let g = by is_mail (λ number. refl) s (λ t. first_so was is goes (sym h.hand ∙ t)) in
       record {
         answers = g.answers ∙ (λ i. answers_told frame (h.hand i) kinds (h.answers i)) ∙ told_so was is goes;
         hand = g.hand ∙ (λ i. still_there (h.hand i) kinds && eq-eqb (length n'.gave) (length n.gave) same i) ∙ and_true (still_there was kinds) ∙ there_so was is goes;
@@ -62,7 +62,7 @@ module _ (frame : ℕ) (kinds : List ReplyKind) (n n' : Notes) (overs : List (Op
 
 pub lost_handed : (frame : ℕ) (n n' : Notes) (overs : List (Option ℕ)) (was is : Bool) → IsHanded overs was n → Sound n → GoesBy frame [] n n' → is ≡ (was && length n'.gave == length n.gave) → IsHanded overs is n'
 lost_handed frame n n' overs was is h s by e =
-    let g = by s (λ t. tt) in
+    let g = by is_mail (λ number. refl) s (λ t. tt) in
     record {
       answers = g.answers ∙ none_told (has_mail n) (mails_noted n) ∙ h.answers;
       hand = g.hand ∙ ap (λ z. z && length n'.gave == length n.gave) (none_there (has_mail n) ∙ h.hand) ∙ sym e;
@@ -160,7 +160,7 @@ pub record CameSo (bs : List Begun) (number frame : ℕ) (b : Option (Service As
 
 pub turn_handed : (n n' : Notes) (overs : List (Option ℕ)) (was is : Bool) (number frame : ℕ) (b : Option (Service Asked)) (d : Doubts n n') → Sound n → IsHanded overs was n → CameSo d.more number frame b → Comes b was is → IsHanded (overs ++ mail_over b) is n'
 turn_handed n n' overs was is number frame b d s h came comes = record {
-  answers = (λ i. mail_answers (d.begun i) (d.answers i)) ∙ answers_append n.begun d.more (answers_doubted n) (doubts d.more) (all_answered n s)
+  answers = (λ i. mail_answers (d.begun i) (d.answers i)) ∙ answers_append is_mail n.begun d.more (answers_doubted n) (doubts d.more) (all_answered n s)
       ∙ (λ i. h.answers i ++ (more_answers d.more ∙ ap (map (λ r. InDoubt)) came.mails ∙ begun_answers number frame b) i) ∙ sym (map-append over_answer overs (mail_over b));
   hand = (λ i. d.hand i && newest_mail (d.begun i)) ∙ by comes;
 }
@@ -194,7 +194,7 @@ turn_handed n n' overs was is number frame b d s h came comes = record {
 
 ended_answers : (n : Notes) → Sound n → mail_answers n.begun (ended n) ≡ mails_noted n
 ended_answers n s =
-    ap (λ (bs : List Begun). mail_answers bs (ended n)) (sym (append-nil n.begun)) ∙ answers_append n.begun [] (answers_doubted n) (replicate n.left NotSent) (all_answered n s) ∙ append-nil (mails_noted n)
+    ap (λ (bs : List Begun). mail_answers bs (ended n)) (sym (append-nil n.begun)) ∙ answers_append is_mail n.begun [] (answers_doubted n) (replicate n.left NotSent) (all_answered n s) ∙ append-nil (mails_noted n)
 
 first_row : (overs : ℕ → List (Option ℕ)) (row : SlaveBook) (rows : List SlaveBook) → mail_answers row.begun row.answers ≡ map over_answer (overs 0) → AreHanded (λ k. overs (suc k)) rows → AreHanded overs (row ∷ rows)
 first_row overs row rows h rest zero r at = subst (λ (z : SlaveBook). mail_answers z.begun z.answers ≡ map over_answer (overs 0)) (let same : row ≡ r = cc in same) h
