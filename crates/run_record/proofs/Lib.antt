@@ -21,6 +21,7 @@ pub mod NoPackets
 pub mod Noted
 pub mod Numbered
 pub mod Overs
+pub mod PacketLives
 pub mod Plans
 pub mod Recalling
 pub mod Replays

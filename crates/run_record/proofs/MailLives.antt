@@ -32,12 +32,12 @@ use Rattle.run_notes.proofs.Handings.{kinds_append}
 use Rattle.run_record.specs.Mails.{has_passing}
 use Rattle.served_runs.specs.Told.{Passed, replies_in}
 
-open_is : (stand : Stand) → is_open stand ≡ true → stand ≡ Stand.Open
+pub open_is : (stand : Stand) → is_open stand ≡ true → stand ≡ Stand.Open
 open_is (Stand.Opens o) e = absurd (let bad : false ≡ true = e in cc)
 open_is Stand.Open e = refl
 open_is Stand.Gone e = absurd (let bad : false ≡ true = e in cc)
 
-both_true : (a b : Bool) → (a && b) ≡ true → (a ≡ true) × (b ≡ true)
+pub both_true : (a b : Bool) → (a && b) ≡ true → (a ≡ true) × (b ≡ true)
 both_true true b e = (refl, e)
 both_true false b e = absurd (let bad : false ≡ true = e in cc)
 
@@ -97,20 +97,20 @@ module _ (areas : Areas) (made place : ℕ) (spot : Spot) (ns : List (News Body)
   abbrev x : Speech Body Asked Reply
   x = hand_speech areas
 
-  abbrev e : Era Body Asked Reply
+  abbrev pub e : Era Body Asked Reply
   e = era_back x acknowledged is_followed is_passed spot.station made ns back l.era
 
   abbrev pub behind_so : Option (Bool × Option Found) → Stand → Life Body Asked Reply
   behind_so came stand = life_back x acknowledged is_followed is_passed made spot ns back came l stand
 
   -- the epoch behind the frame, where no change of state is in hand
-  era_is : (came : Option (Bool × Option Found)) (stand : Stand) → stand ≡ Stand.Open → e.account.hand ≡ None → (behind_so came stand).era ≡ e
+  pub era_is : (came : Option (Bool × Option Found)) (stand : Stand) → stand ≡ Stand.Open → e.account.hand ≡ None → (behind_so came stand).era ≡ e
   era_is None Stand.Open s h = ap (λ (z : Option Duty). (reopens (record l { era = e }) z).era) h
   era_is (Some got) Stand.Open s h = ap (λ (z : Option Duty). (reopens (record l { era = e }) z).era) h
   era_is came (Stand.Opens o) s h = absurd (cc)
   era_is came Stand.Gone s h = absurd (cc)
 
-  same_account : l.era.account.hand ≡ None → e.account ≡ l.era.account
+  pub same_account : l.era.account.hand ≡ None → e.account ≡ l.era.account
   same_account h = none_back spot.station made l.era.account (own spot.station back) h
 
   -- nothing else is told of it
@@ -123,7 +123,7 @@ module _ (areas : Areas) (made place : ℕ) (spot : Spot) (ns : List (News Body)
     packet_none : (was is : Bool) → packet_told place (has_packet l.era.side.now) knows was is ≡ []
     packet_none was is = ap (λ z. packet_told place (has_packet z) knows was is) p.is ∙ ap (λ z. packet_told place (not z) knows was is) (passed_other p.row.service p.passed)
 
-  changes_none : l.era.account.hand ≡ None → changes_told place (length l.era.account.over) e.account.over ≡ []
+  pub changes_none : l.era.account.hand ≡ None → changes_told place (length l.era.account.over) e.account.over ≡ []
   changes_none h = ap (λ (a : Account Asked Reply). changes_told place (length l.era.account.over) a.over) (same_account h) ∙ none_more place l.era.account.over
 
   has_row : (known : Bool) (work : Work) → IsThere hand l → HasInHand x known l l.stand work → HasPassed l.era.side.now

@@ -12,3 +12,4 @@ pub mod Forwarded
 pub mod Mails
 pub mod Recalling
 pub mod Served
+pub mod Written
