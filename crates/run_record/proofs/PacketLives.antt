@@ -1,7 +1,7 @@
 -- A PACKET IN HAND OF A SLAVE, by its life before a return and behind it: what is told of its answer.
-use Rattle.std.proofs.Common.{◌≡◌, ℕ, Bool, true, false, Option, Some, None, List, [], ◌∷◌, ◌++◌, length, refl, sym, ap, ◌∙◌, subst, append-nil}
-use Rattle.std.specs.Prelude.{◌&&◌, is_some, not, option_map, if◌then◌else◌}
-use Rattle.std.proofs.lemmas.Bool.{eq-eqb}
+use Rattle.std.proofs.Common.{◌≡◌, ◌==◌, ℕ, Bool, true, false, Option, Some, None, List, [], ◌∷◌, ◌++◌, length, refl, sym, ap, ◌∙◌, subst, append-nil}
+use Rattle.std.specs.Prelude.{◌&&◌, is_some, nat_lt, not, option_map, if◌then◌else◌}
+use Rattle.std.proofs.lemmas.Bool.{eq-eqb, eqb-true}
 use Rattle.mailbox_mail.specs.declared.outcome.ReplyKind.{ReplyKind}
 use Rattle.master_node.specs.Backtold.{NewestHas, OpenHas, answer_told, changes_told, emergencies_told, has_packet, kind_of, over_told, packet_told, passed_told, returned_told}
 use Rattle.master_node.specs.Begins.{is_other}
@@ -12,20 +12,22 @@ use Rattle.master_node.specs.of_life_frames.of_exchange_model.Areas.{Areas}
 use Rattle.master_node.specs.of_life_frames.of_exchange_model.Exchange.{Speech}
 use Rattle.master_node.specs.of_life_frames.of_exchange_model.Rows.{Row, row_heard}
 use Rattle.master_node.specs.of_life_frames.of_link_model.Frames.{all_accepted}
-use Rattle.master_node.specs.of_life_model.Lives.{Era, Life, Spot, Stand}
+use Rattle.master_node.specs.Named.{is_left}
+use Rattle.master_node.specs.of_life_model.Lives.{Era, Life, Opening, Spot, Stand, clears, is_shown, last_step, life_lost, opens, opens_state, reopening, reopens, reopens_at, returns_to_init, shows_clear, steps_on}
 use Rattle.master_node.specs.of_life_model.Own.{own}
 use Rattle.master_node.specs.of_life_runs.Spans.{is_open}
 use Rattle.master_node.specs.of_life_runs.of_link_mails.Body.{Body}
 use Rattle.master_node.specs.of_master_duty.Reply.{Reply}
 use Rattle.master_node.specs.of_master_hand.Brings.{emergencies_in}
 use Rattle.master_node.specs.of_master_hand.Hears.{kind_in}
-use Rattle.master_node.specs.of_master_hand.Spoken.{Asked, hand_speech, is_passed}
+use Rattle.master_node.specs.of_master_hand.Spoken.{Asked, acknowledged, hand_speech, is_followed, is_passed}
 use Rattle.master_node.specs.of_segment_model.Ends.{Passing}
 use Rattle.master_node.specs.of_segment_model.Record.{News}
+use Rattle.master_node.specs.of_segment_model.Seats.{Side, side_lost}
 use Rattle.master_node.specs.of_segment_model.Slaves.{Datagram, Found, grams}
-use Rattle.master_node.specs.of_task_model.Accounts.{Account, Duty, is_free}
+use Rattle.master_node.specs.of_task_model.Accounts.{Account, Duty, Stage, is_free}
 use Rattle.master_node.proofs.Handeds.{stays_open}
-use Rattle.master_node.proofs.PacketRows.{packet_ends}
+use Rattle.master_node.proofs.PacketRows.{idle_back, out_lost, packet_ends, same_over, stays_over}
 use Rattle.master_node.proofs.Rowtells.{kind_told, passed_other}
 use Rattle.run_notes.specs.Handed.{kinds_in}
 use Rattle.run_notes.proofs.Handings.{kinds_append}
@@ -166,3 +168,95 @@ module _ (areas : Areas) (made place : ℕ) (spot : Spot) (ns : List (News Body)
         go : (b : Bool) → is ≡ b → Goes (has_fragments x l) (has_fragments x m) (kinds_in place (returned_told x true place hand ms l m l.stand))
         go true f = Goes.over [] there (goes_is ∙ ap not f) (told_kinds ∙ ap (λ (z : Bool). if z then ReplyKind.Handed ∷ [] else []) f)
         go false f = Goes.on there (goes_is ∙ ap not f) (told_kinds ∙ ap (λ (z : Bool). if z then ReplyKind.Handed ∷ [] else []) f)
+
+  -- where none is none comes
+  back_none : (known : Bool) (work : Work) → HasInHand x known l l.stand work → has_fragments x l ≡ false → has_fragments x m ≡ false
+  back_none known work h not_there = go came l.stand refl h
+    where
+      -- as an opening goes on
+      opening : (o : Opening) (clear shown last comes : Bool) → (last ≡ true → l.era.side.now ≡ None) →
+          has_fragments x (if clear then (if shown then clears made l o else l) else if last then (if comes then opens made l else l) else steps_on l o) ≡ false
+      opening o true true last comes f = refl
+      opening o true false last comes f = not_there
+      opening o false shown true true f = ap (λ (z : Option (Row Body Asked Reply)). has_packet z && not (is_free x l.era.side l.era.side.now)) (f refl)
+      opening o false shown true false f = not_there
+      opening o false shown false comes f = refl
+
+      -- its last access is no return to Init
+      entered : (o : Opening) → (o.step == last_step o) ≡ true → is_left (Stand.Opens o) ≡ false
+      entered o e = by o.again refl
+        where
+          by : (b : Bool) → o.again ≡ b → is_left (Stand.Opens o) ≡ false
+          by true f = (λ i. f i && nat_lt (eqb-true o.step (last_step o) e i) 3) ∙ ap (λ (z : Bool). nat_lt (if z then 9 else 5) 3) f
+          by false f = ap (λ (z : Bool). z && nat_lt o.step 3) f
+
+      -- as the epoch goes on
+      kept : (now : Option (Row Body Asked Reply)) → l.era.side.now ≡ now → (has_packet now && not (is_free x l.era.side now)) ≡ false →
+          (has_packet (option_map (λ r. row_heard x made heard r) now) && not (is_free x e.side (option_map (λ r. row_heard x made heard r) now))) ≡ false
+      kept None same f = refl
+      kept (Some r) same f = by (is_other r.service) refl
+        where
+          over : (b : Bool) → (not false && not b) ≡ false → b ≡ true
+          over true g = refl
+          over false g = absurd (let bad : true ≡ false = g in cc)
+
+          by : (b : Bool) → is_other r.service ≡ b → (not (is_other r.service) && not (is_free x e.side (Some (row_heard x made heard r)))) ≡ false
+          by true o = ap (λ (z : Bool). not z && not (is_free x e.side (Some (row_heard x made heard r)))) o
+          by false o =
+              let was_over : is_free x l.era.side (Some r) ≡ true = over (is_free x l.era.side (Some r)) (sym (ap (λ (z : Bool). not z && not (is_free x l.era.side (Some r))) o) ∙ f) in
+              let is_over : is_free x e.side (Some (row_heard x made heard r)) ≡ true =
+              stays_over areas l.era.side e.side r (row_heard x made heard r) o (record { service = refl; told = refl }) (λ none. idle_back spot.station l.era.side.halves (grams (own spot.station back)) none) was_over in
+              (λ i. not (o i) && not (is_over i))
+
+      reopened : (k : Life Body Asked Reply) (hand : Option Duty) → has_fragments x k ≡ false → has_fragments x (reopens k hand) ≡ false
+      reopened k None f = f
+      reopened k (Some duty) f = by duty.stage
+        where
+          by : (stage : Stage) → has_fragments x (reopens_at k duty.target stage) ≡ false
+          by Stage.Drains = f
+          by (Stage.Goes phase) = init (returns_to_init duty.target)
+            where
+              init : (b : Bool) → has_fragments x (if b then record k { stand = reopening (opens_state duty.target) true } else k) ≡ false
+              init true = refl
+              init false = f
+
+      comes : l.stand ≡ Stand.Open → has_fragments x (record l { era = e }) ≡ false
+      comes s = ap (λ z. is_open z && (has_packet e.side.now && not (is_free x e.side e.side.now))) s ∙ kept l.era.side.now refl (sym (ap (λ z. is_open z && (has_packet l.era.side.now && not was)) s) ∙ not_there)
+
+      go : (came : Option (Bool × Option Found)) (stand : Stand) → l.stand ≡ stand → HasInHand x known l stand work → has_fragments x (behind_so areas made place spot ns back true hand ms l came stand) ≡ false
+      go came Stand.Gone s h = not_there
+      go None (Stand.Opens o) s h = not_there
+      go (Some got) (Stand.Opens o) s h = opening o (shows_clear o) (got.0 && is_shown 1 got.1) (o.step == last_step o) (got.0 && is_shown o.state got.1) (λ last. (h.1 (entered o last)).row)
+      go None Stand.Open s h = reopened (record l { era = e }) e.account.hand (comes s)
+      go (Some got) Stand.Open s h = reopened (record l { era = e }) e.account.hand (comes s)
+
+  -- OF A SLAVE THAT THE FRAME CARRIED, where its hand knows its mails behind the frame
+  pub back_goes : (known : Bool) (work : Work) → HasInHand x known l l.stand work → Goes (has_fragments x l) (has_fragments x m) (kinds_in place (returned_told x true place hand ms l m l.stand))
+  back_goes known work h = go (has_fragments x l) refl
+    where
+      go : (b : Bool) → has_fragments x l ≡ b → Goes (has_fragments x l) (has_fragments x m) (kinds_in place (returned_told x true place hand ms l m l.stand))
+      go true there = back_there (forwarding x l known work h there) there
+      go false there = Goes.none there (back_none known work h there)
+
+-- BEHIND A LOST FRAME by which the slave isn't given up its packet is in hand as it was
+pub lost_same : (areas : Areas) (spot : Spot) (ns : List (News Body)) (sent : List (Datagram Body)) (l : Life Body Asked Reply) (stand : Stand) →
+    has_fragments (hand_speech areas) (life_lost (hand_speech areas) acknowledged is_followed is_passed spot ns sent l stand) ≡ has_fragments (hand_speech areas) l
+lost_same areas spot ns sent l (Stand.Opens o) = refl
+lost_same areas spot ns sent l Stand.Gone = refl
+lost_same areas spot ns sent l Stand.Open = ap (λ (z : Bool). is_open l.stand && z) (by l.era.side.now)
+  where
+    x : Speech Body Asked Reply
+    x = hand_speech areas
+
+    d : Side Body Asked Reply
+    d = side_lost spot.station (own spot.station sent) l.era.side
+
+    by : (now : Option (Row Body Asked Reply)) → (has_packet now && not (is_free x d now)) ≡ (has_packet now && not (is_free x l.era.side now))
+    by None = refl
+    by (Some r) = go (is_other r.service) refl
+      where
+        go : (b : Bool) → is_other r.service ≡ b → (not (is_other r.service) && not (is_free x d (Some r))) ≡ (not (is_other r.service) && not (is_free x l.era.side (Some r)))
+        go true o = ap (λ (z : Bool). not z && not (is_free x d (Some r))) o ∙ sym (ap (λ (z : Bool). not z && not (is_free x l.era.side (Some r))) o)
+        go false o =
+            ap (λ (z : Bool). not (is_other r.service) && not z)
+            (same_over areas l.era.side d r r o (record { service = refl; told = refl }) (ap (λ z. z.holding) (out_lost spot.station l.era.side.halves (grams (own spot.station sent)))))
