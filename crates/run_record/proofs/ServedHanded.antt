@@ -48,7 +48,7 @@ use Rattle.packets_heard.specs.Numbers.{each_with}
 use Rattle.packets_heard.specs.Over.{packet_begun}
 use Rattle.packets_heard.specs.Servings.{served_begun}
 use Rattle.run_book.specs.declared.book.Begun.{Begun}
-use Rattle.run_notes.specs.Handed.{AllDoubts, AllHanded, Doubts, GoesBy, IsHanded, MailsGo, Sound, has_mail, kinds_in, mails_noted}
+use Rattle.run_notes.specs.Handed.{AllDoubts, AllHanded, Doubts, GoesBy, IsHanded, MailsGo, Sound, has_mail, is_mail, kinds_in, mails_noted}
 use Rattle.run_notes.specs.Notes.{new_notes}
 use Rattle.run_notes.specs.Packets.{begun_noted, mail_row, numbered_from, packet_row, rows_at, rows_with}
 use Rattle.run_notes.specs.Reports.{AllReport, Reports}
@@ -62,7 +62,7 @@ use Rattle.run_record.specs.Mails.{has_passing, mail_begun, mail_over, overs_beh
 use Rattle.run_record.specs.Served.{ServeTo, events_behind}
 use Rattle.run_record.proofs.MailEvents.{in_kinds, losts_none, returned_off, told_here, told_none}
 use Rattle.run_record.proofs.MailLives.{Goes, back_goes, still_goes}
-use Rattle.run_record.proofs.MailNotes.{Comes, back_handed, lost_handed, turn_handed}
+use Rattle.run_record.proofs.MailNotes.{Comes, back_handed, begun_answers, lost_handed, mails_kind, turn_handed}
 use Rattle.run_record.proofs.Noted.{next_gives}
 use Rattle.run_record.proofs.ServedGaves.{one_gives}
 use Rattle.script_runs.specs.Answers.{turned}
@@ -208,43 +208,44 @@ module _ (lens : ℕ → Lens) (made : ℕ) (ds : List Raw.Datagram) (w : Serves
   passing_is : (b : Option (Service Asked)) → v.turn.begun ≡ b → v.turn.lived.life.era.passing ≡ passing_behind is_passed w.lead.lived.life.era.passing b
   passing_is b e = next_passing lens made ds w v t ∙ ap (λ z. passing_behind is_passed w.lead.lived.life.era.passing z) e
 
-  turn_comes : Comes v.turn.begun (has_passing w.lead.lived.life) (has_passing v.turn.lived.life)
-  turn_comes = by v.turn.begun refl
+  turn_comes : (number frame : ℕ) → Comes v.turn.begun (mail_begun number frame v.turn.begun) (mail_over v.turn.begun) (has_passing w.lead.lived.life) (has_passing v.turn.lived.life)
+  turn_comes number frame = by v.turn.begun refl
     where
       free : (s : Service Asked) → v.turn.begun ≡ Some s → w.lead.lived.life.era.passing ≡ None
       free s e = next_free lens made ds w v t s e
 
-      by : (b : Option (Service Asked)) → v.turn.begun ≡ b → Comes v.turn.begun (has_passing w.lead.lived.life) (has_passing v.turn.lived.life)
-      by None e = Comes.nothing e (λ i. is_open (same_stand i) && is_some (passing_is None e i))
+      by : (b : Option (Service Asked)) → v.turn.begun ≡ b → Comes v.turn.begun (mail_begun number frame v.turn.begun) (mail_over v.turn.begun) (has_passing w.lead.lived.life) (has_passing v.turn.lived.life)
+      by None e = Comes.nothing e (ap (λ z. mail_begun number frame z) e) (λ i. is_open (same_stand i) && is_some (passing_is None e i))
       by (Some (Service.State target)) e =
-          Comes.other (λ number frame. ap (λ z. mail_begun number frame z) e) (unpassed w.lead.lived.life (free (Service.State target) e)) (unpassed v.turn.lived.life (passing_is (Some (Service.State target)) e ∙ free (Service.State target) e))
+          Comes.other (ap (λ z. mail_begun number frame z) e) (unpassed w.lead.lived.life (free (Service.State target) e)) (unpassed v.turn.lived.life (passing_is (Some (Service.State target)) e ∙ free (Service.State target) e))
       by (Some (Service.Mails q)) e = go (is_passed q) refl
         where
-          go : (z : Bool) → is_passed q ≡ z → Comes v.turn.begun (has_passing w.lead.lived.life) (has_passing v.turn.lived.life)
+          go : (z : Bool) → is_passed q ≡ z → Comes v.turn.begun (mail_begun number frame v.turn.begun) (mail_over v.turn.begun) (has_passing w.lead.lived.life) (has_passing v.turn.lived.life)
           go true p =
               let now = passing_is (Some (Service.Mails q)) e ∙ ap (λ (z : Bool). if z then Some Passing.Waiting else w.lead.lived.life.era.passing) p in
-              Comes.mail q e p (unpassed w.lead.lived.life (free (Service.Mails q) e)) (λ i. is_open ((same_stand ∙ next_open lens made ds w v t (Service.Mails q) e) i) && is_some (now i))
+              Comes.one (ap (λ z. mail_over z) e ∙ ap (λ (z : Bool). if z then None ∷ [] else []) p) (λ none. absurd (let bad : (number, frame) ∷ [] ≡ [] = sym (ap (λ z. mail_begun number frame z) e ∙ ap (λ (z : Bool). if z then (number, frame) ∷ [] else []) p) ∙ none in cc)) (unpassed w.lead.lived.life (free (Service.Mails q) e)) (λ i. is_open ((same_stand ∙ next_open lens made ds w v t (Service.Mails q) e) i) && is_some (now i))
           go false p =
               let now = passing_is (Some (Service.Mails q)) e ∙ ap (λ (z : Bool). if z then Some Passing.Waiting else w.lead.lived.life.era.passing) p in
-              Comes.other (λ number frame. ap (λ z. mail_begun number frame z) e ∙ ap (λ (z : Bool). if z then (number, frame) ∷ [] else []) p) (unpassed w.lead.lived.life (free (Service.Mails q) e))
+              Comes.other (ap (λ z. mail_begun number frame z) e ∙ ap (λ (z : Bool). if z then (number, frame) ∷ [] else []) p) (unpassed w.lead.lived.life (free (Service.Mails q) e))
               (unpassed v.turn.lived.life (now ∙ free (Service.Mails q) e))
 
   turn_one : (n n' : Notes) (overs : List (Option ℕ)) (mails : List (ℕ × ℕ)) (frames : List ℕ) (number : ℕ) → Doubts n n' → Reports w.lead n → Reports (turned v.turn) n' → IsHanded overs (has_passing w.lead.lived.life) n → rows_with mail_row n.begun ≡ mails →
       rows_with mail_row n'.begun ≡ mails ++ mail_begun number made v.turn.begun → rows_with packet_row n.begun ≡ numbered_from 0 frames → rows_with packet_row n'.begun ≡ numbered_from 0 (frames ++ each_with made (packet_begun v.turn.begun)) →
       IsHanded (overs ++ mail_over v.turn.begun) (has_passing v.turn.lived.life) n'
   turn_one n n' overs mails frames number d r r' h m m' p p' =
-      turn_handed n n' overs (has_passing w.lead.lived.life) (has_passing v.turn.lived.life) number made v.turn.begun d (record { aligned = r.aligned; last = r.last }) h
+      turn_handed is_mail mail_row packet_row mails_kind n n' overs (has_passing w.lead.lived.life) (has_passing v.turn.lived.life) v.turn.begun (mail_begun number made v.turn.begun) (mail_over v.turn.begun) d (record { aligned = r.aligned; last = r.last }) h
       (record {
         mails = cancel mails (rows_with mail_row d.more) (mail_begun number made v.turn.begun) (ap (λ z. z ++ rows_with mail_row d.more) (sym m) ∙ sym (ap (rows_with mail_row) d.begun ∙ with_append mail_row n.begun d.more) ∙ m');
         numbers = λ bare.
             let counts : n'.scripted ≡ n.scripted = r'.told.many ∙ same_number (lens w.lead.lived.spot.station).out w.lead.script w.waits w.hand w.lead.number v.turn.begun v.turn.number v.waits v.hand t.comes bare ∙ sym r.told.many in
             cancel (numbers_in n.begun) (numbers_in d.more) [] (sym (ap numbers_in d.begun ∙ numbers_append n.begun d.more) ∙ r'.rest.numbers ∙ ap first_numbers counts ∙ sym r.rest.numbers ∙ sym (append-nil (numbers_in n.begun)));
-        packets = λ bare.
+        answers = begun_answers number made v.turn.begun;
+        outside = λ bare.
             cancel (rows_with packet_row n.begun) (rows_with packet_row d.more) []
             (sym (ap (rows_with packet_row) d.begun ∙ with_append packet_row n.begun d.more) ∙ p' ∙ ap (λ z. numbered_from 0 (frames ++ z)) (no_packet made v.turn.begun bare) ∙ ap (numbered_from 0) (append-nil frames) ∙ sym p
             ∙ sym (append-nil (rows_with packet_row n.begun)));
       })
-      turn_comes
+      (turn_comes number made)
 
 -- ---- ONE SLAVE BEHIND A FRAME
 
@@ -416,14 +417,14 @@ module _ (plan : Scenario) (fs : List Exchanged) (missed : ℕ) (ws : List Serve
           go Fates.Pass e =
               let alike : length n2.gave ≡ length n1.gave = ap length (gave2 ∙ ap (λ (x : Fate). (life_by x).gave) e ∙ one_gives lens plan.recover plan.retry (length fs) frame.datagrams w v t gives f Fates.Pass ∙ sym gave1) in
               subst (λ (x : Fate). IsHanded (overs_behind x (length fs) (has_passing v.turn.lived.life) (has_passing (life_by x)) (served_overs led k ++ mail_over v.turn.begun)) (has_passing (life_by x)) n2) (sym e)
-              (back_handed (length fs) (kinds_in k (events_in n)) n1 n2 (served_overs led k ++ mail_over v.turn.begun) (has_passing v.turn.lived.life) (has_passing (life_by Fates.Pass)) before_it sound by (by_pass e) alike)
+              (back_handed is_mail (λ number. refl) (length fs) (kinds_in k (events_in n)) n1 n2 (served_overs led k ++ mail_over v.turn.begun) (has_passing v.turn.lived.life) (has_passing (life_by Fates.Pass)) before_it sound by (by_pass e) alike)
           go (Fates.Lost lasts) e =
               let none : kinds_in k (events_in n) ≡ [] = ap (λ x. kinds_in k x) (z.lists ∙ ap (λ (x : Fate). told_in (λ j. events_behind lens f x (recalls n) vs behind j) m.tour.visit.items) e) ∙ none_lost k vs behind m.tour.visit.items in
               let one = lost_one lens plan.recover plan.retry gives (length fs) frame.datagrams f w v frame.frame t at_stop.post at_stop.stop at_stop.under lasts in
               let now : n2.gave ≡ (life_by (Fates.Lost lasts)).gave = gave2 ∙ ap (λ (x : Fate). (life_by x).gave) e in
               let was : v.turn.lived.life.gave ≡ n1.gave = next_gives lens (length fs) w.lead.lived v.turn.lived t.next ∙ sym gave1 in
               subst (λ (x : Fate). IsHanded (overs_behind x (length fs) (has_passing v.turn.lived.life) (has_passing (life_by x)) (served_overs led k ++ mail_over v.turn.begun)) (has_passing (life_by x)) n2) (sym e)
-              (lost_handed (length fs) n1 n2 (served_overs led k ++ mail_over v.turn.begun) (has_passing v.turn.lived.life) (has_passing (life_by (Fates.Lost lasts))) before_it sound (subst (λ x. GoesBy (length fs) x n1 n2) none by)
+              (lost_handed is_mail (λ number. refl) (length fs) n1 n2 (served_overs led k ++ mail_over v.turn.begun) (has_passing v.turn.lived.life) (has_passing (life_by (Fates.Lost lasts))) before_it sound (subst (λ x. GoesBy (length fs) x n1 n2) none by)
               (one ∙ (λ i. has_passing v.turn.lived.life && length (sym now i) == length (was i))))
 
       -- as the serving has it
