@@ -22,6 +22,7 @@ pub mod Noted
 pub mod Numbered
 pub mod Overs
 pub mod PacketLives
+pub mod PacketTurns
 pub mod Plans
 pub mod Recalling
 pub mod Replays

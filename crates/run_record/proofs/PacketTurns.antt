@@ -1,0 +1,85 @@
+-- A PACKET IN HAND OF A SLAVE, by its life before a frame: what came into hand, and which fragment was taken up.
+use Rattle.std.proofs.Common.{◌≡◌, ℕ, Bool, true, false, Option, Some, None, List, [], ◌∷◌, refl, sym, ap, ◌∙◌, subst}
+use Rattle.std.specs.Prelude.{◌&&◌, not, option_map}
+use Rattle.master_node.specs.Backtold.{has_packet}
+use Rattle.master_node.specs.Begins.{is_other}
+use Rattle.master_node.specs.of_life_frames.of_exchange_model.Areas.{Areas}
+use Rattle.master_node.specs.of_life_frames.of_exchange_model.Exchange.{Speech}
+use Rattle.master_node.specs.of_life_frames.of_exchange_model.Rows.{Row, begun, row_told}
+use Rattle.master_node.specs.of_life_model.Lives.{Life, Stand, granted, life_next}
+use Rattle.master_node.specs.of_life_runs.Spans.{is_open}
+use Rattle.master_node.specs.of_life_runs.of_link_mails.Body.{Body}
+use Rattle.master_node.specs.of_master_duty.Reply.{Reply}
+use Rattle.master_node.specs.of_master_hand.Spoken.{Asked, acknowledged, hand_speech, is_followed, is_passed}
+use Rattle.master_node.specs.of_segment_model.Ends.{Passing}
+use Rattle.master_node.specs.of_segment_model.Seats.{Side, next_mail, side_holds, side_next}
+use Rattle.master_node.specs.of_task_model.Accounts.{Duty, Pick, is_free, mails_begin}
+use Rattle.master_node.proofs.Frees.{none_next}
+use Rattle.master_node.proofs.Newest.{Newest}
+use Rattle.master_node.proofs.PacketRows.{held_open, packet_begins}
+use Rattle.run_record.specs.Written.{has_fragments}
+
+-- in the epoch of a slave that is open
+abbrev pub unwritten_in : Speech Body Asked Reply → Side Body Asked Reply → Bool
+unwritten_in x d = has_packet d.now && not (is_free x d d.now)
+
+module _ (areas : Areas) where
+  abbrev y : Speech Body Asked Reply
+  y = hand_speech areas
+
+  -- a fragment is taken up, or none is: the packet is in hand as it was
+  taken_up : (d : Side Body Asked Reply) (now : Option (Row Body Asked Reply)) (hold : Bool) (ms : List Body) → d.now ≡ now → ms ≡ next_mail y now d.halves.out.holding hold → unwritten_in y (side_holds d ms) ≡ unwritten_in y d
+  taken_up d now hold [] e m = refl
+  taken_up d None hold (b ∷ ms) e m =
+      (λ i. has_packet (option_map (λ r. row_told b r) (e i)) && not (is_free y (side_holds d (b ∷ ms)) (option_map (λ r. row_told b r) (e i)))) ∙ sym (λ i. has_packet (e i) && not (is_free y d (e i)))
+  taken_up d (Some r) hold (b ∷ ms) e m =
+      (λ i. has_packet (option_map (λ r. row_told b r) (e i)) && not (is_free y f (option_map (λ r. row_told b r) (e i)))) ∙ by (is_other r.service) refl ∙ sym (λ i. has_packet (e i) && not (is_free y d (e i)))
+    where
+      f : Side Body Asked Reply
+      f = side_holds d (b ∷ ms)
+
+      before : (z : Bool) → is_free y d (Some r) ≡ z → is_free y d (Some r) ≡ false
+      before false g = g
+      before true g = absurd (let none : b ∷ ms ≡ [] = m ∙ none_next y d (Some r) d.halves.out.holding hold g in cc)
+
+      by : (z : Bool) → is_other r.service ≡ z → (not (is_other r.service) && not (is_free y f (Some (row_told b r)))) ≡ (not (is_other r.service) && not (is_free y d (Some r)))
+      by true o = ap (λ (z : Bool). not z && not (is_free y f (Some (row_told b r)))) o ∙ sym (ap (λ (z : Bool). not z && not (is_free y d (Some r))) o)
+      by false o = ap (λ (z : Bool). not (is_other r.service) && not z) (held_open areas f (row_told b r) o refl ∙ sym (before (is_free y d (Some r)) refl))
+
+  -- nothing is to come into hand
+  abbrev wish : Bool → Pick Asked
+  wish hold = record { begin = None; hold = hold }
+
+  -- WHERE NOTHING CAME INTO HAND it is in hand as it was
+  pub none_comes : (made : ℕ) (l : Life Body Asked Reply) (stand : Stand) (hold : Bool) → has_fragments y (life_next y acknowledged is_followed is_passed made l stand (wish hold)) ≡ has_fragments y l
+  none_comes made l (Stand.Opens o) hold = refl
+  none_comes made l Stand.Gone hold = refl
+  none_comes made l Stand.Open hold = ap (λ (z : Bool). is_open l.stand && z) (by l.era.passing l.era.account.hand)
+    where
+      by : (p : Option Passing) (h : Option Duty) → unwritten_in y (side_next y made l.era.side (record { begin = mails_begin h (granted p (wish hold)).begin; hold = (granted p (wish hold)).hold })) ≡ unwritten_in y l.era.side
+      by None None = taken_up l.era.side l.era.side.now hold _ refl refl
+      by None (Some duty) = taken_up l.era.side l.era.side.now hold _ refl refl
+      by (Some p) None = taken_up l.era.side l.era.side.now hold _ refl refl
+      by (Some p) (Some duty) = taken_up l.era.side l.era.side.now hold _ refl refl
+
+  -- A PACKET THAT CAME INTO HAND is
+  pub packet_comes : (q : Asked) (made : ℕ) (k : Side Body Asked Reply) → is_other q ≡ false → Newest y made q k → unwritten_in y k ≡ true
+  packet_comes q made k o n = (λ i. has_packet k.now && not (packet_begins areas q made k o n i)) ∙ and_true (has_packet k.now) ∙ subst (λ (z : Side Body Asked Reply). has_packet z.now ≡ true) (sym n.is) (go (next_mail y n.side.now n.side.halves.out.holding n.hold))
+    where
+      and_true : (b : Bool) → (b && true) ≡ b
+      and_true true = refl
+      and_true false = refl
+
+      go : (ms : List Body) → has_packet (side_holds n.side ms).now ≡ true
+      go [] = ap has_packet n.now ∙ ap not o
+      go (m ∷ ms) = ap (λ z. has_packet (option_map (λ r. row_told m r) z)) n.now ∙ ap not o
+
+  -- and another service by mails that did is none
+  pub other_comes : (q : Asked) (made : ℕ) (k : Side Body Asked Reply) → is_other q ≡ true → Newest y made q k → unwritten_in y k ≡ false
+  other_comes q made k o n = subst (λ (z : Side Body Asked Reply). unwritten_in y z ≡ false) (sym n.is) (go (next_mail y n.side.now n.side.halves.out.holding n.hold))
+    where
+      go : (ms : List Body) → unwritten_in y (side_holds n.side ms) ≡ false
+      go [] = (λ i. has_packet (n.now i) && not (is_free y n.side (n.now i))) ∙ ap (λ (z : Bool). not z && not (is_free y n.side (Some (begun q made)))) o
+      go (m ∷ ms) =
+          (λ i. has_packet (option_map (λ r. row_told m r) (n.now i)) && not (is_free y (side_holds n.side (m ∷ ms)) (option_map (λ r. row_told m r) (n.now i))))
+          ∙ ap (λ (z : Bool). not z && not (is_free y (side_holds n.side (m ∷ ms)) (Some (row_told m (begun q made))))) o
