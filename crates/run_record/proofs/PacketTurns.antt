@@ -1,6 +1,6 @@
 -- A PACKET IN HAND OF A SLAVE, by its life before a frame: what came into hand, and which fragment was taken up.
 use Rattle.std.proofs.Common.{◌≡◌, ℕ, Bool, true, false, Option, Some, None, List, [], ◌∷◌, refl, sym, ap, ◌∙◌, subst}
-use Rattle.std.specs.Prelude.{◌&&◌, not, option_map}
+use Rattle.std.specs.Prelude.{◌&&◌, if◌then◌else◌, not, option_map}
 use Rattle.master_node.specs.Backtold.{has_packet}
 use Rattle.master_node.specs.Begins.{is_other}
 use Rattle.master_node.specs.of_life_frames.of_exchange_model.Areas.{Areas}
@@ -10,12 +10,13 @@ use Rattle.master_node.specs.of_life_model.Lives.{Life, Stand, granted, life_nex
 use Rattle.master_node.specs.of_life_runs.Spans.{is_open}
 use Rattle.master_node.specs.of_life_runs.of_link_mails.Body.{Body}
 use Rattle.master_node.specs.of_master_duty.Reply.{Reply}
+use Rattle.master_node.specs.of_master_duty.of_state_exchange.Stated.{Service}
 use Rattle.master_node.specs.of_master_hand.Spoken.{Asked, acknowledged, hand_speech, is_followed, is_passed}
 use Rattle.master_node.specs.of_segment_model.Ends.{Passing}
 use Rattle.master_node.specs.of_segment_model.Seats.{Side, next_mail, side_holds, side_next}
-use Rattle.master_node.specs.of_task_model.Accounts.{Duty, Pick, is_free, mails_begin}
+use Rattle.master_node.specs.of_task_model.Accounts.{Account, Duty, Pick, account_begins, account_next, is_acknowledged, is_free, mails_begin, starts, state_begins}
 use Rattle.master_node.proofs.Frees.{none_next}
-use Rattle.master_node.proofs.Newest.{Newest}
+use Rattle.master_node.proofs.Newest.{Newest, no_more}
 use Rattle.master_node.proofs.PacketRows.{held_open, packet_begins}
 use Rattle.run_record.specs.Written.{has_fragments}
 
@@ -83,3 +84,47 @@ module _ (areas : Areas) where
       go (m ∷ ms) =
           (λ i. has_packet (option_map (λ r. row_told m r) (n.now i)) && not (is_free y (side_holds n.side (m ∷ ms)) (option_map (λ r. row_told m r) (n.now i))))
           ∙ ap (λ (z : Bool). not z && not (is_free y (side_holds n.side (m ∷ ms)) (Some (row_told m (begun q made))))) o
+
+  -- WHERE A SERVICE CAME INTO HAND the newest one by mails was over
+  module _ (made : ℕ) (l : Life Body Asked Reply) (pick : Pick Asked) (s : Service Asked) (begins : pick.begin ≡ Some s) where
+    abbrev a : Account Asked Reply
+    a = l.era.account
+
+    abbrev over : Bool
+    over = is_free y l.era.side l.era.side.now
+
+    begun_mails : (q : Asked) (valid free : Bool) → (if valid && free then record a { started = starts a (Service.Mails q) made } else a).started ≡ starts a (Service.Mails q) made → free ≡ true
+    begun_mails q true true e = refl
+    begun_mails q true false e = absurd (no_more a.started _ e)
+    begun_mails q false free e = absurd (no_more a.started _ e)
+
+    begun_state : (target : ℕ) (free shown : Bool) → (if free && shown then state_begins a target made else a).started ≡ starts a (Service.State target) made → free ≡ true
+    begun_state target true shown e = refl
+    begun_state target false shown e = absurd (no_more a.started _ e)
+
+    begun_over : (t : Service Asked) → (account_begins y acknowledged made l.era.side a None (Some t)).started ≡ starts a t made → over ≡ true
+    begun_over (Service.Mails q) e = begun_mails q (y.valid q) over e
+    begun_over (Service.State target) e = begun_state target over (is_acknowledged acknowledged l.era.side l.era.side.now) e
+
+    was_open : (account_next y acknowledged made l.era.side a (granted l.era.passing pick)).started ≡ starts a s made → over ≡ true
+    was_open e = by l.era.passing a.hand refl refl
+      where
+        by : (p : Option Passing) (h : Option Duty) → l.era.passing ≡ p → a.hand ≡ h → over ≡ true
+        by None None p h = begun_over s (sym (λ i. (account_begins y acknowledged made l.era.side a None (begins i)).started) ∙ sym (λ i. (account_begins y acknowledged made l.era.side a (h i) (granted (p i) pick).begin).started) ∙ e)
+        by None (Some duty) p h =
+            absurd (no_more a.started _ (sym (λ i. (account_begins y acknowledged made l.era.side a (Some duty) (begins i)).started) ∙ sym (λ i. (account_begins y acknowledged made l.era.side a (h i) (granted (p i) pick).begin).started) ∙ e))
+        by (Some q) h p k = absurd (no_more a.started _ (sym (λ i. (account_begins y acknowledged made l.era.side a a.hand (granted (p i) pick).begin).started) ∙ e))
+
+    pub was_over : (stand : Stand) → (life_next y acknowledged is_followed is_passed made l stand pick).era.account.started ≡ starts a s made → over ≡ true
+    was_over (Stand.Opens o) e = absurd (no_more a.started _ e)
+    was_over Stand.Gone e = absurd (no_more a.started _ e)
+    was_over Stand.Open e = was_open e
+
+  -- so none was in hand
+  pub over_none : (l : Life Body Asked Reply) → is_free y l.era.side l.era.side.now ≡ true → has_fragments y l ≡ false
+  over_none l f = (λ i. is_open l.stand && (has_packet l.era.side.now && not (f i))) ∙ by (is_open l.stand) (has_packet l.era.side.now)
+    where
+      by : (b c : Bool) → (b && (c && false)) ≡ false
+      by true true = refl
+      by true false = refl
+      by false c = refl
