@@ -35,6 +35,7 @@ pub mod ServedPlaced
 pub mod ServedRecalls
 pub mod ServedReports
 pub mod ServedTold
+pub mod ServedWritten
 pub mod Servings
 pub mod Steps
 pub mod SwitchFirst

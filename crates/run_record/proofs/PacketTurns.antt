@@ -128,3 +128,19 @@ module _ (areas : Areas) where
       by true true = refl
       by true false = refl
       by false c = refl
+
+  -- a change of state leaves the mails as they were
+  pub state_comes : (made : ℕ) (l : Life Body Asked Reply) (stand : Stand) (target : ℕ) (hold : Bool) →
+      has_fragments y (life_next y acknowledged is_followed is_passed made l stand (record { begin = Some (Service.State target); hold = hold })) ≡ has_fragments y l
+  state_comes made l (Stand.Opens o) target hold = refl
+  state_comes made l Stand.Gone target hold = refl
+  state_comes made l Stand.Open target hold = ap (λ (z : Bool). is_open l.stand && z) (by l.era.passing l.era.account.hand)
+    where
+      change : Pick Asked
+      change = record { begin = Some (Service.State target); hold = hold }
+
+      by : (p : Option Passing) (h : Option Duty) → unwritten_in y (side_next y made l.era.side (record { begin = mails_begin h (granted p change).begin; hold = (granted p change).hold })) ≡ unwritten_in y l.era.side
+      by None None = taken_up l.era.side l.era.side.now hold _ refl refl
+      by None (Some duty) = taken_up l.era.side l.era.side.now hold _ refl refl
+      by (Some p) None = taken_up l.era.side l.era.side.now hold _ refl refl
+      by (Some p) (Some duty) = taken_up l.era.side l.era.side.now hold _ refl refl

@@ -1,0 +1,102 @@
+-- WHETHER A PACKET IS IN HAND of a slave of a serving before a frame, by what came into hand.
+use Rattle.std.proofs.Common.{◌≡◌, ℕ, Bool, true, false, Option, Some, None, List, [], ◌∷◌, refl, sym, ap, ◌∙◌, subst}
+use Rattle.std.specs.Prelude.{◌&&◌}
+use Rattle.datagrams.specs.Datagram as Raw
+use Rattle.master_node.specs.Begins.{is_other}
+use Rattle.master_node.specs.of_frame_view.View.{Lens}
+use Rattle.master_node.specs.of_life_frames.of_exchange_model.Areas.{Areas}
+use Rattle.master_node.specs.of_life_frames.of_exchange_model.Exchange.{Speech}
+use Rattle.master_node.specs.of_life_model.Lives.{Life, Spot, Stand, life_next}
+use Rattle.master_node.specs.of_life_runs.Led.{Took, speech_at}
+use Rattle.master_node.specs.of_life_runs.Spans.{is_open}
+use Rattle.master_node.specs.of_life_runs.of_link_mails.Body.{Body}
+use Rattle.master_node.specs.of_master_duty.Reply.{Reply}
+use Rattle.master_node.specs.of_master_duty.of_state_exchange.Stated.{Service}
+use Rattle.master_node.specs.of_master_hand.of_eoe_model.Client as EoeClient
+use Rattle.master_node.specs.of_master_hand.Spoken.{Asked, acknowledged, drive, file, is_followed, is_passed, net, passed, sdo}
+use Rattle.master_node.specs.of_task_model.Accounts.{Pick, starts}
+use Rattle.master_node.proofs.Counts.{next_stand}
+use Rattle.master_node.proofs.Newest.{Newest, newest}
+use Rattle.packets_heard.specs.Numbers.{each_with}
+use Rattle.packets_heard.specs.Over.{packet_begun, packet_of}
+use Rattle.run_notes.specs.Packets.{numbered_from}
+use Rattle.run_record.proofs.MailNotes.{Comes}
+use Rattle.run_record.proofs.PacketTurns.{none_comes, other_comes, over_none, packet_comes, state_comes, unwritten_in, was_over}
+use Rattle.run_record.specs.Written.{has_fragments, has_unwritten, packet_open}
+use Rattle.served_places.proofs.Next.{next_open}
+use Rattle.served_runs.specs.Served.{IsServedTurn, Serves, ServedTurn}
+
+-- the rows of what came into hand, where that is a packet
+abbrev pub rows_came : ℕ → ℕ → Option (Service Asked) → List (ℕ × ℕ)
+rows_came number made b = numbered_from number (each_with made (packet_begun b))
+
+packet_one : (q : Asked) → is_other q ≡ false → packet_open (Some (Service.Mails q)) ≡ None ∷ []
+packet_one (net (EoeClient.packet octets frame)) e = refl
+packet_one _ e = absurd (let bad : true ≡ false = e in cc)
+
+packet_some : (number made : ℕ) (q : Asked) → is_other q ≡ false → rows_came number made (Some (Service.Mails q)) ≡ [] → ⊥
+packet_some number made (net (EoeClient.packet octets frame)) e f = absurd (cc)
+packet_some number made _ e f = absurd (let bad : true ≡ false = e in cc)
+
+packet_none : (q : Asked) → is_other q ≡ true → packet_of q ≡ []
+packet_none (net (EoeClient.packet octets frame)) e = absurd (let bad : false ≡ true = e in cc)
+packet_none (net (EoeClient.set_ip block)) e = refl
+packet_none (net EoeClient.get_ip) e = refl
+packet_none (sdo q) e = refl
+packet_none (file q) e = refl
+packet_none (drive q) e = refl
+packet_none (passed m) e = refl
+
+module _ (lens : ℕ → Lens) (made : ℕ) (ds : List Raw.Datagram) (w : Serves) (v : ServedTurn) (t : IsServedTurn lens made ds w v) where
+  abbrev before : Life Body Asked Reply
+  before = w.lead.lived.life
+
+  abbrev areas : Areas
+  areas = record { out = (lens w.lead.lived.spot.station).out; back = (lens w.lead.lived.spot.station).back }
+
+  abbrev x : Speech Body Asked Reply
+  x = speech_at lens w.lead.lived.spot
+
+  abbrev pick : Option (Service Asked) → Pick Asked
+  pick b = record { begin = b; hold = t.next.pick.hold }
+
+  life_is : (b : Option (Service Asked)) → v.turn.begun ≡ b → v.turn.lived.life ≡ life_next x acknowledged is_followed is_passed made before before.stand (pick b)
+  life_is b e = t.next.life ∙ (λ i. life_next x acknowledged is_followed is_passed made before before.stand (record { begin = (t.begun ∙ e) i; hold = t.next.pick.hold }))
+
+  started : (s : Service Asked) → v.turn.begun ≡ Some s → v.turn.lived.life.era.account.started ≡ starts before.era.account s made
+  started s e = subst (λ b. Took made before.era.account v.turn.lived.life.era.account b) e t.took
+
+  was_none : (s : Service Asked) → v.turn.begun ≡ Some s → has_fragments x before ≡ false
+  was_none s e = over_none areas before (was_over areas made before (pick (Some s)) s refl before.stand (ap (λ (l : Life Body Asked Reply). l.era.account.started) (sym (life_is (Some s) e)) ∙ started s e))
+
+  -- as the turn has its speech
+  as_turned : has_unwritten lens v.turn.lived ≡ has_fragments x v.turn.lived.life
+  as_turned = ap (λ (z : Spot). has_fragments (speech_at lens z) v.turn.lived.life) t.next.spot
+
+  stands : (s : Service Asked) → v.turn.begun ≡ Some s → v.turn.lived.life.stand ≡ Stand.Open
+  stands s e = ap (λ (l : Life Body Asked Reply). l.stand) t.next.life ∙ next_stand x acknowledged is_followed is_passed made before t.next.pick before.stand ∙ next_open lens made ds w v t s e
+
+  newest_is : (q : Asked) → v.turn.begun ≡ Some (Service.Mails q) → Newest x made q v.turn.lived.life.era.side
+  newest_is q e = newest x q made acknowledged is_followed is_passed before v.turn.lived.life before.stand (pick (Some (Service.Mails q))) refl (life_is (Some (Service.Mails q)) e) (started (Service.Mails q) e)
+
+  mails_is : (q : Asked) → v.turn.begun ≡ Some (Service.Mails q) → (b : Bool) → unwritten_in x v.turn.lived.life.era.side ≡ b → has_unwritten lens v.turn.lived ≡ b
+  mails_is q e b u = as_turned ∙ (λ i. is_open (stands (Service.Mails q) e i) && u i)
+
+  -- WHAT CAME INTO HAND, and whether a packet is then
+  pub packet_turn : (number : ℕ) → Comes v.turn.begun (rows_came number made v.turn.begun) (packet_open v.turn.begun) (has_unwritten lens w.lead.lived) (has_unwritten lens v.turn.lived)
+  packet_turn number = by v.turn.begun refl
+    where
+      by : (b : Option (Service Asked)) → v.turn.begun ≡ b → Comes v.turn.begun (rows_came number made v.turn.begun) (packet_open v.turn.begun) (has_unwritten lens w.lead.lived) (has_unwritten lens v.turn.lived)
+      by None e = Comes.nothing e (ap (λ z. rows_came number made z) e) (as_turned ∙ ap (λ (l : Life Body Asked Reply). has_fragments x l) (life_is None e) ∙ none_comes areas made before before.stand t.next.pick.hold)
+      by (Some (Service.State target)) e =
+          Comes.other (ap (λ z. rows_came number made z) e) (was_none (Service.State target) e)
+          (as_turned ∙ ap (λ (l : Life Body Asked Reply). has_fragments x l) (life_is (Some (Service.State target)) e) ∙ state_comes areas made before before.stand target t.next.pick.hold ∙ was_none (Service.State target) e)
+      by (Some (Service.Mails q)) e = go (is_other q) refl
+        where
+          go : (z : Bool) → is_other q ≡ z → Comes v.turn.begun (rows_came number made v.turn.begun) (packet_open v.turn.begun) (has_unwritten lens w.lead.lived) (has_unwritten lens v.turn.lived)
+          go true o =
+              Comes.other (ap (λ z. rows_came number made z) e ∙ ap (λ z. numbered_from number (each_with made z)) (packet_none q o)) (was_none (Service.Mails q) e)
+              (mails_is q e false (other_comes areas q made v.turn.lived.life.era.side o (newest_is q e)))
+          go false o =
+              Comes.one (ap (λ z. packet_open z) e ∙ packet_one q o) (λ none. packet_some number made q o (sym (ap (λ z. rows_came number made z) e) ∙ none)) (was_none (Service.Mails q) e)
+              (mails_is q e true (packet_comes areas q made v.turn.lived.life.era.side o (newest_is q e)))
