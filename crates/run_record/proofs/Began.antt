@@ -179,7 +179,7 @@ counted_frames frame n (Some (Service.Mails (net EoeClient.get_ip))) l = omega a
 counted_frames frame n (Some (Service.Mails (net (EoeClient.packet octets i)))) l = mod-eq_of_lt l
 counted_frames frame n (Some (Service.Mails (passed m))) l = omega arith
 
-numbered_append : (n : ℕ) (fs gs : List ℕ) → numbered_from n (fs ++ gs) ≡ numbered_from n fs ++ numbered_from (n + length fs) gs
+pub numbered_append : (n : ℕ) (fs gs : List ℕ) → numbered_from n (fs ++ gs) ≡ numbered_from n fs ++ numbered_from (n + length fs) gs
 numbered_append n [] gs = ap (λ k. numbered_from k gs) (let e : n ≡ n + 0 = omega arith in e)
 numbered_append n (f ∷ fs) gs = ap (λ z. (n, f) ∷ z) (numbered_append (suc n) fs gs ∙ ap (λ k. numbered_from (suc n) fs ++ numbered_from k gs) (let e : suc n + length fs ≡ n + suc (length fs) = omega arith in e))
 

@@ -149,7 +149,7 @@ module _ {G : Ghosts InHand} (lens : ℕ → Lens) (recover made : ℕ) (octets 
   under_at (u ∷ vs) (p ∷ ps) (s ∷ ss) h zero v e = record { post = p; stop = s; there = refl; under = subst (λ (z : ServedTurn). IsServedUnder lens recover octets made z p s) (let same : u ≡ v = cc in same) h.0 }
   under_at (u ∷ vs) (p ∷ ps) (s ∷ ss) h (suc k) v e = let r = under_at vs ps ss h.1 k v e in record { post = r.post; stop = r.stop; there = r.there; under = r.under }
 
-cancel : {X : Type 0} (xs ys zs : List X) → xs ++ ys ≡ xs ++ zs → ys ≡ zs
+pub cancel : {X : Type 0} (xs ys zs : List X) → xs ++ ys ≡ xs ++ zs → ys ≡ zs
 cancel [] ys zs e = e
 cancel (x ∷ xs) ys zs e = cancel xs ys zs (let rest : xs ++ ys ≡ xs ++ zs = cc in rest)
 
@@ -168,7 +168,7 @@ number_more (Script number) ns ms = refl
 number_more (Forward number) ns ms = refl
 number_more (Gateway number) ns ms = refl
 
-numbers_append : (bs cs : List Begun) → numbers_in (bs ++ cs) ≡ numbers_in bs ++ numbers_in cs
+pub numbers_append : (bs cs : List Begun) → numbers_in (bs ++ cs) ≡ numbers_in bs ++ numbers_in cs
 numbers_append [] cs = refl
 numbers_append (b ∷ bs) cs = ap (with_number b.origin) (numbers_append bs cs) ∙ number_more b.origin (numbers_in bs) (numbers_in cs)
 
@@ -176,7 +176,7 @@ numbers_append (b ∷ bs) cs = ap (with_number b.origin) (numbers_append bs cs) 
 abbrev IsBare : Option (Service Asked) → Type 0
 IsBare b = mail_over b ≡ [] → b ≡ None
 
-never_none : {P : Type 0} (s : Service Asked) → Some s ≡ None → P
+pub never_none : {P : Type 0} (s : Service Asked) → Some s ≡ None → P
 never_none s e = absurd (cc)
 
 no_packet : (frame : ℕ) (b : Option (Service Asked)) → IsBare b → each_with frame (packet_begun b) ≡ []

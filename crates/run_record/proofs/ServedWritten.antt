@@ -1,30 +1,43 @@
 -- WHETHER A PACKET IS IN HAND of a slave of a serving before a frame, by what came into hand.
-use Rattle.std.proofs.Common.{◌≡◌, ℕ, Bool, true, false, Option, Some, None, List, [], ◌∷◌, refl, sym, ap, ◌∙◌, subst}
-use Rattle.std.specs.Prelude.{◌&&◌}
+use Rattle.std.proofs.Common.{◌≡◌, ◌+◌, ℕ, suc, Bool, true, false, Option, Some, None, List, [], ◌∷◌, ◌++◌, length, map, refl, sym, ap, ◌∙◌, subst, append-nil, arith}
+use Rattle.std.specs.Prelude.{◌&&◌, if◌then◌else◌, nat_lt}
 use Rattle.datagrams.specs.Datagram as Raw
 use Rattle.master_node.specs.Begins.{is_other}
 use Rattle.master_node.specs.of_frame_view.View.{Lens}
 use Rattle.master_node.specs.of_life_frames.of_exchange_model.Areas.{Areas}
 use Rattle.master_node.specs.of_life_frames.of_exchange_model.Exchange.{Speech}
 use Rattle.master_node.specs.of_life_model.Lives.{Life, Spot, Stand, life_next}
-use Rattle.master_node.specs.of_life_runs.Led.{Took, speech_at}
+use Rattle.master_node.specs.of_life_runs.Led.{Comes as OwnComes, Took, speech_at}
 use Rattle.master_node.specs.of_life_runs.Spans.{is_open}
 use Rattle.master_node.specs.of_life_runs.of_link_mails.Body.{Body}
+use Rattle.master_node.specs.of_life_runs.of_segment_plan.declared.service.Service as Plan
 use Rattle.master_node.specs.of_master_duty.Reply.{Reply}
 use Rattle.master_node.specs.of_master_duty.of_state_exchange.Stated.{Service}
 use Rattle.master_node.specs.of_master_hand.of_eoe_model.Client as EoeClient
 use Rattle.master_node.specs.of_master_hand.Spoken.{Asked, acknowledged, drive, file, is_followed, is_passed, net, passed, sdo}
+use Rattle.master_node.specs.of_master_hand.Talk.{asked_of}
 use Rattle.master_node.specs.of_task_model.Accounts.{Pick, starts}
 use Rattle.master_node.proofs.Counts.{next_stand}
 use Rattle.master_node.proofs.Newest.{Newest, newest}
 use Rattle.packets_heard.specs.Numbers.{each_with}
 use Rattle.packets_heard.specs.Over.{packet_begun, packet_of}
-use Rattle.run_notes.specs.Packets.{numbered_from}
-use Rattle.run_record.proofs.MailNotes.{Comes}
+use Rattle.run_book.specs.declared.book.Answer.TheVariants.{InDoubt}
+use Rattle.run_notes.specs.Handed.{Doubts, IsNotedWhere, is_packet, over_answer}
+use Rattle.run_notes.specs.Packets.{mail_row, numbered_from, packet_row, rows_with}
+use Rattle.run_notes.specs.Reports.{Reports}
+use Rattle.run_notes.specs.Unsent.{first_numbers, numbers_in}
+use Rattle.run_notes.specs.declared.notes.Notes.{Notes}
+use Rattle.run_notes.proofs.Packets.{with_append}
+use Rattle.run_record.proofs.Began.{numbered_append}
+use Rattle.run_record.proofs.MailNotes.{Comes, packets_kind, turn_handed}
 use Rattle.run_record.proofs.PacketTurns.{none_comes, other_comes, over_none, packet_comes, state_comes, unwritten_in, was_over}
+use Rattle.run_record.proofs.ServedHanded.{cancel, never_none, numbers_append}
+use Rattle.run_record.specs.Mails.{mail_begun}
 use Rattle.run_record.specs.Written.{has_fragments, has_unwritten, packet_open}
 use Rattle.served_places.proofs.Next.{next_open}
-use Rattle.served_runs.specs.Served.{IsServedTurn, Serves, ServedTurn}
+use Rattle.script_runs.specs.Answers.{turned}
+use Rattle.served_runs.specs.Served.{IsServedTurn, Keyed, ServedComes, Serves, ServedTurn}
+use Rattle.served_runs.specs.Told.{Passed}
 
 -- the rows of what came into hand, where that is a packet
 abbrev pub rows_came : ℕ → ℕ → Option (Service Asked) → List (ℕ × ℕ)
@@ -100,3 +113,74 @@ module _ (lens : ℕ → Lens) (made : ℕ) (ds : List Raw.Datagram) (w : Serves
           go false o =
               Comes.one (ap (λ z. packet_open z) e ∙ packet_one q o) (λ none. packet_some number made q o (sym (ap (λ z. rows_came number made z) e) ∙ none)) (was_none (Service.Mails q) e)
               (mails_is q e true (packet_comes areas q made v.turn.lived.life.era.side o (newest_is q e)))
+
+-- no service of a script is a packet
+abbrev other_in : Option Asked → Bool
+other_in None = true
+other_in (Some q) = is_other q
+
+other_set : (b : Bool) (block : List ℕ) → other_in (if b then None else Some (net (EoeClient.set_ip block))) ≡ true
+other_set true block = refl
+other_set false block = refl
+
+script_other : (room : ℕ) (s : Plan.Service) → other_in (asked_of room s) ≡ true
+script_other room (Plan.Service.Sdo service) = refl
+script_other room (Plan.Service.ReadFile name pass) = refl
+script_other room (Plan.Service.WriteFile name pass bytes) = refl
+script_other room (Plan.Service.ReadIdn number idn elements) = refl
+script_other room (Plan.Service.WriteIdn number idn elements bytes) = refl
+script_other room (Plan.Service.SetIp block) = other_set (nat_lt room (length block + 10)) block
+script_other room Plan.Service.GetIp = refl
+script_other room (Plan.Service.State target) = refl
+script_other room (Plan.Service.Forward packet) = refl
+
+-- nothing came into hand but a packet
+abbrev IsForward : Option (Service Asked) → Type 0
+IsForward b = packet_open b ≡ [] → b ≡ None
+
+open_none : (q : Asked) → is_other q ≡ true → packet_open (Some (Service.Mails q)) ≡ []
+open_none q o = ap (λ ps. map (λ p. None) ps) (packet_none q o)
+
+same_number : (room : ℕ) (script : List Plan.Service) (waits : List Keyed) (hand : Option Passed) (n : ℕ) (b : Option (Service Asked)) (m : ℕ) (rest : List Keyed) (now : Option Passed) → ServedComes room script waits hand n b m rest now → IsForward b → m ≡ n
+same_number room script waits hand n _ _ _ _ ServedComes.none h = refl
+same_number room script waits hand n _ _ _ _ (ServedComes.mail k rest e) h = refl
+same_number room script waits hand n _ _ _ _ (ServedComes.own s m c) h = own s m c h
+  where
+    own : (s : Service Asked) (m : ℕ) → OwnComes room script n (Some s) m → IsForward (Some s) → m ≡ n
+    own _ _ (OwnComes.mails s q at asked) h = never_none (Service.Mails q) (h (open_none q (sym (ap other_in asked) ∙ script_other room s)))
+    own _ _ (OwnComes.state target at) h = never_none (Service.State _) (h refl)
+    own _ _ (OwnComes.packet octets frame) h = refl
+
+-- and no mail that is passed on
+no_mail : (number made : ℕ) (b : Option (Service Asked)) → IsForward b → mail_begun number made b ≡ []
+no_mail number made None h = refl
+no_mail number made (Some (Service.State target)) h = never_none (Service.State target) (h refl)
+no_mail number made (Some (Service.Mails (sdo q))) h = refl
+no_mail number made (Some (Service.Mails (file q))) h = refl
+no_mail number made (Some (Service.Mails (drive q))) h = refl
+no_mail number made (Some (Service.Mails (net q))) h = refl
+no_mail number made (Some (Service.Mails (passed m))) h = never_none (Service.Mails (passed m)) (h refl)
+
+-- none of them has an answer yet
+open_doubts : {X : Type 0} (number made : ℕ) (ps : List X) → map {A = ℕ × ℕ} (λ r. InDoubt) (numbered_from number (each_with made ps)) ≡ map over_answer (map (λ p. None) ps)
+open_doubts number made [] = refl
+open_doubts number made (p ∷ ps) = ap (λ z. InDoubt ∷ z) (open_doubts (suc number) made ps)
+
+module _ (lens : ℕ → Lens) (made : ℕ) (ds : List Raw.Datagram) (w : Serves) (v : ServedTurn) (t : IsServedTurn lens made ds w v) where
+  -- ITS ROW IS NOTED, with no answer yet
+  pub turn_written : (n n' : Notes) (overs : List (Option ℕ)) (mails : List (ℕ × ℕ)) (frames : List ℕ) (number : ℕ) → Doubts n n' → Reports w.lead n → Reports (turned v.turn) n' → IsNotedWhere is_packet overs (has_unwritten lens w.lead.lived) n →
+      rows_with mail_row n.begun ≡ mails → rows_with mail_row n'.begun ≡ mails ++ mail_begun number made v.turn.begun → rows_with packet_row n.begun ≡ numbered_from 0 frames → rows_with packet_row n'.begun ≡ numbered_from 0 (frames ++ each_with made (packet_begun v.turn.begun)) →
+      IsNotedWhere is_packet (overs ++ packet_open v.turn.begun) (has_unwritten lens v.turn.lived) n'
+  turn_written n n' overs mails frames number d r r' h m m' p p' =
+      turn_handed is_packet packet_row mail_row packets_kind n n' overs (has_unwritten lens w.lead.lived) (has_unwritten lens v.turn.lived) v.turn.begun (rows_came (length frames) made v.turn.begun) (packet_open v.turn.begun) d (record { aligned = r.aligned; last = r.last }) h
+      (record {
+        mails = cancel (numbered_from 0 frames) (rows_with packet_row d.more) (rows_came (length frames) made v.turn.begun)
+            (ap (λ z. z ++ rows_with packet_row d.more) (sym p) ∙ sym (ap (rows_with packet_row) d.begun ∙ with_append packet_row n.begun d.more) ∙ p' ∙ numbered_append 0 frames (each_with made (packet_begun v.turn.begun)) ∙ ap (λ z. numbered_from 0 frames ++ numbered_from z (each_with made (packet_begun v.turn.begun))) (let e : 0 + length frames ≡ length frames = omega arith in e));
+        answers = open_doubts (length frames) made (packet_begun v.turn.begun);
+        numbers = λ bare.
+            let counts : n'.scripted ≡ n.scripted = r'.told.many ∙ same_number (lens w.lead.lived.spot.station).out w.lead.script w.waits w.hand w.lead.number v.turn.begun v.turn.number v.waits v.hand t.comes bare ∙ sym r.told.many in
+            cancel (numbers_in n.begun) (numbers_in d.more) [] (sym (ap numbers_in d.begun ∙ numbers_append n.begun d.more) ∙ r'.rest.numbers ∙ ap first_numbers counts ∙ sym r.rest.numbers ∙ sym (append-nil (numbers_in n.begun)));
+        outside = λ bare.
+            cancel mails (rows_with mail_row d.more) [] (ap (λ z. z ++ rows_with mail_row d.more) (sym m) ∙ sym (ap (rows_with mail_row) d.begun ∙ with_append mail_row n.begun d.more) ∙ m' ∙ ap (λ z. mails ++ z) (no_mail number made v.turn.begun bare));
+      })
+      (packet_turn lens made ds w v t (length frames))
