@@ -1,10 +1,10 @@
 -- WHAT IS NOTED OF THE MAILS THAT ARE PASSED ON over a serving goes with the lives of its slaves: their answers, and whether one is in hand.
 use Rattle.std.proofs.Common.{◌≡◌, ◌==◌, ◌<◌, ◌≤◌, ◌+◌, ℕ, zero, suc, Bool, true, false, Option, Some, None, List, [], ◌∷◌, ◌++◌, length, length-append, map, refl, sym, ap, ◌∙◌, subst, append-nil, arith}
-use Rattle.std.specs.Prelude.{◌&&◌, is_some, nat_lt, nat_le, if◌then◌else◌, slice_get}
+use Rattle.std.specs.Prelude.{◌&&◌, is_some, nat_lt, nat_le, if◌then◌else◌, slice_get, not}
 use Rattle.std.proofs.lemmas.Bool.{eq-eqb, eqb-true, leb-true}
 use Rattle.datagrams.specs.Datagram as Raw
 use Rattle.datagrams.specs.Frame.{IsFrame, chained}
-use Rattle.master_node.specs.Backtold.{known_at, returned_at, returned_told}
+use Rattle.master_node.specs.Backtold.{has_packet, known_at, returned_at, returned_told}
 use Rattle.master_node.specs.Begins.{begun_of}
 use Rattle.master_node.specs.Eager.{recalls}
 use Rattle.master_node.specs.Events.{oldest_in}
@@ -42,6 +42,7 @@ use Rattle.master_node.specs.of_segment_model.Ends.{Passing}
 use Rattle.master_node.specs.of_segment_model.Record.{News}
 use Rattle.master_node.specs.of_segment_model.Returned.{Returns}
 use Rattle.master_node.specs.of_segment_model.Slaves.{Found}
+use Rattle.master_node.specs.of_task_model.Accounts.{is_free}
 use Rattle.master_node.proofs.Counts.{lost_gave, next_stand}
 use Rattle.master_node.proofs.Handeds.{comes_own, lost_on}
 use Rattle.packets_heard.specs.Numbers.{each_with}
@@ -59,11 +60,13 @@ use Rattle.run_notes.proofs.Handings.{kinds_append}
 use Rattle.run_notes.proofs.Packets.{with_append}
 use Rattle.run_record.specs.Forwarded.{PacketsNoted}
 use Rattle.run_record.specs.Mails.{has_passing, mail_begun, mail_over, overs_behind, passing_at, passing_before, served_mails, served_overs}
+use Rattle.run_record.specs.Written.{has_fragments}
 use Rattle.run_record.specs.Served.{ServeTo, events_behind}
 use Rattle.run_record.proofs.MailEvents.{in_kinds, losts_none, returned_off, told_here, told_none}
 use Rattle.run_record.proofs.MailLives.{Goes, back_goes, still_goes}
 use Rattle.run_record.proofs.MailNotes.{Comes, back_handed, begun_answers, lost_handed, mails_kind, turn_handed}
 use Rattle.run_record.proofs.Noted.{next_gives}
+use Rattle.run_record.proofs.PacketLives.{back_goes as packet_goes, lost_same}
 use Rattle.run_record.proofs.ServedGaves.{one_gives}
 use Rattle.script_runs.specs.Answers.{turned}
 use Rattle.segment_plan.specs.declared.plan.Scenario.{Scenario}
@@ -284,12 +287,14 @@ module _ {G : Ghosts InHand} (lens : ℕ → Lens) (recover retry : ℕ) (gives 
           left_out true f = absurd (let bad : true ≡ false = sym (carried (sym u.under ∙ f)) ∙ e in cc)
           left_out false f = f
 
-  pub lost_one : (after_it : ℕ) → has_passing (after (Fates.Lost after_it)) ≡ (has_passing before && length (after (Fates.Lost after_it)).gave == length before.gave)
-  lost_one after_it = go (gives && v.turn.share.under)
-    where
-      lost : Life Body Asked Reply
-      lost = life_lost (speech_at lens v.turn.lived.spot) acknowledged is_followed is_passed v.turn.lived.spot (news_lost v.turn.lived.spot.station v.kept (seen lens f.sent)) (seen lens f.sent) before before.stand
+  abbrev pub lost : Life Body Asked Reply
+  lost = life_lost (speech_at lens v.turn.lived.spot) acknowledged is_followed is_passed v.turn.lived.spot (news_lost v.turn.lived.spot.station v.kept (seen lens f.sent)) (seen lens f.sent) before before.stand
 
+  -- what is so of an open slave alone, and stays so by a lost frame, is so behind one just where the slave wasn't given up
+  pub lost_where : (test : Life Body Asked Reply → Bool) → ((l : Life Body Asked Reply) → is_open l.stand ≡ false → test l ≡ false) → test lost ≡ test before → (after_it : ℕ) →
+      test (after (Fates.Lost after_it)) ≡ (test before && length (after (Fates.Lost after_it)).gave == length before.gave)
+  lost_where test closed stays after_it = go (gives && v.turn.share.under)
+    where
       same : lost.gave ≡ before.gave
       same = lost_gave (speech_at lens v.turn.lived.spot) acknowledged is_followed is_passed recover v.turn.lived.spot before (news_lost v.turn.lived.spot.station v.kept (seen lens f.sent)) (seen lens f.sent) before.stand
 
@@ -304,11 +309,24 @@ module _ {G : Ghosts InHand} (lens : ℕ → Lens) (recover retry : ℕ) (gives 
           by true e = absurd (let q = eqb-true (length (lost.gave ++ made ∷ [])) (length before.gave) e in let l = length-append lost.gave (made ∷ []) in let k = ap length same in omega (arith, q, l, k))
           by false e = e
 
-      go : (b : Bool) → has_passing (given_where b recover v.turn.lived.spot made lost) ≡ (has_passing before && length (given_where b recover v.turn.lived.spot made lost).gave == length before.gave)
-      go true = ap (λ (z : Bool). z && is_some lost.era.passing) (shut (nat_lt (length lost.gave) recover)) ∙ sym (ap (λ (z : Bool). has_passing before && z) longer ∙ and_false (has_passing before))
-      go false =
-          let on = lost_on (speech_at lens v.turn.lived.spot) v.turn.lived.spot v.kept (seen lens f.sent) before before.stand in
-          (λ i. is_open (on.stand i) && on.passing i) ∙ sym (ap (λ (z : Bool). has_passing before && z) (eq-eqb (length lost.gave) (length before.gave) (ap length same)) ∙ and_true (has_passing before))
+      go : (b : Bool) → test (given_where b recover v.turn.lived.spot made lost) ≡ (test before && length (given_where b recover v.turn.lived.spot made lost).gave == length before.gave)
+      go true = closed (given_where true recover v.turn.lived.spot made lost) (shut (nat_lt (length lost.gave) recover)) ∙ sym (ap (λ (z : Bool). test before && z) longer ∙ and_false (test before))
+      go false = stays ∙ sym (ap (λ (z : Bool). test before && z) (eq-eqb (length lost.gave) (length before.gave) (ap length same)) ∙ and_true (test before))
+
+  pub lost_one : (after_it : ℕ) → has_passing (after (Fates.Lost after_it)) ≡ (has_passing before && length (after (Fates.Lost after_it)).gave == length before.gave)
+  lost_one after_it =
+      let on = lost_on (speech_at lens v.turn.lived.spot) v.turn.lived.spot v.kept (seen lens f.sent) before before.stand in
+      lost_where has_passing (λ l e. ap (λ (z : Bool). z && is_some l.era.passing) e) (λ i. is_open (on.stand i) && on.passing i) after_it
+
+  -- A PACKET, by a frame that came back and carried the slave, where its hand knows its mails behind it
+  pub written_back : (k : ℕ) → Goes (has_fragments (speech_at lens v.turn.lived.spot) before) (has_fragments (speech_at lens v.turn.lived.spot) (after Fates.Pass)) (kinds_in k (told k true))
+  written_back k = packet_goes areas made k v.turn.lived.spot ns (seen lens f.back) v.hand ms before came (knows s.side.hand.course) p.work u.served.inhand
+
+  -- and by a lost one
+  pub written_lost : (after_it : ℕ) → has_fragments (speech_at lens v.turn.lived.spot) (after (Fates.Lost after_it)) ≡ (has_fragments (speech_at lens v.turn.lived.spot) before && length (after (Fates.Lost after_it)).gave == length before.gave)
+  written_lost after_it =
+      lost_where (λ l. has_fragments (speech_at lens v.turn.lived.spot) l) (λ l e. ap (λ (z : Bool). z && (has_packet l.era.side.now && not (is_free (speech_at lens v.turn.lived.spot) l.era.side l.era.side.now))) e)
+      (lost_same areas v.turn.lived.spot (news_lost v.turn.lived.spot.station v.kept (seen lens f.sent)) (seen lens f.sent) before before.stand) after_it
 
 -- ---- OF ALL SLAVES
 
