@@ -15,6 +15,7 @@ use Rattle.master_node.specs.Listed.{listed}
 use Rattle.master_node.specs.Listing.{events_in, told_in}
 use Rattle.master_node.specs.Origins.{forwards_at}
 use Rattle.master_node.specs.Ports.{ports_behind, ports_of}
+use Rattle.master_node.specs.Recalled.{AllKnow}
 use Rattle.master_node.specs.Serving.{IsAsked, ServedShows, ServedUnder, run_lead, run_turn}
 use Rattle.master_node.specs.Shows.{is_carried}
 use Rattle.master_node.specs.Wants.{gave_of, IsServedOut, NoneToCome}
@@ -38,7 +39,7 @@ use Rattle.packets_heard.specs.ServedRecalled.{ServedRecalledIn}
 use Rattle.packets_heard.specs.Servings.{AreServedBegun, ServedListed, ServedNumbered, served_begun, served_joined}
 use Rattle.run_book.specs.declared.book.SentFrame.{SentFrame}
 use Rattle.run_notes.specs.declared.standing.AskedMail.{AskedMail}
-use Rattle.run_notes.specs.Handed.{AllHanded}
+use Rattle.run_notes.specs.Handed.{AllHanded, AllWhere, is_packet}
 use Rattle.run_notes.specs.Heard.{emergencies_noted}
 use Rattle.run_notes.specs.Reports.{AllReport}
 use Rattle.run_notes.specs.Slaves.{gaves_noted, home_of}
@@ -47,6 +48,7 @@ use Rattle.run_record.specs.Led.{exchanged}
 use Rattle.run_record.specs.Mails.{passing_at, served_mails, served_overs}
 use Rattle.run_record.specs.Recalling.{state_of}
 use Rattle.run_record.specs.Session.{FrameEvents, IsDone, SessionState, has_live, numbers_over}
+use Rattle.run_record.specs.Written.{WereServedDue, forwards_now, served_written}
 use Rattle.segment_plan.specs.Sound.{IsPlan}
 use Rattle.segment_plan.specs.declared.plan.Scenario.{Scenario}
 use Rattle.segment_ring.specs.declared.wire.Fate.{Fate}
@@ -94,7 +96,8 @@ as_asked k = record { key = k.key; kind = k.mail.kind; body = k.mail.body.items 
 -- its life; just the emergencies among the mails that its life accepted are noted, each with the frame that brought it; the mails that were asked of each are just
 -- those that the session has, in order, and so many of them still wait; what happened at its switch is by their lives, each event with its number; and just the
 -- packets that came into hand are noted, numbered, and just the mails that were passed on, each with its number and its frame, and with its answer by when it was
--- over. None of its master's visits was in vain, by what it remembers
+-- over. As long as each mail that was accepted was due the hands know their mails, and the packets have their answers too, by when the last fragment was written.
+-- None of its master's visits was in vain, by what it remembers
 pub record Serving (plan : Scenario) (s : SessionState) (fs : List Exchanged) : Type 0 where
   pub leading : ServedLeading plan s.master fs
   pub gave : gaves_noted s.notes ≡ map gave_of (map run_lead leading.serves)
@@ -108,6 +111,8 @@ pub record Serving (plan : Scenario) (s : SessionState) (fs : List Exchanged) : 
   pub numbered : ServedNumbered (ports_behind 0 plan.slaves) (ports_of plan.slaves) leading.lives (events_of rows) numbers
   pub packets : PacketsNoted (λ k. served_begun leading.lives k) (λ k. served_mails leading.lives k) s.master s.notes
   pub handed : AllHanded (λ k. served_overs leading.lives k) (λ k. passing_at leading.serves k) s.notes
+  pub knows : WereServedDue leading.lives → AllKnow (recalls s.master)
+  pub written : WereServedDue leading.lives → AllWhere is_packet (λ k. served_written leading.lives k) (λ k. forwards_now (lens_of plan.slaves) (map run_lead leading.serves) k) s.notes
   pub remembers : ServedRecalledIn plan leading.toured (state_of s.master (events_of rows) s.ring)
 
 -- before its first frame
