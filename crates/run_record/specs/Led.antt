@@ -30,11 +30,13 @@ use Rattle.run_book.specs.declared.book.SentFrame.{SentFrame}
 use Rattle.run_book.specs.declared.book.SlaveBook.{SlaveBook}
 use Rattle.run_notes.specs.Reports.{AllReport, IsBooked}
 use Rattle.run_notes.specs.Epochs.{HasEpochs}
+use Rattle.run_notes.specs.Handed.{AreForwarded}
 use Rattle.run_notes.specs.Heard.{emergencies_noted, emergencies_in}
 use Rattle.run_notes.specs.Packets.{AreMails, AreNumbered, begun_in}
 use Rattle.run_notes.specs.Switched.{HasPackets}
 use Rattle.run_notes.specs.Unsent.{IsSpent}
 use Rattle.run_notes.specs.declared.notes.Notes.{Notes}
+use Rattle.run_record.specs.Written.{WereDue, packets_written}
 use Rattle.segment_plan.specs.declared.plan.Scenario.{Scenario}
 use Rattle.slave_server.specs.Serving.{next_mail}
 use Rattle.slave_node.specs.of_slave_steps.Node.{is_settled}
@@ -128,7 +130,8 @@ pub record RecalledBook (plan : Scenario) (book : Book) (missed : ℕ) (leads : 
 -- stand there, each with the frame that brought it; and nothing is left of it where the run is over. The frames are the visits of one tour. And the packets of
 -- the host are those that the events of the switch make, and these events are just those that the frames list; of the slaves' ports just the packets began that
 -- came into hand; and each event has its number, by the frame that made it; and just the packets that came into hand stand in the book of each slave, numbered,
--- and no mail that is passed on. Where the run is over no packet is left. And no visit of the tour is in vain, by what the master remembered
+-- and with their answers as long as each mail that was accepted was due, and no mail that is passed on. Where the run is over no packet is left. And no visit of
+-- the tour is in vain, by what the master remembered
 pub record LedBook (plan : Scenario) (book : Book) (ending : Ending) : Type 0 where
   pub missed : ℕ
   pub leads : List Leads
@@ -148,4 +151,5 @@ pub record LedBook (plan : Scenario) (book : Book) (ending : Ending) : Type 0 wh
   pub numbered : ending ≢ endings.NoMemory → NumbersAll plan lives book.switch book.switched
   pub forwards : ending ≢ endings.NoMemory → AreNumbered (λ k. frames_begun lives k) (begun_in book.slaves)
   pub mails : ending ≢ endings.NoMemory → AreMails (λ k. []) (begun_in book.slaves)
+  pub written : ending ≢ endings.NoMemory → WereDue lives → AreForwarded (λ k. packets_written lives k) book.slaves
   pub recalled : ending ≢ endings.NoMemory → RecalledBook plan book missed leads
