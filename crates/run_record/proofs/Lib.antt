@@ -27,6 +27,9 @@ pub mod Plans
 pub mod Recalling
 pub mod Replays
 pub mod Rows
+pub mod RunLives
+pub mod RunStanding
+pub mod RunTours
 pub mod ServedBegan
 pub mod ServedForwards
 pub mod ServedGaves
@@ -39,4 +42,5 @@ pub mod ServedWritten
 pub mod Servings
 pub mod Steps
 pub mod SwitchFirst
+pub mod Unasked
 pub mod Underway

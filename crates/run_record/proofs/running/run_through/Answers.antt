@@ -10,6 +10,7 @@ use Rattle.run_record.specs.Ran.{IsUnderway, EndsSo, EndsAs}
 use Rattle.run_record.proofs.Underway.{begun, still_left, many, stepped_on, stopped, has_frames, ended, ran_so, ran_as}
 use Rattle.run_record.specs.Led.{exchanged, Leading}
 use Rattle.run_record.proofs.Leads.{stands_more, one_led_more, none_led, same_led, stands_first}
+use Rattle.run_record.proofs.RunStanding.{run_first, run_more}
 use Rattle.std.proofs.lemmas.List.{length-map}
 use Rattle.run_record.proofs.Ends.{some_live}
 use Rattle.run_record.proofs.Overs.{led_book}
@@ -58,9 +59,12 @@ loop-settled-init c =
       grams = new.grams;
       replies = new.replies;
       settled = c.settled-settled.ensures.rest;
-      left = c.settled-settled.ensures.left;
+      rests = c.settled-settled.ensures.served;
       busy = c.settled-settled.ensures.busy;
       wants = c.settled-settled.ensures.wants;
+      lives = c.settled-settled.ensures.lives;
+      done = c.settled-settled.ensures.done;
+      serves = run_first plan s c.args.book.now begins.session new begins.serves;
       stands = stands_first plan s.master s.notes s.ring c.args.book.now.frames c.args.book.now new.frames (ap (λ (z : SessionState). z.ring) begins.session) (begins.begins c.args.book.now new.switch new.switched);
     }
 
@@ -71,15 +75,23 @@ loop-settled-preserved c =
     let no : c.spent.result ≡ false = search rules in
     let step = c.in_ok-step.ensures.ok in
     let goes : c.loop-settled.settled ≡ false = search rules in
+    let plan = c.args.plan.now in
+    let stood = c.loop-settled.invariant.serves in
+    let frames = length-map c.loop-settled.book.frames exchanged in
     record {
       underway = stepped_on c.args.plan.now 0 s c.loop-settled.book c.step.new.self c.step.new.book step.0 under (still_left s.ring.number s.budget c.spent.result c.spent.ensures.value no under.few) step.1;
       serving = step.1.rest.serving ∙ c.loop-settled.invariant.serving;
       grams = step.1.rest.grams ∙ c.loop-settled.invariant.grams;
       replies = step.1.rest.replies ∙ c.loop-settled.invariant.replies;
       settled = c.settled-settled-in-loop-settled.ensures.rest;
-      left = c.settled-settled-in-loop-settled.ensures.left;
+      rests = c.settled-settled-in-loop-settled.ensures.served;
       busy = c.settled-settled-in-loop-settled.ensures.busy;
       wants = c.settled-settled-in-loop-settled.ensures.wants;
+      lives = c.settled-settled-in-loop-settled.ensures.lives;
+      done = c.settled-settled-in-loop-settled.ensures.done;
+      serves = run_more plan s c.step.new.self c.loop-settled.book c.step.new.book step.0 step.2.0 stood step.1.put step.1.asked (frames ∙ many plan 0 s c.loop-settled.book under) (step.2.1 plan.host under.switched)
+          (step.2.2 plan (map exchanged c.loop-settled.book.frames) under.recover (frames ∙ many plan 0 s c.loop-settled.book under)
+          (OnFalse_at goes c.loop-settled.invariant.lives plan (map exchanged c.loop-settled.book.frames) under.recover stood.serving) (OnFalse_at goes c.loop-settled.invariant.done) stood.serving);
       stands = stands_more c.args.plan.now c.step.new.self.master c.step.new.self.notes c.step.new.self.ring c.loop-settled.book.frames step.0 c.step.new.book.frames c.step.new.book step.1.put
           (step.1.goes_on c.args.plan.now (map exchanged c.loop-settled.book.frames) c.args.plan.now.host under.recover under.ports (length-map c.loop-settled.book.frames exchanged ∙ many c.args.plan.now 0 s c.loop-settled.book under)
           (live_so c.args.plan.now s c.loop-settled.book c.loop-settled.settled under c.loop-settled.invariant.stands.forwards.leading goes c.loop-settled.invariant.busy) (OnFalse_at goes c.loop-settled.invariant.wants) under.switched
@@ -105,5 +117,5 @@ pub returns-clause-led : goal.returns-clause-led
 returns-clause-led c =
     let s = c.loop-settled.session in
     let invariant = c.loop-settled.invariant in
-    led_book c.args.plan.now s c.loop-settled.book c.finish.new.book invariant.underway invariant.stands c.finish.ensures.frames c.finish.ensures.same c.finish.ensures.many c.ending_of-ending.result c.finish.result c.loop-settled.settled
-    c.ending_of-ending.ensures.ends invariant.left c.ending_of-ending.ensures.cut c.finish.ensures.answers c.finish.ensures.rows
+    led_book c.args.plan.now s c.loop-settled.book c.finish.new.book invariant.underway invariant.serves c.finish.ensures.frames c.finish.ensures.same c.finish.ensures.many c.ending_of-ending.result c.finish.result c.loop-settled.settled
+    c.ending_of-ending.ensures.ends invariant.rests c.ending_of-ending.ensures.cut c.finish.ensures.answers c.finish.ensures.rows
