@@ -8,8 +8,7 @@ use Rattle.master_node.specs.of_frame_view.View.{Lens}
 use Rattle.master_node.specs.of_life_frames.Shares.{AllBoth}
 use Rattle.master_node.specs.of_life_model.Lives.{Stand}
 use Rattle.master_node.specs.of_life_runs.Led.{Leads}
-use Rattle.master_node.proofs.Quiets.{lead_lives}
-use Rattle.master_node.specs.Shows.{MasterShows, lived_of}
+use Rattle.master_node.specs.Shows.{lived_of}
 use Rattle.master_node.specs.Told.{HasLives}
 use Rattle.master_node.specs.Serving.{run_lead}
 use Rattle.master_node.specs.Wants.{gave_of, IsCounted, AllCounted, IsLeft, AllLeft, IsServedOut}
@@ -120,11 +119,6 @@ some_lived lens recover recover' m leads nodes notes lives c g (inl busy) = by (
     by false e =
         let rest = gone_rest recover' leads nodes notes (all_gone lens recover leads m.tour.stops.items lives e) c g in
         absurd (let bad : true ≡ false = sym rest ∙ busy in cc)
-
--- of a run that is led
-pub some_live : (lens : ℕ → Lens) (recover recover' retry missed : ℕ) (m : MasterNode) (leads : List Leads) (nodes : List (Node SlaveServer)) (notes : List Notes) → MasterShows lens recover retry m missed leads → AllCounted recover' leads → gaves_noted notes ≡ map gave_of leads →
-    (are_at_rest (slave_rows recover' nodes notes) ≡ false) ⊎ (has_live m ≡ true) → has_live m ≡ true
-some_live lens recover recover' retry missed m leads nodes notes shown c g busy = some_lived lens recover recover' m leads nodes notes (lead_lives lens recover leads m.tour.stops.items shown.each) c g busy
 
 -- WHERE EACH IS SETTLED that wasn't given up for good all are at rest
 pub settled_rest : (recover : ℕ) (leads : List Leads) (nodes : List (Node SlaveServer)) (notes : List Notes) → AllSettled leads nodes → AllCounted recover leads → gaves_noted notes ≡ map gave_of leads → are_at_rest (slave_rows recover nodes notes) ≡ true

@@ -8,7 +8,6 @@ pub mod Budgets
 pub mod Ends
 pub mod Fits
 pub mod FrameLists
-pub mod Forwards
 pub mod Gones
 pub mod Heads
 pub mod Hearings
@@ -24,7 +23,6 @@ pub mod Overs
 pub mod PacketLives
 pub mod PacketTurns
 pub mod Plans
-pub mod Recalling
 pub mod Replays
 pub mod Rows
 pub mod RunLives

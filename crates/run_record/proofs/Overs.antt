@@ -17,7 +17,7 @@ use Rattle.master_node.specs.of_life_runs.First.{lens_of}
 use Rattle.master_node.specs.of_life_runs.Led.{Exchanged, Leads}
 use Rattle.master_node.specs.of_master_tour.Toured.{Tour}
 use Rattle.packets_heard.specs.Numbers.{frames_begun}
-use Rattle.packets_heard.specs.Recalled.{RecalledIn}
+use Rattle.packets_heard.specs.Recalled.{RecalledIn, State}
 use Rattle.packets_heard.specs.ServedRecalled.{ServedRecalledIn}
 use Rattle.packets_heard.specs.Servings.{AreServedBegun, ServedListed, ServedNumbered, served_begun}
 use Rattle.run_book.specs.declared.book.Book.{Book}
@@ -41,7 +41,7 @@ use Rattle.run_record.proofs.MailNotes.{rows_forwarded}
 use Rattle.run_record.proofs.NoPackets.{none_left}
 use Rattle.run_record.proofs.RunLives.{IsRun, run_lives}
 use Rattle.run_record.proofs.RunStanding.{Stands, StandsSo, none_asked, stands_same}
-use Rattle.run_record.proofs.RunTours.{IsRunTour, run_tour}
+use Rattle.run_record.proofs.RunTours.{IsRunTour, run_tour, tour_by}
 use Rattle.run_record.proofs.ServedGaves.{has_lives}
 use Rattle.run_record.proofs.Unasked.{NoneAsked, leads_of}
 use Rattle.run_record.proofs.Underway.{many}
@@ -144,13 +144,14 @@ module _ (plan : Scenario) (s : SessionState) (b b' : Book) (h : IsUnderway plan
   tour : IsRunTour plan w.leading.toured
   tour = run_tour plan fs (tour_of s.master) ws w.leading.toured none
 
-  both : (toured : TouredTo plan fs tour.tour run.leads) × RecalledIn plan toured (state_of s.master b'.switch s.ring)
-  both =
-      subst (λ (z : List Leads). (toured : TouredTo plan fs tour.tour z) × RecalledIn plan toured (state_of s.master b'.switch s.ring)) (sym (leads_of ws tour.leads tour.quiet) ∙ leads_are)
-      (tour.toured, tour.recalled (state_of s.master b'.switch s.ring) (subst (λ (es : List SwitchEvent). ServedRecalledIn plan w.leading.toured (state_of s.master es s.ring)) now.events w.remembers))
+  both : (toured : TouredTo plan fs tour.tour run.leads) × ((r : State) → ServedRecalledIn plan w.leading.toured r → RecalledIn plan toured r)
+  both = tour_by plan fs (tour_of s.master) ws w.leading.toured tour run.leads run.quiet
+
+  abbrev now_remembered : State
+  now_remembered = state_of s.master b'.switch s.ring
 
   recalled_book : RecalledBook plan b' w.leading.missed run.leads
-  recalled_book = record { tour = tour.tour; missed_is = sym (ap (λ (t : Tour). t.missed) tour.same) ∙ w.leading.shows.missed_is; toured = both.0; state = state_of s.master b'.switch s.ring; recalled = both.1; events = refl }
+  recalled_book = record { tour = tour.tour; missed_is = sym (ap (λ (t : Tour). t.missed) tour.same) ∙ w.leading.shows.missed_is; toured = both.0; state = now_remembered; recalled = both.1 now_remembered (subst (λ (es : List SwitchEvent). ServedRecalledIn plan w.leading.toured (state_of s.master es s.ring)) now.events w.remembers); events = refl }
 
   -- what happened at its switch, as the book has it
   listed : ServedListed ports w.leading.lives b'.switch

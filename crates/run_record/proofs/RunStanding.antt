@@ -5,15 +5,24 @@ use Rattle.std.proofs.lemmas.List.{map-append}
 use Rattle.eoe_switch.specs.declared.switching.SwitchEvent.{SwitchEvent}
 use Rattle.master_node.specs.Happened.{events_of}
 use Rattle.master_node.specs.Ports.{ports_behind, ports_of}
-use Rattle.master_node.specs.of_life_runs.Led.{Exchanged}
+use Rattle.master_node.specs.Serving.{run_lead}
+use Rattle.master_node.specs.Toured.{tour_of}
+use Rattle.master_node.specs.of_life_runs.First.{lens_of}
+use Rattle.master_node.specs.of_life_runs.Led.{Exchanged, gives_up_at}
+use Rattle.master_node.specs.of_master_tour.Toured.{Tour}
+use Rattle.packets_heard.specs.Served.{IsTourServed, serves_behind}
 use Rattle.packets_heard.specs.Servings.{ServedNumbered}
+use Rattle.packets_heard.specs.Toured.{tour_behind}
 use Rattle.run_book.specs.Book.{IsNew}
 use Rattle.run_book.specs.declared.book.Book.{Book}
 use Rattle.run_book.specs.declared.book.SentFrame.{SentFrame}
 use Rattle.run_record.proofs.Heads.{heads, not_none, rests}
-use Rattle.run_record.proofs.Unasked.{NoneAsked, not_more}
-use Rattle.run_record.specs.Led.{exchanged}
-use Rattle.run_record.specs.Served.{ServeTo, ServesOn, Serving, ServingBegins, as_asked}
+use Rattle.run_record.proofs.RunLives.{run_lives}
+use Rattle.run_record.proofs.RunTours.{run_tour, tour_by}
+use Rattle.run_record.proofs.Unasked.{NoneAsked, none_behind, not_more}
+use Rattle.run_record.specs.Led.{AreLed, exchanged}
+use Rattle.run_record.specs.Served.{ServesOn, Serving, ServingBegins, as_asked}
+use Rattle.run_record.specs.ServedLed.{LeadsFrame, ServeTo, ServedTouredTo}
 use Rattle.run_record.specs.Session.{FrameEvents, IsGrown, SessionState, first_session, numbers_over}
 use Rattle.segment_plan.specs.declared.plan.Scenario.{Scenario}
 use Rattle.served_runs.specs.Served.{IsServedLed, Keyed, Serves}
@@ -69,3 +78,28 @@ run_more plan s s' b b' f happened h put asked many grown on =
       numbers = on.numbers ∙ (λ i. h.numbers i ++ numbers_over (many i) happened);
       unasked = asked ∙ h.unasked;
     })
+
+-- ---- ITS LIVES AND ITS TOUR are those of a run
+are_led : (plan : Scenario) (fs : List Exchanged) (missed : ℕ) (ws : List Serves) (t : Tour) → ServeTo plan fs missed ws → ServedTouredTo plan fs t ws → NoneAsked ws → AreLed plan fs
+are_led plan fs missed ws t lives toured none =
+    let run = run_lives plan fs missed ws lives none in
+    let tour = run_tour plan fs t ws toured none in
+    record { missed = missed; leads = run.leads; lives = run.lives; tour = tour.tour; toured = (tour_by plan fs t ws toured tour run.leads run.quiet).0 }
+
+pub stands_led : (plan : Scenario) (s : SessionState) (b : Book) → Stands plan s b → AreLed plan (map exchanged b.frames)
+stands_led plan s b h =
+    let l = h.serving.leading in
+    are_led plan (map exchanged b.frames) l.missed l.serves (tour_of s.master) l.lives l.toured (none_asked (length plan.slaves) l.serves (h.serving.asked ∙ h.unasked))
+
+-- with one frame more
+pub frame_led : (plan : Scenario) (s : SessionState) (b : Book) (f : Exchanged) (h : Stands plan s b) → LeadsFrame plan s.master (map exchanged b.frames) f h.serving.leading → AreLed plan (map exchanged b.frames ++ f ∷ [])
+frame_led plan s b f h x =
+    let l = h.serving.leading in
+    let lens = lens_of plan.slaves in
+    let fs : List Exchanged = map exchanged b.frames in
+    let on = λ (n : ℕ). serves_behind lens plan.recover plan.retry n (length fs) f x.turns in
+    let toured : ServedTouredTo plan (fs ++ f ∷ []) (tour_behind plan.retry f.fate (map run_lead (on l.missed)) (tour_of s.master) x.visit) (on l.missed) =
+    subst (λ (n : ℕ). ServedTouredTo plan (fs ++ f ∷ []) (tour_behind plan.retry f.fate (map run_lead (on n)) (tour_of s.master) x.visit) (on n)) l.shows.missed_is
+    (IsTourServed.on fs (tour_of s.master) l.serves f x.turns x.visit l.toured x.frame x.of_tour) in
+    are_led plan (fs ++ f ∷ []) _ (on l.missed) _ (IsServedLed.on fs l.missed l.serves f x.turns l.lives x.frame) toured
+    (none_behind lens plan.recover plan.retry (gives_up_at lens plan.recover plan.retry l.missed) (length fs) f x.frame.datagrams l.serves x.turns x.frame.each (none_asked (length plan.slaves) l.serves (h.serving.asked ∙ h.unasked)))

@@ -179,3 +179,8 @@ run_tour plan _ _ _ (IsTourServed.asks fs t ws place k led may) none = absurd (n
 run_tour plan _ _ _ (IsTourServed.on fs t ws f vs visit before frame of) none =
     tour_on plan fs t ws before f vs visit frame of
     (run_tour plan fs t ws before (none_before (lens_of plan.slaves) plan.recover plan.retry (gives_up_at (lens_of plan.slaves) plan.recover plan.retry t.missed) (length fs) f frame.datagrams ws vs frame.each none))
+
+-- by lives that are those of the same slaves
+pub tour_by : (plan : Scenario) (fs : List Exchanged) (t : Tour) (ws : List Serves) (l : ServedTouredTo plan fs t ws) (r : IsRunTour plan l) (as' : List Leads) → IsRunOf ws as' → (toured : TouredTo plan fs r.tour as') × ((s : State) → ServedRecalledIn plan l s → RecalledIn plan toured s)
+tour_by plan fs t ws l r as' q =
+    subst (λ (z : List Leads). (toured : TouredTo plan fs r.tour z) × ((s : State) → ServedRecalledIn plan l s → RecalledIn plan toured s)) (sym (leads_of ws r.leads r.quiet) ∙ leads_of ws as' q) (r.toured, r.recalled)

@@ -165,3 +165,9 @@ module _ (lens : ℕ → Lens) (recover retry : ℕ) (gives : Bool) (made : ℕ)
   none_before ds [] (v ∷ vs) t n = absurd t
   none_before ds (w ∷ ws) [] t n = absurd t
   none_before ds (w ∷ ws) (v ∷ vs) t n = (sym t.0.same ∙ n.0, none_before ds ws vs t.1 n.1)
+
+  pub none_behind : (ds : List Raw.Datagram) (ws : List Serves) (vs : List ServedTurn) → AllServedTurn lens made ds ws vs → NoneAsked ws → NoneAsked (map (served_behind lens recover retry gives made f) vs)
+  none_behind ds [] [] t n = tt
+  none_behind ds [] (v ∷ vs) t n = absurd t
+  none_behind ds (w ∷ ws) [] t n = absurd t
+  none_behind ds (w ∷ ws) (v ∷ vs) t n = (t.0.same ∙ n.0, none_behind ds ws vs t.1 n.1)

@@ -13,10 +13,8 @@ use Rattle.master_node.specs.of_life_model.Lives.{Stand}
 use Rattle.master_node.specs.of_life_runs.First.{lens_of, first_leads}
 use Rattle.master_node.specs.of_life_runs.Led.{Exchanged, Leads, IsLed}
 use Rattle.master_node.specs.Ports.{ports_behind, ports_of}
-use Rattle.master_node.specs.Shows.{MasterShows, is_live_lead}
-use Rattle.master_node.specs.Toured.{tour_of}
+use Rattle.master_node.specs.Shows.{is_live_lead}
 use Rattle.master_node.specs.Wants.{gave_of, IsIdle}
-use Rattle.master_node.specs.declared.node.MasterNode.{MasterNode}
 use Rattle.master_node.specs.of_master_tour.Goes.{holds_at}
 use Rattle.master_node.specs.of_master_tour.Toured.{Tour}
 use Rattle.packets_heard.specs.Numbers.{Numbered, frames_begun}
@@ -28,20 +26,19 @@ use Rattle.run_book.specs.declared.book.Ending.{Ending}
 use Rattle.run_book.specs.declared.book.Ending.TheVariants as endings
 use Rattle.run_book.specs.declared.book.SentFrame.{SentFrame}
 use Rattle.run_book.specs.declared.book.SlaveBook.{SlaveBook}
-use Rattle.run_notes.specs.Reports.{AllReport, IsBooked}
+use Rattle.run_notes.specs.Reports.{IsBooked}
 use Rattle.run_notes.specs.Epochs.{HasEpochs}
 use Rattle.run_notes.specs.Handed.{AreForwarded}
-use Rattle.run_notes.specs.Heard.{emergencies_noted, emergencies_in}
+use Rattle.run_notes.specs.Heard.{emergencies_in}
 use Rattle.run_notes.specs.Packets.{AreMails, AreNumbered, begun_in}
 use Rattle.run_notes.specs.Switched.{HasPackets}
 use Rattle.run_notes.specs.Unsent.{IsSpent}
-use Rattle.run_notes.specs.declared.notes.Notes.{Notes}
 use Rattle.run_record.specs.Written.{WereDue, packets_written}
 use Rattle.segment_plan.specs.declared.plan.Scenario.{Scenario}
 use Rattle.slave_server.specs.Serving.{next_mail}
 use Rattle.slave_node.specs.of_slave_steps.Node.{is_settled}
 use Rattle.packets_heard.specs.Toured.{IsToured}
-use Rattle.run_notes.specs.Slaves.{gaves_noted, gaves_in}
+use Rattle.run_notes.specs.Slaves.{gaves_in}
 
 -- a frame of a book
 abbrev pub exchanged : SentFrame → Exchanged
@@ -74,19 +71,6 @@ pub record AreLed (plan : Scenario) (fs : List Exchanged) : Type 0 where
   pub lives : LeadTo plan fs missed leads
   pub tour : Tour
   pub toured : TouredTo plan fs tour leads
-
--- A MASTER BEHIND THESE FRAMES of a plan's run leads its slaves; so often each was given up as is noted, and what is noted of its services goes with its
--- life; and just the emergencies among the mails that its life accepted are noted, each with the frame that brought it; and its frames are the visits of
--- its tour
-pub record Leading (plan : Scenario) (m : MasterNode) (notes : List Notes) (fs : List Exchanged) : Type 0 where
-  pub missed : ℕ
-  pub leads : List Leads
-  pub lives : LeadTo plan fs missed leads
-  pub shows : MasterShows (lens_of plan.slaves) plan.recover plan.retry m missed leads
-  pub gave : gaves_noted notes ≡ map gave_of leads
-  pub told : AllReport leads notes
-  pub heard : AllNoted (heard_in lives) (emergencies_noted notes)
-  pub toured : TouredTo plan fs (tour_of m) leads
 
 -- NOTHING IS LEFT of a slave at the end: it was given up for good; or its master wants nothing of it, and the slave is settled
 abbrev pub RestsSo : (ℕ → Lens) → Leads → SlaveBook → Type 0

@@ -1,8 +1,6 @@
-use Rattle.std.proofs.Common.{◌≡◌, ◌⊎◌, ◌-◌, true, false, map, []}
+use Rattle.std.proofs.Common.{◌≡◌, ◌-◌, true, false, []}
 use Rattle.std.specs.Bool.{OnTrue, OnFalse}
-use Rattle.run_record.specs.Session.{session_rows, are_at_rest, has_live, IsDone, StillWants}
-use Rattle.run_record.specs.Recalling.{RunStands}
-use Rattle.run_record.specs.Led.{exchanged}
+use Rattle.run_record.specs.Session.{session_rows, are_at_rest, IsDone}
 use Rattle.run_record.specs.Ran.{IsUnderway}
 use Rattle.run_record.specs.Served.{ServingLives, ServingRests}
 use Rattle.run_record.proofs.RunStanding.{Stands}
@@ -16,12 +14,9 @@ invariant-loop-settled l = record {
   replies : l.book.replies ≡ [];
   settled : OnTrue l.settled (are_at_rest (session_rows l.session) ≡ true);
   rests : OnTrue l.settled (ServingRests l.session);
-  busy : OnFalse l.settled ((are_at_rest (session_rows l.session) ≡ false) ⊎ (has_live l.session.master ≡ true));
-  wants : OnFalse l.settled (StillWants l.session);
   lives : OnFalse l.settled (ServingLives l.session);
   done : OnFalse l.settled (IsDone l.session → ⊥);
-  serves : Stands l.plan l.session l.book;
-  stands : RunStands l.plan l.session.master l.session.notes (map exchanged l.book.frames) l.book l.session.ring;
+  stands : Stands l.plan l.session l.book;
 }
 
 abbrev pub decreases-loop-settled : goal.decreases-loop-settled
