@@ -1,5 +1,5 @@
 -- What comes in of slaves and which of their ports go down over the frames of a serving, by what happened at its switch.
-use Rattle.std.proofs.Common.{◌≡◌, ℕ, suc, Option, None, List, [], ◌++◌, map, length, refl, sym, ap, subst, ◌∙◌, append_assoc}
+use Rattle.std.proofs.Common.{◌≡◌, ℕ, suc, Option, None, List, [], ◌∷◌, ◌++◌, map, length, refl, sym, ap, subst, ◌∙◌, append_assoc}
 use Rattle.std.proofs.lemmas.List.{map-append}
 use Rattle.arrayvec.specs.ArrayVec.{ArrayVec}
 use Rattle.eoe_switch.specs.Switch.{Switched, switched}
