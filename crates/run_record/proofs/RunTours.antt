@@ -1,5 +1,5 @@
 -- THE TOUR OF A SERVING TO WHICH NO MAIL WAS ASKED IS THAT OF A RUN, and no visit of it is in vain, by what its master remembers.
-use Rattle.std.proofs.Common.{◌≡◌, inl, inr, ℕ, suc, Bool, false, None, List, [], ◌∷◌, ◌++◌, map, length, refl, sym, ap, ◌∙◌, subst}
+use Rattle.std.proofs.Common.{◌≡◌, inl, inr, ℕ, suc, Bool, false, None, List, [], ◌∷◌, map, length, refl, sym, ap, ◌∙◌, subst}
 use Rattle.std.specs.Prelude.{is_some}
 use Rattle.master_node.proofs.Visitings.{run_next}
 use Rattle.master_node.specs.Eager.{AllVisit, EachSo, VisitAsks}
