@@ -133,12 +133,12 @@ module _ (plan : Scenario) (s : SessionState) (b b' : Book) (h : IsUnderway plan
 
   -- nor a packet
   no_packet : (ending result : Ending) (settled : Bool) → OnTrue settled (ServingRests s) → OnFalse settled (ending ≡ endings.BudgetSpent) → (result ≡ ending) ⊎ (result ≡ endings.NoMemory) → LeavesNone result → LeavesNoPacket plan run.leads b'.switch
-  no_packet ending result true out cut answers none =
+  no_packet ending result true out cut answers over =
       none_left lens plan.recover plan s.master run.leads s.ports s.ring.number b'
       (subst (λ (z : List Leads). HasLives lens plan.recover s.master (map lived_of z)) leads_are (has_lives lens plan.recover plan.retry w.leading.missed (length fs) s.master ws w.leading.shows)) w.forwarded.ports h.ports
       (switched_same s.ports plan.host s.ring.number s.master.lan b b' kept h.switched) out.come
-  no_packet ending result false out cut (inl is) none = absurd (not_spent (subst LeavesNone (is ∙ cut) none))
-  no_packet ending result false out cut (inr is) none = absurd (not_out (subst LeavesNone is none))
+  no_packet ending result false out cut (inl is) over = absurd (not_spent (subst LeavesNone (is ∙ cut) over))
+  no_packet ending result false out cut (inr is) over = absurd (not_out (subst LeavesNone is over))
 
   -- its tour, and what was remembered over it
   tour : IsRunTour plan w.leading.toured

@@ -170,7 +170,7 @@ module _ (plan : Scenario) (fs : List Exchanged) (missed : ℕ) (ws : List Serve
 -- AND ALL FRAMES
 pub run_lives : (plan : Scenario) (fs : List Exchanged) (missed : ℕ) (ws : List Serves) (l : ServeTo plan fs missed ws) → NoneAsked ws → IsRun plan l
 run_lives plan _ _ _ IsServedLed.start none = run_begins plan
-run_lives plan _ _ _ (IsServedLed.asks fs missed ws place k led may) none = absurd (never_asked (lens_of plan.slaves) place k ws may none)
-run_lives plan _ _ _ (IsServedLed.on fs missed ws f vs led frame) none =
-    run_on plan fs missed ws led f vs frame
-    (run_lives plan fs missed ws led (none_before (lens_of plan.slaves) plan.recover plan.retry (gives_up_at (lens_of plan.slaves) plan.recover plan.retry missed) (length fs) f frame.datagrams ws vs frame.each none))
+run_lives plan _ _ _ (IsServedLed.asks fs missed ws place k before may) none = absurd (never_asked (lens_of plan.slaves) place k ws may none)
+run_lives plan _ _ _ (IsServedLed.on fs missed ws f vs before frame) none =
+    run_on plan fs missed ws before f vs frame
+    (run_lives plan fs missed ws before (none_before (lens_of plan.slaves) plan.recover plan.retry (gives_up_at (lens_of plan.slaves) plan.recover plan.retry missed) (length fs) f frame.datagrams ws vs frame.each none))

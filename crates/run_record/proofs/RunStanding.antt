@@ -44,7 +44,7 @@ stands_same plan s fs gs es ds ns ms frames switch switched h =
 
 -- no mail was asked of any slave
 none_of : (ks : List Keyed) → map as_asked ks ≡ [] → ks ≡ []
-none_of [] e = e
+none_of [] e = refl
 none_of (k ∷ ks) e = absurd (not_none (as_asked k) (map as_asked ks) (sym e))
 
 pub none_asked : (n : ℕ) (ws : List Serves) → map (λ w. map as_asked w.asked) ws ≡ replicate n [] → NoneAsked ws

@@ -175,7 +175,7 @@ module _ (plan : Scenario) (fs : List Exchanged) (t : Tour) (ws : List Serves) (
 -- OVER ALL FRAMES
 pub run_tour : (plan : Scenario) (fs : List Exchanged) (t : Tour) (ws : List Serves) (l : ServedTouredTo plan fs t ws) → NoneAsked ws → IsRunTour plan l
 run_tour plan _ _ _ IsTourServed.start none = tour_begins plan
-run_tour plan _ _ _ (IsTourServed.asks fs t ws place k led may) none = absurd (never_asked (lens_of plan.slaves) place k ws may none)
+run_tour plan _ _ _ (IsTourServed.asks fs t ws place k before may) none = absurd (never_asked (lens_of plan.slaves) place k ws may none)
 run_tour plan _ _ _ (IsTourServed.on fs t ws f vs visit before frame of) none =
     tour_on plan fs t ws before f vs visit frame of
     (run_tour plan fs t ws before (none_before (lens_of plan.slaves) plan.recover plan.retry (gives_up_at (lens_of plan.slaves) plan.recover plan.retry t.missed) (length fs) f frame.datagrams ws vs frame.each none))
