@@ -12,6 +12,7 @@ pub mod Forwards
 pub mod Gones
 pub mod Heads
 pub mod Hearings
+pub mod Knowing
 pub mod Leads
 pub mod MailEvents
 pub mod MailLives
@@ -31,11 +32,13 @@ pub mod ServedBegan
 pub mod ServedForwards
 pub mod ServedGaves
 pub mod ServedHanded
+pub mod ServedNotes
 pub mod ServedPlaced
 pub mod ServedRecalls
 pub mod ServedReports
 pub mod ServedTold
 pub mod ServedWritten
+pub mod ServingAsks
 pub mod Servings
 pub mod Steps
 pub mod SwitchFirst
