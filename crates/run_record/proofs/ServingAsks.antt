@@ -1,6 +1,5 @@
 -- A mail is asked of a slave of a serving, or none is, as its master has it.
 use Rattle.std.proofs.Common.{◌≡◌, ◌≢◌, ◌<◌, ℕ, zero, suc, Bool, true, false, List, [], ◌∷◌, ◌++◌, length, map, refl, sym, ap, ◌∙◌, subst}
-use Rattle.std.specs.Prelude.{}
 use Rattle.std.proofs.lemmas.List.{length-map}
 use Rattle.mailbox_mail.specs.declared.mail.Mail.{Mail}
 use Rattle.master_node.proofs.Servings.{keyed, leads_same}

@@ -234,7 +234,7 @@ module _ (s s' : SessionState) (m : MasterNode) (f : Exchanged) (result : Next) 
     where
       go : (fate : Fate) → f.fate ≡ fate → AllKnow (recalls s'.master)
       go Fates.Pass e = all_known lens (seen lens f.back) goes_to made.0 (recalls s.master) (recalls s'.master) ((recalled_for l.missed refl).returned e) (old.knows due.0) (due.1 e)
-      go (Fates.Lost after) e = all_known lens [] goes_to made.0 (recalls s.master) (recalls s'.master) ((recalled_for l.missed refl).lost after e) (old.knows due.0) (lost_due lens (map run_turn made.0))
+      go (Fates.Lost lasts) e = all_known lens [] goes_to made.0 (recalls s.master) (recalls s'.master) ((recalled_for l.missed refl).lost lasts e) (old.knows due.0) (lost_due lens (map run_turn made.0))
 
   knows_here : WereServedDue lives → f.fate ≡ Fates.Pass → (k : ℕ) (v : ServedTurn) → slice_get made.0 k ≡ Some v → known_at (recalls s'.master) k ≡ true
   knows_here due e = known_here lens (seen lens f.back) goes_to made.0 (recalls s.master) (recalls s'.master) ((recalled_for l.missed refl).returned e) (knows_on due)
