@@ -1,5 +1,5 @@
 -- WHAT IS NOTED OF THE MAILS THAT ARE PASSED ON over a serving goes with the lives of its slaves: their answers, and whether one is in hand.
-use Rattle.std.proofs.Common.{◌≡◌, ◌==◌, ◌≤◌, ◌+◌, ℕ, Bool, true, false, Option, Some, None, List, [], ◌∷◌, ◌++◌, length, length-append, map, refl, sym, ap, ◌∙◌, subst, append-nil, arith}
+use Rattle.std.proofs.Common.{◌≡◌, ◌==◌, ◌≤◌, ℕ, Bool, true, false, Option, Some, None, List, [], ◌∷◌, ◌++◌, length, length-append, map, refl, sym, ap, ◌∙◌, subst, append-nil, arith}
 use Rattle.std.specs.Prelude.{◌&&◌, is_some, nat_lt, nat_le, if◌then◌else◌, not}
 use Rattle.std.proofs.lemmas.Bool.{eq-eqb, eqb-true, leb-true}
 use Rattle.datagrams.specs.Datagram as Raw
@@ -50,7 +50,6 @@ use Rattle.run_book.specs.declared.book.Begun.{Begun}
 use Rattle.run_notes.proofs.Packets.{with_append}
 use Rattle.run_notes.specs.Handed.{AllHanded, IsHanded, is_mail, kinds_in}
 use Rattle.run_notes.specs.Packets.{mail_row, numbered_from, packet_row, rows_with}
-use Rattle.run_notes.specs.Slaves.{scripted}
 use Rattle.run_notes.specs.Unsent.{first_numbers, numbers_in, with_number}
 use Rattle.run_notes.specs.declared.notes.Notes.{Notes}
 use Rattle.run_record.proofs.MailLives.{Goes, back_goes, still_goes}
