@@ -14,6 +14,7 @@ use Rattle.promised_run.specs.ServedBounded.{IsServedBounded}
 use Rattle.promised_run.specs.ServedPorts.{IsServedAtPorts}
 use Rattle.promised_run.specs.ServedReported.{IsServedReported}
 use Rattle.promised_run.specs.Through.{IsServedThrough, IsServedWhole}
+use Rattle.promised_run.specs.Written.{IsServedWritten}
 use Rattle.run_report.specs.Report.{report_lines}
 use Rattle.gateway_run.specs.Serving.{Told}
 use Rattle.gateway_run.specs.Served.{IsServed}
@@ -38,6 +39,8 @@ pub record HasServed (plan : Scenario) (count : ℕ) (first last : Told) (book :
   pub whole : IsServedWhole plan book
   -- what happened at the port of each slave, with its number
   pub ports : IsServedAtPorts plan count book
+  -- the packets that came into hand stand there each with the frame with whose return its last fragment was written, or in doubt
+  pub written : IsServedWritten plan count book
   -- behind all of it each datagram that was queued at a slave and is done has all mails of the one step of its slave's server
   pub given : IsServedGiven plan count book
   -- each service of a script has just the reply that the frames of its epoch give

@@ -47,3 +47,4 @@ mod Unsent
 mod Visits
 mod Walk
 mod Whole
+mod Written

@@ -21,3 +21,4 @@ pub mod TouredTours
 pub mod Tours
 pub mod Unsent
 pub mod Visits
+pub mod Written

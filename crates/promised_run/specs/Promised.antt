@@ -13,6 +13,7 @@ use Rattle.promised_run.specs.Ports.{AllHavePorts}
 use Rattle.promised_run.specs.Reported.{AllReported}
 use Rattle.promised_run.specs.Unsent.{AllUnsent}
 use Rattle.promised_run.specs.Visits.{AllVisit}
+use Rattle.promised_run.specs.Written.{AllWritten}
 use Rattle.run_book.specs.declared.book.Book.{Book}
 use Rattle.run_book.specs.declared.book.Ending.{Ending}
 use Rattle.run_book.specs.declared.book.Ending.TheVariants as endings
@@ -61,3 +62,5 @@ pub record IsPromised (plan : Scenario) (book : Book) : Type 0 where
   pub numbers : book.ending ≢ endings.NoMemory → AllHaveNumbers plan led.lives book
   -- and of packets just those stand among the services of a slave's row that came into hand of it, in order, each once, with its number and its frame
   pub forwards : book.ending ≢ endings.NoMemory → AllHavePackets led.leads book
+  -- each `Handed`, of the frame with whose return its last fragment was written, or in doubt where it wasn't
+  pub written : book.ending ≢ endings.NoMemory → AllWritten plan book led

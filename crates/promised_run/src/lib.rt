@@ -21,6 +21,7 @@ pub mod uncut_servings;
 
 use crate::bounded_runs::uncut_law;
 use life_runs::epochs_law;
+use plan_ring::plan_dues::plan_due_law;
 use plan_ring::plan_rooms::room_law;
 use run_book::{Book, Ending};
 use run_promises::{read_promise_law, rest_promise_law};
@@ -48,6 +49,7 @@ pub fn run(alloc: Global, plan: &Scenario, book: &mut Book) -> Ending
     rest_promise_law();
     script_run_law();
     epochs_law();
+    plan_due_law();
     room_law();
     uncut_law();
     run_record::run(alloc, plan, book)

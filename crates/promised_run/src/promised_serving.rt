@@ -13,11 +13,13 @@ ghost use Rattle.promised_run.specs.Given.{IsServedGiven};
 ghost use Rattle.promised_run.specs.Rested.{IsServedRested};
 ghost use Rattle.promised_run.specs.ServedReported.{IsServedReported};
 ghost use Rattle.promised_run.specs.Through.{IsServedThrough, IsServedWhole};
+ghost use Rattle.promised_run.specs.Written.{IsServedWritten};
 
 use crate::uncut_servings::uncut_law;
 use ec_outside::Port;
 use plan_ring::plan_rooms::room_law;
 use run_book::{Book, Ending};
+use seen_slaves::served_waits::served_due_law;
 use segment_plan::Scenario;
 use served_rings::given_rows::given_law;
 use served_rings::heard_stays::heard_stays;
@@ -37,7 +39,8 @@ use std::alloc::Global;
 /// Behind all frames each datagram that was queued at a slave got nothing while its mail waits, error 5 where that never came into hand, and else the first mails of
 /// the one step that its slave's server takes for it, all of them where it is done. Unless memory runs out the book has besides just what the lives have that its
 /// frames lead: of each slave the services of its script that came into hand, with what they came to, and those that weren't sent; its epochs; its emergencies and
-/// its packets, numbered; and the events of the switch, each with its number. At the port of each slave that has one just those packets came in that the mails which
+/// its packets, numbered, each handed on with the frame with whose return its last fragment was written, or in doubt; and the events of the switch, each with its
+/// number. At the port of each slave that has one just those packets came in that the mails which
 /// its life accepted complete, in order, each whole; it went down once where the slave was given up for good, and never else; as many packets began there as came
 /// into hand of the slave, the first of those that were forwarded there, in order, and none behind its going down. Each of these has its exact number, and no packet
 /// waits there behind the events numbered up to the frame of a row of the script or of a mail that was passed on.
@@ -64,6 +67,7 @@ pub fn serve<P: Port>(
     ensures whole { IsServedWhole plan.now book.new }
     ensures ports { IsServedAtPorts plan.now count book.new }
     ensures given { IsServedGiven plan.now count book.new }
+    ensures written { IsServedWritten plan.now count book.new }
     ensures replied { IsServedReported plan.now count book.new }
     ensures rests { IsServedRested plan.now count book.new }
     ensures bounded { IsServedBounded plan.now count book.new }
@@ -77,6 +81,7 @@ pub fn serve<P: Port>(
     asked_law();
     told_law();
     room_law();
+    served_due_law();
     uncut_law();
     gateway_run::serve(alloc, plan, count, port, book)
 }

@@ -7,19 +7,17 @@ use Rattle.master_node.specs.of_frame_view.Seen.{seen}
 use Rattle.master_node.specs.of_frame_view.View.{Lens}
 use Rattle.master_node.specs.of_life_frames.Shares.{Lived}
 use Rattle.master_node.specs.of_life_frames.of_exchange_model.Exchange.{Speech}
-use Rattle.master_node.specs.of_life_model.Lives.{Life, Stand}
+use Rattle.master_node.specs.of_life_model.Lives.{Life}
 use Rattle.master_node.specs.of_life_runs.Led.{Exchanged, IsLed, Leads, Turn, gives_up_at, led_behind, speech_at}
 use Rattle.master_node.specs.of_life_runs.Spans.{is_open}
 use Rattle.master_node.specs.of_life_runs.of_link_mails.Body.{Body}
 use Rattle.master_node.specs.of_master_duty.Reply.{Reply}
 use Rattle.master_node.specs.of_master_duty.of_state_exchange.Stated.{Service}
 use Rattle.master_node.specs.of_master_hand.Spoken.{Asked}
-use Rattle.master_node.specs.of_master_side.Due.{EachDue}
-use Rattle.master_node.specs.of_master_tour.Brings.{accepted_in}
 use Rattle.master_node.specs.of_master_tour.Goes.{holds_at}
-use Rattle.master_node.specs.of_segment_model.Slaves.{Datagram}
 use Rattle.master_node.specs.of_task_model.Accounts.{is_free}
 use Rattle.packets_heard.specs.Over.{packet_begun}
+use Rattle.plan_ring.specs.Dues.{AllDue}
 use Rattle.run_record.specs.Mails.{overs_behind}
 use Rattle.segment_ring.specs.declared.wire.Fate.TheVariants as Fates
 use Rattle.served_runs.specs.Served.{IsServedLed, Serves, served_behind}
@@ -47,11 +45,6 @@ packet_open b = map (λ p. None) (packet_begun b)
 -- with a frame that came back the packet in hand is over, where it was in hand before the return and isn't behind it
 abbrev pub written_on : (ℕ → Lens) → Exchanged → ℕ → List Turn → List Leads → ℕ → List (Option ℕ) → List (Option ℕ)
 written_on lens f made us behind k overs = overs_behind f.fate made (forwards_before lens us k) (forwards_now lens behind k) (overs ++ packet_open (begun_of us k))
-
--- each mail that this frame brought is due
-abbrev pub AllDue : (ℕ → Lens) → List (Datagram Body) → List Turn → Type 0
-AllDue lens back [] = ⊤
-AllDue lens back (u ∷ us) = (u.lived.life.stand ≡ Stand.Open → EachDue (speech_at lens u.lived.spot) u.lived.life.era.side.now (accepted_in u.lived.spot u.lived.life back)) × AllDue lens back us
 
 module _ {lens : ℕ → Lens} {recover retry : ℕ} {first : List Leads} where
   -- WHEN THE PACKETS WERE OVER of the slave at a place of a run, in order: each with the number of the frame behind whose return its last fragment was written, if it was

@@ -8,6 +8,7 @@ use Rattle.promised_run.proofs.ServedPorts.{at_ports}
 use Rattle.promised_run.proofs.ServedReported.{all_reported_so}
 use Rattle.promised_run.proofs.Through.{through}
 use Rattle.promised_run.proofs.Whole.{whole}
+use Rattle.promised_run.proofs.Written.{all_served_written}
 use Rattle.promised_run.proofs.promised_serving.serve.Goals as goal
 use Rattle.run_book.specs.of_master_node.Happened.{events_of}
 use Rattle.run_promises.proofs.Known.{known}
@@ -51,3 +52,7 @@ returns-clause-rests g c =
 
 pub returns-clause-replied : goal.returns-clause-replied
 returns-clause-replied g c = all_reported_so c.args.plan.now c.args.count c.serve.new.book c.requires.plan c.requires.told c.told_eras_law.ensures c.serve.ensures.frames
+
+pub returns-clause-written : goal.returns-clause-written
+returns-clause-written g c =
+    all_served_written c.args.plan.now (c.served_due_law.ensures c.args.plan.now c.requires.plan (known c.args.plan.now c.requires.told)) c.args.count c.serve.new.book c.serve.ensures.frames

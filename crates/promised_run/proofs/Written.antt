@@ -1,0 +1,41 @@
+-- EACH MAIL THAT WAS ACCEPTED OF A PLAN'S SLAVES WAS DUE: so the packets that came into hand stand in a book with the answers that the lives give.
+use Rattle.std.proofs.Common.{◌≢◌, ℕ, List, map}
+use Rattle.life_runs.specs.First.{first_leads, lens_of}
+use Rattle.life_runs.specs.Led.{Exchanged, Leads, IsLed}
+use Rattle.plan_ring.proofs.Lives.{front_round}
+use Rattle.plan_ring.specs.Dues.{MailsAreDue}
+use Rattle.plan_ring.specs.Round.{AllRound, ring_of}
+use Rattle.promised_run.proofs.Recalled.{all_round}
+use Rattle.promised_run.specs.Eager.{ServedMailsAreDue}
+use Rattle.promised_run.specs.Written.{AllWritten, IsServedWritten}
+use Rattle.run_book.specs.declared.book.Book.{Book}
+use Rattle.run_book.specs.declared.book.Ending.TheVariants as endings
+use Rattle.run_record.specs.Led.{LedBook, exchanged}
+use Rattle.run_record.specs.Ran.{HasFrames, HasSent}
+use Rattle.run_record.specs.Served.{ServeTo}
+use Rattle.run_record.specs.Written.{WereDue, WereServedDue}
+use Rattle.segment_plan.specs.declared.plan.Scenario.{Scenario}
+use Rattle.served_runs.specs.Served.{IsServedLed, Serves}
+
+module _ (plan : Scenario) (due : MailsAreDue plan) where
+  -- over the frames of a run that went round the plan's ring
+  were_due : (fs : List Exchanged) (missed : ℕ) (leads : List Leads) (l : IsLed (lens_of plan.slaves) plan.recover plan.retry (first_leads plan) fs missed leads) → AllRound (ring_of plan) fs → WereDue l
+  were_due _ _ _ IsLed.start r = tt
+  were_due _ _ _ (IsLed.on fs missed leads f us l frame) r = (were_due fs missed leads l (front_round (ring_of plan) fs f r), λ pass. due fs missed leads f us l frame r pass)
+
+  -- SO IT IS of the book of a run
+  pub all_written : (book : Book) (sent : HasFrames plan book) (led : LedBook plan book book.ending) → book.ending ≢ endings.NoMemory → AllWritten plan book led
+  all_written book sent led ok = led.written ok (were_due (map exchanged book.frames) led.missed led.leads led.lives (all_round (ring_of plan) book.frames sent.recorded))
+
+module _ (plan : Scenario) (due : ServedMailsAreDue plan) where
+  -- of a serving
+  were_served_due : (fs : List Exchanged) (missed : ℕ) (ws : List Serves) (l : ServeTo plan fs missed ws) → AllRound (ring_of plan) fs → WereServedDue l
+  were_served_due _ _ _ IsServedLed.start r = tt
+  were_served_due _ _ _ (IsServedLed.asks fs missed ws place keyed l may) r = were_served_due fs missed ws l r
+  were_served_due _ _ _ (IsServedLed.on fs missed ws f vs l frame) r = (were_served_due fs missed ws l (front_round (ring_of plan) fs f r), λ pass. due fs missed ws f vs l frame r pass)
+
+  -- AND of each account of the book of a serving
+  pub all_served_written : (count : ℕ) (book : Book) → HasSent plan count book → IsServedWritten plan count book
+  all_served_written count book sent = λ ok a.
+      let leading = a.answers.serving.leading in
+      a.written (were_served_due (map exchanged book.frames) leading.missed leading.serves leading.lives (all_round (ring_of plan) book.frames sent.recorded))
