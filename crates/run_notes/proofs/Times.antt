@@ -244,8 +244,7 @@ module _ (frame : ℕ) (n : Notes) where
       let rows : length n.begun ≡ up_to frame (begun_frames n.begun) =
       sym (length-map n.begun (λ (b : Begun). b.frame)) ∙ sym (up_to_all frame (begun_frames n.begun) (rises_frames 0 (suc frame) (suc frame) n.begun (answers_doubted n) h.rises)) in
       let heard : length n.emergencies ≡ up_to frame (heard_frames n.emergencies) = sym (length-map n.emergencies (λ (e : Emergency). e.frame)) ∙ sym (up_to_all frame (heard_frames n.emergencies) h.heard) in
-      counted_push (suc frame) (notes_past packets n) n.epochs _
-      (
+      counted_push (suc frame) (notes_past packets n) n.epochs _ (
         omega arith,
         record {
           row = λ i. count (first_row (sym h.hand i) (rows i));

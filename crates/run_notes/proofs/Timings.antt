@@ -12,11 +12,12 @@ use Rattle.run_book.specs.declared.book.SlaveBook.{SlaveBook}
 use Rattle.run_notes.specs.Counted.{AreDated, IsDated, comes_from, is_from, is_there, numbers_from}
 use Rattle.run_notes.specs.Notes.{new_notes, received}
 use Rattle.run_notes.specs.Slaves.{SameSlaves, first_notes, scripted, slave_row, slave_rows}
-use Rattle.run_notes.specs.Times.{AllTimed, Goes, GoesBehind, IsTimed, IsTimedBy, KeepsTime, MayHappen, ReceivesAt, Time, TimeGoes, TimesGo, behind, between, seen_to}
+use Rattle.run_notes.specs.Switched.{SameSwitch}
+use Rattle.run_notes.specs.Times.{AllTimed, Goes, GoesBehind, IsTimed, IsTimedBy, KeepsTime, MayHappen, ReceivesAt, Time, TimeGoes, TimesGo, behind, between, making, seen_to}
 use Rattle.run_notes.specs.declared.notes.Notes.{Notes}
 use Rattle.run_notes.specs.declared.standing.Log.{Log}
 use Rattle.run_notes.proofs.Handings.{each_set, none_got}
-use Rattle.run_notes.proofs.Times.{time_first, time_over, time_received, time_row, time_same}
+use Rattle.run_notes.proofs.Times.{time_back, time_first, time_made, time_over, time_received, time_row, time_same}
 use Rattle.segment_plan.specs.declared.service.Service.{Service}
 use Rattle.segment_plan.specs.declared.slave.SlaveSpec.{SlaveSpec}
 use Rattle.slave_node.specs.of_slave_steps.Node.{Node}
@@ -32,30 +33,24 @@ goes_set from to notes at d m e g h = λ packets all k n is.
 pub keeps_set : (t : Time) (notes : List Notes) (at : ℕ) (d m : Notes) → d ≡ slice_index_or notes at d → Goes t t d m → KeepsTime t notes (slice_set notes at m)
 keeps_set t notes at d m e g = goes_set (λ k. t) (λ k. t) notes at d m e g (λ k away n. time_same t n)
 
+further : (k at : ℕ) (b : Bool) → (k == at) ≡ b → at ≤ k → (k ≡ at → ⊥) → suc at ≤ k
+further k at true f l away = absurd (away (eqb-true k at f))
+further k at false f l away = let other = false-eqb k at (sym f) in omega (arith, other, l)
+
+same_seen : (k at : ℕ) → (k ≡ at → ⊥) → nat_lt k at ≡ nat_lt k (suc at)
+same_seen k at away = go (nat_lt k at) refl
+  where
+    go : (b : Bool) → nat_lt k at ≡ b → nat_lt k at ≡ nat_lt k (suc at)
+    go true f = f ∙ sym (lt-ltb k (suc at) (let l = ltb-true k at f in omega (arith, l)))
+    go false f = f ∙ sym (le-ltb k (suc at) (further k at (k == at) refl (ltb-false k at f) away))
+
 -- it is seen behind a frame
 pub seen_set : (frame : ℕ) (notes : List Notes) (at : ℕ) (d m : Notes) → d ≡ slice_index_or notes at d → Goes (behind frame) (between (suc frame)) d m → TimeGoes (seen_to frame at) (seen_to frame (suc at)) notes (slice_set notes at m)
 seen_set frame notes at d m e g =
     goes_set (seen_to frame at) (seen_to frame (suc at)) notes at d m e
     (subst (λ (b : Bool). Goes (if b then between (suc frame) else behind frame) (seen_to frame (suc at) at) d m) (sym (le-ltb at at (omega arith)))
     (subst (λ (b : Bool). Goes (behind frame) (if b then between (suc frame) else behind frame) d m) (sym (lt-ltb at (suc at) (omega arith))) g))
-    (λ k away n. subst (λ (b : Bool). Goes (seen_to frame at k) (if b then between (suc frame) else behind frame) n n) (same k away) (time_same (seen_to frame at k) n))
-  where
-    same : (k : ℕ) → (k ≡ at → ⊥) → nat_lt k at ≡ nat_lt k (suc at)
-    same k away = go (nat_lt k at) refl
-      where
-        go : (b : Bool) → nat_lt k at ≡ b → nat_lt k at ≡ nat_lt k (suc at)
-        go true f = f ∙ sym (lt-ltb k (suc at) (let l = ltb-true k at f in omega (arith, l)))
-        go false f = f ∙ sym (le-ltb k (suc at) (let l = ltb-false k at f in further k at l away))
-
-        further : (k at : ℕ) → at ≤ k → (k ≡ at → ⊥) → suc at ≤ k
-        further k at l away = elim (split k at l) [ | inl e ↦ absurd (away e) | inr m ↦ m ]
-
-        split : (k at : ℕ) → at ≤ k → (k ≡ at) ⊎ (suc at ≤ k)
-        split k at l = choose (k == at) refl
-          where
-            choose : (b : Bool) → (k == at) ≡ b → (k ≡ at) ⊎ (suc at ≤ k)
-            choose true f = inl (eqb-true k at f)
-            choose false f = inr (let apart = false-eqb k at f in omega (arith, apart, l))
+    (λ k away n. subst (λ (b : Bool). Goes (seen_to frame at k) (if b then between (suc frame) else behind frame) n n) (same_seen k at away) (time_same (seen_to frame at k) n))
 
 -- before the first, and behind the last
 pub seen_first : (frame : ℕ) (notes : List Notes) → TimeGoes (λ k. behind frame) (seen_to frame 0) notes notes
@@ -83,19 +78,15 @@ over_behind frame a b f = all_go (behind frame) (between (suc frame)) (λ n. tim
 
 -- ---- the switch
 
+number_on : (m : ℕ) (b : Bool) (ns ms more : List ℕ) → ns ≡ ms ++ more → (if b then m ∷ ns else ns) ≡ (if b then m ∷ ms else ms) ++ more
+number_on m true ns ms more e = ap (λ z. m ∷ z) e
+number_on m false ns ms more e = e
+
 numbers_push : (ports : List ℕ) (slave : ℕ) (es : List SwitchEvent) (ns : List ℕ) (e : SwitchEvent) (n : ℕ) → length ns ≡ length es → numbers_from ports slave (es ++ e ∷ []) (ns ++ n ∷ []) ≡ numbers_from ports slave es ns ++ (if comes_from ports slave e then n ∷ [] else [])
 numbers_push ports slave [] [] e n same = refl
 numbers_push ports slave [] (m ∷ ns) e n same = absurd (omega (arith, same))
 numbers_push ports slave (d ∷ es) [] e n same = absurd (omega (arith, same))
-numbers_push ports slave (d ∷ es) (m ∷ ns) e n same = by (comes_from ports slave d)
-  where
-    rest : numbers_from ports slave (es ++ e ∷ []) (ns ++ n ∷ []) ≡ numbers_from ports slave es ns ++ (if comes_from ports slave e then n ∷ [] else [])
-    rest = numbers_push ports slave es ns e n (omega (arith, same))
-
-    by : (b : Bool) → (if b then m ∷ numbers_from ports slave (es ++ e ∷ []) (ns ++ n ∷ []) else numbers_from ports slave (es ++ e ∷ []) (ns ++ n ∷ []))
-        ≡ (if b then m ∷ numbers_from ports slave es ns else numbers_from ports slave es ns) ++ (if comes_from ports slave e then n ∷ [] else [])
-    by true = ap (λ z. m ∷ z) rest
-    by false = rest
+numbers_push ports slave (d ∷ es) (m ∷ ns) e n same = number_on m (comes_from ports slave d) _ (numbers_from ports slave es ns) (if comes_from ports slave e then n ∷ [] else []) (numbers_push ports slave es ns e n (omega (arith, same)))
 
 -- an event by which no packet comes in
 abbrev pub IsQuiet : List ℕ → SwitchEvent → Type 0
@@ -213,3 +204,23 @@ rows_dated recover frames packets (node ∷ nodes) [] all k row is = no_row k ro
 rows_dated recover frames packets (node ∷ nodes) (n ∷ notes) all zero row is =
     let same : slave_row recover node n ≡ row = cc in subst (λ (z : SlaveBook). IsDated frames (packets 0) z) same (time_row recover frames (packets 0) node n (all 0 n refl))
 rows_dated recover frames packets (node ∷ nodes) (n ∷ notes) all (suc k) row is = rows_dated recover frames (λ k. packets (suc k)) nodes notes (λ k n. all (suc k) n) k row is
+
+-- nothing more is noted of the switch
+pub timed_same : (t : Time) (ports : List ℕ) (b b' : Book) (notes : List Notes) → SameSwitch b b' → IsTimedBy t ports b notes → IsTimedBy t ports b' notes
+timed_same t ports b b' notes kept h = record {
+  many = ap length kept.switched ∙ h.many ∙ sym (ap length kept.switch);
+  timed = λ k n is. subst (λ (z : List ℕ). IsTimed t z n) (λ i. numbers_from ports k (sym kept.switch i) (sym kept.switched i)) (h.timed k n is);
+}
+
+-- ---- a step: a frame is made, and then it is over
+
+moved : (t u : Time) → ((n : Notes) → Goes t u n n) → (ports : List ℕ) (b : Book) (notes : List Notes) → IsTimedBy t ports b notes → IsTimedBy u ports b notes
+moved t u goes ports b notes h = record { many = h.many; timed = λ k n is. goes n (numbers_from ports k b.switch b.switched) (h.timed k n is) }
+
+pub times_step :
+    (number : ℕ) (made over : List Happening) (first mid last : Log) (b b1 b2 b3 : Book) → SameSlaves first mid → SameSlaves mid last → AreOfMaking made → SameSwitch b1 b2 → TimesGo (making number) (making number) number made b first b1 mid
+    → TimesGo (behind number) (between (suc number)) (number + 1) over b2 mid b3 last → IsTimedBy (between number) first.ports b first.notes → IsTimedBy (between (suc number)) last.ports b3 last.notes
+times_step number made over first mid last b b1 b2 b3 same next only kept before after h =
+    let one = before (omega arith, inl only) (moved (between number) (making number) (λ n. time_made number n) first.ports b first.notes h) in
+    let two = timed_same (making number) mid.ports b1 b2 mid.notes kept (timed_at (making number) first.ports mid.ports b1 mid.notes same.ports one) in
+    timed_at (between (suc number)) mid.ports last.ports b3 last.notes next.ports (after (omega arith, inr (omega arith)) (moved (making number) (behind number) (λ n. time_back number n) mid.ports b2 mid.notes two))

@@ -57,7 +57,11 @@ fn count(rows: usize) -> u32
 fn first_row(in_hand: bool, begun: usize) -> usize
     ensures { result ≡ the.first_row in_hand begun }
 {
-    if in_hand { begun.saturating_sub(1) } else { begun }
+    if in_hand {
+        begun.saturating_sub(1)
+    } else {
+        begun
+    }
 }
 
 // What is awaited of a service of the script that comes into hand.
