@@ -5,6 +5,7 @@ pub mod Asking
 pub mod Befores
 pub mod Began
 pub mod Budgets
+pub mod Dated
 pub mod Ends
 pub mod Fits
 pub mod FrameLists
