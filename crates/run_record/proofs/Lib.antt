@@ -9,7 +9,6 @@ pub mod Dated
 pub mod Ends
 pub mod Fits
 pub mod FrameLists
-pub mod Forwards
 pub mod Gones
 pub mod Heads
 pub mod Hearings
@@ -26,9 +25,11 @@ pub mod Overs
 pub mod PacketLives
 pub mod PacketTurns
 pub mod Plans
-pub mod Recalling
 pub mod Replays
 pub mod Rows
+pub mod RunLives
+pub mod RunStanding
+pub mod RunTours
 pub mod ServedBegan
 pub mod ServedForwards
 pub mod ServedGaves
@@ -43,4 +44,5 @@ pub mod ServingAsks
 pub mod Servings
 pub mod Steps
 pub mod SwitchFirst
+pub mod Unasked
 pub mod Underway
