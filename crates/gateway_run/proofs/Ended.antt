@@ -123,7 +123,7 @@ module _ (plan : Scenario) (count : ℕ) (first now : Told) (v : Serving) (b b' 
   }
 
   stops_as : (ending : Ending) → b'.slaves ≡ session_rows v.session → StopsSo v.session ending → StopsAs plan count b' ending
-  stops_as ending rows so = ended plan count v.session b b' on.underway frames rows many ending so
+  stops_as ending rows so = ended plan count v.session b b' on.underway frames kept rows many ending so
 
   has_account : (ending : Ending) → b'.slaves ≡ session_rows v.session → (ending ≢ endings.PortFault → v.desk.outbox.items ≡ []) → (LeavesNone ending → ServingRests v.session × (are_at_rest (session_rows v.session) ≡ true)) → HasAccount plan count b' ending
   has_account ending rows all rests =

@@ -5,10 +5,10 @@ pub mod Asking
 pub mod Befores
 pub mod Began
 pub mod Budgets
+pub mod Dated
 pub mod Ends
 pub mod Fits
 pub mod FrameLists
-pub mod Forwards
 pub mod Gones
 pub mod Heads
 pub mod Hearings
@@ -25,9 +25,11 @@ pub mod Overs
 pub mod PacketLives
 pub mod PacketTurns
 pub mod Plans
-pub mod Recalling
 pub mod Replays
 pub mod Rows
+pub mod RunLives
+pub mod RunStanding
+pub mod RunTours
 pub mod ServedBegan
 pub mod ServedForwards
 pub mod ServedGaves
@@ -42,4 +44,5 @@ pub mod ServingAsks
 pub mod Servings
 pub mod Steps
 pub mod SwitchFirst
+pub mod Unasked
 pub mod Underway

@@ -16,7 +16,7 @@ use Rattle.master_node.specs.Listing.{events_in, told_in}
 use Rattle.master_node.specs.Origins.{forwards_at}
 use Rattle.master_node.specs.Ports.{ports_behind, ports_of}
 use Rattle.master_node.specs.Recalled.{AllKnow}
-use Rattle.master_node.specs.Serving.{IsAsked, ServedShows, ServedUnder, run_lead, run_turn}
+use Rattle.master_node.specs.Serving.{IsAsked, ServedUnder, run_lead, run_turn}
 use Rattle.master_node.specs.Shows.{is_carried}
 use Rattle.master_node.specs.Wants.{gave_of, IsServedOut, NoneToCome}
 use Rattle.master_node.specs.declared.event.Event.{Event}
@@ -24,16 +24,13 @@ use Rattle.master_node.specs.declared.happened.Happening.{Happening}
 use Rattle.master_node.specs.declared.node.MasterNode.{MasterNode}
 use Rattle.master_node.specs.of_frame_view.Seen.{seen}
 use Rattle.master_node.specs.of_frame_view.View.{Lens}
-use Rattle.master_node.specs.of_life_runs.First.{lens_of, first_leads}
+use Rattle.master_node.specs.of_life_runs.First.{lens_of}
 use Rattle.master_node.specs.of_life_runs.Led.{Exchanged, gives_up_at, missed_behind}
 use Rattle.master_node.specs.of_master_side.Recall.{Recall}
 use Rattle.master_node.specs.of_master_tour.Goes.{holds_at}
 use Rattle.master_node.specs.of_master_tour.Made.{is_in}
 use Rattle.master_node.specs.of_master_tour.Orders.{AreOnce}
-use Rattle.master_node.specs.of_master_tour.Toured.{Tour}
-use Rattle.master_node.specs.Toured.{tour_of}
 use Rattle.packets_heard.specs.Listed.{unfinished_of}
-use Rattle.packets_heard.specs.Served.{IsTourServed}
 use Rattle.master_node.specs.of_segment_model.Returned.{Returns}
 use Rattle.packets_heard.specs.ServedRecalled.{ServedRecalledIn}
 use Rattle.packets_heard.specs.Servings.{AreServedBegun, ServedListed, ServedNumbered, served_begun, served_joined}
@@ -47,29 +44,14 @@ use Rattle.run_record.specs.Forwarded.{PacketsNoted}
 use Rattle.run_record.specs.Led.{exchanged}
 use Rattle.run_record.specs.Mails.{passing_at, served_mails, served_overs}
 use Rattle.run_record.specs.Recalling.{state_of}
+pub use Rattle.run_record.specs.ServedLed.{ServeTo, ServedLeading, ServedTouredTo}
 use Rattle.run_record.specs.Session.{FrameEvents, IsDone, SessionState, has_live, numbers_over}
 use Rattle.run_record.specs.Written.{WereServedDue, forwards_now, served_written}
 use Rattle.segment_plan.specs.Sound.{IsPlan}
 use Rattle.segment_plan.specs.declared.plan.Scenario.{Scenario}
 use Rattle.segment_ring.specs.declared.wire.Fate.{Fate}
 use Rattle.segment_ring.specs.declared.wire.Fate.TheVariants as Fates
-use Rattle.served_runs.specs.Served.{Keyed, Serves, ServedTurn, IsServedFrame, IsServedLed, MayAsk, all_serve, asked_at, served_behind}
-
--- THE FRAMES LEAD, with the mails that were asked, from a plan's new lives to these, with so many lost in a row last
-abbrev pub ServeTo : Scenario → List Exchanged → ℕ → List Serves → Type 0
-ServeTo plan fs missed ws = IsServedLed (lens_of plan.slaves) plan.recover plan.retry (all_serve plan.paces (first_leads plan)) fs missed ws
-
--- THEY ARE THE VISITS OF ONE TOUR, from its begin on, which stands so behind them
-abbrev pub ServedTouredTo : Scenario → List Exchanged → Tour → List Serves → Type 0
-ServedTouredTo plan fs tour ws = IsTourServed (lens_of plan.slaves) plan.recover plan.retry (all_serve plan.paces (first_leads plan)) fs tour ws
-
--- A MASTER BEHIND THESE FRAMES of a plan's serving leads its slaves, and its frames are the visits of its tour
-pub record ServedLeading (plan : Scenario) (m : MasterNode) (fs : List Exchanged) : Type 0 where
-  pub missed : ℕ
-  pub serves : List Serves
-  pub lives : ServeTo plan fs missed serves
-  pub shows : ServedShows (lens_of plan.slaves) plan.recover plan.retry m missed (length fs) serves
-  pub toured : ServedTouredTo plan fs (tour_of m) serves
+use Rattle.served_runs.specs.Served.{Keyed, Serves, ServedTurn, IsServedFrame, IsServedLed, MayAsk, asked_at, served_behind}
 
 -- THE SWITCH OF A SERVING behind these frames, by all that happened there: its slaves have the ports of the plan, what is unfinished of their packets is by their
 -- lives, and just those packets came in and began, and just those ports went down, that the frames list
