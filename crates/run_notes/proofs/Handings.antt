@@ -19,7 +19,7 @@ use Rattle.run_notes.specs.declared.notes.Notes.{Notes}
 use Rattle.run_notes.specs.declared.standing.Log.{Log}
 use Rattle.run_notes.proofs.Handed.{goes_more, goes_then, more_doubts, none_doubt, one_doubt, replied_goes, same_goes}
 
-none_got : {P : Type 0} (k : ℕ) (n : Notes) → slice_get [] k ≡ Some n → P
+pub none_got : {P : Type 0} (k : ℕ) (n : Notes) → slice_get [] k ≡ Some n → P
 none_got zero n e = absurd (let bad : None ≡ Some n = e in cc)
 none_got (suc k) n e = absurd (let bad : None ≡ Some n = e in cc)
 
@@ -32,7 +32,7 @@ set_rest : (P : ℕ → Notes → Notes → Type 0) (o : Notes) (old new : List 
 set_rest P o old new h rest zero n is = (n, is, h n)
 set_rest P o old new h rest (suc k) n is = rest k n is
 
-each_set : (P : ℕ → Notes → Notes → Type 0) (notes : List Notes) (at : ℕ) (d m : Notes) → d ≡ slice_index_or notes at d → P at d m → ((k : ℕ) → (k ≡ at → ⊥) → (n : Notes) → P k n n) → EachNotes P notes (slice_set notes at m)
+pub each_set : (P : ℕ → Notes → Notes → Type 0) (notes : List Notes) (at : ℕ) (d m : Notes) → d ≡ slice_index_or notes at d → P at d m → ((k : ℕ) → (k ≡ at → ⊥) → (n : Notes) → P k n n) → EachNotes P notes (slice_set notes at m)
 each_set P [] zero d m e p h = λ k n is. none_got k n is
 each_set P [] (suc at) d m e p h = λ k n is. none_got k n is
 each_set P (o ∷ notes) zero d m e p h = set_first P o m notes (subst (λ (z : Notes). P 0 z m) e p) h

@@ -1,4 +1,5 @@
 pub use Rattle.script_runs.proofs as of_script_runs
+pub mod Counted
 pub mod Epochs
 pub mod Firsts
 pub mod Frees
@@ -13,5 +14,7 @@ pub mod Reporting
 pub mod Reports
 pub mod Stations
 pub mod Switched
+pub mod Times
+pub mod Timings
 pub mod Unsent
 pub mod Ways

@@ -200,6 +200,9 @@ module _ (made : ℕ) (a b : Leads) (n : Notes) (p : PassesSo made a b) (r : Rep
   now_marked : IsMarked b (epochs_stood n leaves opens made) leaves opens
   now_marked = marked_back a b n r.marked made leaves opens p.epochs leaves_is opens_is
 
+  answered_marked : (reply : Booked) → IsMarked b (epochs_stood (answered n reply made) leaves opens made) leaves opens
+  answered_marked reply = marked_back a b (answered n reply made) r.marked made leaves opens p.epochs leaves_is opens_is
+
   abbrev noted : List Noted
   noted = noted_in n.begun n.answers
 
@@ -258,7 +261,7 @@ module _ (made : ℕ) (a b : Leads) (n : Notes) (p : PassesSo made a b) (r : Rep
       gave = r.gave ∙ sym p.gave;
       rest = same_script a b n.begun (n.answers ++ Replied reply made ∷ []) n.scripted n.left p.same.script
           (record { numbers = r.rest.numbers; sent = sent_more n.answers (Replied reply made) r.rest.sent tt; left = r.rest.left });
-      marked = now_marked;
+      marked = answered_marked reply;
     }
 
   pub pass_replied : (reply : Booked) (g : ℕ) → n.awaited ≡ Awaited.Reply → newest_answer b ≡ Some (Some (reply.kind, reply.value), g) → Reports b (stood (answered n reply made) leaves opens made)

@@ -2,6 +2,9 @@ pub use Rattle.eoe_switch.specs as of_eoe_switch
 pub use Rattle.script_runs.specs as of_script_runs
 pub mod Notes
 pub mod Unsent
+pub mod Rising
+pub mod Counted
+pub mod Times
 pub mod Epochs
 pub mod Heard
 pub mod Reports

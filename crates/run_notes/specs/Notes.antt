@@ -1,5 +1,5 @@
 -- What became of a slave so far, one event after the other.
-use Rattle.std.specs.Prelude.{ℕ, ◌-◌, ◌&&◌, not, Bool, true, false, if◌then◌else◌, nat_lt, List, [], ◌∷◌, ◌++◌, length, replicate, slice_get, slice_set, Option, Some, None, is_some}
+use Rattle.std.specs.Prelude.{ℕ, suc, ◌-◌, ◌&&◌, not, Bool, true, false, if◌then◌else◌, nat_lt, List, [], ◌∷◌, ◌++◌, length, replicate, slice_get, slice_set, Option, Some, None, is_some}
 use Rattle.master_node.specs.declared.event.Origin.{Origin}
 use Rattle.master_node.specs.declared.event.Origin.TheVariants.{Script, Forward, Gateway}
 use Rattle.mailbox_mail.specs.declared.outcome.ReplyKind.{ReplyKind}
@@ -23,7 +23,7 @@ first_epoch = record { row = 0; cleared = None; opened = None; emergencies = 0; 
 -- nothing happened yet at a slave with so many scripted services
 abbrev pub new_notes : ℕ → Notes
 new_notes left =
-    record { begun = []; answers = []; emergencies = []; epochs = first_epoch ∷ []; gave = []; in_hand = false; awaited = Awaited.Nothing; scripted = 0; packets = 0; left = left; leaving = false; up = false; own = false }
+    record { begun = []; answers = []; emergencies = []; epochs = first_epoch ∷ []; gave = []; in_hand = false; awaited = Awaited.Nothing; scripted = 0; packets = 0; left = left; leaving = false; up = false }
 
 -- the scripted services that are left behind one that came into hand
 abbrev pub left_behind : Origin → ℕ → ℕ
@@ -71,6 +71,10 @@ answered_where n reply frame = if n.in_hand && awaits_nothing n.awaited then ans
 abbrev pub alarmed : Notes → List ℕ → ℕ → Notes
 alarmed n octets frame = record n { emergencies = n.emergencies ++ record { octets = octets; frame = frame } ∷ [] }
 
+-- a packet was received
+abbrev pub received : Notes → Notes
+received n = record n { packets = count (suc n.packets) }
+
 -- a service in hand is in doubt
 abbrev pub doubted : Notes → Notes
 doubted n = record n { answers = answers_doubted n; in_hand = false; awaited = Awaited.Nothing }
@@ -96,14 +100,14 @@ change_noted opens changed frame n = if opens then (if n.up then changed_noted c
 abbrev pub given_up : Notes → Bool → ℕ → Notes
 given_up n leaves frame = record (doubted n) { gave = n.gave ++ frame ∷ []; leaving = leaves; up = false }
 
--- the first row of an epoch: the service that caused the return to Init, or the next that begins
+-- the first row of an epoch: the service in hand, which caused the return to Init, or the next that begins
 abbrev pub first_row : Bool → ℕ → ℕ
-first_row own begun = if own then begun - 1 else begun
+first_row in_hand begun = if in_hand then begun - 1 else begun
 
 -- the return of a frame showed the slave in Init: an epoch begins
 abbrev pub epochs_cleared : Notes → ℕ → List Epoch
 epochs_cleared n frame =
-    let row = count (first_row n.own (length n.begun)) in
+    let row = count (first_row n.in_hand (length n.begun)) in
     let emergencies = count (length n.emergencies) in
     n.epochs ++ record { row = row; cleared = Some frame; opened = None; emergencies = emergencies; packets = n.packets } ∷ []
 

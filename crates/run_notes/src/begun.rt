@@ -7,6 +7,7 @@ ghost use Rattle.run_notes.specs.Slaves.{gaves_noted};
 ghost use Rattle.run_notes.specs.Packets.{NotesBeside, StayFree};
 ghost use Rattle.run_notes.specs.Reports.{KeepsReports};
 ghost use Rattle.run_notes.specs.Slaves.{SameSlaves};
+ghost use Rattle.run_notes.specs.Times.{KeepsTime, making};
 
 use crate::log::note_began;
 use crate::standing::Log;
@@ -25,6 +26,7 @@ impl Log {
         ensures told { OnOk result (KeepsReports self.old.notes self.new.notes) }
         ensures beside { OnOk result (NotesBeside frame (Event.Began at origin ∷ []) self.old.notes self.new.notes) }
         ensures doubts { OnOk result (AllDoubts self.old.notes self.new.notes) }
+        ensures time { OnOk result (KeepsTime (making frame) self.old.notes self.new.notes) }
         ensures free { OnOk result (StayFree self.old.notes self.new.notes) }
     {
         let place = at as usize;
@@ -42,6 +44,7 @@ impl Log {
         ensures told { OnOk result (KeepsReports self.old.notes self.new.notes) }
         ensures beside { OnOk result (NotesBeside frame (event.now ∷ []) self.old.notes self.new.notes) }
         ensures doubts { OnOk result (AllDoubts self.old.notes self.new.notes) }
+        ensures time { OnOk result (KeepsTime (making frame) self.old.notes self.new.notes) }
         ensures free { OnOk result (StayFree self.old.notes self.new.notes) }
     {
         match event {
@@ -64,6 +67,7 @@ impl Log {
         ensures told { OnOk result (KeepsReports self.old.notes self.new.notes) }
         ensures beside { OnOk result (NotesBeside frame events.now self.old.notes self.new.notes) }
         ensures doubts { OnOk result (AllDoubts self.old.notes self.new.notes) }
+        ensures time { OnOk result (KeepsTime (making frame) self.old.notes self.new.notes) }
     {
         for event in events {
             self.note_begun_by(event, frame)?;

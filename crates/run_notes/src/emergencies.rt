@@ -7,6 +7,7 @@ ghost use Rattle.run_notes.specs.Slaves.{gaves_noted};
 ghost use Rattle.run_notes.specs.Packets.{begun_noted};
 ghost use Rattle.run_notes.specs.Reports.{KeepsReports, ReportsOn, PassesAll};
 ghost use Rattle.run_notes.specs.Slaves.{SameSlaves};
+ghost use Rattle.run_notes.specs.Times.{GoesBehind, KeepsTime, behind};
 
 use crate::standing::Log;
 use ec_fields::{NoMemory, Octets};
@@ -30,6 +31,7 @@ impl Log {
         ensures rows { OnOk result (begun_noted self.new.notes ≡ begun_noted self.old.notes) }
         ensures services { OnOk result (services_noted self.new.notes ≡ services_noted self.old.notes) }
         ensures told { OnOk result (KeepsReports self.old.notes self.new.notes) }
+        ensures time { OnOk result (KeepsTime (behind frame) self.old.notes self.new.notes) }
     {
         let Some(found) = master.emergency(at) else {
             return Ok(());
@@ -53,6 +55,7 @@ impl Log {
         ensures rows { OnOk result (begun_noted self.new.notes ≡ begun_noted self.old.notes) }
         ensures services { OnOk result (services_noted self.new.notes ≡ services_noted self.old.notes) }
         ensures told { OnOk result (KeepsReports self.old.notes self.new.notes) }
+        ensures time { OnOk result (KeepsTime (behind frame) self.old.notes self.new.notes) }
     {
         for place in 0..self.notes.len() {
             self.note_emergency(alloc, master, frame, place as u32)?;
@@ -75,6 +78,7 @@ impl Log {
         ensures rows { OnOk result (begun_noted self.new.notes ≡ begun_noted self.old.notes) }
         ensures mails { OnOk result (MailsStay frame self.old.notes self.new.notes) }
         ensures told { OnOk result (PassesAll frame master.now (ReportsOn self.old.notes self.new.notes)) }
+        ensures time { OnOk result (GoesBehind frame self.old.notes self.new.notes) }
     {
         self.note_emergencies(alloc, master, frame)?;
         self.note_replies(alloc, master, frame)

@@ -12,6 +12,8 @@ ghost use Rattle.run_notes.specs.Reports.{Reports, KeepsReports};
 ghost use Rattle.run_notes.specs.Notes.{station_of, stations_of};
 ghost use Rattle.run_notes.specs.Packets.{begun_noted, noted_began};
 ghost use Rattle.run_notes.specs.Switched.{NotesSwitch};
+ghost use Rattle.run_notes.specs.Counted.{slaves_at};
+ghost use Rattle.run_notes.specs.Times.{Goes, KeepsTime, TimesGo, behind};
 
 use crate::notes::Notes;
 use crate::standing::{AskedMail, Log};
@@ -82,17 +84,15 @@ fn note_at(
     ensures told { OnOk result ((a : Leads) → Reports a notes.old → Reports a notes.new) }
     ensures rows { OnOk result (notes.new.begun ≡ notes.old.begun) }
     ensures mails { OnOk result (GoesBy moment.frame (kind_told event.now) notes.old notes.new) }
+    ensures time { OnOk result (Goes (behind moment.frame) (behind moment.frame) notes.old notes.new) }
 {
     match event {
         Event::Answered { slave, kind } => {
             let reply = reply_of(alloc, master, *slave, *kind)?;
             notes.answered(reply, moment.frame)
         }
-        Event::Cleared { own, .. } => {
-            notes.own = *own;
-            Ok(())
-        }
         Event::Began { .. } => Ok(()),
+        Event::Cleared { .. } => Ok(()),
         Event::Opened { .. } => Ok(()),
         Event::Emergency { .. } => Ok(()),
         Event::GivenUp { .. } => Ok(()),
@@ -160,7 +160,8 @@ pub fn station_of(home: (u16, u16), notes: &Notes, recover: u32) -> Option<(u16,
 // The slaves that serve EoE, each at a port of its own.
 fn slaves_at_ports(alloc: Global, slaves: &[SlaveSpec]) -> Result<Rows<u32>, NoMemory>
     requires { length slaves.now ≤ 16 }
-    ensures { IfOk result (λ ports. 1 + length ports ≡ ports_of slaves.now) }
+    ensures many { IfOk result (λ ports. 1 + length ports ≡ ports_of slaves.now) }
+    ensures each { IfOk result (λ ports. ports ≡ slaves_at 0 slaves.now) }
 {
     let mut ports = Rows::new(alloc);
     for (at, spec) in slaves.iter().enumerate() {
@@ -179,6 +180,7 @@ impl Log {
         ensures homes { IfOk result (λ log. log.homes ≡ map home_of plan.now.slaves) }
         ensures asked { IfOk result (λ log. log.asked ≡ replicate (length plan.now.slaves) []) }
         ensures ports { IfOk result (λ log. 1 + length log.ports ≡ ports_of plan.now.slaves) }
+        ensures at_ports { IfOk result (λ log. log.ports ≡ slaves_at 0 plan.now.slaves) }
         ensures recover { IfOk result (λ log. log.recover ≡ plan.now.recover) }
     {
         let homes = homes_of(alloc, plan.slaves.as_slice())?;
@@ -209,6 +211,7 @@ impl Log {
         ensures told { OnOk result (KeepsReports self.old.notes self.new.notes) }
         ensures frames { SameFrames (1 + length self.old.ports) book.old book.new }
         ensures switch { OnOk result (NotesSwitch (1 + length self.old.ports) moment.sent master.now.lan.happened book.old book.new) }
+        ensures time { OnOk result (TimesGo (behind moment.frame) (behind moment.frame) moment.sent master.now.lan.happened book.old self.old book.new self.new) }
     {
         self.note_events(alloc, master, moment, master.events())?;
         self.note_happened(alloc, moment, master.happened(), book)
@@ -228,6 +231,7 @@ impl Log {
         ensures rows { OnOk result (begun_noted self.new.notes ≡ begun_noted self.old.notes) }
         ensures mails { OnOk result (MailsBehind moment.frame (λ k. kinds_in k events.now) self.old self.new) }
         ensures told { OnOk result (KeepsReports self.old.notes self.new.notes) }
+        ensures time { OnOk result (KeepsTime (behind moment.frame) self.old.notes self.new.notes) }
     {
         for event in events {
             self.note_event(alloc, master, moment, event)?;
@@ -248,6 +252,7 @@ impl Log {
         ensures rows { OnOk result (begun_noted self.new.notes ≡ begun_noted self.old.notes) }
         ensures mails { OnOk result (MailsBehind moment.frame (λ k. kinds_of k event.now) self.old self.new) }
         ensures told { OnOk result (KeepsReports self.old.notes self.new.notes) }
+        ensures time { OnOk result (KeepsTime (behind moment.frame) self.old.notes self.new.notes) }
     {
         match event {
             Event::Answered { slave, .. } => {
@@ -281,6 +286,7 @@ impl Log {
         ensures rows { OnOk result (begun_noted self.new.notes ≡ begun_noted self.old.notes) }
         ensures mails { OnOk result (MailsBehind moment.frame (told_only at (kind_told event.now)) self.old self.new) }
         ensures told { OnOk result (KeepsReports self.old.notes self.new.notes) }
+        ensures time { OnOk result (KeepsTime (behind moment.frame) self.old.notes self.new.notes) }
     {
         let Some(&home) = self.homes.get(at) else {
             return Ok(());

@@ -7,6 +7,7 @@ ghost use Rattle.run_notes.specs.Packets.{begun_noted};
 ghost use Rattle.run_notes.specs.Reports.{ReportsTo, ReportsOn, ReportsBy, LosesAll};
 ghost use Rattle.run_notes.specs.Slaves.{SameFrames, SameSlaves, gave_at, gaves_behind, GaveBy, GavesAll};
 ghost use Rattle.run_notes.specs.Switched.{NotesSwitch};
+ghost use Rattle.run_notes.specs.Times.{GoesBehind, KeepsTime, TimesGo, behind, between};
 
 use crate::log::{Moment, station_of};
 use crate::standing::Log;
@@ -36,6 +37,7 @@ impl Log {
         ensures rows { OnOk result (begun_noted self.new.notes ≡ begun_noted self.old.notes) }
         ensures mails { OnOk result (MailsStay frame self.old.notes self.new.notes) }
         ensures told { OnOk result (LosesAll frame self.old.recover master.now (λ as' bs. ReportsTo at as' bs self.old.notes → ReportsTo (suc at) as' bs self.new.notes)) }
+        ensures time { OnOk result (KeepsTime (behind frame) self.old.notes self.new.notes) }
     {
         let place = at as usize;
         let rows = self.notes.as_slice();
@@ -62,6 +64,7 @@ impl Log {
         ensures rows { OnOk result (begun_noted self.new.notes ≡ begun_noted self.old.notes) }
         ensures mails { OnOk result (MailsStay frame self.old.notes self.new.notes) }
         ensures told { OnOk result (LosesAll frame self.old.recover master.now (ReportsOn self.old.notes self.new.notes)) }
+        ensures time { OnOk result (KeepsTime (behind frame) self.old.notes self.new.notes) }
     {
         for place in 0..self.notes.len() {
             self.note_loss(master, frame, place as u32)?;
@@ -86,6 +89,7 @@ impl Log {
         ensures rows { OnOk result (begun_noted self.new.notes ≡ begun_noted self.old.notes) }
         ensures mails { OnOk result (MailsStay frame self.old.notes self.new.notes) }
         ensures told { OnOk result (ReportsBy fate frame master.now self.old self.new) }
+        ensures time { OnOk result (GoesBehind frame self.old.notes self.new.notes) }
     {
         match fate {
             Fate::Pass => self.note_returned(alloc, master, frame),
@@ -113,6 +117,7 @@ impl Log {
         ensures mails { OnOk result (MailsGo moment.frame (λ k. kinds_in k (events_in master.now)) self.old.notes self.new.notes) }
         ensures told { OnOk result (ReportsBy fate moment.frame master.now self.old self.new) }
         ensures switch { OnOk result (NotesSwitch (1 + length self.old.ports) moment.sent master.now.lan.happened book.old book.new) }
+        ensures time { OnOk result (TimesGo (behind moment.frame) (between (suc moment.frame)) moment.sent master.now.lan.happened book.old self.old book.new self.new) }
     {
         self.note(alloc, master, moment, book)?;
         self.note_fate(alloc, master, fate, moment.frame)

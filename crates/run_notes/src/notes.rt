@@ -40,8 +40,6 @@ pub struct Notes {
     pub leaving: bool,
     /// It is open.
     pub up: bool,
-    /// The last return to Init was caused by a service.
-    pub own: bool,
 }
 
 // A number of rows; it stands still at its type's end.
@@ -55,11 +53,15 @@ fn count(rows: usize) -> u32
     }
 }
 
-// The first row of an epoch: the service that caused the return to Init, or the next that begins.
-fn first_row(own: bool, begun: usize) -> usize
-    ensures { result ≡ the.first_row own begun }
+// The first row of an epoch: the service in hand, which caused the return to Init, or the next that begins.
+fn first_row(in_hand: bool, begun: usize) -> usize
+    ensures { result ≡ the.first_row in_hand begun }
 {
-    if own { begun.saturating_sub(1) } else { begun }
+    if in_hand {
+        begun.saturating_sub(1)
+    } else {
+        begun
+    }
 }
 
 // What is awaited of a service of the script that comes into hand.
@@ -108,7 +110,6 @@ impl Notes {
             left,
             leaving: false,
             up: false,
-            own: false,
         })
     }
 
@@ -204,14 +205,14 @@ impl Notes {
         self.gave.add(frame)
     }
 
-    // The return of a frame showed the slave in Init: an epoch begins. Where a service caused it, that is its first.
+    // The return of a frame showed the slave in Init: an epoch begins. Where a service is in hand, that caused it and is its first.
     fn cleared(&mut self, frame: u32) -> Result<(), NoMemory>
         ensures is { OnOk result (self.new ≡ record self.old { epochs = the.epochs_cleared self.old frame }) }
         ensures gave { self.new.gave ≡ self.old.gave }
         ensures heard { self.new.emergencies ≡ self.old.emergencies }
         ensures rows { self.new.begun ≡ self.old.begun }
     {
-        let row = count(first_row(self.own, self.begun.len()));
+        let row = count(first_row(self.in_hand, self.begun.len()));
         let emergencies = count(self.emergencies.len());
         self.epochs.add(Epoch {
             row,
@@ -272,7 +273,7 @@ impl Notes {
 
     /// A packet was received from the slave.
     pub fn received(&mut self)
-        ensures { self.new ≡ record self.old { packets = self.new.packets } }
+        ensures { self.new ≡ the.received self.old }
     {
         self.packets = self.packets.saturating_add(1);
     }

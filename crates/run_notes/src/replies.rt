@@ -8,6 +8,7 @@ ghost use Rattle.run_notes.specs.Handed.{MailsStay};
 ghost use Rattle.run_notes.specs.Notes.{answered, told_noted, changed_noted, change_noted, stood};
 ghost use Rattle.run_notes.specs.Reports.{ReportsTo, ReportsOn, PassesAll};
 ghost use Rattle.run_notes.specs.Slaves.{SameSlaves};
+ghost use Rattle.run_notes.specs.Times.{GoesBehind, TimeGoes, seen_to};
 ghost use Rattle.run_notes.specs.declared.notes.Awaited.TheVariants as Awaits;
 
 use crate::notes::{Awaited, Notes};
@@ -132,6 +133,7 @@ impl Log {
         ensures rows { OnOk result (begun_noted self.new.notes ≡ begun_noted self.old.notes) }
         ensures mails { OnOk result (MailsStay frame self.old.notes self.new.notes) }
         ensures told { OnOk result (PassesAll frame master.now (λ as' bs. ReportsTo at as' bs self.old.notes → ReportsTo (suc at) as' bs self.new.notes)) }
+        ensures time { OnOk result (TimeGoes (seen_to frame at) (seen_to frame (suc at)) self.old.notes self.new.notes) }
     {
         let leaves = master.is_leaving(at);
         let opens = master.is_open(at);
@@ -156,6 +158,7 @@ impl Log {
         ensures rows { OnOk result (begun_noted self.new.notes ≡ begun_noted self.old.notes) }
         ensures mails { OnOk result (MailsStay frame self.old.notes self.new.notes) }
         ensures told { OnOk result (PassesAll frame master.now (λ as' bs. ReportsTo at as' bs self.old.notes → ReportsTo (suc at) as' bs self.new.notes)) }
+        ensures time { OnOk result (TimeGoes (seen_to frame at) (seen_to frame (suc at)) self.old.notes self.new.notes) }
     {
         let leaves = master.is_leaving(at);
         let opens = master.is_open(at);
@@ -181,6 +184,7 @@ impl Log {
         ensures rows { OnOk result (begun_noted self.new.notes ≡ begun_noted self.old.notes) }
         ensures mails { OnOk result (MailsStay frame self.old.notes self.new.notes) }
         ensures told { OnOk result (PassesAll frame master.now (λ as' bs. ReportsTo at as' bs self.old.notes → ReportsTo (suc at) as' bs self.new.notes)) }
+        ensures time { OnOk result (TimeGoes (seen_to frame at) (seen_to frame (suc at)) self.old.notes self.new.notes) }
     {
         let leaves = master.is_leaving(at);
         let opens = master.is_open(at);
@@ -206,6 +210,7 @@ impl Log {
         ensures rows { OnOk result (begun_noted self.new.notes ≡ begun_noted self.old.notes) }
         ensures mails { OnOk result (MailsStay frame self.old.notes self.new.notes) }
         ensures told { OnOk result (PassesAll frame master.now (λ as' bs. ReportsTo at as' bs self.old.notes → ReportsTo (suc at) as' bs self.new.notes)) }
+        ensures time { OnOk result (TimeGoes (seen_to frame at) (seen_to frame (suc at)) self.old.notes self.new.notes) }
     {
         let rows = self.notes.as_slice();
         let awaited = rows[at as usize].awaited;
@@ -231,6 +236,7 @@ impl Log {
         ensures rows { OnOk result (begun_noted self.new.notes ≡ begun_noted self.old.notes) }
         ensures mails { OnOk result (MailsStay frame self.old.notes self.new.notes) }
         ensures told { OnOk result (PassesAll frame master.now (ReportsOn self.old.notes self.new.notes)) }
+        ensures time { OnOk result (GoesBehind frame self.old.notes self.new.notes) }
     {
         for place in 0..self.notes.len() {
             self.note_reply(alloc, master, frame, place as u32)?;

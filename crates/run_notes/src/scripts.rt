@@ -8,6 +8,7 @@ ghost use Rattle.run_notes.specs.Packets.{BeginsOn, SameBeside};
 ghost use Rattle.run_notes.specs.Reports.{ReportsTo, ReportsOn, TurnsAll};
 ghost use Rattle.run_notes.specs.Slaves.{SameFrames, SameSlaves};
 ghost use Rattle.run_notes.specs.Switched.{NotesSwitch};
+ghost use Rattle.run_notes.specs.Times.{KeepsTime, TimesGo, making};
 
 use crate::log::Moment;
 use crate::standing::Log;
@@ -27,6 +28,7 @@ impl Log {
         ensures told { OnOk result (TurnsAll frame master.now (λ as' bs. ReportsTo at as' bs self.old.notes → ReportsTo (suc at) as' bs self.new.notes)) }
         ensures beside { OnOk result (SameBeside self.old.notes self.new.notes) }
         ensures doubts { OnOk result (AllDoubts self.old.notes self.new.notes) }
+        ensures time { OnOk result (KeepsTime (making frame) self.old.notes self.new.notes) }
     {
         let place = at as usize;
         let number = master.scripted(at);
@@ -48,6 +50,7 @@ impl Log {
         ensures told { OnOk result (TurnsAll frame master.now (ReportsOn self.old.notes self.new.notes)) }
         ensures beside { OnOk result (SameBeside self.old.notes self.new.notes) }
         ensures doubts { OnOk result (AllDoubts self.old.notes self.new.notes) }
+        ensures time { OnOk result (KeepsTime (making frame) self.old.notes self.new.notes) }
     {
         for place in 0..self.notes.len() {
             self.note_script(master, frame, place as u32)?;
@@ -72,6 +75,7 @@ impl Log {
         ensures told { OnOk result (TurnsAll moment.frame master.now (ReportsOn self.old.notes self.new.notes)) }
         ensures begun { OnOk result (TurnsAll moment.frame master.now (BeginsOn moment.frame master.now self.old.notes self.new.notes)) }
         ensures doubts { OnOk result (AllDoubts self.old.notes self.new.notes) }
+        ensures time { OnOk result (TimesGo (making moment.frame) (making moment.frame) moment.sent master.now.lan.happened book.old self.old book.new self.new) }
         ensures switch { OnOk result (NotesSwitch (1 + length self.old.ports) moment.sent master.now.lan.happened book.old book.new) }
     {
         self.note_scripts(master, moment.frame)?;

@@ -1,6 +1,6 @@
 //! What happened at the switch, as the book has it.
 
-ghost use Rattle.std.specs.Prelude.{◌≡◌, ◌+◌, ◌++◌, ◌∷◌, [], true, length, OnOk};
+ghost use Rattle.std.specs.Prelude.{◌≡◌, ◌+◌, ◌++◌, ◌∷◌, [], ℕ, List, true, length, OnOk};
 ghost use Rattle.std.specs.Bool.{OnTrue};
 ghost use Rattle.master_node.specs.Happened.{handed_by};
 ghost use Rattle.run_book.specs.Ports.{IsAtPort};
@@ -11,6 +11,8 @@ ghost use Rattle.run_notes.specs.Packets.{begun_noted};
 ghost use Rattle.run_notes.specs.Reports.{KeepsReports};
 ghost use Rattle.run_notes.specs.Slaves.{SameFrames, SameSlaves};
 ghost use Rattle.run_notes.specs.Switched.{octets_of, NotesSwitch};
+ghost use Rattle.run_notes.specs.Counted.{comes_from, is_from};
+ghost use Rattle.run_notes.specs.Times.{ReceivesAt, Time, TimesGo};
 
 use crate::log::Moment;
 use crate::standing::Log;
@@ -33,6 +35,16 @@ fn copy_of_event(event: &SwitchEvent) -> SwitchEvent
         },
         SwitchEvent::Begun { port } => SwitchEvent::Begun { port: *port },
         SwitchEvent::Down { port } => SwitchEvent::Down { port: *port },
+    }
+}
+
+// The port at which a packet comes in; where none does it is the host's, 0.
+fn port_of(event: &SwitchEvent) -> usize
+    ensures { (ports : List ℕ) (slave : ℕ) → comes_from ports slave event.now ≡ is_from ports result slave }
+{
+    match event {
+        SwitchEvent::Arrive { port, .. } => *port as usize,
+        SwitchEvent::Begun { .. } | SwitchEvent::Down { .. } => 0,
     }
 }
 
@@ -66,6 +78,7 @@ impl Log {
         ensures told { KeepsReports self.old.notes self.new.notes }
         ensures frames { SameFrames (1 + length self.old.ports) book.old book.new }
         ensures switch { OnOk result (NotesSwitch (1 + length self.old.ports) moment.sent rows.now book.old book.new) }
+        ensures time { OnOk result ((t : Time) → TimesGo t t moment.sent rows.now book.old self.old book.new self.new) }
     {
         for row in rows {
             self.note_switch(alloc, moment, row, book)?;
@@ -88,13 +101,12 @@ impl Log {
         ensures told { KeepsReports self.old.notes self.new.notes }
         ensures frames { SameFrames (1 + length self.old.ports) book.old book.new }
         ensures switch { OnOk result (NotesSwitch (1 + length self.old.ports) moment.sent (row.now ∷ []) book.old book.new) }
+        ensures time { OnOk result ((t : Time) → TimesGo t t moment.sent (row.now ∷ []) book.old self.old book.new self.new) }
     {
         if !self.is_at_port(&row.event) {
             return Ok(());
         }
-        if let SwitchEvent::Arrive { port, .. } = &row.event {
-            self.receive(*port as usize);
-        }
+        self.receive(port_of(&row.event));
         book.switch.add(copy_of_event(&row.event))?;
         book.switched.add(moment.sent)?;
         note_handed(alloc, row, &mut book.host)
@@ -123,6 +135,7 @@ impl Log {
         ensures rows { begun_noted self.new.notes ≡ begun_noted self.old.notes }
         ensures services { services_noted self.new.notes ≡ services_noted self.old.notes }
         ensures told { KeepsReports self.old.notes self.new.notes }
+        ensures from { ReceivesAt self.old.ports port self.old.notes self.new.notes }
     {
         if port == 0 {
             return;

@@ -18,13 +18,17 @@ use Rattle.run_book.specs.declared.book.Ending.TheVariants as endings
 use Rattle.run_book.specs.declared.book.SentFrame.{SentFrame}
 use Rattle.run_book.specs.declared.book.SlaveBook.{SlaveBook}
 use Rattle.run_notes.proofs.Switched.{switched_same}
+use Rattle.run_notes.proofs.Timings.{timed_same}
+use Rattle.run_notes.specs.Counted.{AreDated}
 use Rattle.run_notes.specs.Switched.{IsSwitched, SameSwitch}
+use Rattle.run_notes.specs.Times.{IsTimedBy, between}
 use Rattle.run_record.specs.Replay.{first_ring, behind, ring_after, IsRecorded, AreRecorded}
 use Rattle.run_record.specs.Session.{SessionState, first_session, session_rows, are_at_rest, some_given_up, Steps, Stops}
-use Rattle.run_record.specs.Ran.{HasSent, IsUnderway, IsGivenUp, HasRows, EndsSo, EndsAs, StopsSo, StopsAs}
+use Rattle.run_record.specs.Ran.{HasSent, IsUnderway, IsGivenUp, HasRows, EndsSo, EndsAs, StopsSo, StopsAs, packets_of}
 use Rattle.run_record.proofs.Replays.{after_more, recorded_more, number_after, length_after}
 use Rattle.run_record.proofs.Rows.{nodes_of_rows, rows_given_up}
 use Rattle.run_record.proofs.SwitchFirst.{switched_new}
+use Rattle.run_record.proofs.Dated.{dated_rows, timed_first}
 
 -- before the first frame
 pub begun : (plan : Scenario) (grams : ℕ) (s : SessionState) (b : Book) → s ≡ first_session plan grams s.master → IsNew b → HasHappened (ports_of plan.slaves) plan.host [] s.master.lan → IsUnderway plan grams s b
@@ -41,6 +45,8 @@ begun plan grams s b first new none = record {
   few = let number = ap (λ (t : SessionState). t.ring.number) first in omega (arith, number);
   slaves = new.slaves;
   switched = switched_new plan grams s b first new none;
+  at_ports = ap (λ (t : SessionState). t.at_ports) first;
+  timed = subst (λ (t : SessionState). IsTimedBy (between t.ring.number) t.at_ports b t.notes) (sym first) (timed_first plan b new);
 }
 
 -- frames with one more
@@ -71,6 +77,8 @@ stepped_on plan grams s b s' b' f h left step = record {
   few = let number = ap (λ (r : RingState (Node SlaveServer)). r.number) step.ring in let same = step.budget in omega (arith, number, same, left);
   slaves = step.rest.slaves ∙ h.slaves;
   switched = step.switch plan.host h.switched;
+  at_ports = step.at_ports ∙ h.at_ports;
+  timed = step.timed h.timed;
 }
 
 -- how many frames there are
@@ -132,10 +140,12 @@ same_on plan grams s s' b b' h same lan frames kept slaves =
       switched = switched_same s'.ports plan.host s'.ring.number s'.master.lan b b' kept
           (subst (λ (l : Lan). IsSwitched s'.ports plan.host s'.ring.number l b) (sym lan)
           (subst (λ (n : ℕ). IsSwitched n plan.host s'.ring.number s.master.lan b) (sym ports) (subst (λ (n : ℕ). IsSwitched s.ports plan.host n s.master.lan b) (sym number) h.switched)));
+      at_ports = ap (λ (t : SessionState). t.at_ports) same ∙ h.at_ports;
+      timed = subst (λ (t : SessionState). IsTimedBy (between t.ring.number) t.at_ports b' t.notes) (sym same) (timed_same (between s.ring.number) s.at_ports b b' s.notes kept h.timed);
     }
 
 -- the rows at the end
-module _ (plan : Scenario) (grams : ℕ) (s : SessionState) (b b' : Book) (h : IsUnderway plan grams s b) (frames : b'.frames ≡ b.frames) (rows : b'.slaves ≡ session_rows s) (same : length s.notes ≡ length s.ring.nodes) where
+module _ (plan : Scenario) (grams : ℕ) (s : SessionState) (b b' : Book) (h : IsUnderway plan grams s b) (frames : b'.frames ≡ b.frames) (kept : SameSwitch b b') (rows : b'.slaves ≡ session_rows s) (same : length s.notes ≡ length s.ring.nodes) where
   rows_behind : map (λ (row : SlaveBook). row.node) b'.slaves ≡ (ring_after (first_ring plan) b'.frames).nodes
   rows_behind =
       ap (map (λ (row : SlaveBook). row.node)) rows ∙ nodes_of_rows s.recover s.ring.nodes s.notes same ∙ ap (λ (r : RingState (Node SlaveServer)). r.nodes) (h.ring ∙ ap (ring_after (first_ring plan)) (sym frames))
@@ -145,6 +155,8 @@ module _ (plan : Scenario) (grams : ℕ) (s : SessionState) (b b' : Book) (h : I
     many = sym (length-map b'.slaves (λ (row : SlaveBook). row.node)) ∙ ap length rows_behind ∙ length_after (first_ring plan) b'.frames ∙ length-map plan.slaves node_of;
     nodes = rows_behind;
     given_up = subst (All (IsGivenUp plan.recover)) (sym rows) (subst (λ (n : ℕ). All (IsGivenUp n) (session_rows s)) h.recover (rows_given_up s.recover s.ring.nodes s.notes));
+    dated = subst (AreDated (length b'.frames) (packets_of plan b')) (sym rows)
+        (subst (λ (n : ℕ). AreDated n (packets_of plan b') (session_rows s)) (sym (many plan grams s b h) ∙ sym (ap length frames)) (dated_rows plan s b' h.at_ports (timed_same (between s.ring.number) s.at_ports b b' s.notes kept h.timed)));
   }
 
   -- how a serving ended

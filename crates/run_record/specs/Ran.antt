@@ -1,6 +1,9 @@
 -- What a run leaves in its book.
-use Rattle.std.specs.Prelude.{◌≡◌, ◌≤◌, ℕ, Bool, true, false, nat_lt, [], length, map, All, slice_get}
+use Rattle.std.specs.Prelude.{◌≡◌, ◌≤◌, ℕ, Bool, true, false, nat_lt, Option, Some, None, List, [], length, map, All, slice_get}
 use Rattle.segment_plan.specs.declared.plan.Scenario.{Scenario}
+use Rattle.master_node.specs.Forwards.{port_by}
+use Rattle.master_node.specs.Ports.{ports_behind}
+use Rattle.packets_heard.specs.Numbers.{comes_in, numbers_where}
 use Rattle.run_book.specs.Book.{IsShort}
 use Rattle.run_book.specs.Ports.{ports_of, IsAtPort}
 use Rattle.run_book.specs.declared.book.Book.{Book}
@@ -9,8 +12,10 @@ use Rattle.run_book.specs.declared.book.Ending.TheVariants as endings
 use Rattle.run_book.specs.declared.book.SlaveBook.{SlaveBook}
 use Rattle.run_record.specs.Replay.{first_ring, ring_after, AreRecorded}
 use Rattle.run_record.specs.Session.{SessionState, session_rows, budget_of, are_at_rest, some_given_up}
+use Rattle.run_notes.specs.Counted.{AreDated, slaves_at}
 use Rattle.run_notes.specs.Slaves.{home_of}
 use Rattle.run_notes.specs.Switched.{IsSwitched}
+use Rattle.run_notes.specs.Times.{IsTimedBy, between}
 
 -- the frames of a serving that hears so many datagrams, or of a run, which hears none: each as the ring of the plan's new slaves gives it,
 -- and no more than the budget; and each event at a port of the switch
@@ -38,16 +43,28 @@ pub record IsUnderway (plan : Scenario) (grams : ℕ) (s : SessionState) (b : Bo
   pub few : s.ring.number ≤ s.budget
   pub slaves : b.slaves ≡ []
   pub switched : IsSwitched s.ports plan.host s.ring.number s.master.lan b
+  pub at_ports : s.at_ports ≡ slaves_at 0 plan.slaves
+  pub timed : IsTimedBy (between s.ring.number) s.at_ports b s.notes
 
 -- the frame at which a slave was given up for good
 abbrev pub IsGivenUp : ℕ → SlaveBook → Type 0
 IsGivenUp recover row = row.given_up ≡ slice_get row.gave recover
 
--- the rows of a run's slaves: the slaves are those behind the frames, one row each
+-- when the packets of a slave with this port came in, as a book has it: how many frames had been sent then
+abbrev pub packets_by : Option ℕ → Book → List ℕ
+packets_by None book = []
+packets_by (Some port) book = numbers_where (comes_in port) book.switch book.switched
+
+-- of the slave at a place
+abbrev pub packets_of : Scenario → Book → ℕ → List ℕ
+packets_of plan book k = packets_by (port_by (slice_get (ports_behind 0 plan.slaves) k)) book
+
+-- the rows of a run's slaves: the slaves are those behind the frames, one row each; the frames of the services that came into hand don't fall, and the epochs have their counts
 pub record HasRows (plan : Scenario) (book : Book) : Type 0 where
   pub many : length book.slaves ≡ length plan.slaves
   pub nodes : map (λ (row : SlaveBook). row.node) book.slaves ≡ (ring_after (first_ring plan) book.frames).nodes
   pub given_up : All (IsGivenUp plan.recover) book.slaves
+  pub dated : AreDated (length book.frames) (packets_of plan book) book.slaves
 
 -- how a run's session may end
 abbrev pub EndsSo : SessionState → Ending → Type 0

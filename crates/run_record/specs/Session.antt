@@ -25,11 +25,13 @@ use Rattle.packets_heard.specs.Numbers.{each_with}
 use Rattle.run_record.specs.Led.{exchanged}
 use Rattle.run_record.specs.ServedLed.{LeadsFrame, ServedLeading}
 use Rattle.run_record.specs.Replay.{first_ring, behind, IsRecorded}
+use Rattle.run_notes.specs.Counted.{slaves_at}
 use Rattle.run_notes.specs.Switched.{IsSwitched}
+use Rattle.run_notes.specs.Times.{IsTimedBy, between}
 use Rattle.run_notes.specs.Slaves.{first_notes, home_of, slave_row, slave_rows, KeepsRest}
 
 -- a session: the ring with its slaves, what became of each slave, their stations and the lengths of their mailboxes, the mails that are
--- passed on to each and how many of them still wait, the master, the ports of its switch, how often a slave is taken up again, the most frames, and
+-- passed on to each and how many of them still wait, the master, the ports of its switch and the slaves at them, how often a slave is taken up again, the most frames, and
 -- whether requests are served
 pub record SessionState : Type 0 where
   pub ring : RingState (Node SlaveServer)
@@ -39,6 +41,7 @@ pub record SessionState : Type 0 where
   pub waiting : List ℕ
   pub master : MasterNode
   pub ports : ℕ
+  pub at_ports : List ℕ
   pub recover : ℕ
   pub budget : ℕ
   pub serving : Bool
@@ -66,6 +69,7 @@ first_session plan grams master = record {
   waiting = replicate (length plan.slaves) 0;
   master = master;
   ports = ports_of plan.slaves;
+  at_ports = slaves_at 0 plan.slaves;
   recover = plan.recover;
   budget = budget_of plan grams;
   serving = nat_lt 0 grams;
@@ -108,6 +112,10 @@ LedOn s f = (plan : Scenario) (fs : List Exchanged) → length fs ≡ s.ring.num
 abbrev pub SwitchesOn : SessionState → Book → SessionState → Book → Type 0
 SwitchesOn s b s' b' = (host : List (ArrayVec ℕ)) → IsSwitched s.ports host s.ring.number s.master.lan b → IsSwitched s'.ports host s'.ring.number s'.master.lan b'
 
+-- what is noted goes on with the book: the frames of rows don't fall, and the epochs have their counts
+abbrev pub TimesOn : SessionState → Book → SessionState → Book → Type 0
+TimesOn s b s' b' = IsTimedBy (between s.ring.number) s.at_ports b s.notes → IsTimedBy (between s'.ring.number) s'.at_ports b' s'.notes
+
 -- WHAT HAPPENS AT THE SWITCH over a frame: while it is made, and by its return or its loss
 pub record FrameEvents : Type 0 where
   pub making : List SwitchEvent
@@ -140,11 +148,13 @@ pub record Steps (s : SessionState) (b : Book) (s' : SessionState) (b' : Book) (
   pub homes : s'.homes ≡ s.homes
   pub asked : s'.asked ≡ s.asked
   pub ports : s'.ports ≡ s.ports
+  pub at_ports : s'.at_ports ≡ s.at_ports
   pub recover : s'.recover ≡ s.recover
   pub budget : s'.budget ≡ s.budget
   pub serving : s'.serving ≡ s.serving
   pub rest : KeepsRest s.ports b b'
   pub switch : SwitchesOn s b s' b'
+  pub timed : TimesOn s b s' b'
 
 -- a mail as it is passed on, with the key of its asker
 abbrev pub asked_mail : ℕ → Mail → AskedMail

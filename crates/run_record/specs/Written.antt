@@ -1,5 +1,5 @@
 -- WHEN THE PACKETS WERE OVER that came into hand of the slaves of a run or a serving, by the lives of these.
-use Rattle.std.specs.Prelude.{◌≡◌, ◌&&◌, ℕ, Bool, not, Option, None, List, [], ◌∷◌, ◌++◌, length, map, ⊤}
+use Rattle.std.specs.Prelude.{◌≡◌, ◌&&◌, ℕ, Bool, not, Option, None, List, [], ◌++◌, length, map, ⊤}
 use Rattle.master_node.specs.Backtold.{has_packet}
 use Rattle.master_node.specs.Begins.{begun_of}
 use Rattle.master_node.specs.Serving.{run_lead, run_turn}

@@ -74,7 +74,7 @@ impl Model for Session {
 
     ghost Value = { SessionState };
 
-    ghost view = { λ s. record { ring = s.ring; notes = s.log.notes; homes = s.log.homes; asked = s.log.asked; waiting = map waiting_of s.master.posts.items; master = s.master; ports = 1 + length s.log.ports; recover = s.log.recover; budget = s.budget; serving = s.serving } };
+    ghost view = { λ s. record { ring = s.ring; notes = s.log.notes; homes = s.log.homes; asked = s.log.asked; waiting = map waiting_of s.master.posts.items; master = s.master; ports = 1 + length s.log.ports; at_ports = s.log.ports; recover = s.log.recover; budget = s.budget; serving = s.serving } };
 
     ghost invariant = { λ s. (s.number ≡ s.ring.number) × (s.number ≤ s.budget) × (s.budget ≤ 100000000) × (length s.log.notes ≡ length s.ring.nodes) × (length s.ring.nodes ≤ 16) × (length s.log.homes ≡ length s.ring.nodes) × (length s.log.asked ≡ length s.ring.nodes) × (vec_len s.master.posts ≡ length s.ring.nodes) };
 }

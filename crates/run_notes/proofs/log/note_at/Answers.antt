@@ -6,6 +6,8 @@ use Rattle.run_notes.proofs.Reports.{answered_reports}
 use Rattle.master_node.specs.declared.event.Event.{Event}
 use Rattle.run_notes.specs.Handed.{GoesBy, kind_told}
 use Rattle.run_notes.proofs.Handed.{answered_goes, same_goes}
+use Rattle.run_notes.proofs.Times.{time_reply}
+use Rattle.run_notes.specs.Times.{Goes, behind}
 use Rattle.run_notes.proofs.log.note_at.Goals as goal
 
 pub returns-in_ok-reply-in-Answered-clause-told : goal.returns-in_ok-reply-in-Answered-clause-told
@@ -49,6 +51,9 @@ returns-in-GatewayDone-clause-mails c =
 
 pub returns-in-Cleared-clause-mails : goal.returns-in-Cleared-clause-mails
 returns-in-Cleared-clause-mails c =
-    let n = c.args.notes.now in
-    let m : Notes = record n { own = c.in-Cleared.own } in
-    subst (λ (e : Event). GoesBy c.args.moment.frame (kind_told e) n m) (sym c.in-Cleared.is) (same_goes c.args.moment.frame n m refl refl refl refl refl)
+    subst (λ (e : Event). GoesBy c.args.moment.frame (kind_told e) c.args.notes.now c.args.notes.now) (sym c.in-Cleared.is) (same_goes c.args.moment.frame c.args.notes.now c.args.notes.now refl refl refl refl refl)
+
+pub returns-in_ok-reply-in-Answered-clause-time : goal.returns-in_ok-reply-in-Answered-clause-time
+returns-in_ok-reply-in-Answered-clause-time c =
+    let t = behind c.args.moment.frame in
+    on_ok_weaker c.answered.result (λ is. subst (λ (z : Notes). Goes t t c.args.notes.now z) (sym is) (time_reply c.args.moment.frame c.args.notes.now c.in_ok-reply-in-Answered.reply)) c.answered.ensures.is

@@ -88,7 +88,7 @@ returns-clause-ends c =
     let so = c.ending_of-ending.ensures.ends in
     elim c.finish.ensures.answers [
       | inl same ↦ subst (EndsAs c.args.plan.now c.finish.new.book) (sym same)
-          (ran_as c.args.plan.now s c.finish.new.book c.ending_of-ending.result so (ended c.args.plan.now 0 s c.loop-settled.book c.finish.new.book c.loop-settled.invariant.underway c.finish.ensures.frames
+          (ran_as c.args.plan.now s c.finish.new.book c.ending_of-ending.result so (ended c.args.plan.now 0 s c.loop-settled.book c.finish.new.book c.loop-settled.invariant.underway c.finish.ensures.frames c.finish.ensures.same
           (c.finish.ensures.rows (λ none. subst (EndsSo s) (sym same ∙ none) so)) c.finish.ensures.many c.ending_of-ending.result (ran_so s c.ending_of-ending.result so)))
       | inr none ↦ subst (EndsAs c.args.plan.now c.finish.new.book) (sym none) tt
     ]

@@ -9,6 +9,8 @@ use Rattle.run_notes.specs.Handed.{kinds_in}
 use Rattle.master_node.specs.declared.event.Event.{Event}
 use Rattle.master_node.specs.Listing.{events_in}
 use Rattle.run_notes.specs.Handed.{MailsBehind}
+use Rattle.run_notes.proofs.Timings.{times_after}
+use Rattle.run_notes.specs.Times.{TimesGo, behind}
 use Rattle.run_notes.proofs.standing.Log.note.Goals as goal
 
 pub returns-clause-slaves : goal.returns-clause-slaves
@@ -44,3 +46,13 @@ returns-clause-mails c =
     let told : MailsBehind c.args.moment.frame kinds first mid = subst (λ (es : List Event). MailsBehind c.args.moment.frame (λ k. kinds_in k es) first mid) c.events.ensures c.in_ok-note_events.ensures.mails in
     any_ok c.note_happened.result
     (λ at_home. mails_then c.args.moment.frame kinds first.notes mid.notes c.note_happened.new.self.notes (told at_home) (stay_services c.args.moment.frame mid.notes c.note_happened.new.self.notes c.note_happened.ensures.services c.note_happened.ensures.gave))
+
+pub returns-clause-time : goal.returns-clause-time
+returns-clause-time c =
+    let t = behind c.args.moment.frame in
+    let mid = c.note_events.new.self in
+    let happened = c.args.master.now.lan.happened in
+    on_ok_weaker c.note_happened.result
+    (λ times. times_after t t t c.args.moment.sent happened c.args.self.now mid c.note_happened.new.self c.args.book.now c.note_happened.new.book c.note_events.ensures.slaves c.in_ok-note_events.ensures.time (λ m. m)
+    (subst (λ rows. TimesGo t t c.args.moment.sent rows c.args.book.now mid c.note_happened.new.book c.note_happened.new.self) c.happened.ensures (times t)))
+    c.note_happened.ensures.time

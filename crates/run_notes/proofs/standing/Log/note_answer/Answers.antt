@@ -1,4 +1,4 @@
-use Rattle.std.proofs.Common.{◌≡◌, ℕ, List, sym, ap, ◌∙◌, subst, []}
+use Rattle.std.proofs.Common.{◌≡◌, ℕ, List, suc, sym, ap, ◌∙◌, subst, []}
 use Rattle.std.specs.Prelude.{IfSome, slice_get}
 use Rattle.std.proofs.lemmas.Result.{on_ok_weaker}
 use Rattle.run_notes.specs.declared.notes.Awaited.{Awaited}
@@ -15,6 +15,10 @@ use Rattle.master_node.specs.Told.{Tells}
 use Rattle.run_notes.proofs.Packets.{same_begun}
 use Rattle.run_notes.proofs.Handings.{stay_set, told_goes}
 use Rattle.run_notes.specs.Handed.{GoesBy}
+use Rattle.run_notes.specs.Notes.{told_noted}
+use Rattle.run_notes.proofs.Times.{seen_behind, time_told}
+use Rattle.run_notes.proofs.Timings.{seen_set}
+use Rattle.run_notes.specs.Times.{Goes, behind, between}
 use Rattle.run_notes.proofs.standing.Log.note_answer.Goals as goal
 
 pub invariant_of-self : goal.invariant_of-self
@@ -57,4 +61,13 @@ returns-clause-mails c =
     let got = got_there log.notes c.args.at n c.requires.notes c.at_mut-notes.ensures.value in
     on_ok_weaker c.note_back.result
     (λ is. stay_set c.args.frame log.notes c.args.at n c.note_back.new.notes c.at_mut-notes.ensures.value (subst (λ (z : Notes). GoesBy c.args.frame [] n z) (sym is) (told_goes c.args.frame n c.in_ok-told.told c.told.new.into c.is_leaving-leaves.result c.is_open-opens.result c.args.frame (awaited_at Awaited.Reply log.notes c.args.at n got c.requires.awaited))))
+    c.note_back.ensures.is
+
+pub returns-clause-time : goal.returns-clause-time
+returns-clause-time c =
+    let n = c.at_mut-notes.result.now in
+    let got = got_there c.args.self.now.notes c.args.at n c.requires.notes c.at_mut-notes.ensures.value in
+    on_ok_weaker c.note_back.result
+    (λ is. seen_set c.args.frame c.args.self.now.notes c.args.at n c.note_back.new.notes c.at_mut-notes.ensures.value
+    (subst (λ (z : Notes). Goes (behind c.args.frame) (between (suc c.args.frame)) n z) (sym is) (seen_behind c.args.frame n (told_noted c.in_ok-told.told c.told.new.into c.args.frame n) c.is_leaving-leaves.result c.is_open-opens.result (time_told c.args.frame n c.in_ok-told.told c.told.new.into (awaited_at Awaited.Reply c.args.self.now.notes c.args.at n got c.requires.awaited)))))
     c.note_back.ensures.is

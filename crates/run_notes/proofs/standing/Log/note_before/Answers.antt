@@ -8,6 +8,8 @@ use Rattle.run_notes.proofs.Kept.{slaves_more, at_log}
 use Rattle.run_notes.proofs.Ways.{any_ok}
 use Rattle.run_notes.proofs.Switched.{switch_at}
 use Rattle.run_notes.proofs.Handings.{doubts_services, doubts_then}
+use Rattle.run_notes.proofs.Timings.{goes_then, times_after}
+use Rattle.run_notes.specs.Times.{Time, TimesGo, making}
 use Rattle.run_notes.proofs.standing.Log.note_before.Goals as goal
 
 pub returns-in_err-note_begun-clause-slaves : goal.returns-in_err-note_begun-clause-slaves
@@ -59,3 +61,14 @@ returns-clause-doubts c =
     let last = c.note_happened.new.self.notes in
     any_ok c.note_happened.result
     (doubts_then first begun last (doubts_then first scripts begun c.in_ok-note_scripts.ensures.doubts c.in_ok-note_begun.ensures.doubts) (doubts_services begun last c.note_happened.ensures.services c.note_happened.ensures.gave))
+
+pub returns-clause-time : goal.returns-clause-time
+returns-clause-time c =
+    let t : Time = making c.args.moment.frame in
+    let mid = c.note_begun.new.self in
+    let happened = c.args.master.now.lan.happened in
+    on_ok_weaker c.note_happened.result
+    (λ times. times_after t t t c.args.moment.sent happened c.args.self.now mid c.note_happened.new.self c.args.book.now c.note_happened.new.book (slaves_more c.note_scripts.ensures.slaves c.note_begun.ensures.slaves)
+    (goes_then (λ k. t) (λ k. t) (λ k. t) c.args.self.now.notes c.note_scripts.new.self.notes mid.notes c.in_ok-note_scripts.ensures.time c.in_ok-note_begun.ensures.time) (λ m. m)
+    (subst (λ rows. TimesGo t t c.args.moment.sent rows c.args.book.now mid c.note_happened.new.book c.note_happened.new.self) c.happened.ensures (times t)))
+    c.note_happened.ensures.time

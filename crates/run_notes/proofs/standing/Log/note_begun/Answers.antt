@@ -13,6 +13,7 @@ loop-event-init c = record {
   beside = noted_first c.args.frame c.args.events.now c.args.self.now.notes;
   free = λ k f. f;
   doubts = doubts_same c.args.self.now.notes;
+  time = λ packets all. all;
 }
 
 pub loop-event-preserved : goal.loop-event-preserved
@@ -26,6 +27,7 @@ loop-event-preserved c =
       told = λ as' r. c.in_ok-note_begun_by.ensures.told as' (inv.told as' r);
       beside = noted_next c.args.frame c.args.events.now c.loop-event.event-index c.event-item.result c.args.self.now.notes c.loop-event.self.notes c.note_begun_by.new.self.notes c.loop-event-test.true c.event-item.is inv.slaves.notes inv.beside inv.free c.in_ok-note_begun_by.ensures.beside;
       doubts = doubts_then c.args.self.now.notes c.loop-event.self.notes c.note_begun_by.new.self.notes inv.doubts c.in_ok-note_begun_by.ensures.doubts;
+      time = λ packets all. c.in_ok-note_begun_by.ensures.time packets (inv.time packets all);
       free = stay_then c.args.self.now.notes c.loop-event.self.notes c.note_begun_by.new.self.notes inv.free c.in_ok-note_begun_by.ensures.free;
     }
 

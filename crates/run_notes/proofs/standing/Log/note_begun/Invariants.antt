@@ -6,6 +6,7 @@ use Rattle.run_notes.specs.Reports.{KeepsReports}
 use Rattle.run_notes.specs.Slaves.{SameSlaves}
 use Rattle.run_notes.proofs.Packets.{NotedTo}
 use Rattle.run_notes.specs.Handed.{AllDoubts}
+use Rattle.run_notes.specs.Times.{KeepsTime, making}
 use Rattle.run_notes.proofs.standing.Log.note_begun.Given as goal
 
 abbrev pub invariant-loop-event : goal.invariant-loop-event
@@ -16,5 +17,6 @@ invariant-loop-event l = record {
   told : KeepsReports l.initial.self.notes l.self.notes;
   beside : NotedTo l.frame l.events l.event-index l.initial.self.notes l.self.notes;
   doubts : AllDoubts l.initial.self.notes l.self.notes;
+  time : KeepsTime (making l.frame) l.initial.self.notes l.self.notes;
   free : StayFree l.initial.self.notes l.self.notes;
 }

@@ -9,6 +9,9 @@ use Rattle.run_notes.proofs.Stations.{same_noted}
 use Rattle.run_notes.proofs.Ways.{any_ok}
 use Rattle.run_notes.proofs.Handings.{began_doubt, doubts_same, doubts_set}
 use Rattle.run_notes.specs.Handed.{Doubts}
+use Rattle.run_notes.proofs.Times.{time_beside}
+use Rattle.run_notes.proofs.Timings.{keeps_set}
+use Rattle.run_notes.specs.Times.{Goes, making}
 use Rattle.run_notes.proofs.standing.Log.note_begun_at.Goals as goal
 
 pub invariant_of-self : goal.invariant_of-self
@@ -50,4 +53,15 @@ returns-clause-doubts c =
     let n = c.at_mut.result.now in
     on_ok_weaker c.note_began.result
     (λ is. doubts_set c.args.self.now.notes c.args.at n c.note_began.new.notes c.at_mut.ensures.value (subst (λ (z : Notes). Doubts n z) (sym is) (began_doubt n c.args.origin c.args.frame)))
+    c.note_began.ensures.is
+
+pub returns-then-place-len-clause-time : goal.returns-then-place-len-clause-time
+returns-then-place-len-clause-time c = λ packets all. all
+
+pub returns-clause-time : goal.returns-clause-time
+returns-clause-time c =
+    let t = making c.args.frame in
+    let n = c.at_mut.result.now in
+    on_ok_weaker c.note_began.result
+    (λ is. keeps_set t c.args.self.now.notes c.args.at n c.note_began.new.notes c.at_mut.ensures.value (subst (λ (z : Notes). Goes t t n z) (sym is) (time_beside c.args.frame n c.args.origin)))
     c.note_began.ensures.is

@@ -15,6 +15,7 @@ loop-place-init c = record {
   rows = refl;
   services = refl;
   told = λ as' r. r;
+  time = λ packets all. all;
 }
 
 pub loop-place-preserved : goal.loop-place-preserved
@@ -23,6 +24,7 @@ loop-place-preserved c =
     let place = c.loop-place.place in
     record {
       slaves = slaves_more inv.slaves c.note_emergency.ensures.slaves;
+      time = λ packets all. c.in_ok-note_emergency.ensures.time packets (inv.time packets all);
       gave = c.in_ok-note_emergency.ensures.gave ∙ inv.gave;
       heard = λ us back hss x noted.
           let e : suc place ≡ place + 1 = omega arith in

@@ -11,6 +11,9 @@ use Rattle.run_notes.proofs.Ways.{any_ok}
 use Rattle.run_notes.proofs.Packets.{same_begun}
 use Rattle.run_notes.proofs.Handings.{same_services}
 use Rattle.run_notes.specs.Handed.{services_of}
+use Rattle.run_notes.proofs.Times.{time_alarmed}
+use Rattle.run_notes.proofs.Timings.{keeps_set}
+use Rattle.run_notes.specs.Times.{Goes, behind}
 use Rattle.run_notes.proofs.standing.Log.note_emergency.Goals as goal
 
 pub invariant_of-self : goal.invariant_of-self
@@ -49,4 +52,15 @@ pub returns-clause-services : goal.returns-clause-services
 returns-clause-services c =
     on_ok_weaker c.alarmed.result
     (λ is. same_services c.args.self.now.notes c.args.at c.at_mut.result.now c.alarmed.new.self (ap services_of is ∙ ap services_of c.at_mut.ensures.value))
+    c.alarmed.ensures.is
+
+pub returns-in_default-clause-time : goal.returns-in_default-clause-time
+returns-in_default-clause-time c = λ packets all. all
+
+pub returns-clause-time : goal.returns-clause-time
+returns-clause-time c =
+    let t = behind c.args.frame in
+    let n = c.at_mut.result.now in
+    on_ok_weaker c.alarmed.result
+    (λ is. keeps_set t c.args.self.now.notes c.args.at n c.alarmed.new.self c.at_mut.ensures.value (subst (λ (z : Notes). Goes t t n z) (sym is) (time_alarmed c.args.frame n c.in_ok-octets.octets)))
     c.alarmed.ensures.is

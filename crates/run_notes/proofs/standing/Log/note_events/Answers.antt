@@ -10,6 +10,7 @@ loop-event-init c = record {
   heard = refl;
   rows = refl;
   told = λ as' r. r;
+  time = λ packets all. all;
   mails = λ at_home. stay_same c.args.moment.frame c.args.self.now.notes;
 }
 
@@ -22,6 +23,7 @@ loop-event-preserved c =
       heard = c.in_ok-note_event.ensures.heard ∙ inv.heard;
       rows = c.in_ok-note_event.ensures.rows ∙ inv.rows;
       told = λ as' r. c.in_ok-note_event.ensures.told as' (inv.told as' r);
+      time = λ packets all. c.in_ok-note_event.ensures.time packets (inv.time packets all);
       mails = behind_next c.args.moment.frame c.args.events.now c.loop-event.event-index c.event-item.result c.args.self.now c.loop-event.self c.note_event.new.self c.loop-event-test.true c.event-item.is inv.slaves.homes inv.slaves.notes inv.gave inv.mails c.in_ok-note_event.ensures.mails;
     }
 

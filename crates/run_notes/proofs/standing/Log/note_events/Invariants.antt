@@ -5,6 +5,7 @@ use Rattle.run_notes.specs.Reports.{KeepsReports}
 use Rattle.run_notes.specs.Slaves.{SameSlaves}
 use Rattle.run_notes.specs.Packets.{begun_noted}
 use Rattle.run_notes.specs.Handed.{MailsBehind, kinds_in}
+use Rattle.run_notes.specs.Times.{KeepsTime, behind}
 use Rattle.run_notes.proofs.standing.Log.note_events.Given as goal
 
 abbrev pub invariant-loop-event : goal.invariant-loop-event
@@ -15,4 +16,5 @@ invariant-loop-event l = record {
   mails : MailsBehind l.moment.frame (λ k. kinds_in k (take l.event-index l.events)) l.initial.self l.self;
   rows : begun_noted l.self.notes ≡ begun_noted l.initial.self.notes;
   told : KeepsReports l.initial.self.notes l.self.notes;
+  time : KeepsTime (behind l.moment.frame) l.initial.self.notes l.self.notes;
 }

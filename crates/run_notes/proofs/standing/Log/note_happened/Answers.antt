@@ -1,6 +1,7 @@
 use Rattle.std.proofs.Common.{◌+◌, ◌∷◌, [], length, refl, ◌∙◌}
 use Rattle.run_notes.proofs.Kept.{slaves_more, frames_more, at_log}
 use Rattle.run_notes.proofs.Switched.{notes_first, notes_next, notes_last, switch_at}
+use Rattle.run_notes.proofs.Timings.{times_next}
 use Rattle.run_notes.proofs.standing.Log.note_happened.Goals as goal
 
 pub loop-row-init : goal.loop-row-init
@@ -11,6 +12,7 @@ loop-row-init c = record {
   rows = refl;
   services = refl;
   told = λ as' r. r;
+  time = λ t may h. h;
   frames = record { frames = refl; rest = record { slaves = refl; grams = refl; replies = refl; serving = refl; at_port = λ all. all } };
   switch = notes_first (1 + length c.args.self.now.ports) c.args.moment.sent c.args.rows.now c.args.book.now;
 }
@@ -26,6 +28,7 @@ loop-row-preserved c =
       rows = c.note_switch.ensures.rows ∙ inv.rows;
       services = c.note_switch.ensures.services ∙ inv.services;
       told = λ as' r. c.note_switch.ensures.told as' (inv.told as' r);
+      time = λ t. times_next t c.args.moment.sent c.args.rows.now c.loop-row.row-index c.row-item.result c.args.self.now c.loop-row.self c.note_switch.new.self c.args.book.now c.loop-row.book c.note_switch.new.book c.loop-row-test.true c.row-item.is inv.slaves (inv.time t) (c.in_ok-note_switch.ensures.time t);
       frames = frames_more ports inv.frames (at_log inv.slaves c.note_switch.ensures.frames);
       switch = notes_next ports c.args.moment.sent c.args.rows.now c.loop-row.row-index c.row-item.result c.args.book.now c.loop-row.book c.note_switch.new.book c.loop-row-test.true c.row-item.is inv.switch
           (switch_at c.args.self.now c.loop-row.self c.args.moment.sent (c.row-item.result ∷ []) c.loop-row.book c.note_switch.new.book inv.slaves c.in_ok-note_switch.ensures.switch);

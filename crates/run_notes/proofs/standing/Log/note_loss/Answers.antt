@@ -19,6 +19,9 @@ use Rattle.run_notes.proofs.Packets.{same_begun}
 use Rattle.run_notes.proofs.Handings.{stay_same, stay_set}
 use Rattle.run_notes.specs.Handed.{GoesBy}
 use Rattle.run_notes.proofs.Handed.{given_goes}
+use Rattle.run_notes.proofs.Times.{time_given}
+use Rattle.run_notes.proofs.Timings.{keeps_set}
+use Rattle.run_notes.specs.Times.{Goes, behind}
 use Rattle.run_notes.proofs.standing.Log.note_loss.Goals as goal
 
 pub returns-then-not-gave_up_more-clause-gave : goal.returns-then-not-gave_up_more-clause-gave
@@ -110,4 +113,15 @@ returns-clause-mails c =
     on_ok_weaker c.given_up-noted.result
     (λ is. stay_set c.args.frame c.args.self.now.notes c.args.at n c.given_up-noted.new.self c.at_mut-notes.ensures.value
     (subst (λ (z : Notes). GoesBy c.args.frame [] n z) (sym is) (given_goes c.args.frame n c.is_leaving-leaves.result c.args.frame)))
+    c.given_up-noted.ensures.is
+
+pub returns-then-not-gave_up_more-clause-time : goal.returns-then-not-gave_up_more-clause-time
+returns-then-not-gave_up_more-clause-time c = λ packets all. all
+
+pub returns-clause-time : goal.returns-clause-time
+returns-clause-time c =
+    let t = behind c.args.frame in
+    let n = c.at_mut-notes.result.now in
+    on_ok_weaker c.given_up-noted.result
+    (λ is. keeps_set t c.args.self.now.notes c.args.at n c.given_up-noted.new.self c.at_mut-notes.ensures.value (subst (λ (z : Notes). Goes t t n z) (sym is) (time_given c.args.frame n c.is_leaving-leaves.result)))
     c.given_up-noted.ensures.is

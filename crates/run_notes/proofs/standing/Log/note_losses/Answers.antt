@@ -24,6 +24,7 @@ loop-place-preserved c =
       heard = c.in_ok-note_loss.ensures.heard ∙ inv.heard;
       rows = c.in_ok-note_loss.ensures.rows ∙ inv.rows;
       mails = mails_then c.args.frame (λ k. []) first.notes now.notes c.note_loss.new.self.notes inv.mails c.in_ok-note_loss.ensures.mails;
+      time = λ packets all. c.in_ok-note_loss.ensures.time packets (inv.time packets all);
       told = λ lens as' bs told all p r.
           let e : suc place ≡ place + 1 = omega arith in
           subst (λ (k : ℕ). ReportsTo k as' bs c.note_loss.new.self.notes) e
@@ -48,6 +49,7 @@ loop-place-init c = record {
   heard = refl;
   rows = refl;
   mails = stay_same c.args.frame c.args.self.now.notes;
+  time = λ packets all. all;
   told = λ lens as' bs told all p r. to_first as' bs c.args.self.now.notes (both_lengths (λ a b. LosesSo c.args.frame a b) as' bs p) r;
 }
 

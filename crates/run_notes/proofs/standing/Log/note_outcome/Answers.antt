@@ -1,4 +1,4 @@
-use Rattle.std.proofs.Common.{◌≡◌, sym, ap, ◌∙◌, subst, []}
+use Rattle.std.proofs.Common.{◌≡◌, suc, sym, ap, ◌∙◌, subst, []}
 use Rattle.std.proofs.lemmas.Result.{on_ok_weaker}
 use Rattle.run_notes.specs.declared.notes.Awaited.{Awaited}
 use Rattle.run_notes.specs.declared.notes.Notes.{Notes}
@@ -12,6 +12,10 @@ use Rattle.script_runs.specs.Steps.{PassesSo}
 use Rattle.run_notes.proofs.Packets.{same_begun}
 use Rattle.run_notes.proofs.Handings.{stay_set, change_goes}
 use Rattle.run_notes.specs.Handed.{GoesBy}
+use Rattle.run_notes.specs.Notes.{change_noted}
+use Rattle.run_notes.proofs.Times.{seen_behind, time_change}
+use Rattle.run_notes.proofs.Timings.{seen_set}
+use Rattle.run_notes.specs.Times.{Goes, behind, between}
 use Rattle.run_notes.proofs.standing.Log.note_outcome.Goals as goal
 
 pub invariant_of-self : goal.invariant_of-self
@@ -53,4 +57,13 @@ returns-clause-mails c =
     let got = got_there log.notes c.args.at n c.requires.notes c.at_mut-notes.ensures.value in
     on_ok_weaker c.note_turned.result
     (λ is. stay_set c.args.frame log.notes c.args.at n c.note_turned.new.notes c.at_mut-notes.ensures.value (subst (λ (z : Notes). GoesBy c.args.frame [] n z) (sym is) (change_goes c.args.frame n c.changed-changed.result c.is_leaving-leaves.result c.is_open-opens.result c.args.frame (awaited_at Awaited.Change log.notes c.args.at n got c.requires.awaited))))
+    c.note_turned.ensures.is
+
+pub returns-clause-time : goal.returns-clause-time
+returns-clause-time c =
+    let n = c.at_mut-notes.result.now in
+    let got = got_there c.args.self.now.notes c.args.at n c.requires.notes c.at_mut-notes.ensures.value in
+    on_ok_weaker c.note_turned.result
+    (λ is. seen_set c.args.frame c.args.self.now.notes c.args.at n c.note_turned.new.notes c.at_mut-notes.ensures.value
+    (subst (λ (z : Notes). Goes (behind c.args.frame) (between (suc c.args.frame)) n z) (sym is) (seen_behind c.args.frame n (change_noted c.is_open-opens.result c.changed-changed.result c.args.frame n) c.is_leaving-leaves.result c.is_open-opens.result (time_change c.args.frame n c.is_open-opens.result c.changed-changed.result (awaited_at Awaited.Change c.args.self.now.notes c.args.at n got c.requires.awaited)))))
     c.note_turned.ensures.is

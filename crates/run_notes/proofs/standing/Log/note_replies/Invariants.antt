@@ -5,6 +5,7 @@ use Rattle.run_notes.specs.Reports.{AllReport, ReportsTo, PassesAll}
 use Rattle.run_notes.specs.Slaves.{SameSlaves}
 use Rattle.run_notes.specs.Packets.{begun_noted}
 use Rattle.run_notes.specs.Handed.{MailsStay}
+use Rattle.run_notes.specs.Times.{TimeGoes, behind, seen_to}
 use Rattle.run_notes.proofs.standing.Log.note_replies.Given as goal
 
 abbrev pub invariant-loop-place : goal.invariant-loop-place
@@ -13,6 +14,7 @@ invariant-loop-place l = record {
   gave : gaves_noted l.self.notes ≡ gaves_noted l.initial.self.notes;
   heard : emergencies_noted l.self.notes ≡ emergencies_noted l.initial.self.notes;
   mails : MailsStay l.frame l.initial.self.notes l.self.notes;
+  time : TimeGoes (λ k. behind l.frame) (seen_to l.frame l.place) l.initial.self.notes l.self.notes;
   rows : begun_noted l.self.notes ≡ begun_noted l.initial.self.notes;
   told : PassesAll l.frame l.master (λ as' bs. AllReport as' l.initial.self.notes → ReportsTo l.place as' bs l.self.notes);
 }

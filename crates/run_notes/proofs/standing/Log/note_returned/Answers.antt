@@ -1,6 +1,8 @@
-use Rattle.std.proofs.Common.{[], ◌∙◌}
+use Rattle.std.proofs.Common.{suc, [], ◌∙◌}
 use Rattle.std.proofs.lemmas.Result.{on_ok_weaker}
 use Rattle.run_notes.proofs.Handings.{mails_then, stay_services}
+use Rattle.run_notes.proofs.Timings.{goes_then}
+use Rattle.run_notes.specs.Times.{behind, between}
 use Rattle.run_notes.proofs.standing.Log.note_returned.Goals as goal
 
 pub returns-clause-heard : goal.returns-clause-heard
@@ -21,3 +23,10 @@ returns-clause-mails c =
     on_ok_weaker c.note_replies.result
     (λ h. mails_then c.args.frame (λ k. []) first mid c.note_replies.new.self.notes (stay_services c.args.frame first mid c.in_ok-note_emergencies.ensures.services c.in_ok-note_emergencies.ensures.gave) h)
     c.note_replies.ensures.mails
+
+pub returns-clause-time : goal.returns-clause-time
+returns-clause-time c =
+    let frame = c.args.frame in
+    on_ok_weaker c.note_replies.result
+    (λ goes. goes_then (λ k. behind frame) (λ k. behind frame) (λ k. between (suc frame)) c.args.self.now.notes c.note_emergencies.new.self.notes c.note_replies.new.self.notes c.in_ok-note_emergencies.ensures.time goes)
+    c.note_replies.ensures.time

@@ -12,6 +12,9 @@ use Rattle.script_runs.specs.Steps.{TurnsSo}
 use Rattle.run_notes.proofs.Packets.{script_rows}
 use Rattle.run_notes.proofs.Handings.{doubts_same, doubts_set, script_doubt}
 use Rattle.run_notes.specs.Handed.{Doubts}
+use Rattle.run_notes.proofs.Times.{time_script}
+use Rattle.run_notes.proofs.Timings.{keeps_set}
+use Rattle.run_notes.specs.Times.{Goes, making}
 use Rattle.run_notes.proofs.standing.Log.note_script.Goals as goal
 
 pub returns-then-number-rows-clause-told : goal.returns-then-number-rows-clause-told
@@ -71,4 +74,15 @@ returns-clause-doubts c =
     let n = c.at_mut.result.now in
     on_ok_weaker c.began_script.result
     (λ is. doubts_set c.args.self.now.notes c.args.at n c.began_script.new.self c.at_mut.ensures.value (subst (λ (z : Notes). Doubts n z) (sym is) (script_doubt n c.scripted-number.result c.changes_state-state.result c.args.frame)))
+    c.began_script.ensures.is
+
+pub returns-then-number-rows-clause-time : goal.returns-then-number-rows-clause-time
+returns-then-number-rows-clause-time c = λ packets all. all
+
+pub returns-clause-time : goal.returns-clause-time
+returns-clause-time c =
+    let t = making c.args.frame in
+    let n = c.at_mut.result.now in
+    on_ok_weaker c.began_script.result
+    (λ is. keeps_set t c.args.self.now.notes c.args.at n c.began_script.new.self c.at_mut.ensures.value (subst (λ (z : Notes). Goes t t n z) (sym is) (time_script c.args.frame n c.scripted-number.result c.changes_state-state.result)))
     c.began_script.ensures.is

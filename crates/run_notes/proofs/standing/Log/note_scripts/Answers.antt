@@ -13,6 +13,7 @@ loop-place-init c = record {
   heard = refl;
   beside = λ k. refl;
   doubts = doubts_same c.args.self.now.notes;
+  time = λ packets all. all;
   told = λ lens recover as' bs x p r. to_first as' bs c.args.self.now.notes (both_lengths (λ a b. TurnsSo c.args.frame a b) as' bs p) r;
 }
 
@@ -25,6 +26,7 @@ loop-place-preserved c =
       gave = c.in_ok-note_script.ensures.gave ∙ inv.gave;
       heard = c.in_ok-note_script.ensures.heard ∙ inv.heard;
       doubts = doubts_then c.args.self.now.notes c.loop-place.self.notes c.note_script.new.self.notes inv.doubts c.in_ok-note_script.ensures.doubts;
+      time = λ packets all. c.in_ok-note_script.ensures.time packets (inv.time packets all);
       beside = λ k. c.in_ok-note_script.ensures.beside k ∙ inv.beside k;
       told = λ lens recover as' bs x p r.
           let e : suc place ≡ place + 1 = omega arith in

@@ -10,6 +10,8 @@ use Rattle.run_notes.proofs.Stations.{among_stations, one_noted}
 use Rattle.run_notes.proofs.Packets.{same_begun}
 use Rattle.run_notes.proofs.Handings.{beyond, past_end, told_set}
 use Rattle.run_notes.specs.Handed.{kind_told}
+use Rattle.run_notes.proofs.Timings.{keeps_set}
+use Rattle.run_notes.specs.Times.{behind}
 use Rattle.run_notes.proofs.standing.Log.note_slave.Goals as goal
 
 pub at_mut-requires : goal.at_mut-requires
@@ -67,3 +69,9 @@ returns-clause-mails c =
     on_ok_weaker c.note_at-noted.result
     (λ h. λ at_home. told_set c.args.moment.frame c.args.self.now.notes c.args.at c.at_mut-notes.result.now c.note_at-noted.new.notes _ c.at_mut-notes.ensures.value h)
     c.note_at-noted.ensures.mails
+
+pub returns-clause-time : goal.returns-clause-time
+returns-clause-time c =
+    on_ok_weaker c.note_at-noted.result
+    (λ h. keeps_set (behind c.args.moment.frame) c.args.self.now.notes c.args.at c.at_mut-notes.result.now c.note_at-noted.new.notes c.at_mut-notes.ensures.value h)
+    c.note_at-noted.ensures.time

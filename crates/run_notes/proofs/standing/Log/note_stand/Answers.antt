@@ -1,4 +1,4 @@
-use Rattle.std.proofs.Common.{◌≡◌, sym, ap, ◌∙◌, subst, []}
+use Rattle.std.proofs.Common.{◌≡◌, suc, sym, ap, ◌∙◌, subst, []}
 use Rattle.std.proofs.lemmas.Result.{on_ok_weaker}
 use Rattle.run_notes.specs.declared.notes.Awaited.{Awaited}
 use Rattle.run_notes.specs.declared.notes.Notes.{Notes}
@@ -12,6 +12,9 @@ use Rattle.script_runs.specs.Steps.{PassesSo}
 use Rattle.run_notes.proofs.Packets.{same_begun}
 use Rattle.run_notes.proofs.Handings.{stay_set, stood_goes}
 use Rattle.run_notes.specs.Handed.{GoesBy}
+use Rattle.run_notes.proofs.Times.{time_stood}
+use Rattle.run_notes.proofs.Timings.{seen_set}
+use Rattle.run_notes.specs.Times.{Goes, behind, between}
 use Rattle.run_notes.proofs.standing.Log.note_stand.Goals as goal
 
 pub invariant_of-self : goal.invariant_of-self
@@ -52,4 +55,12 @@ returns-clause-mails c =
     let n = c.at_mut-notes.result.now in
     on_ok_weaker c.stands.result
     (λ is. stay_set c.args.frame log.notes c.args.at n c.stands.new.self c.at_mut-notes.ensures.value (subst (λ (z : Notes). GoesBy c.args.frame [] n z) (sym is) (stood_goes c.args.frame n c.is_leaving-leaves.result c.is_open-opens.result c.args.frame)))
+    c.stands.ensures.is
+
+pub returns-clause-time : goal.returns-clause-time
+returns-clause-time c =
+    let n = c.at_mut-notes.result.now in
+    on_ok_weaker c.stands.result
+    (λ is. seen_set c.args.frame c.args.self.now.notes c.args.at n c.stands.new.self c.at_mut-notes.ensures.value
+    (subst (λ (z : Notes). Goes (behind c.args.frame) (between (suc c.args.frame)) n z) (sym is) (time_stood c.args.frame n c.is_leaving-leaves.result c.is_open-opens.result)))
     c.stands.ensures.is

@@ -19,6 +19,8 @@ use Rattle.run_notes.specs.Reports.{ReportsBy, ReportsOn, TurnsAll}
 use Rattle.run_notes.specs.Slaves.{GaveBy, SameFrames, KeepsRest}
 use Rattle.run_notes.proofs.Kept.{rest_more}
 use Rattle.run_notes.specs.Switched.{IsSwitched, NotesSwitch}
+use Rattle.run_notes.specs.Times.{IsTimedBy, between}
+use Rattle.run_notes.proofs.Timings.{times_step}
 use Rattle.run_record.proofs.Numbered.{numbers_grown}
 use Rattle.run_notes.proofs.Switched.{switched_step, switch_grown}
 use Rattle.std.proofs.lemmas.Result.{on_ok_weaker}
@@ -59,7 +61,8 @@ returns-clause-ok c =
     let ring : c.self.inside.ring ≡ c.args.self.now.ring = ap (λ (s : SessionState). s.ring) c.self.view_is in
     let same : 1 + length c.note_before.new.self.ports ≡ ports = ap (λ (l : List ℕ). 1 + length l) c.note_before.ensures.slaves.ports in
     on_ok_weaker c.note_behind.result
-    (λ both.
+    (λ noted.
+    let both = noted.0 in
     let notes : NotesSwitch ports (c.self.inside.number + 1) c.tell.new.master.lan.happened c.put_frame.new.book c.note_behind.new.book =
     subst (λ (n : ℕ). NotesSwitch n (c.self.inside.number + 1) c.tell.new.master.lan.happened c.put_frame.new.book c.note_behind.new.book) same both.1.1.1.0 in
     let here : (host : List (ArrayVec ℕ)) → IsSwitched c.args.self.now.ports host c.args.self.now.ring.number c.args.self.now.master.lan c.args.book.now → IsSwitched ports host c.self.inside.number c.self.inside.master.lan c.args.book.now =
@@ -81,6 +84,7 @@ returns-clause-ok c =
         homes = c.note_behind.ensures.slaves.homes ∙ c.note_before.ensures.slaves.homes ∙ ap (λ (s : SessionState). s.homes) c.self.view_is;
         asked = c.note_behind.ensures.slaves.asked ∙ c.note_before.ensures.slaves.asked ∙ ap (λ (s : SessionState). s.asked) c.self.view_is;
         ports = ap (λ (l : List ℕ). 1 + length l) c.note_behind.ensures.slaves.ports ∙ same ∙ before;
+        at_ports = c.note_behind.ensures.slaves.ports ∙ c.note_before.ensures.slaves.ports ∙ ap (λ (s : SessionState). s.at_ports) c.self.view_is;
         recover = c.note_behind.ensures.slaves.recover ∙ c.note_before.ensures.slaves.recover ∙ ap (λ (s : SessionState). s.recover) c.self.view_is;
         budget = ap (λ (s : SessionState). s.budget) c.self.view_is;
         serving = ap (λ (s : SessionState). s.serving) c.self.view_is;
@@ -95,6 +99,14 @@ returns-clause-ok c =
             (subst (λ (n : ℕ). IsSwitched ports host n c.tell.new.master.lan c.note_behind.new.book) after
             (switched_step ports host c.self.inside.number c.self.inside.master.lan c.next.new.self.lan c.tell.new.master.lan c.args.book.now c.note_before.new.book c.put_frame.new.book c.note_behind.new.book
             c.next.ensures.happened c.in_ok-note_before.ensures.switch c.put_frame.ensures.switch c.tell.ensures.happened notes (here host x)));
+        timed = λ x.
+            let number = c.self.invariant.0 in
+            let next : c.exchange-fate.new.self.number ≡ suc c.self.inside.ring.number = ap (λ (r : RingState (Node SlaveServer)). r.number) c.exchange-fate.ensures.wire in
+            let old = subst (λ (s : SessionState). IsTimedBy (between s.ring.number) s.at_ports c.args.book.now s.notes) (sym c.self.view_is) x in
+            subst (λ (n : ℕ). IsTimedBy (between n) c.note_behind.new.self.ports c.note_behind.new.book c.note_behind.new.self.notes) (omega (arith, number, next))
+            (times_step c.self.inside.number c.next.new.self.lan.happened c.tell.new.master.lan.happened c.self.inside.log c.note_before.new.self c.note_behind.new.self c.args.book.now c.note_before.new.book c.put_frame.new.book c.note_behind.new.book
+            c.note_before.ensures.slaves c.note_behind.ensures.slaves c.next.ensures.made.1 c.put_frame.ensures.switch c.in_ok-note_before.ensures.time noted.1
+            (subst (λ (n : ℕ). IsTimedBy (between n) c.self.inside.log.ports c.args.book.now c.self.inside.log.notes) (sym number) old));
       },
       (
         happened,
@@ -127,7 +139,9 @@ returns-clause-ok c =
             c.exchange-fate.ensures.wire,
       ),
     ))
+    (on_ok_both _ _ c.note_behind.result
     (on_ok_both _ _ c.note_behind.result c.note_behind.ensures.gave (on_ok_both _ _ c.note_behind.result c.note_behind.ensures.told (on_ok_both _ _ c.note_behind.result c.note_behind.ensures.heard (on_ok_both _ _ c.note_behind.result c.note_behind.ensures.switch (on_ok_both _ _ c.note_behind.result c.note_behind.ensures.rows c.note_behind.ensures.mails)))))
+    c.note_behind.ensures.time)
 
 pub returns-clause-err : goal.returns-clause-err
 returns-clause-err c =
