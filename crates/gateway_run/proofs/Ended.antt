@@ -9,6 +9,7 @@ use Rattle.master_node.specs.Happened.{HasHappened, events_of}
 use Rattle.master_node.specs.Ports.{ports_behind, ports_of}
 use Rattle.master_node.specs.Serving.{run_lead}
 use Rattle.master_node.specs.of_life_frames.Shares.{AllBoth}
+use Rattle.master_node.specs.of_life_runs.First.{lens_of}
 use Rattle.segment_plan.specs.Sound.{IsPlan}
 use Rattle.segment_plan.specs.Bound.{bound_of}
 use Rattle.segment_plan.specs.declared.plan.Scenario.{Scenario}
@@ -23,10 +24,11 @@ use Rattle.run_record.specs.Mails.{passing_at, served_mails, served_overs}
 use Rattle.run_record.specs.Led.{LeavesNone, exchanged}
 use Rattle.run_record.specs.Served.{ServingBegins, ServingRests}
 use Rattle.run_record.specs.Session.{are_at_rest, first_session, session_rows}
+use Rattle.run_record.specs.Written.{forwards_now, served_written}
 use Rattle.run_record.specs.of_eoe_switch.declared.switching.SwitchEvent.{SwitchEvent}
 use Rattle.run_record.specs.of_packets_heard.Servings.{AreServedBegun, ServedListed, ServedNumbered, served_begun}
 use Rattle.run_record.specs.of_run_notes.Epochs.{HasEpochs}
-use Rattle.run_record.specs.of_run_notes.Handed.{AreHanded}
+use Rattle.run_record.specs.of_run_notes.Handed.{AreForwarded, AreHanded}
 use Rattle.run_record.specs.of_run_notes.Heard.{emergencies_in}
 use Rattle.run_record.specs.of_run_notes.Packets.{AreMails, AreNumbered, begun_in, begun_noted}
 use Rattle.run_record.specs.of_run_notes.Reports.{IsBooked}
@@ -36,7 +38,7 @@ use Rattle.run_record.specs.of_run_notes.Unsent.{IsSpent}
 use Rattle.run_record.specs.Ran.{HasSent, EndsSo, StopsSo, StopsAs}
 use Rattle.gateway_run.proofs.Room.{small_budget}
 use Rattle.run_record.proofs.Underway.{begun, has_frames, ended, many as many_sent}
-use Rattle.run_record.proofs.MailNotes.{rows_handed}
+use Rattle.run_record.proofs.MailNotes.{rows_forwarded, rows_handed}
 use Rattle.run_record.proofs.of_run_notes.Heard.{heard_of_rows}
 use Rattle.run_record.proofs.of_run_notes.Packets.{begun_of_rows}
 use Rattle.run_record.proofs.of_run_notes.Reporting.{all_booked, all_epochs, all_spent}
@@ -162,6 +164,9 @@ module _ (plan : Scenario) (count : ℕ) (first now : Told) (v : Serving) (b b' 
         late = book_late b'.grams v.desk.requests.items on.owed 0 answers'.serving.leading.serves answers'.came b'.slaves answers'.desk acts';
         handed = subst (λ (rs : List SlaveBook). AreHanded (λ k. served_overs answers'.serving.leading.lives k) rs) (sym rows)
             (rows_handed v.session.recover v.session.ring.nodes v.session.notes (map run_lead answers'.serving.leading.serves) (λ k. served_overs answers'.serving.leading.lives k) (λ k. passing_at answers'.serving.leading.serves k) answers'.serving.told answers'.serving.handed);
+        written = λ due. subst (λ (rs : List SlaveBook). AreForwarded (λ k. served_written answers'.serving.leading.lives k) rs) (sym rows)
+            (rows_forwarded v.session.recover v.session.ring.nodes v.session.notes (map run_lead answers'.serving.leading.serves) (λ k. served_written answers'.serving.leading.lives k) (λ k. forwards_now (lens_of plan.slaves) (map run_lead answers'.serving.leading.serves) k) answers'.serving.told
+            (answers'.serving.written due));
         rests = λ none. all_rest plan count v.session b b' on.underway answers'.serving (rests none).0 rows many (rests none).1;
         packets = has_packets plan v.session.ports v.session.ring.number v.session.master.lan b b' on.underway.ports (sym (ap length frames ∙ many_sent plan count v.session b on.underway)) kept on.underway.switched;
         come = λ none. no_packet plan count v.session b b' on.underway answers'.serving (rests none).0 kept;

@@ -3,13 +3,13 @@ use Rattle.std.proofs.Common.{◌≡◌, inl, inr, ℕ, true, List, [], ◌∷�
 use Rattle.std.specs.Prelude.{All}
 use Rattle.std.proofs.lemmas.List.Elements.{All-head, All-tail}
 use Rattle.master_node.specs.Serving.{run_lead}
-use Rattle.master_node.specs.Wants.{AllCounted, AllLeft, IsLeft, IsServedOut}
+use Rattle.master_node.specs.Wants.{AllCounted, IsServedOut}
 use Rattle.master_node.specs.of_frame_view.View.{Lens}
 use Rattle.master_node.specs.of_life_frames.Shares.{AllBoth}
 use Rattle.master_node.specs.of_life_runs.First.{lens_of}
 use Rattle.run_book.specs.declared.book.Book.{Book}
 use Rattle.run_book.specs.declared.book.SlaveBook.{SlaveBook}
-use Rattle.run_record.proofs.Ends.{rest_so}
+use Rattle.run_record.proofs.Ends.{rest_so, served_left}
 use Rattle.run_record.proofs.NoPackets.{none_left}
 use Rattle.run_record.proofs.ServedGaves.{has_lives, served_counted}
 use Rattle.run_record.proofs.of_run_notes.Switched.{switched_same}
@@ -23,16 +23,7 @@ use Rattle.served_places.specs.of_served_runs.Served.{Serves}
 use Rattle.gateway_run.specs.Done.{ServedRestsSo}
 
 module _ (lens : ℕ → Lens) where
-  -- nothing is left of it as of a slave of a run
-  one_left : (w : Serves) → IsServedOut lens w → IsLeft lens w.lead
-  one_left w (inl gone) = inl gone
-  one_left w (inr out) = inr out.idle
-
-  all_left : (ws : List Serves) → All (IsServedOut lens) ws → AllLeft lens (map run_lead ws)
-  all_left [] out = tt
-  all_left (w ∷ ws) out = (one_left w (All-head (IsServedOut lens) w ws out), all_left ws (All-tail (IsServedOut lens) w ws out))
-
-  -- so it rests by its row, where one of a run does
+  -- a slave rests by its row, where one of a run does
   one_rests : (w : Serves) (row : SlaveBook) → IsServedOut lens w → RestsSo lens w.lead row → ServedRestsSo lens w row
   one_rests w row (inl gone) rests = inl gone
   one_rests w row (inr out) (inl gone) = inl gone
@@ -59,7 +50,7 @@ module _ (plan : Scenario) (count : ℕ) (s : SessionState) (b b' : Book) (h : I
   all_rest rows many rest =
       let lens = lens_of plan.slaves in
       each_rests lens ws b'.slaves out
-      (subst (λ (rs : List SlaveBook). AllBoth (RestsSo lens) (map run_lead ws) rs) (sym rows) (rest_so lens s.recover (map run_lead ws) s.ring.nodes s.notes many counted serving.gave rest (all_left lens ws out)))
+      (subst (λ (rs : List SlaveBook). AllBoth (RestsSo lens) (map run_lead ws) rs) (sym rows) (rest_so lens s.recover (map run_lead ws) s.ring.nodes s.notes many counted serving.gave rest (served_left lens ws out)))
 
   -- NO PACKET IS LEFT
   pub no_packet : SameSwitch b b' → LeavesNoPacket plan (map run_lead ws) b'.switch

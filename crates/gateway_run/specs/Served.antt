@@ -16,9 +16,10 @@ use Rattle.run_record.specs.AcceptedMails.{AllNoted}
 use Rattle.run_record.specs.Led.{LeavesNoPacket, LeavesNone, exchanged}
 use Rattle.run_record.specs.Served.{served_heard}
 use Rattle.run_record.specs.Session.{SessionState, session_rows}
+use Rattle.run_record.specs.Written.{WereServedDue, served_written}
 use Rattle.run_record.specs.of_packets_heard.Servings.{AreServedBegun, ServedListed, ServedNumbered, served_begun}
 use Rattle.run_record.specs.of_run_notes.Epochs.{HasEpochs}
-use Rattle.run_record.specs.of_run_notes.Handed.{AreHanded}
+use Rattle.run_record.specs.of_run_notes.Handed.{AreForwarded, AreHanded}
 use Rattle.run_record.specs.of_run_notes.Heard.{emergencies_in}
 use Rattle.run_record.specs.of_run_notes.Packets.{AreMails, AreNumbered, begun_in}
 use Rattle.run_record.specs.of_run_notes.Reports.{IsBooked}
@@ -87,6 +88,8 @@ pub record HasAccount (plan : Scenario) (count : ℕ) (book : Book) (ending : En
   pub late : AllBoth (AreLate book.grams) answers.came book.slaves
   -- and each has its answer there: `Handed`, of the frame with which it was over, or in doubt where it wasn't
   pub handed : AreHanded (λ k. served_overs answers.serving.leading.lives k) book.slaves
+  -- and so has each packet that came into hand, as long as each mail that was accepted was due: `Handed`, of the frame with whose return its last fragment was written
+  pub written : WereServedDue answers.serving.leading.lives → AreForwarded (λ k. served_written answers.serving.leading.lives k) book.slaves
   pub rests : LeavesNone ending → AllBoth (ServedRestsSo (lens_of plan.slaves)) answers.serving.leading.serves book.slaves
   pub packets : HasPackets plan book
   pub come : LeavesNone ending → LeavesNoPacket plan (map run_lead answers.serving.leading.serves) book.switch

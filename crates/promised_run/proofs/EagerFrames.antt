@@ -31,7 +31,6 @@ use Rattle.master_node.specs.Starts as Starts
 use Rattle.master_node.specs.declared.lan.Lan.{Lan}
 use Rattle.master_side.specs.Recall.{Recall}
 use Rattle.packets_heard.specs.Recalled.{IsLanOf}
-use Rattle.plan_ring.specs.Dues.{AllDue}
 use Rattle.segment_model.specs.Slaves.{Datagram}
 use Rattle.segment_plan.specs.declared.plan.Scenario.{Scenario}
 use Rattle.segment_plan.specs.declared.service.Service as Plan
@@ -139,15 +138,6 @@ module _ (plan : Scenario) where
       all_remember place (m ∷ ms) ns (w ∷ ws) [] t s r z = absurd t
       all_remember place (m ∷ ms) [] (w ∷ ws) (v ∷ vs) t s r z = absurd r
       all_remember place (m ∷ ms) (n ∷ ns) (w ∷ ws) (v ∷ vs) t s r z = (remembers_one place m n w v t.0 s.0 r.0 z.0 (has_mail (behind v).waits), all_remember (suc place) ms ns ws vs t.1 s.1 r.1 z.1)
-
--- ---- its hands go on knowing their mails
-pub all_known : (lens : ℕ → Lens) (back : List (Datagram Body)) (behind : ServedTurn → Serves) (vs : List ServedTurn) (ms ns : List Recall) → AllServedRecall lens back behind vs ms ns → AllKnow ms → AllDue lens back (turns_of vs) → AllKnow ns
-all_known lens back behind [] [] [] r k d = tt
-all_known lens back behind [] [] (n ∷ ns) r k d = absurd r
-all_known lens back behind [] (m ∷ ms) ns r k d = absurd r
-all_known lens back behind (v ∷ vs) [] ns r k d = absurd r
-all_known lens back behind (v ∷ vs) (m ∷ ms) [] r k d = absurd r
-all_known lens back behind (v ∷ vs) (m ∷ ms) (n ∷ ns) r k d = (r.0.known k.0 d.0, all_known lens back behind vs ms ns r.1 k.1 d.1)
 
 -- ---- packets, and mails that wait
 mails_less : (gives : Bool) (ks : List Keyed) → has_mail (if gives then [] else ks) ≡ true → has_mail ks ≡ true

@@ -4,11 +4,11 @@ use Rattle.std.specs.Prelude.{◌||◌, nat_lt, slice_get}
 use Rattle.std.proofs.lemmas.Bool.{ltb-false, ltb-true}
 use Rattle.promised_run.specs.Runs.{ScriptsMay, waiting_at}
 use Rattle.promised_run.proofs.Counts.{came_more, entered_few, lost_more, lost_one}
-use Rattle.promised_run.proofs.Frames.{all_quiet, lost_due}
+use Rattle.promised_run.proofs.Frames.{all_quiet}
 use Rattle.promised_run.proofs.BoundPorts.{none_before, none_more}
 use Rattle.promised_run.proofs.Scripts.{AllMay}
 use Rattle.promised_run.specs.Eager.{ServedMailsAreDue, remembers}
-use Rattle.promised_run.proofs.EagerFrames.{all_eager, all_known, all_remember, gets_none}
+use Rattle.promised_run.proofs.EagerFrames.{all_eager, all_remember, gets_none}
 use Rattle.promised_run.proofs.Ranks.{asked_behind, asked_steps, behinds_less, behinds_still, steps_in, turns_in, turns_less}
 use Rattle.promised_run.proofs.EagerRests.{AllBehind, rests_so, settled_so}
 use Rattle.promised_run.proofs.EagerScripts.{may_all}
@@ -38,6 +38,7 @@ use Rattle.run_frames.specs.Runs.{Progress, nothing_sent}
 use Rattle.run_frames.specs.Tours.{IsVisited}
 use Rattle.run_frames.specs.Waits.{Waits, all_anew}
 use Rattle.run_work.specs.ServedGained.{asked_in}
+use Rattle.run_record.proofs.Knowing.{all_known, lost_due}
 use Rattle.segment_plan.specs.declared.plan.Scenario.{Scenario}
 use Rattle.segment_ring.specs.Ring.{RingState}
 use Rattle.segment_ring.specs.declared.wire.Fate.{Fate}
@@ -190,7 +191,7 @@ module _ (plan : Scenario) (laws : Laws plan) (slowest : ℕ) where
     known_back fate = all_known lens (seen lens f.back) on vs r.recalls s.recalls (one.returned fate) h.known (laws.due fs missed ws f vs h.isled l went fate)
 
     known_lost : (after : ℕ) → f.fate ≡ Lost after → AllKnow s.recalls
-    known_lost after fate = all_known lens [] on vs r.recalls s.recalls (one.lost after fate) h.known (lost_due plan (turns_of vs))
+    known_lost after fate = all_known lens [] on vs r.recalls s.recalls (one.lost after fate) h.known (lost_due lens (turns_of vs))
 
     came : length (arrivals_at 0 r.events) + length (arrivals_at 0 one.events.making) ≤ length (arrivals_at 0 s.events)
     came = came_more r.events one.events.making one.events.behind s.events one.events.whole

@@ -23,7 +23,6 @@ use Rattle.master_node.specs.Eager as Master
 use Rattle.master_node.specs.Recalled.{AllKnow, AllRecall, RecallsBack}
 use Rattle.master_node.specs.Starts as Starts
 use Rattle.master_node.specs.declared.lan.Lan.{Lan}
-use Rattle.master_side.specs.Due.{EachDue}
 use Rattle.master_side.specs.Recall.{Recall}
 use Rattle.master_tour.specs.Brings.{accepted_at}
 use Rattle.packets_heard.specs.Recalled.{AllQuiet, AllStill, IsLanOf}
@@ -31,6 +30,7 @@ use Rattle.segment_model.specs.Slaves.{Datagram, grams}
 use Rattle.segment_plan.specs.declared.plan.Scenario.{Scenario}
 use Rattle.idle_slaves.specs.WaitEager.{AllSilent}
 use Rattle.plan_ring.specs.Dues.{AllDue}
+use Rattle.run_record.proofs.Knowing.{lost_due}
 use Rattle.promised_run.specs.Runs.{is_waiting, remembered, waiting_at}
 use Rattle.promised_run.proofs.Maps.{each_asks, full_is, memory, memory_behind_is, memory_same, visit_is}
 use Rattle.promised_run.proofs.Rests.{at_port}
@@ -131,16 +131,9 @@ module _ (plan : Scenario) where
   all_known back (u ∷ us) (m ∷ ms) [] r k d = absurd r
   all_known back (u ∷ us) (m ∷ ms) (n ∷ ns) r k d = (r.0.known k.0 d.0, all_known back us ms ns r.1 k.1 d.1)
 
-  -- a lost frame brought none
-  pub lost_due : (us : List Turn) → AllDue (lens_of plan.slaves) [] us
-  lost_due [] = tt
-  lost_due (u ∷ us) = (
-    (λ stands. subst (λ (z : Stand). EachDue (speech_at lens u.lived.spot) u.lived.life.era.side.now (accepted_at u.lived.spot.station u.lived.life.era.side.halves [] z)) (sym stands) tt),
-    lost_due us,
-  )
-
+  -- and a lost frame brought none
   pub lost_known : (us : List Turn) (ms ns : List Recall) → AllRecall (lens_of plan.slaves) [] us ms ns → AllKnow ms → AllKnow ns
-  lost_known us ms ns r k = all_known [] us ms ns r k (lost_due us)
+  lost_known us ms ns r k = all_known [] us ms ns r k (lost_due (lens_of plan.slaves) us)
 
   -- ---- packets
   pub gets_one : (old new : List (ArrayVec ℕ)) → (old ≡ [] → new ≡ []) → is_waiting new ≡ true → is_waiting old ≡ true

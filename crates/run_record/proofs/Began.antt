@@ -5,18 +5,15 @@ use Rattle.std.proofs.Math.Nat.{mod-eq_of_lt}
 use Rattle.std.proofs.lemmas.Bool.{eq-eqb, eqb-true}
 use Rattle.std.proofs.lemmas.List.{length-map}
 use Rattle.master_node.specs.Begins.{begun_of, is_other}
-use Rattle.master_node.specs.Listing.{ServicesBegin, began_by, events_in, forwards_behind, number_at, origin_of, told_in}
+use Rattle.master_node.specs.Listing.{events_in, forwards_behind, told_in}
 use Rattle.master_node.specs.Origins.{forwards_at}
 use Rattle.master_node.specs.declared.event.Event.{Event}
 use Rattle.master_node.specs.declared.event.Origin.{Origin}
-use Rattle.master_node.specs.declared.event.Origin.TheVariants.{Script, Forward}
 use Rattle.master_node.specs.declared.node.MasterNode.{MasterNode}
-use Rattle.master_node.specs.of_datagrams.Datagram as Raw
 use Rattle.master_node.specs.of_frame_view.View.{Lens}
 use Rattle.master_node.specs.of_life_frames.Shares.{AllBoth}
 use Rattle.master_node.specs.of_life_model.Lives.{Life}
-use Rattle.master_node.specs.of_life_runs.First.{lens_of}
-use Rattle.master_node.specs.of_life_runs.Led.{AllTurn, Exchanged, IsLed, IsLedFrame, IsTurn, Leads, Took, Turn, speech_at}
+use Rattle.master_node.specs.of_life_runs.Led.{Leads, Took, Turn, speech_at}
 use Rattle.master_node.specs.of_master_duty.Reply.{Reply}
 use Rattle.master_node.specs.of_master_duty.of_state_exchange.Stated.{Service}
 use Rattle.master_node.specs.of_master_hand.Spoken.{Asked, sdo, file, drive, net, passed}
@@ -24,19 +21,18 @@ use Rattle.master_node.specs.of_master_hand.of_eoe_model.Client as EoeClient
 use Rattle.master_node.specs.of_master_tour.Made.{is_in}
 use Rattle.master_node.specs.of_master_tour.Orders.{AreOnce}
 use Rattle.master_node.specs.of_task_model.Accounts.{starts}
-use Rattle.packets_heard.specs.Numbers.{each_with, frames_begun}
+use Rattle.packets_heard.specs.Numbers.{each_with}
 use Rattle.packets_heard.specs.Over.{packet_begun}
 use Rattle.run_record.specs.Forwarded.{PacketsNoted}
-use Rattle.run_record.specs.Led.{LeadTo}
 use Rattle.run_book.specs.declared.book.Begun.{Begun}
-use Rattle.run_notes.specs.Packets.{AllBeside, BeginsOn, BesideAt, BesideFor, CameBeside, begun_noted, beside_at, beside_row, mail_row, mails_at, numbered_from, packet_row, packets_at, rows_at, rows_by, rows_with}
+use Rattle.run_notes.specs.Packets.{AllBeside, BeginsOn, BesideAt, CameBeside, begun_noted, beside_at, beside_row, mail_row, mails_at, numbered_from, packet_row, packets_at, rows_at, rows_by, rows_with}
 use Rattle.run_notes.specs.Reports.{AllReport}
 use Rattle.run_notes.specs.Slaves.{first_notes}
 use Rattle.run_notes.specs.declared.notes.Notes.{Notes}
 use Rattle.run_notes.proofs.Packets.{mails_among, packets_among, rows_append, with_append}
 use Rattle.script_runs.specs.Answers.{turned}
 use Rattle.script_runs.specs.Came.{is_beside}
-use Rattle.script_runs.specs.Steps.{ComesBy, TurnsBy}
+use Rattle.script_runs.specs.Steps.{TurnsBy}
 use Rattle.script_runs.proofs.Turns.{life_mails}
 use Rattle.segment_plan.specs.declared.plan.Scenario.{Scenario}
 use Rattle.segment_plan.specs.declared.service.Service as Plan
@@ -47,16 +43,6 @@ use Rattle.slave_node.specs.of_link_mails.Body.{Body}
 
 abbrev SlaveLife : Type 0
 SlaveLife = Life Body Asked Reply
-
--- a packet is beside the script
-other_beside : (q : Asked) → is_other q ≡ false → is_beside (Service.Mails q) ≡ true
-other_beside (sdo q) o = absurd (cc)
-other_beside (file q) o = absurd (cc)
-other_beside (drive q) o = absurd (cc)
-other_beside (net (EoeClient.set_ip block)) o = absurd (cc)
-other_beside (net EoeClient.get_ip) o = absurd (cc)
-other_beside (net (EoeClient.packet octets frame)) o = refl
-other_beside (passed m) o = absurd (cc)
 
 beside_turn : (lens : ℕ → Lens) (made : ℕ) (a : Leads) (u : Turn) (q : Asked) → TurnsBy lens made a u → u.begun ≡ Some (Service.Mails q) → is_beside (Service.Mails q) ≡ true → CameBeside (turned u)
 beside_turn lens made a u q t e o =
@@ -247,68 +233,3 @@ packets_first plan m notes none first = record {
   rows = λ k l. ap (λ (ns : List Notes). packets_at (begun_noted ns) k) first ∙ none_noted packet_row plan.services 0 plan.slaves k;
   mailed = λ k l. ap (λ (ns : List Notes). mails_at (begun_noted ns) k) first ∙ none_noted mail_row plan.services 0 plan.slaves k;
 }
-
--- ---- OVER A RUN
-
-all_by : (lens : ℕ → Lens) (made : ℕ) (ds : List Raw.Datagram) (as' : List Leads) (us : List Turn) → AllTurn lens made ds as' us → AllBoth (λ a u. TurnsBy lens made a u) as' us
-all_by lens made ds [] [] t = tt
-all_by lens made ds [] (u ∷ us) t = absurd t
-all_by lens made ds (a ∷ as') [] t = absurd t
-all_by lens made ds (a ∷ as') (u ∷ us) t =
-    let y : IsTurn lens made ds a u = t.0 in
-    (record { script = y.script; comes = ComesBy.own u.begun u.number y.comes; next = y.next; begun = y.begun; took = y.took }, all_by lens made ds as' us t.1)
-
-run_row : (frame k p number forwards : ℕ) (b : Option (Service Asked)) → rows_by frame k (began_by p number forwards b) ≡ (if p == k then came_rows (origin_of number forwards) frame b else [])
-run_row frame k p number forwards None = no_row (p == k)
-run_row frame k p number forwards (Some s) = one_row frame (p == k) (origin_of number forwards s)
-
-run_packet : (frame number forwards : ℕ) (b : Option (Service Asked)) → rows_with packet_row (came_rows (origin_of number forwards) frame b) ≡ row_by frame forwards b
-run_packet frame number forwards None = refl
-run_packet frame number forwards (Some (Service.State target)) = refl
-run_packet frame number forwards (Some (Service.Mails q)) = go (is_other q)
-  where
-    go : (o : Bool) → rows_with packet_row (beside_row (if o then Script number else Forward forwards) frame) ≡ (if o then [] else (forwards, frame) ∷ [])
-    go true = refl
-    go false = refl
-
--- no mail is passed on
-run_mail : (frame number forwards : ℕ) (b : Option (Service Asked)) → rows_with mail_row (came_rows (origin_of number forwards) frame b) ≡ []
-run_mail frame number forwards None = refl
-run_mail frame number forwards (Some (Service.State target)) = refl
-run_mail frame number forwards (Some (Service.Mails q)) = go (is_other q)
-  where
-    go : (o : Bool) → rows_with mail_row (beside_row (if o then Script number else Forward forwards) frame) ≡ []
-    go true = refl
-    go false = refl
-
-run_lists : (lens : ℕ → Lens) (made : ℕ) (ds : List Raw.Datagram) (as' : List Leads) (us : List Turn) → AllTurn lens made ds as' us → (forwards : ℕ → ℕ) (m : MasterNode) → ServicesBegin forwards as' us m → ListsPackets (map turned us) made forwards (λ k. begun_of us k) (λ k. []) m
-run_lists lens made ds as' us t forwards m x =
-    lists_packets (map turned us) made forwards (λ k. begun_of us k) (λ k. []) m (λ p. began_by p (number_at as' p) (forwards p) (begun_of us p)) (λ p. origin_of (number_at as' p) (forwards p)) (λ p. here p (begun_of us p) refl)
-    (λ k p. run_row made k p (number_at as' p) (forwards p) (begun_of us p)) x.visited x.once x.listed x.others (λ k. run_packet made (number_at as' k) (forwards k) (begun_of us k))
-    (λ k. run_mail made (number_at as' k) (forwards k) (begun_of us k)) x.counts
-  where
-    mails : (p : ℕ) (q : Asked) → begun_of us p ≡ Some (Service.Mails q) → (b : Bool) → is_other q ≡ b → BesideFor (map turned us) (Event.Began p (if b then Script (number_at as' p) else Forward (forwards p)))
-    mails p q e true o = tt
-    mails p q e false o = beside_place lens made as' us (all_by lens made ds as' us t) p q e (other_beside q o)
-
-    here : (p : ℕ) (b : Option (Service Asked)) → begun_of us p ≡ b → AllBeside (map turned us) (began_by p (number_at as' p) (forwards p) b)
-    here p None e = tt
-    here p (Some (Service.State target)) e = (tt, tt)
-    here p (Some (Service.Mails q)) e = (mails p q e (is_other q) refl, tt)
-
-few_frames : {lens : ℕ → Lens} {recover retry : ℕ} {first : List Leads} {fs : List Exchanged} {missed : ℕ} {as' : List Leads} (led : IsLed lens recover retry first fs missed as') (k : ℕ) → length (frames_begun led k) ≤ length fs
-few_frames IsLed.start k = omega arith
-few_frames (IsLed.on fs missed as' f us led frame) k =
-    let before = few_frames led k in
-    let one = few_one (length fs) (begun_of us k) in
-    let left = length-append (frames_begun led k) (each_with (length fs) (packet_begun (begun_of us k))) in
-    let right = length-append fs (f ∷ []) in
-    omega (arith, before, one, left, right)
-
--- ONE FRAME MORE
-pub packets_on : (plan : Scenario) (fs : List Exchanged) (missed : ℕ) (as' : List Leads) (lives : LeadTo plan fs missed as') (f : Exchanged) (us : List Turn) (frame : IsLedFrame (lens_of plan.slaves) (length fs) f.sent as' us) (m0 m1 m2 : MasterNode) (old mid new : List Notes) →
-    PacketsNoted (λ k. frames_begun lives k) (λ k. []) m0 old → ServicesBegin (λ k. forwards_at m0.posts.items k) as' us m1 → ((k : ℕ) → forwards_at m2.posts.items k ≡ forwards_at m1.posts.items k) → length fs + 1 < 4294967296 → length mid ≡ length old → begun_noted new ≡ begun_noted mid →
-    BeginsOn (length fs) m1 old mid as' (map turned us) → AllReport as' old → PacketsNoted (λ k. frames_begun (IsLed.on fs missed as' f us lives frame) k) (λ k. []) m2 new
-packets_on plan fs missed as' lives f us frame m0 m1 m2 old mid new w x kept few many same begins told =
-    noted_on (λ k. frames_begun lives k) (λ k. []) (λ k. []) (length fs) (few_frames lives) few as' (map turned us) (λ k. begun_of us k) m0 m1 m2 old mid new w
-    (run_lists (lens_of plan.slaves) (length fs) frame.datagrams as' us frame.each (λ k. forwards_at m0.posts.items k) m1 x) kept many same begins told

@@ -1,16 +1,17 @@
 -- HOW A RUN ENDS, slave by slave: where nothing is left to do each was given up for good, or is idle and settled.
 use Rattle.std.proofs.Common.{◌≡◌, ◌⊎◌, inl, inr, ◌≤◌, ℕ, zero, suc, Bool, true, false, None, List, [], ◌∷◌, map, length, refl, ap, sym, ◌∙◌, subst, arith}
-use Rattle.std.specs.Prelude.{◌||◌, ◌&&◌, nat_lt, slice_get, is_some}
+use Rattle.std.specs.Prelude.{◌||◌, ◌&&◌, nat_lt, slice_get, is_some, All}
 use Rattle.std.proofs.lemmas.Bool.{ltb-false}
+use Rattle.std.proofs.lemmas.List.Elements.{All-head, All-tail}
 use Rattle.std.proofs.lemmas.Option.{slice_get_past}
 use Rattle.master_node.specs.of_frame_view.View.{Lens}
 use Rattle.master_node.specs.of_life_frames.Shares.{AllBoth}
 use Rattle.master_node.specs.of_life_model.Lives.{Stand}
 use Rattle.master_node.specs.of_life_runs.Led.{Leads}
-use Rattle.master_node.proofs.Quiets.{lead_lives}
-use Rattle.master_node.specs.Shows.{MasterShows, lived_of}
+use Rattle.master_node.specs.Shows.{lived_of}
 use Rattle.master_node.specs.Told.{HasLives}
-use Rattle.master_node.specs.Wants.{gave_of, IsCounted, AllCounted, IsLeft, AllLeft}
+use Rattle.master_node.specs.Serving.{run_lead}
+use Rattle.master_node.specs.Wants.{gave_of, IsCounted, AllCounted, IsLeft, AllLeft, IsServedOut}
 use Rattle.master_node.specs.declared.node.MasterNode.{MasterNode}
 use Rattle.packets_heard.specs.Recalled.{AllSettled}
 use Rattle.run_book.specs.declared.book.SlaveBook.{SlaveBook}
@@ -20,6 +21,7 @@ use Rattle.run_notes.specs.Slaves.{gaves_noted, gaves_in, slave_row, slave_rows}
 use Rattle.run_record.specs.Session.{is_at_rest, are_at_rest, some_given_up, has_live}
 use Rattle.run_record.proofs.Heads.{heads, not_none, rests}
 use Rattle.run_record.proofs.Gones.{AllGone, all_gone, first_false, second_false}
+use Rattle.served_runs.specs.Served.{Serves}
 use Rattle.slave_server.specs.Serving.{next_mail}
 use Rattle.slave_server.specs.declared.server.SlaveServer.{SlaveServer}
 use Rattle.slave_node.specs.of_slave_steps.Node.{Node, is_settled}
@@ -31,6 +33,15 @@ both_true false b e = absurd (let bad : false ≡ true = e in cc)
 second_true : (a b : Bool) → (a || b) ≡ true → a ≡ false → b ≡ true
 second_true true b e fails = absurd (let bad : true ≡ false = fails in cc)
 second_true false b e fails = e
+
+-- WHERE NOTHING IS LEFT of a slave of a serving nothing is left of it as of one of a run
+served_one : (lens : ℕ → Lens) (w : Serves) → IsServedOut lens w → IsLeft lens w.lead
+served_one lens w (inl gone) = inl gone
+served_one lens w (inr out) = inr out.idle
+
+pub served_left : (lens : ℕ → Lens) (ws : List Serves) → All (IsServedOut lens) ws → AllLeft lens (map run_lead ws)
+served_left lens [] out = tt
+served_left lens (w ∷ ws) out = (served_one lens w (All-head (IsServedOut lens) w ws out), served_left lens ws (All-tail (IsServedOut lens) w ws out))
 
 -- AN IDLE SLAVE is settled, where it is at rest
 settled_so : (lens : ℕ → Lens) (recover : ℕ) (a : Leads) (node : Node SlaveServer) (n : Notes) → IsCounted recover a.lived.life.stand (length (gave_of a)) → n.gave ≡ gave_of a → is_at_rest (slave_row recover node n) ≡ true → IsLeft lens a → RestsSo lens a (slave_row recover node n)
@@ -108,11 +119,6 @@ some_lived lens recover recover' m leads nodes notes lives c g (inl busy) = by (
     by false e =
         let rest = gone_rest recover' leads nodes notes (all_gone lens recover leads m.tour.stops.items lives e) c g in
         absurd (let bad : true ≡ false = sym rest ∙ busy in cc)
-
--- of a run that is led
-pub some_live : (lens : ℕ → Lens) (recover recover' retry missed : ℕ) (m : MasterNode) (leads : List Leads) (nodes : List (Node SlaveServer)) (notes : List Notes) → MasterShows lens recover retry m missed leads → AllCounted recover' leads → gaves_noted notes ≡ map gave_of leads →
-    (are_at_rest (slave_rows recover' nodes notes) ≡ false) ⊎ (has_live m ≡ true) → has_live m ≡ true
-some_live lens recover recover' retry missed m leads nodes notes shown c g busy = some_lived lens recover recover' m leads nodes notes (lead_lives lens recover leads m.tour.stops.items shown.each) c g busy
 
 -- WHERE EACH IS SETTLED that wasn't given up for good all are at rest
 pub settled_rest : (recover : ℕ) (leads : List Leads) (nodes : List (Node SlaveServer)) (notes : List Notes) → AllSettled leads nodes → AllCounted recover leads → gaves_noted notes ≡ map gave_of leads → are_at_rest (slave_rows recover nodes notes) ≡ true

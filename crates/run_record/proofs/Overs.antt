@@ -1,50 +1,59 @@
 -- THE BOOK OF A RUN that is over, and the lives that its frames lead to.
-use Rattle.std.proofs.Common.{◌≡◌, ◌⊎◌, inl, inr, ℕ, Bool, true, false, List, [], map, length, ap, sym, ◌∙◌, subst}
-use Rattle.std.specs.Prelude.{◌≢◌}
+use Rattle.std.proofs.Common.{◌≡◌, ◌⊎◌, inl, inr, ℕ, Bool, true, false, List, [], map, length, refl, ap, sym, ◌∙◌, subst}
+use Rattle.std.specs.Prelude.{◌≢◌, Option}
 use Rattle.std.specs.Bool.{OnTrue, OnFalse}
 use Rattle.eoe_switch.specs.declared.switching.SwitchEvent.{SwitchEvent}
-use Rattle.master_node.specs.of_frame_view.View.{Lens}
-use Rattle.master_node.specs.of_life_frames.Shares.{AllBoth}
-use Rattle.life_heard.specs.Heard.{AllNoted, heard_in}
-use Rattle.master_node.specs.of_life_runs.First.{lens_of}
-use Rattle.master_node.specs.of_life_runs.Led.{Leads}
+use Rattle.life_heard.specs.Heard.{emergencies_of}
+use Rattle.master_node.proofs.Counts.{counted}
+use Rattle.master_node.specs.Ports.{ports_behind, ports_of}
+use Rattle.master_node.specs.Serving.{run_lead}
+use Rattle.master_node.specs.Shows.{lived_of}
+use Rattle.master_node.specs.Told.{HasLives}
 use Rattle.master_node.specs.Toured.{tour_of}
 use Rattle.master_node.specs.Wants.{AllCounted, AllLeft, gave_of}
-use Rattle.master_node.proofs.Counts.{counted, placed}
-use Rattle.master_node.proofs.Quiets.{lead_lives}
+use Rattle.master_node.specs.of_frame_view.View.{Lens}
+use Rattle.master_node.specs.of_life_frames.Shares.{AllBoth}
+use Rattle.master_node.specs.of_life_runs.First.{lens_of}
+use Rattle.master_node.specs.of_life_runs.Led.{Exchanged, Leads}
+use Rattle.master_node.specs.of_master_tour.Toured.{Tour}
 use Rattle.packets_heard.specs.Numbers.{frames_begun}
-use Rattle.packets_heard.specs.Recalled.{RecalledIn}
-use Rattle.run_book.specs.declared.book.Begun.{Begun}
+use Rattle.packets_heard.specs.Recalled.{RecalledIn, State}
+use Rattle.packets_heard.specs.ServedRecalled.{ServedRecalledIn}
+use Rattle.packets_heard.specs.Servings.{AreServedBegun, ServedListed, ServedNumbered, served_begun}
 use Rattle.run_book.specs.declared.book.Book.{Book}
-use Rattle.run_book.specs.declared.book.Emergency.{Emergency}
 use Rattle.run_book.specs.declared.book.Ending.{Ending}
 use Rattle.run_book.specs.declared.book.Ending.TheVariants as endings
-use Rattle.run_book.specs.declared.book.SentFrame.{SentFrame}
 use Rattle.run_book.specs.declared.book.SlaveBook.{SlaveBook}
-use Rattle.segment_plan.specs.declared.plan.Scenario.{Scenario}
-use Rattle.run_record.specs.Forwarded.{Forwards}
-use Rattle.run_record.specs.Recalling.{RunStands, state_of}
-use Rattle.run_record.specs.Led.{exchanged, Leading, LeadTo, LeavesNoPacket, LeavesNone, ListsAll, BeginsAll, NumbersAll, TouredTo, RestsSo, RestBy, RecalledBook, LedBook}
-use Rattle.run_notes.specs.Slaves.{gaves_in}
-use Rattle.run_record.specs.Ran.{IsUnderway, EndsSo}
-use Rattle.run_record.specs.Session.{SessionState, session_rows, are_at_rest, some_given_up, IsLeftBy}
-use Rattle.run_notes.specs.Reports.{IsBooked}
-use Rattle.run_notes.specs.Epochs.{HasEpochs}
-use Rattle.run_notes.specs.Heard.{emergencies_noted, emergencies_in}
-use Rattle.run_notes.specs.Packets.{AreMails, AreNumbered, begun_in, begun_noted}
-use Rattle.run_notes.specs.Switched.{SameSwitch}
-use Rattle.run_notes.specs.Unsent.{IsSpent}
-use Rattle.run_notes.proofs.Reporting.{all_booked, all_spent, all_epochs}
-use Rattle.run_record.proofs.Ends.{rest_so, all_done, gaves_of_rows}
 use Rattle.run_notes.proofs.Heard.{heard_of_rows}
 use Rattle.run_notes.proofs.Packets.{begun_of_rows}
+use Rattle.run_notes.proofs.Reporting.{all_booked, all_spent, all_epochs}
 use Rattle.run_notes.proofs.Switched.{has_packets, switched_same}
+use Rattle.run_notes.specs.Epochs.{HasEpochs}
+use Rattle.run_notes.specs.Handed.{AreForwarded}
+use Rattle.run_notes.specs.Heard.{emergencies_in}
+use Rattle.run_notes.specs.Packets.{AreMails, AreNumbered, begun_in, begun_noted}
+use Rattle.run_notes.specs.Reports.{AllReport, IsBooked}
+use Rattle.run_notes.specs.Slaves.{gaves_in, gaves_noted}
+use Rattle.run_notes.specs.Switched.{SameSwitch}
+use Rattle.run_notes.specs.Unsent.{IsSpent}
+use Rattle.run_record.proofs.Ends.{all_done, gaves_of_rows, rest_so, served_left}
+use Rattle.run_record.proofs.MailNotes.{rows_forwarded}
 use Rattle.run_record.proofs.NoPackets.{none_left}
+use Rattle.run_record.proofs.RunLives.{IsRun, run_lives}
+use Rattle.run_record.proofs.RunStanding.{Stands, StandsSo, none_asked, stands_same}
+use Rattle.run_record.proofs.RunTours.{IsRunTour, run_tour, tour_by}
+use Rattle.run_record.proofs.ServedGaves.{has_lives}
+use Rattle.run_record.proofs.Unasked.{NoneAsked, leads_of}
 use Rattle.run_record.proofs.Underway.{many}
-
--- the lives that frames lead to, with the emergencies that are noted of them and the events that they list, each with its number
-abbrev HeardLives : Scenario → ℕ → List Leads → List (List Emergency) → List (List Begun) → List SwitchEvent → List ℕ → List SentFrame → Type 0
-HeardLives plan missed leads notes rows es ns frames = (lives : LeadTo plan (map exchanged frames) missed leads) × AllNoted (heard_in lives) notes × ListsAll plan lives es × BeginsAll plan lives es × NumbersAll plan lives es ns × AreNumbered (λ k. frames_begun lives k) rows
+use Rattle.run_record.specs.Led.{exchanged, LedBook, LeavesNoPacket, LeavesNone, RecalledBook, RestBy, RestsSo, TouredTo}
+use Rattle.run_record.specs.Mails.{served_mails}
+use Rattle.run_record.specs.Ran.{EndsSo, IsUnderway}
+use Rattle.run_record.specs.Recalling.{state_of}
+use Rattle.run_record.specs.Served.{Serving, ServingRests}
+use Rattle.run_record.specs.Session.{SessionState, are_at_rest, session_rows, some_given_up}
+use Rattle.run_record.specs.Written.{WereDue, forwards_now, packets_written, served_written}
+use Rattle.segment_plan.specs.declared.plan.Scenario.{Scenario}
+use Rattle.served_runs.specs.Served.{Serves}
 
 not_done : endings.Done ≡ endings.NoMemory → ⊥
 not_done e = absurd (cc)
@@ -61,80 +70,143 @@ not_out : LeavesNone endings.NoMemory → ⊥
 not_out (inl e) = absurd (cc)
 not_out (inr e) = absurd (cc)
 
-module _ (plan : Scenario) (s : SessionState) (b b' : Book) (h : IsUnderway plan 0 s b) (stands : RunStands plan s.master s.notes (map exchanged b.frames) b s.ring) (frames : b'.frames ≡ b.frames) (kept : SameSwitch b b') (same : length s.notes ≡ length s.ring.nodes) where
+-- what is the same at each place is the same
+at_all : {T : Type 0} (P : (ℕ → T) → Type 0) (f g : ℕ → T) → ((k : ℕ) → g k ≡ f k) → P f → P g
+at_all P f g same p = (let e : g ≡ f = λ i. λ k. same k i in subst P (sym e) p)
+
+module _ (plan : Scenario) (s : SessionState) (b b' : Book) (h : IsUnderway plan 0 s b) (stands : Stands plan s b) (frames : b'.frames ≡ b.frames) (kept : SameSwitch b b') (same : length s.notes ≡ length s.ring.nodes) where
   abbrev lens : ℕ → Lens
   lens = lens_of plan.slaves
 
-  abbrev w : Forwards plan s.master s.notes (map exchanged b.frames) b
-  w = stands.forwards
+  abbrev ports : List (Option ℕ)
+  ports = ports_behind 0 plan.slaves
 
-  abbrev l : Leading plan s.master s.notes (map exchanged b.frames)
-  l = w.leading
+  abbrev fs : List Exchanged
+  fs = map exchanged b'.frames
 
-  has_gaves : b'.slaves ≡ session_rows s → gaves_in b'.slaves ≡ map gave_of l.leads
-  has_gaves rows = ap gaves_in rows ∙ gaves_of_rows s.recover s.ring.nodes s.notes same ∙ l.gave
+  now : StandsSo plan s fs b'.switch b'.switched
+  now = stands_same plan s (map exchanged b.frames) fs b.switch b'.switch b.switched b'.switched (ap (map exchanged) frames) kept.switch kept.switched stands
 
-  all : AllCounted s.recover l.leads
-  all = subst (λ (n : ℕ). AllCounted n l.leads) (sym h.recover) (counted lens plan plan.retry (map exchanged b.frames) l.missed l.leads l.lives)
+  abbrev w : Serving plan s fs
+  w = now.serving
+
+  abbrev ws : List Serves
+  ws = w.leading.serves
+
+  none : NoneAsked ws
+  none = none_asked (length plan.slaves) ws (w.asked ∙ now.unasked)
+
+  -- THE LIVES OF ITS SERVING, as those of a run
+  run : IsRun plan w.leading.lives
+  run = run_lives plan fs w.leading.missed ws w.leading.lives none
+
+  leads_are : map run_lead ws ≡ run.leads
+  leads_are = leads_of ws run.leads run.quiet
+
+  gave : gaves_noted s.notes ≡ map gave_of run.leads
+  gave = w.gave ∙ ap (map gave_of) leads_are
+
+  told : AllReport run.leads s.notes
+  told = subst (λ (z : List Leads). AllReport z s.notes) leads_are w.told
+
+  has_gaves : b'.slaves ≡ session_rows s → gaves_in b'.slaves ≡ map gave_of run.leads
+  has_gaves rows = ap gaves_in rows ∙ gaves_of_rows s.recover s.ring.nodes s.notes same ∙ gave
+
+  all : AllCounted s.recover run.leads
+  all = subst (λ (n : ℕ). AllCounted n run.leads) (sym h.recover) (counted lens plan plan.retry fs w.leading.missed run.leads run.lives)
 
   -- nothing is left
-  all_rest : b'.slaves ≡ session_rows s → are_at_rest (session_rows s) ≡ true → IsLeftBy s.master → AllBoth (RestsSo lens) l.leads b'.slaves
-  all_rest rows rest left =
-      let none : AllLeft lens l.leads = left.slaves lens plan.recover plan.retry l.missed l.leads l.shows (placed lens plan plan.retry (map exchanged b.frames) l.missed l.leads l.lives) in
-      subst (λ (rs : List SlaveBook). AllBoth (RestsSo lens) l.leads rs) (sym rows) (rest_so lens s.recover l.leads s.ring.nodes s.notes same all l.gave rest none)
+  all_rest : b'.slaves ≡ session_rows s → are_at_rest (session_rows s) ≡ true → ServingRests s → AllBoth (RestsSo lens) run.leads b'.slaves
+  all_rest rows rest out =
+      let left : AllLeft lens run.leads = subst (λ (z : List Leads). AllLeft lens z) leads_are (served_left lens ws (out.slaves plan fs w)) in
+      subst (λ (rs : List SlaveBook). AllBoth (RestsSo lens) run.leads rs) (sym rows) (rest_so lens s.recover run.leads s.ring.nodes s.notes same all gave rest left)
 
-  rest_by : (ending : Ending) (settled : Bool) → EndsSo s ending → OnTrue settled (IsLeftBy s.master) → OnFalse settled (ending ≡ endings.BudgetSpent) → (ending ≢ endings.NoMemory → b'.slaves ≡ session_rows s) → RestBy lens ending l.leads b'.slaves
-  rest_by endings.Done true so left cut rows = let r = rows not_done in all_done lens s.recover l.leads b'.slaves all (has_gaves r) (ap some_given_up r ∙ so.1) (all_rest r so.0 left)
-  rest_by endings.Done false so left cut rows = absurd (let bad : endings.Done ≡ endings.BudgetSpent = cut in cc)
-  rest_by endings.GivenUp true so left cut rows = all_rest (rows not_given) so.0 left
-  rest_by endings.GivenUp false so left cut rows = absurd (let bad : endings.GivenUp ≡ endings.BudgetSpent = cut in cc)
-  rest_by endings.BudgetSpent settled so left cut rows = tt
-  rest_by endings.NoMemory settled so left cut rows = tt
-  rest_by endings.PortFault settled so left cut rows = tt
-  rest_by endings.Unfinished settled so left cut rows = tt
+  rest_by : (ending : Ending) (settled : Bool) → EndsSo s ending → OnTrue settled (ServingRests s) → OnFalse settled (ending ≡ endings.BudgetSpent) → (ending ≢ endings.NoMemory → b'.slaves ≡ session_rows s) → RestBy lens ending run.leads b'.slaves
+  rest_by endings.Done true so out cut rows = let r = rows not_done in all_done lens s.recover run.leads b'.slaves all (has_gaves r) (ap some_given_up r ∙ so.1) (all_rest r so.0 out)
+  rest_by endings.Done false so out cut rows = absurd (let bad : endings.Done ≡ endings.BudgetSpent = cut in cc)
+  rest_by endings.GivenUp true so out cut rows = all_rest (rows not_given) so.0 out
+  rest_by endings.GivenUp false so out cut rows = absurd (let bad : endings.GivenUp ≡ endings.BudgetSpent = cut in cc)
+  rest_by endings.BudgetSpent settled so out cut rows = tt
+  rest_by endings.NoMemory settled so out cut rows = tt
+  rest_by endings.PortFault settled so out cut rows = tt
+  rest_by endings.Unfinished settled so out cut rows = tt
 
   -- nor a packet
-  no_packet : (ending result : Ending) (settled : Bool) → OnTrue settled (IsLeftBy s.master) → OnFalse settled (ending ≡ endings.BudgetSpent) → (result ≡ ending) ⊎ (result ≡ endings.NoMemory) → LeavesNone result → LeavesNoPacket plan l.leads b'.switch
-  no_packet ending result true left cut answers none =
-      none_left lens plan.recover plan s.master l.leads s.ports s.ring.number b' (lead_lives lens plan.recover l.leads s.master.tour.stops.items l.shows.each) w.forwarded.ports h.ports
-      (switched_same s.ports plan.host s.ring.number s.master.lan b b' kept h.switched) left.come
-  no_packet ending result false left cut (inl is) none = absurd (not_spent (subst LeavesNone (is ∙ cut) none))
-  no_packet ending result false left cut (inr is) none = absurd (not_out (subst LeavesNone is none))
+  no_packet : (ending result : Ending) (settled : Bool) → OnTrue settled (ServingRests s) → OnFalse settled (ending ≡ endings.BudgetSpent) → (result ≡ ending) ⊎ (result ≡ endings.NoMemory) → LeavesNone result → LeavesNoPacket plan run.leads b'.switch
+  no_packet ending result true out cut answers none =
+      none_left lens plan.recover plan s.master run.leads s.ports s.ring.number b'
+      (subst (λ (z : List Leads). HasLives lens plan.recover s.master (map lived_of z)) leads_are (has_lives lens plan.recover plan.retry w.leading.missed (length fs) s.master ws w.leading.shows)) w.forwarded.ports h.ports
+      (switched_same s.ports plan.host s.ring.number s.master.lan b b' kept h.switched) out.come
+  no_packet ending result false out cut (inl is) none = absurd (not_spent (subst LeavesNone (is ∙ cut) none))
+  no_packet ending result false out cut (inr is) none = absurd (not_out (subst LeavesNone is none))
 
-  -- the lives, by the frames of the book
-  both : HeardLives plan l.missed l.leads (emergencies_noted s.notes) (begun_noted s.notes) b.switch b.switched b'.frames
-  both = subst (λ (fs : List SentFrame). HeardLives plan l.missed l.leads (emergencies_noted s.notes) (begun_noted s.notes) b.switch b.switched fs) (sym frames) (l.lives, l.heard, w.forwarded.listed, w.forwarded.begun, w.forwarded.numbered, w.packets.rows)
+  -- its tour, and what was remembered over it
+  tour : IsRunTour plan w.leading.toured
+  tour = run_tour plan fs (tour_of s.master) ws w.leading.toured none
 
-  -- and what was remembered over them
-  recalled_book : RecalledBook plan b' l.missed l.leads
-  recalled_book =
-      let r = stands.remembers in
-      let both = subst (λ (gs : List SentFrame). (toured : TouredTo plan (map exchanged gs) (tour_of s.master) l.leads) × RecalledIn plan toured (state_of s.master b.switch s.ring)) (sym frames) (r.toured, r.recalled) in
-      record { tour = tour_of s.master; missed_is = l.shows.missed_is; toured = both.0; state = state_of s.master b.switch s.ring; recalled = both.1; events = sym kept.switch }
+  both : (toured : TouredTo plan fs tour.tour run.leads) × ((r : State) → ServedRecalledIn plan w.leading.toured r → RecalledIn plan toured r)
+  both = tour_by plan fs (tour_of s.master) ws w.leading.toured tour run.leads run.quiet
+
+  abbrev now_remembered : State
+  now_remembered = state_of s.master b'.switch s.ring
+
+  recalled_book : RecalledBook plan b' w.leading.missed run.leads
+  recalled_book = record { tour = tour.tour; missed_is = sym (ap (λ (t : Tour). t.missed) tour.same) ∙ w.leading.shows.missed_is; toured = both.0; state = now_remembered; recalled = both.1 now_remembered (subst (λ (es : List SwitchEvent). ServedRecalledIn plan w.leading.toured (state_of s.master es s.ring)) now.events w.remembers); events = refl }
+
+  -- what happened at its switch, as the book has it
+  listed : ServedListed ports w.leading.lives b'.switch
+  listed = subst (λ (es : List SwitchEvent). ServedListed ports w.leading.lives es) now.events w.forwarded.listed
+
+  begun : AreServedBegun ports (ports_of plan.slaves) w.leading.lives b'.switch
+  begun = subst (λ (es : List SwitchEvent). AreServedBegun ports (ports_of plan.slaves) w.leading.lives es) now.events w.forwarded.begun
+
+  numbered : ServedNumbered ports (ports_of plan.slaves) w.leading.lives b'.switch b'.switched
+  numbered =
+      subst (λ (ns : List ℕ). ServedNumbered ports (ports_of plan.slaves) w.leading.lives b'.switch ns) now.numbers
+      (subst (λ (es : List SwitchEvent). ServedNumbered ports (ports_of plan.slaves) w.leading.lives es w.numbers) now.events w.numbered)
+
+  -- of packets
+  packets_in : b'.slaves ≡ session_rows s → AreNumbered (λ k. frames_begun run.lives k) (begun_in b'.slaves)
+  packets_in rows =
+      subst (λ z. AreNumbered (λ k. frames_begun run.lives k) z) (sym (ap begun_in rows ∙ begun_of_rows s.recover s.ring.nodes s.notes same))
+      (at_all (λ (z : ℕ → List ℕ). AreNumbered z (begun_noted s.notes)) (λ k. served_begun w.leading.lives k) (λ k. frames_begun run.lives k) run.begun w.packets.rows)
+
+  mails_in : b'.slaves ≡ session_rows s → AreMails (λ k. []) (begun_in b'.slaves)
+  mails_in rows =
+      subst (λ z. AreMails (λ k. []) z) (sym (ap begun_in rows ∙ begun_of_rows s.recover s.ring.nodes s.notes same))
+      (at_all (λ (z : ℕ → List (ℕ × ℕ)). AreMails z (begun_noted s.notes)) (λ k. served_mails w.leading.lives k) (λ k. []) (λ k. sym (run.mails k)) w.packets.mailed)
+
+  -- and of their answers
+  written : b'.slaves ≡ session_rows s → WereDue run.lives → AreForwarded (λ k. packets_written run.lives k) b'.slaves
+  written rows due =
+      subst (λ (rs : List SlaveBook). AreForwarded (λ k. packets_written run.lives k) rs) (sym rows)
+      (at_all (λ (z : ℕ → List (Option ℕ)). AreForwarded z (session_rows s)) (λ k. served_written w.leading.lives k) (λ k. packets_written run.lives k) run.written
+      (rows_forwarded s.recover s.ring.nodes s.notes (map run_lead ws) (λ k. served_written w.leading.lives k) (λ k. forwards_now lens (map run_lead ws) k) w.told (w.written (run.due due))))
 
   -- however it ends
-  pub led_book : (ending result : Ending) (settled : Bool) → EndsSo s ending → OnTrue settled (IsLeftBy s.master) → OnFalse settled (ending ≡ endings.BudgetSpent) → (result ≡ ending) ⊎ (result ≡ endings.NoMemory) → (result ≢ endings.NoMemory → b'.slaves ≡ session_rows s) → LedBook plan b' result
-  led_book ending result settled so left cut answers rows = record {
-    missed = l.missed;
-    leads = l.leads;
-    lives = both.0;
-    tour = tour_of s.master;
-    toured = subst (λ (fs : List SentFrame). TouredTo plan (map exchanged fs) (tour_of s.master) l.leads) (sym frames) l.toured;
+  pub led_book : (ending result : Ending) (settled : Bool) → EndsSo s ending → OnTrue settled (ServingRests s) → OnFalse settled (ending ≡ endings.BudgetSpent) → (result ≡ ending) ⊎ (result ≡ endings.NoMemory) → (result ≢ endings.NoMemory → b'.slaves ≡ session_rows s) → LedBook plan b' result
+  led_book ending result settled so out cut answers rows = record {
+    missed = w.leading.missed;
+    leads = run.leads;
+    lives = run.lives;
+    tour = tour.tour;
+    toured = both.0;
     gave = λ ok. has_gaves (rows ok);
-    answers = λ ok. subst (λ (rs : List SlaveBook). AllBoth IsBooked l.leads rs) (sym (rows ok)) (all_booked s.recover l.leads s.ring.nodes s.notes same l.told);
-    unsent = λ ok. subst (λ (rs : List SlaveBook). AllBoth IsSpent l.leads rs) (sym (rows ok)) (all_spent s.recover l.leads s.ring.nodes s.notes same l.told);
-    epochs = λ ok. subst (λ (rs : List SlaveBook). AllBoth HasEpochs l.leads rs) (sym (rows ok)) (all_epochs s.recover l.leads s.ring.nodes s.notes same l.told);
-    heard = λ ok. ap emergencies_in (rows ok) ∙ heard_of_rows s.recover s.ring.nodes s.notes same ∙ both.1;
+    answers = λ ok. subst (λ (rs : List SlaveBook). AllBoth IsBooked run.leads rs) (sym (rows ok)) (all_booked s.recover run.leads s.ring.nodes s.notes same told);
+    unsent = λ ok. subst (λ (rs : List SlaveBook). AllBoth IsSpent run.leads rs) (sym (rows ok)) (all_spent s.recover run.leads s.ring.nodes s.notes same told);
+    epochs = λ ok. subst (λ (rs : List SlaveBook). AllBoth HasEpochs run.leads rs) (sym (rows ok)) (all_epochs s.recover run.leads s.ring.nodes s.notes same told);
+    heard = λ ok. ap emergencies_in (rows ok) ∙ heard_of_rows s.recover s.ring.nodes s.notes same ∙ w.heard ∙ ap (map emergencies_of) (sym run.heard);
     packets = λ ok. has_packets plan s.ports s.ring.number s.master.lan b b' h.ports (sym (ap length frames ∙ many plan 0 s b h)) kept h.switched;
-    come = no_packet ending result settled left cut answers;
-    listed = λ ok. subst (λ (es : List SwitchEvent). ListsAll plan both.0 es) (sym kept.switch) both.2;
-    begun = λ ok. subst (λ (es : List SwitchEvent). BeginsAll plan both.0 es) (sym kept.switch) both.3;
-    numbered = λ ok. subst (λ (ns : List ℕ). NumbersAll plan both.0 b'.switch ns) (sym kept.switched) (subst (λ (es : List SwitchEvent). NumbersAll plan both.0 es b.switched) (sym kept.switch) both.4);
-    forwards = λ ok. subst (λ z. AreNumbered (λ k. frames_begun both.0 k) z) (sym (ap begun_in (rows ok) ∙ begun_of_rows s.recover s.ring.nodes s.notes same)) both.5;
-    mails = λ ok. subst (λ z. AreMails (λ k. []) z) (sym (ap begun_in (rows ok) ∙ begun_of_rows s.recover s.ring.nodes s.notes same)) w.packets.mailed;
+    come = no_packet ending result settled out cut answers;
+    listed = λ ok. run.listed b'.switch listed;
+    begun = λ ok. run.begins b'.switch begun;
+    numbered = λ ok. run.numbered b'.switch b'.switched numbered;
+    forwards = λ ok. packets_in (rows ok);
+    mails = λ ok. mails_in (rows ok);
+    written = λ ok due. written (rows ok) due;
     recalled = λ ok. recalled_book;
     rests = elim answers [
-      | inl is ↦ subst (λ (e : Ending). RestBy lens e l.leads b'.slaves) (sym is) (rest_by ending settled so left cut (λ ok. rows (λ none. ok (sym is ∙ none))))
-      | inr none ↦ subst (λ (e : Ending). RestBy lens e l.leads b'.slaves) (sym none) tt
+      | inl is ↦ subst (λ (e : Ending). RestBy lens e run.leads b'.slaves) (sym is) (rest_by ending settled so out cut (λ ok. rows (λ none. ok (sym is ∙ none))))
+      | inr none ↦ subst (λ (e : Ending). RestBy lens e run.leads b'.slaves) (sym none) tt
     ];
   }

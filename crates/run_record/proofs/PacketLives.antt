@@ -11,7 +11,8 @@ use Rattle.master_node.specs.declared.post.Work.{Work}
 use Rattle.master_node.specs.of_life_frames.of_exchange_model.Areas.{Areas}
 use Rattle.master_node.specs.of_life_frames.of_exchange_model.Exchange.{Speech}
 use Rattle.master_node.specs.of_life_frames.of_exchange_model.Rows.{Row, row_heard}
-use Rattle.master_node.specs.of_life_frames.of_link_model.Frames.{all_accepted}
+use Rattle.master_node.specs.of_life_frames.of_link_model.Frames.{all_accepted, halves_after, halves_answered}
+use Rattle.master_node.specs.of_life_frames.of_link_model.Link.{Halves}
 use Rattle.master_node.specs.Named.{is_left}
 use Rattle.master_node.specs.of_life_model.Lives.{Era, Life, Opening, Spot, Stand, clears, is_shown, last_step, life_lost, opens, opens_state, reopening, reopens, reopens_at, returns_to_init, shows_clear, steps_on}
 use Rattle.master_node.specs.of_life_model.Own.{own}
@@ -21,8 +22,9 @@ use Rattle.master_node.specs.of_master_duty.Reply.{Reply}
 use Rattle.master_node.specs.of_master_hand.Brings.{emergencies_in}
 use Rattle.master_node.specs.of_master_hand.Hears.{kind_in}
 use Rattle.master_node.specs.of_master_hand.Spoken.{Asked, acknowledged, hand_speech, is_followed, is_passed}
+use Rattle.master_node.specs.of_master_tour.Under.{mine}
 use Rattle.master_node.specs.of_segment_model.Ends.{Passing}
-use Rattle.master_node.specs.of_segment_model.Record.{News}
+use Rattle.master_node.specs.of_segment_model.Record.{News, is_for}
 use Rattle.master_node.specs.of_segment_model.Seats.{Side, side_lost}
 use Rattle.master_node.specs.of_segment_model.Slaves.{Datagram, Found, grams}
 use Rattle.master_node.specs.of_task_model.Accounts.{Account, Duty, Stage, is_free}
@@ -106,6 +108,19 @@ passed_none place (Some p) new ms = kinds_append place (replies_told p.key (repl
 heard_packet : (x : Speech Body Asked Reply) (made : ℕ) (ms : List Body) (row : Row Body Asked Reply) → is_other row.service ≡ false → has_packet (Some (row_heard x made ms row)) ≡ true
 heard_packet x made ms row e = ap not e
 
+-- by a frame that had nothing of a station its halves stay
+unread_same : (station : ℕ) (h : Halves Body) (back : List (Datagram Body)) → mine station back ≡ [] → halves_after station h (grams (own station back)) ≡ h
+unread_same station h [] e = refl
+unread_same station h (d ∷ back) e = go (d.gram.station == station) refl (λ none. unread_same station h back none) (is_for station d.address)
+  where
+    rest : (d.gram.station == station) ≡ false → mine station back ≡ []
+    rest f = sym (ap (λ (z : Bool). if z then d ∷ mine station back else mine station back) f) ∙ e
+
+    go : (z : Bool) → (d.gram.station == station) ≡ z → (mine station back ≡ [] → halves_after station h (grams (own station back)) ≡ h) → (b : Bool) → halves_after station h (grams (if b then d ∷ own station back else own station back)) ≡ h
+    go true f on b = absurd (let bad : d ∷ mine station back ≡ [] = sym (ap (λ (z : Bool). if z then d ∷ mine station back else mine station back) f) ∙ e in cc)
+    go false f on true = ap (λ (z : Bool). halves_after station (if z then halves_answered h d.gram.ask d.gram else h) (grams (own station back))) f ∙ on (rest f)
+    go false f on false = on (rest f)
+
 module _ (areas : Areas) (made place : ℕ) (spot : Spot) (ns : List (News Body)) (back : List (Datagram Body)) (hand : Option Passed) (ms : List Body) (l : Life Body Asked Reply) (came : Option (Bool × Option Found)) where
   abbrev x : Speech Body Asked Reply
   x = hand_speech areas
@@ -168,6 +183,17 @@ module _ (areas : Areas) (made place : ℕ) (spot : Spot) (ns : List (News Body)
         go : (b : Bool) → is ≡ b → Goes (has_fragments x l) (has_fragments x m) (kinds_in place (returned_told x true place hand ms l m l.stand))
         go true f = Goes.over [] there (goes_is ∙ ap not f) (told_kinds ∙ ap (λ (z : Bool). if z then ReplyKind.Handed ∷ [] else []) f)
         go false f = Goes.on there (goes_is ∙ ap not f) (told_kinds ∙ ap (λ (z : Bool). if z then ReplyKind.Handed ∷ [] else []) f)
+
+    -- and by a frame that had nothing of its slave it is in hand still
+    unread_there : has_fragments x l ≡ true → mine spot.station back ≡ [] → Goes (has_fragments x l) (has_fragments x m) []
+    unread_there there none = Goes.on there (goes_is ∙ ap not still) refl
+      where
+        still : is ≡ false
+        still =
+            ap (λ (z : Era Body Asked Reply). is_free x z.side z.side.now) era
+            ∙ ap (λ z. is_free x e.side z) row_now
+            ∙ same_over areas l.era.side e.side t.row (row_heard x made heard t.row) t.packet (record { service = refl; told = refl }) (ap (λ (h : Halves Body). h.out.holding) (unread_same spot.station l.era.side.halves back none))
+            ∙ sym (ap (λ z. is_free x l.era.side z) t.is) ∙ t.unwritten
 
   -- where none is none comes
   back_none : (known : Bool) (work : Work) → HasInHand x known l l.stand work → has_fragments x l ≡ false → has_fragments x m ≡ false
@@ -236,6 +262,14 @@ module _ (areas : Areas) (made place : ℕ) (spot : Spot) (ns : List (News Body)
     where
       go : (b : Bool) → has_fragments x l ≡ b → Goes (has_fragments x l) (has_fragments x m) (kinds_in place (returned_told x true place hand ms l m l.stand))
       go true there = back_there (forwarding x l known work h there) there
+      go false there = Goes.none there (back_none known work h there)
+
+  -- and of an open one of which it had nothing
+  pub unread_goes : (known : Bool) (work : Work) → HasInHand x known l l.stand work → (l.stand ≡ Stand.Open → mine spot.station back ≡ []) → Goes (has_fragments x l) (has_fragments x m) []
+  unread_goes known work h none = go (has_fragments x l) refl
+    where
+      go : (b : Bool) → has_fragments x l ≡ b → Goes (has_fragments x l) (has_fragments x m) []
+      go true there = (let t = forwarding x l known work h there in unread_there t there (none t.opened))
       go false there = Goes.none there (back_none known work h there)
 
 -- BEHIND A LOST FRAME by which the slave isn't given up its packet is in hand as it was

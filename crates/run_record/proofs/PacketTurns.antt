@@ -1,12 +1,17 @@
 -- A PACKET IN HAND OF A SLAVE, by its life before a frame: what came into hand, and which fragment was taken up.
-use Rattle.std.proofs.Common.{◌≡◌, ℕ, Bool, true, false, Option, Some, None, List, [], ◌∷◌, refl, sym, ap, ◌∙◌, subst}
+use Rattle.std.proofs.Common.{◌≡◌, ℕ, zero, suc, Bool, true, false, Option, Some, None, List, [], ◌∷◌, refl, sym, ap, ◌∙◌, subst}
 use Rattle.std.specs.Prelude.{◌&&◌, if◌then◌else◌, not, option_map}
+use Rattle.master_node.proofs.Frees.{none_next}
+use Rattle.master_node.proofs.Newest.{Newest, no_more}
+use Rattle.master_node.proofs.PacketRows.{held_open, packet_begins}
 use Rattle.master_node.specs.Backtold.{has_packet}
 use Rattle.master_node.specs.Begins.{is_other}
+use Rattle.master_node.specs.of_frame_view.View.{Lens}
 use Rattle.master_node.specs.of_life_frames.of_exchange_model.Areas.{Areas}
 use Rattle.master_node.specs.of_life_frames.of_exchange_model.Exchange.{Speech}
 use Rattle.master_node.specs.of_life_frames.of_exchange_model.Rows.{Row, begun, row_told}
 use Rattle.master_node.specs.of_life_model.Lives.{Life, Stand, granted, life_next}
+use Rattle.master_node.specs.of_life_runs.First.{leads_from}
 use Rattle.master_node.specs.of_life_runs.Spans.{is_open}
 use Rattle.master_node.specs.of_life_runs.of_link_mails.Body.{Body}
 use Rattle.master_node.specs.of_master_duty.Reply.{Reply}
@@ -15,10 +20,9 @@ use Rattle.master_node.specs.of_master_hand.Spoken.{Asked, acknowledged, hand_sp
 use Rattle.master_node.specs.of_segment_model.Ends.{Passing}
 use Rattle.master_node.specs.of_segment_model.Seats.{Side, next_mail, side_holds, side_next}
 use Rattle.master_node.specs.of_task_model.Accounts.{Account, Duty, Pick, account_begins, account_next, is_acknowledged, is_free, mails_begin, starts, state_begins}
-use Rattle.master_node.proofs.Frees.{none_next}
-use Rattle.master_node.proofs.Newest.{Newest, no_more}
-use Rattle.master_node.proofs.PacketRows.{held_open, packet_begins}
-use Rattle.run_record.specs.Written.{has_fragments}
+use Rattle.run_record.specs.Written.{forwards_now, has_fragments}
+use Rattle.segment_plan.specs.declared.service.Service as Plan
+use Rattle.segment_plan.specs.declared.slave.SlaveSpec.{SlaveSpec}
 
 -- in the epoch of a slave that is open
 abbrev pub unwritten_in : Speech Body Asked Reply → Side Body Asked Reply → Bool
@@ -144,3 +148,9 @@ module _ (areas : Areas) where
       by None (Some duty) = taken_up l.era.side l.era.side.now hold _ refl refl
       by (Some p) None = taken_up l.era.side l.era.side.now hold _ refl refl
       by (Some p) (Some duty) = taken_up l.era.side l.era.side.now hold _ refl refl
+
+-- BEFORE THE FIRST FRAME none is in hand
+pub none_forwards : (lens : ℕ → Lens) (rows : List (ℕ × Plan.Service)) (place : ℕ) (ss : List SlaveSpec) (k : ℕ) → forwards_now lens (leads_from rows place ss) k ≡ false
+none_forwards lens rows place [] k = refl
+none_forwards lens rows place (s ∷ ss) zero = refl
+none_forwards lens rows place (s ∷ ss) (suc k) = none_forwards lens rows (suc place) ss k

@@ -1,5 +1,5 @@
 -- What comes in of slaves and which of their ports go down over the frames of a serving, by what happened at its switch.
-use Rattle.std.proofs.Common.{◌≡◌, ℕ, Option, None, List, [], ◌++◌, map, length, refl, sym, ap, subst, ◌∙◌, append_assoc}
+use Rattle.std.proofs.Common.{◌≡◌, ℕ, suc, Option, None, List, [], ◌∷◌, ◌++◌, map, length, refl, sym, ap, subst, ◌∙◌, append_assoc}
 use Rattle.std.proofs.lemmas.List.{map-append}
 use Rattle.arrayvec.specs.ArrayVec.{ArrayVec}
 use Rattle.eoe_switch.specs.Switch.{Switched, switched}
@@ -28,8 +28,11 @@ use Rattle.master_node.specs.of_frame_view.View.{Lens}
 use Rattle.master_node.specs.of_life_frames.Shares.{AllThree}
 use Rattle.master_node.specs.of_life_runs.First.{first_leads, lens_of}
 use Rattle.master_node.specs.of_life_runs.Led.{Exchanged, Leads, Turn, gives_up_at}
+use Rattle.master_node.specs.of_master_hand.declared.hand.InHand.{InHand}
+use Rattle.master_node.specs.of_master_side.declared.hand.Hand.{Ghosts}
 use Rattle.master_node.specs.of_master_tour.Goes.{holds_at}
 use Rattle.master_node.specs.of_master_tour.Sizes.{frame_size}
+use Rattle.master_node.specs.of_master_tour.declared.stop.Stop.{Stop}
 use Rattle.master_node.specs.of_segment_model.Returned.{Returns}
 use Rattle.packets_heard.proofs.Carries.{carries_all, events_making, serves_asked}
 use Rattle.packets_heard.proofs.PacketsRuns.{begun_on}
@@ -40,7 +43,6 @@ use Rattle.packets_heard.specs.Listed.{CarriesAll, packets_by, unfinished_of}
 use Rattle.packets_heard.specs.Recalled.{AtSwitch, IsLanOf}
 use Rattle.packets_heard.specs.Served.{serves_behind}
 use Rattle.packets_heard.specs.Servings.{AreServedBegun, ServedListed, ServedNumbered, served_joined}
-use Rattle.run_record.proofs.Forwards.{as_many}
 use Rattle.run_record.proofs.FrameLists.{FrameLists, frame_begins, frame_lists, none_begins, ports_stay}
 use Rattle.run_record.proofs.Leads.{none_unfinished}
 use Rattle.run_record.proofs.ServedGaves.{serve_leads}
@@ -49,6 +51,16 @@ use Rattle.run_record.specs.Session.{FrameEvents, numbers_over}
 use Rattle.segment_plan.specs.declared.plan.Scenario.{Scenario}
 use Rattle.segment_ring.specs.declared.wire.Fate.TheVariants as Fates
 use Rattle.served_runs.specs.Served.{Keyed, Serves, ServedTurn, IsServedFrame, IsServedLed, MayAsk, all_serve, asked_at, served_behind}
+
+-- as many slaves
+pub as_many : {G : Ghosts InHand} (us : List Turn) (js : List Joined) (ss : List (Stop InHand G)) → AllThree (λ l j s. IsUnfinished l s.side.hand.found.join j) (map stand_under us) (unfinished_of js) ss → length js ≡ length us
+as_many [] [] ss h = refl
+as_many [] (j ∷ js) [] h = absurd h
+as_many [] (j ∷ js) (s ∷ ss) h = absurd h
+as_many (u ∷ us) [] [] h = absurd h
+as_many (u ∷ us) [] (s ∷ ss) h = absurd h
+as_many (u ∷ us) (j ∷ js) [] h = absurd h
+as_many (u ∷ us) (j ∷ js) (s ∷ ss) h = ap suc (as_many us js ss h.1)
 
 -- BEFORE THE FIRST FRAME nothing happened
 pub served_first : (plan : Scenario) (m : MasterNode) → m.lan.ports.items ≡ ports_behind 0 plan.slaves → HasUnfinished m (map stand_before (first_leads plan)) (map (λ spec. None) plan.slaves) → HasHappened (ports_of plan.slaves) plan.host [] m.lan →

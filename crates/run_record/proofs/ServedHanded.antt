@@ -1,29 +1,30 @@
 -- WHAT IS NOTED OF THE MAILS THAT ARE PASSED ON over a serving goes with the lives of its slaves: their answers, and whether one is in hand.
-use Rattle.std.proofs.Common.{◌≡◌, ◌==◌, ◌<◌, ◌≤◌, ◌+◌, ℕ, zero, suc, Bool, true, false, Option, Some, None, List, [], ◌∷◌, ◌++◌, length, length-append, map, refl, sym, ap, ◌∙◌, subst, append-nil, arith}
-use Rattle.std.specs.Prelude.{◌&&◌, is_some, nat_lt, nat_le, if◌then◌else◌, slice_get, not}
+use Rattle.std.proofs.Common.{◌≡◌, ◌==◌, ◌≤◌, ◌+◌, ℕ, Bool, true, false, Option, Some, None, List, [], ◌∷◌, ◌++◌, length, length-append, map, refl, sym, ap, ◌∙◌, subst, append-nil, arith}
+use Rattle.std.specs.Prelude.{◌&&◌, is_some, nat_lt, nat_le, if◌then◌else◌, not}
 use Rattle.std.proofs.lemmas.Bool.{eq-eqb, eqb-true, leb-true}
 use Rattle.datagrams.specs.Datagram as Raw
 use Rattle.datagrams.specs.Frame.{IsFrame, chained}
-use Rattle.master_node.specs.Backtold.{has_packet, known_at, returned_at, returned_told}
+use Rattle.master_node.proofs.Counts.{lost_gave, next_stand}
+use Rattle.master_node.proofs.Handeds.{comes_own, lost_on}
+use Rattle.master_node.proofs.ServedJoins.{holds_map}
+use Rattle.master_node.proofs.Serveds.{unread_behind}
+use Rattle.master_node.specs.Backtold.{has_packet, known_at, returned_told}
 use Rattle.master_node.specs.Begins.{begun_of}
 use Rattle.master_node.specs.Eager.{recalls}
 use Rattle.master_node.specs.Events.{oldest_in}
-use Rattle.master_node.specs.Lifetold.{lost_at}
-use Rattle.master_node.specs.Listing.{events_in, told_in}
-use Rattle.master_node.specs.Serving.{IsServedUnder, ServedUnder, run_lead, run_turn}
-use Rattle.master_node.specs.Wants.{gave_of}
+use Rattle.master_node.specs.Serving.{IsServedUnder, run_lead, run_turn}
 use Rattle.master_node.specs.declared.event.Event.{Event}
+use Rattle.master_node.specs.declared.event.Origin.TheVariants.{Forward, Gateway, Script}
 use Rattle.master_node.specs.declared.event.Origin.{Origin}
-use Rattle.master_node.specs.declared.event.Origin.TheVariants.{Script, Forward, Gateway}
 use Rattle.master_node.specs.declared.node.MasterNode.{MasterNode}
 use Rattle.master_node.specs.declared.post.Post.{Post}
 use Rattle.master_node.specs.of_frame_view.Seen.{seen}
 use Rattle.master_node.specs.of_frame_view.View.{Lens}
-use Rattle.master_node.specs.of_life_frames.Shares.{AllThree, came_at, given_where}
+use Rattle.master_node.specs.of_life_frames.Shares.{Lived, came_at, given_where}
 use Rattle.master_node.specs.of_life_frames.of_exchange_model.Areas.{Areas}
 use Rattle.master_node.specs.of_life_model.Lives.{Life, Stand, life_lost, reopening}
-use Rattle.master_node.specs.of_life_runs.First.{first_leads, lens_of}
-use Rattle.master_node.specs.of_life_runs.Led.{Comes as OwnComes, Exchanged, Leads, gives_up_at, missed_behind, speech_at}
+use Rattle.master_node.specs.of_life_runs.First.{lens_of}
+use Rattle.master_node.specs.of_life_runs.Led.{Comes as OwnComes, Exchanged, Leads, Turn, gives_up_at, speech_at}
 use Rattle.master_node.specs.of_life_runs.Spans.{is_open}
 use Rattle.master_node.specs.of_life_runs.of_link_mails.Body.{Body}
 use Rattle.master_node.specs.of_life_runs.of_segment_plan.declared.service.Service as Plan
@@ -36,121 +37,36 @@ use Rattle.master_node.specs.of_master_side.Passing.{news_back, news_lost, passi
 use Rattle.master_node.specs.of_master_side.declared.hand.Hand.{Ghosts}
 use Rattle.master_node.specs.of_master_tour.Brings.{accepted_in}
 use Rattle.master_node.specs.of_master_tour.Goes.{holds_at}
-use Rattle.master_node.specs.of_master_tour.Made.{is_in}
 use Rattle.master_node.specs.of_master_tour.declared.stop.Stop.{Stop}
 use Rattle.master_node.specs.of_segment_model.Ends.{Passing}
 use Rattle.master_node.specs.of_segment_model.Record.{News}
 use Rattle.master_node.specs.of_segment_model.Returned.{Returns}
 use Rattle.master_node.specs.of_segment_model.Slaves.{Found}
 use Rattle.master_node.specs.of_task_model.Accounts.{is_free}
-use Rattle.master_node.proofs.Counts.{lost_gave, next_stand}
-use Rattle.master_node.proofs.Handeds.{comes_own, lost_on}
 use Rattle.packets_heard.specs.Numbers.{each_with}
 use Rattle.packets_heard.specs.Over.{packet_begun}
 use Rattle.packets_heard.specs.Servings.{served_begun}
 use Rattle.run_book.specs.declared.book.Begun.{Begun}
-use Rattle.run_notes.specs.Handed.{AllDoubts, AllHanded, Doubts, GoesBy, IsHanded, MailsGo, Sound, has_mail, is_mail, kinds_in, mails_noted}
-use Rattle.run_notes.specs.Notes.{new_notes}
-use Rattle.run_notes.specs.Packets.{begun_noted, mail_row, numbered_from, packet_row, rows_at, rows_with}
-use Rattle.run_notes.specs.Reports.{AllReport, Reports}
-use Rattle.run_notes.specs.Slaves.{first_notes, gaves_noted, scripted}
+use Rattle.run_notes.proofs.Packets.{with_append}
+use Rattle.run_notes.specs.Handed.{AllHanded, IsHanded, is_mail, kinds_in}
+use Rattle.run_notes.specs.Packets.{mail_row, numbered_from, packet_row, rows_with}
+use Rattle.run_notes.specs.Slaves.{scripted}
 use Rattle.run_notes.specs.Unsent.{first_numbers, numbers_in, with_number}
 use Rattle.run_notes.specs.declared.notes.Notes.{Notes}
-use Rattle.run_notes.proofs.Handings.{kinds_append}
-use Rattle.run_notes.proofs.Packets.{with_append}
-use Rattle.run_record.specs.Forwarded.{PacketsNoted}
-use Rattle.run_record.specs.Mails.{has_passing, mail_begun, mail_over, overs_behind, passing_at, passing_before, served_mails, served_overs}
-use Rattle.run_record.specs.Written.{has_fragments}
-use Rattle.run_record.specs.Served.{ServeTo, events_behind}
-use Rattle.run_record.proofs.MailEvents.{in_kinds, losts_none, returned_off, told_here, told_none}
 use Rattle.run_record.proofs.MailLives.{Goes, back_goes, still_goes}
-use Rattle.run_record.proofs.MailNotes.{Comes, back_handed, begun_answers, lost_handed, mails_kind, turn_handed}
-use Rattle.run_record.proofs.Noted.{next_gives}
-use Rattle.run_record.proofs.PacketLives.{back_goes as packet_goes, lost_same}
-use Rattle.run_record.proofs.ServedGaves.{one_gives}
-use Rattle.script_runs.specs.Answers.{turned}
+use Rattle.run_record.proofs.MailNotes.{Comes, begun_answers, mails_kind, turn_handed}
+use Rattle.run_record.proofs.PacketLives.{back_goes as packet_goes, lost_same, unread_goes as packet_unread}
+use Rattle.run_record.proofs.ServedNotes.{GoesOver, IsTurnNoted, Known, all_noted, behind, lives}
+use Rattle.run_record.specs.Mails.{has_passing, mail_begun, mail_over, overs_behind, passing_at, passing_before, served_mails, served_overs}
+use Rattle.run_record.specs.Served.{ServeTo}
+use Rattle.run_record.specs.Written.{has_fragments}
 use Rattle.segment_plan.specs.declared.plan.Scenario.{Scenario}
-use Rattle.segment_plan.specs.declared.slave.SlaveSpec.{SlaveSpec}
-use Rattle.segment_ring.specs.declared.wire.Fate.{Fate}
 use Rattle.segment_ring.specs.declared.wire.Fate.TheVariants as Fates
+use Rattle.segment_ring.specs.declared.wire.Fate.{Fate}
 use Rattle.served_places.proofs.Next.{next_free, next_open, next_passing}
 use Rattle.served_places.proofs.Unread.{unread_passing}
-use Rattle.served_runs.specs.Served.{AllServedTurn, IsServedFrame, IsServedLed, IsServedTurn, Keyed, ServedComes, Serves, ServedTurn, all_serve, served_behind, served_life}
+use Rattle.served_runs.specs.Served.{IsServedFrame, IsServedTurn, Keyed, ServedComes, ServedTurn, Serves, served_life}
 use Rattle.served_runs.specs.Told.{Passed}
-
--- ---- at a place
-
-none_at : {X P : Type 0} (k : ℕ) (x : X) → slice_get [] k ≡ Some x → P
-none_at k x e = absurd (let bad : None ≡ Some x = e in cc)
-
-map_at : {X Y : Type 0} (g : X → Y) (xs : List X) (k : ℕ) (x : X) → slice_get xs k ≡ Some x → slice_get (map g xs) k ≡ Some (g x)
-map_at g [] k x e = none_at k x e
-map_at g (y ∷ xs) zero x e = ap (λ z. Some (g z)) (let same : y ≡ x = cc in same)
-map_at g (y ∷ xs) (suc k) x e = map_at g xs k x e
-
-of_map : {X Y : Type 0} (g : X → Y) (xs : List X) (k : ℕ) (y : Y) → slice_get (map g xs) k ≡ Some y → (x : X) × (slice_get xs k ≡ Some x) × (g x ≡ y)
-of_map g [] k y e = none_at k y e
-of_map g (x ∷ xs) zero y e = (x, refl, let same : g x ≡ y = cc in same)
-of_map g (x ∷ xs) (suc k) y e = of_map g xs k y e
-
-one_there : {X : Type 0} (o : Option X) (x y : X) → o ≡ Some x → o ≡ Some y → x ≡ y
-one_there o x y e f = let all : Some x ≡ Some y = sym e ∙ f in cc
-
-holds_here : {X : Type 0} (test : X → Bool) (xs : List X) (k : ℕ) (x : X) → slice_get xs k ≡ Some x → holds_at test xs k ≡ test x
-holds_here test [] k x e = none_at k x e
-holds_here test (y ∷ xs) zero x e = ap test (let same : y ≡ x = cc in same)
-holds_here test (y ∷ xs) (suc k) x e = holds_here test xs k x e
-
-begun_here : (vs : List ServedTurn) (k : ℕ) (v : ServedTurn) → slice_get vs k ≡ Some v → begun_of (map run_turn vs) k ≡ v.turn.begun
-begun_here [] k v e = none_at k v e
-begun_here (u ∷ vs) zero v e = ap (λ (z : ServedTurn). z.turn.begun) (let same : u ≡ v = cc in same)
-begun_here (u ∷ vs) (suc k) v e = begun_here vs k v e
-
-rows_here : {X : Type 0} (row : Origin → ℕ → List X) (notes : List Notes) (k : ℕ) (n : Notes) → slice_get notes k ≡ Some n → rows_at row (begun_noted notes) k ≡ rows_with row n.begun
-rows_here row [] k n e = none_at k n e
-rows_here row (m ∷ notes) zero n e = ap (λ (z : Notes). rows_with row z.begun) (let same : m ≡ n = cc in same)
-rows_here row (m ∷ notes) (suc k) n e = rows_here row notes k n e
-
-within : (notes : List Notes) (k : ℕ) (n : Notes) → slice_get notes k ≡ Some n → k < length (begun_noted notes)
-within [] k n e = none_at k n e
-within (m ∷ notes) zero n e = omega arith
-within (m ∷ notes) (suc k) n e = let l = within notes k n e in omega (arith, l)
-
-gave_here : (notes : List Notes) (as' : List Leads) (k : ℕ) (n : Notes) (a : Leads) → gaves_noted notes ≡ map gave_of as' → slice_get notes k ≡ Some n → slice_get as' k ≡ Some a → n.gave ≡ gave_of a
-gave_here [] as' k n a e f g = none_at k n f
-gave_here (m ∷ notes) [] k n a e f g = none_at k a g
-gave_here (m ∷ notes) (b ∷ as') zero n a e f g =
-    let h : m.gave ≡ gave_of b = cc in let q : m ≡ n = cc in let r : b ≡ a = cc in ap (λ (z : Notes). z.gave) (sym q) ∙ h ∙ ap gave_of r
-gave_here (m ∷ notes) (b ∷ as') (suc k) n a e f g = gave_here notes as' k n a (let h : gaves_noted notes ≡ map gave_of as' = cc in h) f g
-
-report_at : (as' : List Leads) (notes : List Notes) → AllReport as' notes → (k : ℕ) (n : Notes) → slice_get notes k ≡ Some n → (a : Leads) × (slice_get as' k ≡ Some a) × Reports a n
-report_at [] [] r k n e = none_at k n e
-report_at [] (m ∷ notes) r k n e = absurd r
-report_at (a ∷ as') [] r k n e = none_at k n e
-report_at (a ∷ as') (m ∷ notes) r zero n e = (a, refl, subst (λ (z : Notes). Reports a z) (let same : m ≡ n = cc in same) r.0)
-report_at (a ∷ as') (m ∷ notes) r (suc k) n e = report_at as' notes r.1 k n e
-
-turn_at : (lens : ℕ → Lens) (made : ℕ) (ds : List Raw.Datagram) (ws : List Serves) (vs : List ServedTurn) → AllServedTurn lens made ds ws vs → (k : ℕ) (v : ServedTurn) → slice_get vs k ≡ Some v → (w : Serves) × (slice_get ws k ≡ Some w) × IsServedTurn lens made ds w v
-turn_at lens made ds [] [] t k v e = none_at k v e
-turn_at lens made ds [] (u ∷ vs) t k v e = absurd t
-turn_at lens made ds (w ∷ ws) [] t k v e = absurd t
-turn_at lens made ds (w ∷ ws) (u ∷ vs) t zero v e = (w, refl, subst (λ (z : ServedTurn). IsServedTurn lens made ds w z) (let same : u ≡ v = cc in same) t.0)
-turn_at lens made ds (w ∷ ws) (u ∷ vs) t (suc k) v e = turn_at lens made ds ws vs t.1 k v e
-
-module _ {G : Ghosts InHand} (lens : ℕ → Lens) (recover made : ℕ) (octets : List ℕ) where
-  record UnderAt (ss : List (Stop InHand G)) (k : ℕ) (v : ServedTurn) : Type 0 where
-    post : Post
-    stop : Stop InHand G
-    there : slice_get ss k ≡ Some stop
-    under : IsServedUnder lens recover octets made v post stop
-
-  under_at : (vs : List ServedTurn) (ps : List Post) (ss : List (Stop InHand G)) → AllThree (λ v p s. IsServedUnder lens recover octets made v p s) vs ps ss → (k : ℕ) (v : ServedTurn) → slice_get vs k ≡ Some v → UnderAt ss k v
-  under_at [] ps ss h k v e = none_at k v e
-  under_at (u ∷ vs) [] [] h k v e = absurd h
-  under_at (u ∷ vs) [] (s ∷ ss) h k v e = absurd h
-  under_at (u ∷ vs) (p ∷ ps) [] h k v e = absurd h
-  under_at (u ∷ vs) (p ∷ ps) (s ∷ ss) h zero v e = record { post = p; stop = s; there = refl; under = subst (λ (z : ServedTurn). IsServedUnder lens recover octets made z p s) (let same : u ≡ v = cc in same) h.0 }
-  under_at (u ∷ vs) (p ∷ ps) (s ∷ ss) h (suc k) v e = let r = under_at vs ps ss h.1 k v e in record { post = r.post; stop = r.stop; there = r.there; under = r.under }
 
 pub cancel : {X : Type 0} (xs ys zs : List X) → xs ++ ys ≡ xs ++ zs → ys ≡ zs
 cancel [] ys zs e = e
@@ -232,20 +148,21 @@ module _ (lens : ℕ → Lens) (made : ℕ) (ds : List Raw.Datagram) (w : Serves
               Comes.other (ap (λ z. mail_begun number frame z) e ∙ ap (λ (z : Bool). if z then (number, frame) ∷ [] else []) p) (unpassed w.lead.lived.life (free (Service.Mails q) e))
               (unpassed v.turn.lived.life (now ∙ free (Service.Mails q) e))
 
-  turn_one : (n n' : Notes) (overs : List (Option ℕ)) (mails : List (ℕ × ℕ)) (frames : List ℕ) (number : ℕ) → Doubts n n' → Reports w.lead n → Reports (turned v.turn) n' → IsHanded overs (has_passing w.lead.lived.life) n → rows_with mail_row n.begun ≡ mails →
-      rows_with mail_row n'.begun ≡ mails ++ mail_begun number made v.turn.begun → rows_with packet_row n.begun ≡ numbered_from 0 frames → rows_with packet_row n'.begun ≡ numbered_from 0 (frames ++ each_with made (packet_begun v.turn.begun)) →
-      IsHanded (overs ++ mail_over v.turn.begun) (has_passing v.turn.lived.life) n'
-  turn_one n n' overs mails frames number d r r' h m m' p p' =
+  turn_one : (n n' : Notes) (overs : List (Option ℕ)) (mails : List (ℕ × ℕ)) (frames : List ℕ) (number : ℕ) → IsTurnNoted made w v mails frames number n n' → IsHanded overs (has_passing w.lead.lived.life) n → IsHanded (overs ++ mail_over v.turn.begun) (has_passing v.turn.lived.life) n'
+  turn_one n n' overs mails frames number o h =
+      let d = o.doubts in
+      let r = o.reports in
+      let r' = o.reports_on in
       turn_handed is_mail mail_row packet_row mails_kind n n' overs (has_passing w.lead.lived.life) (has_passing v.turn.lived.life) v.turn.begun (mail_begun number made v.turn.begun) (mail_over v.turn.begun) d (record { aligned = r.aligned; last = r.last }) h
       (record {
-        mails = cancel mails (rows_with mail_row d.more) (mail_begun number made v.turn.begun) (ap (λ z. z ++ rows_with mail_row d.more) (sym m) ∙ sym (ap (rows_with mail_row) d.begun ∙ with_append mail_row n.begun d.more) ∙ m');
+        mails = cancel mails (rows_with mail_row d.more) (mail_begun number made v.turn.begun) (ap (λ z. z ++ rows_with mail_row d.more) (sym o.mailed) ∙ sym (ap (rows_with mail_row) d.begun ∙ with_append mail_row n.begun d.more) ∙ o.mailed_on);
         numbers = λ bare.
             let counts : n'.scripted ≡ n.scripted = r'.told.many ∙ same_number (lens w.lead.lived.spot.station).out w.lead.script w.waits w.hand w.lead.number v.turn.begun v.turn.number v.waits v.hand t.comes bare ∙ sym r.told.many in
             cancel (numbers_in n.begun) (numbers_in d.more) [] (sym (ap numbers_in d.begun ∙ numbers_append n.begun d.more) ∙ r'.rest.numbers ∙ ap first_numbers counts ∙ sym r.rest.numbers ∙ sym (append-nil (numbers_in n.begun)));
         answers = begun_answers number made v.turn.begun;
         outside = λ bare.
             cancel (rows_with packet_row n.begun) (rows_with packet_row d.more) []
-            (sym (ap (rows_with packet_row) d.begun ∙ with_append packet_row n.begun d.more) ∙ p' ∙ ap (λ z. numbered_from 0 (frames ++ z)) (no_packet made v.turn.begun bare) ∙ ap (numbered_from 0) (append-nil frames) ∙ sym p
+            (sym (ap (rows_with packet_row) d.begun ∙ with_append packet_row n.begun d.more) ∙ o.rows_on ∙ ap (λ z. numbered_from 0 (frames ++ z)) (no_packet made v.turn.begun bare) ∙ ap (numbered_from 0) (append-nil frames) ∙ sym o.rows
             ∙ sym (append-nil (rows_with packet_row n.begun)));
       })
       (turn_comes number made)
@@ -322,6 +239,21 @@ module _ {G : Ghosts InHand} (lens : ℕ → Lens) (recover retry : ℕ) (gives 
   pub written_back : (k : ℕ) → Goes (has_fragments (speech_at lens v.turn.lived.spot) before) (has_fragments (speech_at lens v.turn.lived.spot) (after Fates.Pass)) (kinds_in k (told k true))
   written_back k = packet_goes areas made k v.turn.lived.spot ns (seen lens f.back) v.hand ms before came (knows s.side.hand.course) p.work u.served.inhand
 
+  -- by one that came back at all
+  pub pass_written : (k : ℕ) (visits : Bool) → (s.under ≡ true → visits ≡ true) → Returns (seen lens f.sent) (seen lens f.back) →
+      Goes (has_fragments (speech_at lens v.turn.lived.spot) before) (has_fragments (speech_at lens v.turn.lived.spot) (after Fates.Pass)) (if visits then kinds_in k (told k true) else [])
+  pass_written k visits carried returns = go visits refl
+    where
+      left_out : (b : Bool) → s.under ≡ b → visits ≡ false → s.under ≡ false
+      left_out true f e = absurd (let bad : true ≡ false = sym (carried f) ∙ e in cc)
+      left_out false f e = f
+
+      go : (b : Bool) → visits ≡ b → Goes (has_fragments (speech_at lens v.turn.lived.spot) before) (has_fragments (speech_at lens v.turn.lived.spot) (after Fates.Pass)) (if b then kinds_in k (told k true) else [])
+      go true e = written_back k
+      go false e =
+          packet_unread areas made k v.turn.lived.spot ns (seen lens f.back) v.hand ms before came (knows s.side.hand.course) p.work u.served.inhand
+          (λ stands. (unread_behind lens recover made f.sent f.back v p s u returns (left_out s.under refl e) stands).0)
+
   -- and by a lost one
   pub written_lost : (after_it : ℕ) → has_fragments (speech_at lens v.turn.lived.spot) (after (Fates.Lost after_it)) ≡ (has_fragments (speech_at lens v.turn.lived.spot) before && length (after (Fates.Lost after_it)).gave == length before.gave)
   written_lost after_it =
@@ -330,147 +262,31 @@ module _ {G : Ghosts InHand} (lens : ℕ → Lens) (recover retry : ℕ) (gives 
 
 -- ---- OF ALL SLAVES
 
--- of lost frames no answer is told
-none_lost : (k : ℕ) (vs : List ServedTurn) (ws : List Serves) (ps : List ℕ) → kinds_in k (told_in (λ j. lost_at vs ws j) ps) ≡ []
-none_lost k vs ws [] = refl
-none_lost k vs ws (p ∷ ps) = kinds_append k (lost_at vs ws p) (told_in (λ j. lost_at vs ws j) ps) ∙ (λ i. losts_none k vs ws p i ++ none_lost k vs ws ps i)
-
-module _ (plan : Scenario) (fs : List Exchanged) (missed : ℕ) (ws : List Serves) (led : ServeTo plan fs missed ws) (f : Exchanged) (vs : List ServedTurn) (frame : IsServedFrame (lens_of plan.slaves) (length fs) f.sent ws vs) (m0 m n : MasterNode) (old mid new : List Notes) where
+module _ (plan : Scenario) (fs : List Exchanged) (missed : ℕ) (ws : List Serves) (led : ServeTo plan fs missed ws) (f : Exchanged) (vs : List ServedTurn) (frame : IsServedFrame (lens_of plan.slaves) (length fs) f.sent ws vs) (m0 m n : MasterNode) (old mid new : List Notes)
+    (z : Known plan fs missed ws led f vs frame m0 m n old mid new) where
   abbrev lens : ℕ → Lens
   lens = lens_of plan.slaves
 
   abbrev gives : Bool
   gives = gives_up_at lens plan.recover plan.retry missed
 
-  abbrev goes_to : ServedTurn → Serves
-  goes_to v = served_behind lens plan.recover plan.retry gives (length fs) f v
+  abbrev now_on : List Serves
+  now_on = behind plan fs missed ws led f vs frame m0 m n old mid new
 
-  abbrev behind : List Serves
-  behind = map goes_to vs
+  abbrev has : Lived Asked Reply → Bool
+  has l = has_passing l.life
 
-  abbrev pub lives : IsServedLed lens plan.recover plan.retry (all_serve plan.paces (first_leads plan)) (fs ++ f ∷ []) (missed_behind lens plan.recover plan.retry f.fate missed) behind
-  lives = IsServedLed.on fs missed ws f vs led frame
+  mails_go : GoesOver plan fs missed ws led f vs frame m0 m n old mid new is_mail has mail_over (λ k. served_overs led k)
+  mails_go = record {
+    beside = λ number. refl;
+    turns = λ k w v t n0 n1 noted h. turn_one lens (length fs) frame.datagrams w v t n0 n1 (served_overs led k) (served_mails led k) (served_begun led k) (oldest_in ws k) noted h;
+    returns = λ k w v t at u e visits carried. pass_one lens plan.recover plan.retry gives (length fs) frame.datagrams f w v frame.frame t u.post u.stop u.under k (known_at (recalls n) k) visits carried (z.returned e);
+    loses = λ k w v t u lasts. lost_one lens plan.recover plan.retry gives (length fs) frame.datagrams f w v frame.frame t u.post u.stop u.under lasts;
+  }
 
-  -- what is known of the frame, and of what is noted
-  pub record Known : Type 0 where
-    pub under : ServedUnder lens plan.recover plan.retry m f.sent missed (length fs) vs
-    pub returned : f.fate ≡ Fates.Pass → Returns (seen lens f.sent) (seen lens f.back)
-    pub lists : events_in n ≡ told_in (λ k. events_behind lens f f.fate (recalls n) vs behind k) m.tour.visit.items
-    pub packets : PacketsNoted (λ k. served_begun led k) (λ k. served_mails led k) m0 old
-    pub packets_on : PacketsNoted (λ k. served_begun lives k) (λ k. served_mails lives k) n new
-    pub same : begun_noted new ≡ begun_noted mid
-    pub doubts : AllDoubts old mid
-    pub goes : MailsGo (length fs) (λ k. kinds_in k (events_in n)) mid new
-    pub reports : AllReport (map run_lead ws) old
-    pub turned_reports : AllReport (map turned (map run_turn vs)) mid
-    pub gave : gaves_noted mid ≡ map gave_of (map run_lead ws)
-    pub gave_on : gaves_noted new ≡ map gave_of (map run_lead behind)
-
-  module _ (z : Known) (handed : AllHanded (λ k. served_overs led k) (λ k. passing_at ws k) old) where
-    -- the slave at a place
-    module _ (k : ℕ) (n2 : Notes) (at2 : slice_get new k ≡ Some n2) (n1 : Notes) (at1 : slice_get mid k ≡ Some n1) (by : GoesBy (length fs) (kinds_in k (events_in n)) n1 n2) (n0 : Notes) (at0 : slice_get old k ≡ Some n0) (d : Doubts n0 n1)
-        (v : ServedTurn) (at_v : slice_get vs k ≡ Some v) (r1 : Reports (turned v.turn) n1) (w : Serves) (at_w : slice_get ws k ≡ Some w) (t : IsServedTurn lens (length fs) frame.datagrams w v) where
-      r0 : Reports w.lead n0
-      r0 =
-          let r = report_at (map run_lead ws) old z.reports k n0 at0 in
-          subst (λ (a : Leads). Reports a n0) (one_there (slice_get (map run_lead ws) k) r.0 w.lead r.1 (map_at run_lead ws k w at_w)) r.2
-
-      begun_is : begun_of (map run_turn vs) k ≡ v.turn.begun
-      begun_is = begun_here vs k v at_v
-
-      before_it : IsHanded (served_overs led k ++ mail_over v.turn.begun) (has_passing v.turn.lived.life) n1
-      before_it =
-          turn_one lens (length fs) frame.datagrams w v t n0 n1 (served_overs led k) (served_mails led k) (served_begun led k) (oldest_in ws k) d r0 r1
-          (subst (λ (b : Bool). IsHanded (served_overs led k) b n0) (holds_here (λ (x : Serves). has_passing x.lead.lived.life) ws k w at_w) (handed k n0 at0))
-          (sym (rows_here mail_row old k n0 at0) ∙ z.packets.mailed k (within old k n0 at0))
-          (sym (rows_here mail_row mid k n1 at1) ∙ ap (λ x. rows_at mail_row x k) (sym z.same) ∙ z.packets_on.mailed k (within new k n2 at2) ∙ ap (λ x. served_mails led k ++ mail_begun (oldest_in ws k) (length fs) x) begun_is)
-          (sym (rows_here packet_row old k n0 at0) ∙ z.packets.rows k (within old k n0 at0))
-          (sym (rows_here packet_row mid k n1 at1) ∙ ap (λ x. rows_at packet_row x k) (sym z.same) ∙ z.packets_on.rows k (within new k n2 at2) ∙ ap (λ x. numbered_from 0 (served_begun led k ++ each_with (length fs) (packet_begun x))) begun_is)
-
-      sound : Sound n1
-      sound = record { aligned = r1.aligned; last = r1.last }
-
-      gave1 : n1.gave ≡ gave_of w.lead
-      gave1 = gave_here mid (map run_lead ws) k n1 w.lead z.gave at1 (map_at run_lead ws k w at_w)
-
-      gave2 : n2.gave ≡ (goes_to v).lead.lived.life.gave
-      gave2 = gave_here new (map run_lead behind) k n2 (goes_to v).lead z.gave_on at2 (map_at run_lead behind k (goes_to v) (map_at goes_to vs k v at_v))
-
-      abbrev at_stop : UnderAt lens plan.recover (length fs) f.sent m.tour.stops.items k v
-      at_stop = under_at lens plan.recover (length fs) f.sent vs m.posts.items m.tour.stops.items z.under.each k v at_v
-
-      abbrev life_by : Fate → Life Body Asked Reply
-      life_by fate = (served_life lens plan.recover plan.retry gives (length fs) f fate v).life
-
-      -- of a frame that came back
-      abbrev tells : ServedTurn → Serves → ℕ → List Event
-      tells v w j = returned_told (speech_at lens v.turn.lived.spot) (known_at (recalls n) j) j v.hand (accepted_in v.turn.lived.spot v.turn.lived.life (seen lens f.back)) v.turn.lived.life w.lead.lived.life v.turn.lived.life.stand
-
-      others : (p : ℕ) → (p == k) ≡ false → kinds_in k (returned_at lens (seen lens f.back) (recalls n) vs behind p) ≡ []
-      others p off =
-          told_none k (λ v w. tells v w p)
-          (λ v w. returned_off k p off (speech_at lens v.turn.lived.spot) (known_at (recalls n) p) v.hand (accepted_in v.turn.lived.spot v.turn.lived.life (seen lens f.back)) v.turn.lived.life w.lead.lived.life v.turn.lived.life.stand) vs behind p
-
-      carried : at_stop.stop.under ≡ true → is_in k m.tour.visit.items ≡ true
-      carried e = z.under.carried k (holds_here (λ s. s.under) m.tour.stops.items k at_stop.stop at_stop.there ∙ e)
-
-      by_pass : f.fate ≡ Fates.Pass → Goes (has_passing v.turn.lived.life) (has_passing (life_by Fates.Pass)) (kinds_in k (events_in n))
-      by_pass e =
-          let listed : events_in n ≡ told_in (λ j. returned_at lens (seen lens f.back) (recalls n) vs behind j) m.tour.visit.items = z.lists ∙ ap (λ (x : Fate). told_in (λ j. events_behind lens f x (recalls n) vs behind j) m.tour.visit.items) e in
-          let its : kinds_in k (events_in n) ≡ (if is_in k m.tour.visit.items then kinds_in k (tells v (goes_to v) k) else []) =
-          ap (λ x. kinds_in k x) listed ∙ in_kinds k (λ j. returned_at lens (seen lens f.back) (recalls n) vs behind j) others m.tour.visit.items z.under.goes.comes.once
-          ∙ ap (λ x. if is_in k m.tour.visit.items then kinds_in k x else []) (told_here (λ v w. tells v w k) goes_to vs k v at_v) in
-          let one = pass_one lens plan.recover plan.retry gives (length fs) frame.datagrams f w v frame.frame t at_stop.post at_stop.stop at_stop.under k (known_at (recalls n) k) (is_in k m.tour.visit.items) carried (z.returned e) in
-          subst (λ x. Goes (has_passing v.turn.lived.life) (has_passing (life_by Fates.Pass)) x) (sym its)
-          (subst (λ (x : Life Body Asked Reply). Goes (has_passing v.turn.lived.life) (has_passing (life_by Fates.Pass)) (if is_in k m.tour.visit.items then kinds_in k (told_by x) else [])) (sym (ap life_by e)) one)
-        where
-          told_by : Life Body Asked Reply → List Event
-          told_by x =
-              returned_told (speech_at lens v.turn.lived.spot) (known_at (recalls n) k) k v.hand (accepted_in v.turn.lived.spot v.turn.lived.life (seen lens f.back)) v.turn.lived.life x v.turn.lived.life.stand
-
-      after_it : IsHanded (overs_behind f.fate (length fs) (has_passing v.turn.lived.life) (has_passing (goes_to v).lead.lived.life) (served_overs led k ++ mail_over v.turn.begun)) (has_passing (goes_to v).lead.lived.life) n2
-      after_it = go f.fate refl
-        where
-          go : (fate : Fate) → f.fate ≡ fate → IsHanded (overs_behind f.fate (length fs) (has_passing v.turn.lived.life) (has_passing (goes_to v).lead.lived.life) (served_overs led k ++ mail_over v.turn.begun)) (has_passing (goes_to v).lead.lived.life) n2
-          go Fates.Pass e =
-              let alike : length n2.gave ≡ length n1.gave = ap length (gave2 ∙ ap (λ (x : Fate). (life_by x).gave) e ∙ one_gives lens plan.recover plan.retry (length fs) frame.datagrams w v t gives f Fates.Pass ∙ sym gave1) in
-              subst (λ (x : Fate). IsHanded (overs_behind x (length fs) (has_passing v.turn.lived.life) (has_passing (life_by x)) (served_overs led k ++ mail_over v.turn.begun)) (has_passing (life_by x)) n2) (sym e)
-              (back_handed is_mail (λ number. refl) (length fs) (kinds_in k (events_in n)) n1 n2 (served_overs led k ++ mail_over v.turn.begun) (has_passing v.turn.lived.life) (has_passing (life_by Fates.Pass)) before_it sound by (by_pass e) alike)
-          go (Fates.Lost lasts) e =
-              let none : kinds_in k (events_in n) ≡ [] = ap (λ x. kinds_in k x) (z.lists ∙ ap (λ (x : Fate). told_in (λ j. events_behind lens f x (recalls n) vs behind j) m.tour.visit.items) e) ∙ none_lost k vs behind m.tour.visit.items in
-              let one = lost_one lens plan.recover plan.retry gives (length fs) frame.datagrams f w v frame.frame t at_stop.post at_stop.stop at_stop.under lasts in
-              let now : n2.gave ≡ (life_by (Fates.Lost lasts)).gave = gave2 ∙ ap (λ (x : Fate). (life_by x).gave) e in
-              let was : v.turn.lived.life.gave ≡ n1.gave = next_gives lens (length fs) w.lead.lived v.turn.lived t.next ∙ sym gave1 in
-              subst (λ (x : Fate). IsHanded (overs_behind x (length fs) (has_passing v.turn.lived.life) (has_passing (life_by x)) (served_overs led k ++ mail_over v.turn.begun)) (has_passing (life_by x)) n2) (sym e)
-              (lost_handed is_mail (λ number. refl) (length fs) n1 n2 (served_overs led k ++ mail_over v.turn.begun) (has_passing v.turn.lived.life) (has_passing (life_by (Fates.Lost lasts))) before_it sound (subst (λ x. GoesBy (length fs) x n1 n2) none by)
-              (one ∙ (λ i. has_passing v.turn.lived.life && length (sym now i) == length (was i))))
-
-      -- as the serving has it
-      one_handed : IsHanded (served_overs lives k) (passing_at behind k) n2
-      one_handed =
-          let is : passing_at behind k ≡ has_passing (goes_to v).lead.lived.life = holds_here (λ (x : Serves). has_passing x.lead.lived.life) behind k (goes_to v) (map_at goes_to vs k v at_v) in
-          let was : passing_before vs k ≡ has_passing v.turn.lived.life = holds_here (λ (x : ServedTurn). has_passing x.turn.lived.life) vs k v at_v in
-          subst (λ (b : Bool). IsHanded (overs_behind f.fate (length fs) (passing_before vs k) b (served_overs led k ++ mail_over (begun_of (map run_turn vs) k))) b n2) (sym is)
-          (subst (λ (b : Bool). IsHanded (overs_behind f.fate (length fs) b (has_passing (goes_to v).lead.lived.life) (served_overs led k ++ mail_over (begun_of (map run_turn vs) k))) (has_passing (goes_to v).lead.lived.life) n2) (sym was)
-          (subst (λ (b : Option (Service Asked)). IsHanded (overs_behind f.fate (length fs) (has_passing v.turn.lived.life) (has_passing (goes_to v).lead.lived.life) (served_overs led k ++ mail_over b)) (has_passing (goes_to v).lead.lived.life) n2) (sym begun_is) after_it))
-
-    -- JUST THEIR ANSWERS ARE NOTED behind the frame
-    pub served_handed : AllHanded (λ k. served_overs lives k) (λ k. passing_at behind k) new
-    served_handed = λ k n2 at2.
-        let g = z.goes k n2 at2 in
-        let d = z.doubts k g.0 g.1 in
-        let r = report_at (map turned (map run_turn vs)) mid z.turned_reports k g.0 g.1 in
-        let u = of_map turned (map run_turn vs) k r.0 r.1 in
-        let v = of_map run_turn vs k u.0 u.1 in
-        let r1 : Reports (turned v.0.turn) g.0 = subst (λ (a : Leads). Reports a g.0) (sym (ap turned v.2 ∙ u.2)) r.2 in
-        let w = turn_at lens (length fs) frame.datagrams ws vs frame.each k v.0 v.1 in
-        one_handed k n2 at2 g.0 g.1 g.2 d.0 d.1 d.2 v.0 v.1 r1 w.0 w.1 w.2
-
--- before the first frame
-pub first_handed : (services : List (ℕ × Plan.Service)) (number : ℕ) (specs : List SlaveSpec) (ws : List Serves) → ((k : ℕ) → passing_at ws k ≡ false) → AllHanded (λ k. []) (λ k. passing_at ws k) (first_notes services number specs)
-first_handed services number specs ws none = λ k n at. record { answers = (first k number specs n at).0; hand = (first k number specs n at).1 ∙ sym (none k) }
-  where
-    first : (k number : ℕ) (specs : List SlaveSpec) (n : Notes) → slice_get (first_notes services number specs) k ≡ Some n → (mails_noted n ≡ []) × (has_mail n ≡ false)
-    first k number [] n at = none_at k n at
-    first zero number (s ∷ specs) n at = subst (λ (z : Notes). (mails_noted z ≡ []) × (has_mail z ≡ false)) (let same : new_notes (scripted services number) ≡ n = cc in same) (refl, refl)
-    first (suc k) number (s ∷ specs) n at = first k (number + 1) specs n at
+  -- JUST THEIR ANSWERS ARE NOTED behind the frame
+  pub served_handed : AllHanded (λ k. served_overs led k) (λ k. passing_at ws k) old → AllHanded (λ k. served_overs (lives plan fs missed ws led f vs frame m0 m n old mid new) k) (λ k. passing_at now_on k) new
+  served_handed handed = λ k n2 at.
+      subst (λ (b : Bool). IsHanded (overs_behind f.fate (length fs) (passing_before vs k) b (served_overs led k ++ mail_over (begun_of (map run_turn vs) k))) b n2) (holds_map (λ (a : Leads). has a.lived) run_lead now_on k)
+      (subst (λ (b : Bool). IsHanded (overs_behind f.fate (length fs) b (holds_at (λ (a : Leads). has a.lived) (map run_lead now_on) k) (served_overs led k ++ mail_over (begun_of (map run_turn vs) k))) (holds_at (λ (a : Leads). has a.lived) (map run_lead now_on) k) n2) (holds_map (λ (u : Turn). has u.lived) run_turn vs k)
+      (all_noted plan fs missed ws led f vs frame m0 m n old mid new z is_mail has mail_over (λ j. served_overs led j) mails_go (λ j n0 at0. subst (λ (b : Bool). IsHanded (served_overs led j) b n0) (sym (holds_map (λ (a : Leads). has a.lived) run_lead ws j)) (handed j n0 at0)) k n2 at))

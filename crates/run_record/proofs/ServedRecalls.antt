@@ -4,6 +4,7 @@ use Rattle.std.specs.Prelude.{nat_lt}
 use Rattle.eoe_switch.specs.declared.switching.SwitchEvent.{SwitchEvent}
 use Rattle.master_node.proofs.Restings.{serves_idle}
 use Rattle.master_node.specs.Eager.{AllTakeUp, recall_of, recalls}
+use Rattle.master_node.specs.Entering.{EntersFirst}
 use Rattle.master_node.specs.Happened.{events_of}
 use Rattle.master_node.specs.Recalled.{AllKnow}
 use Rattle.master_node.specs.ServedEager.{AllServedAsk, AllServedBegin, AllServedRecall, AllServedRest}
@@ -25,7 +26,6 @@ use Rattle.packets_heard.specs.Served.{IsTourServed}
 use Rattle.packets_heard.specs.ServedRecalled.{IsServedRecalled, ServedRecalledIn}
 use Rattle.run_notes.specs.Slaves.{gaves_noted}
 use Rattle.run_record.proofs.Ends.{settled_rest}
-use Rattle.run_record.proofs.Recalling.{first_enters}
 use Rattle.run_record.proofs.ServedForwards.{FrameTells, happened_so, lan_before, lan_made}
 use Rattle.run_record.proofs.ServedGaves.{served_counted}
 use Rattle.run_record.specs.Recalling.{state_of}
@@ -38,6 +38,10 @@ use Rattle.segment_ring.specs.declared.wire.Fate.TheVariants as Fates
 use Rattle.served_runs.specs.Served.{Keyed, Serves, ServedTurn, IsServedFrame, MayAsk, all_serve, asked_at, served_behind}
 use Rattle.slave_node.specs.of_slave_steps.Node.{Node, node_passed}
 use Rattle.slave_server.specs.declared.server.SlaveServer.{SlaveServer}
+
+-- where a packet of the host comes in first one has come in
+first_enters : (rows : List Happening) → EntersFirst rows → has_entered (events_of rows) ≡ true
+first_enters rows k = ap (λ z. has_entered (events_of z)) k.is
 
 -- the visits of a tour, with what is remembered of them
 abbrev pub Recalled : Scenario → List Exchanged → Tour → List Serves → State → Type 0

@@ -11,14 +11,14 @@ use Rattle.master_node.specs.of_frame_view.Seen.{seen}
 use Rattle.master_node.specs.of_frame_view.View.{Lens}
 use Rattle.master_node.specs.of_life_frames.Shares.{AllBoth, AllThree}
 use Rattle.master_node.specs.of_life_runs.First.{first_leads, lens_of}
-use Rattle.master_node.specs.of_life_runs.Led.{Comes, Exchanged, IsLed, Leads, gives_up_at}
+use Rattle.master_node.specs.of_life_runs.Led.{Comes, Exchanged, Leads, gives_up_at}
 use Rattle.master_node.specs.of_master_hand.declared.hand.InHand.{InHand}
 use Rattle.master_node.specs.of_master_side.Passing.{news_back, news_lost}
 use Rattle.master_node.specs.of_master_side.declared.hand.Hand.{Ghosts}
 use Rattle.master_node.specs.of_master_tour.declared.stop.Stop.{Stop}
 use Rattle.run_notes.specs.Reports.{AllReport, ReportsBy}
 use Rattle.run_notes.specs.declared.standing.Log.{Log}
-use Rattle.run_record.proofs.Befores.{AllBefore, all_before, one_more}
+use Rattle.run_record.proofs.Befores.{AllBefore, first_before, one_more}
 use Rattle.run_record.proofs.ServedGaves.{Behind, serve_leads}
 use Rattle.run_record.specs.Served.{ServeTo}
 use Rattle.script_runs.proofs.Losses.{loses_so, passes_so}
@@ -135,7 +135,7 @@ module _ (lens : ℕ → Lens) (recover retry : ℕ) (gives : Bool) (made : ℕ)
 
 -- ---- ALL THAT STANDS IN THE LIVES behind some frames was before the next one
 pub served_before : (plan : Scenario) (fs : List Exchanged) (missed : ℕ) (ws : List Serves) → ServeTo plan fs missed ws → AllBefore (length fs) (map run_lead ws)
-served_before plan _ _ _ IsServedLed.start = subst (λ z. AllBefore 0 z) (sym (serve_leads plan.paces (first_leads plan))) (all_before plan [] 0 (first_leads plan) IsLed.start)
+served_before plan _ _ _ IsServedLed.start = subst (λ z. AllBefore 0 z) (sym (serve_leads plan.paces (first_leads plan))) (first_before plan.services 0 plan.slaves)
 served_before plan _ _ _ (IsServedLed.asks fs missed ws place k led may) = subst (λ z. AllBefore (length fs) z) (sym (leads_same (λ a. a) place k ws)) (served_before plan fs missed ws led)
 served_before plan _ _ _ (IsServedLed.on fs missed ws f vs led frame) =
     let lens = lens_of plan.slaves in

@@ -1,42 +1,52 @@
--- WHETHER A PACKET IS IN HAND of a slave of a serving before a frame, by what came into hand.
+-- A PACKET IN HAND of a slave of a serving: whether one is before a frame, by what came into hand, and what is noted of it over the frame.
 use Rattle.std.proofs.Common.{◌≡◌, ◌+◌, ℕ, suc, Bool, true, false, Option, Some, None, List, [], ◌∷◌, ◌++◌, length, map, refl, sym, ap, ◌∙◌, subst, append-nil, arith}
-use Rattle.std.specs.Prelude.{◌&&◌, if◌then◌else◌, nat_lt}
+use Rattle.std.specs.Prelude.{◌&&◌, if◌then◌else◌, nat_lt, slice_get}
 use Rattle.datagrams.specs.Datagram as Raw
+use Rattle.master_node.proofs.Counts.{next_stand}
+use Rattle.master_node.proofs.Newest.{Newest, newest}
+use Rattle.master_node.specs.Backtold.{known_at}
 use Rattle.master_node.specs.Begins.{is_other}
+use Rattle.master_node.specs.Eager.{recalls}
+use Rattle.master_node.specs.Events.{oldest_in}
+use Rattle.master_node.specs.Serving.{run_lead}
+use Rattle.master_node.specs.declared.node.MasterNode.{MasterNode}
 use Rattle.master_node.specs.of_frame_view.View.{Lens}
 use Rattle.master_node.specs.of_life_frames.of_exchange_model.Areas.{Areas}
 use Rattle.master_node.specs.of_life_frames.of_exchange_model.Exchange.{Speech}
 use Rattle.master_node.specs.of_life_model.Lives.{Life, Spot, Stand, life_next}
-use Rattle.master_node.specs.of_life_runs.Led.{Comes as OwnComes, Took, speech_at}
+use Rattle.master_node.specs.of_life_runs.First.{lens_of}
+use Rattle.master_node.specs.of_life_runs.Led.{Comes as OwnComes, Exchanged, Took, gives_up_at, speech_at}
 use Rattle.master_node.specs.of_life_runs.Spans.{is_open}
 use Rattle.master_node.specs.of_life_runs.of_link_mails.Body.{Body}
 use Rattle.master_node.specs.of_life_runs.of_segment_plan.declared.service.Service as Plan
 use Rattle.master_node.specs.of_master_duty.Reply.{Reply}
 use Rattle.master_node.specs.of_master_duty.of_state_exchange.Stated.{Service}
-use Rattle.master_node.specs.of_master_hand.of_eoe_model.Client as EoeClient
 use Rattle.master_node.specs.of_master_hand.Spoken.{Asked, acknowledged, drive, file, is_followed, is_passed, net, passed, sdo}
 use Rattle.master_node.specs.of_master_hand.Talk.{asked_of}
+use Rattle.master_node.specs.of_master_hand.of_eoe_model.Client as EoeClient
 use Rattle.master_node.specs.of_task_model.Accounts.{Pick, starts}
-use Rattle.master_node.proofs.Counts.{next_stand}
-use Rattle.master_node.proofs.Newest.{Newest, newest}
 use Rattle.packets_heard.specs.Numbers.{each_with}
 use Rattle.packets_heard.specs.Over.{packet_begun, packet_of}
+use Rattle.packets_heard.specs.Servings.{served_begun}
 use Rattle.run_book.specs.declared.book.Answer.TheVariants.{InDoubt}
-use Rattle.run_notes.specs.Handed.{Doubts, IsNotedWhere, is_packet, over_answer}
+use Rattle.run_notes.proofs.Packets.{with_append}
+use Rattle.run_notes.specs.Handed.{AllWhere, IsNotedWhere, is_packet, kinds_in, over_answer}
 use Rattle.run_notes.specs.Packets.{mail_row, numbered_from, packet_row, rows_with}
-use Rattle.run_notes.specs.Reports.{Reports}
 use Rattle.run_notes.specs.Unsent.{first_numbers, numbers_in}
 use Rattle.run_notes.specs.declared.notes.Notes.{Notes}
-use Rattle.run_notes.proofs.Packets.{with_append}
 use Rattle.run_record.proofs.Began.{numbered_append}
+use Rattle.run_record.proofs.MailLives.{Goes}
 use Rattle.run_record.proofs.MailNotes.{Comes, packets_kind, turn_handed}
 use Rattle.run_record.proofs.PacketTurns.{none_comes, other_comes, over_none, packet_comes, state_comes, unwritten_in, was_over}
-use Rattle.run_record.proofs.ServedHanded.{cancel, never_none, numbers_append}
-use Rattle.run_record.specs.Mails.{mail_begun}
-use Rattle.run_record.specs.Written.{has_fragments, has_unwritten, packet_open}
+use Rattle.run_record.proofs.ServedHanded.{cancel, never_none, numbers_append, pass_written, told, written_lost}
+use Rattle.run_record.proofs.ServedNotes.{GoesOver, IsTurnNoted, Known, all_noted, behind, lives}
+use Rattle.run_record.specs.Mails.{mail_begun, served_mails}
+use Rattle.run_record.specs.Served.{ServeTo}
+use Rattle.run_record.specs.Written.{forwards_now, has_fragments, has_unwritten, packet_open, served_written}
+use Rattle.segment_plan.specs.declared.plan.Scenario.{Scenario}
+use Rattle.segment_ring.specs.declared.wire.Fate.TheVariants as Fates
 use Rattle.served_places.proofs.Next.{next_open}
-use Rattle.script_runs.specs.Answers.{turned}
-use Rattle.served_runs.specs.Served.{IsServedTurn, Keyed, ServedComes, Serves, ServedTurn}
+use Rattle.served_runs.specs.Served.{IsServedFrame, IsServedTurn, Keyed, ServedComes, ServedTurn, Serves, served_life}
 use Rattle.served_runs.specs.Told.{Passed}
 
 -- the rows of what came into hand, where that is a packet
@@ -168,19 +178,49 @@ open_doubts number made (p ∷ ps) = ap (λ z. InDoubt ∷ z) (open_doubts (suc 
 
 module _ (lens : ℕ → Lens) (made : ℕ) (ds : List Raw.Datagram) (w : Serves) (v : ServedTurn) (t : IsServedTurn lens made ds w v) where
   -- ITS ROW IS NOTED, with no answer yet
-  pub turn_written : (n n' : Notes) (overs : List (Option ℕ)) (mails : List (ℕ × ℕ)) (frames : List ℕ) (number : ℕ) → Doubts n n' → Reports w.lead n → Reports (turned v.turn) n' → IsNotedWhere is_packet overs (has_unwritten lens w.lead.lived) n →
-      rows_with mail_row n.begun ≡ mails → rows_with mail_row n'.begun ≡ mails ++ mail_begun number made v.turn.begun → rows_with packet_row n.begun ≡ numbered_from 0 frames → rows_with packet_row n'.begun ≡ numbered_from 0 (frames ++ each_with made (packet_begun v.turn.begun)) →
+  pub turn_written : (n n' : Notes) (overs : List (Option ℕ)) (mails : List (ℕ × ℕ)) (frames : List ℕ) (number : ℕ) → IsTurnNoted made w v mails frames number n n' → IsNotedWhere is_packet overs (has_unwritten lens w.lead.lived) n →
       IsNotedWhere is_packet (overs ++ packet_open v.turn.begun) (has_unwritten lens v.turn.lived) n'
-  turn_written n n' overs mails frames number d r r' h m m' p p' =
+  turn_written n n' overs mails frames number o h =
+      let d = o.doubts in
+      let r = o.reports in
+      let r' = o.reports_on in
       turn_handed is_packet packet_row mail_row packets_kind n n' overs (has_unwritten lens w.lead.lived) (has_unwritten lens v.turn.lived) v.turn.begun (rows_came (length frames) made v.turn.begun) (packet_open v.turn.begun) d (record { aligned = r.aligned; last = r.last }) h
       (record {
         mails = cancel (numbered_from 0 frames) (rows_with packet_row d.more) (rows_came (length frames) made v.turn.begun)
-            (ap (λ z. z ++ rows_with packet_row d.more) (sym p) ∙ sym (ap (rows_with packet_row) d.begun ∙ with_append packet_row n.begun d.more) ∙ p' ∙ numbered_append 0 frames (each_with made (packet_begun v.turn.begun)) ∙ ap (λ z. numbered_from 0 frames ++ numbered_from z (each_with made (packet_begun v.turn.begun))) (let e : 0 + length frames ≡ length frames = omega arith in e));
+            (ap (λ z. z ++ rows_with packet_row d.more) (sym o.rows) ∙ sym (ap (rows_with packet_row) d.begun ∙ with_append packet_row n.begun d.more) ∙ o.rows_on ∙ numbered_append 0 frames (each_with made (packet_begun v.turn.begun)) ∙ ap (λ z. numbered_from 0 frames ++ numbered_from z (each_with made (packet_begun v.turn.begun))) (let e : 0 + length frames ≡ length frames = omega arith in e));
         answers = open_doubts (length frames) made (packet_begun v.turn.begun);
         numbers = λ bare.
             let counts : n'.scripted ≡ n.scripted = r'.told.many ∙ same_number (lens w.lead.lived.spot.station).out w.lead.script w.waits w.hand w.lead.number v.turn.begun v.turn.number v.waits v.hand t.comes bare ∙ sym r.told.many in
             cancel (numbers_in n.begun) (numbers_in d.more) [] (sym (ap numbers_in d.begun ∙ numbers_append n.begun d.more) ∙ r'.rest.numbers ∙ ap first_numbers counts ∙ sym r.rest.numbers ∙ sym (append-nil (numbers_in n.begun)));
         outside = λ bare.
-            cancel mails (rows_with mail_row d.more) [] (ap (λ z. z ++ rows_with mail_row d.more) (sym m) ∙ sym (ap (rows_with mail_row) d.begun ∙ with_append mail_row n.begun d.more) ∙ m' ∙ ap (λ z. mails ++ z) (no_mail number made v.turn.begun bare));
+            cancel mails (rows_with mail_row d.more) [] (ap (λ z. z ++ rows_with mail_row d.more) (sym o.mailed) ∙ sym (ap (rows_with mail_row) d.begun ∙ with_append mail_row n.begun d.more) ∙ o.mailed_on ∙ ap (λ z. mails ++ z) (no_mail number made v.turn.begun bare));
       })
       (packet_turn lens made ds w v t (length frames))
+
+-- ---- OF ALL SLAVES
+
+module _ (plan : Scenario) (fs : List Exchanged) (missed : ℕ) (ws : List Serves) (led : ServeTo plan fs missed ws) (f : Exchanged) (vs : List ServedTurn) (frame : IsServedFrame (lens_of plan.slaves) (length fs) f.sent ws vs) (m0 m n : MasterNode) (old mid new : List Notes)
+    (z : Known plan fs missed ws led f vs frame m0 m n old mid new) (knows : f.fate ≡ Fates.Pass → (k : ℕ) (v : ServedTurn) → slice_get vs k ≡ Some v → known_at (recalls n) k ≡ true) where
+  abbrev lens : ℕ → Lens
+  lens = lens_of plan.slaves
+
+  abbrev gives : Bool
+  gives = gives_up_at lens plan.recover plan.retry missed
+
+  abbrev now_on : List Serves
+  now_on = behind plan fs missed ws led f vs frame m0 m n old mid new
+
+  packets_go : GoesOver plan fs missed ws led f vs frame m0 m n old mid new is_packet (has_unwritten lens) packet_open (λ k. served_written led k)
+  packets_go = record {
+    beside = λ number. refl;
+    turns = λ k w v t n0 n1 noted h. turn_written lens (length fs) frame.datagrams w v t n0 n1 (served_written led k) (served_mails led k) (served_begun led k) (oldest_in ws k) noted h;
+    returns = λ k w v t at u e visits carried.
+        subst (λ (b : Bool). Goes (has_unwritten lens v.turn.lived) (has_unwritten lens (served_life lens plan.recover plan.retry gives (length fs) f Fates.Pass v)) (if visits then kinds_in k (told lens plan.recover plan.retry gives (length fs) frame.datagrams f w v frame.frame t u.post u.stop u.under k b) else [])) (sym (knows e k v at))
+        (pass_written lens plan.recover plan.retry gives (length fs) frame.datagrams f w v frame.frame t u.post u.stop u.under k visits carried (z.returned e));
+    loses = λ k w v t u lasts. written_lost lens plan.recover plan.retry gives (length fs) frame.datagrams f w v frame.frame t u.post u.stop u.under lasts;
+  }
+
+  -- JUST THEIR ANSWERS ARE NOTED behind the frame, where behind one that came back the hands know their mails
+  pub served_written_on : AllWhere is_packet (λ k. served_written led k) (λ k. forwards_now lens (map run_lead ws) k) old →
+      AllWhere is_packet (λ k. served_written (lives plan fs missed ws led f vs frame m0 m n old mid new) k) (λ k. forwards_now lens (map run_lead now_on) k) new
+  served_written_on noted = all_noted plan fs missed ws led f vs frame m0 m n old mid new z is_packet (has_unwritten lens) packet_open (λ k. served_written led k) packets_go noted

@@ -1,113 +1,89 @@
 -- A serving goes on, frame by frame and mail by mail, as its master leads it.
-use Rattle.std.proofs.Common.{◌≡◌, ◌≢◌, ◌<◌, ◌^◌, ℕ, zero, suc, Bool, true, false, None, List, [], ◌∷◌, ◌++◌, length, map, refl, sym, ap, ◌∙◌, subst, arith}
-use Rattle.std.specs.Prelude.{◌↔◌, replicate}
-use Rattle.std.proofs.lemmas.List.{length-map}
+use Rattle.std.proofs.Common.{◌≡◌, ◌<◌, ◌^◌, ℕ, zero, suc, Bool, true, false, Some, None, List, [], ◌∷◌, ◌++◌, length, map, refl, sym, ap, ◌∙◌, subst, arith}
+use Rattle.std.specs.Prelude.{◌↔◌, replicate, slice_get}
 use Rattle.datagrams.specs.Datagram as Raw
 use Rattle.datagrams.specs.Frame.{chained}
 use Rattle.life_heard.specs.Heard.{AllNoted, emergencies_of, heard_none}
-use Rattle.mailbox_mail.specs.declared.mail.Mail.{Mail}
 use Rattle.master_node.proofs.OnFrames.{served_way}
-use Rattle.master_node.proofs.Servings.{keyed, leads_same}
-use Rattle.master_node.specs.Events.{ServedBegin}
+use Rattle.master_node.specs.Backtold.{known_at}
 use Rattle.master_node.specs.Eager.{recalls}
+use Rattle.master_node.specs.Events.{ServedBegin}
 use Rattle.master_node.specs.Happened.{HasHappened, events_of}
 use Rattle.master_node.specs.Joined.{HasUnfinished, stand_before}
 use Rattle.master_node.specs.Listed.{listed}
 use Rattle.master_node.specs.Listing.{events_in}
-use Rattle.master_node.specs.Lives.{waiting_at, waiting_of}
-use Rattle.master_node.specs.Numbered.{IsNumbered}
+use Rattle.master_node.specs.Lives.{waiting_of}
 use Rattle.master_node.specs.Origins.{forwards_at}
 use Rattle.master_node.specs.Ports.{ports_behind, ports_of}
 use Rattle.master_node.specs.Recalled.{AllKnow}
-use Rattle.master_node.specs.Rooms.{FitAgain}
-use Rattle.master_node.specs.Serving.{FitsAt, IsAsked, IsServed, ServedShows, ServedUnder, run_lead, run_turn}
-use Rattle.master_node.specs.Shows.{GoesOn, lived_of}
+use Rattle.master_node.specs.Serving.{ServedShows, ServedUnder, run_lead, run_turn}
+use Rattle.master_node.specs.Shows.{lived_of}
 use Rattle.master_node.specs.Told.{HasLives}
 use Rattle.master_node.specs.Toured.{tour_of}
 use Rattle.master_node.specs.Touring.{IsServedVisit}
-use Rattle.master_node.specs.of_master_tour.Toured.{Tour, new_tour}
 use Rattle.master_node.specs.Wants.{AllCounted, gave_of}
 use Rattle.master_node.specs.declared.node.MasterNode.{MasterNode}
-use Rattle.master_node.specs.declared.node.Next.{Next}
 use Rattle.master_node.specs.declared.node.Next.TheVariants as nexts
-use Rattle.master_node.specs.declared.post.Post.{Post}
+use Rattle.master_node.specs.declared.node.Next.{Next}
 use Rattle.master_node.specs.of_frame_view.Seen.{seen}
 use Rattle.master_node.specs.of_frame_view.View.{Lens}
-use Rattle.master_node.specs.of_life_frames.Shares.{AllBoth, AllThree}
+use Rattle.master_node.specs.of_life_frames.Shares.{AllBoth}
 use Rattle.master_node.specs.of_life_runs.First.{first_leads, leads_from, lens_of, script_for, spot_of}
 use Rattle.master_node.specs.of_life_runs.Led.{Exchanged, Leads, gives_up_at, missed_behind, new_leads}
-use Rattle.master_node.specs.of_master_hand.declared.hand.InHand.{InHand}
-use Rattle.master_node.specs.of_master_side.declared.hand.Hand.{Ghosts}
-use Rattle.master_node.specs.of_master_tour.Walks.{StepsAt}
-use Rattle.master_node.specs.of_master_tour.declared.stop.Stop.{Stop}
+use Rattle.master_node.specs.of_master_tour.Toured.{Tour, new_tour}
 use Rattle.master_node.specs.of_segment_model.Returned.{Returns}
+use Rattle.packets_heard.specs.Recalled.{State}
+use Rattle.packets_heard.specs.Served.{IsTourServed, serves_behind}
+use Rattle.packets_heard.specs.ServedRecalled.{IsServedRecalled}
+use Rattle.packets_heard.specs.Servings.{served_begun}
+use Rattle.packets_heard.specs.Toured.{tour_behind}
 use Rattle.ring_returns.proofs.Returned as Returned
 use Rattle.run_book.specs.declared.book.SentFrame.{SentFrame}
 use Rattle.run_notes.proofs.Heard.{first_heard}
-use Rattle.run_notes.specs.Handed.{AllDoubts, AllHanded, IsHanded, MailsGo, kinds_in}
+use Rattle.run_notes.specs.Handed.{AllDoubts, AllHanded, AllWhere, MailsGo, is_mail, is_packet, kinds_in}
 use Rattle.run_notes.specs.Heard.{HeardBy, emergencies_noted}
 use Rattle.run_notes.specs.Packets.{BeginsOn, begun_noted}
 use Rattle.run_notes.specs.Reports.{AllReport, ReportsBy, ReportsOn, TurnsAll}
-use Rattle.run_notes.specs.declared.notes.Notes.{Notes}
-use Rattle.script_runs.specs.Answers.{turned}
 use Rattle.run_notes.specs.Slaves.{GaveBy, first_notes, gaves_noted}
+use Rattle.run_notes.specs.declared.notes.Notes.{Notes}
 use Rattle.run_notes.specs.declared.standing.AskedMail.{AskedMail}
 use Rattle.run_notes.specs.declared.standing.Log.{Log}
+use Rattle.run_record.proofs.Befores.{one_more}
+use Rattle.run_record.proofs.Began.{packets_first}
+use Rattle.run_record.proofs.Hearings.{heard_by}
+use Rattle.run_record.proofs.Knowing.{all_known, known_here, lost_due}
+use Rattle.run_record.proofs.Leads.{first_gaves, first_reports}
+use Rattle.run_record.proofs.Nexts.{next_frame}
+use Rattle.run_record.proofs.Noted.{GivesOne, noted_by, noted_now}
+use Rattle.run_record.proofs.PacketTurns.{none_forwards}
+use Rattle.run_record.proofs.ServedBegan.{served_packets}
+use Rattle.run_record.proofs.ServedForwards.{FrameTells, served_events, served_first, served_forwarded_on, served_numbered_on}
+use Rattle.run_record.proofs.ServedGaves.{all_give, has_lives, serve_leads, served_counted}
+use Rattle.run_record.proofs.ServedHanded.{served_handed}
+use Rattle.run_record.proofs.ServedNotes.{Known, first_noted}
+use Rattle.run_record.proofs.ServedRecalls.{Recalled, recalled_at, recalled_first}
+use Rattle.run_record.proofs.ServedReports.{all_turn, before_turned, served_before, shows_told, told_by, way_told}
+use Rattle.run_record.proofs.ServedTold.{tells_frame}
+use Rattle.run_record.proofs.ServedWritten.{served_written_on}
+use Rattle.run_record.proofs.ServingAsks.{left_of, mails_of, shown_wait}
 use Rattle.run_record.specs.Forwarded.{PacketsNoted}
 use Rattle.run_record.specs.Led.{exchanged}
 use Rattle.run_record.specs.Mails.{passing_at, served_mails, served_overs}
 use Rattle.run_record.specs.Recalling.{state_of}
 use Rattle.run_record.specs.Replay.{IsRecorded, behind as behind_ring, first_ring}
-use Rattle.packets_heard.specs.Recalled.{State}
-use Rattle.packets_heard.specs.Served.{IsTourServed, serves_behind}
-use Rattle.packets_heard.specs.Servings.{served_begun}
-use Rattle.packets_heard.specs.Toured.{tour_behind}
-use Rattle.run_record.specs.Served.{ListsBehind, ServedLeading, Serving, ServesOn, ServingAsks, ServingGoesOn, TellsBehind, as_asked, served_heard}
-use Rattle.run_record.specs.Session.{FrameEvents, IsDone, SessionState, asked_mail, asked_more, has_live, numbers_over}
-use Rattle.run_record.proofs.Befores.{one_more}
-use Rattle.run_record.proofs.Began.{packets_first}
-use Rattle.run_record.proofs.Fits.{has_room, home_fits}
-use Rattle.run_record.proofs.Hearings.{heard_by}
-use Rattle.run_record.proofs.Leads.{first_gaves, first_reports}
-use Rattle.run_record.proofs.Nexts.{next_frame}
-use Rattle.run_record.proofs.Noted.{GivesOne, noted_by, noted_now}
-use Rattle.run_record.proofs.ServedBegan.{packets_stay, served_packets}
-use Rattle.run_record.proofs.ServedForwards.{FrameTells, served_asked, served_events, served_first, served_forwarded_on, served_numbered_on, served_stays}
-use Rattle.run_record.proofs.ServedGaves.{all_give, has_lives, serve_leads, served_counted}
-use Rattle.run_record.proofs.ServedHanded.{first_handed, served_handed}
-use Rattle.run_record.proofs.ServedRecalls.{Recalled, recalled_asked, recalled_at, recalled_first, recalled_stays}
-use Rattle.run_record.proofs.ServedReports.{all_turn, before_turned, served_before, shows_told, told_by, way_told}
-use Rattle.run_record.proofs.ServedTold.{tells_frame}
+use Rattle.run_record.specs.Served.{ListsBehind, ServedLeading, ServesOn, Serving, ServingGoesOn, TellsBehind, as_asked, served_heard}
+use Rattle.run_record.specs.Session.{FrameEvents, IsDone, SessionState, has_live, numbers_over}
+use Rattle.run_record.specs.Written.{WereServedDue, forwards_now, served_written}
+use Rattle.script_runs.specs.Answers.{turned}
 use Rattle.segment_plan.specs.declared.plan.Scenario.{Scenario}
 use Rattle.segment_plan.specs.declared.service.Service as Plan
 use Rattle.segment_plan.specs.declared.slave.SlaveSpec.{SlaveSpec}
 use Rattle.segment_ring.specs.Ring.{ring_returned}
 use Rattle.segment_ring.specs.Schedule.{fate_at}
 use Rattle.segment_ring.specs.declared.wire.Fate.TheVariants as Fates
-use Rattle.served_places.proofs.of_life_runs.First.{apart_from, have_lens}
-use Rattle.served_runs.specs.Served.{Keyed, Serves, ServedTurn, AllServedTurn, IsServedFrame, IsServedLed, MayAsk, all_serve, asked_at, new_serves, served_behind}
+use Rattle.segment_ring.specs.declared.wire.Fate.{Fate}
+use Rattle.served_runs.specs.Served.{AllServedTurn, IsServedFrame, IsServedLed, ServedTurn, Serves, all_serve, new_serves, served_behind}
 use Rattle.slave_node.specs.of_slave_steps.Node.{node_passed}
-
--- the mails that were asked of a slave, as the session has them, and how many wait for it
-abbrev mails_of : Serves → List AskedMail
-mails_of w = map as_asked w.asked
-
-abbrev left_of : Serves → ℕ
-left_of w = length w.waits
-
--- AS MANY WAIT as at the posts
-posts_wait : {G : Ghosts InHand} (lens : ℕ → Lens) (recover made : ℕ) (ws : List Serves) (ps : List Post) (ss : List (Stop InHand G)) → AllThree (λ w p s. IsServed lens recover made w p s) ws ps ss → map left_of ws ≡ map waiting_of ps
-posts_wait lens recover made [] [] [] h = refl
-posts_wait lens recover made [] [] (s ∷ ss) h = absurd h
-posts_wait lens recover made [] (p ∷ ps) [] h = absurd h
-posts_wait lens recover made [] (p ∷ ps) (s ∷ ss) h = absurd h
-posts_wait lens recover made (w ∷ ws) [] [] h = absurd h
-posts_wait lens recover made (w ∷ ws) [] (s ∷ ss) h = absurd h
-posts_wait lens recover made (w ∷ ws) (p ∷ ps) [] h = absurd h
-posts_wait lens recover made (w ∷ ws) (p ∷ ps) (s ∷ ss) h = λ i. (ap length (sym h.0.waits) ∙ length-map p.mails.items keyed) i ∷ posts_wait lens recover made ws ps ss h.1 i
-
-shown_wait : (lens : ℕ → Lens) (recover retry missed made : ℕ) (m : MasterNode) (ws : List Serves) → ServedShows lens recover retry m missed made ws → map left_of ws ≡ map waiting_of m.posts.items
-shown_wait lens recover retry missed made m ws h = posts_wait lens recover made ws m.posts.items m.tour.stops.items h.each
 
 -- BEFORE THE FIRST FRAME no mail was asked
 first_same : {T : Type 0} (g : Serves → T) (t : T) → ((pace : ℕ) (a : Leads) → g (new_serves pace a) ≡ t) → (paces : List ℕ) (rows : List (ℕ × Plan.Service)) (place : ℕ) (ss : List SlaveSpec) → map g (all_serve paces (leads_from rows place ss)) ≡ replicate (length ss) t
@@ -149,7 +125,12 @@ serving_begins plan s notes shown none still tour ports joined happened knows ri
       numbered = (refl, refl);
       packets = packets_first plan s.master s.notes counts notes;
       handed = subst (λ (ns : List Notes). AllHanded (λ k. []) (λ k. passing_at (all_serve plan.paces (first_leads plan)) k) ns) (sym notes)
-          (first_handed plan.services 0 plan.slaves (all_serve plan.paces (first_leads plan)) (λ k. none_passing plan.paces plan.services 0 plan.slaves k));
+          (first_noted is_mail plan.services 0 plan.slaves (λ k. passing_at (all_serve plan.paces (first_leads plan)) k) (λ k. none_passing plan.paces plan.services 0 plan.slaves k));
+      knows = λ due. knows;
+      written = λ due.
+          subst (λ (ns : List Notes). AllWhere is_packet (λ k. []) (λ k. forwards_now (lens_of plan.slaves) (map run_lead (all_serve plan.paces (first_leads plan))) k) ns) (sym notes)
+          (first_noted is_packet plan.services 0 plan.slaves (λ k. forwards_now (lens_of plan.slaves) (map run_lead (all_serve plan.paces (first_leads plan))) k)
+          (λ k. ap (λ as'. forwards_now (lens_of plan.slaves) as' k) (serve_leads plan.paces (first_leads plan)) ∙ none_forwards (lens_of plan.slaves) plan.services 0 plan.slaves k));
       remembers = r.1;
     }
 
@@ -166,135 +147,6 @@ turned_mails lens made ds (w ∷ ws) (v ∷ vs) t = λ i. map as_asked (t.0.same
 behind_mails : (lens : ℕ → Lens) (recover retry : ℕ) (gives : Bool) (made : ℕ) (f : Exchanged) (vs : List ServedTurn) → map mails_of (map (served_behind lens recover retry gives made f) vs) ≡ map turn_mails vs
 behind_mails lens recover retry gives made f [] = refl
 behind_mails lens recover retry gives made f (v ∷ vs) = ap (λ z. turn_mails v ∷ z) (behind_mails lens recover retry gives made f vs)
-
--- ONE MAIL MORE
-more_asked : (ks : List Keyed) (k : Keyed) → map as_asked (ks ++ k ∷ []) ≡ map as_asked ks ++ as_asked k ∷ []
-more_asked [] k = refl
-more_asked (x ∷ xs) k = ap (λ z. as_asked x ∷ z) (more_asked xs k)
-
-same_mail : (key : ℕ) (mail : Mail) (k : Keyed) → IsAsked key mail k → as_asked k ≡ asked_mail key mail
-same_mail key mail k i = λ j. record { key = i.key_is j; kind = i.kind j; body = i.body j }
-
-asked_rows : (key place : ℕ) (mail : Mail) (k : Keyed) (ws : List Serves) → IsAsked key mail k → map mails_of (asked_at place k ws) ≡ asked_more (map mails_of ws) place (asked_mail key mail)
-asked_rows key zero mail k [] i = refl
-asked_rows key (suc place) mail k [] i = refl
-asked_rows key zero mail k (w ∷ ws) i =
-    ap (λ z. z ∷ map mails_of ws) (more_asked w.asked k ∙ ap (λ z. map as_asked w.asked ++ z ∷ []) (same_mail key mail k i))
-asked_rows key (suc place) mail k (w ∷ ws) i = ap (λ z. mails_of w ∷ z) (asked_rows key place mail k ws i)
-
-asked_passing : (place : ℕ) (m : Keyed) (ws : List Serves) (k : ℕ) → passing_at (asked_at place m ws) k ≡ passing_at ws k
-asked_passing zero m [] k = refl
-asked_passing (suc place) m [] k = refl
-asked_passing zero m (w ∷ ws) zero = refl
-asked_passing zero m (w ∷ ws) (suc k) = refl
-asked_passing (suc place) m (w ∷ ws) zero = refl
-asked_passing (suc place) m (w ∷ ws) (suc k) = asked_passing place m ws k
-
-one_asked : (s s' : SessionState) (slave key : ℕ) (mail : Mail) →
-    ((lens : ℕ → Lens) (recover retry missed made : ℕ) (ws : List Serves) → waiting_at s.master.posts.items slave < 64 → FitsAt lens slave (length mail.body.items) ws → ServedShows lens recover retry s.master missed made ws →
-    (k : Keyed) × IsAsked key mail k × MayAsk lens slave k ws × ServedShows lens recover retry s'.master missed made (asked_at slave k ws)) →
-    waiting_at s.master.posts.items slave ≢ 64 → s'.master.tour ≡ s.master.tour → s'.master.lan ≡ s.master.lan → s'.ring ≡ s.ring → s'.asked ≡ asked_more s.asked slave (asked_mail key mail) → s'.waiting ≡ map waiting_of s'.master.posts.items → s'.notes ≡ s.notes → ((k : ℕ) → forwards_at s'.master.posts.items k ≡ forwards_at s.master.posts.items k) → ServingAsks slave key mail s s' true
-one_asked s s' slave key mail served apart tour lan ring asked waiting notes counts = λ plan fs home is there fits old.
-    let lens = lens_of plan.slaves in
-    let l = old.leading in
-    let room = has_room plan fs l.missed slave s.master.posts.items l.serves l.lives (shown_wait lens plan.recover plan.retry l.missed (length fs) s.master l.serves l.shows) apart in
-    let fit = home_fits plan fs l.missed (length mail.body.items) slave home l.serves (have_lens plan.slaves (apart_from [] 0 plan.slaves is.stations)) l.lives there fits in
-    let more = served lens plan.recover plan.retry l.missed (length fs) l.serves room fit l.shows in
-    let r = recalled_stays plan fs s.master s'.master (asked_at slave more.0 l.serves) (events_of old.rows) s.ring s'.ring tour ring (recalled_asked plan fs (tour_of s.master) l.serves slave more.0 (state_of s.master (events_of old.rows) s.ring) more.2 (l.toured, old.remembers)) in
-    record {
-      mail_asked = more.0;
-      is = more.1;
-      may = more.2;
-      new = record {
-        leading = record {
-          missed = l.missed;
-          serves = asked_at slave more.0 l.serves;
-          lives = IsServedLed.asks fs l.missed l.serves slave more.0 l.lives more.2;
-          shows = more.3;
-          toured = r.0;
-        };
-        gave = ap gaves_noted notes ∙ old.gave ∙ ap (map gave_of) (sym (leads_same (λ a. a) slave more.0 l.serves));
-        told = subst (λ (as' : List Leads). AllReport as' s'.notes) (sym (leads_same (λ a. a) slave more.0 l.serves)) (subst (λ (ns : List Notes). AllReport (map run_lead l.serves) ns) (sym notes) old.told);
-        heard = ap emergencies_noted notes ∙ old.heard;
-        asked = asked_rows key slave mail more.0 l.serves more.1 ∙ ap (λ z. asked_more z slave (asked_mail key mail)) old.asked ∙ sym asked;
-        waiting = shown_wait lens plan.recover plan.retry l.missed (length fs) s'.master (asked_at slave more.0 l.serves) more.3 ∙ sym waiting;
-        rows = old.rows;
-        numbers = old.numbers;
-        numbered = old.numbered;
-        handed = λ k n at. subst (λ (z : Bool). IsHanded (served_overs l.lives k) z n) (sym (asked_passing slave more.0 l.serves k)) (subst (λ (ns : List Notes). AllHanded (λ k. served_overs l.lives k) (λ k. passing_at l.serves k) ns) (sym notes) old.handed k n at);
-        packets = packets_stay (λ k. served_begun l.lives k) (λ k. served_mails l.lives k) s.master s'.master s.notes s'.notes counts notes old.packets;
-        forwarded = served_asked plan fs l.missed l.serves l.lives slave more.0 more.2 s'.master old.rows (leads_same (λ a. a) slave more.0 l.serves)
-            (served_stays plan fs l.missed l.serves l.lives s.master s'.master old.rows tour lan old.forwarded);
-        remembers = r.1;
-      };
-      missed = refl;
-      serves = refl;
-      rows = refl;
-      numbers = refl;
-    }
-
-pub serving_asks : (t s s' : SessionState) (slave key : ℕ) (mail : Mail) → t ≡ s →
-    ((lens : ℕ → Lens) (recover retry missed made : ℕ) (ws : List Serves) → waiting_at t.master.posts.items slave < 64 → FitsAt lens slave (length mail.body.items) ws → ServedShows lens recover retry t.master missed made ws →
-    (k : Keyed) × IsAsked key mail k × MayAsk lens slave k ws × ServedShows lens recover retry s'.master missed made (asked_at slave k ws)) →
-    waiting_at t.master.posts.items slave ≢ 64 → s'.master.tour ≡ t.master.tour → s'.master.lan ≡ t.master.lan → s'.ring ≡ t.ring → s'.asked ≡ asked_more s.asked slave (asked_mail key mail) → s'.waiting ≡ map waiting_of s'.master.posts.items → s'.notes ≡ t.notes → ((k : ℕ) → forwards_at s'.master.posts.items k ≡ forwards_at t.master.posts.items k) → ServingAsks slave key mail s s' true
-serving_asks t s s' slave key mail view served apart tour lan ring asked waiting notes counts =
-    subst (λ (z : SessionState). ServingAsks slave key mail z s' true) view (one_asked t s' slave key mail served apart tour lan ring (asked ∙ ap (λ (z : SessionState). asked_more z.asked slave (asked_mail key mail)) (sym view)) waiting notes counts)
-
--- NONE: its posts and its tour stay
-all_stay : {S : Type 0} (i : ℕ) (xs ys : List S) → StepsAt (λ x y. y ≡ x) i xs ys → ys ≡ xs
-all_stay zero [] ys e = absurd e
-all_stay (suc i) [] ys e = absurd e
-all_stay zero (x ∷ xs) [] e = absurd e
-all_stay (suc i) (x ∷ xs) [] e = absurd e
-all_stay zero (x ∷ xs) (y ∷ ys) e = λ j. e.0 j ∷ e.1 j
-all_stay (suc i) (x ∷ xs) (y ∷ ys) e = λ j. e.0 j ∷ all_stay i xs ys e.1 j
-
-shows_same : (lens : ℕ → Lens) (recover retry missed made : ℕ) (m n : MasterNode) (ws : List Serves) → n.tour ≡ m.tour → n.posts.items ≡ m.posts.items → n.made ≡ m.made → ServedShows lens recover retry m missed made ws → ServedShows lens recover retry n missed made ws
-shows_same lens recover retry missed made m n ws tour posts number h = record {
-  each = subst (λ z. AllThree (λ w p s. IsServed lens recover made w p s) ws n.posts.items z.stops.items) (sym tour) (subst (λ z. AllThree (λ w p s. IsServed lens recover made w p s) ws z m.tour.stops.items) (sym posts) h.each);
-  distinct = h.distinct;
-  goes = subst (λ z. GoesOn z.again z.visit.items z.opened (map run_lead ws)) (sym tour) h.goes;
-  missed_is = ap (λ z. z.missed) tour ∙ h.missed_is;
-  retry_is = ap (λ z. z.retry) tour ∙ h.retry_is;
-  again = λ a. subst (λ z. FitAgain z.visit.items z.stops.items) (sym tour) (h.again (ap (λ z. z.again) (sym tour) ∙ a));
-  made_is = number ∙ h.made_is;
-  early = h.early;
-  numbered = subst (λ z. AllBoth (λ w p. IsNumbered (length w.asked) p) ws z) (sym posts) h.numbered;
-}
-
-none_asked : (s s' : SessionState) (slave key : ℕ) (mail : Mail) → s'.master.tour ≡ s.master.tour → s'.master.lan ≡ s.master.lan → s'.ring ≡ s.ring → s'.master.made ≡ s.master.made → StepsAt (λ p q. q ≡ p) slave s.master.posts.items s'.master.posts.items →
-    s'.asked ≡ s.asked → s'.waiting ≡ map waiting_of s'.master.posts.items → s'.notes ≡ s.notes → ServingAsks slave key mail s s' false
-none_asked s s' slave key mail tour lan ring number stays asked waiting notes = λ plan fs old.
-    let lens = lens_of plan.slaves in
-    let l = old.leading in
-    let shown = shows_same lens plan.recover plan.retry l.missed (length fs) s.master s'.master l.serves tour (all_stay slave s.master.posts.items s'.master.posts.items stays) number l.shows in
-    let r = recalled_stays plan fs s.master s'.master l.serves (events_of old.rows) s.ring s'.ring tour ring (l.toured, old.remembers) in
-    record {
-      new = record {
-        leading = record { missed = l.missed; serves = l.serves; lives = l.lives; shows = shown; toured = r.0 };
-        gave = ap gaves_noted notes ∙ old.gave;
-        told = subst (λ (ns : List Notes). AllReport (map run_lead l.serves) ns) (sym notes) old.told;
-        heard = ap emergencies_noted notes ∙ old.heard;
-        asked = old.asked ∙ sym asked;
-        waiting = shown_wait lens plan.recover plan.retry l.missed (length fs) s'.master l.serves shown ∙ sym waiting;
-        rows = old.rows;
-        numbers = old.numbers;
-        numbered = old.numbered;
-        handed = subst (λ (ns : List Notes). AllHanded (λ k. served_overs l.lives k) (λ k. passing_at l.serves k) ns) (sym notes) old.handed;
-        packets = packets_stay (λ k. served_begun l.lives k) (λ k. served_mails l.lives k) s.master s'.master s.notes s'.notes (λ k. ap (λ z. forwards_at z k) (all_stay slave s.master.posts.items s'.master.posts.items stays)) notes old.packets;
-        forwarded = served_stays plan fs l.missed l.serves l.lives s.master s'.master old.rows tour lan old.forwarded;
-        remembers = r.1;
-      };
-      missed = refl;
-      serves = refl;
-      rows = refl;
-      numbers = refl;
-    }
-
-pub serving_stays : (t s s' : SessionState) (slave key : ℕ) (mail : Mail) → t ≡ s → s'.master.tour ≡ t.master.tour → s'.master.lan ≡ t.master.lan → s'.ring ≡ t.ring → s'.master.made ≡ t.master.made → StepsAt (λ p q. q ≡ p) slave t.master.posts.items s'.master.posts.items →
-    s'.asked ≡ s.asked → s'.waiting ≡ map waiting_of s'.master.posts.items → s'.notes ≡ t.notes → ServingAsks slave key mail s s' false
-serving_stays t s s' slave key mail view tour lan ring number stays asked waiting notes =
-    subst (λ (z : SessionState). ServingAsks slave key mail z s' false) view (none_asked t s' slave key mail tour lan ring number stays (asked ∙ ap (λ (z : SessionState). z.asked) (sym view)) waiting notes)
 
 -- ONE FRAME MORE: what the master says of it before, and of its return or loss; and what is noted of it
 module _ (s s' : SessionState) (m : MasterNode) (f : Exchanged) (result : Next) (idle : (result ≡ nexts.Idle) ↔ (has_live s.master ≡ false))
@@ -356,12 +208,15 @@ module _ (s s' : SessionState) (m : MasterNode) (f : Exchanged) (result : Next) 
   abbrev state : State
   state = state_of s'.master (events_of (old.rows ++ (m.lan.happened ++ s'.master.lan.happened))) s'.ring
 
+  recalled_for : (n : ℕ) → l.missed ≡ n → IsServedRecalled plan n (length fs) l.serves f made.0 (state_of s.master (events_of old.rows) s.ring) state
+  recalled_for n e = recalled_at plan fs l.missed l.serves l.lives f made.0 made.1 s m s'.master made.2 made.4 returned switch old.rows old.forwarded l.shows busy recover old.gave s'.ring on_ring n e
+
   first_on : Recalled plan (fs ++ f ∷ []) (tour s.master.tour.missed) (on s.master.tour.missed) state
   first_on = (
     IsTourServed.on fs (tour_of s.master) l.serves f made.0 m.tour.visit.items l.toured made.1 (record { visits = made.4.visits; asks = made.4.asks }),
     (
       state_of s.master (events_of old.rows) s.ring,
-      recalled_at plan fs l.missed l.serves l.lives f made.0 made.1 s m s'.master made.2 made.4 returned switch old.rows old.forwarded l.shows busy recover old.gave s'.ring on_ring s.master.tour.missed (sym l.shows.missed_is),
+      recalled_for s.master.tour.missed (sym l.shows.missed_is),
       old.remembers,
     ),
   )
@@ -369,6 +224,20 @@ module _ (s s' : SessionState) (m : MasterNode) (f : Exchanged) (result : Next) 
   remembered : Recalled plan (fs ++ f ∷ []) (tour_of s'.master) behind state
   remembered =
       subst (λ (t : Tour). Recalled plan (fs ++ f ∷ []) t behind state) (sym tour_on) (subst (λ (n : ℕ). Recalled plan (fs ++ f ∷ []) (tour n) (on n) state) l.shows.missed_is first_on)
+
+  -- and as long as what was accepted was due its hands know their mails
+  abbrev goes_to : ServedTurn → Serves
+  goes_to v = served_behind lens plan.recover plan.retry gives (length fs) f v
+
+  knows_on : WereServedDue lives → AllKnow (recalls s'.master)
+  knows_on due = go f.fate refl
+    where
+      go : (fate : Fate) → f.fate ≡ fate → AllKnow (recalls s'.master)
+      go Fates.Pass e = all_known lens (seen lens f.back) goes_to made.0 (recalls s.master) (recalls s'.master) ((recalled_for l.missed refl).returned e) (old.knows due.0) (due.1 e)
+      go (Fates.Lost lasts) e = all_known lens [] goes_to made.0 (recalls s.master) (recalls s'.master) ((recalled_for l.missed refl).lost lasts e) (old.knows due.0) (lost_due lens (map run_turn made.0))
+
+  knows_here : WereServedDue lives → f.fate ≡ Fates.Pass → (k : ℕ) (v : ServedTurn) → slice_get made.0 k ≡ Some v → known_at (recalls s'.master) k ≡ true
+  knows_here due e = known_here lens (seen lens f.back) goes_to made.0 (recalls s.master) (recalls s'.master) ((recalled_for l.missed refl).returned e) (knows_on due)
 
   -- what happened at its switch
   abbrev happened : FrameEvents
@@ -404,25 +273,28 @@ module _ (s s' : SessionState) (m : MasterNode) (f : Exchanged) (result : Next) 
       (served_counted plan (fs ++ f ∷ []) missed behind lives) (before_turned lens (length fs) made.1.datagrams l.serves made.0 made.1.each (served_before plan fs l.missed l.serves l.lives))
       (subst (λ (n : ℕ). ReportsBy f.fate n s'.master r r') (sym number) told_behind) reports)
 
-  -- of the answers of mails that are passed on
+  -- of the answers of mails that are passed on, and of packets
+  frame_known : Known plan fs l.missed l.serves l.lives f made.0 made.1 s.master m s'.master s.notes r.notes s'.notes
+  frame_known = record {
+    under = made.2;
+    returned = returned;
+    lists = lists lens plan.recover plan.retry l.missed (length fs) made.0 f refl refl made.2 returned;
+    packets = old.packets;
+    packets_on = packets;
+    same = ap begun_noted after ∙ begun_behind;
+    doubts = doubts;
+    goes = subst (λ (n : ℕ). MailsGo n (λ k. kinds_in k (events_in s'.master)) r.notes s'.notes) (sym number) (subst (λ (ns : List Notes). MailsGo s.ring.number (λ k. kinds_in k (events_in s'.master)) r.notes ns) (sym after) mails);
+    reports = old.told;
+    turned_reports = reports;
+    gave = before ∙ old.gave;
+    gave_on = gave;
+  }
+
   handed : AllHanded (λ k. served_overs lives k) (λ k. passing_at behind k) s'.notes
-  handed =
-      served_handed plan fs l.missed l.serves l.lives f made.0 made.1 s.master m s'.master s.notes r.notes s'.notes
-      (record {
-        under = made.2;
-        returned = returned;
-        lists = lists lens plan.recover plan.retry l.missed (length fs) made.0 f refl refl made.2 returned;
-        packets = old.packets;
-        packets_on = packets;
-        same = ap begun_noted after ∙ begun_behind;
-        doubts = doubts;
-        goes = subst (λ (n : ℕ). MailsGo n (λ k. kinds_in k (events_in s'.master)) r.notes s'.notes) (sym number) (subst (λ (ns : List Notes). MailsGo s.ring.number (λ k. kinds_in k (events_in s'.master)) r.notes ns) (sym after) mails);
-        reports = old.told;
-        turned_reports = reports;
-        gave = before ∙ old.gave;
-        gave_on = gave;
-      })
-      old.handed
+  handed = served_handed plan fs l.missed l.serves l.lives f made.0 made.1 s.master m s'.master s.notes r.notes s'.notes frame_known old.handed
+
+  written : WereServedDue lives → AllWhere is_packet (λ k. served_written lives k) (λ k. forwards_now lens (map run_lead behind) k) s'.notes
+  written due = served_written_on plan fs l.missed l.serves l.lives f made.0 made.1 s.master m s'.master s.notes r.notes s'.notes frame_known (knows_here due) (old.written due.0)
 
   -- and of emergencies
   heard : AllNoted (served_heard lives) (emergencies_noted s'.notes)
@@ -445,6 +317,8 @@ module _ (s s' : SessionState) (m : MasterNode) (f : Exchanged) (result : Next) 
     numbered = served_numbered_on plan fs l.missed l.serves l.lives f made.0 made.1 s.master m s'.master made.2 made.4 returned switch old.rows old.forwarded old.numbers old.numbered;
     packets = packets;
     handed = handed;
+    knows = knows_on;
+    written = written;
     forwarded = served_forwarded_on plan fs l.missed l.serves l.lives f made.0 made.1 s.master m s'.master made.2 made.4 returned switch old.rows old.forwarded;
     remembers = remembered.1;
   }

@@ -13,10 +13,8 @@ use Rattle.master_node.specs.of_life_model.Lives.{Stand}
 use Rattle.master_node.specs.of_life_runs.First.{lens_of, first_leads}
 use Rattle.master_node.specs.of_life_runs.Led.{Exchanged, Leads, IsLed}
 use Rattle.master_node.specs.Ports.{ports_behind, ports_of}
-use Rattle.master_node.specs.Shows.{MasterShows, is_live_lead}
-use Rattle.master_node.specs.Toured.{tour_of}
+use Rattle.master_node.specs.Shows.{is_live_lead}
 use Rattle.master_node.specs.Wants.{gave_of, IsIdle}
-use Rattle.master_node.specs.declared.node.MasterNode.{MasterNode}
 use Rattle.master_node.specs.of_master_tour.Goes.{holds_at}
 use Rattle.master_node.specs.of_master_tour.Toured.{Tour}
 use Rattle.packets_heard.specs.Numbers.{Numbered, frames_begun}
@@ -28,18 +26,19 @@ use Rattle.run_book.specs.declared.book.Ending.{Ending}
 use Rattle.run_book.specs.declared.book.Ending.TheVariants as endings
 use Rattle.run_book.specs.declared.book.SentFrame.{SentFrame}
 use Rattle.run_book.specs.declared.book.SlaveBook.{SlaveBook}
-use Rattle.run_notes.specs.Reports.{AllReport, IsBooked}
+use Rattle.run_notes.specs.Reports.{IsBooked}
 use Rattle.run_notes.specs.Epochs.{HasEpochs}
-use Rattle.run_notes.specs.Heard.{emergencies_noted, emergencies_in}
+use Rattle.run_notes.specs.Handed.{AreForwarded}
+use Rattle.run_notes.specs.Heard.{emergencies_in}
 use Rattle.run_notes.specs.Packets.{AreMails, AreNumbered, begun_in}
 use Rattle.run_notes.specs.Switched.{HasPackets}
 use Rattle.run_notes.specs.Unsent.{IsSpent}
-use Rattle.run_notes.specs.declared.notes.Notes.{Notes}
+use Rattle.run_record.specs.Written.{WereDue, packets_written}
 use Rattle.segment_plan.specs.declared.plan.Scenario.{Scenario}
 use Rattle.slave_server.specs.Serving.{next_mail}
 use Rattle.slave_node.specs.of_slave_steps.Node.{is_settled}
 use Rattle.packets_heard.specs.Toured.{IsToured}
-use Rattle.run_notes.specs.Slaves.{gaves_noted, gaves_in}
+use Rattle.run_notes.specs.Slaves.{gaves_in}
 
 -- a frame of a book
 abbrev pub exchanged : SentFrame → Exchanged
@@ -72,19 +71,6 @@ pub record AreLed (plan : Scenario) (fs : List Exchanged) : Type 0 where
   pub lives : LeadTo plan fs missed leads
   pub tour : Tour
   pub toured : TouredTo plan fs tour leads
-
--- A MASTER BEHIND THESE FRAMES of a plan's run leads its slaves; so often each was given up as is noted, and what is noted of its services goes with its
--- life; and just the emergencies among the mails that its life accepted are noted, each with the frame that brought it; and its frames are the visits of
--- its tour
-pub record Leading (plan : Scenario) (m : MasterNode) (notes : List Notes) (fs : List Exchanged) : Type 0 where
-  pub missed : ℕ
-  pub leads : List Leads
-  pub lives : LeadTo plan fs missed leads
-  pub shows : MasterShows (lens_of plan.slaves) plan.recover plan.retry m missed leads
-  pub gave : gaves_noted notes ≡ map gave_of leads
-  pub told : AllReport leads notes
-  pub heard : AllNoted (heard_in lives) (emergencies_noted notes)
-  pub toured : TouredTo plan fs (tour_of m) leads
 
 -- NOTHING IS LEFT of a slave at the end: it was given up for good; or its master wants nothing of it, and the slave is settled
 abbrev pub RestsSo : (ℕ → Lens) → Leads → SlaveBook → Type 0
@@ -128,7 +114,8 @@ pub record RecalledBook (plan : Scenario) (book : Book) (missed : ℕ) (leads : 
 -- stand there, each with the frame that brought it; and nothing is left of it where the run is over. The frames are the visits of one tour. And the packets of
 -- the host are those that the events of the switch make, and these events are just those that the frames list; of the slaves' ports just the packets began that
 -- came into hand; and each event has its number, by the frame that made it; and just the packets that came into hand stand in the book of each slave, numbered,
--- and no mail that is passed on. Where the run is over no packet is left. And no visit of the tour is in vain, by what the master remembered
+-- and with their answers as long as each mail that was accepted was due, and no mail that is passed on. Where the run is over no packet is left. And no visit of
+-- the tour is in vain, by what the master remembered
 pub record LedBook (plan : Scenario) (book : Book) (ending : Ending) : Type 0 where
   pub missed : ℕ
   pub leads : List Leads
@@ -148,4 +135,5 @@ pub record LedBook (plan : Scenario) (book : Book) (ending : Ending) : Type 0 wh
   pub numbered : ending ≢ endings.NoMemory → NumbersAll plan lives book.switch book.switched
   pub forwards : ending ≢ endings.NoMemory → AreNumbered (λ k. frames_begun lives k) (begun_in book.slaves)
   pub mails : ending ≢ endings.NoMemory → AreMails (λ k. []) (begun_in book.slaves)
+  pub written : ending ≢ endings.NoMemory → WereDue lives → AreForwarded (λ k. packets_written lives k) book.slaves
   pub recalled : ending ≢ endings.NoMemory → RecalledBook plan book missed leads

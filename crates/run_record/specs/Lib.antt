@@ -12,4 +12,5 @@ pub mod Forwarded
 pub mod Mails
 pub mod Recalling
 pub mod Served
+pub mod ServedLed
 pub mod Written

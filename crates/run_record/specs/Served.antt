@@ -15,7 +15,8 @@ use Rattle.master_node.specs.Listed.{listed}
 use Rattle.master_node.specs.Listing.{events_in, told_in}
 use Rattle.master_node.specs.Origins.{forwards_at}
 use Rattle.master_node.specs.Ports.{ports_behind, ports_of}
-use Rattle.master_node.specs.Serving.{IsAsked, ServedShows, ServedUnder, run_lead, run_turn}
+use Rattle.master_node.specs.Recalled.{AllKnow}
+use Rattle.master_node.specs.Serving.{IsAsked, ServedUnder, run_lead, run_turn}
 use Rattle.master_node.specs.Shows.{is_carried}
 use Rattle.master_node.specs.Wants.{gave_of, IsServedOut, NoneToCome}
 use Rattle.master_node.specs.declared.event.Event.{Event}
@@ -23,22 +24,19 @@ use Rattle.master_node.specs.declared.happened.Happening.{Happening}
 use Rattle.master_node.specs.declared.node.MasterNode.{MasterNode}
 use Rattle.master_node.specs.of_frame_view.Seen.{seen}
 use Rattle.master_node.specs.of_frame_view.View.{Lens}
-use Rattle.master_node.specs.of_life_runs.First.{lens_of, first_leads}
+use Rattle.master_node.specs.of_life_runs.First.{lens_of}
 use Rattle.master_node.specs.of_life_runs.Led.{Exchanged, gives_up_at, missed_behind}
 use Rattle.master_node.specs.of_master_side.Recall.{Recall}
 use Rattle.master_node.specs.of_master_tour.Goes.{holds_at}
 use Rattle.master_node.specs.of_master_tour.Made.{is_in}
 use Rattle.master_node.specs.of_master_tour.Orders.{AreOnce}
-use Rattle.master_node.specs.of_master_tour.Toured.{Tour}
-use Rattle.master_node.specs.Toured.{tour_of}
 use Rattle.packets_heard.specs.Listed.{unfinished_of}
-use Rattle.packets_heard.specs.Served.{IsTourServed}
 use Rattle.master_node.specs.of_segment_model.Returned.{Returns}
 use Rattle.packets_heard.specs.ServedRecalled.{ServedRecalledIn}
 use Rattle.packets_heard.specs.Servings.{AreServedBegun, ServedListed, ServedNumbered, served_begun, served_joined}
 use Rattle.run_book.specs.declared.book.SentFrame.{SentFrame}
 use Rattle.run_notes.specs.declared.standing.AskedMail.{AskedMail}
-use Rattle.run_notes.specs.Handed.{AllHanded}
+use Rattle.run_notes.specs.Handed.{AllHanded, AllWhere, is_packet}
 use Rattle.run_notes.specs.Heard.{emergencies_noted}
 use Rattle.run_notes.specs.Reports.{AllReport}
 use Rattle.run_notes.specs.Slaves.{gaves_noted, home_of}
@@ -46,28 +44,14 @@ use Rattle.run_record.specs.Forwarded.{PacketsNoted}
 use Rattle.run_record.specs.Led.{exchanged}
 use Rattle.run_record.specs.Mails.{passing_at, served_mails, served_overs}
 use Rattle.run_record.specs.Recalling.{state_of}
+pub use Rattle.run_record.specs.ServedLed.{ServeTo, ServedLeading, ServedTouredTo}
 use Rattle.run_record.specs.Session.{FrameEvents, IsDone, SessionState, has_live, numbers_over}
+use Rattle.run_record.specs.Written.{WereServedDue, forwards_now, served_written}
 use Rattle.segment_plan.specs.Sound.{IsPlan}
 use Rattle.segment_plan.specs.declared.plan.Scenario.{Scenario}
 use Rattle.segment_ring.specs.declared.wire.Fate.{Fate}
 use Rattle.segment_ring.specs.declared.wire.Fate.TheVariants as Fates
-use Rattle.served_runs.specs.Served.{Keyed, Serves, ServedTurn, IsServedFrame, IsServedLed, MayAsk, all_serve, asked_at, served_behind}
-
--- THE FRAMES LEAD, with the mails that were asked, from a plan's new lives to these, with so many lost in a row last
-abbrev pub ServeTo : Scenario → List Exchanged → ℕ → List Serves → Type 0
-ServeTo plan fs missed ws = IsServedLed (lens_of plan.slaves) plan.recover plan.retry (all_serve plan.paces (first_leads plan)) fs missed ws
-
--- THEY ARE THE VISITS OF ONE TOUR, from its begin on, which stands so behind them
-abbrev pub ServedTouredTo : Scenario → List Exchanged → Tour → List Serves → Type 0
-ServedTouredTo plan fs tour ws = IsTourServed (lens_of plan.slaves) plan.recover plan.retry (all_serve plan.paces (first_leads plan)) fs tour ws
-
--- A MASTER BEHIND THESE FRAMES of a plan's serving leads its slaves, and its frames are the visits of its tour
-pub record ServedLeading (plan : Scenario) (m : MasterNode) (fs : List Exchanged) : Type 0 where
-  pub missed : ℕ
-  pub serves : List Serves
-  pub lives : ServeTo plan fs missed serves
-  pub shows : ServedShows (lens_of plan.slaves) plan.recover plan.retry m missed (length fs) serves
-  pub toured : ServedTouredTo plan fs (tour_of m) serves
+use Rattle.served_runs.specs.Served.{Keyed, Serves, ServedTurn, IsServedFrame, IsServedLed, MayAsk, asked_at, served_behind}
 
 -- THE SWITCH OF A SERVING behind these frames, by all that happened there: its slaves have the ports of the plan, what is unfinished of their packets is by their
 -- lives, and just those packets came in and began, and just those ports went down, that the frames list
@@ -94,7 +78,8 @@ as_asked k = record { key = k.key; kind = k.mail.kind; body = k.mail.body.items 
 -- its life; just the emergencies among the mails that its life accepted are noted, each with the frame that brought it; the mails that were asked of each are just
 -- those that the session has, in order, and so many of them still wait; what happened at its switch is by their lives, each event with its number; and just the
 -- packets that came into hand are noted, numbered, and just the mails that were passed on, each with its number and its frame, and with its answer by when it was
--- over. None of its master's visits was in vain, by what it remembers
+-- over. As long as each mail that was accepted was due the hands know their mails, and the packets have their answers too, by when the last fragment was written.
+-- None of its master's visits was in vain, by what it remembers
 pub record Serving (plan : Scenario) (s : SessionState) (fs : List Exchanged) : Type 0 where
   pub leading : ServedLeading plan s.master fs
   pub gave : gaves_noted s.notes ≡ map gave_of (map run_lead leading.serves)
@@ -108,6 +93,8 @@ pub record Serving (plan : Scenario) (s : SessionState) (fs : List Exchanged) : 
   pub numbered : ServedNumbered (ports_behind 0 plan.slaves) (ports_of plan.slaves) leading.lives (events_of rows) numbers
   pub packets : PacketsNoted (λ k. served_begun leading.lives k) (λ k. served_mails leading.lives k) s.master s.notes
   pub handed : AllHanded (λ k. served_overs leading.lives k) (λ k. passing_at leading.serves k) s.notes
+  pub knows : WereServedDue leading.lives → AllKnow (recalls s.master)
+  pub written : WereServedDue leading.lives → AllWhere is_packet (λ k. served_written leading.lives k) (λ k. forwards_now (lens_of plan.slaves) (map run_lead leading.serves) k) s.notes
   pub remembers : ServedRecalledIn plan leading.toured (state_of s.master (events_of rows) s.ring)
 
 -- before its first frame

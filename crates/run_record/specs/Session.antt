@@ -19,17 +19,12 @@ use Rattle.mailbox_mail.specs.declared.mail.Mail.{Mail}
 use Rattle.run_notes.specs.declared.standing.AskedMail.{AskedMail}
 use Rattle.master_node.specs.Entering.{IsIdle}
 use Rattle.master_node.specs.declared.node.MasterNode.{MasterNode}
-use Rattle.master_node.specs.Eager.{recalls}
-use Rattle.master_node.specs.Resting.{AllRest}
-use Rattle.master_node.specs.Shows.{MasterShows}
-use Rattle.master_node.specs.Wants.{AllPlaced, AllLeft, NoneToCome}
 use Rattle.master_node.specs.of_master_tour.Goes.{is_live}
-use Rattle.master_node.specs.of_life_runs.Led.{Exchanged, Leads}
-use Rattle.master_node.specs.of_frame_view.View.{Lens}
+use Rattle.master_node.specs.of_life_runs.Led.{Exchanged}
 use Rattle.packets_heard.specs.Numbers.{each_with}
-use Rattle.run_record.specs.Led.{exchanged, Leading, AreLed}
+use Rattle.run_record.specs.Led.{exchanged}
+use Rattle.run_record.specs.ServedLed.{LeadsFrame, ServedLeading}
 use Rattle.run_record.specs.Replay.{first_ring, behind, IsRecorded}
-use Rattle.run_record.specs.Recalling.{RunStands}
 use Rattle.run_notes.specs.Counted.{slaves_at}
 use Rattle.run_notes.specs.Switched.{IsSwitched}
 use Rattle.run_notes.specs.Times.{IsTimedBy, between}
@@ -109,14 +104,9 @@ some_given_up rows = list_any has_given_up rows
 abbrev pub has_live : MasterNode → Bool
 has_live m = list_any (λ s. is_live s.stand) m.tour.stops.items
 
--- NOTHING IS LEFT, for the master of a run: each slave that it leads was given up for good, or it wants nothing of it; and nothing is still to come for one that is live
-pub record IsLeftBy (m : MasterNode) : Type 0 where
-  pub slaves : (lens : ℕ → Lens) (recover retry missed : ℕ) (leads : List Leads) → MasterShows lens recover retry m missed leads → AllPlaced leads → AllLeft lens leads
-  pub come : NoneToCome m
-
--- it is led, whatever is noted of it
+-- it is led, by whatever lives its master leads
 abbrev pub LedOn : SessionState → SentFrame → Type 0
-LedOn s f = (plan : Scenario) (fs : List Exchanged) → has_live s.master ≡ true → Leading plan s.master s.notes fs → AreLed plan (fs ++ exchanged f ∷ [])
+LedOn s f = (plan : Scenario) (fs : List Exchanged) → length fs ≡ s.ring.number → has_live s.master ≡ true → (l : ServedLeading plan s.master fs) → LeadsFrame plan s.master fs (exchanged f) l
 
 -- the packets of the book stay those of the master's switch, and each event has the number of the frames that had been sent then
 abbrev pub SwitchesOn : SessionState → Book → SessionState → Book → Type 0
@@ -144,21 +134,10 @@ pub record IsGrown (frame : ℕ) (happened : FrameEvents) (b b' : Book) : Type 0
 abbrev pub SwitchGrows : SessionState → Book → FrameEvents → Book → Type 0
 SwitchGrows s b happened b' = (host : List (ArrayVec ℕ)) → IsSwitched s.ports host s.ring.number s.master.lan b → IsGrown s.ring.number happened b b'
 
--- NOT ALL IS DONE: where the master wants nothing of any slave, and no packet of the host is left, some live slave isn't at rest
-abbrev pub StillWants : SessionState → Type 0
-StillWants s = (lens : ℕ → Lens) (recover retry missed : ℕ) (leads : List Leads) → MasterShows lens recover retry s.master missed leads → AllRest lens s.master.lan 0 (recalls s.master) leads →
-    nat_lt s.master.lan.entered (length s.master.lan.host) ≡ false → are_at_rest (session_rows s) ≡ true → ⊥
-
 -- ALL IS DONE, for the master and at each live slave
 pub record IsDone (s : SessionState) : Type 0 where
   pub idle : IsIdle s.master
   pub at_rest : are_at_rest (session_rows s) ≡ true
-
--- ONE FRAME MORE IS LED, where some slave is live and not all is done: a master that leads goes on so, what is noted of give-ups goes with it, and so do the events
--- of its switch; and it makes no visit in vain, by what it remembers
-abbrev pub RunGoesOn : SessionState → Book → SessionState → Book → SentFrame → Type 0
-RunGoesOn s b s' b' f = (plan : Scenario) (fs : List Exchanged) (host : List (ArrayVec ℕ)) → s.recover ≡ plan.recover → s.ports ≡ ports_of plan.slaves → length fs ≡ s.ring.number → has_live s.master ≡ true → StillWants s →
-    IsSwitched s.ports host s.ring.number s.master.lan b → RunStands plan s.master s.notes fs b s.ring → RunStands plan s'.master s'.notes (fs ++ exchanged f ∷ []) b' s'.ring
 
 -- ONE STEP: one frame more stands in the book, as the ring before gives it, and the ring is the one behind that frame
 pub record Steps (s : SessionState) (b : Book) (s' : SessionState) (b' : Book) (f : SentFrame) : Type 0 where
@@ -176,7 +155,6 @@ pub record Steps (s : SessionState) (b : Book) (s' : SessionState) (b' : Book) (
   pub rest : KeepsRest s.ports b b'
   pub switch : SwitchesOn s b s' b'
   pub timed : TimesOn s b s' b'
-  pub goes_on : RunGoesOn s b s' b' f
 
 -- a mail as it is passed on, with the key of its asker
 abbrev pub asked_mail : ℕ → Mail → AskedMail

@@ -8,11 +8,11 @@ ghost use Rattle.run_book.specs.declared.book.SentFrame.{SentFrame as Recorded};
 ghost use Rattle.run_book.specs.declared.book.Ending.TheVariants as endings;
 ghost use Rattle.master_node.specs.of_frame_view.View.{Lens};
 ghost use Rattle.master_node.specs.of_frame_view.Seen.{seen};
-ghost use Rattle.master_node.specs.of_life_runs.Led.{Exchanged, Leads, Turn, led_behind, gives_up_at, missed_behind};
+ghost use Rattle.master_node.specs.of_life_runs.Led.{Exchanged, Leads, Turn, gives_up_at, missed_behind};
 ghost use Rattle.master_node.specs.Brought.{HasBrought};
 ghost use Rattle.master_node.specs.Arrivals.{completed_at, ComeIn};
 ghost use Rattle.master_node.specs.Downs.{GoDown};
-ghost use Rattle.master_node.specs.Eager.{AllVisit, recalls};
+ghost use Rattle.master_node.specs.Eager.{recalls};
 ghost use Rattle.master_node.specs.Happened.{HasHappened, HappensSo};
 ghost use Rattle.master_node.specs.Joined.{HasUnfinished, stand_before, stand_under, unfinished_after};
 ghost use Rattle.packets_heard.specs.Listed.{unfinished_of};
@@ -20,23 +20,21 @@ ghost use Rattle.packets_heard.specs.Heard.{Joined, mails_by};
 ghost use Rattle.master_node.specs.Listed.{listed};
 ghost use Rattle.master_node.specs.Listing.{events_in};
 ghost use Rattle.master_node.specs.Origins.{forwards_at};
-ghost use Rattle.master_node.specs.Recalled.{AllRecall};
 ghost use Rattle.master_node.specs.ServedEager.{AllServedAsk, AllServedRecall};
 ghost use Rattle.master_node.specs.Serving.{ServedShows, ServedUnder, run_lead, run_turn};
 ghost use Rattle.packets_heard.specs.Served.{serves_behind};
-ghost use Rattle.master_node.specs.Shows.{IsUnderWay, MasterShows, MasterUnder, lived_of};
+ghost use Rattle.master_node.specs.Shows.{IsUnderWay, lived_of};
 ghost use Rattle.master_node.specs.Told.{HasLives};
 ghost use Rattle.master_node.specs.Toured.{tour_of};
 ghost use Rattle.master_node.specs.of_segment_model.Returned.{Returns};
 ghost use Rattle.segment_ring.specs.declared.wire.Fate.TheVariants as Fates;
 ghost use Rattle.served_runs.specs.Served.{ServedTurn, served_behind};
-ghost use Rattle.packets_heard.specs.Toured.{tour_behind, lives_behind};
+ghost use Rattle.packets_heard.specs.Toured.{tour_behind};
 ghost use Rattle.run_book.specs.Ports.{ports_of};
-ghost use Rattle.run_record.specs.Recalling.{RunBegins};
 ghost use Rattle.run_notes.specs.Switched.{SameSwitch};
 ghost use Rattle.run_record.specs.Replay.{first_ring};
 ghost use Rattle.run_record.specs.Served.{ListsBehind, ServingAsks, ServingBegins, ServingGoesOn, ServingLives, ServingRests, TellsBehind};
-ghost use Rattle.run_record.specs.Session.{budget_of, smaller_bound, rests_at, session_rows, first_session, are_at_rest, some_given_up, has_live, FrameEvents, IsDone, IsLeftBy, StillWants, Steps, Stops, SwitchGrows, Asks};
+ghost use Rattle.run_record.specs.Session.{budget_of, smaller_bound, rests_at, session_rows, first_session, are_at_rest, some_given_up, has_live, FrameEvents, IsDone, Steps, Stops, SwitchGrows, Asks};
 ghost use Rattle.run_notes.specs.Slaves.{slave_row, slave_rows, KeepsRest};
 
 use datagrams::FrameBuf;
@@ -220,25 +218,16 @@ fn put_frame(
 // The master gets its frame back, or learns that it is lost: it goes on leading its slaves.
 fn tell(master: &mut MasterNode, fate: Fate, back: &FrameBuf)
     ensures posts { vec_len master.new.posts ≡ vec_len master.old.posts }
-    ensures leads { (lens : ℕ → Lens) (recover retry missed number : ℕ) (us : List Turn) (f : Exchanged) → f.fate ≡ fate → f.back ≡ back.now.items → MasterUnder lens recover retry master.old f.sent missed us →
-        (fate ≡ Fates.Pass → Returns (seen lens f.sent) (seen lens back.now.items)) → MasterShows lens recover retry master.new (missed_behind lens recover retry f.fate missed) (map (led_behind lens recover retry (gives_up_at lens recover retry missed) number f) us) }
     ensures toured { (lens : ℕ → Lens) (recover : ℕ) (as' : List Leads) → HasLives lens recover master.new (map lived_of as') → tour_of master.new ≡ tour_behind master.old.tour.retry fate as' (tour_of master.old) master.old.tour.visit.items }
     ensures brought { fate ≡ Fates.Pass → (lens : ℕ → Lens) (recover : ℕ) (octets : List ℕ) (us : List Turn) → IsUnderWay lens recover master.old octets us → Returns (seen lens octets) (seen lens back.now.items) →
         HasBrought master.new us (seen lens back.now.items) }
-    ensures recalls { fate ≡ Fates.Pass → (lens : ℕ → Lens) (recover retry missed : ℕ) (octets : List ℕ) (us : List Turn) → MasterUnder lens recover retry master.old octets missed us → Returns (seen lens octets) (seen lens back.now.items) →
-        AllVisit (seen lens octets) (recalls master.old) us → AllRecall lens (seen lens back.now.items) us (recalls master.old) (recalls master.new) }
-    ensures kept { (after : ℕ) → fate ≡ Fates.Lost after → (lens : ℕ → Lens) (recover retry missed : ℕ) (octets : List ℕ) (us : List Turn) → MasterUnder lens recover retry master.old octets missed us →
-        AllRecall lens [] us (recalls master.old) (recalls master.new) }
     ensures remembers { fate ≡ Fates.Pass → (lens : ℕ → Lens) (recover retry missed made : ℕ) (vs : List ServedTurn) (f : Exchanged) → f.fate ≡ fate → f.back ≡ back.now.items → ServedUnder lens recover retry master.old f.sent missed made vs → Returns (seen lens f.sent) (seen lens back.now.items) →
         AllServedAsk (seen lens f.sent) (recalls master.old) (map run_turn vs) → AllServedRecall lens (seen lens back.now.items) (λ v. served_behind lens recover retry (gives_up_at lens recover retry missed) made f v) vs (recalls master.old) (recalls master.new) }
     ensures stays { (after : ℕ) → fate ≡ Fates.Lost after → (lens : ℕ → Lens) (recover retry missed made : ℕ) (vs : List ServedTurn) (f : Exchanged) → ServedUnder lens recover retry master.old f.sent missed made vs →
         AllServedRecall lens [] (λ v. served_behind lens recover retry (gives_up_at lens recover retry missed) made f v) vs (recalls master.old) (recalls master.new) }
     ensures happened { HappensSo master.old.lan master.new.lan }
-    ensures joined { (lens : ℕ → Lens) (recover retry missed number : ℕ) (us : List Turn) (js : List Joined) (f : Exchanged) → f.fate ≡ fate → f.back ≡ back.now.items → MasterUnder lens recover retry master.old f.sent missed us → (fate ≡ Fates.Pass → Returns (seen lens f.sent) (seen lens back.now.items)) →
-        HasUnfinished master.old (map stand_under us) (unfinished_of js) → HasUnfinished master.new (map stand_before (lives_behind lens recover retry missed number f us)) (unfinished_after (λ u. mails_by lens f f.fate u) us (unfinished_of js)) }
     ensures arrivals { fate ≡ Fates.Pass → (lens : ℕ → Lens) (recover : ℕ) (octets : List ℕ) (us : List Turn) (js : List Joined) → IsUnderWay lens recover master.old octets us → Returns (seen lens octets) (seen lens back.now.items) →
         HasUnfinished master.old (map stand_under us) (unfinished_of js) → ComeIn master.old (λ k. completed_at (seen lens back.now.items) us (unfinished_of js) k) master.new }
-    ensures downs { (after : ℕ) → fate ≡ Fates.Lost after → (lens : ℕ → Lens) (recover retry missed number : ℕ) (us : List Turn) (f : Exchanged) → f.fate ≡ fate → MasterUnder lens recover retry master.old f.sent missed us → GoDown master.old us (lives_behind lens recover retry missed number f us) master.new }
     ensures joins { (lens : ℕ → Lens) (recover retry missed made : ℕ) (vs : List ServedTurn) (js : List Joined) (f : Exchanged) → f.fate ≡ fate → f.back ≡ back.now.items → ServedUnder lens recover retry master.old f.sent missed made vs → (fate ≡ Fates.Pass → Returns (seen lens f.sent) (seen lens back.now.items)) →
         HasUnfinished master.old (map stand_under (map run_turn vs)) (unfinished_of js) →
         HasUnfinished master.new (map stand_before (map run_lead (serves_behind lens recover retry missed made f vs))) (unfinished_after (λ u. mails_by lens f f.fate u) (map run_turn vs) (unfinished_of js)) }
@@ -262,7 +251,6 @@ impl Session {
     pub fn begin(alloc: Global, plan: &Scenario, grams: u32) -> Result<Session, NoMemory>
         requires { IsPlan plan.now }
         ensures session { IfOk result (λ session. session ≡ first_session plan.now grams session.master) }
-        ensures begins { IfOk result (λ session. RunBegins plan.now session.master session.notes) }
         ensures switch { IfOk result (λ session. HasHappened (ports_of plan.now.slaves) plan.now.host [] session.master.lan) }
         ensures serves { IfOk result (ServingBegins plan.now) }
     {
@@ -282,12 +270,9 @@ impl Session {
     /// service and no packet is left of a slave, and no mail that was passed on to it, unless that was given up for good.
     pub fn settled(&self) -> bool
         ensures rest { OnTrue result (are_at_rest (session_rows self.now) ≡ true) }
-        ensures left { OnTrue result (IsLeftBy self.now.master) }
-        ensures wants { OnFalse result (StillWants self.now) }
         ensures lives { OnFalse result (ServingLives self.now) }
         ensures done { OnFalse result (IsDone self.now → ⊥) }
         ensures served { OnTrue result (ServingRests self.now) }
-        ensures busy { OnFalse result ((are_at_rest (session_rows self.now) ≡ false) ⊎ (has_live self.now.master ≡ true)) }
     {
         if self.master.wants() {
             return false;

@@ -1,9 +1,9 @@
-use Rattle.std.proofs.Common.{◌≡◌, ◌⊎◌, ◌-◌, true, false, map, []}
+use Rattle.std.proofs.Common.{◌≡◌, ◌-◌, true, false, []}
 use Rattle.std.specs.Bool.{OnTrue, OnFalse}
-use Rattle.run_record.specs.Session.{session_rows, are_at_rest, has_live, IsLeftBy, StillWants}
-use Rattle.run_record.specs.Recalling.{RunStands}
-use Rattle.run_record.specs.Led.{exchanged}
+use Rattle.run_record.specs.Session.{session_rows, are_at_rest, IsDone}
 use Rattle.run_record.specs.Ran.{IsUnderway}
+use Rattle.run_record.specs.Served.{ServingLives, ServingRests}
+use Rattle.run_record.proofs.RunStanding.{Stands}
 use Rattle.run_record.proofs.running.run_through.Given as goal
 
 abbrev pub invariant-loop-settled : goal.invariant-loop-settled
@@ -13,10 +13,10 @@ invariant-loop-settled l = record {
   grams : l.book.grams ≡ [];
   replies : l.book.replies ≡ [];
   settled : OnTrue l.settled (are_at_rest (session_rows l.session) ≡ true);
-  left : OnTrue l.settled (IsLeftBy l.session.master);
-  busy : OnFalse l.settled ((are_at_rest (session_rows l.session) ≡ false) ⊎ (has_live l.session.master ≡ true));
-  wants : OnFalse l.settled (StillWants l.session);
-  stands : RunStands l.plan l.session.master l.session.notes (map exchanged l.book.frames) l.book l.session.ring;
+  rests : OnTrue l.settled (ServingRests l.session);
+  lives : OnFalse l.settled (ServingLives l.session);
+  done : OnFalse l.settled (IsDone l.session → ⊥);
+  stands : Stands l.plan l.session l.book;
 }
 
 abbrev pub decreases-loop-settled : goal.decreases-loop-settled

@@ -1,15 +1,14 @@
 use Rattle.std.proofs.Common.{◌≡◌, ℕ, suc, map, refl, ap, sym, ◌∙◌, subst, List}
-use Rattle.master_node.specs.of_life_runs.Led.{led_behind, gives_up_at, missed_behind}
+use Rattle.master_node.specs.of_life_runs.Led.{gives_up_at, missed_behind}
 use Rattle.master_node.specs.Backtold.{returned_at}
 use Rattle.master_node.specs.Eager.{recalls}
 use Rattle.master_node.specs.Listing.{events_in, told_in}
 use Rattle.master_node.specs.Serving.{ServedShows}
-use Rattle.master_node.specs.Shows.{MasterShows}
 use Rattle.master_node.specs.Toured.{tour_of}
 use Rattle.segment_ring.specs.declared.wire.Fate.{Fate}
 use Rattle.segment_ring.specs.declared.wire.Fate.TheVariants as Fates
 use Rattle.served_runs.specs.Served.{served_behind}
-use Rattle.packets_heard.specs.Toured.{tour_behind, lives_behind}
+use Rattle.packets_heard.specs.Toured.{tour_behind}
 use Rattle.packets_heard.specs.Served.{serves_behind}
 use Rattle.master_node.specs.Serving.{run_lead, run_turn}
 use Rattle.master_node.specs.of_frame_view.Seen.{seen}
@@ -19,16 +18,6 @@ use Rattle.packets_heard.specs.Heard.{mails_by}
 use Rattle.run_record.specs.Served.{events_behind}
 use Rattle.run_record.proofs.ServedTold.{told_lost, told_pass}
 use Rattle.run_record.proofs.session.tell.Goals as goal
-
-pub returns-in-Pass-clause-leads : goal.returns-in-Pass-clause-leads
-returns-in-Pass-clause-leads c = λ lens recover retry missed number us f fate back under returns.
-    let pass : f.fate ≡ Fates.Pass = fate ∙ c.in-Pass.is in
-    subst (λ (n : ℕ). MasterShows lens recover retry c.returned.new.self n (map (led_behind lens recover retry (gives_up_at lens recover retry missed) number f) us))
-    (sym (ap (λ (k : Fate). missed_behind lens recover retry k missed) pass)) (c.returned.ensures.leads lens recover retry missed number f.sent us f pass back under (returns c.in-Pass.is))
-
-pub returns-in-Lost-clause-leads : goal.returns-in-Lost-clause-leads
-returns-in-Lost-clause-leads c = λ lens recover retry missed number us f fate back under returns.
-    c.lost.ensures.leads lens recover retry missed number c.in-Lost.after f.sent us f (fate ∙ c.in-Lost.is) refl under
 
 pub returns-in-Pass-clause-toured : goal.returns-in-Pass-clause-toured
 returns-in-Pass-clause-toured c = λ lens recover as' h.
@@ -49,31 +38,11 @@ returns-in-Pass-clause-happened c = c.returned.ensures.happened
 pub returns-in-Lost-clause-happened : goal.returns-in-Lost-clause-happened
 returns-in-Lost-clause-happened c = c.lost.ensures.happened
 
-pub returns-in-Pass-clause-joined : goal.returns-in-Pass-clause-joined
-returns-in-Pass-clause-joined c = λ lens recover retry missed number us js f fate back under returns h.
-    let pass : f.fate ≡ Fates.Pass = fate ∙ c.in-Pass.is in
-    subst (λ (k : Fate). HasUnfinished c.returned.new.self (map stand_before (lives_behind lens recover retry missed number f us)) (unfinished_after (λ u. mails_by lens f k u) us (unfinished_of js))) (sym pass)
-    (subst (λ (o : List ℕ). HasUnfinished c.returned.new.self (map stand_before (lives_behind lens recover retry missed number f us)) (unfinished_after (mails_back (seen lens o)) us (unfinished_of js))) (sym back)
-    (c.returned.ensures.joined lens recover retry missed number f.sent us (unfinished_of js) f pass back under (returns c.in-Pass.is) h).1)
-
-pub returns-in-Lost-clause-joined : goal.returns-in-Lost-clause-joined
-returns-in-Lost-clause-joined c = λ lens recover retry missed number us js f fate back under returns h.
-    let lost : f.fate ≡ Fates.Lost c.in-Lost.after = fate ∙ c.in-Lost.is in
-    subst (λ (k : Fate). HasUnfinished c.lost.new.self (map stand_before (lives_behind lens recover retry missed number f us)) (unfinished_after (λ u. mails_by lens f k u) us (unfinished_of js))) (sym lost)
-    (c.lost.ensures.joined lens recover retry missed number c.in-Lost.after f.sent us (unfinished_of js) f lost refl under h)
-
 pub returns-in-Pass-clause-arrivals : goal.returns-in-Pass-clause-arrivals
 returns-in-Pass-clause-arrivals c = λ pass lens recover octets us js under back h. c.returned.ensures.arrivals lens recover octets us (unfinished_of js) under back h
 
 pub returns-in-Lost-clause-arrivals : goal.returns-in-Lost-clause-arrivals
 returns-in-Lost-clause-arrivals c = λ pass. absurd (let bad : Fates.Lost c.in-Lost.after ≡ Fates.Pass = sym c.in-Lost.is ∙ pass in cc)
-
-pub returns-in-Pass-clause-downs : goal.returns-in-Pass-clause-downs
-returns-in-Pass-clause-downs c = λ after lost. absurd (let bad : Fates.Pass ≡ Fates.Lost after = sym c.in-Pass.is ∙ lost in cc)
-
-pub returns-in-Lost-clause-downs : goal.returns-in-Lost-clause-downs
-returns-in-Lost-clause-downs c = λ after lost lens recover retry missed number us f fate under.
-    c.lost.ensures.downs lens recover retry missed number after f.sent us f (fate ∙ lost) refl under
 
 pub returns-in-Pass-clause-joins : goal.returns-in-Pass-clause-joins
 returns-in-Pass-clause-joins c = λ lens recover retry missed made vs js f fate back under returns h.
@@ -101,18 +70,6 @@ returns-in-Pass-clause-counts c = c.returned.ensures.counts
 
 pub returns-in-Lost-clause-counts : goal.returns-in-Lost-clause-counts
 returns-in-Lost-clause-counts c = c.lost.ensures.counts
-
-pub returns-in-Pass-clause-recalls : goal.returns-in-Pass-clause-recalls
-returns-in-Pass-clause-recalls c = λ pass lens recover retry missed octets us under back visits. c.returned.ensures.recalls lens recover retry missed octets us under back visits
-
-pub returns-in-Lost-clause-recalls : goal.returns-in-Lost-clause-recalls
-returns-in-Lost-clause-recalls c = λ pass. absurd (let bad : Fates.Lost c.in-Lost.after ≡ Fates.Pass = sym c.in-Lost.is ∙ pass in cc)
-
-pub returns-in-Pass-clause-kept : goal.returns-in-Pass-clause-kept
-returns-in-Pass-clause-kept c = λ after lost. absurd (let bad : Fates.Pass ≡ Fates.Lost after = sym c.in-Pass.is ∙ lost in cc)
-
-pub returns-in-Lost-clause-kept : goal.returns-in-Lost-clause-kept
-returns-in-Lost-clause-kept c = λ after lost lens recover retry missed octets us under. c.lost.ensures.recalls lens recover retry missed octets us under
 
 pub returns-in-Pass-clause-served : goal.returns-in-Pass-clause-served
 returns-in-Pass-clause-served c = λ lens recover retry missed made vs f fate back under returns.

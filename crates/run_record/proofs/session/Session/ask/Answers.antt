@@ -4,7 +4,7 @@ use Rattle.master_node.specs.Lives.{waiting_of}
 use Rattle.run_notes.specs.declared.standing.AskedMail.{AskedMail}
 use Rattle.run_record.specs.Session.{IsDone, SessionState, asked_more, asked_mail}
 use Rattle.run_record.proofs.Asking.{full_so, asked_on, taken_back}
-use Rattle.run_record.proofs.Servings.{serving_asks, serving_stays}
+use Rattle.run_record.proofs.ServingAsks.{serving_asks, serving_stays}
 use Rattle.run_record.proofs.session.Session.ask.Goals as goal
 
 pub returns-then-ask-clause-asked : goal.returns-then-ask-clause-asked

@@ -6,7 +6,6 @@ use Rattle.slave_server.specs.Spec.{node_of}
 use Rattle.slave_server.specs.declared.server.SlaveServer.{SlaveServer}
 use Rattle.run_notes.specs.Slaves.{home_of}
 use Rattle.run_notes.proofs.Firsts.{length_first}
-use Rattle.run_record.proofs.Leads.{first_stands}
 use Rattle.run_record.proofs.Servings.{serving_begins}
 use Rattle.run_record.proofs.session.Session.begin.Goals as goal
 
@@ -24,10 +23,6 @@ invariant_of-result c =
       ap length c.in_ok-new-2.ensures.asked ∙ length-replicate (length c.args.plan.now.slaves) [] ∙ sym nodes,
       c.in_ok-new.ensures.posts ∙ sym nodes,
     )
-
-pub returns-clause-begins : goal.returns-clause-begins
-returns-clause-begins c =
-    first_stands c.args.plan.now _ _ c.in_ok-new.ensures.leads c.in_ok-new-2.ensures.notes c.in_ok-new.ensures.tour c.in_ok-new.ensures.ports c.in_ok-new.ensures.joined c.in_ok-new.ensures.counts c.in_ok-new.ensures.knows
 
 pub returns-clause-switch : goal.returns-clause-switch
 returns-clause-switch c = c.in_ok-new.ensures.begins

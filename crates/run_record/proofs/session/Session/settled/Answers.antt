@@ -2,20 +2,10 @@ use Rattle.std.proofs.Common.{◌≡◌, inl, inr, true, false, sym, ap, ◌∙�
 use Rattle.std.proofs.lemmas.Bool.{OnTrue_at, OnTrue_from, OnFalse_at, OnFalse_from}
 use Rattle.master_node.specs.of_life_runs.First.{lens_of}
 use Rattle.run_record.specs.Served.{ServingRests}
-use Rattle.run_record.specs.Session.{IsDone, SessionState, has_live, IsLeftBy, StillWants}
+use Rattle.run_record.specs.Session.{IsDone, SessionState, has_live}
 use Rattle.run_record.proofs.ServedGaves.{serving_live}
 use Rattle.run_record.proofs.ServedPlaced.{served_placed}
 use Rattle.run_record.proofs.session.Session.settled.Goals as goal
-
-pub returns-then-wants-clause-busy : goal.returns-then-wants-clause-busy
-returns-then-wants-clause-busy c =
-    let yes : c.wants.result ≡ true = search rules in
-    inr (ap (λ (s : SessionState). has_live s.master) (sym c.self.view_is) ∙ OnTrue_at yes c.wants.ensures.live)
-
-pub returns-clause-left : goal.returns-clause-left
-returns-clause-left c =
-    let no : c.wants.result ≡ false = search rules in
-    OnTrue_from c.are_at_rest.result _ (λ e. subst (λ (s : SessionState). IsLeftBy s.master) c.self.view_is (record { slaves = OnFalse_at no c.wants.ensures.left; come = OnFalse_at no c.wants.ensures.come }))
 
 pub returns-clause-served : goal.returns-clause-served
 returns-clause-served c =
@@ -31,19 +21,11 @@ returns-clause-served c =
 pub returns-clause-rest : goal.returns-clause-rest
 returns-clause-rest c = OnTrue_from c.are_at_rest.result _ (λ e. sym c.are_at_rest.ensures ∙ e)
 
-pub returns-clause-busy : goal.returns-clause-busy
-returns-clause-busy c = OnFalse_from c.are_at_rest.result _ (λ e. inl (sym c.are_at_rest.ensures ∙ e))
-
-pub returns-then-wants-clause-wants : goal.returns-then-wants-clause-wants
-returns-then-wants-clause-wants c =
-    let yes : c.wants.result ≡ true = search rules in
-    subst StillWants c.self.view_is (λ lens recover retry missed leads shows rests none settled. (let no : true ≡ false = sym yes ∙ c.wants.ensures.rests lens recover retry missed leads shows rests none in cc))
-
-pub returns-clause-wants : goal.returns-clause-wants
-returns-clause-wants c = OnFalse_from c.are_at_rest.result _ (λ e. (λ lens recover retry missed leads shows rests none settled. (let no : true ≡ false = sym settled ∙ (sym c.are_at_rest.ensures ∙ e) in cc)))
-
 pub returns-then-wants-clause-lives : goal.returns-then-wants-clause-lives
-returns-then-wants-clause-lives c = λ plan fs recover s. serving_live plan c.args.self.now fs s.leading recover s.gave (returns-then-wants-clause-busy c)
+returns-then-wants-clause-lives c =
+    let yes : c.wants.result ≡ true = search rules in
+    let live = ap (λ (s : SessionState). has_live s.master) (sym c.self.view_is) ∙ OnTrue_at yes c.wants.ensures.live in
+    λ plan fs recover s. serving_live plan c.args.self.now fs s.leading recover s.gave (inr live)
 
 pub returns-clause-lives : goal.returns-clause-lives
 returns-clause-lives c = OnFalse_from c.are_at_rest.result _ (λ e. λ plan fs recover s. serving_live plan c.args.self.now fs s.leading recover s.gave (inl (sym c.are_at_rest.ensures ∙ e)))

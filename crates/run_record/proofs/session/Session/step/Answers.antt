@@ -1,26 +1,18 @@
-use Rattle.std.proofs.Common.{◌≡◌, refl, sym, true, ℕ, suc, List, ◌+◌, ◌++◌, ◌∷◌, [], length, vec_len, ap, ◌∙◌, subst, arith}
+use Rattle.std.proofs.Common.{◌≡◌, ◌<◌, ◌^◌, refl, sym, ℕ, suc, List, ◌+◌, ◌++◌, ◌∷◌, [], length, vec_len, ap, ◌∙◌, subst, arith}
 use Rattle.arrayvec.specs.ArrayVec.{ArrayVec}
 use Rattle.eoe_switch.specs.Switch.{switched}
 use Rattle.segment_ring.specs.Ring.{RingState}
 use Rattle.slave_node.specs.of_slave_steps.Node.{Node}
 use Rattle.slave_server.specs.declared.server.SlaveServer.{SlaveServer}
-use Rattle.run_book.specs.Ports.{ports_of}
 use Rattle.run_book.specs.declared.book.SentFrame.{SentFrame}
 use Rattle.master_node.specs.Happened.{events_of}
 use Rattle.master_node.specs.Listing.{events_in}
 use Rattle.master_node.specs.declared.event.Event.{Event}
-use Rattle.master_node.specs.of_life_runs.First.{lens_of}
-use Rattle.run_record.specs.Led.{exchanged, Leading}
-use Rattle.run_record.proofs.Leads.{led_on, returned, stands_on}
-use Rattle.run_record.proofs.Nexts.{next_frame}
-use Rattle.run_record.proofs.Recalling.{rests_enter}
+use Rattle.run_record.specs.Led.{exchanged}
+use Rattle.run_record.proofs.Nexts.{next_led}
 use Rattle.run_record.proofs.Servings.{serving_on}
-use Rattle.run_record.specs.Recalling.{RunStands}
-use Rattle.master_node.specs.Wants.{AllCounted}
-use Rattle.master_node.proofs.Counts.{counted}
-use Rattle.master_node.proofs.OnFrames.{run_way}
 use Rattle.run_record.specs.Replay.{behind, IsRecorded}
-use Rattle.run_record.specs.Session.{FrameEvents, IsGrown, SessionState, StillWants, has_live}
+use Rattle.run_record.specs.Session.{FrameEvents, IsGrown, LedOn, SessionState}
 use Rattle.run_notes.specs.Heard.{HeardBy}
 use Rattle.run_notes.specs.Packets.{BeginsOn}
 use Rattle.run_notes.specs.Reports.{ReportsBy, ReportsOn, TurnsAll}
@@ -30,7 +22,7 @@ use Rattle.run_notes.specs.Switched.{IsSwitched, NotesSwitch}
 use Rattle.run_notes.specs.Times.{IsTimedBy, between}
 use Rattle.run_notes.proofs.Timings.{times_step}
 use Rattle.run_record.proofs.Numbered.{numbers_grown}
-use Rattle.run_notes.proofs.Switched.{switched_step, switch_grown, switch_stands, switch_stood}
+use Rattle.run_notes.proofs.Switched.{switched_step, switch_grown}
 use Rattle.std.proofs.lemmas.Result.{on_ok_weaker}
 use Rattle.run_record.proofs.Steps.{holds_on, no_frame, one_frame}
 use Rattle.run_notes.specs.Handed.{MailsGo, kinds_in}
@@ -115,45 +107,6 @@ returns-clause-ok c =
             (times_step c.self.inside.number c.next.new.self.lan.happened c.tell.new.master.lan.happened c.self.inside.log c.note_before.new.self c.note_behind.new.self c.args.book.now c.note_before.new.book c.put_frame.new.book c.note_behind.new.book
             c.note_before.ensures.slaves c.note_behind.ensures.slaves c.next.ensures.made.1 c.put_frame.ensures.switch c.in_ok-note_before.ensures.time noted.1
             (subst (λ (n : ℕ). IsTimedBy (between n) c.self.inside.log.ports c.args.book.now c.self.inside.log.notes) (sym number) old));
-        goes_on = λ plan fs host recover many counts live wants x z.
-            let live : has_live c.self.inside.master ≡ true = ap (λ (s : SessionState). has_live s.master) c.self.view_is ∙ live in
-            let view : RunStands plan c.self.inside.master c.self.inside.log.notes fs c.args.book.now c.self.inside.ring = subst (λ (s : SessionState). RunStands plan s.master s.notes fs c.args.book.now s.ring) (sym c.self.view_is) z in
-            let mine = view.forwards in
-            let number = c.self.invariant.0 in
-            let l : Leading plan c.self.inside.master c.self.inside.log.notes fs = mine.leading in
-            let now = here host x in
-            let all : ports ≡ ports_of plan.slaves = before ∙ many in
-            let stood = subst (λ (n : ℕ). (switched n c.args.book.now.switch).switch ≡ c.self.inside.master.lan.switch) all (switch_stood ports host c.self.inside.number c.self.inside.master.lan c.args.book.now now) in
-            stands_on c.self.inside.master c.next.new.self c.tell.new.master (exchanged f) c.next.result c.next.ensures.idle c.next.ensures.begun c.next.ensures.toured c.next.ensures.asks plan fs live c.self.inside.log.notes l
-            (λ number us frame under. c.tell.ensures.leads (lens_of plan.slaves) plan.recover plan.retry l.missed number us (exchanged f) refl refl under
-            (λ pass. returned (lens_of plan.slaves) c.self.inside.ring (exchanged f) number l.leads us c.exchange-fate.ensures.fate c.exchange-fate.ensures.back frame pass))
-            (λ as' h. c.tell.ensures.toured (lens_of plan.slaves) plan.recover as' h)
-            c.self.inside.number (counts ∙ sym (ap (λ (s : SessionState). s.ring.number) c.self.view_is) ∙ sym number) c.note_before.new.self c.note_behind.new.self
-            (c.note_before.ensures.slaves.recover ∙ ap (λ (s : SessionState). s.recover) c.self.view_is ∙ recover) c.in_ok-note_before.ensures.gave both.0
-            c.in_ok-note_before.ensures.told both.1.0
-            (λ pass us frame under. c.tell.ensures.brought pass (lens_of plan.slaves) plan.recover c.next.new.into.items us (run_way (lens_of plan.slaves) plan.recover plan.retry l.missed c.next.new.into.items c.next.new.self us under)
-            (returned (lens_of plan.slaves) c.self.inside.ring (exchanged f) (length fs) l.leads us c.exchange-fate.ensures.fate c.exchange-fate.ensures.back frame pass))
-            c.in_ok-note_before.ensures.heard both.1.1.0
-            c.args.book.now c.note_behind.new.book c.next.ensures.joins c.next.ensures.made
-            (λ pass us frame. returned (lens_of plan.slaves) c.self.inside.ring (exchanged f) (length fs) l.leads us c.exchange-fate.ensures.fate c.exchange-fate.ensures.back frame pass)
-            (λ us js frame under h. c.tell.ensures.joined (lens_of plan.slaves) plan.recover plan.retry l.missed (length fs) us js (exchanged f) refl refl under
-            (λ pass. returned (lens_of plan.slaves) c.self.inside.ring (exchanged f) (length fs) l.leads us c.exchange-fate.ensures.fate c.exchange-fate.ensures.back frame pass) h)
-            (λ pass us js frame under h. c.tell.ensures.arrivals pass (lens_of plan.slaves) plan.recover c.next.new.into.items us js (run_way (lens_of plan.slaves) plan.recover plan.retry l.missed c.next.new.into.items c.next.new.self us under)
-            (returned (lens_of plan.slaves) c.self.inside.ring (exchanged f) (length fs) l.leads us c.exchange-fate.ensures.fate c.exchange-fate.ensures.back frame pass) h)
-            (λ after lost us under. c.tell.ensures.downs after lost (lens_of plan.slaves) plan.recover plan.retry l.missed (length fs) us (exchanged f) refl under)
-            (grown host now).switch (grown host now).switched
-            mine.forwarded
-            stood
-            (subst (λ (n : ℕ). (switched n (c.args.book.now.switch ++ events_of c.next.new.self.lan.happened)).switch ≡ c.next.new.self.lan.switch) all
-            (switch_stands ports host c.self.inside.number c.self.inside.master.lan c.next.new.self.lan c.args.book.now c.next.ensures.happened now))
-            mine.packets c.tell.ensures.counts (let a = c.self.invariant.1 in let b = c.self.invariant.2 in omega (arith, a, b)) c.note_before.ensures.slaves.notes c.in_ok-note_before.ensures.begun both.1.1.1.1.0
-            c.self.inside.ring c.exchange-fate.new.self view.remembers c.exchange-fate.ensures.wire c.next.ensures.visits c.next.ensures.takes c.next.ensures.recalled
-            (λ pass us frame under visits. c.tell.ensures.recalls pass (lens_of plan.slaves) plan.recover plan.retry l.missed c.next.new.into.items us under
-            (returned (lens_of plan.slaves) c.self.inside.ring (exchanged f) (length fs) l.leads us c.exchange-fate.ensures.fate c.exchange-fate.ensures.back frame pass) visits)
-            (λ after lost us under. c.tell.ensures.kept after lost (lens_of plan.slaves) plan.recover plan.retry l.missed c.next.new.into.items us under)
-            (rests_enter plan c.self.inside.master c.self.inside.ring c.self.inside.log.notes c.self.inside.log.recover fs l c.args.book.now.switch c.args.book.now.switched mine.forwarded stood (subst StillWants (sym c.self.view_is) wants)
-            (subst (λ (n : ℕ). AllCounted n l.leads) (sym (ap (λ (s : SessionState). s.recover) c.self.view_is ∙ recover)) (counted (lens_of plan.slaves) plan plan.retry fs l.missed l.leads l.lives)) c.next.new.self.lan.happened
-            (λ rests may. c.next.ensures.enters (next_frame c.self.inside.master c.next.result c.next.ensures.idle live) (lens_of plan.slaves) plan.recover plan.retry l.missed l.leads l.shows rests may));
       },
       (
         happened,
@@ -202,7 +155,6 @@ returns-clause-err c =
     (c.put_frame.ensures.rest ports) (subst (λ (n : ℕ). SameFrames n c.put_frame.new.book c.note_behind.new.book) same c.note_behind.ensures.frames)
     (subst (λ r. IsRecorded r f) ring (record { fate = c.exchange-fate.ensures.fate; back = c.exchange-fate.ensures.back }))
     (record { sent = c.put_frame.ensures.sent_fits; back = c.put_frame.ensures.back_fits })
-    (λ plan fs live l.
-    let live : has_live c.self.inside.master ≡ true = ap (λ (s : SessionState). has_live s.master) c.self.view_is ∙ live in
-    let same : Leading plan c.self.inside.master c.self.inside.log.notes fs = subst (λ (s : SessionState). Leading plan s.master s.notes fs) (sym c.self.view_is) l in
-    led_on c.self.inside.master c.next.new.self c.tell.new.master (exchanged f) c.next.result c.next.ensures.idle c.next.ensures.begun c.next.ensures.toured c.next.ensures.asks plan fs live c.self.inside.log.notes same))
+    (subst (λ (s : SessionState). LedOn s f) c.self.view_is (λ plan fs number live l.
+    let few : suc (length fs) < 2 ^ 32 = (let n = c.self.invariant.0 in let b = c.self.invariant.1 in let most = c.self.invariant.2 in omega (arith, number, n, b, most)) in
+    next_led c.self.inside.master c.next.new.self (exchanged f) c.next.result c.next.ensures.idle c.next.ensures.services plan fs few live l)))
