@@ -27,10 +27,6 @@ holds_on number budget notes notes' ring ring' sent homes asked posts homes' ask
     let few = h.4 in
     (omega (arith, n, first), omega (arith, first, left), h.2, same ∙ h.3 ∙ sym many, omega (arith, many, few), same_homes ∙ h.5 ∙ sym many, same_asked ∙ h.6 ∙ sym many, same_posts ∙ h.7 ∙ sym many)
 
--- ports that stay stay as many
-pub same_ports : (first noted behind : List ℕ) → 1 + length behind ≡ 1 + length noted → noted ≡ first → 1 + length behind ≡ 1 + length first
-same_ports first noted behind many kept = many ∙ ap (λ (l : List ℕ). 1 + length l) kept
-
 -- memory ran out before the frame stood in the book
 pub no_frame : (s : SessionState) (ports : ℕ) (b b1 b2 : Book) → ports ≡ s.ports → SameFrames ports b b1 → b2.frames ≡ b1.frames → KeepsRest ports b1 b2 → Stops s b b2
 no_frame s ports b b1 b2 e h same k = record {
