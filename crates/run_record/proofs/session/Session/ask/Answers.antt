@@ -12,7 +12,7 @@ returns-then-ask-clause-asked c =
     let own : length c.self.inside.ring.nodes ≡ length c.args.self.now.ring.nodes = ap (λ (s : SessionState). length s.ring.nodes) c.self.view_is in
     let lists = c.self.invariant.6 in
     let inside : c.args.slave < length c.self.inside.log.asked = omega (arith, own, lists, c.requires) in
-    let rows : List (List AskedMail) → SessionState = λ a. record { ring = c.self.inside.ring; notes = c.self.inside.log.notes; homes = c.self.inside.log.homes; asked = a; waiting = map waiting_of c.ask.new.self.posts.items; master = c.ask.new.self; ports = 1 + length c.self.inside.log.ports; recover = c.self.inside.log.recover; budget = c.self.inside.budget; serving = c.self.inside.serving } in
+    let rows : List (List AskedMail) → SessionState = λ a. record { ring = c.self.inside.ring; notes = c.self.inside.log.notes; homes = c.self.inside.log.homes; asked = a; waiting = map waiting_of c.ask.new.self.posts.items; master = c.ask.new.self; ports = 1 + length c.self.inside.log.ports; at_ports = c.self.inside.log.ports; recover = c.self.inside.log.recover; budget = c.self.inside.budget; serving = c.self.inside.serving } in
     ap rows (asked_on c.self.inside.log.asked c.args.slave c.at_mut-asked.result.now c.add.new.self c.args.key c.args.mail.now c.in_ok-body.body inside c.at_mut-asked.ensures.value (c.in_ok-body.ensures ∙ c.as_slice.ensures.value) c.in_ok-add.ensures.ok)
     ∙ ap (λ (s : SessionState). record s { asked = asked_more s.asked c.args.slave (asked_mail c.args.key c.args.mail.now); waiting = map waiting_of c.ask.new.self.posts.items; master = c.ask.new.self }) c.self.view_is
 
@@ -30,7 +30,7 @@ returns-clause-asked c =
     let own : length c.self.inside.ring.nodes ≡ length c.args.self.now.ring.nodes = ap (λ (s : SessionState). length s.ring.nodes) c.self.view_is in
     let lists = c.self.invariant.6 in
     let inside : c.args.slave < length c.self.inside.log.asked = omega (arith, own, lists, c.requires) in
-    let rows : List (List AskedMail) → SessionState = λ a. record { ring = c.self.inside.ring; notes = c.self.inside.log.notes; homes = c.self.inside.log.homes; asked = a; waiting = map waiting_of c.ask.new.self.posts.items; master = c.ask.new.self; ports = 1 + length c.self.inside.log.ports; recover = c.self.inside.log.recover; budget = c.self.inside.budget; serving = c.self.inside.serving } in
+    let rows : List (List AskedMail) → SessionState = λ a. record { ring = c.self.inside.ring; notes = c.self.inside.log.notes; homes = c.self.inside.log.homes; asked = a; waiting = map waiting_of c.ask.new.self.posts.items; master = c.ask.new.self; ports = 1 + length c.self.inside.log.ports; at_ports = c.self.inside.log.ports; recover = c.self.inside.log.recover; budget = c.self.inside.budget; serving = c.self.inside.serving } in
     ap rows (taken_back c.self.inside.log.asked c.args.slave c.at_mut-asked.result.now c.add.new.self c.at_mut.result.now c.pop.new.self _ c.pop.result inside c.at_mut-asked.ensures.value c.in_ok-add.ensures.ok c.at_mut.ensures.value c.pop.ensures.last)
     ∙ ap (λ (s : SessionState). record s { waiting = map waiting_of c.ask.new.self.posts.items; master = c.ask.new.self }) c.self.view_is
 
