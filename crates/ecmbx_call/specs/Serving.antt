@@ -10,6 +10,7 @@ use Rattle.run_book.specs.Book.{IsNew}
 use Rattle.promised_run.specs.Given.{IsServedGiven}
 use Rattle.promised_run.specs.Ran.{HasSent}
 use Rattle.promised_run.specs.Rested.{IsServedRested}
+use Rattle.promised_run.specs.ServedBooks.{IsServedBooked}
 use Rattle.promised_run.specs.ServedBounded.{IsServedBounded}
 use Rattle.promised_run.specs.ServedPorts.{IsServedAtPorts}
 use Rattle.promised_run.specs.ServedReported.{IsServedReported}
@@ -39,6 +40,8 @@ pub record HasServed (plan : Scenario) (count : ℕ) (first last : Told) (book :
   pub whole : IsServedWhole plan book
   -- what happened at the port of each slave, with its number
   pub ports : IsServedAtPorts plan count book
+  -- of each script just the rest wasn't sent, and each epoch has its cause
+  pub booked : IsServedBooked plan count book
   -- the packets that came into hand stand there each with the frame with whose return its last fragment was written, or in doubt
   pub written : IsServedWritten plan count book
   -- behind all of it each datagram that was queued at a slave and is done has all mails of the one step of its slave's server

@@ -31,7 +31,9 @@ pub mod Rests
 pub mod Rounds
 mod Rows
 pub mod Scripts
+mod ServedBooks
 pub mod ServedBounded
+mod ServedCauses
 mod ServedPorts
 mod ServedReported
 mod ServedUncut

@@ -113,8 +113,9 @@ gaves_many (a ∷ as') (n ∷ notes) e =
     let rest : gaves_noted notes ≡ map gave_of as' = cc in
     ap (λ z. suc z) (gaves_many as' notes rest)
 
-module _ (plan : Scenario) (count : ℕ) (book : Book) (first last : Told) where
-  gave_so : (a : HasAccount plan count book book.ending) → gaves_in book.slaves ≡ map gave_of (map run_lead a.answers.serving.leading.serves)
+-- the give-ups of the rows are those of the lives
+module _ (plan : Scenario) (count : ℕ) (book : Book) where
+  pub gave_so : (a : HasAccount plan count book book.ending) → gaves_in book.slaves ≡ map gave_of (map run_lead a.answers.serving.leading.serves)
   gave_so a =
       let as' = map run_lead a.answers.serving.leading.serves in
       let notes = a.session.notes in
@@ -122,6 +123,7 @@ module _ (plan : Scenario) (count : ℕ) (book : Book) (first last : Told) where
       let many : length rows ≡ length notes = ap (λ z. length z) (sym a.rows) ∙ as_many as' book.slaves a.reported ∙ sym (gaves_many as' notes a.answers.serving.gave) in
       ap gaves_in a.rows ∙ rows_gave a.session.recover a.session.ring.nodes notes many ∙ a.answers.serving.gave
 
+module _ (plan : Scenario) (count : ℕ) (book : Book) (first last : Told) where
   rows_by : (ending : Ending) → IsServed plan count first last book ending → ending ≢ endings.NoMemory → HasRows plan book
   rows_by endings.Done served ok = served.0.rows
   rows_by endings.GivenUp served ok = served.0.rows
@@ -135,4 +137,4 @@ module _ (plan : Scenario) (count : ℕ) (book : Book) (first last : Told) where
   at_ports result served ends = λ ok a.
       let lives = a.answers.serving.leading.lives in
       let rows = rows_by result served (λ no. ok (ends ∙ no)) in
-      record { ports = all_ports plan lives book a.listed a.begun; numbers = all_numbers plan lives book a.listed a.numbered a.reported (gave_so a) rows }
+      record { ports = all_ports plan lives book a.listed a.begun; numbers = all_numbers plan lives book a.listed a.numbered a.reported (gave_so plan count book a) rows }

@@ -13,6 +13,7 @@ pub mod Promised
 pub mod Reported
 pub mod Rested
 pub mod Runs
+pub mod ServedBooks
 pub mod ServedBounded
 pub mod ServedPorts
 pub mod ServedReported

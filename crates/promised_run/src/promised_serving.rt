@@ -7,6 +7,7 @@ ghost use Rattle.run_book.specs.Book.{IsNew};
 ghost use Rattle.run_record.specs.Ran.{HasSent};
 ghost use Rattle.gateway_run.specs.Serving.{told};
 ghost use Rattle.gateway_run.specs.Served.{IsServed};
+ghost use Rattle.promised_run.specs.ServedBooks.{IsServedBooked};
 ghost use Rattle.promised_run.specs.ServedBounded.{IsServedBounded};
 ghost use Rattle.promised_run.specs.ServedPorts.{IsServedAtPorts};
 ghost use Rattle.promised_run.specs.Given.{IsServedGiven};
@@ -67,6 +68,7 @@ pub fn serve<P: Port>(
     ensures whole { IsServedWhole plan.now book.new }
     ensures ports { IsServedAtPorts plan.now count book.new }
     ensures given { IsServedGiven plan.now count book.new }
+    ensures booked { IsServedBooked plan.now count book.new }
     ensures written { IsServedWritten plan.now count book.new }
     ensures replied { IsServedReported plan.now count book.new }
     ensures rests { IsServedRested plan.now count book.new }

@@ -3,6 +3,7 @@ use Rattle.gateway_run.specs.Serving.{told}
 use Rattle.life_runs.specs.First.{first_leads, lens_of}
 use Rattle.promised_run.proofs.Given.{all_given}
 use Rattle.promised_run.proofs.Rested.{rested}
+use Rattle.promised_run.proofs.ServedBooks.{booked}
 use Rattle.promised_run.proofs.ServedBounded.{bounded}
 use Rattle.promised_run.proofs.ServedPorts.{at_ports}
 use Rattle.promised_run.proofs.ServedReported.{all_reported_so}
@@ -56,3 +57,6 @@ returns-clause-replied g c = all_reported_so c.args.plan.now c.args.count c.serv
 pub returns-clause-written : goal.returns-clause-written
 returns-clause-written g c =
     all_served_written c.args.plan.now (c.served_due_law.ensures c.args.plan.now c.requires.plan (known c.args.plan.now c.requires.told)) c.args.count c.serve.new.book c.serve.ensures.frames
+
+pub returns-clause-booked : goal.returns-clause-booked
+returns-clause-booked g c = booked c.args.plan.now c.args.count c.serve.new.book
