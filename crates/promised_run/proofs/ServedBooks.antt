@@ -1,9 +1,6 @@
 -- THE BOOK OF A SERVING has of scripts and epochs what that of a run has.
-use Rattle.std.proofs.Common.{◌≡◌, ◌≢◌, ℕ, zero, suc, List, [], ◌∷◌, map, refl, sym, ap, ◌∙◌}
-use Rattle.std.specs.Prelude.{⊤}
-use Rattle.gateway_run.specs.Served.{HasAccount, IsServed}
-use Rattle.gateway_run.specs.Serving.{Told}
-use Rattle.life_runs.specs.First.{first_leads, leads_from, lens_of, script_for}
+use Rattle.std.proofs.Common.{◌≡◌, ℕ, zero, suc, List, [], ◌∷◌, map, length, refl, ◌∙◌}
+use Rattle.life_runs.specs.First.{leads_from, lens_of}
 use Rattle.life_runs.specs.Led.{Exchanged, gives_up_at}
 use Rattle.datagrams.specs.Datagram as Raw
 use Rattle.frame_view.specs.View.{Lens}
@@ -14,10 +11,8 @@ use Rattle.promised_run.proofs.ServedPorts.{gave_so}
 use Rattle.promised_run.proofs.Unsent.{AllOfPlan, all_unsent}
 use Rattle.promised_run.specs.ServedBooks.{IsServedBooked}
 use Rattle.run_book.specs.declared.book.Book.{Book}
-use Rattle.run_book.specs.declared.book.Ending.TheVariants as endings
 use Rattle.run_record.specs.Served.{ServeTo}
 use Rattle.segment_plan.specs.declared.plan.Scenario.{Scenario}
-use Rattle.segment_plan.specs.declared.service.Service as Plan
 use Rattle.segment_plan.specs.declared.slave.SlaveSpec.{SlaveSpec}
 use Rattle.served_runs.specs.Served.{Keyed, Serves, ServedTurn, IsServedLed, AllServedTurn, all_serve, asked_at, served_behind}
 

@@ -6,14 +6,13 @@ use Rattle.datagrams.specs.Datagram as Raw
 use Rattle.exchange_model.specs.Exchange.{Speech}
 use Rattle.frame_view.specs.Seen.{seen}
 use Rattle.frame_view.specs.View.{Lens}
-use Rattle.life_frames.specs.Frames.{Share}
-use Rattle.life_frames.specs.Shares.{Lived, came_at, given_where, lived_back, lived_lost}
-use Rattle.life_model.specs.Lives.{Spot, Era, Stand, Opening, life_next, life_back, life_lost, era_back, opening_back, shows_clear, is_shown, last_step, clears, opens, steps_on, reopens, reopens_at, reopening, opens_state, returns_to_init}
+use Rattle.life_frames.specs.Shares.{came_at, given_where}
+use Rattle.life_model.specs.Lives.{Spot, Era, Stand, Opening, life_back, life_lost, era_back, opening_back, shows_clear, is_shown, last_step, clears, opens, steps_on, reopens, reopens_at, reopening, opens_state, returns_to_init}
 use Rattle.life_runs.proofs.Causes.{Caused, next_so}
 use Rattle.life_runs.proofs.Spans.{LifeOf, both, clear_leaves, cleared_stays}
-use Rattle.life_runs.specs.Causes.{since, HasCause, EndsBy, first_cleared, AllEndBy, EachHasCause, AllHaveCause}
-use Rattle.life_runs.specs.First.{first_leads, lens_of, leads_from}
-use Rattle.life_runs.specs.Led.{Exchanged, Leads, speech_at, gives_up_at}
+use Rattle.life_runs.specs.Causes.{since, HasCause, EndsBy, first_cleared, AllEndBy, AllHaveCause}
+use Rattle.life_runs.specs.First.{lens_of, leads_from}
+use Rattle.life_runs.specs.Led.{Exchanged, speech_at, gives_up_at}
 use Rattle.life_runs.specs.Spans.{is_leaving}
 use Rattle.link_mails.specs.Body.{Body}
 use Rattle.master_duty.specs.Reply.{Reply}
