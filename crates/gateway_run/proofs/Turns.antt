@@ -157,30 +157,40 @@ spelled_on heard os more sent sent' out out' same a o =
     (spelled_both heard os more (sent ++ out) o.0 a o.2)
 
 module _ (plan : Scenario) (count : ℕ) (first : Told) where
-  -- the buffer of what was heard last doesn't matter
-  pub same_gram : (now : Told) (v v' : Serving) (b : Book) → v'.session ≡ v.session → v'.desk ≡ v.desk → v'.count ≡ v.count → v'.over ≡ v.over → IsServing plan count first now v b → IsServing plan count first now v' b
-  same_gram now v v' b session desk counts over h = let c = course_same plan count v.session v'.session b.frames b.frames b.grams b.grams v.desk.requests.items v'.desk.requests.items h.on.owed b.switch b.switch b.switched b.switched session refl refl (ap (λ (d : Desk). d.requests.items) desk) refl refl (h.on.course, h.on.switch, h.on.switched) in record {
-    on = record {
-      underway = subst (λ (s : SessionState). IsUnderway plan count s b) (sym session) h.on.underway;
-      counts = counts ∙ h.on.counts;
-      few = h.on.few;
-      fits = h.on.fits;
-      bounded = h.on.bounded;
-      is_plan = h.on.is_plan;
-      sound = subst (IsSound (map heard_as b.grams)) (sym desk) h.on.sound;
-      answered = h.on.answered;
-      judged = h.on.judged;
-      owed = h.on.owed;
-      course = c.0;
-      switch = c.1;
-      switched = c.2;
-      spelled = spelled_same (map heard_as b.grams) (map heard_as b.grams) h.on.owed (b.replies ++ v.desk.outbox.items) (b.replies ++ v'.desk.outbox.items) refl (ap (λ (d : Desk). b.replies ++ d.outbox.items) desk) h.on.spelled;
-    };
+  -- a serving of the same parts, whatever its port told
+  on_same : (v v' : Serving) (b : Book) → IsOn plan count v b → v'.session ≡ v.session → v'.count ≡ v.count → v'.desk.outbox.items ≡ v.desk.outbox.items → v'.desk.gateway ≡ v.desk.gateway → v'.desk.requests.items ≡ v.desk.requests.items → IsOn plan count v' b
+  on_same v v' b h session counts outbox gateway requests = let c = course_same plan count v.session v'.session b.frames b.frames b.grams b.grams v.desk.requests.items v'.desk.requests.items h.owed b.switch b.switch b.switched b.switched session refl refl requests refl refl (h.course, h.switch, h.switched) in record {
+    underway = subst (λ (s : SessionState). IsUnderway plan count s b) (sym session) h.underway;
+    counts = counts ∙ h.counts;
+    few = h.few;
+    fits = h.fits;
+    bounded = h.bounded;
+    is_plan = h.is_plan;
+    owed = h.owed;
+    course = c.0;
+    switch = c.1;
+    switched = c.2;
+    spelled = spelled_same (map heard_as b.grams) (map heard_as b.grams) h.owed (b.replies ++ v.desk.outbox.items) (b.replies ++ v'.desk.outbox.items) refl (ap (λ (l : List GramOut). b.replies ++ l) outbox) h.spelled;
+    sound = sound_same (map heard_as b.grams) v.desk v'.desk gateway requests (subst (All (IsOwed (map heard_as b.grams))) (sym outbox) h.sound.owed) h.sound;
+    answered = h.answered;
+    judged = h.judged;
+  }
+
+  -- a desk of the same parts
+  pub same_desk : (now : Told) (v v' : Serving) (b : Book) → IsServing plan count first now v b → v'.session ≡ v.session → v'.count ≡ v.count → v'.over ≡ v.over → v'.desk.outbox.items ≡ v.desk.outbox.items → v'.desk.gateway ≡ v.desk.gateway →
+      v'.desk.requests.items ≡ v.desk.requests.items → IsServing plan count first now v' b
+  same_desk now v v' b h session counts over outbox gateway requests = record {
+    on = on_same v v' b h.on session counts outbox gateway requests;
     heard = h.heard;
     sent = h.sent;
     over = λ e. h.over (sym over ∙ e);
     later = h.later;
   }
+
+  -- the buffer of what was heard last doesn't matter
+  pub same_gram : (now : Told) (v v' : Serving) (b : Book) → v'.session ≡ v.session → v'.desk ≡ v.desk → v'.count ≡ v.count → v'.over ≡ v.over → IsServing plan count first now v b → IsServing plan count first now v' b
+  same_gram now v v' b session desk counts over h =
+      same_desk now v v' b h session counts over (ap (λ (d : Desk). d.outbox.items) desk) (ap (λ (d : Desk). d.gateway) desk) (ap (λ (d : Desk). d.requests.items) desk)
 
   -- so many frames that they can be counted
   pub sent_few : {v : Serving} {b : Book} → IsOn plan count v b → length b.frames < 4294967296
@@ -245,23 +255,8 @@ module _ (plan : Scenario) (count : ℕ) (first : Told) where
 
   -- the port ended
   pub over : (now next : Told) (v v' : Serving) (b : Book) (octets : List ℕ) → v'.session ≡ v.session → v'.desk ≡ v.desk → v'.count ≡ v.count → IsServing plan count first now v b → Listens now next heards.Ended octets → IsServing plan count first next v' b
-  over now next v v' b octets session desk counts h l = let c = course_same plan count v.session v'.session b.frames b.frames b.grams b.grams v.desk.requests.items v'.desk.requests.items h.on.owed b.switch b.switch b.switched b.switched session refl refl (ap (λ (d : Desk). d.requests.items) desk) refl refl (h.on.course, h.on.switch, h.on.switched) in record {
-    on = record {
-      underway = subst (λ (s : SessionState). IsUnderway plan count s b) (sym session) h.on.underway;
-      counts = counts ∙ h.on.counts;
-      few = h.on.few;
-      fits = h.on.fits;
-      bounded = h.on.bounded;
-      is_plan = h.on.is_plan;
-      sound = subst (IsSound (map heard_as b.grams)) (sym desk) h.on.sound;
-      answered = h.on.answered;
-      judged = h.on.judged;
-      owed = h.on.owed;
-      course = c.0;
-      switch = c.1;
-      switched = c.2;
-      spelled = spelled_same (map heard_as b.grams) (map heard_as b.grams) h.on.owed (b.replies ++ v.desk.outbox.items) (b.replies ++ v'.desk.outbox.items) refl (ap (λ (d : Desk). b.replies ++ d.outbox.items) desk) h.on.spelled;
-    };
+  over now next v v' b octets session desk counts h l = record {
+    on = on_same v v' b h.on session counts (ap (λ (d : Desk). d.outbox.items) desk) (ap (λ (d : Desk). d.gateway) desk) (ap (λ (d : Desk). d.requests.items) desk);
     heard = heard_same first.heard now.heard next.heard b.grams h.heard (ended_heard now.heard next.heard octets l.hears);
     sent = sent_kept first.sent now.sent next.sent b.replies h.sent l.sent;
     over = λ e. l.over;
@@ -374,32 +369,6 @@ module _ (plan : Scenario) (count : ℕ) (first : Told) where
     all_handed (Ok done) s = handed s
     all_handed (Err stops.PortFault) s = not_handed s
     all_handed (Err stops.NoMemory) s = has_frames plan count v.session b b' h.on.underway (ap (λ (x : Book). x.frames) s) (ap (λ (x : Book). x.switch) s)
-
-  -- a desk of the same parts
-  pub same_desk : (now : Told) (v v' : Serving) (b : Book) → IsServing plan count first now v b → v'.session ≡ v.session → v'.count ≡ v.count → v'.over ≡ v.over → v'.desk.outbox.items ≡ v.desk.outbox.items → v'.desk.gateway ≡ v.desk.gateway →
-      v'.desk.requests.items ≡ v.desk.requests.items → IsServing plan count first now v' b
-  same_desk now v v' b h session counts over outbox gateway requests = let c = course_same plan count v.session v'.session b.frames b.frames b.grams b.grams v.desk.requests.items v'.desk.requests.items h.on.owed b.switch b.switch b.switched b.switched session refl refl requests refl refl (h.on.course, h.on.switch, h.on.switched) in record {
-    on = record {
-      underway = subst (λ (s : SessionState). IsUnderway plan count s b) (sym session) h.on.underway;
-      counts = counts ∙ h.on.counts;
-      few = h.on.few;
-      fits = h.on.fits;
-      bounded = h.on.bounded;
-      is_plan = h.on.is_plan;
-      owed = h.on.owed;
-      course = c.0;
-      switch = c.1;
-      switched = c.2;
-      spelled = spelled_same (map heard_as b.grams) (map heard_as b.grams) h.on.owed (b.replies ++ v.desk.outbox.items) (b.replies ++ v'.desk.outbox.items) refl (ap (λ (l : List GramOut). b.replies ++ l) outbox) h.on.spelled;
-      sound = sound_same (map heard_as b.grams) v.desk v'.desk gateway requests (subst (All (IsOwed (map heard_as b.grams))) (sym outbox) h.on.sound.owed) h.on.sound;
-      answered = h.on.answered;
-      judged = h.on.judged;
-    };
-    heard = h.heard;
-    sent = h.sent;
-    over = λ e. h.over (sym over ∙ e);
-    later = h.later;
-  }
 
   -- the port failed at listening, or memory ran out there
   pub listen_failed : {T : Type 0} (now next : Told) (v : Serving) (b : Book) (octets : List ℕ) (e : PortErr) (r : Result T Stop) → IsServing plan count first now v b → Hears now.heard next.heard octets (Err e) → next.sent ≡ now.sent →
