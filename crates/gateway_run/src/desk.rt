@@ -1,4 +1,4 @@
-ghost use Rattle.std.specs.Prelude.{◌≡◌, ◌<◌, ◌≤◌, ◌+◌, ◌++◌, ◌↔◌, [], List, length, find, IfSome, IfNone, IfOk, OnOk, Contains, IsTrue, option_to_list, vec_len};
+ghost use Rattle.std.specs.Prelude.{◌≡◌, ◌<◌, ◌≤◌, ◌++◌, ◌↔◌, [], List, length, find, IfSome, IfNone, IfOk, OnOk, Contains, IsTrue, option_to_list, vec_len};
 ghost use Rattle.std.specs.Option.{option_copied};
 ghost use Rattle.ec_outside.specs.Port.{HeardGram};
 ghost use Rattle.master_node.specs.declared.event.Event.TheVariants as events;
