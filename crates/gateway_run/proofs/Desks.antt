@@ -117,24 +117,7 @@ queued old new key asker heard rs vacant update all =
     All-weaker (IsOpen old heard) (IsOpen new heard)
     (λ r o. open_kept old new key (Some asker) heard r update (λ same. let stands = o.stands in let e = ap (get old) same in absurd (cc)) o) rs all
 
--- a mail goes to who asked by a request
-pub answered : (heard : List HeardGram) (g : Slab Asker) (request : Request) (mail : Mail) (peer : Peer) (octets bytes : List ℕ) → IsOpen g heard request →
-    IfSome (get g request.key) (λ asker. RepliesTo asker mail peer octets) → bytes ≡ octets → IsOwed heard (record { peer = peer; bytes = bytes; gram = request.gram })
-answered heard g request mail peer octets bytes o replies same =
-    let r : RepliesTo o.asker mail peer octets = subst (λ (a : Option Asker). IfSome a (λ asker. RepliesTo asker mail peer octets)) o.stands replies in
-    record {
-      gram = o.gram;
-      asked = o.mail;
-      mail = mail;
-      answers = o.answers;
-      request = o.request;
-      peer = r.0 ∙ o.peer;
-      text =
-          same ∙ r.1 ∙ ap (λ (a : ℕ). gram_text (record mail { address = a; counter = o.asker.counter })) o.station
-          ∙ ap (λ (n : ℕ). gram_text (record mail { address = o.mail.address; counter = n })) o.counter;
-    }
-
--- the same mail, as it is sent
+-- a mail goes to who asked by a request, as it is sent
 pub spelled_to : (heard : List HeardGram) (g : Slab Asker) (request : Request) (mail : Mail) (peer : Peer) (octets bytes : List ℕ) → IsOpen g heard request →
     IfSome (get g request.key) (λ asker. RepliesTo asker mail peer octets) → bytes ≡ octets → Spells heard (owing mail request) (record { peer = peer; bytes = bytes; gram = request.gram })
 spelled_to heard g request mail peer octets bytes o replies same =
@@ -150,6 +133,13 @@ spelled_to heard g request mail peer octets bytes o replies same =
           same ∙ r.1 ∙ ap (λ (a : ℕ). gram_text (record mail { address = a; counter = o.asker.counter })) o.station
           ∙ ap (λ (n : ℕ). gram_text (record mail { address = o.mail.address; counter = n })) o.counter;
     }
+
+-- so it is a reply to its own asker
+pub answered : (heard : List HeardGram) (g : Slab Asker) (request : Request) (mail : Mail) (peer : Peer) (octets bytes : List ℕ) → IsOpen g heard request →
+    IfSome (get g request.key) (λ asker. RepliesTo asker mail peer octets) → bytes ≡ octets → IsOwed heard (record { peer = peer; bytes = bytes; gram = request.gram })
+answered heard g request mail peer octets bytes o replies same =
+    let s = spelled_to heard g request mail peer octets bytes o replies same in
+    record { gram = s.gram; asked = s.asked; mail = mail; answers = s.answers; request = s.request; peer = s.peer; text = s.text }
 
 -- a mail that came into hand
 pub begun_open : (g : Slab Asker) (heard : List HeardGram) (r : Request) (begun : Bool) → IsOpen g heard r → IsOpen g heard (record { key = r.key; slave = r.slave; gram = r.gram; begun = begun })

@@ -193,8 +193,8 @@ late_rows : (gs : List GramIn) (asked : List Keyed) (came : List ℕ) (rs : List
 late_rows gs asked [] [] [] l h = tt
 late_rows gs asked [] [] (x ∷ rows) l h = absurd h
 late_rows gs asked [] (r ∷ rs) rows l h = absurd l
-late_rows gs asked (n ∷ came) [] rows l h = absurd l
-late_rows gs asked (n ∷ came) (r ∷ rs) [] l h = absurd h
+late_rows gs asked (n ∷ _) [] rows l h = absurd l
+late_rows gs asked (n ∷ _) (r ∷ rs) [] l h = absurd h
 late_rows gs asked (n ∷ came) (r ∷ rs) (x ∷ rows) l h = (λ g there. subst (λ (frame : ℕ). g.frame ≤ frame) h.0.frame (l.0 g there), late_rows gs asked came rs rows l.1 h.1)
 
 -- NONE BEGAN BEFORE ITS DATAGRAM was heard

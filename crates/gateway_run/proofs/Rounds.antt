@@ -64,6 +64,16 @@ in_both n (k ∷ ns) ms = go (n == k) (is_in n ms) (in_both n ns ms)
     go false true e = e
     go false false e = e
 
+-- A FRAME BEFORE WHICH ALL IS IN ORDER: no slave is told of twice; each request has a key and a datagram of its own that was heard by then, and isn't done
+pub record IsOrderly (made : ℕ) (gs : List GramIn) (rs : List Request) (dones first second : List ℕ) : Type 0 where
+  pub once1 : AreOnce first
+  pub once2 : AreOnce second
+  pub apart : AreApart rs
+  pub filed : AreFiled rs
+  pub heard : All (IsHeard gs) rs
+  pub undone : All (IsUndone dones) rs
+  pub early : All (λ (g : GramIn). g.frame ≤ made) gs
+
 module _ (lens : ℕ → Lens) (recover retry : ℕ) (gives : Bool) (made : ℕ) (sent back : List ℕ) (gs : List GramIn) (rs : List Request) (os : List Owing) (dones : List ℕ) (begins shows : ℕ → List Event) (first second : List ℕ) where
   -- the requests behind what is listed before the frame, and behind all
   abbrev pub rs1 : List Request
@@ -80,15 +90,9 @@ module _ (lens : ℕ → Lens) (recover retry : ℕ) (gives : Bool) (made : ℕ)
 
   -- WHAT IS KNOWN OF ALL
   pub record AllKnown : Type 0 where
-    pub once1 : AreOnce first
-    pub once2 : AreOnce second
+    pub orderly : IsOrderly made gs rs dones first second
     pub own1 : (k : ℕ) → AreOf k rs (begins k)
     pub own2 : (k : ℕ) → AreOf k rs1 (shows k)
-    pub apart : AreApart rs
-    pub filed : AreFiled rs
-    pub heard : All (IsHeard gs) rs
-    pub undone : All (IsUndone dones) rs
-    pub early : All (λ (g : GramIn). g.frame ≤ made) gs
 
   module _ (i : ℕ) (w : Serves) (v : ServedTurn) (came : List ℕ) where
     -- what a frame of this fate tells of the slave
@@ -145,17 +149,17 @@ module _ (lens : ℕ → Lens) (recover retry : ℕ) (gives : Bool) (made : ℕ)
 
     module _ (a : AllKnown) where
       heard1 : All (IsHeard gs) rs1
-      heard1 = events_keep (IsHeard gs) (λ r h. record { gram = h.gram; there = h.there; queued = h.queued }) (told_in begins first) rs a.heard
+      heard1 = events_keep (IsHeard gs) (λ r h. record { gram = h.gram; there = h.there; queued = h.queued }) (told_in begins first) rs a.orderly.heard
 
       undone1 : All (IsUndone dones) rs1
-      undone1 = events_keep (IsUndone dones) (λ r u. u) (told_in begins first) rs a.undone
+      undone1 = events_keep (IsUndone dones) (λ r u. u) (told_in begins first) rs a.orderly.undone
 
       apart1 : AreApart (requests_of i rs1)
-      apart1 = unlike_filter (λ (r : Request). r.key) (λ r. refl) (is_of i) rs1 (events_unlike (λ (r : Request). r.key) (λ r. refl) (told_in begins first) rs a.apart)
+      apart1 = unlike_filter (λ (r : Request). r.key) (λ r. refl) (is_of i) rs1 (events_unlike (λ (r : Request). r.key) (λ r. refl) (told_in begins first) rs a.orderly.apart)
 
       filed1 : AreFiled (waiting_of i (requests_of i rs1))
       filed1 = unlike_filter (λ (r : Request). r.gram) (λ r. refl) (waits_at i) (requests_of i rs1)
-          (unlike_filter (λ (r : Request). r.gram) (λ r. refl) (is_of i) rs1 (events_unlike (λ (r : Request). r.gram) (λ r. refl) (told_in begins first) rs a.filed))
+          (unlike_filter (λ (r : Request). r.gram) (λ r. refl) (is_of i) rs1 (events_unlike (λ (r : Request). r.gram) (λ r. refl) (told_in begins first) rs a.orderly.filed))
 
       -- those of this slave
       ours1 : All (λ (r : Request). IsOurs gs i r.gram) (requests_of i rs1)
@@ -174,12 +178,12 @@ module _ (lens : ℕ → Lens) (recover retry : ℕ) (gives : Bool) (made : ℕ)
         owed = λ n o.
             owed_append n os more
             ∙ ap (λ ms. owed_for n os ++ ms)
-            (ap (owed_for n) (owed_is (told_in shows second) rs1) ∙ places_give i n shows owed_by owed_is_here (owed_for n) (owed_append n) refl (owed_none n) second rs1 a.once2 a.own2 (alone n o)
+            (ap (owed_for n) (owed_is (told_in shows second) rs1) ∙ places_give i n shows owed_by owed_is_here (owed_for n) (owed_append n) refl (owed_none n) second rs1 a.orderly.once2 a.own2 (alone n o)
             ∙ ap (owed_for n) (sym (owed_is (told_where shows i second) (requests_of i rs1))));
         ended = λ n o.
             in_both n dones ended
             ∙ ap (λ z. if z then true else is_in n dones)
-            (only_in n ended ∙ ap (is_in n) (places_give i n shows done_by done_is_here (only n) (only_append n) refl (done_none n) second rs1 a.once2 a.own2 (alone n o))
+            (only_in n ended ∙ ap (is_in n) (places_give i n shows done_by done_is_here (only n) (only_append n) refl (done_none n) second rs1 a.orderly.once2 a.own2 (alone n o))
             ∙ sym (only_in n (done_by_all (told_where shows i second) (requests_of i rs1))));
       }
 
@@ -188,7 +192,7 @@ module _ (lens : ℕ → Lens) (recover retry : ℕ) (gives : Bool) (made : ℕ)
         exchanged = record { sent = sent; fate = fate; back = back }
 
         begun1 : HasBegun lens made s.datagrams w v s.turn gs i os came (requests_of i rs) (requests_of i rs1)
-        begun1 = slave_first a.once1 a.own1 s.datagrams s.turn s.number s.forwards s.oldest s.begins_is s.gave_next a.early d
+        begun1 = slave_first a.orderly.once1 a.own1 s.datagrams s.turn s.number s.forwards s.oldest s.begins_is s.gave_next a.orderly.early d
 
         -- behind the frame
         stepped : HasTold gs i (serves_of v) (slave_by fate) os more begun1.comes (requests_of i rs1) (λ n. is_in n dones) (λ n. is_in n (dones ++ ended)) (told_besides v.hand v.turn.lived.life.era.passing (accepted_by lens recover retry exchanged fate v)) (left_by_all (tells_by fate) (requests_of i rs1)) → HasStepped fate
@@ -200,11 +204,11 @@ module _ (lens : ℕ → Lens) (recover retry : ℕ) (gives : Bool) (made : ℕ)
               (t.fares number asked o request (begun1.fares (is_in number dones) number asked o.gram o.there request (to_own (λ ws bs. Fares w came ws bs (is_in number dones) number o.gram.frame asked (owed_for number os)) rs f)));
           whole = λ quiet all.
               t.whole (behind_heard lens recover retry gives made exchanged v s.had s.free quiet) (behind_over lens recover retry gives made exchanged v)
-              (begun1.whole (λ n. is_in n dones) (All-filter (is_of i) (IsUndone dones) rs a.undone) all);
+              (begun1.whole (λ n. is_in n dones) (All-filter (is_of i) (IsUndone dones) rs a.orderly.undone) all);
         }
           where
             left2 : requests_of i rs2 ≡ left_by_all (tells_by fate) (requests_of i rs1)
-            left2 = places_leave i 0 shows second rs1 a.once2 a.own2 ∙ ap (λ es. left_by_all es (requests_of i rs1)) s.shows_is
+            left2 = places_leave i 0 shows second rs1 a.orderly.once2 a.own2 ∙ ap (λ es. left_by_all es (requests_of i rs1)) s.shows_is
 
       pub slave_steps : (fate : Fate) → SlaveSteps fate → IsDesk gs os i w came (waiting_of i rs) (begun_of i rs) → HasStepped fate
       slave_steps Pass s d = stepped Pass s d (
@@ -228,7 +232,7 @@ module _ (lens : ℕ → Lens) (recover retry : ℕ) (gives : Bool) (made : ℕ)
             own = s.own;
             spared = s.spared;
             given_up = s.given_up;
-            early = a.early;
+            early = a.orderly.early;
             rows = s.rows_next;
             filed = filed1;
             besides = subst (λ es. OwesBesides gs i os more (requests_of i rs1) es (λ n. is_in n dones) (λ n. is_in n (dones ++ ended))) s.shows_is besides;

@@ -251,15 +251,9 @@ module _ (plan : Scenario) (s s' : SessionState) (fs : List Exchanged) (f : Exch
     datagrams = on.frame.datagrams;
     is = on.frame.frame;
     returns = on.returns;
-    once1 = on.tells.began_once;
+    orderly = record { once1 = on.tells.began_once; once2 = on.tells.once; apart = old.apart; filed = old.filed; heard = old.heard; undone = old.undone; early = old.early };
     others = on.tells.others;
-    once2 = on.tells.once;
     carried = on.tells.carried;
-    apart = old.apart;
-    filed = old.filed;
-    heard = old.heard;
-    undone = old.undone;
-    early = old.early;
   }
 
   all_lively : All (IsLively (length fs)) ws

@@ -77,6 +77,10 @@ module _ (gs : List GramIn) (slave : ℕ) (w v : Serves) (os more : List Owing) 
       its_gram : (r : Request) → begun_of slave rs ≡ r ∷ [] → last.number ≡ r.gram
       its_gram r e = (let o = d.its r e in (last_same last.before o.0 last.number r.gram (sym last.last ∙ o.1)).0)
 
+      -- no request is done whose mail is in hand
+      undone : (number : ℕ) → is_in number (grams_of (begun_of slave rs)) ≡ true → done number ≡ false
+      undone number e = all_in (λ n. done n ≡ false) number (grams_of (begun_of slave rs)) (All-map (λ n. done n ≡ false) (λ (r : Request). r.gram) (begun_of slave rs) (All-filter (has_begun slave) (λ (r : Request). done r.gram ≡ false) rs b.undone)) e
+
       -- NOTHING OF IT IS TOLD, and its request stays as it is
       module _ (was : Bool) (none : (n : ℕ) → owed_for n (owed_by_all es rs) ≡ []) (never : (n : ℕ) → is_in n (done_by_all es rs) ≡ false) (nothing : new ≡ []) (keyed : AllBoth (IsFor gs) (begun_of slave rs) (keyed_in v.hand v.lead.lived.life.era.passing)) where
         same_owed : (n : ℕ) → IsOurs gs slave n → owed_for n (os ++ more) ≡ owed_for n os
@@ -101,16 +105,13 @@ module _ (gs : List GramIn) (slave : ℕ) (w v : Serves) (os more : List Owing) 
         tells_nothing = record {
           desk = desk_told gs slave w v came (waiting_of slave rs) (begun_of slave rs) (begun_of slave rs) p new os more told d;
           fares = λ number asked o request f. fares_told gs slave w v came (waiting_of slave rs) (begun_of slave rs) (begun_of slave rs) p new os more told d (done number) (done' number) number asked o.gram o.there request b.gave b.own
-              (λ began told e s. stands_undone w v (begun_of slave rs) (begun_of slave rs) number began told (p.told ++ new) (done number) (done' number) (all_in_requests number e) (same_done number o ∙ all_in_requests number e) b.gave (λ here. here) s)
+              (λ began told e s. stands_undone w v (begun_of slave rs) (begun_of slave rs) number began told (p.told ++ new) (done number) (done' number) (undone number e) (same_done number o ∙ undone number e) b.gave (λ here. here) s)
               (λ e. (same_owed number o, same_done number o, e)) f;
           whole = λ heard over all.
               gives_told os done w v came (os ++ more) done' new
               (owed_none_more os (os ++ more) came (mails_told new) (ap mails_told nothing) (All-weaker (IsOurs gs slave) (λ n. owed_for n (os ++ more) ≡ owed_for n os) same_owed came d.ours))
               (λ a. over_same done done' came (passings w.lead.lived.life) (passings v.lead.lived.life) (All-weaker (IsOurs gs slave) (λ n. done' n ≡ done n) same_done came d.ours) a over) heard all;
         }
-          where
-            all_in_requests : (number : ℕ) → is_in number (grams_of (begun_of slave rs)) ≡ true → done number ≡ false
-            all_in_requests number e = all_in (λ n. done n ≡ false) number (grams_of (begun_of slave rs)) (All-map (λ n. done n ≡ false) (λ (r : Request). r.gram) (begun_of slave rs) (All-filter (has_begun slave) (λ (r : Request). done r.gram ≡ false) rs b.undone)) e
 
       -- REPLIES OF IT ARE TOLD, and its request stays while it isn't over
       module _ (apart : AreApart rs) (x : Passing) (passing : w.lead.lived.life.era.passing ≡ Some x) where
@@ -166,9 +167,6 @@ module _ (gs : List GramIn) (slave : ℕ) (w v : Serves) (os more : List Owing) 
           where
             same_done : (n : ℕ) → IsOurs gs slave n → done' n ≡ done n
             same_done n o = b.owes.ended n o ∙ ap (λ z. if z then true else done n) (ap (λ l. is_in n (done_by_all l rs)) tells ∙ done_none gs slave w v os more came rs p new apart i n)
-
-            undone : (number : ℕ) → is_in number (grams_of (begun_of slave rs)) ≡ true → done number ≡ false
-            undone number e = all_in (λ n. done n ≡ false) number (grams_of (begun_of slave rs)) (All-map (λ n. done n ≡ false) (λ (r : Request). r.gram) (begun_of slave rs) (All-filter (has_begun slave) (λ (r : Request). done r.gram ≡ false) rs b.undone)) e
 
             told : IsTold gs slave w v came (waiting_of slave rs) (begun_of slave rs) (begun_of slave rs) p new os more
             told = record {

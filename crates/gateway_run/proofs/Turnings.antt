@@ -38,7 +38,6 @@ use Rattle.master_node.specs.of_master_side.Passing.{news_back, news_lost, passi
 use Rattle.master_node.specs.of_master_tour.Brings.{accepted_in}
 use Rattle.master_node.specs.of_master_tour.Goes.{holds_at}
 use Rattle.master_node.specs.of_master_tour.Made.{is_in}
-use Rattle.master_node.specs.of_master_tour.Orders.{AreOnce}
 use Rattle.master_node.specs.of_segment_model.Ends.{Passing}
 use Rattle.master_node.specs.of_segment_model.Returned.{Returns}
 use Rattle.master_node.specs.of_segment_ring.declared.wire.Fate.{Fate}
@@ -47,8 +46,8 @@ use Rattle.run_book.specs.declared.book.GramIn.{GramIn}
 use Rattle.run_record.proofs.Noted.{next_gives, pass_gives}
 use Rattle.gateway_run.specs.Account.{Owing, left_by_all, owed_by_all}
 use Rattle.gateway_run.specs.Desk.{AreApart}
-use Rattle.gateway_run.specs.Rooms.{AreFiled, begun_of, done_by_all, has_begun, owed_for, requests_of, waiting_of}
-use Rattle.gateway_run.specs.Replies.{AllDesk, Fares, GivesAll, IsDesk, IsHeard, IsOurs, IsUndone}
+use Rattle.gateway_run.specs.Rooms.{begun_of, done_by_all, has_begun, owed_for, requests_of, waiting_of}
+use Rattle.gateway_run.specs.Replies.{AllDesk, Fares, GivesAll, IsDesk, IsOurs}
 use Rattle.gateway_run.specs.declared.desk.Request.{Request}
 use Rattle.gateway_run.proofs.Behind.{in_hand}
 use Rattle.gateway_run.proofs.Befores.{HasBefore, rows_next}
@@ -56,7 +55,7 @@ use Rattle.gateway_run.proofs.Begins.{HasBegun}
 use Rattle.gateway_run.proofs.Losts.{tells_lost}
 use Rattle.gateway_run.proofs.Places.{told_where}
 use Rattle.gateway_run.proofs.Rooms.{IsOwnKey, begun_here, not_same, waits_here}
-use Rattle.gateway_run.proofs.Rounds.{AllKnown, HasStepped, SlaveSteps, slave_first, slave_steps, tells_by}
+use Rattle.gateway_run.proofs.Rounds.{AllKnown, HasStepped, IsOrderly, SlaveSteps, slave_first, slave_steps, tells_by}
 use Rattle.gateway_run.proofs.Tolds.{begun_at, begun_own, frame_so, goes_so, shown, shown_none, shown_own, shows, shows_at, shows_beyond, where_all}
 use Rattle.gateway_run.proofs.Views.{AreOf, events_unlike}
 
@@ -152,15 +151,9 @@ module _ (lens : ℕ → Lens) (recover retry : ℕ) (gives : Bool) (made : ℕ)
     pub datagrams : List Raw.Datagram
     pub is : IsFrame sent (chained datagrams)
     pub returns : fate ≡ Pass → Returns (seen lens sent) (seen lens back)
-    pub once1 : AreOnce first
+    pub orderly : IsOrderly made gs rs dones first second
     pub others : (k : ℕ) → is_in k first ≡ false → began_of (map run_turn vs) k ≡ None
-    pub once2 : AreOnce second
     pub carried : (k : ℕ) → holds_at (λ v. is_carried v.turn) vs k ≡ true → is_in k second ≡ true
-    pub apart : AreApart rs
-    pub filed : AreFiled rs
-    pub heard : All (IsHeard gs) rs
-    pub undone : All (IsUndone dones) rs
-    pub early : All (λ (g : GramIn). g.frame ≤ made) gs
 
   module _ (k : IsKnown) where
     begins_own : (j : ℕ) → AreOf j rs (begins j)
@@ -189,14 +182,14 @@ module _ (lens : ℕ → Lens) (recover retry : ℕ) (gives : Bool) (made : ℕ)
 
       first_desk : IsDesk gs os i w came (waiting_of i rs) (begun_of i rs) → HasBegun lens made k.datagrams w v turn gs i os came (requests_of i rs) (requests_of i after_begins)
       first_desk d =
-          slave_first lens recover retry gives made sent back gs rs os dones begins turned_shows first second i w v came k.once1 begins_own k.datagrams turn (number_at (map run_lead ws) i) (forwards i) (oldest_in ws i) begins_is (next_gives lens made w.lead.lived v.turn.lived turn.next) k.early d
+          slave_first lens recover retry gives made sent back gs rs os dones begins turned_shows first second i w v came k.orderly.once1 begins_own k.datagrams turn (number_at (map run_lead ws) i) (forwards i) (oldest_in ws i) begins_is (next_gives lens made w.lead.lived v.turn.lived turn.next) k.orderly.early d
 
       -- what is told of it behind the frame is told under its own keys
       shows_own : IsDesk gs os i w came (waiting_of i rs) (begun_of i rs) → AreOf i after_begins (turned_shows i)
       shows_own d =
           subst (AreOf i after_begins) (sym (shows_at lens recover retry gives made sent back vs fate i v at_v))
           (shown_own lens recover retry gives made sent back fate i v after_begins
-          (λ p h x e. own_key gs i (serves_of v) os begun.comes after_begins p x h e (events_unlike (λ (r : Request). r.key) (λ r. refl) (told_in begins first) rs k.apart) desk))
+          (λ p h x e. own_key gs i (serves_of v) os begun.comes after_begins p x h e (events_unlike (λ (r : Request). r.key) (λ r. refl) (told_in begins first) rs k.orderly.apart) desk))
         where
           begun : HasBegun lens made k.datagrams w v turn gs i os came (requests_of i rs) (requests_of i after_begins)
           begun = first_desk d
@@ -233,17 +226,7 @@ module _ (lens : ℕ → Lens) (recover retry : ℕ) (gives : Bool) (made : ℕ)
           go (Some v) e = (let a = at_place 0 ws vs came each lively desk j j v (omega arith) e in shows_own j a.slave v a.came e a.turn a.lively a.desk)
 
       known : AllKnown lens recover retry gives made sent back gs rs os dones begins turned_shows first second
-      known = record {
-        once1 = k.once1;
-        once2 = k.once2;
-        own1 = begins_own;
-        own2 = all_own;
-        apart = k.apart;
-        filed = k.filed;
-        heard = k.heard;
-        undone = k.undone;
-        early = k.early;
-      }
+      known = record { orderly = k.orderly; own1 = begins_own; own2 = all_own }
 
       -- ONE SLAVE over the frame
       module _ (i : ℕ) (w : Serves) (v : ServedTurn) (ns : List ℕ) (at_v : slice_get vs i ≡ Some v) (turn : IsServedTurn lens made k.datagrams w v) (l : IsLively made w) (own : TellsSo (goes v)) where

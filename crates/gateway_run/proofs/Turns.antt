@@ -21,7 +21,7 @@ use Rattle.run_record.specs.Session.{FrameEvents, SessionState, IsDone, Steps, S
 use Rattle.run_record.specs.of_eoe_switch.declared.switching.SwitchEvent.{SwitchEvent}
 use Rattle.run_record.specs.of_run_notes.Slaves.{home_of}
 use Rattle.run_record.specs.of_run_notes.Switched.{SameSwitch}
-use Rattle.run_record.specs.Ran.{HasSent, IsUnderway}
+use Rattle.run_record.specs.Ran.{HasSent}
 use Rattle.run_record.proofs.Underway.{same_on, has_frames, many as many_sent, stepped_on, stopped}
 use Rattle.gateway_run.specs.Heard.{heard_as, sent_as, AreHeard, AreSent, AreSentBut, IsOwed, IsRightly}
 use Rattle.gateway_run.specs.Account.{Owing, Course, Course.hears, Course.steps, AreSpelled, happened_in, left_by_all, numbers_in, owed_by_all}
@@ -157,30 +157,50 @@ spelled_on heard os more sent sent' out out' same a o =
     (spelled_both heard os more (sent ++ out) o.0 a o.2)
 
 module _ (plan : Scenario) (count : ℕ) (first : Told) where
-  -- the buffer of what was heard last doesn't matter
-  pub same_gram : (now : Told) (v v' : Serving) (b : Book) → v'.session ≡ v.session → v'.desk ≡ v.desk → v'.count ≡ v.count → v'.over ≡ v.over → IsServing plan count first now v b → IsServing plan count first now v' b
-  same_gram now v v' b session desk counts over h = let c = course_same plan count v.session v'.session b.frames b.frames b.grams b.grams v.desk.requests.items v'.desk.requests.items h.on.owed b.switch b.switch b.switched b.switched session refl refl (ap (λ (d : Desk). d.requests.items) desk) refl refl (h.on.course, h.on.switch, h.on.switched) in record {
-    on = record {
-      underway = subst (λ (s : SessionState). IsUnderway plan count s b) (sym session) h.on.underway;
-      counts = counts ∙ h.on.counts;
-      few = h.on.few;
-      fits = h.on.fits;
-      bounded = h.on.bounded;
-      is_plan = h.on.is_plan;
-      sound = subst (IsSound (map heard_as b.grams)) (sym desk) h.on.sound;
-      answered = h.on.answered;
-      judged = h.on.judged;
-      owed = h.on.owed;
-      course = c.0;
-      switch = c.1;
-      switched = c.2;
-      spelled = spelled_same (map heard_as b.grams) (map heard_as b.grams) h.on.owed (b.replies ++ v.desk.outbox.items) (b.replies ++ v'.desk.outbox.items) refl (ap (λ (d : Desk). b.replies ++ d.outbox.items) desk) h.on.spelled;
-    };
+  -- a serving of the same session and requests, whatever its port told: what it owes went into the book, or stands there still
+  on_moved : (v v' : Serving) (b b' : Book) (replies : List GramOut) → IsOn plan count v b → b' ≡ record b { replies = replies } → v'.session ≡ v.session → v'.count ≡ v.count → v'.desk.gateway ≡ v.desk.gateway → v'.desk.requests.items ≡ v.desk.requests.items →
+      replies ++ v'.desk.outbox.items ≡ b.replies ++ v.desk.outbox.items → All (IsOwed (map heard_as b.grams)) replies → All (IsOwed (map heard_as b.grams)) v'.desk.outbox.items → IsOn plan count v' b'
+  on_moved v v' b b' replies h put session counts gateway requests all answered owed =
+      let grams : b'.grams ≡ b.grams = ap (λ (x : Book). x.grams) put in
+      let sent : b'.replies ≡ replies = ap (λ (x : Book). x.replies) put in
+      let c = course_same plan count v.session v'.session b.frames b'.frames b.grams b'.grams v.desk.requests.items v'.desk.requests.items h.owed b.switch b'.switch b.switched b'.switched session (ap (λ (x : Book). x.frames) put) grams requests (ap (λ (x : Book). x.switch) put) (ap (λ (x : Book). x.switched) put) (h.course, h.switch, h.switched) in
+      record {
+        underway = same_on plan count v.session v'.session b b' h.underway (session_same v.session v'.session session) (ap (λ (s : SessionState). s.master.lan) session) (ap (λ (x : Book). x.frames) put) (switch_same put refl refl refl) (ap (λ (x : Book). x.slaves) put);
+        counts = counts ∙ h.counts;
+        few = subst (λ (l : List GramIn). length l ≤ count) (sym grams) h.few;
+        fits = h.fits;
+        bounded = h.bounded;
+        is_plan = h.is_plan;
+        owed = h.owed;
+        course = c.0;
+        switch = c.1;
+        switched = c.2;
+        spelled = spelled_same (map heard_as b.grams) (map heard_as b'.grams) h.owed (b.replies ++ v.desk.outbox.items) (b'.replies ++ v'.desk.outbox.items) (ap (map heard_as) grams) (ap (λ (l : List GramOut). l ++ v'.desk.outbox.items) sent ∙ all) h.spelled;
+        sound = subst (λ (l : List GramIn). IsSound (map heard_as l) v'.desk) (sym grams) (sound_same (map heard_as b.grams) v.desk v'.desk gateway requests owed h.sound);
+        answered = subst (λ (l : List GramIn). All (IsOwed (map heard_as l)) b'.replies) (sym grams) (subst (All (IsOwed (map heard_as b.grams))) (sym sent) answered);
+        judged = subst (All (IsRightly (map home_of plan.slaves))) (sym grams) h.judged;
+      }
+
+  -- one of the same parts
+  on_same : (v v' : Serving) (b : Book) → IsOn plan count v b → v'.session ≡ v.session → v'.count ≡ v.count → v'.desk.outbox.items ≡ v.desk.outbox.items → v'.desk.gateway ≡ v.desk.gateway → v'.desk.requests.items ≡ v.desk.requests.items → IsOn plan count v' b
+  on_same v v' b h session counts outbox gateway requests =
+      on_moved v v' b b b.replies h refl session counts gateway requests (ap (λ (l : List GramOut). b.replies ++ l) outbox) h.answered (subst (All (IsOwed (map heard_as b.grams))) (sym outbox) h.sound.owed)
+
+  -- a desk of the same parts
+  pub same_desk : (now : Told) (v v' : Serving) (b : Book) → IsServing plan count first now v b → v'.session ≡ v.session → v'.count ≡ v.count → v'.over ≡ v.over → v'.desk.outbox.items ≡ v.desk.outbox.items → v'.desk.gateway ≡ v.desk.gateway →
+      v'.desk.requests.items ≡ v.desk.requests.items → IsServing plan count first now v' b
+  same_desk now v v' b h session counts over outbox gateway requests = record {
+    on = on_same v v' b h.on session counts outbox gateway requests;
     heard = h.heard;
     sent = h.sent;
     over = λ e. h.over (sym over ∙ e);
     later = h.later;
   }
+
+  -- the buffer of what was heard last doesn't matter
+  pub same_gram : (now : Told) (v v' : Serving) (b : Book) → v'.session ≡ v.session → v'.desk ≡ v.desk → v'.count ≡ v.count → v'.over ≡ v.over → IsServing plan count first now v b → IsServing plan count first now v' b
+  same_gram now v v' b session desk counts over h =
+      same_desk now v v' b h session counts over (ap (λ (d : Desk). d.outbox.items) desk) (ap (λ (d : Desk). d.gateway) desk) (ap (λ (d : Desk). d.requests.items) desk)
 
   -- so many frames that they can be counted
   pub sent_few : {v : Serving} {b : Book} → IsOn plan count v b → length b.frames < 4294967296
@@ -245,23 +265,8 @@ module _ (plan : Scenario) (count : ℕ) (first : Told) where
 
   -- the port ended
   pub over : (now next : Told) (v v' : Serving) (b : Book) (octets : List ℕ) → v'.session ≡ v.session → v'.desk ≡ v.desk → v'.count ≡ v.count → IsServing plan count first now v b → Listens now next heards.Ended octets → IsServing plan count first next v' b
-  over now next v v' b octets session desk counts h l = let c = course_same plan count v.session v'.session b.frames b.frames b.grams b.grams v.desk.requests.items v'.desk.requests.items h.on.owed b.switch b.switch b.switched b.switched session refl refl (ap (λ (d : Desk). d.requests.items) desk) refl refl (h.on.course, h.on.switch, h.on.switched) in record {
-    on = record {
-      underway = subst (λ (s : SessionState). IsUnderway plan count s b) (sym session) h.on.underway;
-      counts = counts ∙ h.on.counts;
-      few = h.on.few;
-      fits = h.on.fits;
-      bounded = h.on.bounded;
-      is_plan = h.on.is_plan;
-      sound = subst (IsSound (map heard_as b.grams)) (sym desk) h.on.sound;
-      answered = h.on.answered;
-      judged = h.on.judged;
-      owed = h.on.owed;
-      course = c.0;
-      switch = c.1;
-      switched = c.2;
-      spelled = spelled_same (map heard_as b.grams) (map heard_as b.grams) h.on.owed (b.replies ++ v.desk.outbox.items) (b.replies ++ v'.desk.outbox.items) refl (ap (λ (d : Desk). b.replies ++ d.outbox.items) desk) h.on.spelled;
-    };
+  over now next v v' b octets session desk counts h l = record {
+    on = on_same v v' b h.on session counts (ap (λ (d : Desk). d.outbox.items) desk) (ap (λ (d : Desk). d.gateway) desk) (ap (λ (d : Desk). d.requests.items) desk);
     heard = heard_same first.heard now.heard next.heard b.grams h.heard (ended_heard now.heard next.heard octets l.hears);
     sent = sent_kept first.sent now.sent next.sent b.replies h.sent l.sent;
     over = λ e. l.over;
@@ -327,29 +332,11 @@ module _ (plan : Scenario) (count : ℕ) (first : Told) where
   handed_on : (v v' : Serving) (b b' : Book) (r : GramOut) → IsOn plan count v b → v'.session ≡ v.session → v'.count ≡ v.count → v.desk.outbox.items ≡ r ∷ v'.desk.outbox.items → v'.desk.gateway ≡ v.desk.gateway → v'.desk.requests.items ≡ v.desk.requests.items →
       PutsOne r b b' → IsOn plan count v' b'
   handed_on v v' b b' r h session counts outbox gateway requests put =
-      let grams : b'.grams ≡ b.grams = ap (λ (x : Book). x.grams) put in
-      let replies : b'.replies ≡ b.replies ++ r ∷ [] = ap (λ (x : Book). x.replies) put in
-      let c = course_same plan count v.session v'.session b.frames b'.frames b.grams b'.grams v.desk.requests.items v'.desk.requests.items h.owed b.switch b'.switch b.switched b'.switched session (ap (λ (x : Book). x.frames) put) grams requests (ap (λ (x : Book). x.switch) put) (ap (λ (x : Book). x.switched) put) (h.course, h.switch, h.switched) in
       let owed : All (IsOwed (map heard_as b.grams)) (r ∷ v'.desk.outbox.items) = subst (All (IsOwed (map heard_as b.grams))) outbox h.sound.owed in
-      record {
-        underway = same_on plan count v.session v'.session b b' h.underway (session_same v.session v'.session session) (ap (λ (s : SessionState). s.master.lan) session) (ap (λ (x : Book). x.frames) put) (switch_same put refl refl refl) (ap (λ (x : Book). x.slaves) put);
-        counts = counts ∙ h.counts;
-        few = subst (λ (l : List GramIn). length l ≤ count) (sym grams) h.few;
-        fits = h.fits;
-        bounded = h.bounded;
-        is_plan = h.is_plan;
-        owed = h.owed;
-        course = c.0;
-        switch = c.1;
-        switched = c.2;
-        spelled = spelled_same (map heard_as b.grams) (map heard_as b'.grams) h.owed (b.replies ++ v.desk.outbox.items) (b'.replies ++ v'.desk.outbox.items) (ap (map heard_as) grams)
-            (ap (λ (l : List GramOut). l ++ v'.desk.outbox.items) replies ∙ append_assoc b.replies (r ∷ []) v'.desk.outbox.items ∙ ap (λ (l : List GramOut). b.replies ++ l) (sym outbox)) h.spelled;
-        sound = subst (λ (l : List GramIn). IsSound (map heard_as l) v'.desk) (sym grams)
-            (sound_same (map heard_as b.grams) v.desk v'.desk gateway requests (All-tail (IsOwed (map heard_as b.grams)) r v'.desk.outbox.items owed) h.sound);
-        answered = subst (λ (l : List GramIn). All (IsOwed (map heard_as l)) b'.replies) (sym grams)
-            (subst (All (IsOwed (map heard_as b.grams))) (sym replies) (All-push (IsOwed (map heard_as b.grams)) b.replies r h.answered (All-head (IsOwed (map heard_as b.grams)) r v'.desk.outbox.items owed)));
-        judged = subst (All (IsRightly (map home_of plan.slaves))) (sym grams) h.judged;
-      }
+      on_moved v v' b b' (b.replies ++ r ∷ []) h put session counts gateway requests
+      (append_assoc b.replies (r ∷ []) v'.desk.outbox.items ∙ ap (λ (l : List GramOut). b.replies ++ l) (sym outbox))
+      (All-push (IsOwed (map heard_as b.grams)) b.replies r h.answered (All-head (IsOwed (map heard_as b.grams)) r v'.desk.outbox.items owed))
+      (All-tail (IsOwed (map heard_as b.grams)) r v'.desk.outbox.items owed)
 
   module _ (now next : Told) (v v' : Serving) (b b' : Book) (r : GramOut) (h : IsServing plan count first now v b) (session : v'.session ≡ v.session) (counts : v'.count ≡ v.count) (over' : v'.over ≡ v.over)
       (outbox : v.desk.outbox.items ≡ r ∷ v'.desk.outbox.items) (gateway : v'.desk.gateway ≡ v.desk.gateway) (requests : v'.desk.requests.items ≡ v.desk.requests.items) where
@@ -374,32 +361,6 @@ module _ (plan : Scenario) (count : ℕ) (first : Told) where
     all_handed (Ok done) s = handed s
     all_handed (Err stops.PortFault) s = not_handed s
     all_handed (Err stops.NoMemory) s = has_frames plan count v.session b b' h.on.underway (ap (λ (x : Book). x.frames) s) (ap (λ (x : Book). x.switch) s)
-
-  -- a desk of the same parts
-  pub same_desk : (now : Told) (v v' : Serving) (b : Book) → IsServing plan count first now v b → v'.session ≡ v.session → v'.count ≡ v.count → v'.over ≡ v.over → v'.desk.outbox.items ≡ v.desk.outbox.items → v'.desk.gateway ≡ v.desk.gateway →
-      v'.desk.requests.items ≡ v.desk.requests.items → IsServing plan count first now v' b
-  same_desk now v v' b h session counts over outbox gateway requests = let c = course_same plan count v.session v'.session b.frames b.frames b.grams b.grams v.desk.requests.items v'.desk.requests.items h.on.owed b.switch b.switch b.switched b.switched session refl refl requests refl refl (h.on.course, h.on.switch, h.on.switched) in record {
-    on = record {
-      underway = subst (λ (s : SessionState). IsUnderway plan count s b) (sym session) h.on.underway;
-      counts = counts ∙ h.on.counts;
-      few = h.on.few;
-      fits = h.on.fits;
-      bounded = h.on.bounded;
-      is_plan = h.on.is_plan;
-      owed = h.on.owed;
-      course = c.0;
-      switch = c.1;
-      switched = c.2;
-      spelled = spelled_same (map heard_as b.grams) (map heard_as b.grams) h.on.owed (b.replies ++ v.desk.outbox.items) (b.replies ++ v'.desk.outbox.items) refl (ap (λ (l : List GramOut). b.replies ++ l) outbox) h.on.spelled;
-      sound = sound_same (map heard_as b.grams) v.desk v'.desk gateway requests (subst (All (IsOwed (map heard_as b.grams))) (sym outbox) h.on.sound.owed) h.on.sound;
-      answered = h.on.answered;
-      judged = h.on.judged;
-    };
-    heard = h.heard;
-    sent = h.sent;
-    over = λ e. h.over (sym over ∙ e);
-    later = h.later;
-  }
 
   -- the port failed at listening, or memory ran out there
   pub listen_failed : {T : Type 0} (now next : Told) (v : Serving) (b : Book) (octets : List ℕ) (e : PortErr) (r : Result T Stop) → IsServing plan count first now v b → Hears now.heard next.heard octets (Err e) → next.sent ≡ now.sent →

@@ -121,6 +121,15 @@ abbrev pub IsTakenSo : SessionState → SessionState → Peer → List ℕ → �
 IsTakenSo s s' peer octets number d d' queued =
     (heard : List HeardGram) → length heard ≡ number → IsSound heard d → IsTaken s s' number (heard ++ record { from = peer; bytes = octets } ∷ []) octets d d' queued
 
+-- a desk that is sound stays so with the datagram of that number heard besides
+abbrev pub HearsSoundly : Peer → List ℕ → ℕ → Desk → Desk → Type 0
+HearsSoundly peer octets number d d' =
+    (heard : List HeardGram) → length heard ≡ number → IsSound heard d → IsSound (heard ++ record { from = peer; bytes = octets } ∷ []) d'
+
+-- the same by the datagrams of the book before and behind
+abbrev pub StaysSound : Desk → Desk → Book → Book → Type 0
+StaysSound d d' b b' = length b.grams < 4294967296 → IsSound (map heard_as b.grams) d → IsSound (map heard_as b'.grams) d'
+
 -- a datagram was heard: it stands in the book, behind those before
 pub record Takes (homes : List (ℕ × ℕ)) (peer : Peer) (octets : List ℕ) (b b' : Book) : Type 0 where
   pub gram : GramIn

@@ -6,6 +6,7 @@ pub mod Desk
 pub mod Rooms
 pub mod Since
 pub mod Serving
+pub mod Goes
 pub mod Replies
 pub mod Done
 pub mod Stray

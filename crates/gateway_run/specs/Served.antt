@@ -1,6 +1,8 @@
 -- What a serving leaves in its book.
-use Rattle.std.specs.Prelude.{◌≡◌, ◌≢◌, ◌⊎◌, ℕ, ◌≤◌, true, List, [], ◌++◌, length, map, slice_get, All, Some}
+use Rattle.std.specs.Prelude.{◌≡◌, ◌≢◌, ◌⊎◌, ℕ, ◌≤◌, Bool, Option, true, List, [], ◌++◌, length, map, slice_get, All, Some}
 use Rattle.ec_outside.specs.Faults.{Rose}
+use Rattle.ec_outside.specs.Port.{HeardGram}
+use Rattle.ec_outside.specs.declared.port.SentGram.{SentGram}
 use Rattle.segment_plan.specs.declared.plan.Scenario.{Scenario}
 use Rattle.run_book.specs.declared.book.Book.{Book}
 use Rattle.run_book.specs.declared.book.Ending.{Ending}
@@ -33,7 +35,7 @@ use Rattle.gateway_run.specs.Done.{AllDone, ServedRestsSo}
 use Rattle.gateway_run.specs.Heard.{heard_as, AreHeard, AreSent, AreSentBut, IsOwed, IsRightly}
 use Rattle.gateway_run.specs.Mails.{AreLate, HasMails}
 use Rattle.gateway_run.specs.Replies.{Answers, dones_of}
-use Rattle.gateway_run.specs.Serving.{Told}
+use Rattle.gateway_run.specs.Serving.{Told, told}
 use Rattle.gateway_run.specs.Stray.{DontFall, IsStray}
 
 -- the datagrams of a serving: they are those that the port heard, and no more than so many; each that was sent goes to who asked, and each
@@ -112,3 +114,7 @@ abbrev pub IsServed : Scenario → ℕ → Told → Told → Book → Ending →
 IsServed plan count first last book endings.NoMemory = Unit {0}
 IsServed plan count first last book ending =
     StopsAs plan count book ending × HasGrams plan count first last book × GoesWith count first last book ending × HasAccount plan count book ending
+
+-- the same by what this port told before and tells behind
+abbrev pub IsServedOver : {Q : Type 0} → (Q → Option (List HeardGram)) → (Q → Option (List SentGram)) → (Q → Bool) → (Q → ℕ) → Scenario → ℕ → Q → Q → Book → Ending → Type 0
+IsServedOver heard sent over faults plan count port port' book ending = IsServed plan count (told heard sent over faults port) (told heard sent over faults port') book ending

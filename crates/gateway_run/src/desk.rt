@@ -1,11 +1,11 @@
-ghost use Rattle.std.specs.Prelude.{◌≡◌, ◌<◌, ◌≤◌, ◌+◌, ◌++◌, ◌∷◌, ◌↔◌, [], List, length, map, find, IfSome, IfNone, IfOk, OnOk, Contains, IsTrue, option_to_list, vec_len};
+ghost use Rattle.std.specs.Prelude.{◌≡◌, ◌<◌, ◌≤◌, ◌++◌, ◌↔◌, [], List, length, find, IfSome, IfNone, IfOk, OnOk, Contains, IsTrue, option_to_list, vec_len};
 ghost use Rattle.std.specs.Option.{option_copied};
 ghost use Rattle.ec_outside.specs.Port.{HeardGram};
 ghost use Rattle.master_node.specs.declared.event.Event.TheVariants as events;
 ghost use Rattle.gateway_run.specs.Events.{events_of};
 ghost use Rattle.gateway_run.specs.Account.{has_key, is_of, others, elsewhere, begun_first, cut_off, replied, left_by, owed_by};
-ghost use Rattle.gateway_run.specs.Heard.{heard_as, IsJudged};
-ghost use Rattle.gateway_run.specs.Desk.{HasNone, IsOpen, IsSound, AsksMails, SameLan, SameLive, StaysBusy, Tells, NotesAll, cut_one, Answers, PassesSoundly, PassesSo, IsTakenSo, Takes, TakesSoundly};
+ghost use Rattle.gateway_run.specs.Heard.{IsJudged};
+ghost use Rattle.gateway_run.specs.Desk.{HasNone, IsOpen, IsSound, HearsSoundly, StaysSound, AsksMails, SameLan, SameLive, StaysBusy, Tells, NotesAll, cut_one, Answers, PassesSoundly, PassesSo, IsTakenSo, Takes, TakesSoundly};
 
 use ec_fields::{NoMemory, Octets};
 use ec_outside::{Gram, Peer};
@@ -273,7 +273,7 @@ impl Desk {
         bytes: &[u8],
         gram: u32,
     ) -> Result<Option<u32>, NoMemory>
-        ensures sound { OnOk result ((heard : List HeardGram) → length heard ≡ gram → IsSound heard self.old → IsSound (heard ++ record { from = peer; bytes = bytes.now } ∷ []) self.new) }
+        ensures sound { OnOk result (HearsSoundly peer bytes.now gram self.old self.new) }
         ensures taken { IfOk result (IsTakenSo session.old session.new peer bytes.now gram self.old self.new) }
         ensures judged { IfOk result (IsJudged session.old.homes bytes.now) }
         ensures session { AsksMails session.old session.new }
@@ -310,7 +310,7 @@ impl Desk {
         book: &mut Book,
     ) -> Result<(), NoMemory>
         ensures heard { OnOk result (Takes session.old.homes peer bytes.now book.old book.new) }
-        ensures sound { OnOk result (length book.old.grams < 4294967296 → IsSound (map heard_as book.old.grams) self.old → IsSound (map heard_as book.new.grams) self.new) }
+        ensures sound { OnOk result (StaysSound self.old self.new book.old book.new) }
         ensures taken { OnOk result (TakesSoundly session.old session.new self.old self.new book.old book.new) }
         ensures book { book.new ≡ record book.old { grams = book.new.grams } }
         ensures session { AsksMails session.old session.new }

@@ -1,13 +1,13 @@
-ghost use Rattle.std.specs.Prelude.{◌≡◌, ◌≢◌, ◌<◌, ℕ, [], true, false, IfOk, OnOk};
+ghost use Rattle.std.specs.Prelude.{◌≡◌, ◌≢◌, ◌<◌, [], true, false, IfOk, OnOk};
 ghost use Rattle.segment_plan.specs.Sound.{IsPlan};
-ghost use Rattle.segment_plan.specs.declared.plan.Scenario.{Scenario as Plan};
 ghost use Rattle.run_book.specs.Book.{IsNew};
 ghost use Rattle.run_book.specs.declared.book.Ending.TheVariants as endings;
 ghost use Rattle.run_record.specs.Served.{ServingRests};
 ghost use Rattle.run_record.specs.Session.{session_rows, are_at_rest};
 ghost use Rattle.run_record.specs.Ran.{HasSent, EndsSo};
-ghost use Rattle.gateway_run.specs.Serving.{Told, told, Goes, IsServing, can_hear};
-ghost use Rattle.gateway_run.specs.Served.{IsServed};
+ghost use Rattle.gateway_run.specs.Goes.{GoesOn};
+ghost use Rattle.gateway_run.specs.Serving.{can_hear};
+ghost use Rattle.gateway_run.specs.Served.{IsServedOver};
 
 use crate::stop::Stop;
 use crate::turn::Serving;
@@ -39,7 +39,7 @@ fn turns<P: Port>(
     book: &mut Book,
 ) -> Result<Ending, Stop>
     requires { serving.old.desk.outbox.items ≡ [] }
-    ensures goes { (plan : Plan) (count : ℕ) (first : Told) → IsServing plan count first (told P.heard P.sent P.over P.port_faults port.old) serving.old book.old → Goes plan count first (told P.heard P.sent P.over P.port_faults port.new) serving.new book.new result }
+    ensures goes { GoesOn P.heard P.sent P.over P.port_faults port.old port.new serving.old serving.new book.old book.new result }
     ensures ends { IfOk result (EndsSo serving.new.session) }
     ensures whole { IfOk result (λ ending. ending ≢ endings.BudgetSpent → can_hear serving.new book.new ≡ false) }
     ensures rests { IfOk result (λ ending. ending ≢ endings.BudgetSpent → ServingRests serving.new.session) }
@@ -66,7 +66,7 @@ fn serve_through<P: Port>(
     requires new { IsNew book.old }
     requires some { 0 < count }
     ensures frames { HasSent plan.now count book.new }
-    ensures served { IfOk result (IsServed plan.now count (told P.heard P.sent P.over P.port_faults port.old) (told P.heard P.sent P.over P.port_faults port.new) book.new) }
+    ensures served { IfOk result (IsServedOver P.heard P.sent P.over P.port_faults plan.now count port.old port.new book.new) }
     ensures ending { IfOk result (λ ending. book.new.ending ≡ ending) }
 {
     let mut serving = Serving::begin(alloc, plan, count)?;
@@ -99,7 +99,7 @@ pub fn serve<P: Port>(
     requires new { IsNew book.old }
     requires some { 0 < count }
     ensures frames { HasSent plan.now count book.new }
-    ensures served { IsServed plan.now count (told P.heard P.sent P.over P.port_faults port.old) (told P.heard P.sent P.over P.port_faults port.new) book.new result }
+    ensures served { IsServedOver P.heard P.sent P.over P.port_faults plan.now count port.old port.new book.new result }
     ensures ending { book.new.ending ≡ result }
 {
     match serve_through(alloc, plan, count, port, book) {

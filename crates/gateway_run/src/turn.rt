@@ -1,14 +1,14 @@
-ghost use Rattle.std.specs.Prelude.{◌≡◌, ◌≢◌, ◌<◌, ◌≤◌, [], ℕ, length, true, false, IfOk, OnOk};
+ghost use Rattle.std.specs.Prelude.{◌≡◌, ◌≢◌, ◌<◌, ◌≤◌, [], true, false, IfOk, OnOk};
 ghost use Rattle.std.specs.Bool.{OnTrue, OnFalse};
 ghost use Rattle.ec_outside.specs.declared.port.Heard.TheVariants as heards;
 ghost use Rattle.master_node.specs.Happened.{HasHappened};
 ghost use Rattle.master_node.specs.Ports.{ports_of};
 ghost use Rattle.segment_plan.specs.Sound.{IsPlan};
-ghost use Rattle.segment_plan.specs.declared.plan.Scenario.{Scenario as Plan};
 ghost use Rattle.run_record.specs.Served.{ServingBegins};
 ghost use Rattle.run_record.specs.Session.{first_session};
 ghost use Rattle.gateway_run.specs.Desk.{HasNone, SameLive, StaysBusy};
-ghost use Rattle.gateway_run.specs.Serving.{Told, told, Listens, SendsOne, Goes, IsServing, LivesUnless, EmptyWhere, left, can_hear};
+ghost use Rattle.gateway_run.specs.Goes.{GoesIf, GoesOn, GoesOnIf, HasRoom, MayTurn, TakesHeard};
+ghost use Rattle.gateway_run.specs.Serving.{Told, told, SendsOne, LivesUnless, EmptyWhere, left, can_hear};
 
 use crate::desk::Desk;
 use crate::stop::Stop;
@@ -73,7 +73,7 @@ impl Serving {
     // What a call of the port answered: a datagram is taken. Whether there was one.
     fn take(&mut self, alloc: Global, heard: Heard, book: &mut Book) -> Result<bool, Stop>
         requires { can_hear self.old book.old ≡ true }
-        ensures goes { (plan : Plan) (count : ℕ) (first now next : Told) → length self.old.desk.requests.items < 64 → IsServing plan count first now self.old book.old → Listens now next heard self.old.gram.items → Goes plan count first next self.new book.new result }
+        ensures goes { TakesHeard heard self.old self.new book.old book.new result }
         ensures live { SameLive self.old.session self.new.session }
         ensures busy { StaysBusy self.old.session self.new.session }
         ensures some { IfOk result (λ some. OnTrue some (left self.new book.new < left self.old book.old)) }
@@ -97,7 +97,7 @@ impl Serving {
     // Waits for a datagram.
     fn wait<P: Port>(&mut self, alloc: Global, port: &mut P, book: &mut Book) -> Result<(), Stop>
         requires { can_hear self.old book.old ≡ true }
-        ensures goes { (plan : Plan) (count : ℕ) (first : Told) → length self.old.desk.requests.items < 64 → IsServing plan count first (told P.heard P.sent P.over P.port_faults port.old) self.old book.old → Goes plan count first (told P.heard P.sent P.over P.port_faults port.new) self.new book.new result }
+        ensures goes { GoesOnIf (HasRoom self.old) P.heard P.sent P.over P.port_faults port.old port.new self.old self.new book.old book.new result }
         ensures live { SameLive self.old.session self.new.session }
         ensures busy { StaysBusy self.old.session self.new.session }
         ensures less { OnOk result (left self.new book.new < left self.old book.old) }
@@ -109,7 +109,7 @@ impl Serving {
 
     // Takes the datagrams that are there, while more can be heard and one more request may be unfinished.
     fn poll<P: Port>(&mut self, alloc: Global, port: &mut P, book: &mut Book) -> Result<(), Stop>
-        ensures goes { (plan : Plan) (count : ℕ) (first : Told) → IsServing plan count first (told P.heard P.sent P.over P.port_faults port.old) self.old book.old → Goes plan count first (told P.heard P.sent P.over P.port_faults port.new) self.new book.new result }
+        ensures goes { GoesOn P.heard P.sent P.over P.port_faults port.old port.new self.old self.new book.old book.new result }
         ensures live { SameLive self.old.session self.new.session }
         ensures busy { StaysBusy self.old.session self.new.session }
         ensures most { OnOk result (left self.new book.new ≤ left self.old book.old) }
@@ -132,7 +132,7 @@ impl Serving {
         book: &mut Book,
     ) -> Result<(), Stop>
         requires { OnTrue settled (can_hear self.old book.old ≡ true) }
-        ensures goes { (plan : Plan) (count : ℕ) (first : Told) → EmptyWhere settled self.old → IsServing plan count first (told P.heard P.sent P.over P.port_faults port.old) self.old book.old → Goes plan count first (told P.heard P.sent P.over P.port_faults port.new) self.new book.new result }
+        ensures goes { GoesOnIf (EmptyWhere settled self.old) P.heard P.sent P.over P.port_faults port.old port.new self.old self.new book.old book.new result }
         ensures live { SameLive self.old.session self.new.session }
         ensures busy { StaysBusy self.old.session self.new.session }
         ensures less { OnOk result (OnTrue settled (left self.new book.new < left self.old book.old)) }
@@ -146,7 +146,7 @@ impl Serving {
 
     // Sends a frame, unless the segment rests; `false` where the budget of frames is spent.
     fn frame(&mut self, alloc: Global, rests: bool, book: &mut Book) -> Result<bool, Stop>
-        ensures goes { (plan : Plan) (count : ℕ) (first now : Told) → LivesUnless rests self.old.session → IsServing plan count first now self.old book.old → Goes plan count first now self.new book.new result }
+        ensures goes { (now : Told) → GoesIf (LivesUnless rests self.old.session) now now self.old self.new book.old book.new result }
         ensures less { IfOk result (λ on. OnTrue on (OnFalse rests (left self.new book.new < left self.old book.old))) }
         ensures most { OnOk result (left self.new book.new ≤ left self.old book.old) }
         ensures spent { IfOk result (λ on. OnFalse on (self.new.session.ring.number ≡ self.new.session.budget)) }
@@ -164,7 +164,7 @@ impl Serving {
 
     // Sends what is owed.
     fn send<P: Port>(&mut self, port: &mut P, book: &mut Book) -> Result<(), Stop>
-        ensures goes { (plan : Plan) (count : ℕ) (first : Told) → IsServing plan count first (told P.heard P.sent P.over P.port_faults port.old) self.old book.old → Goes plan count first (told P.heard P.sent P.over P.port_faults port.new) self.new book.new result }
+        ensures goes { GoesOn P.heard P.sent P.over P.port_faults port.old port.new self.old self.new book.old book.new result }
         ensures same { OnOk result (left self.new book.new ≡ left self.old book.old) }
         ensures session { OnOk result (self.new.session ≡ self.old.session) }
         ensures empty { OnOk result (self.new.desk.outbox.items ≡ []) }
@@ -186,7 +186,7 @@ impl Serving {
         book: &mut Book,
     ) -> Result<bool, Stop>
         requires { OnTrue settled (can_hear self.old book.old ≡ true) }
-        ensures goes { (plan : Plan) (count : ℕ) (first : Told) → LivesUnless settled self.old.session → EmptyWhere settled self.old → IsServing plan count first (told P.heard P.sent P.over P.port_faults port.old) self.old book.old → Goes plan count first (told P.heard P.sent P.over P.port_faults port.new) self.new book.new result }
+        ensures goes { GoesOnIf (MayTurn settled self.old) P.heard P.sent P.over P.port_faults port.old port.new self.old self.new book.old book.new result }
         ensures less { IfOk result (λ on. OnTrue on (left self.new book.new < left self.old book.old)) }
         ensures spent { IfOk result (λ on. OnFalse on (self.new.session.ring.number ≡ self.new.session.budget)) }
         ensures empty { OnOk result (self.new.desk.outbox.items ≡ []) }

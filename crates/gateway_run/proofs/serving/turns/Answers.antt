@@ -11,16 +11,20 @@ pub returns-then-not-branch-clause-goes : goal.returns-then-not-branch-clause-go
 returns-then-not-branch-clause-goes g c = λ plan count first h.
     let now = told g.P.Port.heard g.P.Port.sent g.P.Port.over g.P.Port.port_faults c.loop-settled.port in
     let on : IsServing plan count first now c.loop-settled.serving c.loop-settled.book = c.loop-settled.invariant.goes plan count first h in
-    c.in_ok-turn.ensures.goes plan count first (lives_on plan count c.loop-settled.serving c.loop-settled.book on.on c.loop-settled.settled c.loop-settled.settled refl c.loop-settled.invariant.lives c.loop-settled.invariant.done)
-    (empty_on plan count c.loop-settled.serving c.loop-settled.book on.on c.loop-settled.settled c.loop-settled.invariant.rests) on
+    c.in_ok-turn.ensures.goes plan count first (
+      lives_on plan count c.loop-settled.serving c.loop-settled.book on.on c.loop-settled.settled c.loop-settled.settled refl c.loop-settled.invariant.lives c.loop-settled.invariant.done,
+      empty_on plan count c.loop-settled.serving c.loop-settled.book on.on c.loop-settled.settled c.loop-settled.invariant.rests,
+    ) on
 
 pub loop-settled-preserved : goal.loop-settled-preserved
 loop-settled-preserved g c = record {
   goes = λ plan count first h.
       let now = told g.P.Port.heard g.P.Port.sent g.P.Port.over g.P.Port.port_faults c.loop-settled.port in
       let on : IsServing plan count first now c.loop-settled.serving c.loop-settled.book = c.loop-settled.invariant.goes plan count first h in
-      c.in_ok-turn.ensures.goes plan count first (lives_on plan count c.loop-settled.serving c.loop-settled.book on.on c.loop-settled.settled c.loop-settled.settled refl c.loop-settled.invariant.lives c.loop-settled.invariant.done)
-      (empty_on plan count c.loop-settled.serving c.loop-settled.book on.on c.loop-settled.settled c.loop-settled.invariant.rests) on;
+      c.in_ok-turn.ensures.goes plan count first (
+        lives_on plan count c.loop-settled.serving c.loop-settled.book on.on c.loop-settled.settled c.loop-settled.settled refl c.loop-settled.invariant.lives c.loop-settled.invariant.done,
+        empty_on plan count c.loop-settled.serving c.loop-settled.book on.on c.loop-settled.settled c.loop-settled.invariant.rests,
+      ) on;
   empty = c.in_ok-turn.ensures.empty;
   at_rest = c.settled-settled-in-loop-settled.ensures.rest;
   lives = c.settled-settled-in-loop-settled.ensures.lives;
@@ -37,5 +41,7 @@ returns-in_err-turn-clause-goes g c = λ plan count first h.
     let now = told g.P.Port.heard g.P.Port.sent g.P.Port.over g.P.Port.port_faults c.loop-settled.port in
     let on : IsServing plan count first now c.loop-settled.serving c.loop-settled.book = c.loop-settled.invariant.goes plan count first h in
     goes_so plan count first _ c.turn.new.self c.turn.new.book c.in_err-turn.field-0.0 c.turn.result c.from_residual.result c.in_err-turn.was same
-    (c.turn.ensures.goes plan count first (lives_on plan count c.loop-settled.serving c.loop-settled.book on.on c.loop-settled.settled c.loop-settled.settled refl c.loop-settled.invariant.lives c.loop-settled.invariant.done)
-    (empty_on plan count c.loop-settled.serving c.loop-settled.book on.on c.loop-settled.settled c.loop-settled.invariant.rests) on)
+    (c.turn.ensures.goes plan count first (
+      lives_on plan count c.loop-settled.serving c.loop-settled.book on.on c.loop-settled.settled c.loop-settled.settled refl c.loop-settled.invariant.lives c.loop-settled.invariant.done,
+      empty_on plan count c.loop-settled.serving c.loop-settled.book on.on c.loop-settled.settled c.loop-settled.invariant.rests,
+    ) on)

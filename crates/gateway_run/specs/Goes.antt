@@ -1,0 +1,36 @@
+-- WHAT A PART OF A TURN LEAVES: a serving again, whatever its plan is, how many datagrams it is to hear and what its port told first.
+use Rattle.std.specs.Prelude.{◌<◌, ℕ, Bool, List, length, Option, Result}
+use Rattle.ec_outside.specs.Port.{HeardGram}
+use Rattle.ec_outside.specs.declared.port.Heard.{Heard}
+use Rattle.ec_outside.specs.declared.port.SentGram.{SentGram}
+use Rattle.segment_plan.specs.declared.plan.Scenario.{Scenario}
+use Rattle.run_book.specs.declared.book.Book.{Book}
+use Rattle.gateway_run.specs.Serving.{Told, told, Listens, Goes, IsServing, LivesUnless, EmptyWhere}
+use Rattle.gateway_run.specs.declared.stop.Stop.{Stop}
+use Rattle.gateway_run.specs.declared.turn.Serving.{Serving}
+
+-- one more request may be unfinished
+abbrev pub HasRoom : Serving → Type 0
+HasRoom v = length v.desk.requests.items < 64
+
+-- unless the segment is settled some slave is live and something is left to do; where it is, no request is unfinished
+abbrev pub MayTurn : Bool → Serving → Type 0
+MayTurn settled v = LivesUnless settled v.session × EmptyWhere settled v
+
+-- it leaves a serving where this is given, by what the port told before and behind
+abbrev pub GoesIf : {T : Type 0} → Type 0 → Told → Told → Serving → Serving → Book → Book → Result T Stop → Type 0
+GoesIf given now next v v' b b' r = (plan : Scenario) (count : ℕ) (first : Told) → given → IsServing plan count first now v b → Goes plan count first next v' b' r
+
+-- the same by what this port tells
+abbrev pub GoesOnIf : {Q T : Type 0} → Type 0 → (Q → Option (List HeardGram)) → (Q → Option (List SentGram)) → (Q → Bool) → (Q → ℕ) → Q → Q → Serving → Serving → Book → Book → Result T Stop → Type 0
+GoesOnIf given heard sent over faults port port' v v' b b' r = GoesIf given (told heard sent over faults port) (told heard sent over faults port') v v' b b' r
+
+-- and where nothing need be given
+abbrev pub GoesOn : {Q T : Type 0} → (Q → Option (List HeardGram)) → (Q → Option (List SentGram)) → (Q → Bool) → (Q → ℕ) → Q → Q → Serving → Serving → Book → Book → Result T Stop → Type 0
+GoesOn heard sent over faults port port' v v' b b' r =
+    (plan : Scenario) (count : ℕ) (first : Told) → IsServing plan count first (told heard sent over faults port) v b → Goes plan count first (told heard sent over faults port') v' b' r
+
+-- a serving takes what a call of its port heard, while it has room
+abbrev pub TakesHeard : {T : Type 0} → Heard → Serving → Serving → Book → Book → Result T Stop → Type 0
+TakesHeard heard v v' b b' r =
+    (plan : Scenario) (count : ℕ) (first now next : Told) → HasRoom v → IsServing plan count first now v b → Listens now next heard v.gram.items → Goes plan count first next v' b' r
