@@ -13,7 +13,7 @@ ghost use Rattle.run_notes.specs.Notes.{station_of, stations_of};
 ghost use Rattle.run_notes.specs.Packets.{begun_noted, noted_began};
 ghost use Rattle.run_notes.specs.Switched.{NotesSwitch};
 ghost use Rattle.run_notes.specs.Counted.{slaves_at};
-ghost use Rattle.run_notes.specs.Times.{Goes, KeepsTime, TimesGo, behind};
+ghost use Rattle.run_notes.specs.Times.{Goes, KeepsTime, TimesStay, behind};
 
 use crate::notes::Notes;
 use crate::standing::{AskedMail, Log};
@@ -211,7 +211,7 @@ impl Log {
         ensures told { OnOk result (KeepsReports self.old.notes self.new.notes) }
         ensures frames { SameFrames (1 + length self.old.ports) book.old book.new }
         ensures switch { OnOk result (NotesSwitch (1 + length self.old.ports) moment.sent master.now.lan.happened book.old book.new) }
-        ensures time { OnOk result (TimesGo (behind moment.frame) (behind moment.frame) moment.sent master.now.lan.happened book.old self.old book.new self.new) }
+        ensures time { OnOk result (TimesStay (behind moment.frame) moment.sent master.now.lan.happened book.old self.old book.new self.new) }
     {
         self.note_events(alloc, master, moment, master.events())?;
         self.note_happened(alloc, moment, master.happened(), book)

@@ -6,7 +6,7 @@ ghost use Rattle.run_notes.specs.Slaves.{gaves_noted};
 ghost use Rattle.run_notes.specs.Packets.{begun_noted};
 ghost use Rattle.run_notes.specs.Handed.{MailsStay};
 ghost use Rattle.run_notes.specs.Notes.{answered, told_noted, changed_noted, change_noted, stood};
-ghost use Rattle.run_notes.specs.Reports.{ReportsTo, ReportsOn, PassesAll};
+ghost use Rattle.run_notes.specs.Reports.{ReportsNext, ReportsOn, PassesAll};
 ghost use Rattle.run_notes.specs.Slaves.{SameSlaves};
 ghost use Rattle.run_notes.specs.Times.{GoesBehind, TimeGoes, seen_to};
 ghost use Rattle.run_notes.specs.declared.notes.Awaited.TheVariants as Awaits;
@@ -132,7 +132,7 @@ impl Log {
         ensures heard { OnOk result (emergencies_noted self.new.notes ≡ emergencies_noted self.old.notes) }
         ensures rows { OnOk result (begun_noted self.new.notes ≡ begun_noted self.old.notes) }
         ensures mails { OnOk result (MailsStay frame self.old.notes self.new.notes) }
-        ensures told { OnOk result (PassesAll frame master.now (λ as' bs. ReportsTo at as' bs self.old.notes → ReportsTo (suc at) as' bs self.new.notes)) }
+        ensures told { OnOk result (PassesAll frame master.now (ReportsNext at self.old.notes self.new.notes)) }
         ensures time { OnOk result (TimeGoes (seen_to frame at) (seen_to frame (suc at)) self.old.notes self.new.notes) }
     {
         let leaves = master.is_leaving(at);
@@ -157,7 +157,7 @@ impl Log {
         ensures heard { OnOk result (emergencies_noted self.new.notes ≡ emergencies_noted self.old.notes) }
         ensures rows { OnOk result (begun_noted self.new.notes ≡ begun_noted self.old.notes) }
         ensures mails { OnOk result (MailsStay frame self.old.notes self.new.notes) }
-        ensures told { OnOk result (PassesAll frame master.now (λ as' bs. ReportsTo at as' bs self.old.notes → ReportsTo (suc at) as' bs self.new.notes)) }
+        ensures told { OnOk result (PassesAll frame master.now (ReportsNext at self.old.notes self.new.notes)) }
         ensures time { OnOk result (TimeGoes (seen_to frame at) (seen_to frame (suc at)) self.old.notes self.new.notes) }
     {
         let leaves = master.is_leaving(at);
@@ -183,7 +183,7 @@ impl Log {
         ensures heard { OnOk result (emergencies_noted self.new.notes ≡ emergencies_noted self.old.notes) }
         ensures rows { OnOk result (begun_noted self.new.notes ≡ begun_noted self.old.notes) }
         ensures mails { OnOk result (MailsStay frame self.old.notes self.new.notes) }
-        ensures told { OnOk result (PassesAll frame master.now (λ as' bs. ReportsTo at as' bs self.old.notes → ReportsTo (suc at) as' bs self.new.notes)) }
+        ensures told { OnOk result (PassesAll frame master.now (ReportsNext at self.old.notes self.new.notes)) }
         ensures time { OnOk result (TimeGoes (seen_to frame at) (seen_to frame (suc at)) self.old.notes self.new.notes) }
     {
         let leaves = master.is_leaving(at);
@@ -209,7 +209,7 @@ impl Log {
         ensures heard { OnOk result (emergencies_noted self.new.notes ≡ emergencies_noted self.old.notes) }
         ensures rows { OnOk result (begun_noted self.new.notes ≡ begun_noted self.old.notes) }
         ensures mails { OnOk result (MailsStay frame self.old.notes self.new.notes) }
-        ensures told { OnOk result (PassesAll frame master.now (λ as' bs. ReportsTo at as' bs self.old.notes → ReportsTo (suc at) as' bs self.new.notes)) }
+        ensures told { OnOk result (PassesAll frame master.now (ReportsNext at self.old.notes self.new.notes)) }
         ensures time { OnOk result (TimeGoes (seen_to frame at) (seen_to frame (suc at)) self.old.notes self.new.notes) }
     {
         let rows = self.notes.as_slice();

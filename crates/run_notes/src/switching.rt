@@ -12,7 +12,7 @@ ghost use Rattle.run_notes.specs.Reports.{KeepsReports};
 ghost use Rattle.run_notes.specs.Slaves.{SameFrames, SameSlaves};
 ghost use Rattle.run_notes.specs.Switched.{octets_of, NotesSwitch};
 ghost use Rattle.run_notes.specs.Counted.{comes_from, is_from};
-ghost use Rattle.run_notes.specs.Times.{ReceivesAt, Time, TimesGo};
+ghost use Rattle.run_notes.specs.Times.{ReceivesAt, Time, TimesStay};
 
 use crate::log::Moment;
 use crate::standing::Log;
@@ -78,7 +78,7 @@ impl Log {
         ensures told { KeepsReports self.old.notes self.new.notes }
         ensures frames { SameFrames (1 + length self.old.ports) book.old book.new }
         ensures switch { OnOk result (NotesSwitch (1 + length self.old.ports) moment.sent rows.now book.old book.new) }
-        ensures time { OnOk result ((t : Time) → TimesGo t t moment.sent rows.now book.old self.old book.new self.new) }
+        ensures time { OnOk result ((t : Time) → TimesStay t moment.sent rows.now book.old self.old book.new self.new) }
     {
         for row in rows {
             self.note_switch(alloc, moment, row, book)?;
@@ -101,7 +101,7 @@ impl Log {
         ensures told { KeepsReports self.old.notes self.new.notes }
         ensures frames { SameFrames (1 + length self.old.ports) book.old book.new }
         ensures switch { OnOk result (NotesSwitch (1 + length self.old.ports) moment.sent (row.now ∷ []) book.old book.new) }
-        ensures time { OnOk result ((t : Time) → TimesGo t t moment.sent (row.now ∷ []) book.old self.old book.new self.new) }
+        ensures time { OnOk result ((t : Time) → TimesStay t moment.sent (row.now ∷ []) book.old self.old book.new self.new) }
     {
         if !self.is_at_port(&row.event) {
             return Ok(());
