@@ -7,8 +7,9 @@ ghost use Rattle.run_notes.specs.Slaves.{gaves_noted};
 ghost use Rattle.run_notes.specs.Packets.{BeginsOn, SameBeside};
 ghost use Rattle.run_notes.specs.Reports.{ReportsNext, ReportsOn, TurnsAll};
 ghost use Rattle.run_notes.specs.Slaves.{SameFrames, SameSlaves};
+ghost use Rattle.run_notes.specs.Stays.{StaysMaking};
 ghost use Rattle.run_notes.specs.Switched.{NotesSwitch};
-ghost use Rattle.run_notes.specs.Times.{KeepsTime, TimesStay, making};
+ghost use Rattle.run_notes.specs.Times.{TimesStay, making};
 
 use crate::log::Moment;
 use crate::standing::Log;
@@ -23,12 +24,9 @@ impl Log {
         requires notes { at < length self.old.notes }
         requires posts { vec_len master.now.posts ≡ length self.old.notes }
         ensures slaves { SameSlaves self.old self.new }
-        ensures gave { OnOk result (gaves_noted self.new.notes ≡ gaves_noted self.old.notes) }
-        ensures heard { OnOk result (emergencies_noted self.new.notes ≡ emergencies_noted self.old.notes) }
+        ensures stays { OnOk result (StaysMaking frame self.old.notes self.new.notes) }
         ensures told { OnOk result (TurnsAll frame master.now (ReportsNext at self.old.notes self.new.notes)) }
         ensures beside { OnOk result (SameBeside self.old.notes self.new.notes) }
-        ensures doubts { OnOk result (AllDoubts self.old.notes self.new.notes) }
-        ensures time { OnOk result (KeepsTime (making frame) self.old.notes self.new.notes) }
     {
         let place = at as usize;
         let number = master.scripted(at);
@@ -45,12 +43,9 @@ impl Log {
         requires few { length self.old.notes ≤ 16 }
         requires posts { vec_len master.now.posts ≡ length self.old.notes }
         ensures slaves { SameSlaves self.old self.new }
-        ensures gave { OnOk result (gaves_noted self.new.notes ≡ gaves_noted self.old.notes) }
-        ensures heard { OnOk result (emergencies_noted self.new.notes ≡ emergencies_noted self.old.notes) }
+        ensures stays { OnOk result (StaysMaking frame self.old.notes self.new.notes) }
         ensures told { OnOk result (TurnsAll frame master.now (ReportsOn self.old.notes self.new.notes)) }
         ensures beside { OnOk result (SameBeside self.old.notes self.new.notes) }
-        ensures doubts { OnOk result (AllDoubts self.old.notes self.new.notes) }
-        ensures time { OnOk result (KeepsTime (making frame) self.old.notes self.new.notes) }
     {
         for place in 0..self.notes.len() {
             self.note_script(master, frame, place as u32)?;
