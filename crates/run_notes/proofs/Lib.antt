@@ -13,6 +13,7 @@ pub mod Packets
 pub mod Reporting
 pub mod Reports
 pub mod Stations
+pub mod Stays
 pub mod Switched
 pub mod Times
 pub mod Timings

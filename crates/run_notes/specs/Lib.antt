@@ -12,3 +12,4 @@ pub mod Handed
 pub mod Packets
 pub mod Switched
 pub mod Slaves
+pub mod Stays

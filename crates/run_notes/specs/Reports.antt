@@ -91,6 +91,10 @@ ReportsTo zero (a ∷ as') (b ∷ bs) (n ∷ notes) = Reports a n × ReportsTo 0
 ReportsTo (suc k) (a ∷ as') (b ∷ bs) (n ∷ notes) = Reports b n × ReportsTo k as' bs notes
 ReportsTo k _ _ _ = ⊥
 
+-- and with the next
+abbrev pub ReportsNext : ℕ → List Notes → List Notes → List Leads → List Leads → Type 0
+ReportsNext k old new as' bs = ReportsTo k as' bs old → ReportsTo (suc k) as' bs new
+
 -- BEFORE A FRAME: what came into hand of each slave is noted
 abbrev pub TurnsAll : ℕ → MasterNode → (List Leads → List Leads → Type 0) → Type 0
 TurnsAll frame m P = (lens : ℕ → Lens) (recover : ℕ) (as' bs : List Leads) → HasLeads lens recover m bs → AllBoth (λ a b. TurnsSo frame a b) as' bs → P as' bs

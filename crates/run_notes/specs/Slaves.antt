@@ -93,7 +93,15 @@ gave_at place frame _ olds = olds
 abbrev pub GavesAll : ℕ → MasterNode → (List (List ℕ) → Type 0) → Type 0
 GavesAll recover m P = (lens : ℕ → Lens) (leads : List Leads) → HasLives lens recover m (map lived_of leads) → AllCounted recover leads → P (map gave_of leads)
 
+-- where this frame was lost: of the slave at a place
+abbrev pub GaveNext : ℕ → ℕ → ℕ → MasterNode → List Notes → List Notes → Type 0
+GaveNext place frame recover m old new = GavesAll recover m (λ nows. gaves_noted new ≡ gave_at place frame nows (gaves_noted old))
+
+-- and of all of them
+abbrev pub GaveLost : ℕ → ℕ → MasterNode → List Notes → List Notes → Type 0
+GaveLost frame recover m old new = GavesAll recover m (λ nows. gaves_noted new ≡ gaves_behind frame nows (gaves_noted old))
+
 -- the give-ups that are noted behind a frame of this fate: those that the slaves have whose lives are with this master
 abbrev pub GaveBy : Fate → ℕ → MasterNode → Log → Log → Type 0
 GaveBy Pass frame m r r' = gaves_noted r'.notes ≡ gaves_noted r.notes
-GaveBy (Lost after) frame m r r' = GavesAll r.recover m (λ nows. gaves_noted r'.notes ≡ gaves_behind frame nows (gaves_noted r.notes))
+GaveBy (Lost after) frame m r r' = GaveLost frame r.recover m r.notes r'.notes

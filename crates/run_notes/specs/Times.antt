@@ -91,3 +91,11 @@ MayHappen t sent rows = (sent ≤ t.back) × (AreOfMaking rows ⊎ (t.epochs < s
 -- AND GOES ON WITH IT as that is noted
 abbrev pub TimesGo : Time → Time → ℕ → List Happening → Book → Log → Book → Log → Type 0
 TimesGo from to sent rows b r b' r' = MayHappen from sent rows → IsTimedBy from r.ports b r.notes → IsTimedBy to r.ports b' r'.notes
+
+-- or stays at one moment
+abbrev pub TimesStay : Time → ℕ → List Happening → Book → Log → Book → Log → Type 0
+TimesStay t sent rows b r b' r' = TimesGo t t sent rows b r b' r'
+
+-- BEHIND A FRAME all slaves are seen
+abbrev pub TimesBehind : ℕ → ℕ → List Happening → Book → Log → Book → Log → Type 0
+TimesBehind frame sent rows b r b' r' = TimesGo (behind frame) (between (suc frame)) sent rows b r b' r'

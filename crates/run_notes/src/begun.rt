@@ -1,13 +1,10 @@
 //! The packets and the mails passed on that came into hand of the slaves before a frame, as their master lists them.
 
-ghost use Rattle.std.specs.Prelude.{◌≡◌, ◌∷◌, [], OnOk};
-ghost use Rattle.run_notes.specs.Handed.{AllDoubts};
-ghost use Rattle.run_notes.specs.Heard.{emergencies_noted};
-ghost use Rattle.run_notes.specs.Slaves.{gaves_noted};
+ghost use Rattle.std.specs.Prelude.{◌∷◌, [], OnOk};
 ghost use Rattle.run_notes.specs.Packets.{NotesBeside, StayFree};
 ghost use Rattle.run_notes.specs.Reports.{KeepsReports};
 ghost use Rattle.run_notes.specs.Slaves.{SameSlaves};
-ghost use Rattle.run_notes.specs.Times.{KeepsTime, making};
+ghost use Rattle.run_notes.specs.Stays.{StaysMaking};
 
 use crate::log::note_began;
 use crate::standing::Log;
@@ -15,18 +12,15 @@ use ec_fields::NoMemory;
 use master_node::{Event, Origin};
 
 impl Log {
-    ghost use Rattle.std.specs.Prelude.{◌≡◌, ◌∷◌, [], OnOk};
+    ghost use Rattle.std.specs.Prelude.{◌∷◌, [], OnOk};
     ghost use Rattle.master_node.specs.declared.event.Event.{Event};
 
     // Of the slave at a place one came into hand.
     fn note_begun_at(&mut self, origin: Origin, frame: u32, at: u32) -> Result<(), NoMemory>
         ensures slaves { SameSlaves self.old self.new }
-        ensures gave { OnOk result (gaves_noted self.new.notes ≡ gaves_noted self.old.notes) }
-        ensures heard { OnOk result (emergencies_noted self.new.notes ≡ emergencies_noted self.old.notes) }
+        ensures stays { OnOk result (StaysMaking frame self.old.notes self.new.notes) }
         ensures told { OnOk result (KeepsReports self.old.notes self.new.notes) }
         ensures beside { OnOk result (NotesBeside frame (Event.Began at origin ∷ []) self.old.notes self.new.notes) }
-        ensures doubts { OnOk result (AllDoubts self.old.notes self.new.notes) }
-        ensures time { OnOk result (KeepsTime (making frame) self.old.notes self.new.notes) }
         ensures free { OnOk result (StayFree self.old.notes self.new.notes) }
     {
         let place = at as usize;
@@ -39,12 +33,9 @@ impl Log {
     // So it is by an event, where it is such a one.
     fn note_begun_by(&mut self, event: &Event, frame: u32) -> Result<(), NoMemory>
         ensures slaves { SameSlaves self.old self.new }
-        ensures gave { OnOk result (gaves_noted self.new.notes ≡ gaves_noted self.old.notes) }
-        ensures heard { OnOk result (emergencies_noted self.new.notes ≡ emergencies_noted self.old.notes) }
+        ensures stays { OnOk result (StaysMaking frame self.old.notes self.new.notes) }
         ensures told { OnOk result (KeepsReports self.old.notes self.new.notes) }
         ensures beside { OnOk result (NotesBeside frame (event.now ∷ []) self.old.notes self.new.notes) }
-        ensures doubts { OnOk result (AllDoubts self.old.notes self.new.notes) }
-        ensures time { OnOk result (KeepsTime (making frame) self.old.notes self.new.notes) }
         ensures free { OnOk result (StayFree self.old.notes self.new.notes) }
     {
         match event {
@@ -62,12 +53,9 @@ impl Log {
     /// Notes what came into hand beside the scripts.
     pub(crate) fn note_begun(&mut self, events: &[Event], frame: u32) -> Result<(), NoMemory>
         ensures slaves { SameSlaves self.old self.new }
-        ensures gave { OnOk result (gaves_noted self.new.notes ≡ gaves_noted self.old.notes) }
-        ensures heard { OnOk result (emergencies_noted self.new.notes ≡ emergencies_noted self.old.notes) }
+        ensures stays { OnOk result (StaysMaking frame self.old.notes self.new.notes) }
         ensures told { OnOk result (KeepsReports self.old.notes self.new.notes) }
         ensures beside { OnOk result (NotesBeside frame events.now self.old.notes self.new.notes) }
-        ensures doubts { OnOk result (AllDoubts self.old.notes self.new.notes) }
-        ensures time { OnOk result (KeepsTime (making frame) self.old.notes self.new.notes) }
     {
         for event in events {
             self.note_begun_by(event, frame)?;

@@ -11,9 +11,10 @@ ghost use Rattle.run_notes.specs.Slaves.{gaves_noted};
 ghost use Rattle.run_notes.specs.Reports.{Reports, KeepsReports};
 ghost use Rattle.run_notes.specs.Notes.{station_of, stations_of};
 ghost use Rattle.run_notes.specs.Packets.{begun_noted, noted_began};
+ghost use Rattle.run_notes.specs.Stays.{StaysBeside};
 ghost use Rattle.run_notes.specs.Switched.{NotesSwitch};
 ghost use Rattle.run_notes.specs.Counted.{slaves_at};
-ghost use Rattle.run_notes.specs.Times.{Goes, KeepsTime, TimesGo, behind};
+ghost use Rattle.run_notes.specs.Times.{Goes, KeepsTime, TimesStay, behind};
 
 use crate::notes::Notes;
 use crate::standing::{AskedMail, Log};
@@ -211,7 +212,7 @@ impl Log {
         ensures told { OnOk result (KeepsReports self.old.notes self.new.notes) }
         ensures frames { SameFrames (1 + length self.old.ports) book.old book.new }
         ensures switch { OnOk result (NotesSwitch (1 + length self.old.ports) moment.sent master.now.lan.happened book.old book.new) }
-        ensures time { OnOk result (TimesGo (behind moment.frame) (behind moment.frame) moment.sent master.now.lan.happened book.old self.old book.new self.new) }
+        ensures time { OnOk result (TimesStay (behind moment.frame) moment.sent master.now.lan.happened book.old self.old book.new self.new) }
     {
         self.note_events(alloc, master, moment, master.events())?;
         self.note_happened(alloc, moment, master.happened(), book)
@@ -226,9 +227,7 @@ impl Log {
         events: &[Event],
     ) -> Result<(), NoMemory>
         ensures slaves { SameSlaves self.old self.new }
-        ensures gave { OnOk result (gaves_noted self.new.notes ≡ gaves_noted self.old.notes) }
-        ensures heard { OnOk result (emergencies_noted self.new.notes ≡ emergencies_noted self.old.notes) }
-        ensures rows { OnOk result (begun_noted self.new.notes ≡ begun_noted self.old.notes) }
+        ensures stays { OnOk result (StaysBeside self.old.notes self.new.notes) }
         ensures mails { OnOk result (MailsBehind moment.frame (λ k. kinds_in k events.now) self.old self.new) }
         ensures told { OnOk result (KeepsReports self.old.notes self.new.notes) }
         ensures time { OnOk result (KeepsTime (behind moment.frame) self.old.notes self.new.notes) }
@@ -247,9 +246,7 @@ impl Log {
         event: &Event,
     ) -> Result<(), NoMemory>
         ensures slaves { SameSlaves self.old self.new }
-        ensures gave { OnOk result (gaves_noted self.new.notes ≡ gaves_noted self.old.notes) }
-        ensures heard { OnOk result (emergencies_noted self.new.notes ≡ emergencies_noted self.old.notes) }
-        ensures rows { OnOk result (begun_noted self.new.notes ≡ begun_noted self.old.notes) }
+        ensures stays { OnOk result (StaysBeside self.old.notes self.new.notes) }
         ensures mails { OnOk result (MailsBehind moment.frame (λ k. kinds_of k event.now) self.old self.new) }
         ensures told { OnOk result (KeepsReports self.old.notes self.new.notes) }
         ensures time { OnOk result (KeepsTime (behind moment.frame) self.old.notes self.new.notes) }
@@ -281,9 +278,7 @@ impl Log {
         at: usize,
     ) -> Result<(), NoMemory>
         ensures slaves { SameSlaves self.old self.new }
-        ensures gave { OnOk result (gaves_noted self.new.notes ≡ gaves_noted self.old.notes) }
-        ensures heard { OnOk result (emergencies_noted self.new.notes ≡ emergencies_noted self.old.notes) }
-        ensures rows { OnOk result (begun_noted self.new.notes ≡ begun_noted self.old.notes) }
+        ensures stays { OnOk result (StaysBeside self.old.notes self.new.notes) }
         ensures mails { OnOk result (MailsBehind moment.frame (told_only at (kind_told event.now)) self.old self.new) }
         ensures told { OnOk result (KeepsReports self.old.notes self.new.notes) }
         ensures time { OnOk result (KeepsTime (behind moment.frame) self.old.notes self.new.notes) }

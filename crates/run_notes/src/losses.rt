@@ -1,13 +1,12 @@
-ghost use Rattle.std.specs.Prelude.{◌≡◌, ◌<◌, ◌≤◌, ◌+◌, suc, length, vec_len, OnOk, Some, slice_get};
+ghost use Rattle.std.specs.Prelude.{◌≡◌, ◌<◌, ◌≤◌, ◌+◌, length, vec_len, OnOk, Some, slice_get};
 ghost use Rattle.master_node.specs.Listing.{events_in};
 ghost use Rattle.run_notes.specs.Handed.{MailsGo, MailsStay, kinds_in};
 ghost use Rattle.run_notes.specs.Heard.{emergencies_noted, HeardBy};
-ghost use Rattle.run_notes.specs.Slaves.{gaves_noted};
 ghost use Rattle.run_notes.specs.Packets.{begun_noted};
-ghost use Rattle.run_notes.specs.Reports.{ReportsTo, ReportsOn, ReportsBy, LosesAll};
-ghost use Rattle.run_notes.specs.Slaves.{SameFrames, SameSlaves, gave_at, gaves_behind, GaveBy, GavesAll};
+ghost use Rattle.run_notes.specs.Reports.{ReportsNext, ReportsOn, ReportsBy, LosesAll};
+ghost use Rattle.run_notes.specs.Slaves.{SameFrames, SameSlaves, GaveBy, GaveLost, GaveNext};
 ghost use Rattle.run_notes.specs.Switched.{NotesSwitch};
-ghost use Rattle.run_notes.specs.Times.{GoesBehind, KeepsTime, TimesGo, behind, between};
+ghost use Rattle.run_notes.specs.Times.{GoesBehind, KeepsTime, TimesBehind, behind};
 
 use crate::log::{Moment, station_of};
 use crate::standing::Log;
@@ -32,11 +31,11 @@ impl Log {
         requires homes { length self.old.homes ≡ length self.old.notes }
         requires posts { vec_len master.now.posts ≡ length self.old.notes }
         ensures slaves { SameSlaves self.old self.new }
-        ensures gave { OnOk result (GavesAll self.old.recover master.now (λ nows. gaves_noted self.new.notes ≡ gave_at at frame nows (gaves_noted self.old.notes))) }
+        ensures gave { OnOk result (GaveNext at frame self.old.recover master.now self.old.notes self.new.notes) }
         ensures heard { OnOk result (emergencies_noted self.new.notes ≡ emergencies_noted self.old.notes) }
         ensures rows { OnOk result (begun_noted self.new.notes ≡ begun_noted self.old.notes) }
         ensures mails { OnOk result (MailsStay frame self.old.notes self.new.notes) }
-        ensures told { OnOk result (LosesAll frame self.old.recover master.now (λ as' bs. ReportsTo at as' bs self.old.notes → ReportsTo (suc at) as' bs self.new.notes)) }
+        ensures told { OnOk result (LosesAll frame self.old.recover master.now (ReportsNext at self.old.notes self.new.notes)) }
         ensures time { OnOk result (KeepsTime (behind frame) self.old.notes self.new.notes) }
     {
         let place = at as usize;
@@ -59,7 +58,7 @@ impl Log {
         requires homes { length self.old.homes ≡ length self.old.notes }
         requires posts { vec_len master.now.posts ≡ length self.old.notes }
         ensures slaves { SameSlaves self.old self.new }
-        ensures gave { OnOk result (GavesAll self.old.recover master.now (λ nows. gaves_noted self.new.notes ≡ gaves_behind frame nows (gaves_noted self.old.notes))) }
+        ensures gave { OnOk result (GaveLost frame self.old.recover master.now self.old.notes self.new.notes) }
         ensures heard { OnOk result (emergencies_noted self.new.notes ≡ emergencies_noted self.old.notes) }
         ensures rows { OnOk result (begun_noted self.new.notes ≡ begun_noted self.old.notes) }
         ensures mails { OnOk result (MailsStay frame self.old.notes self.new.notes) }
@@ -117,7 +116,7 @@ impl Log {
         ensures mails { OnOk result (MailsGo moment.frame (λ k. kinds_in k (events_in master.now)) self.old.notes self.new.notes) }
         ensures told { OnOk result (ReportsBy fate moment.frame master.now self.old self.new) }
         ensures switch { OnOk result (NotesSwitch (1 + length self.old.ports) moment.sent master.now.lan.happened book.old book.new) }
-        ensures time { OnOk result (TimesGo (behind moment.frame) (between (suc moment.frame)) moment.sent master.now.lan.happened book.old self.old book.new self.new) }
+        ensures time { OnOk result (TimesBehind moment.frame moment.sent master.now.lan.happened book.old self.old book.new self.new) }
     {
         self.note(alloc, master, moment, book)?;
         self.note_fate(alloc, master, fate, moment.frame)

@@ -1,13 +1,11 @@
 //! What a frame that came back brought of each slave, as its master has it: the answer of the service in hand, a return to Init, and an opening.
 
 ghost use Rattle.std.specs.Prelude.{◌≡◌, ◌<◌, ◌≤◌, suc, [], length, vec_len, OnOk, IfSome, slice_get};
-ghost use Rattle.run_notes.specs.Heard.{emergencies_noted};
-ghost use Rattle.run_notes.specs.Slaves.{gaves_noted};
-ghost use Rattle.run_notes.specs.Packets.{begun_noted};
 ghost use Rattle.run_notes.specs.Handed.{MailsStay};
 ghost use Rattle.run_notes.specs.Notes.{answered, told_noted, changed_noted, change_noted, stood};
-ghost use Rattle.run_notes.specs.Reports.{ReportsTo, ReportsOn, PassesAll};
+ghost use Rattle.run_notes.specs.Reports.{ReportsNext, ReportsOn, PassesAll};
 ghost use Rattle.run_notes.specs.Slaves.{SameSlaves};
+ghost use Rattle.run_notes.specs.Stays.{StaysBeside};
 ghost use Rattle.run_notes.specs.Times.{GoesBehind, TimeGoes, seen_to};
 ghost use Rattle.run_notes.specs.declared.notes.Awaited.TheVariants as Awaits;
 
@@ -128,11 +126,9 @@ impl Log {
         requires posts { vec_len master.now.posts ≡ length self.old.notes }
         requires awaited { IfSome (slice_get self.old.notes at) (λ n. n.awaited ≡ Awaits.Nothing) }
         ensures slaves { SameSlaves self.old self.new }
-        ensures gave { OnOk result (gaves_noted self.new.notes ≡ gaves_noted self.old.notes) }
-        ensures heard { OnOk result (emergencies_noted self.new.notes ≡ emergencies_noted self.old.notes) }
-        ensures rows { OnOk result (begun_noted self.new.notes ≡ begun_noted self.old.notes) }
+        ensures stays { OnOk result (StaysBeside self.old.notes self.new.notes) }
         ensures mails { OnOk result (MailsStay frame self.old.notes self.new.notes) }
-        ensures told { OnOk result (PassesAll frame master.now (λ as' bs. ReportsTo at as' bs self.old.notes → ReportsTo (suc at) as' bs self.new.notes)) }
+        ensures told { OnOk result (PassesAll frame master.now (ReportsNext at self.old.notes self.new.notes)) }
         ensures time { OnOk result (TimeGoes (seen_to frame at) (seen_to frame (suc at)) self.old.notes self.new.notes) }
     {
         let leaves = master.is_leaving(at);
@@ -153,11 +149,9 @@ impl Log {
         requires posts { vec_len master.now.posts ≡ length self.old.notes }
         requires awaited { IfSome (slice_get self.old.notes at) (λ n. n.awaited ≡ Awaits.Change) }
         ensures slaves { SameSlaves self.old self.new }
-        ensures gave { OnOk result (gaves_noted self.new.notes ≡ gaves_noted self.old.notes) }
-        ensures heard { OnOk result (emergencies_noted self.new.notes ≡ emergencies_noted self.old.notes) }
-        ensures rows { OnOk result (begun_noted self.new.notes ≡ begun_noted self.old.notes) }
+        ensures stays { OnOk result (StaysBeside self.old.notes self.new.notes) }
         ensures mails { OnOk result (MailsStay frame self.old.notes self.new.notes) }
-        ensures told { OnOk result (PassesAll frame master.now (λ as' bs. ReportsTo at as' bs self.old.notes → ReportsTo (suc at) as' bs self.new.notes)) }
+        ensures told { OnOk result (PassesAll frame master.now (ReportsNext at self.old.notes self.new.notes)) }
         ensures time { OnOk result (TimeGoes (seen_to frame at) (seen_to frame (suc at)) self.old.notes self.new.notes) }
     {
         let leaves = master.is_leaving(at);
@@ -179,11 +173,9 @@ impl Log {
         requires posts { vec_len master.now.posts ≡ length self.old.notes }
         requires awaited { IfSome (slice_get self.old.notes at) (λ n. n.awaited ≡ Awaits.Reply) }
         ensures slaves { SameSlaves self.old self.new }
-        ensures gave { OnOk result (gaves_noted self.new.notes ≡ gaves_noted self.old.notes) }
-        ensures heard { OnOk result (emergencies_noted self.new.notes ≡ emergencies_noted self.old.notes) }
-        ensures rows { OnOk result (begun_noted self.new.notes ≡ begun_noted self.old.notes) }
+        ensures stays { OnOk result (StaysBeside self.old.notes self.new.notes) }
         ensures mails { OnOk result (MailsStay frame self.old.notes self.new.notes) }
-        ensures told { OnOk result (PassesAll frame master.now (λ as' bs. ReportsTo at as' bs self.old.notes → ReportsTo (suc at) as' bs self.new.notes)) }
+        ensures told { OnOk result (PassesAll frame master.now (ReportsNext at self.old.notes self.new.notes)) }
         ensures time { OnOk result (TimeGoes (seen_to frame at) (seen_to frame (suc at)) self.old.notes self.new.notes) }
     {
         let leaves = master.is_leaving(at);
@@ -205,11 +197,9 @@ impl Log {
         requires notes { at < length self.old.notes }
         requires posts { vec_len master.now.posts ≡ length self.old.notes }
         ensures slaves { SameSlaves self.old self.new }
-        ensures gave { OnOk result (gaves_noted self.new.notes ≡ gaves_noted self.old.notes) }
-        ensures heard { OnOk result (emergencies_noted self.new.notes ≡ emergencies_noted self.old.notes) }
-        ensures rows { OnOk result (begun_noted self.new.notes ≡ begun_noted self.old.notes) }
+        ensures stays { OnOk result (StaysBeside self.old.notes self.new.notes) }
         ensures mails { OnOk result (MailsStay frame self.old.notes self.new.notes) }
-        ensures told { OnOk result (PassesAll frame master.now (λ as' bs. ReportsTo at as' bs self.old.notes → ReportsTo (suc at) as' bs self.new.notes)) }
+        ensures told { OnOk result (PassesAll frame master.now (ReportsNext at self.old.notes self.new.notes)) }
         ensures time { OnOk result (TimeGoes (seen_to frame at) (seen_to frame (suc at)) self.old.notes self.new.notes) }
     {
         let rows = self.notes.as_slice();
@@ -231,9 +221,7 @@ impl Log {
         requires few { length self.old.notes ≤ 16 }
         requires posts { vec_len master.now.posts ≡ length self.old.notes }
         ensures slaves { SameSlaves self.old self.new }
-        ensures gave { OnOk result (gaves_noted self.new.notes ≡ gaves_noted self.old.notes) }
-        ensures heard { OnOk result (emergencies_noted self.new.notes ≡ emergencies_noted self.old.notes) }
-        ensures rows { OnOk result (begun_noted self.new.notes ≡ begun_noted self.old.notes) }
+        ensures stays { OnOk result (StaysBeside self.old.notes self.new.notes) }
         ensures mails { OnOk result (MailsStay frame self.old.notes self.new.notes) }
         ensures told { OnOk result (PassesAll frame master.now (ReportsOn self.old.notes self.new.notes)) }
         ensures time { OnOk result (GoesBehind frame self.old.notes self.new.notes) }

@@ -1,14 +1,15 @@
 //! What came into hand of the slaves by their scripts, as their master has it.
 
-ghost use Rattle.std.specs.Prelude.{◌≡◌, ◌<◌, ◌≤◌, ◌+◌, suc, length, vec_len, OnOk};
+ghost use Rattle.std.specs.Prelude.{◌≡◌, ◌<◌, ◌≤◌, ◌+◌, length, vec_len, OnOk};
 ghost use Rattle.run_notes.specs.Handed.{AllDoubts};
 ghost use Rattle.run_notes.specs.Heard.{emergencies_noted};
 ghost use Rattle.run_notes.specs.Slaves.{gaves_noted};
 ghost use Rattle.run_notes.specs.Packets.{BeginsOn, SameBeside};
-ghost use Rattle.run_notes.specs.Reports.{ReportsTo, ReportsOn, TurnsAll};
+ghost use Rattle.run_notes.specs.Reports.{ReportsNext, ReportsOn, TurnsAll};
 ghost use Rattle.run_notes.specs.Slaves.{SameFrames, SameSlaves};
+ghost use Rattle.run_notes.specs.Stays.{StaysMaking};
 ghost use Rattle.run_notes.specs.Switched.{NotesSwitch};
-ghost use Rattle.run_notes.specs.Times.{KeepsTime, TimesGo, making};
+ghost use Rattle.run_notes.specs.Times.{TimesStay, making};
 
 use crate::log::Moment;
 use crate::standing::Log;
@@ -23,12 +24,9 @@ impl Log {
         requires notes { at < length self.old.notes }
         requires posts { vec_len master.now.posts ≡ length self.old.notes }
         ensures slaves { SameSlaves self.old self.new }
-        ensures gave { OnOk result (gaves_noted self.new.notes ≡ gaves_noted self.old.notes) }
-        ensures heard { OnOk result (emergencies_noted self.new.notes ≡ emergencies_noted self.old.notes) }
-        ensures told { OnOk result (TurnsAll frame master.now (λ as' bs. ReportsTo at as' bs self.old.notes → ReportsTo (suc at) as' bs self.new.notes)) }
+        ensures stays { OnOk result (StaysMaking frame self.old.notes self.new.notes) }
+        ensures told { OnOk result (TurnsAll frame master.now (ReportsNext at self.old.notes self.new.notes)) }
         ensures beside { OnOk result (SameBeside self.old.notes self.new.notes) }
-        ensures doubts { OnOk result (AllDoubts self.old.notes self.new.notes) }
-        ensures time { OnOk result (KeepsTime (making frame) self.old.notes self.new.notes) }
     {
         let place = at as usize;
         let number = master.scripted(at);
@@ -45,12 +43,9 @@ impl Log {
         requires few { length self.old.notes ≤ 16 }
         requires posts { vec_len master.now.posts ≡ length self.old.notes }
         ensures slaves { SameSlaves self.old self.new }
-        ensures gave { OnOk result (gaves_noted self.new.notes ≡ gaves_noted self.old.notes) }
-        ensures heard { OnOk result (emergencies_noted self.new.notes ≡ emergencies_noted self.old.notes) }
+        ensures stays { OnOk result (StaysMaking frame self.old.notes self.new.notes) }
         ensures told { OnOk result (TurnsAll frame master.now (ReportsOn self.old.notes self.new.notes)) }
         ensures beside { OnOk result (SameBeside self.old.notes self.new.notes) }
-        ensures doubts { OnOk result (AllDoubts self.old.notes self.new.notes) }
-        ensures time { OnOk result (KeepsTime (making frame) self.old.notes self.new.notes) }
     {
         for place in 0..self.notes.len() {
             self.note_script(master, frame, place as u32)?;
@@ -75,7 +70,7 @@ impl Log {
         ensures told { OnOk result (TurnsAll moment.frame master.now (ReportsOn self.old.notes self.new.notes)) }
         ensures begun { OnOk result (TurnsAll moment.frame master.now (BeginsOn moment.frame master.now self.old.notes self.new.notes)) }
         ensures doubts { OnOk result (AllDoubts self.old.notes self.new.notes) }
-        ensures time { OnOk result (TimesGo (making moment.frame) (making moment.frame) moment.sent master.now.lan.happened book.old self.old book.new self.new) }
+        ensures time { OnOk result (TimesStay (making moment.frame) moment.sent master.now.lan.happened book.old self.old book.new self.new) }
         ensures switch { OnOk result (NotesSwitch (1 + length self.old.ports) moment.sent master.now.lan.happened book.old book.new) }
     {
         self.note_scripts(master, moment.frame)?;

@@ -5,14 +5,12 @@ ghost use Rattle.std.specs.Bool.{OnTrue};
 ghost use Rattle.master_node.specs.Happened.{handed_by};
 ghost use Rattle.run_book.specs.Ports.{IsAtPort};
 ghost use Rattle.run_notes.specs.Handed.{services_noted};
-ghost use Rattle.run_notes.specs.Heard.{emergencies_noted};
-ghost use Rattle.run_notes.specs.Slaves.{gaves_noted};
-ghost use Rattle.run_notes.specs.Packets.{begun_noted};
 ghost use Rattle.run_notes.specs.Reports.{KeepsReports};
 ghost use Rattle.run_notes.specs.Slaves.{SameFrames, SameSlaves};
+ghost use Rattle.run_notes.specs.Stays.{StaysBeside};
 ghost use Rattle.run_notes.specs.Switched.{octets_of, NotesSwitch};
 ghost use Rattle.run_notes.specs.Counted.{comes_from, is_from};
-ghost use Rattle.run_notes.specs.Times.{ReceivesAt, Time, TimesGo};
+ghost use Rattle.run_notes.specs.Times.{ReceivesAt, Time, TimesStay};
 
 use crate::log::Moment;
 use crate::standing::Log;
@@ -71,14 +69,12 @@ impl Log {
         book: &mut Book,
     ) -> Result<(), NoMemory>
         ensures slaves { SameSlaves self.old self.new }
-        ensures gave { gaves_noted self.new.notes ≡ gaves_noted self.old.notes }
-        ensures heard { emergencies_noted self.new.notes ≡ emergencies_noted self.old.notes }
-        ensures rows { begun_noted self.new.notes ≡ begun_noted self.old.notes }
+        ensures stays { StaysBeside self.old.notes self.new.notes }
         ensures services { services_noted self.new.notes ≡ services_noted self.old.notes }
         ensures told { KeepsReports self.old.notes self.new.notes }
         ensures frames { SameFrames (1 + length self.old.ports) book.old book.new }
         ensures switch { OnOk result (NotesSwitch (1 + length self.old.ports) moment.sent rows.now book.old book.new) }
-        ensures time { OnOk result ((t : Time) → TimesGo t t moment.sent rows.now book.old self.old book.new self.new) }
+        ensures time { OnOk result ((t : Time) → TimesStay t moment.sent rows.now book.old self.old book.new self.new) }
     {
         for row in rows {
             self.note_switch(alloc, moment, row, book)?;
@@ -94,14 +90,12 @@ impl Log {
         book: &mut Book,
     ) -> Result<(), NoMemory>
         ensures slaves { SameSlaves self.old self.new }
-        ensures gave { gaves_noted self.new.notes ≡ gaves_noted self.old.notes }
-        ensures heard { emergencies_noted self.new.notes ≡ emergencies_noted self.old.notes }
-        ensures rows { begun_noted self.new.notes ≡ begun_noted self.old.notes }
+        ensures stays { StaysBeside self.old.notes self.new.notes }
         ensures services { services_noted self.new.notes ≡ services_noted self.old.notes }
         ensures told { KeepsReports self.old.notes self.new.notes }
         ensures frames { SameFrames (1 + length self.old.ports) book.old book.new }
         ensures switch { OnOk result (NotesSwitch (1 + length self.old.ports) moment.sent (row.now ∷ []) book.old book.new) }
-        ensures time { OnOk result ((t : Time) → TimesGo t t moment.sent (row.now ∷ []) book.old self.old book.new self.new) }
+        ensures time { OnOk result ((t : Time) → TimesStay t moment.sent (row.now ∷ []) book.old self.old book.new self.new) }
     {
         if !self.is_at_port(&row.event) {
             return Ok(());
@@ -130,9 +124,7 @@ impl Log {
     // A packet came in at a port. That of the host, port 0, is no slave's.
     fn receive(&mut self, port: usize)
         ensures slaves { SameSlaves self.old self.new }
-        ensures gave { gaves_noted self.new.notes ≡ gaves_noted self.old.notes }
-        ensures heard { emergencies_noted self.new.notes ≡ emergencies_noted self.old.notes }
-        ensures rows { begun_noted self.new.notes ≡ begun_noted self.old.notes }
+        ensures stays { StaysBeside self.old.notes self.new.notes }
         ensures services { services_noted self.new.notes ≡ services_noted self.old.notes }
         ensures told { KeepsReports self.old.notes self.new.notes }
         ensures from { ReceivesAt self.old.ports port self.old.notes self.new.notes }

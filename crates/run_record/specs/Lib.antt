@@ -14,3 +14,4 @@ pub mod Recalling
 pub mod Served
 pub mod ServedLed
 pub mod Written
+pub mod Telling

@@ -16,7 +16,7 @@ use Rattle.master_node.specs.Listing.{events_in, told_in}
 use Rattle.master_node.specs.Origins.{forwards_at}
 use Rattle.master_node.specs.Ports.{ports_behind, ports_of}
 use Rattle.master_node.specs.Recalled.{AllKnow}
-use Rattle.master_node.specs.Serving.{IsAsked, ServedUnder, run_lead, run_turn}
+use Rattle.master_node.specs.Serving.{IsAsked, run_lead, run_turn}
 use Rattle.master_node.specs.Shows.{is_carried}
 use Rattle.master_node.specs.Wants.{gave_of, IsServedOut, NoneToCome}
 use Rattle.master_node.specs.declared.event.Event.{Event}
@@ -32,11 +32,12 @@ use Rattle.master_node.specs.of_master_tour.Made.{is_in}
 use Rattle.master_node.specs.of_master_tour.Orders.{AreOnce}
 use Rattle.packets_heard.specs.Listed.{unfinished_of}
 use Rattle.master_node.specs.of_segment_model.Returned.{Returns}
+use Rattle.packets_heard.specs.Served.{serves_behind}
 use Rattle.packets_heard.specs.ServedRecalled.{ServedRecalledIn}
 use Rattle.packets_heard.specs.Servings.{AreServedBegun, ServedListed, ServedNumbered, served_begun, served_joined}
 use Rattle.run_book.specs.declared.book.SentFrame.{SentFrame}
 use Rattle.run_notes.specs.declared.standing.AskedMail.{AskedMail}
-use Rattle.run_notes.specs.Handed.{AllHanded, AllWhere, is_packet}
+use Rattle.run_notes.specs.Handed.{AllHanded}
 use Rattle.run_notes.specs.Heard.{emergencies_noted}
 use Rattle.run_notes.specs.Reports.{AllReport}
 use Rattle.run_notes.specs.Slaves.{gaves_noted, home_of}
@@ -46,7 +47,8 @@ use Rattle.run_record.specs.Mails.{passing_at, served_mails, served_overs}
 use Rattle.run_record.specs.Recalling.{state_of}
 pub use Rattle.run_record.specs.ServedLed.{ServeTo, ServedLeading, ServedTouredTo}
 use Rattle.run_record.specs.Session.{FrameEvents, IsDone, SessionState, has_live, numbers_over}
-use Rattle.run_record.specs.Written.{WereServedDue, forwards_now, served_written}
+use Rattle.run_record.specs.Telling.{ServedOver}
+use Rattle.run_record.specs.Written.{AreWritten, WereServedDue}
 use Rattle.segment_plan.specs.Sound.{IsPlan}
 use Rattle.segment_plan.specs.declared.plan.Scenario.{Scenario}
 use Rattle.segment_ring.specs.declared.wire.Fate.{Fate}
@@ -94,7 +96,7 @@ pub record Serving (plan : Scenario) (s : SessionState) (fs : List Exchanged) : 
   pub packets : PacketsNoted (λ k. served_begun leading.lives k) (λ k. served_mails leading.lives k) s.master s.notes
   pub handed : AllHanded (λ k. served_overs leading.lives k) (λ k. passing_at leading.serves k) s.notes
   pub knows : WereServedDue leading.lives → AllKnow (recalls s.master)
-  pub written : WereServedDue leading.lives → AllWhere is_packet (λ k. served_written leading.lives k) (λ k. forwards_now (lens_of plan.slaves) (map run_lead leading.serves) k) s.notes
+  pub written : WereServedDue leading.lives → AreWritten leading.lives s.notes
   pub remembers : ServedRecalledIn plan leading.toured (state_of s.master (events_of rows) s.ring)
 
 -- before its first frame
@@ -121,8 +123,8 @@ pub record TellsFrame (lens : ℕ → Lens) (forwards : ℕ → ℕ) (ws : List 
 -- JUST THIS IS TOLD to who asked behind a frame of this fate, by whatever lives are with the master while it is under way
 abbrev pub TellsBehind : Fate → List ℕ → MasterNode → MasterNode → Type 0
 TellsBehind fate back m n =
-    (lens : ℕ → Lens) (recover retry missed made : ℕ) (vs : List ServedTurn) (f : Exchanged) → f.fate ≡ fate → f.back ≡ back → ServedUnder lens recover retry m f.sent missed made vs → (fate ≡ Fates.Pass → Returns (seen lens f.sent) (seen lens back)) →
-    filter is_gateway (events_in n) ≡ told_in (λ k. told_behind lens f f.fate vs (map (served_behind lens recover retry (gives_up_at lens recover retry missed) made f) vs) k) m.tour.visit.items
+    ServedOver fate back m (λ lens recover retry missed made vs f.
+    filter is_gateway (events_in n) ≡ told_in (λ k. told_behind lens f f.fate vs (serves_behind lens recover retry missed made f vs) k) m.tour.visit.items)
 
 -- ALL THAT A FRAME OF THIS FATE TELLS behind it of the slave at a place, by the lives before it and behind it, and by what the master remembers then
 abbrev pub events_behind : (ℕ → Lens) → Exchanged → Fate → List Recall → List ServedTurn → List Serves → ℕ → List Event
@@ -132,8 +134,8 @@ events_behind lens f (Fates.Lost after) rs vs ws k = lost_at vs ws k
 -- JUST THESE EVENTS ARE LISTED behind a frame of this fate, of the slaves that it visited, by whatever lives are with the master while it is under way
 abbrev pub ListsBehind : Fate → List ℕ → MasterNode → MasterNode → Type 0
 ListsBehind fate back m n =
-    (lens : ℕ → Lens) (recover retry missed made : ℕ) (vs : List ServedTurn) (f : Exchanged) → f.fate ≡ fate → f.back ≡ back → ServedUnder lens recover retry m f.sent missed made vs → (fate ≡ Fates.Pass → Returns (seen lens f.sent) (seen lens back)) →
-    events_in n ≡ told_in (λ k. events_behind lens f f.fate (recalls n) vs (map (served_behind lens recover retry (gives_up_at lens recover retry missed) made f) vs) k) m.tour.visit.items
+    ServedOver fate back m (λ lens recover retry missed made vs f.
+    events_in n ≡ told_in (λ k. events_behind lens f f.fate (recalls n) vs (serves_behind lens recover retry missed made f vs) k) m.tour.visit.items)
 
 -- ONE FRAME MORE of a serving: it is just what the lives ask for, those behind it are what it leads them to, by them who asked gets to know what the frame tells,
 -- and just this happened at its switch

@@ -18,6 +18,8 @@ use Rattle.master_node.specs.of_master_tour.Goes.{holds_at}
 use Rattle.master_node.specs.of_task_model.Accounts.{is_free}
 use Rattle.packets_heard.specs.Over.{packet_begun}
 use Rattle.plan_ring.specs.Dues.{AllDue}
+use Rattle.run_notes.specs.Handed.{AllWhere, is_packet}
+use Rattle.run_notes.specs.declared.notes.Notes.{Notes}
 use Rattle.run_record.specs.Mails.{overs_behind}
 use Rattle.segment_ring.specs.declared.wire.Fate.TheVariants as Fates
 use Rattle.served_runs.specs.Served.{IsServedLed, Serves, served_behind}
@@ -70,3 +72,7 @@ module _ {lens : ℕ → Lens} {recover retry : ℕ} {first : List Serves} where
   WereServedDue IsServedLed.start = ⊤
   WereServedDue (IsServedLed.asks fs missed ws place key led may) = WereServedDue led
   WereServedDue (IsServedLed.on fs missed ws f vs led frame) = WereServedDue led × (f.fate ≡ Fates.Pass → AllDue lens (seen lens f.back) (map run_turn vs))
+
+  -- JUST THE ANSWERS OF ITS PACKETS ARE NOTED of each slave behind these frames of a serving, and whether one is in hand
+  abbrev pub AreWritten : {fs : List Exchanged} {missed : ℕ} {ws : List Serves} → IsServedLed lens recover retry first fs missed ws → List Notes → Type 0
+  AreWritten {fs} {missed} {ws} led notes = AllWhere is_packet (λ k. served_written led k) (λ k. forwards_now lens (map run_lead ws) k) notes

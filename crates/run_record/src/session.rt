@@ -1,4 +1,4 @@
-ghost use Rattle.std.specs.Prelude.{◌≡◌, ◌≢◌, ◌<◌, ◌≤◌, ◌==◌, ◌++◌, ◌∷◌, ◌⊎◌, ◌↔◌, [], ℕ, suc, List, vec_len, length, map, take, Ok, Some, IfOk, OnOk, OnErr, All, true, false, slice_get};
+ghost use Rattle.std.specs.Prelude.{◌≡◌, ◌≢◌, ◌<◌, ◌≤◌, ◌==◌, ◌++◌, ◌∷◌, ◌⊎◌, ◌↔◌, [], ℕ, vec_len, length, map, take, Ok, Some, IfOk, OnOk, OnErr, All, true, false, slice_get};
 ghost use Rattle.std.specs.Bool.{OnTrue, OnFalse};
 ghost use Rattle.std.specs.List.{list_any};
 ghost use Rattle.run_notes.specs.Notes.{has_given_up, stations_of};
@@ -6,34 +6,15 @@ ghost use Rattle.segment_plan.specs.Sound.{IsPlan, IsLaid, IsSlave};
 ghost use Rattle.slave_server.specs.Spec.{node_of};
 ghost use Rattle.run_book.specs.declared.book.SentFrame.{SentFrame as Recorded};
 ghost use Rattle.run_book.specs.declared.book.Ending.TheVariants as endings;
-ghost use Rattle.master_node.specs.of_frame_view.View.{Lens};
-ghost use Rattle.master_node.specs.of_frame_view.Seen.{seen};
-ghost use Rattle.master_node.specs.of_life_runs.Led.{Exchanged, Leads, Turn, gives_up_at, missed_behind};
-ghost use Rattle.master_node.specs.Brought.{HasBrought};
-ghost use Rattle.master_node.specs.Arrivals.{completed_at, ComeIn};
-ghost use Rattle.master_node.specs.Downs.{GoDown};
-ghost use Rattle.master_node.specs.Eager.{recalls};
 ghost use Rattle.master_node.specs.Happened.{HasHappened, HappensSo};
-ghost use Rattle.master_node.specs.Joined.{HasUnfinished, stand_before, stand_under, unfinished_after};
-ghost use Rattle.packets_heard.specs.Listed.{unfinished_of};
-ghost use Rattle.packets_heard.specs.Heard.{Joined, mails_by};
 ghost use Rattle.master_node.specs.Listed.{listed};
 ghost use Rattle.master_node.specs.Listing.{events_in};
 ghost use Rattle.master_node.specs.Origins.{forwards_at};
-ghost use Rattle.master_node.specs.ServedEager.{AllServedAsk, AllServedRecall};
-ghost use Rattle.master_node.specs.Serving.{ServedShows, ServedUnder, run_lead, run_turn};
-ghost use Rattle.packets_heard.specs.Served.{serves_behind};
-ghost use Rattle.master_node.specs.Shows.{IsUnderWay, lived_of};
-ghost use Rattle.master_node.specs.Told.{HasLives};
-ghost use Rattle.master_node.specs.Toured.{tour_of};
-ghost use Rattle.master_node.specs.of_segment_model.Returned.{Returns};
-ghost use Rattle.segment_ring.specs.declared.wire.Fate.TheVariants as Fates;
-ghost use Rattle.served_runs.specs.Served.{ServedTurn, served_behind};
-ghost use Rattle.packets_heard.specs.Toured.{tour_behind};
 ghost use Rattle.run_book.specs.Ports.{ports_of};
 ghost use Rattle.run_notes.specs.Switched.{SameSwitch};
 ghost use Rattle.run_record.specs.Replay.{first_ring};
 ghost use Rattle.run_record.specs.Served.{ListsBehind, ServingAsks, ServingBegins, ServingGoesOn, ServingLives, ServingRests, TellsBehind};
+ghost use Rattle.run_record.specs.Telling.{BringsBack, LivesGoOn, PacketsComeIn, PacketsJoin, PortsGoDown, RecallsBack, RecallsLost, TourGoesOn};
 ghost use Rattle.run_record.specs.Session.{budget_of, smaller_bound, rests_at, session_rows, first_session, are_at_rest, some_given_up, has_live, FrameEvents, IsDone, Steps, Stops, SwitchGrows, Asks};
 ghost use Rattle.run_notes.specs.Slaves.{slave_row, slave_rows, KeepsRest};
 
@@ -218,24 +199,16 @@ fn put_frame(
 // The master gets its frame back, or learns that it is lost: it goes on leading its slaves.
 fn tell(master: &mut MasterNode, fate: Fate, back: &FrameBuf)
     ensures posts { vec_len master.new.posts ≡ vec_len master.old.posts }
-    ensures toured { (lens : ℕ → Lens) (recover : ℕ) (as' : List Leads) → HasLives lens recover master.new (map lived_of as') → tour_of master.new ≡ tour_behind master.old.tour.retry fate as' (tour_of master.old) master.old.tour.visit.items }
-    ensures brought { fate ≡ Fates.Pass → (lens : ℕ → Lens) (recover : ℕ) (octets : List ℕ) (us : List Turn) → IsUnderWay lens recover master.old octets us → Returns (seen lens octets) (seen lens back.now.items) →
-        HasBrought master.new us (seen lens back.now.items) }
-    ensures remembers { fate ≡ Fates.Pass → (lens : ℕ → Lens) (recover retry missed made : ℕ) (vs : List ServedTurn) (f : Exchanged) → f.fate ≡ fate → f.back ≡ back.now.items → ServedUnder lens recover retry master.old f.sent missed made vs → Returns (seen lens f.sent) (seen lens back.now.items) →
-        AllServedAsk (seen lens f.sent) (recalls master.old) (map run_turn vs) → AllServedRecall lens (seen lens back.now.items) (λ v. served_behind lens recover retry (gives_up_at lens recover retry missed) made f v) vs (recalls master.old) (recalls master.new) }
-    ensures stays { (after : ℕ) → fate ≡ Fates.Lost after → (lens : ℕ → Lens) (recover retry missed made : ℕ) (vs : List ServedTurn) (f : Exchanged) → ServedUnder lens recover retry master.old f.sent missed made vs →
-        AllServedRecall lens [] (λ v. served_behind lens recover retry (gives_up_at lens recover retry missed) made f v) vs (recalls master.old) (recalls master.new) }
+    ensures toured { TourGoesOn fate master.old master.new }
+    ensures brought { BringsBack fate back.now.items master.old master.new }
+    ensures remembers { RecallsBack fate back.now.items master.old master.new }
+    ensures stays { RecallsLost fate master.old master.new }
     ensures happened { HappensSo master.old.lan master.new.lan }
-    ensures arrivals { fate ≡ Fates.Pass → (lens : ℕ → Lens) (recover : ℕ) (octets : List ℕ) (us : List Turn) (js : List Joined) → IsUnderWay lens recover master.old octets us → Returns (seen lens octets) (seen lens back.now.items) →
-        HasUnfinished master.old (map stand_under us) (unfinished_of js) → ComeIn master.old (λ k. completed_at (seen lens back.now.items) us (unfinished_of js) k) master.new }
-    ensures joins { (lens : ℕ → Lens) (recover retry missed made : ℕ) (vs : List ServedTurn) (js : List Joined) (f : Exchanged) → f.fate ≡ fate → f.back ≡ back.now.items → ServedUnder lens recover retry master.old f.sent missed made vs → (fate ≡ Fates.Pass → Returns (seen lens f.sent) (seen lens back.now.items)) →
-        HasUnfinished master.old (map stand_under (map run_turn vs)) (unfinished_of js) →
-        HasUnfinished master.new (map stand_before (map run_lead (serves_behind lens recover retry missed made f vs))) (unfinished_after (λ u. mails_by lens f f.fate u) (map run_turn vs) (unfinished_of js)) }
-    ensures leaves { (after : ℕ) → fate ≡ Fates.Lost after → (lens : ℕ → Lens) (recover retry missed made : ℕ) (vs : List ServedTurn) (f : Exchanged) → f.fate ≡ fate → ServedUnder lens recover retry master.old f.sent missed made vs →
-        GoDown master.old (map run_turn vs) (map run_lead (serves_behind lens recover retry missed made f vs)) master.new }
+    ensures arrivals { PacketsComeIn fate back.now.items master.old master.new }
+    ensures joins { PacketsJoin fate back.now.items master.old master.new }
+    ensures leaves { PortsGoDown fate master.old master.new }
     ensures counts { (k : ℕ) → forwards_at master.new.posts.items k ≡ forwards_at master.old.posts.items k }
-    ensures served { (lens : ℕ → Lens) (recover retry missed made : ℕ) (vs : List ServedTurn) (f : Exchanged) → f.fate ≡ fate → f.back ≡ back.now.items → ServedUnder lens recover retry master.old f.sent missed made vs → (fate ≡ Fates.Pass → Returns (seen lens f.sent) (seen lens back.now.items)) →
-        ServedShows lens recover retry master.new (missed_behind lens recover retry f.fate missed) (suc made) (map (served_behind lens recover retry (gives_up_at lens recover retry missed) made f) vs) }
+    ensures served { LivesGoOn fate back.now.items master.old master.new }
     ensures told { master.old.list.before ≤ 16 → TellsBehind fate back.now.items master.old master.new }
     ensures lists { master.old.list.before ≤ 16 → ListsBehind fate back.now.items master.old master.new }
     ensures whole { listed master.new.list.rows.items master.new.list.count ≡ take master.old.list.before master.old.list.rows.items ++ events_in master.new }

@@ -17,10 +17,10 @@ pub returns-clause-slaves : goal.returns-clause-slaves
 returns-clause-slaves c = slaves_more c.note_events.ensures.slaves c.note_happened.ensures.slaves
 
 pub returns-clause-gave : goal.returns-clause-gave
-returns-clause-gave c = any_ok c.note_happened.result (c.note_happened.ensures.gave ∙ c.in_ok-note_events.ensures.gave)
+returns-clause-gave c = any_ok c.note_happened.result (c.note_happened.ensures.stays.gave ∙ c.in_ok-note_events.ensures.stays.gave)
 
 pub returns-clause-heard : goal.returns-clause-heard
-returns-clause-heard c = any_ok c.note_happened.result (c.note_happened.ensures.heard ∙ c.in_ok-note_events.ensures.heard)
+returns-clause-heard c = any_ok c.note_happened.result (c.note_happened.ensures.stays.heard ∙ c.in_ok-note_events.ensures.stays.heard)
 
 pub returns-clause-told : goal.returns-clause-told
 returns-clause-told c = any_ok c.note_happened.result (λ as' r. c.note_happened.ensures.told as' (c.in_ok-note_events.ensures.told as' r))
@@ -36,7 +36,7 @@ returns-clause-switch c =
     c.note_happened.ensures.switch
 
 pub returns-clause-rows : goal.returns-clause-rows
-returns-clause-rows c = any_ok c.note_happened.result (c.note_happened.ensures.rows ∙ c.in_ok-note_events.ensures.rows)
+returns-clause-rows c = any_ok c.note_happened.result (c.note_happened.ensures.stays.rows ∙ c.in_ok-note_events.ensures.stays.rows)
 
 pub returns-clause-mails : goal.returns-clause-mails
 returns-clause-mails c =
@@ -45,7 +45,7 @@ returns-clause-mails c =
     let kinds = λ (k : ℕ). kinds_in k (events_in c.args.master.now) in
     let told : MailsBehind c.args.moment.frame kinds first mid = subst (λ (es : List Event). MailsBehind c.args.moment.frame (λ k. kinds_in k es) first mid) c.events.ensures c.in_ok-note_events.ensures.mails in
     any_ok c.note_happened.result
-    (λ at_home. mails_then c.args.moment.frame kinds first.notes mid.notes c.note_happened.new.self.notes (told at_home) (stay_services c.args.moment.frame mid.notes c.note_happened.new.self.notes c.note_happened.ensures.services c.note_happened.ensures.gave))
+    (λ at_home. mails_then c.args.moment.frame kinds first.notes mid.notes c.note_happened.new.self.notes (told at_home) (stay_services c.args.moment.frame mid.notes c.note_happened.new.self.notes c.note_happened.ensures.services c.note_happened.ensures.stays.gave))
 
 pub returns-clause-time : goal.returns-clause-time
 returns-clause-time c =

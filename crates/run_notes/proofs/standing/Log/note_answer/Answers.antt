@@ -4,15 +4,13 @@ use Rattle.std.proofs.lemmas.Result.{on_ok_weaker}
 use Rattle.run_notes.specs.declared.notes.Awaited.{Awaited}
 use Rattle.run_notes.specs.declared.notes.Notes.{Notes}
 use Rattle.run_notes.specs.Reports.{Reports}
-use Rattle.run_notes.proofs.Gaves.{same_gaves}
-use Rattle.run_notes.proofs.Heard.{same_heard}
 use Rattle.run_notes.proofs.Reporting.{to_next, got_there, awaited_at, reply_told}
 use Rattle.run_notes.proofs.Stations.{same_noted}
+use Rattle.run_notes.proofs.Stays.{stays_set}
 use Rattle.run_notes.proofs.Ways.{any_ok}
 use Rattle.script_runs.specs.Steps.{PassesSo}
 use Rattle.master_node.specs.of_life_model.Lives.{Stand}
 use Rattle.master_node.specs.Told.{Tells}
-use Rattle.run_notes.proofs.Packets.{same_begun}
 use Rattle.run_notes.proofs.Handings.{stay_set, told_goes}
 use Rattle.run_notes.specs.Handed.{GoesBy}
 use Rattle.run_notes.specs.Notes.{told_noted}
@@ -26,9 +24,9 @@ invariant_of-self c =
     let log = c.args.self.now in
     record { lit = log.lit ∙ sym (same_noted log.recover log.homes log.notes c.args.at c.at_mut-notes.result.now c.note_back.new.notes (c.note_back.ensures.gave ∙ ap (λ (n : Notes). n.gave) c.at_mut-notes.ensures.value)) }
 
-pub returns-clause-gave : goal.returns-clause-gave
-returns-clause-gave c =
-    any_ok c.note_back.result (same_gaves c.args.self.now.notes c.args.at c.at_mut-notes.result.now c.note_back.new.notes (c.note_back.ensures.gave ∙ ap (λ (n : Notes). n.gave) c.at_mut-notes.ensures.value))
+pub returns-clause-stays : goal.returns-clause-stays
+returns-clause-stays c =
+    any_ok c.note_back.result (stays_set c.args.self.now.notes c.args.at c.at_mut-notes.result.now c.note_back.new.notes c.at_mut-notes.ensures.value c.note_back.ensures.gave c.note_back.ensures.heard c.note_back.ensures.rows)
 
 pub returns-clause-told : goal.returns-clause-told
 returns-clause-told c =
@@ -45,14 +43,6 @@ returns-clause-told c =
     (reply_told c.args.frame a b n q s leaves.result opens.result bs c.args.at e (leaves.ensures lens recover bs x) (opens.ensures lens recover bs x) is_so c.in_ok-told.told c.told.new.into
     (subst (λ (old : List ℕ). IfSome (slice_get bs c.args.at) (λ a. a.lived.life.stand ≡ Stand.Open → Tells c.in_ok-told.told old c.told.new.into a.lived.life.era.side.now)) c.new-value.ensures (c.in_ok-told.ensures lens recover bs x)))) r)
     c.note_back.ensures.is
-
-pub returns-clause-heard : goal.returns-clause-heard
-returns-clause-heard c =
-    any_ok c.note_back.result (same_heard c.args.self.now.notes c.args.at c.at_mut-notes.result.now c.note_back.new.notes (c.note_back.ensures.heard ∙ ap (λ (n : Notes). n.emergencies) c.at_mut-notes.ensures.value))
-
-pub returns-clause-rows : goal.returns-clause-rows
-returns-clause-rows c =
-    any_ok c.note_back.result (same_begun c.args.self.now.notes c.args.at c.at_mut-notes.result.now c.note_back.new.notes (c.note_back.ensures.rows ∙ ap (λ (n : Notes). n.begun) c.at_mut-notes.ensures.value))
 
 pub returns-clause-mails : goal.returns-clause-mails
 returns-clause-mails c =

@@ -19,10 +19,10 @@ pub returns-clause-slaves : goal.returns-clause-slaves
 returns-clause-slaves c = slaves_more (slaves_more c.note_scripts.ensures.slaves c.note_begun.ensures.slaves) c.note_happened.ensures.slaves
 
 pub returns-clause-gave : goal.returns-clause-gave
-returns-clause-gave c = any_ok c.note_happened.result (c.note_happened.ensures.gave ∙ c.in_ok-note_begun.ensures.gave ∙ c.in_ok-note_scripts.ensures.gave)
+returns-clause-gave c = any_ok c.note_happened.result (c.note_happened.ensures.stays.gave ∙ c.in_ok-note_begun.ensures.stays.gave ∙ c.in_ok-note_scripts.ensures.stays.gave)
 
 pub returns-clause-heard : goal.returns-clause-heard
-returns-clause-heard c = any_ok c.note_happened.result (c.note_happened.ensures.heard ∙ c.in_ok-note_begun.ensures.heard ∙ c.in_ok-note_scripts.ensures.heard)
+returns-clause-heard c = any_ok c.note_happened.result (c.note_happened.ensures.stays.heard ∙ c.in_ok-note_begun.ensures.stays.heard ∙ c.in_ok-note_scripts.ensures.stays.heard)
 
 pub returns-clause-frames : goal.returns-clause-frames
 returns-clause-frames c = at_log (slaves_more c.note_scripts.ensures.slaves c.note_begun.ensures.slaves) c.note_happened.ensures.frames
@@ -43,7 +43,7 @@ returns-clause-begun c =
     let free = all_free bs mid (c.in_ok-note_scripts.ensures.told lens recover as' bs x p r) (events_in c.args.master.now) lists in
     let same = c.note_scripts.ensures.slaves.notes in
     let noted = subst (λ es. NotesBeside frame es mid new) c.events.ensures c.in_ok-note_begun.ensures.beside in
-    ap (λ z. beside_at z k) c.note_happened.ensures.rows ∙ noted free k (omega (arith, same, l)) ∙ ap (λ z. z ++ rows_by frame k (events_in c.args.master.now)) (c.in_ok-note_scripts.ensures.beside k))
+    ap (λ z. beside_at z k) c.note_happened.ensures.stays.rows ∙ noted free k (omega (arith, same, l)) ∙ ap (λ z. z ++ rows_by frame k (events_in c.args.master.now)) (c.in_ok-note_scripts.ensures.beside k))
 
 pub returns-clause-switch : goal.returns-clause-switch
 returns-clause-switch c =
@@ -60,7 +60,7 @@ returns-clause-doubts c =
     let begun = c.note_begun.new.self.notes in
     let last = c.note_happened.new.self.notes in
     any_ok c.note_happened.result
-    (doubts_then first begun last (doubts_then first scripts begun c.in_ok-note_scripts.ensures.doubts c.in_ok-note_begun.ensures.doubts) (doubts_services begun last c.note_happened.ensures.services c.note_happened.ensures.gave))
+    (doubts_then first begun last (doubts_then first scripts begun c.in_ok-note_scripts.ensures.stays.doubts c.in_ok-note_begun.ensures.stays.doubts) (doubts_services begun last c.note_happened.ensures.services c.note_happened.ensures.stays.gave))
 
 pub returns-clause-time : goal.returns-clause-time
 returns-clause-time c =
@@ -69,6 +69,6 @@ returns-clause-time c =
     let happened = c.args.master.now.lan.happened in
     on_ok_weaker c.note_happened.result
     (λ times. times_after t t t c.args.moment.sent happened c.args.self.now mid c.note_happened.new.self c.args.book.now c.note_happened.new.book (slaves_more c.note_scripts.ensures.slaves c.note_begun.ensures.slaves)
-    (goes_then (λ k. t) (λ k. t) (λ k. t) c.args.self.now.notes c.note_scripts.new.self.notes mid.notes c.in_ok-note_scripts.ensures.time c.in_ok-note_begun.ensures.time) (λ m. m)
+    (goes_then (λ k. t) (λ k. t) (λ k. t) c.args.self.now.notes c.note_scripts.new.self.notes mid.notes c.in_ok-note_scripts.ensures.stays.time c.in_ok-note_begun.ensures.stays.time) (λ m. m)
     (subst (λ rows. TimesGo t t c.args.moment.sent rows c.args.book.now mid c.note_happened.new.book c.note_happened.new.self) c.happened.ensures (times t)))
     c.note_happened.ensures.time

@@ -1,19 +1,16 @@
-use Rattle.std.proofs.Common.{refl, ◌∙◌}
+use Rattle.std.proofs.Common.{refl}
 use Rattle.run_notes.proofs.Kept.{slaves_more}
 use Rattle.run_notes.proofs.Packets.{noted_first, noted_last, noted_next, stay_then}
-use Rattle.run_notes.proofs.Handings.{doubts_same, doubts_then}
+use Rattle.run_notes.proofs.Stays.{making_more, making_same}
 use Rattle.run_notes.proofs.standing.Log.note_begun.Goals as goal
 
 pub loop-event-init : goal.loop-event-init
 loop-event-init c = record {
   slaves = record { notes = refl; homes = refl; asked = refl; ports = refl; recover = refl };
-  gave = refl;
-  heard = refl;
+  stays = making_same c.args.frame c.args.self.now.notes;
   told = λ as' r. r;
   beside = noted_first c.args.frame c.args.events.now c.args.self.now.notes;
   free = λ k f. f;
-  doubts = doubts_same c.args.self.now.notes;
-  time = λ packets all. all;
 }
 
 pub loop-event-preserved : goal.loop-event-preserved
@@ -22,12 +19,9 @@ loop-event-preserved c =
     let step = c.note_begun_by.ensures in
     record {
       slaves = slaves_more inv.slaves step.slaves;
-      gave = c.in_ok-note_begun_by.ensures.gave ∙ inv.gave;
-      heard = c.in_ok-note_begun_by.ensures.heard ∙ inv.heard;
+      stays = making_more c.args.frame c.args.self.now.notes c.loop-event.self.notes c.note_begun_by.new.self.notes inv.stays c.in_ok-note_begun_by.ensures.stays;
       told = λ as' r. c.in_ok-note_begun_by.ensures.told as' (inv.told as' r);
       beside = noted_next c.args.frame c.args.events.now c.loop-event.event-index c.event-item.result c.args.self.now.notes c.loop-event.self.notes c.note_begun_by.new.self.notes c.loop-event-test.true c.event-item.is inv.slaves.notes inv.beside inv.free c.in_ok-note_begun_by.ensures.beside;
-      doubts = doubts_then c.args.self.now.notes c.loop-event.self.notes c.note_begun_by.new.self.notes inv.doubts c.in_ok-note_begun_by.ensures.doubts;
-      time = λ packets all. c.in_ok-note_begun_by.ensures.time packets (inv.time packets all);
       free = stay_then c.args.self.now.notes c.loop-event.self.notes c.note_begun_by.new.self.notes inv.free c.in_ok-note_begun_by.ensures.free;
     }
 

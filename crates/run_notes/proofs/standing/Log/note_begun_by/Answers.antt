@@ -2,7 +2,7 @@ use Rattle.std.proofs.Common.{◌∷◌, [], sym, ap, subst}
 use Rattle.std.proofs.lemmas.Result.{on_ok_weaker}
 use Rattle.run_notes.specs.Packets.{NotesBeside, rows_of}
 use Rattle.run_notes.proofs.Packets.{no_rows}
-use Rattle.run_notes.proofs.Handings.{doubts_same}
+use Rattle.run_notes.proofs.Stays.{making_same}
 use Rattle.run_notes.proofs.standing.Log.note_begun_by.Goals as goal
 
 pub returns-in-Began-clause-beside : goal.returns-in-Began-clause-beside
@@ -51,23 +51,23 @@ returns-in-Opened-clause-beside c = no_rows c.args.frame c.args.event.now c.args
 pub returns-in-Opened-clause-free : goal.returns-in-Opened-clause-free
 returns-in-Opened-clause-free c = λ k f. f
 
-pub returns-in-Answered-clause-doubts : goal.returns-in-Answered-clause-doubts
-returns-in-Answered-clause-doubts c = doubts_same c.args.self.now.notes
+pub returns-in-Answered-clause-stays : goal.returns-in-Answered-clause-stays
+returns-in-Answered-clause-stays c = making_same c.args.frame c.args.self.now.notes
 
-pub returns-in-Emergency-clause-doubts : goal.returns-in-Emergency-clause-doubts
-returns-in-Emergency-clause-doubts c = doubts_same c.args.self.now.notes
+pub returns-in-Emergency-clause-stays : goal.returns-in-Emergency-clause-stays
+returns-in-Emergency-clause-stays c = making_same c.args.frame c.args.self.now.notes
 
-pub returns-in-GatewayReply-clause-doubts : goal.returns-in-GatewayReply-clause-doubts
-returns-in-GatewayReply-clause-doubts c = doubts_same c.args.self.now.notes
+pub returns-in-GatewayReply-clause-stays : goal.returns-in-GatewayReply-clause-stays
+returns-in-GatewayReply-clause-stays c = making_same c.args.frame c.args.self.now.notes
 
-pub returns-in-GatewayDone-clause-doubts : goal.returns-in-GatewayDone-clause-doubts
-returns-in-GatewayDone-clause-doubts c = doubts_same c.args.self.now.notes
+pub returns-in-GatewayDone-clause-stays : goal.returns-in-GatewayDone-clause-stays
+returns-in-GatewayDone-clause-stays c = making_same c.args.frame c.args.self.now.notes
 
-pub returns-in-GivenUp-clause-doubts : goal.returns-in-GivenUp-clause-doubts
-returns-in-GivenUp-clause-doubts c = doubts_same c.args.self.now.notes
+pub returns-in-GivenUp-clause-stays : goal.returns-in-GivenUp-clause-stays
+returns-in-GivenUp-clause-stays c = making_same c.args.frame c.args.self.now.notes
 
-pub returns-in-Cleared-clause-doubts : goal.returns-in-Cleared-clause-doubts
-returns-in-Cleared-clause-doubts c = doubts_same c.args.self.now.notes
+pub returns-in-Cleared-clause-stays : goal.returns-in-Cleared-clause-stays
+returns-in-Cleared-clause-stays c = making_same c.args.frame c.args.self.now.notes
 
-pub returns-in-Opened-clause-doubts : goal.returns-in-Opened-clause-doubts
-returns-in-Opened-clause-doubts c = doubts_same c.args.self.now.notes
+pub returns-in-Opened-clause-stays : goal.returns-in-Opened-clause-stays
+returns-in-Opened-clause-stays c = making_same c.args.frame c.args.self.now.notes

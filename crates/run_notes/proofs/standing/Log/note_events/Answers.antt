@@ -1,14 +1,13 @@
-use Rattle.std.proofs.Common.{refl, ◌∙◌}
+use Rattle.std.proofs.Common.{refl}
 use Rattle.run_notes.proofs.Handings.{behind_last, behind_next, stay_same}
 use Rattle.run_notes.proofs.Kept.{slaves_more}
+use Rattle.run_notes.proofs.Stays.{stays_more, stays_same}
 use Rattle.run_notes.proofs.standing.Log.note_events.Goals as goal
 
 pub loop-event-init : goal.loop-event-init
 loop-event-init c = record {
   slaves = record { notes = refl; homes = refl; asked = refl; ports = refl; recover = refl };
-  gave = refl;
-  heard = refl;
-  rows = refl;
+  stays = stays_same c.args.self.now.notes;
   told = λ as' r. r;
   time = λ packets all. all;
   mails = λ at_home. stay_same c.args.moment.frame c.args.self.now.notes;
@@ -19,12 +18,10 @@ loop-event-preserved c =
     let inv = c.loop-event.invariant in
     record {
       slaves = slaves_more inv.slaves c.note_event.ensures.slaves;
-      gave = c.in_ok-note_event.ensures.gave ∙ inv.gave;
-      heard = c.in_ok-note_event.ensures.heard ∙ inv.heard;
-      rows = c.in_ok-note_event.ensures.rows ∙ inv.rows;
+      stays = stays_more inv.stays c.in_ok-note_event.ensures.stays;
       told = λ as' r. c.in_ok-note_event.ensures.told as' (inv.told as' r);
       time = λ packets all. c.in_ok-note_event.ensures.time packets (inv.time packets all);
-      mails = behind_next c.args.moment.frame c.args.events.now c.loop-event.event-index c.event-item.result c.args.self.now c.loop-event.self c.note_event.new.self c.loop-event-test.true c.event-item.is inv.slaves.homes inv.slaves.notes inv.gave inv.mails c.in_ok-note_event.ensures.mails;
+      mails = behind_next c.args.moment.frame c.args.events.now c.loop-event.event-index c.event-item.result c.args.self.now c.loop-event.self c.note_event.new.self c.loop-event-test.true c.event-item.is inv.slaves.homes inv.slaves.notes inv.stays.gave inv.mails c.in_ok-note_event.ensures.mails;
     }
 
 pub returns-in_err-note_event-clause-slaves : goal.returns-in_err-note_event-clause-slaves

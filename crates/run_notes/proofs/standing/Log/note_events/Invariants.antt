@@ -1,9 +1,7 @@
-use Rattle.std.proofs.Common.{◌≡◌, take}
-use Rattle.run_notes.specs.Heard.{emergencies_noted}
-use Rattle.run_notes.specs.Slaves.{gaves_noted}
+use Rattle.std.proofs.Common.{take}
 use Rattle.run_notes.specs.Reports.{KeepsReports}
 use Rattle.run_notes.specs.Slaves.{SameSlaves}
-use Rattle.run_notes.specs.Packets.{begun_noted}
+use Rattle.run_notes.specs.Stays.{StaysBeside}
 use Rattle.run_notes.specs.Handed.{MailsBehind, kinds_in}
 use Rattle.run_notes.specs.Times.{KeepsTime, behind}
 use Rattle.run_notes.proofs.standing.Log.note_events.Given as goal
@@ -11,10 +9,8 @@ use Rattle.run_notes.proofs.standing.Log.note_events.Given as goal
 abbrev pub invariant-loop-event : goal.invariant-loop-event
 invariant-loop-event l = record {
   slaves : SameSlaves l.initial.self l.self;
-  gave : gaves_noted l.self.notes ≡ gaves_noted l.initial.self.notes;
-  heard : emergencies_noted l.self.notes ≡ emergencies_noted l.initial.self.notes;
+  stays : StaysBeside l.initial.self.notes l.self.notes;
   mails : MailsBehind l.moment.frame (λ k. kinds_in k (take l.event-index l.events)) l.initial.self l.self;
-  rows : begun_noted l.self.notes ≡ begun_noted l.initial.self.notes;
   told : KeepsReports l.initial.self.notes l.self.notes;
   time : KeepsTime (behind l.moment.frame) l.initial.self.notes l.self.notes;
 }

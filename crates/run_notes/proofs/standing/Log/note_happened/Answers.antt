@@ -1,5 +1,6 @@
 use Rattle.std.proofs.Common.{◌+◌, ◌∷◌, [], length, refl, ◌∙◌}
 use Rattle.run_notes.proofs.Kept.{slaves_more, frames_more, at_log}
+use Rattle.run_notes.proofs.Stays.{stays_more, stays_same}
 use Rattle.run_notes.proofs.Switched.{notes_first, notes_next, notes_last, switch_at}
 use Rattle.run_notes.proofs.Timings.{times_next}
 use Rattle.run_notes.proofs.standing.Log.note_happened.Goals as goal
@@ -7,9 +8,7 @@ use Rattle.run_notes.proofs.standing.Log.note_happened.Goals as goal
 pub loop-row-init : goal.loop-row-init
 loop-row-init c = record {
   slaves = record { notes = refl; homes = refl; asked = refl; ports = refl; recover = refl };
-  gave = refl;
-  heard = refl;
-  rows = refl;
+  stays = stays_same c.args.self.now.notes;
   services = refl;
   told = λ as' r. r;
   time = λ t may h. h;
@@ -23,9 +22,7 @@ loop-row-preserved c =
     let ports = 1 + length c.args.self.now.ports in
     record {
       slaves = slaves_more inv.slaves c.note_switch.ensures.slaves;
-      gave = c.note_switch.ensures.gave ∙ inv.gave;
-      heard = c.note_switch.ensures.heard ∙ inv.heard;
-      rows = c.note_switch.ensures.rows ∙ inv.rows;
+      stays = stays_more inv.stays c.note_switch.ensures.stays;
       services = c.note_switch.ensures.services ∙ inv.services;
       told = λ as' r. c.note_switch.ensures.told as' (inv.told as' r);
       time = λ t. times_next t c.args.moment.sent c.args.rows.now c.loop-row.row-index c.row-item.result c.args.self.now c.loop-row.self c.note_switch.new.self c.args.book.now c.loop-row.book c.note_switch.new.book c.loop-row-test.true c.row-item.is inv.slaves (inv.time t) (c.in_ok-note_switch.ensures.time t);
@@ -37,11 +34,8 @@ loop-row-preserved c =
 pub returns-in_err-note_switch-clause-slaves : goal.returns-in_err-note_switch-clause-slaves
 returns-in_err-note_switch-clause-slaves c = slaves_more c.loop-row.invariant.slaves c.note_switch.ensures.slaves
 
-pub returns-in_err-note_switch-clause-gave : goal.returns-in_err-note_switch-clause-gave
-returns-in_err-note_switch-clause-gave c = c.note_switch.ensures.gave ∙ c.loop-row.invariant.gave
-
-pub returns-in_err-note_switch-clause-heard : goal.returns-in_err-note_switch-clause-heard
-returns-in_err-note_switch-clause-heard c = c.note_switch.ensures.heard ∙ c.loop-row.invariant.heard
+pub returns-in_err-note_switch-clause-stays : goal.returns-in_err-note_switch-clause-stays
+returns-in_err-note_switch-clause-stays c = stays_more c.loop-row.invariant.stays c.note_switch.ensures.stays
 
 pub returns-in_err-note_switch-clause-told : goal.returns-in_err-note_switch-clause-told
 returns-in_err-note_switch-clause-told c = λ as' r. c.note_switch.ensures.told as' (c.loop-row.invariant.told as' r)
@@ -53,9 +47,6 @@ returns-in_err-note_switch-clause-frames c =
 pub returns-clause-switch : goal.returns-clause-switch
 returns-clause-switch c =
     notes_last (1 + length c.args.self.now.ports) c.args.moment.sent c.args.rows.now c.loop-row.row-index c.args.book.now c.loop-row.book c.loop-row-test.false c.loop-row.invariant.switch
-
-pub returns-in_err-note_switch-clause-rows : goal.returns-in_err-note_switch-clause-rows
-returns-in_err-note_switch-clause-rows c = c.note_switch.ensures.rows ∙ c.loop-row.invariant.rows
 
 pub returns-in_err-note_switch-clause-services : goal.returns-in_err-note_switch-clause-services
 returns-in_err-note_switch-clause-services c = c.note_switch.ensures.services ∙ c.loop-row.invariant.services

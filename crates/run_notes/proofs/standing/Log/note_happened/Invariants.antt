@@ -1,10 +1,8 @@
 use Rattle.std.proofs.Common.{◌≡◌, ◌+◌, length}
-use Rattle.run_notes.specs.Heard.{emergencies_noted}
-use Rattle.run_notes.specs.Slaves.{gaves_noted}
 use Rattle.run_notes.specs.Reports.{KeepsReports}
 use Rattle.run_notes.specs.Slaves.{SameSlaves, SameFrames}
+use Rattle.run_notes.specs.Stays.{StaysBeside}
 use Rattle.run_notes.proofs.Switched.{NotesTo}
-use Rattle.run_notes.specs.Packets.{begun_noted}
 use Rattle.run_notes.specs.Handed.{services_noted}
 use Rattle.run_notes.specs.Times.{Time, TimesGo}
 use Rattle.run_notes.proofs.standing.Log.note_happened.Given as goal
@@ -12,10 +10,8 @@ use Rattle.run_notes.proofs.standing.Log.note_happened.Given as goal
 abbrev pub invariant-loop-row : goal.invariant-loop-row
 invariant-loop-row l = record {
   slaves : SameSlaves l.initial.self l.self;
-  gave : gaves_noted l.self.notes ≡ gaves_noted l.initial.self.notes;
-  heard : emergencies_noted l.self.notes ≡ emergencies_noted l.initial.self.notes;
+  stays : StaysBeside l.initial.self.notes l.self.notes;
   services : services_noted l.self.notes ≡ services_noted l.initial.self.notes;
-  rows : begun_noted l.self.notes ≡ begun_noted l.initial.self.notes;
   told : KeepsReports l.initial.self.notes l.self.notes;
   time : (t : Time) → TimesGo t t l.moment.sent l.rows l.initial.book l.initial.self l.book l.self;
   frames : SameFrames (1 + length l.initial.self.ports) l.initial.book l.book;

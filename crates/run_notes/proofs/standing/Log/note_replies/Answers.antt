@@ -1,5 +1,6 @@
-use Rattle.std.proofs.Common.{◌≡◌, ◌+◌, ℕ, suc, [], refl, ◌∙◌, subst, arith}
+use Rattle.std.proofs.Common.{◌≡◌, ◌+◌, ℕ, suc, [], refl, subst, arith}
 use Rattle.run_notes.proofs.Kept.{slaves_more}
+use Rattle.run_notes.proofs.Stays.{stays_more, stays_same}
 use Rattle.run_notes.specs.Reports.{ReportsTo}
 use Rattle.run_notes.proofs.Reporting.{to_first, to_last, both_lengths}
 use Rattle.script_runs.specs.Steps.{PassesSo}
@@ -11,9 +12,7 @@ use Rattle.run_notes.proofs.standing.Log.note_replies.Goals as goal
 pub loop-place-init : goal.loop-place-init
 loop-place-init c = record {
   slaves = record { notes = refl; homes = refl; asked = refl; ports = refl; recover = refl };
-  gave = refl;
-  heard = refl;
-  rows = refl;
+  stays = stays_same c.args.self.now.notes;
   mails = stay_same c.args.frame c.args.self.now.notes;
   time = seen_first c.args.frame c.args.self.now.notes;
   told = λ lens recover as' bs x p r. to_first as' bs c.args.self.now.notes (both_lengths (λ a b. PassesSo c.args.frame a b) as' bs p) r;
@@ -25,9 +24,7 @@ loop-place-preserved c =
     let place = c.loop-place.place in
     record {
       slaves = slaves_more inv.slaves c.note_reply.ensures.slaves;
-      gave = c.in_ok-note_reply.ensures.gave ∙ inv.gave;
-      heard = c.in_ok-note_reply.ensures.heard ∙ inv.heard;
-      rows = c.in_ok-note_reply.ensures.rows ∙ inv.rows;
+      stays = stays_more inv.stays c.in_ok-note_reply.ensures.stays;
       mails = mails_then c.args.frame (λ k. []) c.args.self.now.notes c.loop-place.self.notes c.note_reply.new.self.notes inv.mails c.in_ok-note_reply.ensures.mails;
       time = λ packets all.
           let e : suc place ≡ place + 1 = omega arith in

@@ -2,19 +2,31 @@ use Rattle.std.proofs.Common.{suc, [], ◌∙◌}
 use Rattle.std.proofs.lemmas.Result.{on_ok_weaker}
 use Rattle.run_notes.proofs.Handings.{mails_then, stay_services}
 use Rattle.run_notes.proofs.Timings.{goes_then}
+use Rattle.run_notes.specs.Stays.{StaysBeside}
 use Rattle.run_notes.specs.Times.{behind, between}
 use Rattle.run_notes.proofs.standing.Log.note_returned.Goals as goal
 
+pub returns-clause-gave : goal.returns-clause-gave
+returns-clause-gave c =
+    on_ok_weaker c.note_replies.result
+    (λ (s : StaysBeside c.note_emergencies.new.self.notes c.note_replies.new.self.notes). s.gave ∙ c.in_ok-note_emergencies.ensures.gave)
+    c.note_replies.ensures.stays
+
 pub returns-clause-heard : goal.returns-clause-heard
 returns-clause-heard c =
-    on_ok_weaker c.note_replies.result (λ same. λ us back hss x noted. same ∙ c.in_ok-note_emergencies.ensures.heard us back hss x noted) c.note_replies.ensures.heard
+    on_ok_weaker c.note_replies.result
+    (λ (s : StaysBeside c.note_emergencies.new.self.notes c.note_replies.new.self.notes). λ us back hss x noted. s.heard ∙ c.in_ok-note_emergencies.ensures.heard us back hss x noted)
+    c.note_replies.ensures.stays
 
 pub returns-clause-told : goal.returns-clause-told
 returns-clause-told c =
     on_ok_weaker c.note_replies.result (λ t. λ lens recover as' bs x p r. t lens recover as' bs x p (c.in_ok-note_emergencies.ensures.told as' r)) c.note_replies.ensures.told
 
 pub returns-clause-rows : goal.returns-clause-rows
-returns-clause-rows c = on_ok_weaker c.note_replies.result (λ same. same ∙ c.in_ok-note_emergencies.ensures.rows) c.note_replies.ensures.rows
+returns-clause-rows c =
+    on_ok_weaker c.note_replies.result
+    (λ (s : StaysBeside c.note_emergencies.new.self.notes c.note_replies.new.self.notes). s.rows ∙ c.in_ok-note_emergencies.ensures.rows)
+    c.note_replies.ensures.stays
 
 pub returns-clause-mails : goal.returns-clause-mails
 returns-clause-mails c =

@@ -3,18 +3,15 @@ use Rattle.std.proofs.lemmas.Result.{on_ok_weaker}
 use Rattle.run_notes.specs.declared.notes.Notes.{Notes}
 use Rattle.run_notes.specs.Notes.{began_script}
 use Rattle.run_notes.specs.Reports.{Reports}
-use Rattle.run_notes.proofs.Gaves.{same_gaves}
-use Rattle.run_notes.proofs.Heard.{same_heard}
 use Rattle.run_notes.proofs.Reporting.{to_next, to_same, got_there, same_whole, script_same, script_more}
 use Rattle.run_notes.proofs.Stations.{same_noted}
-use Rattle.run_notes.proofs.Ways.{any_ok}
 use Rattle.script_runs.specs.Steps.{TurnsSo}
 use Rattle.run_notes.proofs.Packets.{script_rows}
-use Rattle.run_notes.proofs.Handings.{doubts_same, doubts_set, script_doubt}
+use Rattle.run_notes.proofs.Handings.{script_doubt}
 use Rattle.run_notes.specs.Handed.{Doubts}
 use Rattle.run_notes.proofs.Times.{time_script}
-use Rattle.run_notes.proofs.Timings.{keeps_set}
 use Rattle.run_notes.specs.Times.{Goes, making}
+use Rattle.run_notes.proofs.Stays.{making_same, making_set}
 use Rattle.run_notes.proofs.standing.Log.note_script.Goals as goal
 
 pub returns-then-number-rows-clause-told : goal.returns-then-number-rows-clause-told
@@ -33,9 +30,18 @@ invariant_of-self c =
     let log = c.args.self.now in
     record { lit = log.lit ∙ sym (same_noted log.recover log.homes log.notes c.args.at c.at_mut.result.now c.began_script.new.self (c.began_script.ensures.gave ∙ ap (λ (n : Notes). n.gave) c.at_mut.ensures.value)) }
 
-pub returns-clause-gave : goal.returns-clause-gave
-returns-clause-gave c =
-    any_ok c.began_script.result (same_gaves c.args.self.now.notes c.args.at c.at_mut.result.now c.began_script.new.self (c.began_script.ensures.gave ∙ ap (λ (n : Notes). n.gave) c.at_mut.ensures.value))
+pub returns-then-number-rows-clause-stays : goal.returns-then-number-rows-clause-stays
+returns-then-number-rows-clause-stays c = making_same c.args.frame c.args.self.now.notes
+
+pub returns-clause-stays : goal.returns-clause-stays
+returns-clause-stays c =
+    let t = making c.args.frame in
+    let n = c.at_mut.result.now in
+    on_ok_weaker c.began_script.result
+    (λ is. making_set c.args.frame c.args.self.now.notes c.args.at n c.began_script.new.self c.at_mut.ensures.value c.began_script.ensures.gave c.began_script.ensures.heard
+    (subst (λ (z : Notes). Doubts n z) (sym is) (script_doubt n c.scripted-number.result c.changes_state-state.result c.args.frame))
+    (subst (λ (z : Notes). Goes t t n z) (sym is) (time_script c.args.frame n c.scripted-number.result c.changes_state-state.result)))
+    c.began_script.ensures.is
 
 pub returns-clause-told : goal.returns-clause-told
 returns-clause-told c =
@@ -55,34 +61,9 @@ returns-clause-told c =
     (script_more c.args.frame a b n q s bs c.args.at e c.scripted-number.result more (c.scripted-number.ensures lens recover bs x) c.changes_state-state.result (c.changes_state-state.ensures lens recover bs x))) r)
     c.began_script.ensures.is
 
-pub returns-clause-heard : goal.returns-clause-heard
-returns-clause-heard c =
-    any_ok c.began_script.result (same_heard c.args.self.now.notes c.args.at c.at_mut.result.now c.began_script.new.self (c.began_script.ensures.heard ∙ ap (λ (n : Notes). n.emergencies) c.at_mut.ensures.value))
-
 pub returns-clause-beside : goal.returns-clause-beside
 returns-clause-beside c =
     let log = c.args.self.now in
     on_ok_weaker c.began_script.result
     (λ is. script_rows log.notes c.args.at c.at_mut.result.now c.began_script.new.self c.scripted-number.result c.changes_state-state.result c.args.frame c.requires.notes c.at_mut.ensures.value is)
-    c.began_script.ensures.is
-
-pub returns-then-number-rows-clause-doubts : goal.returns-then-number-rows-clause-doubts
-returns-then-number-rows-clause-doubts c = doubts_same c.args.self.now.notes
-
-pub returns-clause-doubts : goal.returns-clause-doubts
-returns-clause-doubts c =
-    let n = c.at_mut.result.now in
-    on_ok_weaker c.began_script.result
-    (λ is. doubts_set c.args.self.now.notes c.args.at n c.began_script.new.self c.at_mut.ensures.value (subst (λ (z : Notes). Doubts n z) (sym is) (script_doubt n c.scripted-number.result c.changes_state-state.result c.args.frame)))
-    c.began_script.ensures.is
-
-pub returns-then-number-rows-clause-time : goal.returns-then-number-rows-clause-time
-returns-then-number-rows-clause-time c = λ packets all. all
-
-pub returns-clause-time : goal.returns-clause-time
-returns-clause-time c =
-    let t = making c.args.frame in
-    let n = c.at_mut.result.now in
-    on_ok_weaker c.began_script.result
-    (λ is. keeps_set t c.args.self.now.notes c.args.at n c.began_script.new.self c.at_mut.ensures.value (subst (λ (z : Notes). Goes t t n z) (sym is) (time_script c.args.frame n c.scripted-number.result c.changes_state-state.result)))
     c.began_script.ensures.is

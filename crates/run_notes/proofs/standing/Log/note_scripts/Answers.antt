@@ -3,17 +3,14 @@ use Rattle.run_notes.proofs.Kept.{slaves_more}
 use Rattle.run_notes.specs.Reports.{ReportsTo}
 use Rattle.run_notes.proofs.Reporting.{to_first, to_last, both_lengths}
 use Rattle.script_runs.specs.Steps.{TurnsSo}
-use Rattle.run_notes.proofs.Handings.{doubts_same, doubts_then}
+use Rattle.run_notes.proofs.Stays.{making_more, making_same}
 use Rattle.run_notes.proofs.standing.Log.note_scripts.Goals as goal
 
 pub loop-place-init : goal.loop-place-init
 loop-place-init c = record {
   slaves = record { notes = refl; homes = refl; asked = refl; ports = refl; recover = refl };
-  gave = refl;
-  heard = refl;
+  stays = making_same c.args.frame c.args.self.now.notes;
   beside = λ k. refl;
-  doubts = doubts_same c.args.self.now.notes;
-  time = λ packets all. all;
   told = λ lens recover as' bs x p r. to_first as' bs c.args.self.now.notes (both_lengths (λ a b. TurnsSo c.args.frame a b) as' bs p) r;
 }
 
@@ -23,10 +20,7 @@ loop-place-preserved c =
     let place = c.loop-place.place in
     record {
       slaves = slaves_more inv.slaves c.note_script.ensures.slaves;
-      gave = c.in_ok-note_script.ensures.gave ∙ inv.gave;
-      heard = c.in_ok-note_script.ensures.heard ∙ inv.heard;
-      doubts = doubts_then c.args.self.now.notes c.loop-place.self.notes c.note_script.new.self.notes inv.doubts c.in_ok-note_script.ensures.doubts;
-      time = λ packets all. c.in_ok-note_script.ensures.time packets (inv.time packets all);
+      stays = making_more c.args.frame c.args.self.now.notes c.loop-place.self.notes c.note_script.new.self.notes inv.stays c.in_ok-note_script.ensures.stays;
       beside = λ k. c.in_ok-note_script.ensures.beside k ∙ inv.beside k;
       told = λ lens recover as' bs x p r.
           let e : suc place ≡ place + 1 = omega arith in

@@ -1,13 +1,11 @@
 use Rattle.std.proofs.Common.{◌<◌, ℕ, List, length, sym, ap, ◌∙◌, arith}
 use Rattle.std.specs.Prelude.{Option, slice_set}
 use Rattle.std.proofs.lemmas.Result.{on_ok_weaker}
-use Rattle.run_notes.specs.declared.notes.Notes.{Notes}
 use Rattle.run_notes.specs.Notes.{stations_of}
-use Rattle.run_notes.proofs.Gaves.{same_gaves}
-use Rattle.run_notes.proofs.Heard.{same_heard}
 use Rattle.run_notes.proofs.Reporting.{set_reports}
 use Rattle.run_notes.proofs.Stations.{among_stations, one_noted}
-use Rattle.run_notes.proofs.Packets.{same_begun}
+use Rattle.run_notes.proofs.Stays.{stays_set}
+use Rattle.run_notes.proofs.Ways.{on_ok_all}
 use Rattle.run_notes.proofs.Handings.{beyond, past_end, told_set}
 use Rattle.run_notes.specs.Handed.{kind_told}
 use Rattle.run_notes.proofs.Timings.{keeps_set}
@@ -33,27 +31,15 @@ invariant_of-self c =
           ∙ one_noted log.recover log.homes log.notes c.args.at _ c.note_at-noted.new.notes (sym e);
     }
 
-pub returns-clause-gave : goal.returns-clause-gave
-returns-clause-gave c =
-    on_ok_weaker c.note_at-noted.result
-    (λ same. same_gaves c.args.self.now.notes c.args.at c.at_mut-notes.result.now c.note_at-noted.new.notes (same ∙ ap (λ (n : Notes). n.gave) c.at_mut-notes.ensures.value))
-    c.note_at-noted.ensures.gave
+pub returns-clause-stays : goal.returns-clause-stays
+returns-clause-stays c =
+    on_ok_all c.note_at-noted.result
+    (λ gave heard rows. stays_set c.args.self.now.notes c.args.at c.at_mut-notes.result.now c.note_at-noted.new.notes c.at_mut-notes.ensures.value gave heard rows)
+    c.note_at-noted.ensures.gave c.note_at-noted.ensures.heard c.note_at-noted.ensures.rows
 
 pub returns-clause-told : goal.returns-clause-told
 returns-clause-told c =
     on_ok_weaker c.note_at-noted.result (λ f. set_reports c.args.self.now.notes c.args.at c.at_mut-notes.result.now c.note_at-noted.new.notes c.at_mut-notes.ensures.value f) c.note_at-noted.ensures.told
-
-pub returns-clause-heard : goal.returns-clause-heard
-returns-clause-heard c =
-    on_ok_weaker c.note_at-noted.result
-    (λ same. same_heard c.args.self.now.notes c.args.at c.at_mut-notes.result.now c.note_at-noted.new.notes (same ∙ ap (λ (n : Notes). n.emergencies) c.at_mut-notes.ensures.value))
-    c.note_at-noted.ensures.heard
-
-pub returns-clause-rows : goal.returns-clause-rows
-returns-clause-rows c =
-    on_ok_weaker c.note_at-noted.result
-    (λ same. same_begun c.args.self.now.notes c.args.at c.at_mut-notes.result.now c.note_at-noted.new.notes (same ∙ ap (λ (n : Notes). n.begun) c.at_mut-notes.ensures.value))
-    c.note_at-noted.ensures.rows
 
 pub returns-in_default-clause-mails : goal.returns-in_default-clause-mails
 returns-in_default-clause-mails c = λ at_home.

@@ -3,13 +3,11 @@ use Rattle.std.proofs.lemmas.Result.{on_ok_weaker}
 use Rattle.run_notes.specs.declared.notes.Awaited.{Awaited}
 use Rattle.run_notes.specs.declared.notes.Notes.{Notes}
 use Rattle.run_notes.specs.Reports.{Reports}
-use Rattle.run_notes.proofs.Gaves.{same_gaves}
-use Rattle.run_notes.proofs.Heard.{same_heard}
 use Rattle.run_notes.proofs.Reporting.{to_next, got_there, awaited_at, reply_none}
 use Rattle.run_notes.proofs.Stations.{same_noted}
+use Rattle.run_notes.proofs.Stays.{stays_set}
 use Rattle.run_notes.proofs.Ways.{any_ok}
 use Rattle.script_runs.specs.Steps.{PassesSo}
-use Rattle.run_notes.proofs.Packets.{same_begun}
 use Rattle.run_notes.proofs.Handings.{stay_set, stood_goes}
 use Rattle.run_notes.specs.Handed.{GoesBy}
 use Rattle.run_notes.proofs.Times.{time_stood}
@@ -22,9 +20,9 @@ invariant_of-self c =
     let log = c.args.self.now in
     record { lit = log.lit ∙ sym (same_noted log.recover log.homes log.notes c.args.at c.at_mut-notes.result.now c.stands.new.self (c.stands.ensures.gave ∙ ap (λ (n : Notes). n.gave) c.at_mut-notes.ensures.value)) }
 
-pub returns-clause-gave : goal.returns-clause-gave
-returns-clause-gave c =
-    any_ok c.stands.result (same_gaves c.args.self.now.notes c.args.at c.at_mut-notes.result.now c.stands.new.self (c.stands.ensures.gave ∙ ap (λ (n : Notes). n.gave) c.at_mut-notes.ensures.value))
+pub returns-clause-stays : goal.returns-clause-stays
+returns-clause-stays c =
+    any_ok c.stands.result (stays_set c.args.self.now.notes c.args.at c.at_mut-notes.result.now c.stands.new.self c.at_mut-notes.ensures.value c.stands.ensures.gave c.stands.ensures.heard c.stands.ensures.rows)
 
 pub returns-clause-told : goal.returns-clause-told
 returns-clause-told c =
@@ -40,14 +38,6 @@ returns-clause-told c =
     (λ a b e q s. subst (λ (z : Notes). Reports b z) (sym is)
     (reply_none c.args.frame a b n q s leaves.result opens.result bs c.args.at e (leaves.ensures lens recover bs x) (opens.ensures lens recover bs x) is_so)) r)
     c.stands.ensures.is
-
-pub returns-clause-heard : goal.returns-clause-heard
-returns-clause-heard c =
-    any_ok c.stands.result (same_heard c.args.self.now.notes c.args.at c.at_mut-notes.result.now c.stands.new.self (c.stands.ensures.heard ∙ ap (λ (n : Notes). n.emergencies) c.at_mut-notes.ensures.value))
-
-pub returns-clause-rows : goal.returns-clause-rows
-returns-clause-rows c =
-    any_ok c.stands.result (same_begun c.args.self.now.notes c.args.at c.at_mut-notes.result.now c.stands.new.self (c.stands.ensures.rows ∙ ap (λ (n : Notes). n.begun) c.at_mut-notes.ensures.value))
 
 pub returns-clause-mails : goal.returns-clause-mails
 returns-clause-mails c =

@@ -1,11 +1,9 @@
 use Rattle.std.proofs.Common.{sym, ap, ◌∙◌, subst, arith}
 use Rattle.run_notes.specs.declared.notes.Notes.{Notes}
 use Rattle.run_notes.specs.Reports.{Reports}
-use Rattle.run_notes.proofs.Gaves.{same_gaves}
-use Rattle.run_notes.proofs.Heard.{same_heard}
 use Rattle.run_notes.proofs.Reporting.{set_reports}
 use Rattle.run_notes.proofs.Stations.{same_noted}
-use Rattle.run_notes.proofs.Packets.{same_begun}
+use Rattle.run_notes.proofs.Stays.{stays_set}
 use Rattle.run_notes.proofs.Handings.{same_services}
 use Rattle.run_notes.specs.Handed.{services_of}
 use Rattle.run_notes.proofs.Timings.{host_receives, none_receives, one_receives, past_receives}
@@ -21,21 +19,14 @@ invariant_of-self c =
           (ap (λ (n : Notes). n.gave) c.received.ensures ∙ ap (λ (n : Notes). n.gave) c.at_mut.ensures.value));
     }
 
-pub returns-clause-gave : goal.returns-clause-gave
-returns-clause-gave c =
-    same_gaves c.args.self.now.notes c.in-Some.field-0.now c.at_mut.result.now c.received.new.self (ap (λ (n : Notes). n.gave) c.received.ensures ∙ ap (λ (n : Notes). n.gave) c.at_mut.ensures.value)
+pub returns-clause-stays : goal.returns-clause-stays
+returns-clause-stays c =
+    stays_set c.args.self.now.notes c.in-Some.field-0.now c.at_mut.result.now c.received.new.self c.at_mut.ensures.value
+    (ap (λ (n : Notes). n.gave) c.received.ensures) (ap (λ (n : Notes). n.emergencies) c.received.ensures) (ap (λ (n : Notes). n.begun) c.received.ensures)
 
 pub returns-clause-told : goal.returns-clause-told
 returns-clause-told c =
     set_reports c.args.self.now.notes c.in-Some.field-0.now c.at_mut.result.now c.received.new.self c.at_mut.ensures.value (λ a r. subst (λ (n : Notes). Reports a n) (sym c.received.ensures) r)
-
-pub returns-clause-heard : goal.returns-clause-heard
-returns-clause-heard c =
-    same_heard c.args.self.now.notes c.in-Some.field-0.now c.at_mut.result.now c.received.new.self (ap (λ (n : Notes). n.emergencies) c.received.ensures ∙ ap (λ (n : Notes). n.emergencies) c.at_mut.ensures.value)
-
-pub returns-clause-rows : goal.returns-clause-rows
-returns-clause-rows c =
-    same_begun c.args.self.now.notes c.in-Some.field-0.now c.at_mut.result.now c.received.new.self (ap (λ (n : Notes). n.begun) c.received.ensures ∙ ap (λ (n : Notes). n.begun) c.at_mut.ensures.value)
 
 pub returns-clause-services : goal.returns-clause-services
 returns-clause-services c =
