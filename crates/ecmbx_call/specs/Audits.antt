@@ -1,5 +1,5 @@
 -- How a call ends that audits a capture.
-use Rattle.std.specs.Prelude.{◌≡◌, ℕ, List, [], ◌∷◌, ◌++◌, length, map, Ok, Err}
+use Rattle.std.specs.Prelude.{◌≡◌, ℕ, List, [], ◌∷◌, ◌++◌, length, map, Option, Ok, Err}
 use Rattle.capture_audit.specs.declared.station.StationAudit.{StationAudit}
 use Rattle.capture_audit.specs.declared.verdict.Verdict.{Verdict}
 use Rattle.capture_audit.specs.declared.verdict.Verdict.TheVariants.{Yes, No}
@@ -9,7 +9,7 @@ use Rattle.pcap_frames.specs.declared.capture.PcapFault.{PcapFault}
 use Rattle.pcap_frames.specs.Reading.{capture_read}
 use Rattle.ecmbx_words.specs.declared.status.Status.{Status}
 use Rattle.ecmbx_words.specs.declared.status.Status.TheVariants as statuses
-use Rattle.ecmbx_words.specs.Ends.{text_of}
+use Rattle.ecmbx_words.specs.Ends.{text_of, PutAll}
 use Rattle.ecmbx_words.specs.Texts.{station_line, yes_line, no_line, capture_line}
 
 -- a station, and how many mails were sent there and accepted
@@ -29,6 +29,10 @@ verdict_text (No rule packet) = no_line rule packet
 abbrev pub verdict_status : Verdict → Status
 verdict_status (Yes stations) = statuses.Done
 verdict_status (No rule packet) = statuses.AuditNo
+
+-- the text of a verdict is put, and the call ends with its status
+abbrev pub PutsVerdict : Verdict → Option (List ℕ) → Option (List ℕ) → Status → Type 0
+PutsVerdict verdict old new status = PutAll (verdict_status verdict) (verdict_text verdict) old new status
 
 -- a capture: refused, or its verdict
 pub data AuditCourse (octets : List ℕ) : Status → List ℕ → Type 0 where

@@ -9,3 +9,4 @@ pub mod Calls
 pub mod First
 pub mod Asks
 pub mod Linked
+pub mod Objects

@@ -2,9 +2,8 @@ ghost use Rattle.std.specs.Prelude.{◌≡◌, ◌≤◌, Ok, length, map, IfOk}
 ghost use Rattle.ec_outside.specs.Faults.{Rose};
 ghost use Rattle.pcap_frames.specs.Reading.{capture_read};
 ghost use Rattle.capture_audit.specs.Audit.{verdict_of};
-ghost use Rattle.ecmbx_words.specs.Ends.{PutAll};
 ghost use Rattle.ecmbx_words.specs.declared.status.Status.TheVariants as statuses;
-ghost use Rattle.ecmbx_call.specs.Audits.{line_of, yes_lines, verdict_status, verdict_text};
+ghost use Rattle.ecmbx_call.specs.Audits.{line_of, yes_lines, PutsVerdict};
 
 use capture_audit::{StationAudit, Verdict, audit};
 use ec_fields::{NoMemory, Octets, Rows};
@@ -37,7 +36,7 @@ fn yes_lines(alloc: Global, stations: &[StationAudit]) -> Result<Rows<Octets>, N
 
 // Puts a verdict.
 fn tell<O: Sink>(alloc: Global, verdict: &Verdict, out: &mut O) -> Status
-    ensures put { PutAll (verdict_status verdict.now) (verdict_text verdict.now) (O.written out.old) (O.written out.new) result }
+    ensures put { PutsVerdict verdict.now (O.written out.old) (O.written out.new) result }
     ensures sink { result ≡ statuses.SinkFault → Rose (O.sink_faults out.old) (O.sink_faults out.new) }
 {
     match verdict {
@@ -61,7 +60,7 @@ pub fn audit_capture<O: Sink>(
 ) -> Status
     requires read { capture_read octets.now ≡ Ok capture.now }
     requires few { length octets.now ≤ 16777216 }
-    ensures put { PutAll (verdict_status (verdict_of octets.now capture.now)) (verdict_text (verdict_of octets.now capture.now)) (O.written out.old) (O.written out.new) result }
+    ensures put { PutsVerdict (verdict_of octets.now capture.now) (O.written out.old) (O.written out.new) result }
     ensures sink { result ≡ statuses.SinkFault → Rose (O.sink_faults out.old) (O.sink_faults out.new) }
 {
     match audit(alloc, octets, capture) {

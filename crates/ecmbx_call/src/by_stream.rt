@@ -3,11 +3,10 @@ ghost use Rattle.ec_outside.specs.Faults.{Rose};
 ghost use Rattle.run_book.specs.Book.{IsNew};
 ghost use Rattle.ecmbx_words.specs.declared.status.Status.TheVariants as statuses;
 ghost use Rattle.ecmbx_words.specs.Form.{as_serve};
-ghost use Rattle.ecmbx_call.specs.Course.{words_of, CarriesOut, Began};
-ghost use Rattle.ecmbx_call.specs.Serving.{ServesFile, ServedIn};
+ghost use Rattle.ecmbx_call.specs.Course.{words_of, Began};
+ghost use Rattle.ecmbx_call.specs.Serving.{ServedIn};
 ghost use Rattle.ecmbx_call.specs.Causes.{IsServing};
-ghost use Rattle.ecmbx_call.specs.Calls.{Calls};
-ghost use Rattle.ecmbx_call.specs.Linked.{told_first, told_last};
+ghost use Rattle.ecmbx_call.specs.Objects.{first_of, last_of, ServesOnLink, CarriesOnLink, CallsOnLink};
 
 use crate::top::serve_file;
 use ec_links::Link;
@@ -29,9 +28,9 @@ fn stream_file<F: Files, O: Sink, L: Link>(
 ) -> (Status, L)
     requires new { IsNew book.old }
     requires some { 0 < count }
-    ensures course { ServesFile F.table F.file_faults O.written name.now count (told_first L.given L.sent L.over L.link_faults link) (told_last L.given L.sent L.over L.link_faults link result.1) book.new files.old files.new out.old out.new result.0 }
+    ensures course { ServesOnLink F.Files O.Sink L.Link name.now count link result.1 book.new files.old files.new out.old out.new result.0 }
     ensures sink { result.0 ≡ statuses.SinkFault → Rose (O.sink_faults out.old) (O.sink_faults out.new) }
-    ensures book { IsNew book.new ⊎ ServedIn name.now (F.table files.old) count (told_first L.given L.sent L.over L.link_faults link) (told_last L.given L.sent L.over L.link_faults link result.1) book.new }
+    ensures book { IsNew book.new ⊎ ServedIn name.now (F.table files.old) count (first_of L.Link link) (last_of L.Link link result.1) book.new }
     ensures same { F.table files.new ≡ F.table files.old }
 {
     let mut port = WholePort::new(link);
@@ -48,9 +47,9 @@ fn carry_out<F: Files, O: Sink, L: Link>(
     book: &mut Book,
 ) -> (Status, L)
     requires { IsNew book.old }
-    ensures course { CarriesOut F.table F.file_faults O.written (as_serve (words_of words.now)) (told_first L.given L.sent L.over L.link_faults link) (told_last L.given L.sent L.over L.link_faults link result.1) book.new files.old files.new out.old out.new result.0 }
+    ensures course { CarriesOnLink F.Files O.Sink L.Link (as_serve (words_of words.now)) link result.1 book.new files.old files.new out.old out.new result.0 }
     ensures sink { result.0 ≡ statuses.SinkFault → Rose (O.sink_faults out.old) (O.sink_faults out.new) }
-    ensures book { IsNew book.new ⊎ Began (as_serve (words_of words.now)) (F.table files.old) (told_first L.given L.sent L.over L.link_faults link) (told_last L.given L.sent L.over L.link_faults link result.1) book.new }
+    ensures book { IsNew book.new ⊎ Began (as_serve (words_of words.now)) (F.table files.old) (first_of L.Link link) (last_of L.Link link result.1) book.new }
     ensures same { F.table files.new ≡ F.table files.old }
     ensures link { ¬ IsServing (as_serve (words_of words.now)) → result.1 ≡ link }
 {
@@ -78,7 +77,7 @@ pub fn stream_call<F: Files, O: Sink, L: Link>(
     requires { IsNew book.old }
 
     // All that the top call promises, with what the link tells in the place of what a port tells.
-    ensures calls { Calls F.table F.file_faults O.written O.sink_faults (as_serve (words_of words.now)) (told_first L.given L.sent L.over L.link_faults link) (told_last L.given L.sent L.over L.link_faults link result.1) book.new files.old files.new out.old out.new result.0 }
+    ensures calls { CallsOnLink F.Files O.Sink L.Link (as_serve (words_of words.now)) link result.1 book.new files.old files.new out.old out.new result.0 }
 
     // No file is changed, and no call but a serving touches the link.
     ensures same { F.table files.new ≡ F.table files.old }

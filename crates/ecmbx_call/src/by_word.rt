@@ -1,15 +1,11 @@
-ghost use Rattle.std.specs.Prelude.{◌≡◌, true, false, None};
+ghost use Rattle.std.specs.Prelude.{◌≡◌, true, None};
 ghost use Rattle.run_book.specs.Book.{IsNew};
-ghost use Rattle.gateway_run.specs.Serving.{told};
 ghost use Rattle.ecmbx_words.specs.Form.{as_serve};
 ghost use Rattle.ecmbx_call.specs.Course.{words_of};
 ghost use Rattle.ecmbx_call.specs.Causes.{IsServing};
-ghost use Rattle.ecmbx_call.specs.Calls.{Calls};
-ghost use Rattle.ecmbx_call.specs.Linked.{told_first, told_last};
-ghost use Rattle.gateway_tool.specs.Told.{told as asked};
+ghost use Rattle.ecmbx_call.specs.Objects.{StreamsFirst, AsksFirst, CallsElse};
 ghost use Rattle.tool_call.specs.Asked.{is_ask, asked_in};
 ghost use Rattle.ecmbx_call.specs.First.{is_stream};
-ghost use Rattle.ecmbx_call.specs.Asks.{Asks};
 
 use crate::by_stream::stream_call;
 use crate::top::ecmbx;
@@ -45,14 +41,14 @@ pub fn program<F: Files, O: Sink, P: Port, L: Link>(
     requires { IsNew book.old }
 
     // Where the first word is `stream`: all that the top call promises of a serving, with the link in the place of the port.
-    ensures streams { is_stream (words_of words.now) ≡ true → Calls F.table F.file_faults O.written O.sink_faults (as_serve (words_of words.now)) (told_first L.given L.sent L.over L.link_faults link) (told_last L.given L.sent L.over L.link_faults link result.1) book.new files.old files.new out.old out.new result.0 }
+    ensures streams { StreamsFirst F.Files O.Sink L.Link (words_of words.now) link result.1 book.new files.old files.new out.old out.new result.0 }
 
     // Where it is `ask`: all that the call of `ask` promises; no run begins.
-    ensures asks { is_ask (words_of words.now) ≡ true → Asks F.table F.file_faults O.written O.sink_faults (words_of words.now) (asked P.heard P.sent P.over P.port_faults port.old) (asked P.heard P.sent P.over P.port_faults port.new) files.old files.new out.old out.new port.old port.new result.0 }
+    ensures asks { AsksFirst F.Files O.Sink P.Port (words_of words.now) port.old port.new files.old files.new out.old out.new result.0 }
     ensures new { is_ask (words_of words.now) ≡ true → IsNew book.new }
 
     // Else: all that the top call promises.
-    ensures calls { is_stream (words_of words.now) ≡ false → is_ask (words_of words.now) ≡ false → Calls F.table F.file_faults O.written O.sink_faults (words_of words.now) (told P.heard P.sent P.over P.port_faults port.old) (told P.heard P.sent P.over P.port_faults port.new) book.new files.old files.new out.old out.new result.0 }
+    ensures calls { CallsElse F.Files O.Sink P.Port (words_of words.now) port.old port.new book.new files.old files.new out.old out.new result.0 }
 
     // No call but a serving and one that asks touches the port, and none but a stream the link.
     ensures port { ¬ IsServing (words_of words.now) → asked_in (words_of words.now) ≡ None → port.new ≡ port.old }

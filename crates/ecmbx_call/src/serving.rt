@@ -1,10 +1,9 @@
 ghost use Rattle.std.specs.Prelude.{◌≡◌, ◌⊎◌, ◌<◌};
 ghost use Rattle.ec_outside.specs.Faults.{Rose};
 ghost use Rattle.run_book.specs.Book.{IsNew};
-ghost use Rattle.gateway_run.specs.Serving.{told};
 ghost use Rattle.ecmbx_words.specs.declared.status.Status.TheVariants as statuses;
-ghost use Rattle.ecmbx_words.specs.Files.{Followed};
-ghost use Rattle.ecmbx_call.specs.Serving.{ServeCourse, ServedOn};
+ghost use Rattle.ecmbx_call.specs.Serving.{ServedOn};
+ghost use Rattle.ecmbx_call.specs.Objects.{told_by, ServesOctets};
 
 use crate::running::{plan_in, tell};
 use ec_fields::Octets;
@@ -26,9 +25,9 @@ pub fn serve_octets<O: Sink, P: Port>(
 ) -> Status
     requires new { IsNew book.old }
     requires some { 0 < count }
-    ensures course { Followed (ServeCourse count (told P.heard P.sent P.over P.port_faults port.old) (told P.heard P.sent P.over P.port_faults port.new) book.new octets) (O.written out.old) (O.written out.new) result }
+    ensures course { ServesOctets O.Sink P.Port octets count port.old port.new book.new out.old out.new result }
     ensures sink { result ≡ statuses.SinkFault → Rose (O.sink_faults out.old) (O.sink_faults out.new) }
-    ensures book { IsNew book.new ⊎ ServedOn octets count (told P.heard P.sent P.over P.port_faults port.old) (told P.heard P.sent P.over P.port_faults port.new) book.new }
+    ensures book { IsNew book.new ⊎ ServedOn octets count (told_by P.Port port.old) (told_by P.Port port.new) book.new }
 {
     let plan = match plan_in(alloc, octets, out) {
         Ok(plan) => plan,

@@ -1,15 +1,13 @@
 ghost use Rattle.std.specs.Prelude.{◌≡◌, ◌≢◌, ◌⊎◌, ◌<◌};
 ghost use Rattle.ec_outside.specs.Faults.{Rose};
-ghost use Rattle.segment_plan.specs.declared.plan.Scenario.{Scenario as Plan};
 ghost use Rattle.run_book.specs.Book.{IsNew};
 ghost use Rattle.ecmbx_words.specs.declared.form.Form.TheVariants as forms;
 ghost use Rattle.ecmbx_words.specs.declared.status.Status.TheVariants as statuses;
 ghost use Rattle.ecmbx_words.specs.Form.{form_in};
-ghost use Rattle.ecmbx_call.specs.Complete.{CompletesServing, CompletesTo};
-ghost use Rattle.ecmbx_call.specs.Course.{words_of, RunsFile, SavesFile, ShowsFile, AuditsFile, CarriesOut, Began, BeganIn};
-ghost use Rattle.ecmbx_call.specs.Serving.{ServesFile, ServedIn};
-ghost use Rattle.gateway_run.specs.Serving.{told};
-ghost use Rattle.ecmbx_call.specs.Causes.{UsageCause, AbsentCause, LongCause, RefusedCause, GivenUpCause, SpentCause, BrokenCause, EndingAt, PortCause, IsCalm, IsServing, RunsTo, SavesTo, ServesTo, ShowsTo, AuditsTo, MakesTo};
+ghost use Rattle.ecmbx_call.specs.Course.{words_of, RunsFile, SavesFile, ShowsFile, AuditsFile, Began, BeganIn};
+ghost use Rattle.ecmbx_call.specs.Serving.{ServedIn};
+ghost use Rattle.ecmbx_call.specs.Objects.{told_by, ServesAtPort, CarriesAtPort, RunsFound, SavesFound, RunsWhole, ServesFound, ServesWhole, ShowsFound, AuditsFound};
+ghost use Rattle.ecmbx_call.specs.Causes.{UsageCause, AbsentCause, LongCause, RefusedCause, GivenUpCause, SpentCause, BrokenCause, EndingAt, PortCause, IsCalm, IsServing, MakesTo};
 
 use crate::making::make;
 use crate::running::{run_octets, run_saved};
@@ -74,9 +72,9 @@ pub fn serve_file<F: Files, O: Sink, P: Port>(
 ) -> Status
     requires new { IsNew book.old }
     requires some { 0 < count }
-    ensures course { ServesFile F.table F.file_faults O.written name.now count (told P.heard P.sent P.over P.port_faults port.old) (told P.heard P.sent P.over P.port_faults port.new) book.new files.old files.new out.old out.new result }
+    ensures course { ServesAtPort F.Files O.Sink P.Port name.now count port.old port.new book.new files.old files.new out.old out.new result }
     ensures sink { result ≡ statuses.SinkFault → Rose (O.sink_faults out.old) (O.sink_faults out.new) }
-    ensures book { IsNew book.new ⊎ ServedIn name.now (F.table files.old) count (told P.heard P.sent P.over P.port_faults port.old) (told P.heard P.sent P.over P.port_faults port.new) book.new }
+    ensures book { IsNew book.new ⊎ ServedIn name.now (F.table files.old) count (told_by P.Port port.old) (told_by P.Port port.new) book.new }
     ensures same { F.table files.new ≡ F.table files.old }
 {
     match load(alloc, name, LIMIT, files, out) {
@@ -116,9 +114,9 @@ fn carry_out<F: Files, O: Sink, P: Port>(
     book: &mut Book,
 ) -> Status
     requires { IsNew book.old }
-    ensures course { CarriesOut F.table F.file_faults O.written (words_of words.now) (told P.heard P.sent P.over P.port_faults port.old) (told P.heard P.sent P.over P.port_faults port.new) book.new files.old files.new out.old out.new result }
+    ensures course { CarriesAtPort F.Files O.Sink P.Port (words_of words.now) port.old port.new book.new files.old files.new out.old out.new result }
     ensures sink { result ≡ statuses.SinkFault → Rose (O.sink_faults out.old) (O.sink_faults out.new) }
-    ensures book { IsNew book.new ⊎ Began (words_of words.now) (F.table files.old) (told P.heard P.sent P.over P.port_faults port.old) (told P.heard P.sent P.over P.port_faults port.new) book.new }
+    ensures book { IsNew book.new ⊎ Began (words_of words.now) (F.table files.old) (told_by P.Port port.old) (told_by P.Port port.new) book.new }
     ensures same { form_in (words_of words.now) ≢ forms.RunSaved → F.table files.new ≡ F.table files.old }
     ensures port { ¬ IsServing (words_of words.now) → port.new ≡ port.old }
 {
@@ -160,47 +158,47 @@ pub fn ecmbx<F: Files, O: Sink, P: Port>(
     requires { IsNew book.old }
 
     // Each case of the table of answers, with the text that is put there.
-    ensures course { CarriesOut F.table F.file_faults O.written (words_of words.now) (told P.heard P.sent P.over P.port_faults port.old) (told P.heard P.sent P.over P.port_faults port.new) book.new files.old files.new out.old out.new result }
+    ensures course { CarriesAtPort F.Files O.Sink P.Port (words_of words.now) port.old port.new book.new files.old files.new out.old out.new result }
 
     // A found scenario: the book has the run, and what is written is its report.
-    ensures runs { (plan : Plan) → IsCalm F.file_faults files.old files.new → RunsTo (words_of words.now) (F.table files.old) plan book.new (O.written out.old) (O.written out.new) result }
+    ensures runs { RunsFound F.Files O.Sink (words_of words.now) book.new files.old files.new out.old out.new result }
 
     // The same with CAPTURE: what stands under that name is the capture of the very frames of the book.
-    ensures saves { (plan : Plan) → IsCalm F.file_faults files.old files.new → SavesTo (words_of words.now) (F.table files.old) (F.table files.new) plan book.new (O.written out.old) (O.written out.new) result }
+    ensures saves { SavesFound F.Files O.Sink (words_of words.now) book.new files.old files.new out.old out.new result }
 
     // Either with a budget of as many frames as the bound: all is done, or a slave was given up and nothing is left of the others; and all is done where no more frames
     // in a row are lost than the retry limit.
-    ensures completes { (plan : Plan) → IsCalm F.file_faults files.old files.new → IsCalm O.sink_faults out.old out.new → CompletesTo (words_of words.now) (F.table files.old) plan book.new result }
+    ensures completes { RunsWhole F.Files O.Sink (words_of words.now) book.new files.old files.new out.old out.new result }
 
     // A found scenario that is served: the book has its frames and the datagrams that the port heard and sent, and what is written is its report; and at each
     // moment what its slaves did, and replied to the mails passed on to them, is what their servers give.
-    ensures serves { (plan : Plan) → IsCalm F.file_faults files.old files.new → ServesTo (words_of words.now) (F.table files.old) (told P.heard P.sent P.over P.port_faults port.old) (told P.heard P.sent P.over P.port_faults port.new) plan book.new (O.written out.old) (O.written out.new) result }
+    ensures serves { ServesFound F.Files O.Sink P.Port (words_of words.now) port.old port.new book.new files.old files.new out.old out.new result }
 
     // It with a budget of as many frames as the bound for so many datagrams, none of which asks for a download to 2F01:01: whatever frames are lost the budget
     // doesn't end it; and all is done where no more frames in a row are lost than the retry limit and the port doesn't fail.
-    ensures completes_serving { (plan : Plan) → IsCalm F.file_faults files.old files.new → IsCalm O.sink_faults out.old out.new → CompletesServing (words_of words.now) (F.table files.old) (told P.heard P.sent P.over P.port_faults port.old) (told P.heard P.sent P.over P.port_faults port.new) plan book.new result }
+    ensures completes_serving { ServesWhole F.Files O.Sink P.Port (words_of words.now) port.old port.new book.new files.old files.new out.old out.new result }
 
     // A found capture, and a scenario that is made: the text whole, where the sink doesn't fail.
-    ensures shows { IsCalm F.file_faults files.old files.new → IsCalm O.sink_faults out.old out.new → ShowsTo (words_of words.now) (F.table files.old) (O.written out.old) (O.written out.new) result }
+    ensures shows { ShowsFound F.Files O.Sink (words_of words.now) files.old files.new out.old out.new result }
     ensures makes { IsCalm O.sink_faults out.old out.new → MakesTo (words_of words.now) (O.written out.old) (O.written out.new) result }
 
     // A found capture that is audited: the lines of its verdict, and the status that goes with it.
-    ensures audits { IsCalm F.file_faults files.old files.new → IsCalm O.sink_faults out.old out.new → AuditsTo (words_of words.now) (F.table files.old) (O.written out.old) (O.written out.new) result }
+    ensures audits { AuditsFound F.Files O.Sink (words_of words.now) files.old files.new out.old out.new result }
 
     // When each status comes.
     ensures usage { UsageCause (words_of words.now) result }
     ensures absent { AbsentCause (words_of words.now) (F.table files.old) result }
     ensures too_long { LongCause (words_of words.now) (F.table files.old) result }
     ensures refused { RefusedCause (words_of words.now) (F.table files.old) result }
-    ensures given_up { GivenUpCause (words_of words.now) (told P.heard P.sent P.over P.port_faults port.old) (told P.heard P.sent P.over P.port_faults port.new) book.new result }
-    ensures budget_spent { SpentCause (words_of words.now) (told P.heard P.sent P.over P.port_faults port.old) (told P.heard P.sent P.over P.port_faults port.new) book.new result }
+    ensures given_up { GivenUpCause (words_of words.now) (told_by P.Port port.old) (told_by P.Port port.new) book.new result }
+    ensures budget_spent { SpentCause (words_of words.now) (told_by P.Port port.old) (told_by P.Port port.new) book.new result }
     ensures audit_no { BrokenCause (words_of words.now) (F.table files.old) result }
     ensures file_fault { result ≡ statuses.FileFault → Rose (F.file_faults files.old) (F.file_faults files.new) }
     ensures sink_fault { result ≡ statuses.SinkFault → Rose (O.sink_faults out.old) (O.sink_faults out.new) }
-    ensures port_fault { PortCause (words_of words.now) (told P.heard P.sent P.over P.port_faults port.old) (told P.heard P.sent P.over P.port_faults port.new) result }
+    ensures port_fault { PortCause (words_of words.now) (told_by P.Port port.old) (told_by P.Port port.new) result }
 
     // What the book has: nothing where no run began, else what the run left.
-    ensures book { IsNew book.new ⊎ Began (words_of words.now) (F.table files.old) (told P.heard P.sent P.over P.port_faults port.old) (told P.heard P.sent P.over P.port_faults port.new) book.new }
+    ensures book { IsNew book.new ⊎ Began (words_of words.now) (F.table files.old) (told_by P.Port port.old) (told_by P.Port port.new) book.new }
     ensures ending { EndingAt result book.new.ending }
 
     // No call but a run with CAPTURE changes a file.
