@@ -125,12 +125,12 @@ module _ {V M Q R : Type 0} (x : Exchange V V M Q R) (calm : V → Bool) (fair :
       let b = side_begins y frame e.side e.side.now (mails_begin e.account.hand p.begin) in
       holds_answers b (next_mail y b.now b.halves.out.holding p.hold) (rests_by frame e.side e.account e.account.hand p.begin base l)
 
-  next_by : (frame : ℕ) (cleared opened : Option ℕ) (d : SideHere) (a : AccountHere) (o : Option Passing) (pick : Pick (Asked M Q)) → (let e : EraHere = record { cleared = cleared; opened = opened; side = d; account = a; passing = o } in
+  next_by : (frame : ℕ) (cleared opened : Option ℕ) (state : ℕ) (d : SideHere) (a : AccountHere) (o : Option Passing) (pick : Pick (Asked M Q)) → (let e : EraHere = record { cleared = cleared; opened = opened; state = state; side = d; account = a; passing = o } in
       (o ≡ None → AllAnswered d.now) → (next frame e pick).passing ≡ None → AllAnswered (next frame e pick).side.now)
-  next_by frame cleared opened d a None pick base none =
+  next_by frame cleared opened state d a None pick base none =
       let b = side_begins y frame d d.now (mails_begin a.hand pick.begin) in
       holds_answers b (next_mail y b.now b.halves.out.holding pick.hold) (over_by frame d a a.hand pick.begin (base refl) none)
-  next_by frame cleared opened d a (Some p) pick base none = absurd (let no : Some p ≡ None = none in cc)
+  next_by frame cleared opened state d a (Some p) pick base none = absurd (let no : Some p ≡ None = none in cc)
 
   pub next_over : (frame : ℕ) (e : EraHere) (pick : Pick (Asked M Q)) → (e.passing ≡ None → AllAnswered e.side.now) → (next frame e pick).passing ≡ None → AllAnswered (next frame e pick).side.now
-  next_over frame e pick base none = next_by frame e.cleared e.opened e.side e.account e.passing pick base none
+  next_over frame e pick base none = next_by frame e.cleared e.opened e.state e.side e.account e.passing pick base none

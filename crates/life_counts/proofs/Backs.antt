@@ -103,8 +103,8 @@ module _ {V M Q R T : Type 0} (x : Exchange V V M Q R) (calm : V → Bool) (fair
       let side = back_side mail n.name answer y n.speech frame station (own station back) e.side ends ∙ ap (λ l. side_back n.speech frame station l (side_seen mail n.name answer e.side)) (own_as mail station back) in
       let account = account_same mail n.name station frame e.account (own station back) ∙ ap (λ l. account_back station frame (account_seen mail n.name answer e.account) l) (own_as mail station back) in
       let passing = passing_same e.passing news by in
-      λ i. record { cleared = e.cleared; opened = e.opened; side = side i; account = account i; passing = passing i }
+      λ i. record { cleared = e.cleared; opened = e.opened; state = e.state; side = side i; account = account i; passing = passing i }
   after_named station frame news sent (RingFate.Lost after) back e by ends =
       let side = lost_side mail n.name answer station (own station sent) e.side ∙ ap (λ l. side_lost station l (side_seen mail n.name answer e.side)) (own_as mail station sent) in
       let passing = passing_same e.passing news by in
-      λ i. record { cleared = e.cleared; opened = e.opened; side = side i; account = account_seen mail n.name answer e.account; passing = passing i }
+      λ i. record { cleared = e.cleared; opened = e.opened; state = e.state; side = side i; account = account_seen mail n.name answer e.account; passing = passing i }

@@ -343,22 +343,22 @@ module _ {V M Q R T : Type 0} (x : Exchange V V M Q R) (calm : V → Bool) (fair
       takes_up mail n.name same y n.speech (side_begins y frame d d.now (mails_begin hand mine)) hold (plans_of d (side_begins y frame d d.now (mails_begin hand mine)).now b.row)
       ∙ ap (λ (z : Side M T (Option R)). side_holds z (next_mail n.speech z.now z.halves.out.holding hold)) b.side
 
-  next_by : (table : Table) (v : V) (frame : ℕ) (cleared opened : Option ℕ) (d : SideHere) (a : AccountHere) (k : NowKnown d.now) (passing : Option Passing) → (passing ≡ None → NowEnded d d.now) → (pick : Pick T) →
+  next_by : (table : Table) (v : V) (frame : ℕ) (cleared opened : Option ℕ) (state : ℕ) (d : SideHere) (a : AccountHere) (k : NowKnown d.now) (passing : Option Passing) → (passing ≡ None → NowEnded d d.now) → (pick : Pick T) →
       ((t : T) (m : M) → pick.begin ≡ Some (Service.Mails t) → passing ≡ None → a.hand ≡ None → (n.speech.valid t && is_free n.speech (sees d) (sees d).now) ≡ true → IsPassed n m t → fair m ≡ true) →
-      Next table v frame (record { cleared = cleared; opened = opened; side = d; account = a; passing = passing }) pick
-  next_by table v frame cleared opened d a k None ended pick fairly =
+      Next table v frame (record { cleared = cleared; opened = opened; state = state; side = d; account = a; passing = passing }) pick
+  next_by table v frame cleared opened state d a k None ended pick fairly =
       let c = choose frame d a k (ended refl) table v a.hand pick.begin (λ t m e hand may is. fairly t m e refl hand may is) in
       record {
         mine = record { begin = c.mine; hold = pick.hold };
-        is = λ i. record { cleared = cleared; opened = opened; side = side_next_is frame d a k a.hand c.mine pick.begin pick.hold c.begun i; account = c.begun.account i; passing = c.begun.passing i };
+        is = λ i. record { cleared = cleared; opened = opened; state = state; side = side_next_is frame d a k a.hand c.mine pick.begin pick.hold c.begun i; account = c.begun.account i; passing = c.begun.passing i };
         right = c.right;
         known = known_next frame d a k a.hand c.mine pick.begin pick.hold c.begun;
       }
-  next_by table v frame cleared opened d a k (Some passing) ended pick fairly =
+  next_by table v frame cleared opened state d a k (Some passing) ended pick fairly =
       let c = nothing frame d a k a.hand None (nothing_hand a.hand) (nothing_account a.hand) refl in
       record {
         mine = record { begin = None; hold = pick.hold };
-        is = λ i. record { cleared = cleared; opened = opened; side = side_next_is frame d a k a.hand None None pick.hold c i; account = c.account i; passing = Some passing };
+        is = λ i. record { cleared = cleared; opened = opened; state = state; side = side_next_is frame d a k a.hand None None pick.hold c i; account = c.account i; passing = Some passing };
         right = subst (λ (z : AccountHere). AllRight x s table v (services_in a.started) → AllRight x s table v (services_in z.started)) (sym (none_account frame d a k a.hand)) (λ all. all);
         known = known_next frame d a k a.hand None None pick.hold c;
       }
@@ -373,4 +373,4 @@ module _ {V M Q R T : Type 0} (x : Exchange V V M Q R) (calm : V → Bool) (fair
 
   pub next_named : (table : Table) (v : V) (frame : ℕ) (e : EraHere) (pick : Pick T) → NowKnown e.side.now → (e.passing ≡ None → NowEnded e.side e.side.now) →
       ((t : T) (m : M) → pick.begin ≡ Some (Service.Mails t) → e.passing ≡ None → e.account.hand ≡ None → (n.speech.valid t && is_free n.speech (sees e.side) (sees e.side).now) ≡ true → IsPassed n m t → fair m ≡ true) → Next table v frame e pick
-  next_named table v frame e pick k ended fairly = next_by table v frame e.cleared e.opened e.side e.account k e.passing ended pick fairly
+  next_named table v frame e pick k ended fairly = next_by table v frame e.cleared e.opened e.state e.side e.account k e.passing ended pick fairly

@@ -42,9 +42,9 @@ and_not a b e f = ap₂ (λ (p q : Bool). p && not q) e f
 pub after_own : {N P S : Type 0} (z : Speech N P S) (acknowledged : P → Bool) (more : N → Bool) (passed : P → Bool) (station frame : ℕ) (news : List (News N)) (sent other : List (Datagram N)) (fate : RingFate) (back again : List (Datagram N)) (e : Era N P S) →
     Own.own station sent ≡ Own.own station other → Own.own station back ≡ Own.own station again → era_after z acknowledged more passed station frame news sent fate back e ≡ era_after z acknowledged more passed station frame news other fate again e
 after_own z acknowledged more passed station frame news sent other RingFate.Back back again e s b =
-    λ j. record { cleared = e.cleared; opened = e.opened; side = side_back z frame station (b j) e.side; account = account_back station frame e.account (b j); passing = passes z acknowledged more passed e.passing news }
+    λ j. record { cleared = e.cleared; opened = e.opened; state = e.state; side = side_back z frame station (b j) e.side; account = account_back station frame e.account (b j); passing = passes z acknowledged more passed e.passing news }
 after_own z acknowledged more passed station frame news sent other (RingFate.Lost after) back again e s b =
-    λ j. record { cleared = e.cleared; opened = e.opened; side = side_lost station (s j) e.side; account = e.account; passing = passes z acknowledged more passed e.passing news }
+    λ j. record { cleared = e.cleared; opened = e.opened; state = e.state; side = side_lost station (s j) e.side; account = e.account; passing = passes z acknowledged more passed e.passing news }
 
 pub reopens_era : {N P S : Type 0} (l : Life N P S) (hand : Option Duty) → (reopens l hand).era ≡ l.era
 reopens_era l None = refl

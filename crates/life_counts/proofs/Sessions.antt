@@ -74,15 +74,15 @@ module _ {V M Q R C T A : Type 0} (w : Speaker V M Q R C T) (k : IsSpeaker w) (l
       (heard : (gs : List (Frame (Tagged M Q))) (counts : Bool) (d : Era (Tagged M Q) (Asked M Q) (Option R)) (m : Slave (Rowed V M Q) (Tagged M Q)) → LedHere gs counts d m → NoneUnheard (seeing w) is_passed d)
       (always : (m : M) → IsAnswered (seeing w) is_passed (Asked.Passed m true)) where
     -- IT BEGINS SO
-    pub begin : (cleared : Option ℕ) (fs : List (Frame M)) → length fs ≡ suc opened → Tied fs true (record (new_era cleared) { opened = Some opened }) (opened_slave M T (Option R) spot v r)
-    begin cleared fs is =
+    pub begin : (cleared : Option ℕ) (state : ℕ) (fs : List (Frame M)) → length fs ≡ suc opened → Tied fs true (record (new_era cleared state) { opened = Some opened }) (opened_slave M T (Option R) spot v r)
+    begin cleared state fs is =
         let long : length blanks ≡ suc opened = replicated blank (suc opened) in
         record {
           frames = blanks;
-          era = record (new_era cleared) { opened = Some opened };
+          era = record (new_era cleared state) { opened = Some opened };
           slave = opened_slave (Tagged M Q) (Asked M Q) (Option R) spot (between v) r;
-          led = IsLed.begins cleared blanks long;
-          is = LifeEras.era_begins (seeing w) (seeing_states w) seer tables spot cleared opened blanks (between v) r long plan answers;
+          led = IsLed.begins cleared state blanks long;
+          is = LifeEras.era_begins (seeing w) (seeing_states w) seer tables spot cleared state opened blanks (between v) r long plan answers;
           long = long ∙ sym is;
           later = omega (arith, long);
           alike = ap (map (λ f. frame_as (λ (t : Tagged M Q). t.mail) f)) (blank_frames spot opened blanks long) ∙ blanks_seen (λ (t : Tagged M Q). t.mail) (suc opened) ∙ sym (blank_frames spot opened fs is);
@@ -96,7 +96,7 @@ module _ {V M Q R C T A : Type 0} (w : Speaker V M Q R C T) (k : IsSpeaker w) (l
 
     -- FRAME BY FRAME
     tied : (fs : List (Frame M)) (counts : Bool) (e : Era M T (Option R)) (n : Slave V M) → LedThere fs counts e n → AllFair w e.account.started → Tied fs counts e n
-    tied fs counts e n (IsLed.begins cleared gs is) fair = begin cleared gs is
+    tied fs counts e n (IsLed.begins cleared state gs is) fair = begin cleared state gs is
     tied fs counts e n (IsLed.goes_on gs c d m l t may) fair =
         let next = fair_next gs c d t fair in
         Led.tied_next w k lawful stated u processor seer tables spot run opened v r gs c d m (tied gs c d m l (fair_before gs c d t next)) t may next heard always

@@ -34,7 +34,7 @@ module _ {N M P Q S R : Type 0} (f : N → M) (g : P → Q) (h : S → R) where
 
   -- an epoch
   abbrev pub era_seen : Era N P S → Era M Q R
-  era_seen e = record { cleared = e.cleared; opened = e.opened; side = side_seen f g h e.side; account = account_seen e.account; passing = e.passing }
+  era_seen e = record { cleared = e.cleared; opened = e.opened; state = e.state; side = side_seen f g h e.side; account = account_seen e.account; passing = e.passing }
 
   -- A LIFE
   abbrev pub life_seen : Life N P S → Life M Q R

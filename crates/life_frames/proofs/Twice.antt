@@ -68,9 +68,9 @@ module _ {Q R : Type 0} (x : Speech Body Q R) where
     abbrev pub holds : Bool → Pick Q
     holds h = record { begin = None; hold = h }
 
-    hold_is : (c o : Option ℕ) (d : Side Body Q R) (a : Account Q R) (p : Option Passing) (h : Bool) → era_next x acknowledged more passed made (record { cleared = c; opened = o; side = d; account = a; passing = p }) (holds h) ≡ record { cleared = c; opened = o; side = side_holds d (next_mail x d.now d.halves.out.holding h); account = a; passing = p }
-    hold_is c o d a None h = refl
-    hold_is c o d a (Some p) h = refl
+    hold_is : (c o : Option ℕ) (at : ℕ) (d : Side Body Q R) (a : Account Q R) (p : Option Passing) (h : Bool) → era_next x acknowledged more passed made (record { cleared = c; opened = o; state = at; side = d; account = a; passing = p }) (holds h) ≡ record { cleared = c; opened = o; state = at; side = side_holds d (next_mail x d.now d.halves.out.holding h); account = a; passing = p }
+    hold_is c o at d a None h = refl
+    hold_is c o at d a (Some p) h = refl
 
     passes_on : (p : Option Passing) (a b : Account Q R) (w : Option (Service Q)) → b ≡ a → passing_begins x acknowledged more passed p a b w ≡ p
     passes_on p a b None e = refl
@@ -84,16 +84,16 @@ module _ {Q R : Type 0} (x : Speech Body Q R) where
         go false = refl
 
     -- a mail is held that was not yet sent: no choice changes the epoch
-    held_era : (c o : Option ℕ) (d : Side Body Q R) (a : Account Q R) (p : Option Passing) (m : LinkMail Body) (r : Row Body Q R) (pick : Pick Q) → d.halves.out.holding ≡ Some m → d.fresh ≡ true → d.now ≡ Some r →
-        era_next x acknowledged more passed made (record { cleared = c; opened = o; side = d; account = a; passing = p }) pick ≡ record { cleared = c; opened = o; side = d; account = a; passing = p }
-    held_era c o d a None m r pick h f n =
+    held_era : (c o : Option ℕ) (at : ℕ) (d : Side Body Q R) (a : Account Q R) (p : Option Passing) (m : LinkMail Body) (r : Row Body Q R) (pick : Pick Q) → d.halves.out.holding ≡ Some m → d.fresh ≡ true → d.now ≡ Some r →
+        era_next x acknowledged more passed made (record { cleared = c; opened = o; state = at; side = d; account = a; passing = p }) pick ≡ record { cleared = c; opened = o; state = at; side = d; account = a; passing = p }
+    held_era c o at d a None m r pick h f n =
         let s = held_side made d m r (mails_choice a pick) h f n in
         let b = held_account acknowledged made d a m r pick h f n in
         let w = passes_on None a (account_next x acknowledged made d a pick) pick.begin b in
-        λ i. record { cleared = c; opened = o; side = s i; account = b i; passing = w i }
-    held_era c o d a (Some p) m r pick h f n =
+        λ i. record { cleared = c; opened = o; state = at; side = s i; account = b i; passing = w i }
+    held_era c o at d a (Some p) m r pick h f n =
         let s = held_side made d m r (mails_choice a (record pick { begin = None })) h f n in
-        λ i. record { cleared = c; opened = o; side = s i; account = a; passing = Some p }
+        λ i. record { cleared = c; opened = o; state = at; side = s i; account = a; passing = Some p }
 
     -- ONE CHOICE FOR BOTH; where nothing begins by the second, nothing does by the one
     pub record Both (e : Era Body Q R) (h : Bool) (pick : Pick Q) : Type 0 where
@@ -101,13 +101,13 @@ module _ {Q R : Type 0} (x : Speech Body Q R) where
       pub is : era_next x acknowledged more passed made (era_next x acknowledged more passed made e (holds h)) pick ≡ era_next x acknowledged more passed made e one
       pub idle : pick.begin ≡ None → one.begin ≡ None
 
-    both : (c o : Option ℕ) (d : Side Body Q R) (a : Account Q R) (p : Option Passing) (h : Bool) (pick : Pick Q) → Both (record { cleared = c; opened = o; side = d; account = a; passing = p }) h pick
-    both c o d a p h pick = go (next_mail x d.now d.halves.out.holding h) refl
+    both : (c o : Option ℕ) (at : ℕ) (d : Side Body Q R) (a : Account Q R) (p : Option Passing) (h : Bool) (pick : Pick Q) → Both (record { cleared = c; opened = o; state = at; side = d; account = a; passing = p }) h pick
+    both c o at d a p h pick = go (next_mail x d.now d.halves.out.holding h) refl
       where
-        first : (ms : List Body) → next_mail x d.now d.halves.out.holding h ≡ ms → era_next x acknowledged more passed made (record { cleared = c; opened = o; side = d; account = a; passing = p }) (holds h) ≡ record { cleared = c; opened = o; side = side_holds d ms; account = a; passing = p }
-        first ms k = hold_is c o d a p h ∙ ap (λ z. record { cleared = c; opened = o; side = side_holds d z; account = a; passing = p }) k
+        first : (ms : List Body) → next_mail x d.now d.halves.out.holding h ≡ ms → era_next x acknowledged more passed made (record { cleared = c; opened = o; state = at; side = d; account = a; passing = p }) (holds h) ≡ record { cleared = c; opened = o; state = at; side = side_holds d ms; account = a; passing = p }
+        first ms k = hold_is c o at d a p h ∙ ap (λ z. record { cleared = c; opened = o; state = at; side = side_holds d z; account = a; passing = p }) k
 
-        go : (ms : List Body) → next_mail x d.now d.halves.out.holding h ≡ ms → Both (record { cleared = c; opened = o; side = d; account = a; passing = p }) h pick
+        go : (ms : List Body) → next_mail x d.now d.halves.out.holding h ≡ ms → Both (record { cleared = c; opened = o; state = at; side = d; account = a; passing = p }) h pick
         go [] k = record { one = pick; is = ap (λ (e : Era Body Q R). era_next x acknowledged more passed made e pick) (first [] k); idle = λ e. e }
         go (m ∷ ms) k =
             let r = taken d.now d.halves.out.holding h m ms k in

@@ -74,9 +74,9 @@ module _ {V A M Q R : Type 0} (x : Exchange V A M Q R) (s : Stated V A Q) (proce
   drop_all [] = refl
   drop_all (f ∷ l) = drop_all l
 
-  pub era_begins : (spot : Spot) (cleared : Option ℕ) (opened : ℕ) (fs : List (Frame M)) (v : V) (r : Registers) → length fs ≡ suc opened → IsTaskPlan x s processor table (planned spot v r ∷ []) → r.station ≡ spot.station →
-      EraIs x s processor table spot (record (new_era {M = M} {Q = Q} {R = R} cleared) { opened = Some opened }) opened (length fs) fs v r (opened_slave M Q R spot v r)
-  era_begins spot cleared opened fs v r is plan answers =
+  pub era_begins : (spot : Spot) (cleared : Option ℕ) (state opened : ℕ) (fs : List (Frame M)) (v : V) (r : Registers) → length fs ≡ suc opened → IsTaskPlan x s processor table (planned spot v r ∷ []) → r.station ≡ spot.station →
+      EraIs x s processor table spot (record (new_era {M = M} {Q = Q} {R = R} cleared state) { opened = Some opened }) opened (length fs) fs v r (opened_slave M Q R spot v r)
+  era_begins spot cleared state opened fs v r is plan answers =
       let nothing : drop (suc opened) fs ≡ [] = ap (λ k. drop k fs) (sym is) ∙ drop_all fs in
       let blanks : era_frames spot opened (length fs) fs ≡ replicate (suc opened) blank =
       all_frames spot opened fs ∙ ap (λ l. replicate (suc opened) blank ++ map (λ f. own_frame spot.station spot.place f) l) nothing ∙ append-nil (replicate (suc opened) blank) in

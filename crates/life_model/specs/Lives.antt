@@ -28,11 +28,12 @@ pub data Stand : Type 0 where
   Open : Stand
   Gone : Stand
 
--- an epoch: the frame whose return showed the return to Init, none for the first; the one that showed the state that was opened; and the
--- master's side and account of it, and how far the mail in hand that is passed on has come
+-- an epoch: the frame whose return showed the return to Init, none for the first; the one that showed the AL state that it is to be opened in; that state;
+-- and the master's side and account of it, and how far the mail in hand that is passed on has come
 pub record Era (M Q R : Type 0) : Type 0 where
   pub cleared : Option ℕ
   pub opened : Option ℕ
+  pub state : ℕ
   pub side : Side M Q R
   pub account : Account Q R
   pub passing : Option Passing
@@ -48,13 +49,13 @@ pub record Life (M Q R : Type 0) : Type 0 where
 abbrev pub new_side : {M Q R : Type 0} → Side M Q R
 new_side {M} = record { halves = (new_link {B = M} {S = ⊤} tt).halves; fresh = false; past = []; now = None }
 
--- an epoch before it is open
-abbrev pub new_era : {M Q R : Type 0} → Option ℕ → Era M Q R
-new_era cleared = record { cleared = cleared; opened = None; side = new_side; account = new_account; passing = None }
+-- an epoch before it is open, with the state that it is to be opened in
+abbrev pub new_era : {M Q R : Type 0} → Option ℕ → ℕ → Era M Q R
+new_era cleared state = record { cleared = cleared; opened = None; state = state; side = new_side; account = new_account; passing = None }
 
 -- before the first frame
 abbrev pub new_life : {M Q R : Type 0} → ℕ → Life M Q R
-new_life state = record { past = []; era = new_era None; stand = Stand.Opens (record { again = false; step = 1; state = state; own = false }); gave = [] }
+new_life state = record { past = []; era = new_era None state; stand = Stand.Opens (record { again = false; step = 1; state = state; own = false }); gave = [] }
 
 -- what is known of a slave's plan: its station, its place, the state that it starts in
 pub record Spot : Type 0 where
@@ -93,7 +94,7 @@ steps_on l o = record l { stand = Stand.Opens (record o { step = suc o.step }) }
 abbrev pub clears : {M Q R : Type 0} → ℕ → Life M Q R → Opening → Life M Q R
 clears frame l o = record {
   past = l.past ++ l.era ∷ [];
-  era = new_era (Some frame);
+  era = new_era (Some frame) o.state;
   stand = Stand.Opens (record o { step = 3 });
   gave = l.gave;
 }
@@ -164,6 +165,7 @@ module _ {M Q R : Type 0} (x : Speech M Q R) (acknowledged : Q → Bool) (more :
       record {
         cleared = e.cleared;
         opened = e.opened;
+        state = e.state;
         side = side_next x frame e.side (mails_choice e.account p);
         account = account;
         passing = passing_begins e.passing e.account account p.begin;
@@ -186,6 +188,7 @@ module _ {M Q R : Type 0} (x : Speech M Q R) (acknowledged : Q → Bool) (more :
   era_back station frame news back e = record {
     cleared = e.cleared;
     opened = e.opened;
+    state = e.state;
     side = side_back x frame station (own station back) e.side;
     account = account_back station frame e.account (own station back);
     passing = passes e.passing news;
@@ -196,6 +199,7 @@ module _ {M Q R : Type 0} (x : Speech M Q R) (acknowledged : Q → Bool) (more :
   era_lost station news sent e = record {
     cleared = e.cleared;
     opened = e.opened;
+    state = e.state;
     side = side_lost station (own station sent) e.side;
     account = e.account;
     passing = passes e.passing news;

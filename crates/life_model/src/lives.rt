@@ -27,9 +27,9 @@ pub fn projection_law<V, M>()
 /// An epoch is a session of its slave alone, over the slave's own part of the ring's frames, from its opening on.
 pub fn era_law<V, A, M, Q, R>()
     // It begins behind the frame that showed the opened state, with both counters of the record anew and the numbers of all frames.
-    ensures begins { (x : Exchange V A M Q R) (s : Stated V A Q) (processor : Processor V) (table : ℕ → Table) (spot : Spot) (cleared : Option ℕ) (opened : ℕ) (fs : List (Frame M)) (v : V) (r : Registers) →
+    ensures begins { (x : Exchange V A M Q R) (s : Stated V A Q) (processor : Processor V) (table : ℕ → Table) (spot : Spot) (cleared : Option ℕ) (state opened : ℕ) (fs : List (Frame M)) (v : V) (r : Registers) →
         length fs ≡ suc opened → IsTaskPlan x s processor table (planned spot v r ∷ []) → r.station ≡ spot.station →
-        EraIs x s processor table spot (record (new_era {M = M} {Q = Q} {R = R} cleared) { opened = Some opened }) opened (length fs) fs v r (opened_slave M Q R spot v r) }
+        EraIs x s processor table spot (record (new_era {M = M} {Q = Q} {R = R} cleared state) { opened = Some opened }) opened (length fs) fs v r (opened_slave M Q R spot v r) }
 
     // It goes on by each frame of the ring that has its datagrams and, where the frame reaches the slave, means it by none but these: so also by
     // the frames that return it to Init, as long as they are lost before the slave.

@@ -62,9 +62,9 @@ module _ (x : Speech Body Asked Reply) (made : ℕ) where
   module _ (spot : Spot) (ns : List (News Body)) (back : List (Datagram Body)) where
     era_same : (e : Era Body Asked Reply) → IsQuiet x e.side.now → Own.own spot.station back ≡ [] → passes x acknowledged is_followed is_passed e.passing ns ≡ e.passing → era_back x acknowledged is_followed is_passed spot.station made ns back e ≡ e
     era_same e q n p =
-        let none : Era Body Asked Reply = record { cleared = e.cleared; opened = e.opened; side = side_back x made spot.station [] e.side; account = e.account; passing = e.passing } in
+        let none : Era Body Asked Reply = record { cleared = e.cleared; opened = e.opened; state = e.state; side = side_back x made spot.station [] e.side; account = e.account; passing = e.passing } in
         let first : era_back x acknowledged is_followed is_passed spot.station made ns back e ≡ none =
-        λ i. record { cleared = e.cleared; opened = e.opened; side = side_back x made spot.station (n i) e.side; account = account_back spot.station made e.account (n i); passing = p i } in
+        λ i. record { cleared = e.cleared; opened = e.opened; state = e.state; side = side_back x made spot.station (n i) e.side; account = account_back spot.station made e.account (n i); passing = p i } in
         let second : none ≡ e = λ i. record e { side = record e.side { fresh = and_true e.side.fresh i; now = now_same e.side.now q i } } in
         first ∙ second
 

@@ -66,11 +66,11 @@ module _ {Q : Type 0} (x : Speech Body Q Reply) (acknowledged : Q → Bool) (mor
   passing_stays l Lives.Stand.Open h = go l.era.passing refl
     where
       go : (p : Option Passing) → l.era.passing ≡ p → (era_next x acknowledged more passed made l.era (record { begin = None; hold = h })).passing ≡ l.era.passing
-      go p e = by_passing l.era.cleared l.era.opened l.era.side l.era.account l.era.passing
+      go p e = by_passing l.era.cleared l.era.opened l.era.state l.era.side l.era.account l.era.passing
         where
-          by_passing : (c o : Option ℕ) (d : Side Body Q Reply) (k : Account Q Reply) (q : Option Passing) → (era_next x acknowledged more passed made (record { cleared = c; opened = o; side = d; account = k; passing = q }) (record { begin = None; hold = h })).passing ≡ q
-          by_passing c o d k None = refl
-          by_passing c o d k (Some q) = refl
+          by_passing : (c o : Option ℕ) (at : ℕ) (d : Side Body Q Reply) (k : Account Q Reply) (q : Option Passing) → (era_next x acknowledged more passed made (record { cleared = c; opened = o; state = at; side = d; account = k; passing = q }) (record { begin = None; hold = h })).passing ≡ q
+          by_passing c o at d k None = refl
+          by_passing c o at d k (Some q) = refl
 
 -- the frame grows by another's datagram or by none
 pub has_more : {Q : Type 0} (lens : ℕ → Lens) (index : ℕ) (spot other : Spot) (station : ℕ) (stand : Stand) (out : OutLink (Option Mail)) (inn : InwardHalf) (duty : Option Met) (carried : Carried) (under : Bool) (at : ℕ) (ds es : List Raw.Datagram) (l : Life Body Q Reply) →

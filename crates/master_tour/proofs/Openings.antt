@@ -60,7 +60,7 @@ seen_shown counter body state done found small e f whole = go (counter == 1) ref
 pub data Turns {Q : Type 0} (frame : ℕ) (l : Life Body Q Reply) (up next : BringUp) (own : Bool) (m : Life Body Q Reply) (ends clears : Bool) : Type 0 where
   opened : ends ≡ true → clears ≡ false → is_still up ≡ false → m ≡ opens frame l → Turns frame l up next own m ends clears
   cleared : ends ≡ false → clears ≡ true → is_still up ≡ true → is_still next ≡ false → has_step next ≡ true →
-      m ≡ record { past = l.past ++ l.era ∷ []; era = new_era (Some frame); stand = Lives.Stand.Opens (opening_of next own); gave = l.gave } → Turns frame l up next own m ends clears
+      m ≡ record { past = l.past ++ l.era ∷ []; era = new_era (Some frame) up.start; stand = Lives.Stand.Opens (opening_of next own); gave = l.gave } → Turns frame l up next own m ends clears
   on : ends ≡ false → clears ≡ false → is_still next ≡ is_still up → has_step next ≡ true → m ≡ record l { stand = Lives.Stand.Opens (opening_of next own) } → Turns frame l up next own m ends clears
 
 module _ {Q : Type 0} (frame adp station out_len in_len start : ℕ) (own : Bool) (l : Life Body Q Reply) (done : Bool) (found : Option Found) (counter : ℕ) (body : List ℕ) where
@@ -130,7 +130,7 @@ module _ {Q : Type 0} (shows new : Side Body Q Reply → Account Q Reply → Typ
       (record { shown = record { stood = (refl, keeps c l.era.side l.era.account was); spared = sp; over = λ e. absurd (cc) }; told = ap (λ z. turned_by false z true) c ∙ turned_is l (opens frame l) false false true (lt_self (length l.gave)) (lt_self (length l.past)) (ap (λ z. is_opening z && true) st) }))
   follow m ends clears (Turns.cleared u c s n h e) st o era sp keeps renews =
       let was = subst (λ z. EraShows shows z l.era) s era in
-      let next : Life Body Q Reply = record { past = l.past ++ l.era ∷ []; era = new_era (Some frame); stand = Lives.Stand.Opens (opening_of (record up { step = step }) own); gave = l.gave } in
+      let next : Life Body Q Reply = record { past = l.past ++ l.era ∷ []; era = new_era (Some frame) up.start; stand = Lives.Stand.Opens (opening_of (record up { step = step }) own); gave = l.gave } in
       subst (λ z. FollowShows new recover spot (if ends then Stand.Open else Stand.Opening (record up { step = step })) spare (turned_by false clears ends) l z) (sym e)
       (subst (λ z. FollowShows new recover spot (if z then Stand.Open else Stand.Opening (record up { step = step })) spare (turned_by false clears z) l next) (sym u)
       (record {

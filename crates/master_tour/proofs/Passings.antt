@@ -141,7 +141,7 @@ module _ {Q : Type 0} (x : Speech Body Q Reply) (acknowledged : Q → Bool) (mor
       (subst (λ (z : Bool). StandPassing (if z then Stand.Open else Stand.Opening next) awaits' p' (opens frame l)) (sym u) (still_same awaits awaits' p p' l.era.passing (keeps c) (h s)))
   turned_passing frame l up next own m ends clears awaits awaits' p p' (Turns.cleared u c s n t e) keeps renews h =
       subst (λ z. StandPassing (if ends then Stand.Open else Stand.Opening next) awaits' p' z) (sym e)
-      (subst (λ (z : Bool). StandPassing (if z then Stand.Open else Stand.Opening next) awaits' p' (record { past = l.past ++ l.era ∷ []; era = new_era (Some frame); stand = Lives.Stand.Opens (opening_of next own); gave = l.gave })) (sym u)
+      (subst (λ (z : Bool). StandPassing (if z then Stand.Open else Stand.Opening next) awaits' p' (record { past = l.past ++ l.era ∷ []; era = new_era (Some frame) up.start; stand = Lives.Stand.Opens (opening_of next own); gave = l.gave })) (sym u)
       (λ f. record { is = ap passing_seen (sym (renews c)); awaited = none_awaits awaits' p' (renews c) }))
   turned_passing frame l up next own m ends clears awaits awaits' p p' (Turns.on u c n t e) keeps renews h =
       subst (λ z. StandPassing (if ends then Stand.Open else Stand.Opening next) awaits' p' z) (sym e)

@@ -463,8 +463,8 @@ module _ {V A M Q R : Type 0} (x : Exchange V A M Q R) (law : IsLawful x) (ackno
       let none : length fs - suc opened ≡ 0 = omega (arith, is) in
       ap (λ j. replicate (suc opened) blank ++ map (λ f. own_frame spot.station spot.place f) (take j (drop (suc opened) fs))) none ∙ append-nil (replicate (suc opened) blank)
 
-  kept_begins : (v : V) (r : Registers) (cleared : Option ℕ) (fs : List (Frame M)) → length fs ≡ suc opened → Kept fs true (record (new_era cleared) { opened = Some opened }) (opened_slave M Q R spot v r)
-  kept_begins v r cleared fs is =
+  kept_begins : (v : V) (r : Registers) (cleared : Option ℕ) (state : ℕ) (fs : List (Frame M)) → length fs ≡ suc opened → Kept fs true (record (new_era cleared state) { opened = Some opened }) (opened_slave M Q R spot v r)
+  kept_begins v r cleared state fs is =
       let opening = opening_is fs is in
       let quiet = subst IsOpening (sym opening) (blanks_open (suc opened)) in
       let long = ap length opening ∙ blanks_long (suc opened) in
@@ -485,7 +485,7 @@ module _ {V A M Q R : Type 0} (x : Exchange V A M Q R) (law : IsLawful x) (ackno
       }
 
   kept_led : (v : V) (r : Registers) (fs : List (Frame M)) (counts : Bool) (e : Era M Q R) (n : Slave V M) → IsLed x acknowledged processor more passed spot opened v r fs counts e n → Kept fs counts e n
-  kept_led v r fs counts e n (IsLed.begins cleared gs is) = kept_begins v r cleared gs is
+  kept_led v r fs counts e n (IsLed.begins cleared state gs is) = kept_begins v r cleared state gs is
   kept_led v r fs counts e n (IsLed.goes_on gs c d m l t may) = turned gs c d m (kept_led v r gs c d m l) t.pick t.sent may.asks may.single t.fate t.back t.steps t.slave may.back may.slave
 
   pub heard_law : (v : V) (r : Registers) (fs : List (Frame M)) (counts : Bool) (e : Era M Q R) (n : Slave V M) → IsLed x acknowledged processor more passed spot opened v r fs counts e n → NoneUnheard x passed e

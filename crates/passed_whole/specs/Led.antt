@@ -77,7 +77,7 @@ module _ {V A M Q R : Type 0} (x : Exchange V A M Q R) (acknowledged : Q → Boo
 
   -- AN EPOCH AS ITS MASTER LEADS IT, from a server and registers on: its frames, whether an empty read counts, the epoch and its slave
   pub data IsLed (v : V) (r : Registers) : List (Frame M) → Bool → Era M Q R → Slave V M → Type 0 where
-    begins : (cleared : Option ℕ) (fs : List (Frame M)) → length fs ≡ suc opened → IsLed v r fs true (record (new_era cleared) { opened = Some opened }) (opened_slave M Q R spot v r)
+    begins : (cleared : Option ℕ) (state : ℕ) (fs : List (Frame M)) → length fs ≡ suc opened → IsLed v r fs true (record (new_era cleared state) { opened = Some opened }) (opened_slave M Q R spot v r)
     goes_on : (fs : List (Frame M)) (counts : Bool) (e : Era M Q R) (n : Slave V M) → IsLed v r fs counts e n → (t : EraTurn V M Q) → MayTurn fs e n t →
         IsLed v r (fs ++ frame_in t ∷ []) (counts_behind spot.station t.steps (own spot.station t.back) counts) (turn_after fs counts e t) t.slave
 

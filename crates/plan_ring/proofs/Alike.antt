@@ -104,9 +104,9 @@ module _ {M P T : Type 0} (is : P → Bool) (y z : Speech M P T) (same : Alike i
     era_same frame e pick row w =
         let p = granted e.passing pick in
         let wish = granted_is e.passing pick w in
-        ap₂ (λ (d : Side M P T) (a : Account P T). let k : Era M P T = record { cleared = e.cleared; opened = e.opened; side = d; account = a; passing = passing_begins y acknowledged more passed e.passing e.account a p.begin } in k)
+        ap₂ (λ (d : Side M P T) (a : Account P T). let k : Era M P T = record { cleared = e.cleared; opened = e.opened; state = e.state; side = d; account = a; passing = passing_begins y acknowledged more passed e.passing e.account a p.begin } in k)
         (side_same frame e.side (mails_choice e.account p) row (wish_mails e.account.hand p.begin wish)) (account_same acknowledged frame e.side e.account e.account.hand p.begin row wish)
-        ∙ ap (λ (k : Option Passing). let l : Era M P T = record { cleared = e.cleared; opened = e.opened; side = side_next z frame e.side (mails_choice e.account p); account = account_next z acknowledged frame e.side e.account p; passing = k } in l)
+        ∙ ap (λ (k : Option Passing). let l : Era M P T = record { cleared = e.cleared; opened = e.opened; state = e.state; side = side_next z frame e.side (mails_choice e.account p); account = account_next z acknowledged frame e.side e.account p; passing = k } in l)
         (passing_same e.passing e.account (account_next z acknowledged frame e.side e.account p) p.begin)
       where
         passing_same : (passing : Option Passing) (old new : Account P T) (wish : Option (Service P)) → passing_begins y acknowledged more passed passing old new wish ≡ passing_begins z acknowledged more passed passing old new wish

@@ -74,8 +74,8 @@ module _ {S V A Q R : Type 0} (w : Behind S V A Q R) (c : Clearing V A) (p : Pla
         of_one open_era (λ station start d a s. TasksRestIf w.exchange w.states (table_of w station) more gs station start d a s)
         (tasks_rest q.exchange q.lawful q.states q.stated q.processor q.table more q.planned.tells q.plan q.planned q.sides q.accounts q.ring q.frames q.tasked)
 
-    kept : opened < until → until ≤ length fs → (e.cleared ≡ None → registers.state ≡ spot.start) → (to : A) → w.exchange.app slave.node.server.server ≡ to → IsKept w more spot fs e from to until
-    kept before within first to leaves =
+    kept : opened < until → until ≤ length fs → (e.cleared ≡ None → registers.state ≡ spot.start) → registers.state ≡ e.state → (to : A) → w.exchange.app slave.node.server.server ≡ to → IsKept w more spot fs e from to until
+    kept before within first its to leaves =
         let t = promised in
         let u = answered in
         record {
@@ -85,6 +85,7 @@ module _ {S V A Q R : Type 0} (w : Behind S V A Q R) (c : Clearing V A) (p : Pla
           within = within;
           state = registers.state;
           first = first;
+          in_state = its;
           count = t.count;
           carried = subst (λ (b : A). IsCarriedOut w more spot b to t.count e.account.started) begins (record { prefix = t.prefix; behind = t.behind; app = sym leaves ∙ t.app });
           answered = subst (λ (b : A). IsAnswered w more spot gs b t.count e.account.started) begins (record { replies = t.replied; done = t.in_done; ended = t.in_doubt; emissions = t.emissions });
@@ -95,7 +96,7 @@ module _ {S V A Q R : Type 0} (w : Behind S V A Q R) (c : Clearing V A) (p : Pla
   -- ONE THAT IS LIVED by its node yet
   module _ (from : A) (e : Era Body Q R) (n : Node S) (k : LivesEra w spot from e fs n) where
     lived_kept : IsKept w more spot fs e from (app_of w more spot n) (length fs)
-    lived_kept = kept e from k.opened (length fs) k.server k.registers (node_seen w n) k.begins k.is k.before (omega arith) k.first (app_of w more spot n) refl
+    lived_kept = kept e from k.opened (length fs) k.server k.registers (node_seen w n) k.begins k.is k.before (omega arith) k.first k.in_state (app_of w more spot n) refl
 
     pub lived_rests : RestsIf w more spot fs e from n
     lived_rests settled wants hand =
@@ -104,14 +105,14 @@ module _ {S V A Q R : Type 0} (w : Behind S V A Q R) (c : Clearing V A) (p : Pla
         let heard_then = emitted w.exchange.speech.emission (heard spot.station (era_frames spot k.opened (length fs) fs)) in
         let both : (app_of w more spot n ≡ app_behind w more spot (w.states.told k.registers.state from) qs) × (heard_then ≡ emitted_by w more spot (w.states.told k.registers.state from) qs) =
         subst (λ (b : A). (app_of w more spot n ≡ app_behind w more spot b qs) × (heard_then ≡ emitted_by w more spot b qs)) k.begins (t.app, t.emissions) in
-        record { opened = k.opened; opened_at = k.is.opened_at; state = k.registers.state; app = both.0; ended = t.ended; emissions = both.1 }
+        record { opened = k.opened; opened_at = k.is.opened_at; state = k.registers.state; in_state = k.in_state; app = both.0; ended = t.ended; emissions = both.1 }
 
     lived_newest : IsNewest w more spot c.cleared fs e from n
     lived_newest = IsNewest.lives lived_kept lived_rests
 
   -- ONE THAT WAS LEFT
   left_kept : (from : A) (e : Era Body Q R) (s : S) (k : LeftEra w spot from e fs s) → IsKept w more spot fs e from (w.exchange.app (w.sees k.state s).server) k.until
-  left_kept from e s k = kept e from k.opened k.until k.server k.registers k.slave k.begins k.is k.before k.within k.first (w.exchange.app (w.sees k.state s).server) (ap w.exchange.app k.leaves)
+  left_kept from e s k = kept e from k.opened k.until k.server k.registers k.slave k.begins k.is k.before k.within k.first k.in_state (w.exchange.app (w.sees k.state s).server) (ap w.exchange.app k.leaves)
 
   pub past_kept : (first : A) (es : List (Era Body Q R)) (from : A) → LeftEras w c.cleared spot fs first es from → AreKept w more spot c.cleared fs first es from
   past_kept first _ _ (LeftEras.none _) = AreKept.none

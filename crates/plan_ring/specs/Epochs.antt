@@ -64,8 +64,7 @@ module _ {S V A Q R : Type 0} (w : Behind S V A Q R) (more : Body → Bool) (spo
     pub over : AllFound w.exchange.speech more spot.station gs e.account.over
     pub hand : IsOpenYet w.exchange.speech more spot.station gs e.account.hand
 
-  -- AN EPOCH from the frame that opened it to another: its slave began with this application, told the AL state that was opened, in the first epoch
-  -- the plan's
+  -- AN EPOCH from the frame that opened it to another: its slave began with this application, told the AL state of the epoch, in the first the plan's
   pub record IsKept (fs : List (Frame Body)) (e : Era Body Q R) (from to : A) (until : ℕ) : Type 0 where
     pub opened : ℕ
     pub opened_at : e.opened ≡ Some opened
@@ -73,6 +72,7 @@ module _ {S V A Q R : Type 0} (w : Behind S V A Q R) (more : Body → Bool) (spo
     pub within : until ≤ length fs
     pub state : ℕ
     pub first : e.cleared ≡ None → state ≡ spot.start
+    pub in_state : state ≡ e.state
     pub count : ℕ
     pub carried : IsCarriedOut (w.states.told state from) to count e.account.started
     pub answered : IsAnswered (era_frames spot opened until fs) (w.states.told state from) count e.account.started
@@ -98,6 +98,7 @@ module _ {S V A Q R : Type 0} (w : Behind S V A Q R) (more : Body → Bool) (spo
     pub opened : ℕ
     pub opened_at : e.opened ≡ Some opened
     pub state : ℕ
+    pub in_state : state ≡ e.state
     pub app : to ≡ app_behind (w.states.told state from) (services_in e.account.started)
     pub ended : AllEnded w.exchange.speech more spot.station (era_frames spot opened (length fs) fs) e.account.started
     pub emissions : emitted w.exchange.speech.emission (heard spot.station (era_frames spot opened (length fs) fs)) ≡ emitted_by (w.states.told state from) (services_in e.account.started)

@@ -66,14 +66,14 @@ module _ {M Q R : Type 0} (x : Speech M Q R) (acknowledged : Q → Bool) (more :
 
   -- ---- all along a life
   pub next : (frame : ℕ) (l : Life M Q R) (stand : Stand) (pick : Pick Q) → LastPasses l.era → LastPasses (life_next x acknowledged more passed frame l stand pick).era
-  next frame l stand pick k = next_keeps (λ (e : Era M Q R). LastPasses e) (λ cleared. none_lasts []) (λ e opened h. h) x acknowledged more passed frame l stand pick (λ h. next_lasts frame l.era.side l.era.account l.era.passing pick h) k
+  next frame l stand pick k = next_keeps (λ (e : Era M Q R). LastPasses e) (λ cleared state. none_lasts []) (λ e opened h. h) x acknowledged more passed frame l stand pick (λ h. next_lasts frame l.era.side l.era.account l.era.passing pick h) k
 
   pub back : (frame : ℕ) (spot : Spot) (ns : List (News M)) (ds : List (Datagram M)) (came : Option (Bool × Option Found)) (l : Life M Q R) (stand : Stand) → LastPasses l.era → LastPasses (life_back x acknowledged more passed frame spot ns ds came l stand).era
   back frame spot ns ds came l stand k =
       let era = era_back x acknowledged more passed spot.station frame ns ds l.era in
-      back_keeps (λ (e : Era M Q R). LastPasses e) (λ cleared. none_lasts []) (λ e opened h. h) x acknowledged more passed frame spot ns ds came l stand
+      back_keeps (λ (e : Era M Q R). LastPasses e) (λ cleared state. none_lasts []) (λ e opened h. h) x acknowledged more passed frame spot ns ds came l stand
       (λ h. news_lasts l.era.passing ns l.era.account.started era.account.started (started_back spot.station frame l.era.account (own spot.station ds)) h) k
 
   pub lost : (spot : Spot) (ns : List (News M)) (ds : List (Datagram M)) (l : Life M Q R) (stand : Stand) → LastPasses l.era → LastPasses (life_lost x acknowledged more passed spot ns ds l stand).era
   lost spot ns ds l stand k =
-      lost_keeps (λ (e : Era M Q R). LastPasses e) (λ cleared. none_lasts []) (λ e opened h. h) x acknowledged more passed spot ns ds l stand (λ h. news_lasts l.era.passing ns l.era.account.started l.era.account.started refl h) k
+      lost_keeps (λ (e : Era M Q R). LastPasses e) (λ cleared state. none_lasts []) (λ e opened h. h) x acknowledged more passed spot ns ds l stand (λ h. news_lasts l.era.passing ns l.era.account.started l.era.account.started refl h) k

@@ -37,7 +37,7 @@ module _ {V A M Q R : Type 0} (x : Exchange V A M Q R) (acknowledged : Q → Boo
   by_fate frame news sent (RingFate.Lost after) ds e k = lost x.speech acknowledged more passed spot news sent (in_era e) Stand.Open k
 
   pub led_says : (fs : List (Frame M)) (counts : Bool) (e : Era M Q R) (n : Slave V M) → IsLed x acknowledged processor more passed spot opened v r fs counts e n → NowAnswered x.speech e.side
-  led_says _ _ _ _ (IsLed.begins cleared fs long) = none_says x.speech
+  led_says _ _ _ _ (IsLed.begins cleared state fs long) = none_says x.speech
   led_says _ _ _ _ (IsLed.goes_on fs counts e n l t may) =
       by_fate (length fs) (news_in spot opened fs counts t) t.sent t.fate t.back (turn_next x acknowledged processor more passed spot opened fs e t)
       (next x.speech acknowledged more passed silent (length fs) (in_era e) Stand.Open t.pick (led_says fs counts e n l))

@@ -7,13 +7,13 @@ use Rattle.segment_model.specs.Record.{News}
 use Rattle.segment_model.specs.Slaves.{Datagram, Found}
 use Rattle.task_model.specs.Accounts.{Duty, Pick, Stage}
 
-module _ {M Q R : Type 0} (P : Era M Q R → Type 0) (new : (cleared : Option ℕ) → P (new_era cleared)) (open_too : (e : Era M Q R) (frame : ℕ) → P e → P (record e { opened = Some frame })) where
+module _ {M Q R : Type 0} (P : Era M Q R → Type 0) (new : (cleared : Option ℕ) (state : ℕ) → P (new_era cleared state)) (open_too : (e : Era M Q R) (frame : ℕ) → P e → P (record e { opened = Some frame })) where
   -- an opening, and a reopening
   opening_keeps : (frame : ℕ) (l : Life M Q R) (o : Opening) (done : Bool) (found : Option Found) → P l.era → P (opening_back frame l o done found).era
   opening_keeps frame l o done found k = by (shows_clear o) (done && is_shown 1 found) (o.step == last_step o) (done && is_shown o.state found)
     where
       by : (a b c d : Bool) → P (if a then (if b then clears frame l o else l) else if c then (if d then opens frame l else l) else steps_on l o).era
-      by true true c d = new (Some frame)
+      by true true c d = new (Some frame) o.state
       by true false c d = k
       by false b true true = open_too l.era frame k
       by false b true false = k

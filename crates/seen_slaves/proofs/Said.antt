@@ -73,12 +73,12 @@ module _ {M Q R : Type 0} (x : Speech M Q R) where
 
   module _ (acknowledged : Q → Bool) (more : M → Bool) (passed : Q → Bool) where
     pub next : ((q : Q) → x.ends q [] ≡ None) → (frame : ℕ) (l : Life M Q R) (stand : Stand) (pick : Pick Q) → NowAnswered x l.era.side → NowAnswered x (life_next x acknowledged more passed frame l stand pick).era.side
-    next silent frame l stand pick k = next_keeps Said (λ cleared. none_says) (λ e opened h. h) x acknowledged more passed frame l stand pick (λ h. next_says silent frame l.era.side (mails_choice l.era.account (granted l.era.passing pick)) h) k
+    next silent frame l stand pick k = next_keeps Said (λ cleared state. none_says) (λ e opened h. h) x acknowledged more passed frame l stand pick (λ h. next_says silent frame l.era.side (mails_choice l.era.account (granted l.era.passing pick)) h) k
 
     pub back : (frame : ℕ) (spot : Spot) (ns : List (News M)) (ds : List (Datagram M)) (came : Option (Bool × Option Found)) (l : Life M Q R) (stand : Stand) → NowAnswered x l.era.side → NowAnswered x (life_back x acknowledged more passed frame spot ns ds came l stand).era.side
     back frame spot ns ds came l stand k =
-        back_keeps Said (λ cleared. none_says) (λ e opened h. h) x acknowledged more passed frame spot ns ds came l stand
+        back_keeps Said (λ cleared state. none_says) (λ e opened h. h) x acknowledged more passed frame spot ns ds came l stand
         (λ h. heard_says frame (all_accepted spot.station l.era.side.halves (grams (own spot.station ds))) l.era.side.now) k
 
     pub lost : (spot : Spot) (ns : List (News M)) (ds : List (Datagram M)) (l : Life M Q R) (stand : Stand) → NowAnswered x l.era.side → NowAnswered x (life_lost x acknowledged more passed spot ns ds l stand).era.side
-    lost spot ns ds l stand k = lost_keeps Said (λ cleared. none_says) (λ e opened h. h) x acknowledged more passed spot ns ds l stand (λ h. h) k
+    lost spot ns ds l stand k = lost_keeps Said (λ cleared state. none_says) (λ e opened h. h) x acknowledged more passed spot ns ds l stand (λ h. h) k

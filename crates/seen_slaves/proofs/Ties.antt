@@ -34,7 +34,7 @@ module _ {V M Q R C T A : Type 0} (w : Speaker V M Q R C T) (k : IsSpeaker w) (f
   always m = let a = answered w.exchange k.first m in record { mail = a.mail; planned = a.planned; passes = a.passes; first = a.first; rest = a.rest; gives = a.gives; replies = a.replies }
 
   pub tied : (fs : List (Frame M)) (counts : Bool) (e : Era M T (Option R)) (n : Slave V M) → LedThere fs counts e n → Tied fs counts e n
-  tied fs counts e n (IsLed.begins cleared gs is) = begin w k (seeing_lawful w k) (seeing_stated w k) u processor seer tables spot run opened v r plan answers heard always cleared gs is
+  tied fs counts e n (IsLed.begins cleared state gs is) = begin w k (seeing_lawful w k) (seeing_stated w k) u processor seer tables spot run opened v r plan answers heard always cleared state gs is
   tied fs counts e n (IsLed.goes_on gs c d m l t may) =
       Led.tied_next w k (seeing_lawful w k) (seeing_stated w k) u processor seer tables spot run opened v r gs c d m (tied gs c d m l) t may
       (fair (turn_next u w.naming.acknowledged processor w.naming.more w.naming.passed spot opened gs d t).account.started) heard always

@@ -34,7 +34,7 @@ module _ (weigh : List ℕ → ℕ) (p : Profile) (laws : Quiets weigh p) (boot 
   -- each epoch begins with a calm server
   past_calm : {a b : InState Server} {es : List (Era Body Asked Reply)} → is_calm a ≡ true → AllLeds w is_followed is_passed spot serves_clearing.cleared a es b → is_calm b ≡ true
   past_calm calm (AllLeds.none a) = calm
-  past_calm calm (AllLeds.closed a es b e at before is_new) = refl
+  past_calm calm (AllLeds.closed a es b e at state before is_new) = refl
   past_calm calm (AllLeds.opened a es b e s before left) = refl
 
   -- AN EPOCH is seen with what is meant by its mails

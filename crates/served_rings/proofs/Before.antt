@@ -287,7 +287,7 @@ module _ {V A M Q R : Type 0} (x : Exchange V A M Q R) (law : IsLawful x) (s : S
       -- BEFORE IT just the replies to the services before it were accepted
       led_before : (fs : List (Frame M)) (counts : Bool) (e : Era M Q R) (n : Slave V M) → Led fs counts e n → (before : List (Started Q)) (q : Q) (f : ℕ) (states : List (Started Q)) → e.account.started ≡ before ++ by_mails q f ∷ states → mails_in (services_in states) ≡ 0 →
           (row : Row M Q R) → e.side.now ≡ Some row → plains here (acts (accepted_before spot.station row.frame (framed fs))) ≡ replies_all here (counting v) (services_in before)
-      led_before fs counts e n (IsLed.begins cleared gs is) before q f states started none row now = absurd (let no : None ≡ Some row = now in cc)
+      led_before fs counts e n (IsLed.begins cleared state gs is) before q f states started none row now = absurd (let no : None ≡ Some row = now in cc)
       led_before fs counts e n (IsLed.goes_on gs k d m l t may) before q f states started none row now =
           elim (turned x.speech s.acknowledged more passed spot.station (length gs) (news_in spot opened gs k t) t.sent t.fate t.back d t.pick) [
             | inl g ↦

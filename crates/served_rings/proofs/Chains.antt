@@ -70,9 +70,9 @@ module _ {V M Q R C T A : Type 0} (w : Speaker V M Q R C T) (seer : Processor (R
 
     past : (first : V) (es : List EraThere) (b : V) → AllLed w seer table spot u processor clear first es b → ErasFair w es → Past first es b
     past first _ _ (AllLed.none _) fair = record { eras = []; worked = AllWorked.none first; named = refl }
-    past first _ _ (AllLed.closed _ es b cleared before) fair =
-        let p = past first es b before (fair_front es (new_era cleared ∷ []) fair) in
-        record { eras = p.eras ++ new_era cleared ∷ []; worked = AllWorked.closed first p.eras b (new_era cleared) p.worked refl; named = one_more p.eras (new_era cleared) es (new_era cleared) p.named refl }
+    past first _ _ (AllLed.closed _ es b cleared state before) fair =
+        let p = past first es b before (fair_front es (new_era cleared state ∷ []) fair) in
+        record { eras = p.eras ++ new_era cleared state ∷ []; worked = AllWorked.closed first p.eras b (new_era cleared state) p.worked refl; named = one_more p.eras (new_era cleared state) es (new_era cleared state) p.named refl }
     past first _ _ (AllLed.opened _ es b e left before k) fair =
         let p = past first es b before (fair_front es (e ∷ []) fair) in
         let s = one b e left k (fair_last es e fair) in
@@ -89,7 +89,7 @@ module _ {V M Q R C T A : Type 0} (w : Speaker V M Q R C T) (seer : Processor (R
       named : era_named w era ≡ e
 
     newest : (from : V) (e : EraThere) → IsNewestLed w seer table spot u processor from e → AllFair w e.account.started → Newest from e
-    newest from e (IsNewestLed.closed cleared new) fair = record { era = new_era cleared; is = IsNewest.closed refl; named = sym new }
+    newest from e (IsNewestLed.closed cleared state new) fair = record { era = new_era cleared state; is = IsNewest.closed refl; named = sym new }
     newest from e (IsNewestLed.opened to k) fair = let s = one from e to k fair in record { era = s.era; is = IsNewest.opened s.frames s.left s.was; named = s.named }
 
     -- THE LIFE

@@ -105,6 +105,7 @@ module _ (p : Profile) (k : IsSpeaker (speaker p)) (forgets : Forgets (speaker p
         was = record {
           state = l.registers.state;
           first = l.first;
+          in_state = l.in_state;
           era = subst (λ z. IsServedEra p boot spot.station z e seen_node.node.server.server (ideal (product_whole parts p) i.slave.node.server.server)) begins (served_era i);
         };
         cleared = cleared_so i;

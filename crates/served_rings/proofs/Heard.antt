@@ -360,7 +360,7 @@ module _ (p : Profile) (k : IsSpeaker (speaker p)) (boot : Bool) (lens : ℕ →
   }
 
   rows_led : (fs : List (Frame Body)) (counts : Bool) (e : Era Body Asked Reply) (n : Slave (InState Server) Body) → Led fs counts e n → NoRow e ⊎ Newer e
-  rows_led fs counts e n (IsLed.begins cleared gs is) = inl (record { none = refl; past = refl; now = refl })
+  rows_led fs counts e n (IsLed.begins cleared state gs is) = inl (record { none = refl; past = refl; now = refl })
   rows_led fs counts e n (IsLed.goes_on gs c d m l t may) =
       let before = rows_led gs c d m l in
       elim (turned (spoken p).speech Spoken.acknowledged is_followed is_passed spot.station (length gs) (news_in spot opened gs c t) t.sent t.fate t.back d t.pick) [

@@ -38,6 +38,7 @@ module _ {S V A Q R : Type 0} (w : Behind S V A Q R) (c : Clearing V A) (p : Pla
     begins = l.begins;
     up = l.up;
     first = l.first;
+    in_state = l.in_state;
     is = Lives.session w whole.behind more passed spot from led e fs n l;
     opens = l.opens;
     station = l.station;
@@ -104,18 +105,18 @@ module _ {S V A Q R : Type 0} (w : Behind S V A Q R) (c : Clearing V A) (p : Pla
         record { led = led; era = subst (λ (d : Era Body Q R). LedEra w more passed spot from led d gs (node_behind w.running t)) same next }
 
     begins : (o : Opening) → stand ≡ Stand.Opens o → (q : Plan) (al : ℕ) (cleared : Option ℕ) → (cleared ≡ None → q.start ≡ spot.start) → OpensEra w q spot (node_behind w.running t) →
-        F (w.exchange.app (w.sees al (node_behind w.running t).server).server) (opened_era {Q = Q} {R = R} cleared (length fs)) gs (node_behind w.running t)
+        F (w.exchange.app (w.sees al (node_behind w.running t).server).server) (opened_era {Q = Q} {R = R} cleared q.start (length fs)) gs (node_behind w.running t)
     begins o opens q al cleared start k =
         let m = node_behind w.running t in
         let rec = recorded_as w.lens t (frame_of w.lens t).fate in
         let len : length gs ≡ suc (length fs) = length-append fs (frame_of w.lens t ∷ []) ∙ (let plus : length fs + 1 ≡ suc (length fs) = omega arith in plus) in
         let era = Lives.begins w whole.behind more passed spot whole.stated whole.tells q al cleared (length fs) gs m len start k in
-        let here : LedKept w more passed spot nothing_kept true (w.exchange.app (w.sees al m.server).server) (opened_era {Q = Q} {R = R} cleared (length fs)) gs m = record {
+        let here : LedKept w more passed spot nothing_kept true (w.exchange.app (w.sees al m.server).server) (opened_era {Q = Q} {R = R} cleared q.start (length fs)) gs m = record {
           led = true;
           era = era;
           counted = subst (λ k. IsCounted spot k gs true nothing_kept true) (sym (Lives.begins_opened w whole.behind more passed spot whole.stated whole.tells q al cleared (length fs) gs m len start k)) (counted_first spot (length fs) gs len);
         } in
-        subst (λ (st : Stand). LedKept w more passed spot (kept_on st spot.station kept rec) (counts_on st spot.station t.pace t.ring.number rec.back counts) (w.exchange.app (w.sees al m.server).server) (opened_era {Q = Q} {R = R} cleared (length fs)) gs m) (sym opens) here
+        subst (λ (st : Stand). LedKept w more passed spot (kept_on st spot.station kept rec) (counts_on st spot.station t.pace t.ring.number rec.back counts) (w.exchange.app (w.sees al m.server).server) (opened_era {Q = Q} {R = R} cleared q.start (length fs)) gs m) (sym opens) here
 
     -- THEY KEEP SO
     pub keeps : Keeps w c spot E F Y (λ a d hs s. LedLeft w more passed spot a d s) (λ hs a ds b. AllLeds w more passed spot c.cleared a ds b) stand e fs t more passed pick news
@@ -129,6 +130,6 @@ module _ {S V A Q R : Type 0} (w : Behind S V A Q R) (c : Clearing V A) (p : Pla
       over = λ from s l. l;
       begins = begins;
       past = λ first es b all. all;
-      closed = λ first es b all at is_new. AllLeds.closed first es b e at all is_new;
+      closed = λ first es b all at state is_new. AllLeds.closed first es b e at state all is_new;
       left = λ first es b s all x. ((registers_seen x.node.registers).state, AllLeds.opened first es b e s all x);
     }

@@ -39,7 +39,7 @@ counted_none false ns none = ap without_empty none
 module _ {S V A Q R : Type 0} (w : Behind S V A Q R) (is : IsBehind w) (more : Body → Bool) (passed : Q → Bool) (spot : Spot) where
   -- IT BEGINS with the slave as its opening left it
   pub begins : IsStated w.exchange w.states → ((state : ℕ) (v : V) → w.processor.tell state v ≡ w.states.tell state v) → (p : Plan) (al : ℕ) (cleared : Option ℕ) (opened : ℕ) (fs : List (Frame Body)) (n : Node S) → length fs ≡ suc opened → (cleared ≡ None → p.start ≡ spot.start) →
-      OpensEra w p spot n → LedEra w more passed spot (w.exchange.app (w.sees al n.server).server) true (opened_era {Q = Q} {R = R} cleared opened) fs n
+      OpensEra w p spot n → LedEra w more passed spot (w.exchange.app (w.sees al n.server).server) true (opened_era {Q = Q} {R = R} cleared p.start opened) fs n
   begins stated tells p al cleared opened fs n frames start o =
       let state : (registers_seen n.registers).state ≡ p.start = o.opened.state in
       let knows = Begins.seen_state w is stated tells (registers_seen n.registers).state n.server in
@@ -54,9 +54,10 @@ module _ {S V A Q R : Type 0} (w : Behind S V A Q R) (is : IsBehind w) (more : B
         begins = Begins.seen_told w is stated tells al r.state n.server;
         up = λ init. Begins.not_init w is stated tells o.plan.start (sym (knows ∙ state) ∙ init);
         first = λ none. state ∙ start none;
+        in_state = state;
         plan = Begins.opens_plan w is stated tells p spot n o;
         answers = here;
-        led = subst (λ t. IsLed w.exchange w.states.acknowledged w.processor more passed spot opened v r fs true (opened_era {Q = Q} {R = R} cleared opened) t) (sym (Begins.opens_slave w is stated tells p spot n o)) (IsLed.begins cleared fs frames);
+        led = subst (λ t. IsLed w.exchange w.states.acknowledged w.processor more passed spot opened v r fs true (opened_era {Q = Q} {R = R} cleared p.start opened) t) (sym (Begins.opens_slave w is stated tells p spot n o)) (IsLed.begins cleared p.start fs frames);
         opens = o.opened.opens;
         station = here;
         stands = o.opened.stands;
@@ -121,6 +122,7 @@ module _ {S V A Q R : Type 0} (w : Behind S V A Q R) (is : IsBehind w) (more : B
           begins = l.begins;
           up = l.up;
           first = λ none. l.first (sym (Frames.after_cleared w.exchange.speech w.states.acknowledged more passed spot.station (length fs) news turn.sent turn.fate turn.back next) ∙ none);
+          in_state = l.in_state ∙ sym (Frames.after_state w.exchange.speech w.states.acknowledged more passed spot.station (length fs) news turn.sent turn.fate turn.back next);
           plan = l.plan;
           answers = l.answers;
           led = IsLed.goes_on fs counts e (node_seen w t.node) l.led turn may;

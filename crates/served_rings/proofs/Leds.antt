@@ -41,9 +41,9 @@ module _ (p : Profile) (boot : Bool) (lens : ℕ → Lens) (spot : Spot) where
 
   past_led : {a b : InState Server} {es : List (Era Body Asked Reply)} → is_calm a ≡ true → AllLeds w is_followed is_passed spot serves_clearing.cleared a es b → Begun a es b
   past_led calm (AllLeds.none a) = record { all = AllLed.none (in_init a); calm = calm }
-  past_led calm (AllLeds.closed a es b e at before is_new) =
+  past_led calm (AllLeds.closed a es b e at state before is_new) =
       let rest = past_led calm before in
-      record { all = subst (λ d. Before (in_init a) (es ++ d ∷ []) (cleared_whole (in_init b))) (sym is_new) (AllLed.closed (in_init a) es (in_init b) at rest.all); calm = refl }
+      record { all = subst (λ d. Before (in_init a) (es ++ d ∷ []) (cleared_whole (in_init b))) (sym is_new) (AllLed.closed (in_init a) es (in_init b) at state rest.all); calm = refl }
   past_led calm (AllLeds.opened a es b e s before left) =
       let rest = past_led calm before in
       let state = (registers_seen left.node.registers).state in
@@ -56,7 +56,7 @@ module _ (p : Profile) (boot : Bool) (lens : ℕ → Lens) (spot : Spot) where
   opens_led : (plan : Plan) (from : InState Server) → is_calm from ≡ true → (e : Era Body Asked Reply) (fs : List (Frame Body)) (n : Node Serving) (o : Opening) →
       OpensBy w (λ a d gs m. LedYet w is_followed is_passed spot a d gs m) (λ a d gs s. LedLeft w is_followed is_passed spot a d s) plan spot from e fs o n → Newest (in_init from) e
   opens_led plan from calm e fs n o (OpensBy.yet again step is still) = let x = still.lives.epoch in IsNewestLed.opened _ (was_led p boot lens spot from (in_init from) (λ k. refl) x.led e fs n x.era calm)
-  opens_led plan from calm e fs n o (OpensBy.anew closing x start) = IsNewestLed.closed x.cleared x.is_new
+  opens_led plan from calm e fs n o (OpensBy.anew closing x start) = IsNewestLed.closed x.cleared x.state x.is_new
   opens_led plan from calm e fs n o (OpensBy.over closing again early x) = let y = x.left in IsNewestLed.opened _ (was_led p boot lens spot from (in_init from) (λ k. refl) y.led e y.frames y.node y.era calm)
 
   newest_led : (plan : Plan) (kept : Kept) (counts : Bool) (from : InState Server) → is_calm from ≡ true → (e : Era Body Asked Reply) (fs : List (Frame Body)) (stand : Stand) (n : Node Serving) →

@@ -91,7 +91,7 @@ module _ {V A M Q R : Type 0} (x : Exchange V A M Q R) (acknowledged : Q → Boo
       era_after x.speech acknowledged more passed spot.station (length fs) (news_in spot opened fs counts t) t.sent fate t.back (turn_next x acknowledged processor more passed spot opened fs e t)
 
   later : (fs : List (Frame M)) (counts : Bool) (e : Era M Q R) (n : Slave V M) → Led fs counts e n → opened < length fs
-  later _ _ _ _ (IsLed.begins cleared fs long) = omega (arith, long)
+  later _ _ _ _ (IsLed.begins cleared state fs long) = omega (arith, long)
   later _ _ _ _ (IsLed.goes_on fs counts e n led t may) = let k = later fs counts e n led in let l = longer fs (frame_in t) in omega (arith, k, l)
 
   module _ (knows : (fs : List (Frame M)) (counts : Bool) (e : Era M Q R) (n : Slave V M) → Led fs counts e n → Knows fs e) where
@@ -147,5 +147,5 @@ module _ {V A M Q R : Type 0} (x : Exchange V A M Q R) (acknowledged : Q → Boo
 
     -- SO IT IS at each moment
     pub all_in_rows : (fs : List (Frame M)) (counts : Bool) (e : Era M Q R) (n : Slave V M) → Led fs counts e n → IsHeard fs e
-    all_in_rows _ _ _ _ (IsLed.begins cleared fs long) = none_heard fs _ _ _ (IsLed.begins cleared fs long) refl
+    all_in_rows _ _ _ _ (IsLed.begins cleared state fs long) = none_heard fs _ _ _ (IsLed.begins cleared state fs long) refl
     all_in_rows _ _ _ _ (IsLed.goes_on fs counts e n led t may) = turned fs counts e n led t may (all_in_rows fs counts e n led)

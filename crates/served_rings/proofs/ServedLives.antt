@@ -33,8 +33,8 @@ pub gone_not_open : Stand.Gone ≢ Stand.Open
 gone_not_open e = cc
 
 -- of an epoch that is new nothing came into hand
-nothing : (e : Era Body Asked Reply) (cleared : Option ℕ) → e ≡ new_era cleared → NothingCame e
-nothing e cleared is_new = record { started = ap (λ (d : Era Body Asked Reply). d.account.started) is_new; rows = ap (λ (d : Era Body Asked Reply). rows_of d.side) is_new }
+nothing : (e : Era Body Asked Reply) (cleared : Option ℕ) (state : ℕ) → e ≡ new_era cleared state → NothingCame e
+nothing e cleared state is_new = record { started = ap (λ (d : Era Body Asked Reply). d.account.started) is_new; rows = ap (λ (d : Era Body Asked Reply). rows_of d.side) is_new }
 
 module _ (p : Profile) (k : IsSpeaker (speaker p)) (forgets : Forgets (speaker p).exchange (speaker p).core cleared_whole) (boot : Bool) (lens : ℕ → Lens) (behind : IsBehind (serves p boot lens)) (spot : Spot) where
   abbrev w : Behind Serving (InState Server) (InState Server) Asked Reply
@@ -58,11 +58,11 @@ module _ (p : Profile) (k : IsSpeaker (speaker p)) (forgets : Forgets (speaker p
 
   past_served : {a b : InState Server} {es : List (Era Body Asked Reply)} → AllLeds w is_followed is_passed spot serves_clearing.cleared a es b → Begun a es b
   past_served (AllLeds.none a) = record { at = a; all = AreServedEras.none; same = refl }
-  past_served (AllLeds.closed a es b e cleared before is_new) =
+  past_served (AllLeds.closed a es b e cleared state before is_new) =
       let rest = past_served before in
       record {
         at = cleared_whole rest.at;
-        all = AreServedEras.unopened es rest.at e rest.all (nothing e cleared is_new);
+        all = AreServedEras.unopened es rest.at e rest.all (nothing e cleared state is_new);
         same = clears_inner b rest.at rest.same;
       }
   past_served (AllLeds.opened a es b e s before left) =
@@ -81,7 +81,7 @@ module _ (p : Profile) (k : IsSpeaker (speaker p)) (forgets : Forgets (speaker p
       let x = still.lives.epoch in
       let one = era_served p k forgets boot lens spot from x.led e fs n x.era behind at same in
       IsServedNewest.over stand shut _ one.done one.was
-  opens_served plan from at same e fs stand shut n o (OpensBy.anew closing x start) = IsServedNewest.unopened stand shut (nothing e x.cleared x.is_new)
+  opens_served plan from at same e fs stand shut n o (OpensBy.anew closing x start) = IsServedNewest.unopened stand shut (nothing e x.cleared x.state x.is_new)
   opens_served plan from at same e fs stand shut n o (OpensBy.over closing again early x) =
       let y = x.left in
       let one = era_served p k forgets boot lens spot from y.led e y.frames y.node y.era behind at same in

@@ -22,7 +22,7 @@ abbrev pub steps_at : Bool → List ℕ
 steps_at pace = if pace then 0 ∷ [] else []
 
 module _ {S V A Q R : Type 0} (w : Behind S V A Q R) (more : Body → Bool) (passed : Q → Bool) (spot : Spot) where
-  -- IT BEGAN with this application, told the AL state that was opened, not Init, and in the first epoch the plan's; from there its master led it to the
+  -- IT BEGAN with this application, told the AL state of the epoch, not Init, and in the first the plan's; from there its master led it to the
   -- slave that the node is; `counts` says whether an empty read of mailbox 1 counts
   pub record LedEra (from : A) (counts : Bool) (e : Era Body Q R) (fs : List (Frame Body)) (n : Node S) : Type 0 where
     pub opened : ℕ
@@ -32,6 +32,7 @@ module _ {S V A Q R : Type 0} (w : Behind S V A Q R) (more : Body → Bool) (pas
     pub begins : w.exchange.app server ≡ w.states.told registers.state from
     pub up : w.states.state (w.exchange.app server) ≢ 1
     pub first : e.cleared ≡ None → registers.state ≡ spot.start
+    pub in_state : registers.state ≡ e.state
     pub plan : IsTaskPlan w.exchange w.states w.processor (table_of w) (planned spot server registers ∷ [])
     pub answers : registers.station ≡ spot.station
     pub led : IsLed w.exchange w.states.acknowledged w.processor more passed spot opened server registers fs counts e (node_seen w n)

@@ -40,7 +40,7 @@ module _ {S V A Q R : Type 0} (w : Behind S V A Q R) (more : Body → Bool) (pas
   -- stood before it
   pub data AllLeds (cleared : A → A) : A → List (Era Body Q R) → A → Type 0 where
     none : (a : A) → AllLeds cleared a [] a
-    closed : (a : A) (es : List (Era Body Q R)) (b : A) (e : Era Body Q R) (at : Option ℕ) → AllLeds cleared a es b → e ≡ new_era at → AllLeds cleared a (es ++ e ∷ []) (cleared b)
+    closed : (a : A) (es : List (Era Body Q R)) (b : A) (e : Era Body Q R) (at : Option ℕ) (state : ℕ) → AllLeds cleared a es b → e ≡ new_era at state → AllLeds cleared a (es ++ e ∷ []) (cleared b)
     opened : (a : A) (es : List (Era Body Q R)) (b : A) (e : Era Body Q R) (s : S) → AllLeds cleared a es b → (left : LedLeft b e s) →
         AllLeds cleared a (es ++ e ∷ []) (w.exchange.app (w.sees (registers_seen left.node.registers).state (w.running.clear s)).server)
 

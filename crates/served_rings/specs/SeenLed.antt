@@ -55,12 +55,12 @@ module _ {V M Q R C T : Type 0} (w : Speaker V M Q R C T) where
       -- ALL EPOCHS BUT THE NEWEST, from one server to another: each that was opened leaves what the next begins with, cleared; and so does one that wasn't
       pub data AllLed (clear : V → V) : V → List (Era M T (Option R)) → V → Type 0 where
         none : (v : V) → AllLed clear v [] v
-        closed : (v : V) (es : List (Era M T (Option R))) (b : V) (cleared : Option ℕ) → AllLed clear v es b → AllLed clear v (es ++ new_era cleared ∷ []) (clear b)
+        closed : (v : V) (es : List (Era M T (Option R))) (b : V) (cleared : Option ℕ) (state : ℕ) → AllLed clear v es b → AllLed clear v (es ++ new_era cleared state ∷ []) (clear b)
         opened : (v : V) (es : List (Era M T (Option R))) (b : V) (e : Era M T (Option R)) (left : V) → AllLed clear v es b → WasLed b e left → AllLed clear v (es ++ e ∷ []) (clear left)
 
       -- THE NEWEST was never opened, or was led so far
       pub data IsNewestLed (from : V) (e : Era M T (Option R)) : Type 0 where
-        closed : (cleared : Option ℕ) → e ≡ new_era cleared → IsNewestLed from e
+        closed : (cleared : Option ℕ) (state : ℕ) → e ≡ new_era cleared state → IsNewestLed from e
         opened : (to : V) → WasLed from e to → IsNewestLed from e
 
       -- THE LIFE, from the server with which its slave was switched on

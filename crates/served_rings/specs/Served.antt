@@ -111,10 +111,11 @@ module _ (p : Profile) (boot : Bool) (station : ℕ) where
     pub emissions : IsPrefixOf (emitted emission (heard_all (rows_of e.side))) (emitted_behind from (take count (services_in e.account.started)))
     pub newest : e.side.now ≡ None → e.side.past ≡ []
 
-  -- one that was opened: it began with this server, in the first epoch in the state of the plan, and its slave left that one
+  -- one that was opened: it began with this server, in the AL state of the epoch, in the first that of the plan, and its slave left that one
   pub record WasServed (start : ℕ) (from : InState Server) (e : Era Body Asked Reply) (left done : InState Server) : Type 0 where
     pub state : ℕ
     pub first : e.cleared ≡ None → state ≡ start
+    pub in_state : state ≡ e.state
     pub era : IsServedEra (record from { state = state }) e left done
 
   -- ALL EPOCHS THAT ARE OVER: each begins with what the one before carried out, cleared, and so does one behind an epoch that was never opened

@@ -41,7 +41,7 @@ pub fn session_law<V, A, M, Q, R>()
 /// stays as it is. Meanwhile the slave isn't in Init, as long as no state service asks for it.
 pub fn led_law<S, V, A, Q, R>()
     ensures begins { (w : Behind S V A Q R) → IsBehind w → IsStated w.exchange w.states → ((state : ℕ) (v : V) → w.processor.tell state v ≡ w.states.tell state v) → (more : Body → Bool) (passed : Q → Bool) (p : Plan) (spot : Spot) (al : ℕ) (cleared : Option ℕ) (opened : ℕ)
-        (fs : List (Frame Body)) (n : Node S) → length fs ≡ suc opened → (cleared ≡ None → p.start ≡ spot.start) → OpensEra w p spot n → LedEra w more passed spot (w.exchange.app (w.sees al n.server).server) true (opened_era {Q = Q} {R = R} cleared opened) fs n }
+        (fs : List (Frame Body)) (n : Node S) → length fs ≡ suc opened → (cleared ≡ None → p.start ≡ spot.start) → OpensEra w p spot n → LedEra w more passed spot (w.exchange.app (w.sees al n.server).server) true (opened_era {Q = Q} {R = R} cleared p.start opened) fs n }
     ensures on { (w : Behind S V A Q R) → IsBehind w → (more : Body → Bool) (passed : Q → Bool) (spot : Spot) (from : A) (counts : Bool) (e : Era Body Q R) (fs : List (Frame Body)) (t : RingFrame S) (l : LedEra w more passed spot from counts e fs t.node) (pick : Pick Q) →
         LedFrame w more passed spot e fs t pick → let u = turn_of w more passed spot t pick in
         LedEra w more passed spot from (counts_behind spot.station u.steps (own spot.station u.back) counts) (turn_after w.exchange w.states.acknowledged w.processor more passed spot l.opened fs counts e u) (fs ++ frame_of w.lens t ∷ []) (node_behind w.running t) }

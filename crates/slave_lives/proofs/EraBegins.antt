@@ -92,7 +92,7 @@ module _ {S V A Q R : Type 0} (w : Behind S V A Q R) (is : IsBehind w) (stated :
       let state : al ≡ p.start = o.opened.state in
       let knows : w.states.state (w.exchange.app v) ≡ al = seen_state al n.server in
       let here : r.station ≡ spot.station = o.opened.station ∙ o.station in
-      let begins = Eras.era_begins {M = Body} {Q = Q} {R = R} w.exchange w.states w.processor (table_of w) spot cleared opened fs v r frames (opens_plan p spot n o) here in
+      let begins = Eras.era_begins {M = Body} {Q = Q} {R = R} w.exchange w.states w.processor (table_of w) spot cleared p.start opened fs v r frames (opens_plan p spot n o) here in
       record {
         lives = record {
           opened = opened;
@@ -101,8 +101,9 @@ module _ {S V A Q R : Type 0} (w : Behind S V A Q R) (is : IsBehind w) (stated :
           begins = seen_told al0 al n.server;
           up = λ init. not_init o.plan.start (sym (knows ∙ state) ∙ init);
           first = λ none. state ∙ start none;
+          in_state = state;
           before = omega (arith, frames);
-          is = subst (λ t. EraIs w.exchange w.states w.processor (table_of w) spot (opened_era {Q = Q} {R = R} cleared opened) opened (length fs) fs v r t) (sym (opens_slave p spot n o)) begins;
+          is = subst (λ t. EraIs w.exchange w.states w.processor (table_of w) spot (opened_era {Q = Q} {R = R} cleared p.start opened) opened (length fs) fs v r t) (sym (opens_slave p spot n o)) begins;
           opens = o.opened.opens;
           station = here;
           stands = o.opened.stands;

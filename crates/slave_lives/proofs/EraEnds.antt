@@ -34,6 +34,7 @@ module _ {S V A Q R : Type 0} (w : Behind S V A Q R) where
     within = omega arith;
     begins = l.begins;
     first = l.first;
+    in_state = l.in_state;
     is = l.is;
     state = (registers_seen n.registers).state;
     leaves = refl;
@@ -53,6 +54,7 @@ module _ {S V A Q R : Type 0} (w : Behind S V A Q R) where
         within = omega (arith, within, length-append fs gs);
         begins = l.begins;
         first = l.first;
+        in_state = l.in_state;
         is = record {
           plan = l.is.plan;
           answers = l.is.answers;

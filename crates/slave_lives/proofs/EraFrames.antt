@@ -74,6 +74,12 @@ pub after_cleared : {M Q R : Type 0} (x : Speech M Q R) (acknowledged : Q → Bo
 after_cleared x acknowledged more passed station frame news sent RingFate.Back back e = refl
 after_cleared x acknowledged more passed station frame news sent (RingFate.Lost after) back e = refl
 
+-- and the state that the epoch opens
+pub after_state : {M Q R : Type 0} (x : Speech M Q R) (acknowledged : Q → Bool) (more : M → Bool) (passed : Q → Bool) (station frame : ℕ) (news : List (News M)) (sent : List (Datagram M)) (fate : RingFate) (back : List (Datagram M)) (e : Era M Q R) →
+    (era_after x acknowledged more passed station frame news sent fate back e).state ≡ e.state
+after_state x acknowledged more passed station frame news sent RingFate.Back back e = refl
+after_state x acknowledged more passed station frame news sent (RingFate.Lost after) back e = refl
+
 module _ {V : Type 0} (station place : ℕ) (s : Slave V Body) (ds : List (Datagram Body)) where
   abbrev alone_ring : Ring V Body
   alone_ring = (station, s) ∷ []
@@ -266,6 +272,7 @@ module _ {S V A Q R : Type 0} (w : Behind S V A Q R) (is_behind : IsBehind w) wh
         begins = lives.begins;
         up = lives.up;
         first = λ none. lives.first (sym (after_cleared w.exchange.speech w.states.acknowledged more passed spot.station (length fs) news sent (fate_seen fate) back next) ∙ none);
+        in_state = lives.in_state ∙ sym (after_state w.exchange.speech w.states.acknowledged more passed spot.station (length fs) news sent (fate_seen fate) back next);
         before = omega (arith, len, was);
         is = subst (λ (k : ℕ). EraIs w.exchange w.states w.processor (table_of w) spot now lives.opened k (fs ++ one ∷ []) lives.server lives.registers (views m)) len grown;
         opens = t.opens;

@@ -41,12 +41,12 @@ module _ {M Q R : Type 0} (x : Speech M Q R) (acknowledged : Q → Bool) (more :
   passes_none p old new = refl
 
   pub quiet_next : (frame : ℕ) (e : Era M Q R) → era_next x acknowledged more passed frame e no_pick ≡ e
-  quiet_next frame e = ap (λ (p : Pick Q). by p) (grants_none e.passing) ∙ (λ i. record { cleared = e.cleared; opened = e.opened; side = side i; account = account i; passing = e.passing })
+  quiet_next frame e = ap (λ (p : Pick Q). by p) (grants_none e.passing) ∙ (λ i. record { cleared = e.cleared; opened = e.opened; state = e.state; side = side i; account = account i; passing = e.passing })
     where
       by : Pick Q → Era M Q R
       by p =
           let account = account_next x acknowledged frame e.side e.account p in
-          record { cleared = e.cleared; opened = e.opened; side = side_next x frame e.side (mails_choice e.account p); account = account; passing = passing_begins x acknowledged more passed e.passing e.account account p.begin }
+          record { cleared = e.cleared; opened = e.opened; state = e.state; side = side_next x frame e.side (mails_choice e.account p); account = account; passing = passing_begins x acknowledged more passed e.passing e.account account p.begin }
 
       none : (hand : Option Duty) → mails_begin hand (let n : Option (Service Q) = None in n) ≡ None
       none None = refl
@@ -88,10 +88,10 @@ module _ {M Q R : Type 0} (x : Speech M Q R) (acknowledged : Q → Bool) (more :
   quiet_after station frame sent RingFate.Back back e none_sent none_back answered =
       let side : side_back x frame station (own station back) e.side ≡ e.side = ap (λ ds. side_back x frame station ds e.side) none_back ∙ quiet_back station frame e answered in
       let account : account_back station frame e.account (own station back) ≡ e.account = ap (λ ds. account_back station frame e.account ds) none_back in
-      λ i. record { cleared = e.cleared; opened = e.opened; side = side i; account = account i; passing = passes_on e.passing i }
+      λ i. record { cleared = e.cleared; opened = e.opened; state = e.state; side = side i; account = account i; passing = passes_on e.passing i }
   quiet_after station frame sent (RingFate.Lost after) back e none_sent none_back answered =
       let side : side_lost station (own station sent) e.side ≡ e.side = ap (λ ds. side_lost station ds e.side) none_sent ∙ quiet_lost station e in
-      λ i. record { cleared = e.cleared; opened = e.opened; side = side i; account = e.account; passing = passes_on e.passing i }
+      λ i. record { cleared = e.cleared; opened = e.opened; state = e.state; side = side i; account = e.account; passing = passes_on e.passing i }
 
 -- what has no own datagrams reads nothing
 reads_none : {M : Type 0} (station : ℕ) (ds : List (Datagram M)) → ReadsFull station ds → own station ds ≡ [] → ⊥

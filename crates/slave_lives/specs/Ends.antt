@@ -24,6 +24,7 @@ pub record LeftEra {S V A Q R : Type 0} (w : Behind S V A Q R) (spot : Spot) (fr
   pub within : until ≤ length fs
   pub begins : w.exchange.app server ≡ w.states.told registers.state from
   pub first : e.cleared ≡ None → registers.state ≡ spot.start
+  pub in_state : registers.state ≡ e.state
   pub is : EraIs w.exchange w.states w.processor (table_of w) spot e opened until fs server registers slave
   pub state : ℕ
   pub leaves : slave.node.server.server ≡ (w.sees state s).server

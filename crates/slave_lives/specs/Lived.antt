@@ -58,8 +58,8 @@ pub record IsBehind {S V A Q R : Type 0} (w : Behind S V A Q R) : Type 0 where
 abbrev pub node_seen : {S V A Q R : Type 0} → Behind S V A Q R → Node S → Slave V Body
 node_seen w n = slave_of n.kept n.registers (w.sees (registers_seen n.registers).state n.server)
 
--- AN OPEN SLAVE'S NODE LIVES THE EPOCH, which began with this application, told the AL state that was opened, not Init, and in the first epoch the
--- plan's: it is open at its station, and the slave of the epoch's session up to the last of these frames
+-- AN OPEN SLAVE'S NODE LIVES THE EPOCH, which began with this application, told the AL state of the epoch, not Init, and in the first the plan's: it is
+-- open at its station, and the slave of the epoch's session up to the last of these frames
 pub record LivesEra {S V A Q R : Type 0} (w : Behind S V A Q R) (spot : Spot) (from : A) (e : Era Body Q R) (fs : List (Frame Body)) (n : Node S) : Type 0 where
   pub opened : ℕ
   pub server : V
@@ -68,6 +68,7 @@ pub record LivesEra {S V A Q R : Type 0} (w : Behind S V A Q R) (spot : Spot) (f
   pub begins : w.exchange.app server ≡ w.states.told registers.state from
   pub up : w.states.state (w.exchange.app server) ≢ 1
   pub first : e.cleared ≡ None → registers.state ≡ spot.start
+  pub in_state : registers.state ≡ e.state
   pub is : EraIs w.exchange w.states w.processor (table_of w) spot e opened (length fs) fs server registers (node_seen w n)
   pub opens : IsOpen w.lens n.registers
   pub station : n.registers.station ≡ spot.station
@@ -172,13 +173,13 @@ pub record OpensEra {S V A Q R : Type 0} (w : Behind S V A Q R) (p : Plan) (spot
   pub boot : n.boot ≡ w.boot
 
 -- its epoch before any service: it begins with this server, told the state that was opened
-abbrev pub opened_era : {Q R : Type 0} → Option ℕ → ℕ → Era Body Q R
-opened_era {Q} {R} cleared opened = record (new_era {M = Body} {Q = Q} {R = R} cleared) { opened = Some opened }
+abbrev pub opened_era : {Q R : Type 0} → Option ℕ → ℕ → ℕ → Era Body Q R
+opened_era {Q} {R} cleared state opened = record (new_era {M = Body} {Q = Q} {R = R} cleared state) { opened = Some opened }
 
 -- THE EPOCH BEGINS: the node lives it, from the server and the registers as its opening left them, with the application that it had in whatever
 -- AL state it is seen
 pub record BegunEra {S V A Q R : Type 0} (w : Behind S V A Q R) (p : Plan) (spot : Spot) (al : ℕ) (cleared : Option ℕ) (opened : ℕ) (fs : List (Frame Body)) (n : Node S) : Type 0 where
-  pub lives : LivesEra w spot (w.exchange.app (w.sees al n.server).server) (opened_era {Q = Q} {R = R} cleared opened) fs n
+  pub lives : LivesEra w spot (w.exchange.app (w.sees al n.server).server) (opened_era {Q = Q} {R = R} cleared p.start opened) fs n
   pub server : lives.server ≡ (w.sees p.start n.server).server
   pub state : w.states.state (w.exchange.app lives.server) ≡ p.start
 

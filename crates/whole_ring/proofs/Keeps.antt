@@ -28,9 +28,9 @@ pub record Keeps {S V A Q R : Type 0} (w : Behind S V A Q R) (c : Clearing V A) 
   pub ends : (from : A) → Y from e fs t.node → L from e (fs ++ frame_of w.lens t ∷ []) t.node.server
   pub over : (from : A) (s : S) → L from e fs s → L from e (fs ++ frame_of w.lens t ∷ []) s
   pub begins : (o : Opening) → stand ≡ Stand.Opens o → (q : Plan) (al : ℕ) (cleared : Option ℕ) → (cleared ≡ None → q.start ≡ spot.start) → OpensEra w q spot (node_behind w.running t) →
-      F (w.exchange.app (w.sees al (node_behind w.running t).server).server) (opened_era {Q = Q} {R = R} cleared (length fs)) (fs ++ frame_of w.lens t ∷ []) (node_behind w.running t)
+      F (w.exchange.app (w.sees al (node_behind w.running t).server).server) (opened_era {Q = Q} {R = R} cleared q.start (length fs)) (fs ++ frame_of w.lens t ∷ []) (node_behind w.running t)
   pub past : (first : A) (es : List (Era Body Q R)) (b : A) → P fs first es b → P (fs ++ frame_of w.lens t ∷ []) first es b
-  pub closed : (first : A) (es : List (Era Body Q R)) (b : A) → P (fs ++ frame_of w.lens t ∷ []) first es b → (cleared : Option ℕ) → e ≡ new_era cleared → P (fs ++ frame_of w.lens t ∷ []) first (es ++ e ∷ []) (c.cleared b)
+  pub closed : (first : A) (es : List (Era Body Q R)) (b : A) → P (fs ++ frame_of w.lens t ∷ []) first es b → (cleared : Option ℕ) (state : ℕ) → e ≡ new_era cleared state → P (fs ++ frame_of w.lens t ∷ []) first (es ++ e ∷ []) (c.cleared b)
   pub left : (first : A) (es : List (Era Body Q R)) (b : A) (s : S) → P (fs ++ frame_of w.lens t ∷ []) first es b → L b e (fs ++ frame_of w.lens t ∷ []) s →
       (al : ℕ) × P (fs ++ frame_of w.lens t ∷ []) first (es ++ e ∷ []) (w.exchange.app (w.sees al (w.running.clear s)).server)
 
@@ -49,7 +49,7 @@ sessions {A = A} {Q = Q} {R = R} w c p spot whole stand e fs t more passed pick 
       over = λ from s x. Ends.stays w spot from e fs (frame_of w.lens t ∷ []) s x;
       begins = λ opening opens q al cleared start o. (Begins.begun w whole.behind whole.stated whole.tells q spot al cleared (length fs) (fs ++ frame_of w.lens t ∷ []) (node_behind w.running t) len start o).lives;
       past = λ first es b all. Ends.all_stay w c.cleared spot fs (frame_of w.lens t ∷ []) all;
-      closed = λ first es b all cleared is_new. LeftEras.closed first es b e all (ap (λ (d : Era Body Q R). d.opened) is_new);
+      closed = λ first es b all cleared state is_new. LeftEras.closed first es b e all (ap (λ (d : Era Body Q R). d.opened) is_new);
       left = λ first es b s all x. (
         x.state,
         subst (λ (a : A). LeftEras w c.cleared spot (fs ++ frame_of w.lens t ∷ []) first (es ++ e ∷ []) a) (sym (Ends.clears_to w c whole.clears x.state s)) (LeftEras.opened first es b e s all x),

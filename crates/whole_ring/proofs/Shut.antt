@@ -28,14 +28,14 @@ use Rattle.slave_lives.proofs.EraEnds as Ends
 use Rattle.slave_lives.proofs.RingFrames.{met_runs}
 use Rattle.slave_lives.proofs.Words.{state_in}
 use Rattle.whole_ring.specs.Turns.{Came}
-use Rattle.whole_ring.specs.Whole.{IsWhole, Living, Leaving, Passing, LivesOpenBy, LivesStillBy, Waits, IsOverBy, OpensBy, StandsBy, IsLivedBy, plan_to}
+use Rattle.whole_ring.specs.Whole.{IsWhole, Living, Leaving, Passing, LivesOpenBy, LivesStillBy, Waits, IsOverBy, OpensBy, OpensIts, StandsBy, IsLivedBy, plan_to}
 use Rattle.whole_ring.proofs.Keeps.{Keeps}
 use Rattle.whole_ring.proofs.Kept.{one_or_none, met_server, met_boot, turned_runs, turned_boot, closed_server}
 use Rattle.whole_ring.proofs.Still.{Nothing, still_on}
 
 module _ {S V A Q R : Type 0} (w : Behind S V A Q R) (from : A) (e : Era Body Q R) where
   waits_stay : (s t : S) → w.running.clear t ≡ w.running.clear s → Waits w from e s → Waits w from e t
-  waits_stay s t same x = record { cleared = x.cleared; is_new = x.is_new; al = x.al; begins = x.begins ∙ ap (λ (k : S). w.exchange.app (w.sees x.al k).server) (sym same) }
+  waits_stay s t same x = record { cleared = x.cleared; state = x.state; is_new = x.is_new; al = x.al; begins = x.begins ∙ ap (λ (k : S). w.exchange.app (w.sees x.al k).server) (sym same) }
 
   over_stays : (L : Leaving S A Q R) (fs gs : List (Frame Body)) (s t : S) → ((k : S) → L from e fs k → L from e gs k) → w.running.clear t ≡ w.running.clear s → IsOverBy w from e L fs s → IsOverBy w from e L gs t
   over_stays L fs gs s t stays same x = record { server = x.server; left = stays x.server x.left; cleared = same ∙ x.cleared }
@@ -158,14 +158,15 @@ module _ {S V A Q R : Type 0} (w : Behind S V A Q R) (c : Clearing V A) (p : Pla
       clears_so to past_ al begins plan closed = record {
         from = to;
         past = past_;
-        now = OpensBy.anew (record { plan = plan; state = refl; closed = closed }) (record { cleared = Some (length fs); is_new = refl; al = al; begins = begins }) (λ none. absurd (let no_ : Some (length fs) ≡ None = none in cc));
+        now = OpensBy.anew (record { plan = plan; state = refl; closed = closed }) (record { cleared = Some (length fs); state = o.state; is_new = refl; al = al; begins = begins })
+            (record { first = λ none. absurd (let no_ : Some (length fs) ≡ None = none in cc); state = inr refl });
         runs = runs_behind;
         boot = boot_behind;
       }
 
       waits_clear : IsPlan w.boot w.lens (plan_to p o.state) → w.running.clear (node_behind w.running t).server ≡ w.running.clear t.node.server → Waits w from l.era t.node.server →
           IsClosed w.running w.boot w.lens (plan_to p o.state) (record o { step = 3 }) (node_behind w.running t) → IsLivedBy w F Y L P p spot first (clears (length fs) l o) (fs ++ frame_of w.lens t ∷ []) (node_behind w.running t)
-      waits_clear plan same x closed = clears_so (c.cleared from) (keeps.closed first l.past from past_behind x.cleared x.is_new) x.al
+      waits_clear plan same x closed = clears_so (c.cleared from) (keeps.closed first l.past from past_behind x.cleared x.state x.is_new) x.al
           (ap c.cleared x.begins ∙ sym (Ends.clears_to w c whole.clears x.al (w.running.clear t.node.server)) ∙ ap (λ (s : S). w.exchange.app (w.sees x.al s).server) (whole.behind.clears.again t.node.server ∙ sym same))
           plan closed
 
@@ -176,22 +177,23 @@ module _ {S V A Q R : Type 0} (w : Behind S V A Q R) (c : Clearing V A) (p : Pla
           clears_so (w.exchange.app (w.sees left.0 (w.running.clear x.server)).server) left.1 left.0 (ap (λ (s : S). w.exchange.app (w.sees left.0 s).server) (sym (same ∙ x.cleared))) plan closed
 
       -- the state that is opened was shown
-      opens_so : IsPlan w.boot w.lens (plan_to p o.state) → w.running.clear (node_behind w.running t).server ≡ w.running.clear t.node.server → Waits w from l.era t.node.server → (l.era.cleared ≡ None → o.state ≡ spot.start) →
+      opens_so : IsPlan w.boot w.lens (plan_to p o.state) → w.running.clear (node_behind w.running t).server ≡ w.running.clear t.node.server → Waits w from l.era t.node.server → (l.era.cleared ≡ None → o.state ≡ spot.start) → l.era.state ≡ o.state →
           w.exchange.ready (w.sees o.state (node_behind w.running t).server).server ≡ true → IsUp w.running (plan_to p o.state) (node_behind w.running t) →
           IsLivedBy w F Y L P p spot first (opens (length fs) l) (fs ++ frame_of w.lens t ∷ []) (node_behind w.running t)
-      opens_so plan same x start ready up =
+      opens_so plan same x start its ready up =
           let m = node_behind w.running t in
           let gs = fs ++ frame_of w.lens t ∷ [] in
           let both = Closed.up_opens w.running w.boot w.lens (plan_to p o.state) plan m up in
           let opening : OpensEra w (plan_to p o.state) spot m = record { plan = plan; station = whole.station; opened = both.0; waits = both.1; ready = ready; runs = runs_behind; boot = boot_behind } in
           let begun = keeps.begins o stand (plan_to p o.state) x.al x.cleared (λ none. start (ap (λ (d : Era Body Q R). d.cleared) x.is_new ∙ none)) opening in
           let app : w.exchange.app (w.sees x.al m.server).server ≡ from = ap (λ (s : S). w.exchange.app (w.sees x.al s).server) (sym up.returned.cleared ∙ same) ∙ sym x.begins in
-          let lives : F from (record (new_era {M = Body} {Q = Q} {R = R} x.cleared) { opened = Some (length fs) }) gs m = subst (λ (a : A). F a (record (new_era {M = Body} {Q = Q} {R = R} x.cleared) { opened = Some (length fs) }) gs m) app begun in
-          let open_ : LivesOpenBy w from (record (new_era {M = Body} {Q = Q} {R = R} x.cleared) { opened = Some (length fs) }) F gs m = record { lives = record { epoch = lives; answered = tt }; over = tt; hand = tt } in
+          let is_new : l.era ≡ new_era x.cleared o.state = x.is_new ∙ ap (λ (state : ℕ). new_era {M = Body} {Q = Q} {R = R} x.cleared state) (sym (ap (λ (d : Era Body Q R). d.state) x.is_new) ∙ its) in
+          let lives : F from (record (new_era {M = Body} {Q = Q} {R = R} x.cleared o.state) { opened = Some (length fs) }) gs m = subst (λ (a : A). F a (record (new_era {M = Body} {Q = Q} {R = R} x.cleared o.state) { opened = Some (length fs) }) gs m) app begun in
+          let open_ : LivesOpenBy w from (record (new_era {M = Body} {Q = Q} {R = R} x.cleared o.state) { opened = Some (length fs) }) F gs m = record { lives = record { epoch = lives; answered = tt }; over = tt; hand = tt } in
           record {
             from = from;
             past = past_behind;
-            now = subst (λ (d : Era Body Q R). LivesOpenBy w from (record d { opened = Some (length fs) }) F gs m) (sym x.is_new) open_;
+            now = subst (λ (d : Era Body Q R). LivesOpenBy w from (record d { opened = Some (length fs) }) F gs m) (sym is_new) open_;
             runs = runs_behind;
             boot = boot_behind;
           }
@@ -212,6 +214,23 @@ module _ {S V A Q R : Type 0} (w : Behind S V A Q R) (c : Clearing V A) (p : Pla
       clear_two : shows_clear o ≡ true → o.step ≡ 2
       clear_two is = let both = and_parts o.again (o.step == 2) is in eqb-true o.step 2 both.1
 
+      -- an early access that doesn't show Init is followed by an early one
+      sooner : o.again ≡ true → (o.step ≡ 1) ⊎ (o.step ≡ 2) → shows_clear o ≡ false → (suc o.step ≡ 1) ⊎ (suc o.step ≡ 2)
+      sooner again (inl one) is = inr (ap suc one)
+      sooner again (inr two) is = absurd (let no_ : false ≡ true = sym is ∙ clear_at again two in cc)
+
+      -- the last access opens the epoch's state
+      opens_its : (o.step == last_step o) ≡ true → ((o.again ≡ true) × ((o.step ≡ 1) ⊎ (o.step ≡ 2))) ⊎ (l.era.state ≡ o.state) → l.era.state ≡ o.state
+      opens_its late (inl early) = absurd (step_late early.0 early.1 late)
+      opens_its late (inr same) = same
+
+      its_on : shows_clear o ≡ false → OpensIts spot l.era o → OpensIts spot l.era (record o { step = suc o.step })
+      its_on is x = record { first = x.first; state = by x.state }
+        where
+          by : ((o.again ≡ true) × ((o.step ≡ 1) ⊎ (o.step ≡ 2))) ⊎ (l.era.state ≡ o.state) → ((o.again ≡ true) × ((suc o.step ≡ 1) ⊎ (suc o.step ≡ 2))) ⊎ (l.era.state ≡ o.state)
+          by (inl early) = inl (early.0, sooner early.0 early.1 is)
+          by (inr same) = inr same
+
       -- THE ACCESS CAME BACK
       pub shut_goes : (came : Bool × Option Found) → Came w p o t came → OpensBy w Y L p spot from l.era fs o t.node → IsLivedBy w F Y L P p spot first (opening_back (length fs) l o came.0 came.1) (fs ++ frame_of w.lens t ∷ []) (node_behind w.running t)
       shut_goes came k (OpensBy.yet again step plan y) = go (shows_clear o) refl (o.step == last_step o) refl (came.0 && is_shown 1 came.1) (came.0 && is_shown o.state came.1)
@@ -227,7 +246,7 @@ module _ {S V A Q R : Type 0} (w : Behind S V A Q R) (c : Clearing V A) (p : Pla
           go true is b late x z = absurd (let no_ : 1 ≡ 2 = sym step ∙ clear_two is in cc)
           go false is true late x z = absurd (step_late again (inl step) late)
           go false is false late x z = steps_so (frozen_on (suc o.step) again (inr (ap suc step)) plan y reached just)
-      shut_goes came k (OpensBy.anew cl x start) = go (shows_clear o) (o.step == last_step o) (came.0 && is_shown 1 came.1) (came.0 && is_shown o.state came.1) as_closed
+      shut_goes came k (OpensBy.anew cl x start) = go (shows_clear o) refl (o.step == last_step o) refl (came.0 && is_shown 1 came.1) (came.0 && is_shown o.state came.1) as_closed
         where
           frame : ClosedFrame w.running w.boot w.lens (plan_to p o.state) o t
           frame = record { closing = cl; one = f.one; steps = λ now. record { clears = whole.behind.clears; boot_is = boot_met; runs = runs_met; roomy = f.roomy now } }
@@ -235,14 +254,14 @@ module _ {S V A Q R : Type 0} (w : Behind S V A Q R) (c : Clearing V A) (p : Pla
           as_closed : ClosedAs w.running w.boot w.lens (plan_to p o.state) (opening_back (length fs) l o came.0 came.1).stand (node_behind w.running t)
           as_closed = Frames.closed_back w.running w.boot w.lens (plan_to p o.state) o t k.access (length fs) l came.0 came.1 frame stand k.back
 
-          go : (a b y z : Bool) → ClosedAs w.running w.boot w.lens (plan_to p o.state) (if a then (if y then clears (length fs) l o else l) else if b then (if z then opens (length fs) l else l) else steps_on l o).stand (node_behind w.running t) →
+          go : (a : Bool) → shows_clear o ≡ a → (b : Bool) → (o.step == last_step o) ≡ b → (y z : Bool) → ClosedAs w.running w.boot w.lens (plan_to p o.state) (if a then (if y then clears (length fs) l o else l) else if b then (if z then opens (length fs) l else l) else steps_on l o).stand (node_behind w.running t) →
               IsLivedBy w F Y L P p spot first (if a then (if y then clears (length fs) l o else l) else if b then (if z then opens (length fs) l else l) else steps_on l o) (fs ++ frame_of w.lens t ∷ []) (node_behind w.running t)
-          go true b true z shut = waits_clear cl.plan (same_behind cl) x shut
-          go true b false z shut = stays_so (shut_stays (OpensBy.anew cl x start))
-          go false true y true shut = opens_so cl.plan (same_behind cl) x start (k.ready shut.returned.cleared) shut
-          go false true y false shut = stays_so (shut_stays (OpensBy.anew cl x start))
-          go false false y z shut =
-              steps_so (OpensBy.anew (record { plan = cl.plan; state = refl; closed = shut }) (waits_stay w from l.era t.node.server (node_behind w.running t).server (same_behind cl) x) start)
+          go true is b late true z shut = waits_clear cl.plan (same_behind cl) x shut
+          go true is b late false z shut = stays_so (shut_stays (OpensBy.anew cl x start))
+          go false is true late y true shut = opens_so cl.plan (same_behind cl) x start.first (opens_its late start.state) (k.ready shut.returned.cleared) shut
+          go false is true late y false shut = stays_so (shut_stays (OpensBy.anew cl x start))
+          go false is false late y z shut =
+              steps_so (OpensBy.anew (record { plan = cl.plan; state = refl; closed = shut }) (waits_stay w from l.era t.node.server (node_behind w.running t).server (same_behind cl) x) (its_on is start))
       shut_goes came k (OpensBy.over cl again early x) = go (shows_clear o) refl (o.step == last_step o) refl (came.0 && is_shown 1 came.1) (came.0 && is_shown o.state came.1) as_closed
         where
           frame : ClosedFrame w.running w.boot w.lens (plan_to p o.state) o t
@@ -251,10 +270,6 @@ module _ {S V A Q R : Type 0} (w : Behind S V A Q R) (c : Clearing V A) (p : Pla
           as_closed : ClosedAs w.running w.boot w.lens (plan_to p o.state) (opening_back (length fs) l o came.0 came.1).stand (node_behind w.running t)
           as_closed = Frames.closed_back w.running w.boot w.lens (plan_to p o.state) o t k.access (length fs) l came.0 came.1 frame stand k.back
 
-          sooner : (o.step ≡ 1) ⊎ (o.step ≡ 2) → shows_clear o ≡ false → (suc o.step ≡ 1) ⊎ (suc o.step ≡ 2)
-          sooner (inl one) is = inr (ap suc one)
-          sooner (inr two) is = absurd (let no_ : false ≡ true = sym is ∙ clear_at again two in cc)
-
           go : (a : Bool) → shows_clear o ≡ a → (b : Bool) → (o.step == last_step o) ≡ b → (y z : Bool) →
               ClosedAs w.running w.boot w.lens (plan_to p o.state) (if a then (if y then clears (length fs) l o else l) else if b then (if z then opens (length fs) l else l) else steps_on l o).stand (node_behind w.running t) →
               IsLivedBy w F Y L P p spot first (if a then (if y then clears (length fs) l o else l) else if b then (if z then opens (length fs) l else l) else steps_on l o) (fs ++ frame_of w.lens t ∷ []) (node_behind w.running t)
@@ -262,4 +277,4 @@ module _ {S V A Q R : Type 0} (w : Behind S V A Q R) (c : Clearing V A) (p : Pla
           go true is b late false z shut = stays_so (shut_stays (OpensBy.over cl again early x))
           go false is true late y z shut = absurd (step_late again early late)
           go false is false late y z shut =
-              steps_so (OpensBy.over (record { plan = cl.plan; state = refl; closed = shut }) again (sooner early is) (over_stays w from l.era L fs (fs ++ frame_of w.lens t ∷ []) t.node.server (node_behind w.running t).server (keeps.over from) (same_behind cl) x))
+              steps_so (OpensBy.over (record { plan = cl.plan; state = refl; closed = shut }) again (sooner again early is) (over_stays w from l.era L fs (fs ++ frame_of w.lens t ∷ []) t.node.server (node_behind w.running t).server (keeps.over from) (same_behind cl) x))

@@ -40,7 +40,7 @@ module _ {S V A Q R : Type 0} (w : Behind S V A Q R) (c : Clearing V A) (p : Pla
         from = w.exchange.app (w.sees al s).server;
         past = nothing (w.exchange.app (w.sees al s).server);
         now = OpensBy.anew (subst (λ (st : ℕ). Closing w.running w.boot w.lens (plan_to p st) (first_opening st) n) whole.start first)
-            (record { cleared = None; is_new = refl; al = al; begins = ap (λ (k : S). w.exchange.app (w.sees al k).server) (sym clear) }) (λ none. refl);
+            (record { cleared = None; state = spot.start; is_new = refl; al = al; begins = ap (λ (k : S). w.exchange.app (w.sees al k).server) (sym clear) }) (record { first = λ none. refl; state = inr refl });
         runs = NodeFrames.begins w.running p.out p.back w.boot s clear;
         boot = refl;
       }
@@ -54,7 +54,7 @@ module _ {S V A Q R : Type 0} (w : Behind S V A Q R) (c : Clearing V A) (p : Pla
   -- GIVEN UP: what is known then is known of the next opening's first access
   again_as : (Y : Living S A Q R) (L : Leaving S A Q R) (from : A) (e : Era Body Q R) (fs : List (Frame Body)) (o : Opening) (n : Node S) → OpensBy w Y L p spot from e fs o n → OpensBy w Y L p spot from e fs (opening_again spot.start false) n
   again_as Y L from e fs o n (OpensBy.yet again step plan l) = OpensBy.yet refl refl plan_start l
-  again_as Y L from e fs o n (OpensBy.anew cl x first) = OpensBy.anew (record { plan = plan_start; state = refl; closed = Arrived.left_by w.running w.boot w.lens (plan_to p o.state) cl.plan o n spot.start false cl.closed }) x (λ none. refl)
+  again_as Y L from e fs o n (OpensBy.anew cl x first) = OpensBy.anew (record { plan = plan_start; state = refl; closed = Arrived.left_by w.running w.boot w.lens (plan_to p o.state) cl.plan o n spot.start false cl.closed }) x (record { first = λ none. refl; state = inl (refl, inl refl) })
   again_as Y L from e fs o n (OpensBy.over cl again early x) =
       OpensBy.over (record { plan = plan_start; state = refl; closed = Arrived.left_by w.running w.boot w.lens (plan_to p o.state) cl.plan o n spot.start false cl.closed }) refl (inl refl) x
 

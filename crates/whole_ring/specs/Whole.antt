@@ -67,7 +67,8 @@ module _ {S V A Q R : Type 0} (w : Behind S V A Q R) (from : A) (e : Era Body Q 
   -- THE NEWEST EPOCH HASN'T BEGUN: it is new, and will begin with the application that the slave's server has, in whatever AL state it is seen
   pub record Waits (s : S) : Type 0 where
     pub cleared : Option ℕ
-    pub is_new : e ≡ new_era cleared
+    pub state : ℕ
+    pub is_new : e ≡ new_era cleared state
     pub al : ℕ
     pub begins : from ≡ w.exchange.app (w.sees al (w.running.clear s)).server
 
@@ -77,11 +78,16 @@ module _ {S V A Q R : Type 0} (w : Behind S V A Q R) (from : A) (e : Era Body Q 
     pub left : L from e fs server
     pub cleared : w.running.clear s ≡ w.running.clear server
 
+-- WHAT AN OPENING OPENS where the newest epoch waits: the state of that epoch, the first the plan's; or it hasn't returned its slave to Init yet
+pub record OpensIts {M Q R : Type 0} (spot : Spot) (e : Era M Q R) (o : Opening) : Type 0 where
+  pub first : e.cleared ≡ None → o.state ≡ spot.start
+  pub state : ((o.again ≡ true) × ((o.step ≡ 1) ⊎ (o.step ≡ 2))) ⊎ (e.state ≡ o.state)
+
 -- A SLAVE THAT IS OPENED: its epoch is lived yet, as long as no frame reached it with the first access of a reopening; or it is closed, and the
 -- newest epoch waits, the first one for the plan's state, or is over and wasn't seen so
 pub data OpensBy {S V A Q R : Type 0} (w : Behind S V A Q R) (Y : Living S A Q R) (L : Leaving S A Q R) (p : Plan) (spot : Spot) (from : A) (e : Era Body Q R) (fs : List (Frame Body)) (o : Opening) (n : Node S) : Type 0 where
   yet : o.again ≡ true → o.step ≡ 1 → IsPlan w.boot w.lens (plan_to p o.state) → LivesStillBy w from e Y fs n → OpensBy w Y L p spot from e fs o n
-  anew : Closing w.running w.boot w.lens (plan_to p o.state) o n → Waits w from e n.server → (e.cleared ≡ None → o.state ≡ spot.start) → OpensBy w Y L p spot from e fs o n
+  anew : Closing w.running w.boot w.lens (plan_to p o.state) o n → Waits w from e n.server → OpensIts spot e o → OpensBy w Y L p spot from e fs o n
   over : Closing w.running w.boot w.lens (plan_to p o.state) o n → o.again ≡ true → (o.step ≡ 1) ⊎ (o.step ≡ 2) → IsOverBy w from e L fs n.server → OpensBy w Y L p spot from e fs o n
 
 -- BY HOW THE MASTER STANDS TO IT: one that is given up for good stays as it is before the first access of a reopening, which never comes
