@@ -8,7 +8,7 @@ use Rattle.segment_ring.specs.of_datagrams.Datagram as Raw
 use Rattle.life_frames.specs.of_exchange_model.Exchange.{Speech}
 use Rattle.life_frames.specs.of_frame_view.View.{Lens}
 use Rattle.life_frames.specs.of_frame_view.Seen.{seen}
-use Rattle.life_frames.specs.Shares.{Lived, came_at, given_where}
+use Rattle.life_frames.specs.Shares.{Lived, IsNext, came_at, given_where, lived_back, lived_lost}
 use Rattle.life_frames.specs.Frames.{Share}
 use Rattle.life_frames.specs.of_life_model.Lives.{Spot, Era, Stand, Opening, life_next, life_back, life_lost, era_next, era_back, era_lost, new_era, new_life, opening_back, shows_clear, is_shown, last_step, clears, opens, steps_on, reopens, reopens_at, reopening, opens_state, returns_to_init}
 use Rattle.life_runs.specs.First.{first_leads, leads_from}
@@ -25,7 +25,7 @@ use Rattle.segment_ring.specs.declared.wire.Fate.{Fate}
 use Rattle.segment_ring.specs.declared.wire.Fate.TheVariants.{Pass, Lost}
 use Rattle.life_frames.specs.of_task_model.Accounts.{Duty, Stage, Pick}
 use Rattle.life_runs.specs.Causes.{since, IsOwn, IsGivenUp}
-use Rattle.life_runs.specs.Opened.{OpensOwn, OpensStart, OpensIn, AllOpenIn, EachOpensIn, AllOpenTheirs}
+use Rattle.life_runs.specs.Opened.{OpensStart, OpensBehind, OpensIn, AllOpenIn, EachOpensIn, AllOpenTheirs}
 use Rattle.life_runs.specs.Spans.{is_leaving}
 use Rattle.life_runs.proofs.Spans.{LifeOf, clear_leaves, cleared_stays, last_stays, steps_stay}
 
@@ -91,9 +91,7 @@ now_later start n gave e Stand.Gone h = tt
 -- THE NEWEST goes on: it keeps when it began and what it opens
 same_in : (start : ℕ) (gave : List ℕ) (before : Option EraOf) (d e : EraOf) → e.cleared ≡ d.cleared → e.state ≡ d.state → OpensIn start gave before d → OpensIn start gave before e
 same_in start gave None d e c s h = s ∙ h
-same_in start gave (Some b) d e c s h =
-    subst (λ (u : ℕ). OpensOwn gave b u e.state ⊎ OpensStart start gave b u e.state) (ap since (sym c))
-    (subst (λ (z : ℕ). OpensOwn gave b (since d.cleared) z ⊎ OpensStart start gave b (since d.cleared) z) (sym s) h)
+same_in start gave (Some b) d e c s h = subst (λ (u : Option ℕ). OpensBehind start gave b u e.state) (sym c) (subst (λ (z : ℕ). OpensBehind start gave b d.cleared z) (sym s) h)
 
 all_same : (start : ℕ) (gave : List ℕ) (before : Option EraOf) (es : List EraOf) (d e : EraOf) → e.cleared ≡ d.cleared → e.state ≡ d.state → AllOpenIn start gave before (es ++ d ∷ []) → AllOpenIn start gave before (es ++ e ∷ [])
 all_same start gave before [] d e c s h = (same_in start gave before d e c s h.0, tt)
@@ -123,11 +121,14 @@ given_more gave g e until h = record {
   before = h.before;
 }
 
+behind_more : (start : ℕ) (gave : List ℕ) (g : ℕ) (d : EraOf) (cleared : Option ℕ) (state : ℕ) → since cleared ≤ g → OpensBehind start gave d cleared state → OpensBehind start (gave ++ g ∷ []) d cleared state
+behind_more start gave g d None state k h = absurd h
+behind_more start gave g d (Some frame) state k (inl h) = inl (record { own = h.own; spared = All-push (λ i. (i < since d.cleared) ⊎ (frame ≤ i)) gave g h.spared (inr k); opens = h.opens })
+behind_more start gave g d (Some frame) state k (inr h) = inr (record { given = given_more gave g d frame h.given; opens = h.opens })
+
 in_more : (start : ℕ) (gave : List ℕ) (g : ℕ) (before : Option EraOf) (e : EraOf) → since e.cleared ≤ g → OpensIn start gave before e → OpensIn start (gave ++ g ∷ []) before e
 in_more start gave g None e k h = h
-in_more start gave g (Some d) e k (inl h) =
-    inl (record { own = h.own; spared = All-push (λ i. (i < since d.cleared) ⊎ (since e.cleared ≤ i)) gave g h.spared (inr k); opens = h.opens })
-in_more start gave g (Some d) e k (inr h) = inr (record { given = given_more gave g d (since e.cleared) h.given; opens = h.opens })
+in_more start gave g (Some d) e k h = behind_more start gave g d e.cleared e.state k h
 
 all_more : (start : ℕ) (gave : List ℕ) (g : ℕ) (before : Option EraOf) (es : List EraOf) → AllBegan g es → AllOpenIn start gave before es → AllOpenIn start (gave ++ g ∷ []) before es
 all_more start gave g before [] k h = tt
@@ -248,33 +249,48 @@ given_so true recover spot n l h = record {
 pub opened_first : (start : ℕ) → Opened start 0 (new_life {M = Body} {Q = Asked} {R = Reply} start)
 opened_first start = record { epochs = (refl, tt); began = (omega arith, tt); gave = All-nil (λ g. g < 0); now = All-nil (λ g. g < 0) }
 
+-- OF A SLAVE
+abbrev pub IsOpened : ℕ → Lived Asked Reply → Type 0
+IsOpened n l = Opened l.spot.start n l.life
+
+module _ (x : Speech Body Asked Reply) (n : ℕ) where
+  -- before a frame
+  pub turned_so : (a b : Lived Asked Reply) → IsNext x acknowledged is_followed is_passed n a b → IsOpened n a → IsOpened n b
+  turned_so a b y h =
+      let next = subst (λ (m : LifeOf). Opened a.spot.start n m) (sym y.life) (next_so a.spot.start n a.life h x a.spot y.pick a.life.stand refl) in
+      subst (λ (s : Spot). Opened s.start n b.life) (sym y.spot) next
+
+  module _ (l : Lived Asked Reply) (share : Share) (news : List (News Body)) (h : IsOpened n l) where
+    -- behind one that came back, and behind a lost one
+    pub returned_so : (back : List (Datagram Body)) → IsOpened (suc n) (lived_back x acknowledged is_followed is_passed n back l share news)
+    returned_so back = back_so l.spot.start n l.life h x l.spot news back (came_at share.under share.at back) l.life.stand refl
+
+    pub missed_so : (gives : Bool) (recover : ℕ) (sent : List (Datagram Body)) → IsOpened (suc n) (lived_lost x acknowledged is_followed is_passed gives recover n sent l share news)
+    missed_so gives recover sent = given_so (gives && share.under) recover l.spot n _ (lost_so l.spot.start n l.life h x l.spot news sent l.life.stand refl)
+
 -- OVER A RUN
-abbrev AllOpened : ℕ → List Leads → Type 0
+abbrev pub AllOpened : ℕ → List Leads → Type 0
 AllOpened n [] = ⊤
-AllOpened n (a ∷ as') = Opened a.lived.spot.start n a.lived.life × AllOpened n as'
+AllOpened n (a ∷ as') = IsOpened n a.lived × AllOpened n as'
 
 module _ (lens : ℕ → Lens) (recover retry : ℕ) (gives : Bool) (made : ℕ) (f : Exchanged) where
-  behind_so : (l : Lived Asked Reply) (share : Share) (fate : Fate) → Opened l.spot.start made l.life → Opened l.spot.start (suc made) (life_behind lens recover retry gives made f fate l share).life
-  behind_so l share Pass h = back_so l.spot.start made l.life h (speech_at lens l.spot) l.spot [] (seen lens f.back) (came_at share.under share.at (seen lens f.back)) l.life.stand refl
-  behind_so l share (Lost after) h = given_so (gives && share.under) recover l.spot made _ (lost_so l.spot.start made l.life h (speech_at lens l.spot) l.spot [] (seen lens f.sent) l.life.stand refl)
-
-  -- the slave's place and start stay
-  spot_so : (l : Lived Asked Reply) (share : Share) (fate : Fate) → (life_behind lens recover retry gives made f fate l share).spot ≡ l.spot
-  spot_so l share Pass = refl
-  spot_so l share (Lost after) = refl
+  behind_so : (u : Turn) (fate : Fate) → IsOpened made u.lived → IsOpened (suc made) (life_behind lens recover retry gives made f fate u.lived u.share)
+  behind_so u Pass h = returned_so (speech_at lens u.lived.spot) made u.lived u.share [] h (seen lens f.back)
+  behind_so u (Lost after) h = missed_so (speech_at lens u.lived.spot) made u.lived u.share [] h gives recover (seen lens f.sent)
 
   all_so : (ds : List Raw.Datagram) (as' : List Leads) (us : List Turn) → AllTurn lens made ds as' us → AllOpened made as' → AllOpened (suc made) (map (led_behind lens recover retry gives made f) us)
   all_so ds [] [] t h = tt
   all_so ds [] (u ∷ us) t h = absurd t
   all_so ds (a ∷ as') [] t h = absurd t
-  all_so ds (a ∷ as') (u ∷ us) t h =
-      let next = subst (λ (m : LifeOf). Opened a.lived.spot.start made m) (sym t.0.next.life) (next_so a.lived.spot.start made a.lived.life h.0 (speech_at lens a.lived.spot) a.lived.spot t.0.next.pick a.lived.life.stand refl) in
-      let here = behind_so u.lived u.share f.fate (subst (λ (s : Spot). Opened s.start made u.lived.life) (sym t.0.next.spot) next) in
-      (subst (λ (s : Spot). Opened s.start (suc made) (life_behind lens recover retry gives made f f.fate u.lived u.share).life) (sym (spot_so u.lived u.share f.fate)) here, all_so ds as' us t.1 h.1)
+  all_so ds (a ∷ as') (u ∷ us) t h = (behind_so u f.fate (turned_so (speech_at lens a.lived.spot) made a.lived u.lived t.0.next h.0), all_so ds as' us t.1 h.1)
 
-first_so : (rows : List (ℕ × Plan.Service)) (place : ℕ) (ss : List SlaveSpec) → AllOpened 0 (leads_from rows place ss)
+pub first_so : (rows : List (ℕ × Plan.Service)) (place : ℕ) (ss : List SlaveSpec) → AllOpened 0 (leads_from rows place ss)
 first_so rows place [] = tt
 first_so rows place (s ∷ ss) = (opened_first s.start, first_so rows _ ss)
+
+pub states : (n : ℕ) (as' : List Leads) → AllOpened n as' → AllOpenTheirs as'
+states n [] h = tt
+states n (a ∷ as') h = (h.0.epochs, states n as' h.1)
 
 module _ (lens : ℕ → Lens) (plan : Scenario) (retry : ℕ) where
   all_opened : (fs : List Exchanged) (missed : ℕ) (as' : List Leads) → IsLed lens plan.recover retry (first_leads plan) fs missed as' → AllOpened (length fs) as'
@@ -283,10 +299,6 @@ module _ (lens : ℕ → Lens) (plan : Scenario) (retry : ℕ) where
       let more : suc (length fs) ≡ length (fs ++ f ∷ []) = (let k = length-append fs (f ∷ []) in omega (arith, k)) in
       subst (λ (n : ℕ). AllOpened n (map (led_behind lens plan.recover retry (gives_up_at lens plan.recover retry missed) (length fs) f) us)) more
       (all_so lens plan.recover retry (gives_up_at lens plan.recover retry missed) (length fs) f y.datagrams as' us y.each (all_opened fs missed as' l))
-
-  states : (n : ℕ) (as' : List Leads) → AllOpened n as' → AllOpenTheirs as'
-  states n [] h = tt
-  states n (a ∷ as') h = (h.0.epochs, states n as' h.1)
 
   -- EACH EPOCH OPENS ITS STATE
   pub open_theirs : (fs : List Exchanged) (missed : ℕ) (as' : List Leads) → IsLed lens plan.recover retry (first_leads plan) fs missed as' → AllOpenTheirs as'

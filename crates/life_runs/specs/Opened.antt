@@ -20,10 +20,15 @@ pub record OpensStart {M Q R : Type 0} (start : ℕ) (gave : List ℕ) (e : Era 
   pub given : IsGivenUp gave e until
   pub opens : state ≡ start
 
+-- WHAT AN EPOCH LEAVES TO THE NEXT, by the frame that returned the slave to Init between them
+abbrev pub OpensBehind : {M Q R : Type 0} → ℕ → List ℕ → Era M Q R → Option ℕ → ℕ → Type 0
+OpensBehind start gave e None state = ⊥
+OpensBehind start gave e (Some frame) state = OpensOwn gave e frame state ⊎ OpensStart start gave e frame state
+
 -- AN EPOCH OPENS the slave's start, where it is the first, and what the one before it leaves to it
 abbrev pub OpensIn : {M Q R : Type 0} → ℕ → List ℕ → Option (Era M Q R) → Era M Q R → Type 0
 OpensIn start gave None e = e.state ≡ start
-OpensIn start gave (Some d) e = OpensOwn gave d (since e.cleared) e.state ⊎ OpensStart start gave d (since e.cleared) e.state
+OpensIn start gave (Some d) e = OpensBehind start gave d e.cleared e.state
 
 -- each of these, behind that one
 abbrev pub AllOpenIn : {M Q R : Type 0} → ℕ → List ℕ → Option (Era M Q R) → List (Era M Q R) → Type 0
