@@ -23,6 +23,6 @@ module _ (start : ℕ) (gave : List ℕ) where
   all_end before (d ∷ (c ∷ es)) e h = (ends_by d c.cleared c.state h.1.0, all_end (Some d) (c ∷ es) e h.1)
 
 -- EACH EPOCH BUT THE FIRST HAS ITS CAUSE
-pub all_caused : (as' : List Leads) → AllOpenTheirs as' → AllHaveCause as'
-all_caused [] h = tt
-all_caused (a ∷ as') h = (all_end a.lived.spot.start a.lived.life.gave None a.lived.life.past a.lived.life.era h.0, all_caused as' h.1)
+pub have_cause : (as' : List Leads) → AllOpenTheirs as' → AllHaveCause as'
+have_cause [] h = tt
+have_cause (a ∷ as') h = (all_end a.lived.spot.start a.lived.life.gave None a.lived.life.past a.lived.life.era h.0, have_cause as' h.1)
