@@ -3,3 +3,4 @@ pub mod Rows
 pub mod Tells
 pub mod Telling
 pub mod Came
+pub mod Opened

@@ -2,9 +2,13 @@
 //! nothing, and their contracts state the laws.
 #![tactic(auto)]
 
-ghost use Rattle.std.specs.Prelude.{◌≡◌, ℕ, None, List, All};
+ghost use Rattle.std.specs.Prelude.{◌≡◌, ℕ, None, List, All, map};
 ghost use Rattle.life_runs.specs.of_frame_view.View.{Lens};
+ghost use Rattle.life_runs.specs.of_segment_plan.declared.plan.Scenario.{Scenario};
+ghost use Rattle.life_runs.specs.Causes.{AllHaveCause};
+ghost use Rattle.life_runs.specs.First.{first_leads};
 ghost use Rattle.life_runs.specs.Led.{Exchanged, Leads, IsLed};
+ghost use Rattle.life_runs.specs.Opened.{AllOpenTheirs};
 ghost use Rattle.served_runs.specs.Came.{HasServed, IsFresh};
 ghost use Rattle.served_runs.specs.Served.{Serves, IsServedLed, IsRunOf, TellsSo, all_serve};
 
@@ -25,4 +29,11 @@ pub fn told_law()
 /// the slave was never given up.
 pub fn asked_law()
     ensures { (lens : ℕ → Lens) (recover retry : ℕ) (paces : List ℕ) (first : List Leads) (fs : List Exchanged) (missed : ℕ) (ws : List Serves) → All IsFresh first → IsServedLed lens recover retry (all_serve paces first) fs missed ws → All (HasServed lens) ws }
+{}
+
+/// EACH EPOCH OF A SERVING OPENS ITS STATE, as in a run: the first, and one behind a give-up, the slave's start; and one behind a state service PreOp or Bootstrap,
+/// as that service asks.
+pub fn opened_law()
+    ensures states { (lens : ℕ → Lens) (plan : Scenario) (retry : ℕ) (fs : List Exchanged) (missed : ℕ) (ws : List Serves) → IsServedLed lens plan.recover retry (all_serve plan.paces (first_leads plan)) fs missed ws → AllOpenTheirs (map (λ (w : Serves). w.lead) ws) }
+    ensures causes { (lens : ℕ → Lens) (plan : Scenario) (retry : ℕ) (fs : List Exchanged) (missed : ℕ) (ws : List Serves) → IsServedLed lens plan.recover retry (all_serve plan.paces (first_leads plan)) fs missed ws → AllHaveCause (map (λ (w : Serves). w.lead) ws) }
 {}
