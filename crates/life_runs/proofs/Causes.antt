@@ -17,7 +17,7 @@ module _ (start : ℕ) (gave : List ℕ) where
   ends_by e (Some frame) state (inl h) = inl h.own
   ends_by e (Some frame) state (inr h) = inr h.given
 
-  all_end : (before : Option EraOf) (es : List EraOf) (e : EraOf) → AllOpenIn start gave before (es ++ e ∷ []) → AllEndBy gave es e.cleared
+  pub all_end : (before : Option EraOf) (es : List EraOf) (e : EraOf) → AllOpenIn start gave before (es ++ e ∷ []) → AllEndBy gave es e.cleared
   all_end before [] e h = tt
   all_end before (d ∷ []) e h = (ends_by d e.cleared e.state h.1.0, tt)
   all_end before (d ∷ (c ∷ es)) e h = (ends_by d c.cleared c.state h.1.0, all_end (Some d) (c ∷ es) e h.1)

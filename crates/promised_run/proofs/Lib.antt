@@ -33,7 +33,6 @@ mod Rows
 pub mod Scripts
 mod ServedBooks
 pub mod ServedBounded
-mod ServedCauses
 mod ServedPorts
 mod ServedReported
 mod ServedUncut

@@ -2,11 +2,11 @@
 use Rattle.std.proofs.Common.{◌≡◌, ℕ, zero, suc, List, [], ◌∷◌, map, length, refl, ◌∙◌}
 use Rattle.life_runs.specs.First.{leads_from, lens_of}
 use Rattle.life_runs.specs.Led.{Exchanged, gives_up_at}
+use Rattle.life_runs.specs.Opened.{AllOpenTheirs}
 use Rattle.datagrams.specs.Datagram as Raw
 use Rattle.frame_view.specs.View.{Lens}
 use Rattle.master_node.specs.Serving.{run_lead}
 use Rattle.promised_run.proofs.Epochs.{all_caused}
-use Rattle.promised_run.proofs.ServedCauses.{have_cause}
 use Rattle.promised_run.proofs.ServedPorts.{gave_so}
 use Rattle.promised_run.proofs.Unsent.{AllOfPlan, all_unsent}
 use Rattle.promised_run.specs.ServedBooks.{IsServedBooked}
@@ -43,11 +43,15 @@ module _ (plan : Scenario) where
   of_plan _ _ _ (IsServedLed.asks fs missed ws place k l may) = asked_of place 0 k ws (of_plan fs missed ws l)
   of_plan _ _ _ (IsServedLed.on fs missed ws f vs l y) = behind_of (lens_of plan.slaves) plan.recover plan.retry (length fs) f missed 0 y.datagrams ws vs y.each (of_plan fs missed ws l)
 
+-- what the law of a serving's lives says, for one plan
+abbrev pub Opens : Scenario → Type 0
+Opens plan = (fs : List Exchanged) (missed : ℕ) (ws : List Serves) → ServeTo plan fs missed ws → AllOpenTheirs (map (λ (w : Serves). w.lead) ws)
+
 -- BY EACH ACCOUNT of a book
-pub booked : (plan : Scenario) (count : ℕ) (book : Book) → IsServedBooked plan count book
-booked plan count book = λ ok a.
+pub booked : (plan : Scenario) (count : ℕ) (book : Book) → Opens plan → IsServedBooked plan count book
+booked plan count book opens = λ ok a.
     let l = a.answers.serving.leading in
     record {
       unsent = all_unsent plan 0 (map run_lead l.serves) book.slaves (of_plan plan _ l.missed l.serves l.lives) a.unsent;
-      epochs = all_caused (map run_lead l.serves) book.slaves a.epochs (gave_so plan count book a) (have_cause plan _ l.missed l.serves l.lives);
+      epochs = all_caused (map run_lead l.serves) book.slaves a.epochs (gave_so plan count book a) (opens _ l.missed l.serves l.lives);
     }

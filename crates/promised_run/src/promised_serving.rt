@@ -27,7 +27,7 @@ use served_rings::heard_stays::heard_stays;
 use served_rings::served_replies::served_replies_law;
 use served_rings::served_rests::served_rests_law;
 use served_rings::told_eras::told_eras_law;
-use served_runs::{asked_law, told_law};
+use served_runs::{asked_law, opened_law, told_law};
 use std::alloc::Global;
 
 /// Serves a plan that was read, as `gateway_run` does. At each moment, whatever frames are lost, each slave has carried out in each epoch just the first of the
@@ -37,14 +37,14 @@ use std::alloc::Global;
 /// that these rows emit. Each service of the script that came into hand has just the reply, or the outcome, that the frames of its epoch give, of the frame that
 /// completed it, and none where they give none.
 ///
-/// Behind all frames each datagram that was queued at a slave got nothing while its mail waits, error 5 where that never came into hand, and else the first mails of
-/// the one step that its slave's server takes for it, all of them where it is done. Unless memory runs out the book has besides just what the lives have that its
-/// frames lead: of each slave the services of its script that came into hand, with what they came to, and those that weren't sent; its epochs, each with its cause;
-/// its emergencies and its packets, numbered, each handed on with the frame with whose return its last fragment was written, or in doubt; and the events of the
-/// switch, each with its number. At the port of each slave that has one just those packets came in that the mails which its life accepted complete, in order, each
-/// whole; it went down once where the slave was given up for good, and never else; as many packets began there as came into hand of the slave, the first of those
-/// that were forwarded there, in order, and none behind its going down. Each of these has its exact number, and no packet waits there behind the events numbered up
-/// to the frame of a row of the script or of a mail that was passed on.
+/// Behind all frames each datagram that was queued at a slave got nothing while its mail waits, error 5 where that never came into hand, and else the first mails
+/// of the one step that its slave's server takes for it, all of them where it is done. Unless memory runs out the book has besides just what the lives have that
+/// its frames lead: of each slave the services of its script that came into hand, with what they came to, and those that weren't sent; its epochs, each with its
+/// cause and the AL state that it opens; its emergencies and its packets, numbered, each handed on with the frame with whose return its last fragment was written,
+/// or in doubt; and the events of the switch, each with its number. At the port of each slave that has one just those packets came in that the mails which its life
+/// accepted complete, in order, each whole; it went down once where the slave was given up for good, and never else; as many packets began there as came into hand
+/// of the slave, the first of those that were forwarded there, in order, and none behind its going down. Each of these has its exact number, and no packet waits
+/// there behind the events numbered up to the frame of a row of the script or of a mail that was passed on.
 ///
 /// Where nothing was left to do, of each slave that wasn't given up for good the whole script came into hand, with mails that were asked, in order, all of them where
 /// it was never given up; all rows of its newest epoch are carried out and answered, and nothing waits. What an earlier epoch left undone when it was cut off stays so.
@@ -82,6 +82,7 @@ pub fn serve<P: Port>(
     told_eras_law();
     asked_law();
     told_law();
+    opened_law();
     room_law();
     served_due_law();
     uncut_law();

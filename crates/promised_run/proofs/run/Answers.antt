@@ -7,7 +7,7 @@ use Rattle.promised_run.proofs.run.Goals as goal
 pub returns-clause-promise : goal.returns-clause-promise
 returns-clause-promise c =
     let plan = c.args.plan.now in
-    promised plan c.run.new.book c.run.result c.requires.plan (c.plan_due_law.ensures plan c.requires.plan (known plan c.requires.told)) (c.read_promise_law.ensures plan c.requires.plan c.requires.told) (c.script_run_law.ensures plan) (c.epochs_law.ensures.causes (lens_of plan.slaves) plan plan.retry) (c.rest_promise_law.ensures.rests plan) (c.rest_promise_law.ensures.done plan) c.run.ensures.frames c.run.ensures.ends c.run.ensures.ending c.run.ensures.led
+    promised plan c.run.new.book c.run.result c.requires.plan (c.plan_due_law.ensures plan c.requires.plan (known plan c.requires.told)) (c.read_promise_law.ensures plan c.requires.plan c.requires.told) (c.script_run_law.ensures plan) (c.epochs_law.ensures.states (lens_of plan.slaves) plan plan.retry) (c.rest_promise_law.ensures.rests plan) (c.rest_promise_law.ensures.done plan) c.run.ensures.frames c.run.ensures.ends c.run.ensures.ending c.run.ensures.led
 
 pub returns-clause-bounded : goal.returns-clause-bounded
 returns-clause-bounded c =
