@@ -2,3 +2,4 @@ pub use Rattle.life_frames.proofs.of_frame_view as of_frame_view
 pub mod First
 pub mod Spans
 pub mod Causes
+pub mod Opened

@@ -14,3 +14,4 @@ pub mod Led
 pub mod First
 pub mod Spans
 pub mod Causes
+pub mod Opened

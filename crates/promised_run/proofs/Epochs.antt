@@ -1,8 +1,9 @@
 -- THE EPOCHS OF A BOOK have their causes, by the give-ups of the book.
-use Rattle.std.proofs.Common.{◌≡◌, ℕ, List, [], ◌∷◌, map, sym, subst}
+use Rattle.std.proofs.Common.{◌≡◌, ℕ, None, List, [], ◌∷◌, ◌++◌, map, sym, subst}
 use Rattle.life_runs.specs.Causes.{AllEndBy, AllHaveCause}
 use Rattle.life_runs.specs.of_life_frames.Shares.{AllBoth}
 use Rattle.life_runs.specs.Led.{Leads}
+use Rattle.life_runs.specs.Opened.{AllOpenIn, AllOpenTheirs}
 use Rattle.run_book.specs.of_master_node.Wants.{gave_of}
 use Rattle.promised_run.specs.Epochs.{AllCaused}
 use Rattle.run_book.specs.declared.book.SlaveBook.{SlaveBook}
@@ -15,12 +16,16 @@ heads x y xs ys e = cc
 rests : (x y : List ℕ) (xs ys : List (List ℕ)) → x ∷ xs ≡ y ∷ ys → xs ≡ ys
 rests x y xs ys e = cc
 
-pub all_caused : (as' : List Leads) (rows : List SlaveBook) → AllBoth HasEpochs as' rows → gaves_in rows ≡ map gave_of as' → AllHaveCause as' → AllCaused as' rows
-all_caused [] [] h g c = tt
-all_caused [] (row ∷ rows) h g c = absurd h
-all_caused (a ∷ as') [] h g c = absurd h
-all_caused (a ∷ as') (row ∷ rows) h g c =
+pub all_caused : (as' : List Leads) (rows : List SlaveBook) → AllBoth HasEpochs as' rows → gaves_in rows ≡ map gave_of as' → AllHaveCause as' → AllOpenTheirs as' → AllCaused as' rows
+all_caused [] [] h g c o = tt
+all_caused [] (row ∷ rows) h g c o = absurd h
+all_caused (a ∷ as') [] h g c o = absurd h
+all_caused (a ∷ as') (row ∷ rows) h g c o =
     let same : row.gave ≡ gave_of a = heads row.gave (gave_of a) (gaves_in rows) (map gave_of as') g in (
-      record { epochs = h.0; causes = subst (λ (gave : List ℕ). AllEndBy gave a.lived.life.past a.lived.life.era.cleared) (sym same) c.0 },
-      all_caused as' rows h.1 (rests row.gave (gave_of a) (gaves_in rows) (map gave_of as') g) c.1,
+      record {
+        epochs = h.0;
+        causes = subst (λ (gave : List ℕ). AllEndBy gave a.lived.life.past a.lived.life.era.cleared) (sym same) c.0;
+        states = subst (λ (gave : List ℕ). AllOpenIn a.lived.spot.start gave None (a.lived.life.past ++ a.lived.life.era ∷ [])) (sym same) o.0;
+      },
+      all_caused as' rows h.1 (rests row.gave (gave_of a) (gaves_in rows) (map gave_of as') g) c.1 o.1,
     )

@@ -34,6 +34,7 @@ pub mod Scripts
 mod ServedBooks
 pub mod ServedBounded
 mod ServedCauses
+mod ServedOpened
 mod ServedPorts
 mod ServedReported
 mod ServedUncut

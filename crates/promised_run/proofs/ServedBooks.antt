@@ -7,6 +7,7 @@ use Rattle.frame_view.specs.View.{Lens}
 use Rattle.master_node.specs.Serving.{run_lead}
 use Rattle.promised_run.proofs.Epochs.{all_caused}
 use Rattle.promised_run.proofs.ServedCauses.{have_cause}
+use Rattle.promised_run.proofs.ServedOpened.{open_theirs}
 use Rattle.promised_run.proofs.ServedPorts.{gave_so}
 use Rattle.promised_run.proofs.Unsent.{AllOfPlan, all_unsent}
 use Rattle.promised_run.specs.ServedBooks.{IsServedBooked}
@@ -49,5 +50,5 @@ booked plan count book = λ ok a.
     let l = a.answers.serving.leading in
     record {
       unsent = all_unsent plan 0 (map run_lead l.serves) book.slaves (of_plan plan _ l.missed l.serves l.lives) a.unsent;
-      epochs = all_caused (map run_lead l.serves) book.slaves a.epochs (gave_so plan count book a) (have_cause plan _ l.missed l.serves l.lives);
+      epochs = all_caused (map run_lead l.serves) book.slaves a.epochs (gave_so plan count book a) (have_cause plan _ l.missed l.serves l.lives) (open_theirs plan _ l.missed l.serves l.lives);
     }
