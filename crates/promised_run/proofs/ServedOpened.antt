@@ -1,5 +1,5 @@
 -- IN WHICH AL STATE EACH EPOCH OF A LIFE IS OPENED, over a serving: as over a run, whatever news its record has of the mail that is passed on.
-use Rattle.std.proofs.Common.{◌≡◌, ℕ, zero, suc, Bool, Option, List, [], ◌∷◌, ◌++◌, map, length, length-append, refl, sym, subst, arith}
+use Rattle.std.proofs.Common.{◌≡◌, ℕ, zero, suc, Bool, List, [], ◌∷◌, ◌++◌, map, length, length-append, refl, sym, subst, arith}
 use Rattle.std.specs.Prelude.{◌&&◌, ⊤}
 use Rattle.datagrams.specs.Datagram as Raw
 use Rattle.frame_view.specs.Seen.{seen}
