@@ -114,7 +114,7 @@ module _ {Q R : Type 0} (x : Speech Body Q R) where
             record {
               one = holds h;
               is = ap (λ (e : Era Body Q R). era_next x acknowledged more passed made e pick) (first (m ∷ ms) k)
-                  ∙ held_era c o (side_holds d (m ∷ ms)) a p _ (row_told m r.0) pick refl refl (ap (λ z. option_map (λ q. row_told m q) z) r.1) ∙ sym (first (m ∷ ms) k);
+                  ∙ held_era c o at (side_holds d (m ∷ ms)) a p _ (row_told m r.0) pick refl refl (ap (λ z. option_map (λ q. row_told m q) z) r.1) ∙ sym (first (m ∷ ms) k);
               idle = λ e. refl;
             }
 
@@ -129,14 +129,14 @@ module _ {Q R : Type 0} (x : Speech Body Q R) where
     twice l Lives.Stand.Gone h pick = record { one = pick; is = refl; idle = λ e. e }
     twice l Lives.Stand.Open h pick =
         let e = l.era in
-        let b = both e.cleared e.opened e.side e.account e.passing h pick in
+        let b = both e.cleared e.opened e.state e.side e.account e.passing h pick in
         record { one = b.one; is = ap (λ (z : Era Body Q R). record l { era = z }) b.is; idle = b.idle }
 
     -- and where nothing is taken up and nothing begins, a life stays as it is
     pub stays : (l : Life Body Q R) (stand : Lives.Stand) → life_next x acknowledged more passed made l stand (holds false) ≡ l
     stays l (Lives.Stand.Opens o) = refl
     stays l Lives.Stand.Gone = refl
-    stays l Lives.Stand.Open = let e = l.era in ap (λ (z : Era Body Q R). record l { era = z }) (hold_is e.cleared e.opened e.side e.account e.passing false)
+    stays l Lives.Stand.Open = let e = l.era in ap (λ (z : Era Body Q R). record l { era = z }) (hold_is e.cleared e.opened e.state e.side e.account e.passing false)
 
     -- its stand is what it was
     pub still_stands : (l : Life Body Q R) (stand : Lives.Stand) (pick : Pick Q) → (life_next x acknowledged more passed made l stand pick).stand ≡ l.stand

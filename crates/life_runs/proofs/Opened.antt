@@ -29,11 +29,11 @@ use Rattle.life_runs.specs.Opened.{OpensStart, OpensBehind, OpensIn, AllOpenIn, 
 use Rattle.life_runs.specs.Spans.{is_leaving}
 use Rattle.life_runs.proofs.Spans.{LifeOf, clear_leaves, cleared_stays, last_stays, steps_stay}
 
-abbrev EraOf : Type 0
+abbrev pub EraOf : Type 0
 EraOf = Era Body Asked Reply
 
 -- the slave wasn't given up since the epoch began
-abbrev IsQuiet : List ℕ → EraOf → Type 0
+abbrev pub IsQuiet : List ℕ → EraOf → Type 0
 IsQuiet gave e = All (λ g. g < since e.cleared) gave
 
 -- A SLAVE THAT IS TO BE RETURNED TO INIT: a state service wants it, or a give-up does
@@ -42,7 +42,7 @@ pub record LeavesOwn (gave : List ℕ) (e : EraOf) (state : ℕ) : Type 0 where
   pub quiet : IsQuiet gave e
   pub opens : state ≡ opens_state own.duty.target
 
-abbrev Leaves : ℕ → ℕ → List ℕ → EraOf → ℕ → Type 0
+abbrev pub Leaves : ℕ → ℕ → List ℕ → EraOf → ℕ → Type 0
 Leaves start n gave e state = LeavesOwn gave e state ⊎ OpensStart start gave e n state
 
 -- WHERE A SLAVE STANDS: it leaves, or it wasn't given up since its epoch began

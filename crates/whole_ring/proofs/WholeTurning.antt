@@ -1,5 +1,5 @@
 -- A LIFE TURNS, by how the master stands to the slave; it begins with the slave as it is switched on; and it goes on where the slave is given up.
-use Rattle.std.proofs.Common.{◌≡◌, inl, ℕ, Bool, true, false, List, [], ◌∷◌, ◌++◌, length, refl, ap, sym, ◌∙◌, subst}
+use Rattle.std.proofs.Common.{◌≡◌, inl, inr, ℕ, Bool, true, false, List, [], ◌∷◌, ◌++◌, length, refl, ap, sym, ◌∙◌, subst}
 use Rattle.std.specs.Prelude.{Option, Some, None, if◌then◌else◌, nat_lt}
 use Rattle.slave_lives.specs.of_frame_pass.Passing.{datagrams_after}
 use Rattle.slave_lives.specs.of_frames_seen.Own.{own_of, NoneMeant}
