@@ -10,13 +10,10 @@ use Rattle.master_node.specs.of_master_tour.Toured.{Tour}
 use Rattle.packets_heard.specs.Served.{IsTourServed}
 use Rattle.packets_heard.specs.Toured.{IsTourFrame}
 use Rattle.segment_plan.specs.declared.plan.Scenario.{Scenario}
-use Rattle.served_runs.specs.Served.{Serves, ServedTurn, IsServedFrame, IsServedLed, all_serve}
+use Rattle.served_runs.specs.Served.{Serves, ServedTurn, IsServedFrame, all_serve}
+pub use Rattle.served_runs.specs.Served.{ServeTo}
 
--- THE FRAMES LEAD, with the mails that were asked, from a plan's new lives to these, with so many lost in a row last
-abbrev pub ServeTo : Scenario → List Exchanged → ℕ → List Serves → Type 0
-ServeTo plan fs missed ws = IsServedLed (lens_of plan.slaves) plan.recover plan.retry (all_serve plan.paces (first_leads plan)) fs missed ws
-
--- THEY ARE THE VISITS OF ONE TOUR, from its begin on, which stands so behind them
+-- THE FRAMES ARE THE VISITS OF ONE TOUR, from its begin on, which stands so behind them
 abbrev pub ServedTouredTo : Scenario → List Exchanged → Tour → List Serves → Type 0
 ServedTouredTo plan fs tour ws = IsTourServed (lens_of plan.slaves) plan.recover plan.retry (all_serve plan.paces (first_leads plan)) fs tour ws
 

@@ -7,11 +7,11 @@ use Rattle.life_runs.specs.of_master_side.Passing.{news_back, news_lost}
 use Rattle.life_runs.specs.of_segment_plan.declared.plan.Scenario.{Scenario}
 use Rattle.life_runs.specs.of_segment_ring.declared.wire.Fate.{Fate}
 use Rattle.life_runs.specs.of_segment_ring.declared.wire.Fate.TheVariants.{Pass, Lost}
-use Rattle.life_runs.specs.First.{first_leads}
+use Rattle.life_runs.specs.First.{first_leads, lens_of}
 use Rattle.life_runs.specs.Led.{Exchanged, Leads, gives_up_at, speech_at}
 use Rattle.life_runs.specs.Opened.{AllOpenTheirs}
 use Rattle.life_runs.proofs.Opened.{IsOpened, AllOpened, turned_so, returned_so, missed_so, first_so, states}
-use Rattle.served_runs.specs.Served.{Keyed, Serves, ServedTurn, IsServedLed, AllServedTurn, all_serve, asked_at, served_behind, served_life}
+use Rattle.served_runs.specs.Served.{Keyed, ServeTo, Serves, ServedTurn, IsServedLed, AllServedTurn, all_serve, asked_at, served_behind, served_life}
 
 abbrev leads_of : List Serves → List Leads
 leads_of ws = map (λ (w : Serves). w.lead) ws
@@ -40,16 +40,16 @@ first_served paces [] = refl
 first_served [] (a ∷ as') = ap (λ (l : List Leads). a ∷ l) (first_served [] as')
 first_served (pace ∷ paces) (a ∷ as') = ap (λ (l : List Leads). a ∷ l) (first_served paces as')
 
-module _ (lens : ℕ → Lens) (plan : Scenario) (retry : ℕ) where
-  all_opened : (fs : List Exchanged) (missed : ℕ) (ws : List Serves) → IsServedLed lens plan.recover retry (all_serve plan.paces (first_leads plan)) fs missed ws → AllOpened (length fs) (leads_of ws)
+module _ (plan : Scenario) where
+  all_opened : (fs : List Exchanged) (missed : ℕ) (ws : List Serves) → ServeTo plan fs missed ws → AllOpened (length fs) (leads_of ws)
   all_opened _ _ _ IsServedLed.start = subst (λ (l : List Leads). AllOpened 0 l) (sym (first_served plan.paces (first_leads plan))) (first_so plan.services 0 plan.slaves)
   all_opened _ _ _ (IsServedLed.asks fs missed ws place k led may) = subst (λ (l : List Leads). AllOpened (length fs) l) (sym (asked_so place k ws)) (all_opened fs missed ws led)
   all_opened _ _ _ (IsServedLed.on fs missed ws f vs led y) =
       let more : suc (length fs) ≡ length (fs ++ f ∷ []) = (let k = length-append fs (f ∷ []) in omega (arith, k)) in
-      let gives = gives_up_at lens plan.recover retry missed in
-      subst (λ (n : ℕ). AllOpened n (leads_of (map (served_behind lens plan.recover retry gives (length fs) f) vs))) more
-      (all_so lens plan.recover retry gives (length fs) f y.datagrams ws vs y.each (all_opened fs missed ws led))
+      let gives = gives_up_at (lens_of plan.slaves) plan.recover plan.retry missed in
+      subst (λ (n : ℕ). AllOpened n (leads_of (map (served_behind (lens_of plan.slaves) plan.recover plan.retry gives (length fs) f) vs))) more
+      (all_so (lens_of plan.slaves) plan.recover plan.retry gives (length fs) f y.datagrams ws vs y.each (all_opened fs missed ws led))
 
   -- EACH EPOCH OPENS ITS STATE
-  pub open_theirs : (fs : List Exchanged) (missed : ℕ) (ws : List Serves) → IsServedLed lens plan.recover retry (all_serve plan.paces (first_leads plan)) fs missed ws → AllOpenTheirs (leads_of ws)
+  pub open_theirs : (fs : List Exchanged) (missed : ℕ) (ws : List Serves) → ServeTo plan fs missed ws → AllOpenTheirs (leads_of ws)
   open_theirs fs missed ws led = states (length fs) (leads_of ws) (all_opened fs missed ws led)

@@ -12,9 +12,11 @@ use Rattle.life_runs.specs.of_master_duty.Reply.{Reply}
 use Rattle.life_runs.specs.of_master_hand.Spoken as Spoken
 use Rattle.life_runs.specs.of_master_hand.Spoken.{passed, acknowledged, is_followed, is_passed}
 use Rattle.life_runs.specs.of_master_side.Passing.{news_back, news_lost}
+use Rattle.life_runs.specs.of_segment_plan.declared.plan.Scenario.{Scenario}
 use Rattle.life_runs.specs.of_segment_plan.declared.service.Service as Plan
 use Rattle.life_runs.specs.of_segment_ring.declared.wire.Fate.{Fate}
 use Rattle.life_runs.specs.of_segment_ring.declared.wire.Fate.TheVariants.{Pass, Lost}
+use Rattle.life_runs.specs.First.{first_leads, lens_of}
 use Rattle.life_runs.specs.Led.{Comes, Exchanged, Leads, Took, Turn, gives_up_at, missed_behind, speech_at}
 use Rattle.life_frames.specs.of_link_model.Segment.{RingFate}
 use Rattle.life_frames.specs.of_segment_model.Record.{Frame, Kept, nothing_kept}
@@ -144,6 +146,10 @@ abbrev pub all_serve : List ℕ → List Leads → List Serves
 all_serve paces [] = []
 all_serve [] (a ∷ as') = new_serves 1 a ∷ all_serve [] as'
 all_serve (pace ∷ paces) (a ∷ as') = new_serves pace a ∷ all_serve paces as'
+
+-- THE FRAMES LEAD, with the mails that were asked, from a plan's new lives to these, with so many lost in a row last
+abbrev pub ServeTo : Scenario → List Exchanged → ℕ → List Serves → Type 0
+ServeTo plan fs missed ws = IsServedLed (lens_of plan.slaves) plan.recover plan.retry (all_serve plan.paces (first_leads plan)) fs missed ws
 
 -- as a run has it: no mail waits or is in hand that was passed on
 pub record IsQuiet (w : Serves) (a : Leads) : Type 0 where

@@ -5,11 +5,10 @@
 ghost use Rattle.std.specs.Prelude.{◌≡◌, ℕ, None, List, All, map};
 ghost use Rattle.life_runs.specs.of_frame_view.View.{Lens};
 ghost use Rattle.life_runs.specs.of_segment_plan.declared.plan.Scenario.{Scenario};
-ghost use Rattle.life_runs.specs.First.{first_leads};
 ghost use Rattle.life_runs.specs.Led.{Exchanged, Leads, IsLed};
 ghost use Rattle.life_runs.specs.Opened.{AllOpenTheirs};
 ghost use Rattle.served_runs.specs.Came.{HasServed, IsFresh};
-ghost use Rattle.served_runs.specs.Served.{Serves, IsServedLed, IsRunOf, TellsSo, all_serve};
+ghost use Rattle.served_runs.specs.Served.{ServeTo, Serves, IsServedLed, IsRunOf, TellsSo, all_serve};
 
 /// A RUN IS A SERVING to which no mail is asked: of the same frames and the same lives, whatever the paces of its slaves are.
 pub fn run_served_law()
@@ -33,5 +32,5 @@ pub fn asked_law()
 /// EACH EPOCH OF A SERVING OPENS ITS STATE, as in a run: the first, and one behind a give-up, the slave's start; and one behind a state service PreOp or Bootstrap,
 /// as that service asks.
 pub fn opened_law()
-    ensures { (lens : ℕ → Lens) (plan : Scenario) (retry : ℕ) (fs : List Exchanged) (missed : ℕ) (ws : List Serves) → IsServedLed lens plan.recover retry (all_serve plan.paces (first_leads plan)) fs missed ws → AllOpenTheirs (map (λ (w : Serves). w.lead) ws) }
+    ensures { (plan : Scenario) (fs : List Exchanged) (missed : ℕ) (ws : List Serves) → ServeTo plan fs missed ws → AllOpenTheirs (map (λ (w : Serves). w.lead) ws) }
 {}

@@ -59,4 +59,4 @@ returns-clause-written g c =
     all_served_written c.args.plan.now (c.served_due_law.ensures c.args.plan.now c.requires.plan (known c.args.plan.now c.requires.told)) c.args.count c.serve.new.book c.serve.ensures.frames
 
 pub returns-clause-booked : goal.returns-clause-booked
-returns-clause-booked g c = booked c.args.plan.now c.args.count c.serve.new.book (c.opened_law.ensures (lens_of c.args.plan.now.slaves) c.args.plan.now c.args.plan.now.retry)
+returns-clause-booked g c = booked c.args.plan.now c.args.count c.serve.new.book (c.opened_law.ensures c.args.plan.now)
