@@ -9,7 +9,7 @@ use Rattle.run_book.specs.of_master_node.Serving.{run_lead}
 use Rattle.segment_plan.specs.declared.plan.Scenario.{Scenario}
 
 -- OF EACH SLAVE just the rest of the plan's script for it, behind the services that came into hand, wasn't sent; and each of its epochs but the first has its cause
--- in the one before it
+-- in the one before it, by which it opens its AL state, as the first opens the slave's start
 pub record HasServedBook (plan : Scenario) (count : ℕ) (book : Book) (a : HasAccount plan count book book.ending) : Type 0 where
   pub unsent : AllUnsent plan 0 (map run_lead a.answers.serving.leading.serves) book.slaves
   pub epochs : AllCaused (map run_lead a.answers.serving.leading.serves) book.slaves
