@@ -43,7 +43,7 @@ pub record IsPromised (plan : Scenario) (book : Book) : Type 0 where
   pub reported : book.ending ≢ endings.NoMemory → AllReported plan (map exchanged book.frames) 0 plan.slaves led.leads (slaves_behind plan (map exchanged book.frames)) book.slaves
   -- and of each script just the rest, behind the services that began, is reported as not sent
   pub unsent : book.ending ≢ endings.NoMemory → AllUnsent plan 0 led.leads book.slaves
-  -- and the epochs of the book are those of the lives, each with its cause
+  -- and the epochs of the book are those of the lives, each with its cause, and with the AL state that it opens
   pub epochs : book.ending ≢ endings.NoMemory → AllCaused led.leads book.slaves
   -- and of each slave just the emergencies among the mails that its life accepted over these frames are reported, each with the frame that brought it
   pub emergencies : book.ending ≢ endings.NoMemory → AllHaveEmergencies (heard_in led.lives) book.slaves
