@@ -2,13 +2,12 @@ ghost use Rattle.std.specs.Prelude.{◌≡◌, None, map, string_bytes};
 ghost use Rattle.ec_outside.specs.Faults.{Rose};
 ghost use Rattle.segment_plan.specs.Sound.{IsName};
 ghost use Rattle.gateway_tool.specs.Rule.{IsForm};
-ghost use Rattle.gateway_tool.specs.Told.{told};
 ghost use Rattle.ecmbx_words.specs.declared.status.Status.TheVariants as statuses;
 ghost use Rattle.ecmbx_words.specs.Ends.{PutAll};
-ghost use Rattle.ecmbx_words.specs.Files.{Followed};
 ghost use Rattle.tool_call.specs.Asked.{asked_in, IsSlave, IsAsked};
 ghost use Rattle.tool_call.specs.Lines.{answer_line};
-ghost use Rattle.tool_call.specs.Course.{call_of, CallCourse, WritesTo, ActsTo, AsksTo};
+ghost use Rattle.tool_call.specs.Course.{WritesTo, ActsTo, AsksTo};
+ghost use Rattle.tool_call.specs.Objects.{told_by, CarriesOut, Does};
 ghost use Rattle.tool_call.specs.Causes.{UsageCause, AbsentCause, LongCause, NoAnswerCause, FaultCause};
 
 use crate::asked::{Act, Asked, Slave, asked_of, file_of};
@@ -52,7 +51,7 @@ fn carry_out<O: Sink, P: Port>(
 ) -> Status
     requires slave { IsSlave slave }
     requires form { IsForm service.now }
-    ensures course { Followed (CallCourse (call_of slave service.now) (told P.heard P.sent P.over P.port_faults port.old) (told P.heard P.sent P.over P.port_faults port.new)) (O.written out.old) (O.written out.new) result }
+    ensures course { CarriesOut O.Sink P.Port slave service.now out.old out.new port.old port.new result }
     ensures sink { result ≡ statuses.SinkFault → Rose (O.sink_faults out.old) (O.sink_faults out.new) }
 {
     let mut value = Reply {
@@ -86,7 +85,7 @@ fn write_file<F: Files, O: Sink, P: Port>(
 ) -> Status
     requires slave { IsSlave slave }
     requires name { IsName name }
-    ensures course { WritesTo slave name file.now (F.table files.old) (Rose (F.file_faults files.old) (F.file_faults files.new)) (port.new ≡ port.old) (told P.heard P.sent P.over P.port_faults port.old) (told P.heard P.sent P.over P.port_faults port.new) (O.written out.old) (O.written out.new) result }
+    ensures course { Does F.Files O.Sink P.Port (WritesTo slave name file.now) files.old files.new out.old out.new port.old port.new result }
     ensures sink { result ≡ statuses.SinkFault → Rose (O.sink_faults out.old) (O.sink_faults out.new) }
     ensures same { F.table files.new ≡ F.table files.old }
 {
@@ -113,7 +112,7 @@ fn act_on<F: Files, O: Sink, P: Port>(
     port: &mut P,
 ) -> Status
     requires { IsAsked asked }
-    ensures course { ActsTo asked.slave asked.act file.now (F.table files.old) (Rose (F.file_faults files.old) (F.file_faults files.new)) (port.new ≡ port.old) (told P.heard P.sent P.over P.port_faults port.old) (told P.heard P.sent P.over P.port_faults port.new) (O.written out.old) (O.written out.new) result }
+    ensures course { Does F.Files O.Sink P.Port (ActsTo asked.slave asked.act file.now) files.old files.new out.old out.new port.old port.new result }
     ensures sink { result ≡ statuses.SinkFault → Rose (O.sink_faults out.old) (O.sink_faults out.new) }
     ensures same { F.table files.new ≡ F.table files.old }
 {
@@ -132,7 +131,7 @@ fn follow<F: Files, O: Sink, P: Port>(
     out: &mut O,
     port: &mut P,
 ) -> Status
-    ensures course { AsksTo (map string_bytes words.now) (F.table files.old) (Rose (F.file_faults files.old) (F.file_faults files.new)) (port.new ≡ port.old) (told P.heard P.sent P.over P.port_faults port.old) (told P.heard P.sent P.over P.port_faults port.new) (O.written out.old) (O.written out.new) result }
+    ensures course { Does F.Files O.Sink P.Port (AsksTo (map string_bytes words.now)) files.old files.new out.old out.new port.old port.new result }
     ensures sink { result ≡ statuses.SinkFault → Rose (O.sink_faults out.old) (O.sink_faults out.new) }
     ensures same { F.table files.new ≡ F.table files.old }
     ensures port { asked_in (map string_bytes words.now) ≡ None → port.new ≡ port.old }
@@ -157,14 +156,14 @@ pub fn ask_call<F: Files, O: Sink, P: Port>(
     port: &mut P,
 ) -> Status
     // Each case of the table of answers, with the text that is put there.
-    ensures course { AsksTo (map string_bytes words.now) (F.table files.old) (Rose (F.file_faults files.old) (F.file_faults files.new)) (port.new ≡ port.old) (told P.heard P.sent P.over P.port_faults port.old) (told P.heard P.sent P.over P.port_faults port.new) (O.written out.old) (O.written out.new) result }
+    ensures course { Does F.Files O.Sink P.Port (AsksTo (map string_bytes words.now)) files.old files.new out.old out.new port.old port.new result }
 
     // When each status comes.
     ensures usage { UsageCause (map string_bytes words.now) result }
     ensures absent { AbsentCause (map string_bytes words.now) (F.table files.old) result }
     ensures too_long { LongCause (map string_bytes words.now) (F.table files.old) result }
-    ensures no_answer { NoAnswerCause (map string_bytes words.now) (told P.heard P.sent P.over P.port_faults port.old) (told P.heard P.sent P.over P.port_faults port.new) result }
-    ensures port_fault { FaultCause (map string_bytes words.now) (told P.heard P.sent P.over P.port_faults port.old) (told P.heard P.sent P.over P.port_faults port.new) result }
+    ensures no_answer { NoAnswerCause (map string_bytes words.now) (told_by P.Port port.old) (told_by P.Port port.new) result }
+    ensures port_fault { FaultCause (map string_bytes words.now) (told_by P.Port port.old) (told_by P.Port port.new) result }
     ensures file_fault { result ≡ statuses.FileFault → Rose (F.file_faults files.old) (F.file_faults files.new) }
     ensures sink_fault { result ≡ statuses.SinkFault → Rose (O.sink_faults out.old) (O.sink_faults out.new) }
 
