@@ -1,5 +1,4 @@
-use Rattle.std.proofs.Common.{◌≡◌, ◌∙◌, ap, sym, refl, ℕ, ◌+◌, ◌-◌, ◌<◌, ◌≤◌, List, ◌++◌, length, take, drop, min, arith, append_assoc, length-append, length-drop}
-use Rattle.std.proofs.lemmas.Grind.{common_steps, pieces}
+use Rattle.std.proofs.Common.{◌≡◌, ◌∙◌, ap, sym, ℕ, ◌+◌, ◌-◌, ◌≤◌, List, ◌++◌, length, take, drop, min, arith, append_assoc, length-append, length-drop}
 use Rattle.std.proofs.lemmas.List.{length-take-le, take-take, take_min, drop-drop}
 use Rattle.std.proofs.Math.Seq.{take-add, take-append_seam, drop-append_seam}
 

@@ -1,4 +1,4 @@
-use Rattle.std.specs.Prelude.{◌≡◌, ℕ, Bool, false, ◌<◌, ◌≤◌, List, [], ◌∷◌, ◌++◌, length, map, vec_capacity}
+use Rattle.std.specs.Prelude.{◌≡◌, ℕ, Bool, false, ◌<◌, ◌≤◌, List, [], ◌∷◌, length, map, vec_capacity}
 use Rattle.std.specs.List.{concat}
 use Rattle.std.specs.Global.{Box, Vec}
 use Rattle.arrayvec.specs.ArrayVec.{ArrayVec}

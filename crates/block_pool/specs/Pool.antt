@@ -1,4 +1,4 @@
-use Rattle.std.specs.Prelude.{◌≡◌, ℕ, Bool, ◌+◌, ◌<◌, ◌≤◌, List, length, map, sum_by, vec_capacity, All, if◌then◌else◌, Option, Some, None}
+use Rattle.std.specs.Prelude.{◌≡◌, ℕ, ◌+◌, ◌<◌, ◌≤◌, List, length, map, sum_by, vec_capacity, All, if◌then◌else◌, Option, Some, None}
 use Rattle.std.specs.Global.{Vec}
 use Rattle.block_pool.specs.Blocks.{Boxed, IsEmpty}
 use Rattle.block_pool.specs.Chained.{Chained}

@@ -1,4 +1,4 @@
-use Rattle.std.specs.Prelude.{◌≡◌, ℕ, Bool, true, ◌+◌, ◌/◌, ◌<◌, ◌++◌, List, length, get_or, slice_set, Some, is_some, unwrap_or, Option, None, []}
+use Rattle.std.specs.Prelude.{◌≡◌, ℕ, true, ◌+◌, ◌/◌, ◌<◌, ◌++◌, List, length, get_or, slice_set, Some, is_some, unwrap_or, Option, None, []}
 
 -- a region: the octets of the chain at each place, where one is live, and how many blocks are free
 pub record Region : Type 0 where

@@ -1,5 +1,5 @@
 -- A client whose service is not over awaits a mail.
-use Rattle.std.proofs.Common.{◌≡◌, ℕ, zero, suc, Bool, true, false, List, [], None, refl}
+use Rattle.std.proofs.Common.{◌≡◌, ℕ, zero, suc, true, false, List, [], None, refl}
 use Rattle.coe_client.specs.declared.state.Awaits.{Awaits}
 use Rattle.coe_client.specs.Talk.{Talking, target_of, answers_from, awaited, is_replied, is_sound}
 use Rattle.coe_model.specs.Tables.{Target}

@@ -1,9 +1,8 @@
 -- A download keeps its pace: where its last answer comes and no mail may go, all its mails were sent.
-use Rattle.std.proofs.Common.{◌≡◌, inl, inr, ℕ, zero, suc, ◌+◌, ◌-◌, ◌<◌, ◌≤◌, Bool, true, false, not, ◌&&◌, nat_lt, nat_le, ◌==◌, List, [], ◌∷◌, length, take, drop, if◌then◌else◌, Option, None, Some, is_some, refl, sym, ap, ◌∙◌, subst, arith, length-drop, ltb-true, leb-true, le-leb, lt-ltb, ne_eqb}
+use Rattle.std.proofs.Common.{◌≡◌, inl, inr, ℕ, zero, suc, ◌+◌, ◌-◌, ◌<◌, ◌≤◌, Bool, true, false, not, ◌&&◌, nat_lt, nat_le, ◌==◌, List, [], ◌∷◌, length, take, drop, if◌then◌else◌, Some, is_some, refl, sym, ap, ◌∙◌, subst, arith, length-drop, ltb-true, leb-true, le-leb, lt-ltb, ne_eqb}
 use Rattle.std.proofs.lemmas.Bool.{cases_lt, leb-false}
-use Rattle.coe_codec.specs.View.{coe_seen}
 use Rattle.coe_codec.specs.declared.viewing.CoeView.{CoeView}
-use Rattle.coe_model.specs.Mails.{CoeMail, mail, Expedited, First, Segment}
+use Rattle.coe_model.specs.Mails.{mail, Expedited, First, Segment}
 use Rattle.coe_model.specs.Tables.{Target}
 use Rattle.coe_model.specs.Server.{is_expedited, parts_of}
 use Rattle.coe_model.specs.Client.{segments, behind_first, download_mails}

@@ -1,5 +1,5 @@
 -- A client that has heard all replies to the mails that it has sent has a further mail, until it has sent all.
-use Rattle.std.proofs.Common.{◌≡◌, inl, inr, ℕ, zero, suc, ◌<◌, ◌≤◌, Bool, true, List, [], ◌∷◌, ◌++◌, length, Option, None, Some, refl, sym, ap, subst, ◌∙◌, arith, length-append}
+use Rattle.std.proofs.Common.{◌≡◌, ℕ, zero, suc, Bool, true, List, [], ◌∷◌, ◌++◌, length, Option, None, Some, refl, sym, ap, subst, ◌∙◌, arith, length-append}
 use Rattle.exchange_model.specs.Areas.{Areas, AreMailboxes}
 use Rattle.exchange_model.specs.Prefix.{IsPrefixOf}
 use Rattle.exchange_model.specs.Exchange.{after, given, plain}
@@ -11,7 +11,7 @@ use Rattle.coe_model.specs.Server.{Server, serve}
 use Rattle.coe_model.specs.Meaning.{Service, download, upload, information}
 use Rattle.coe_model.specs.Client.{decide, mails_of, information_mail}
 use Rattle.coe_model.specs.Model.{turns, planned, full}
-use Rattle.coe_model.proofs.Speaks.{AllRequests, is_request, one_reply, never}
+use Rattle.coe_model.proofs.Speaks.{AllRequests, one_reply, never}
 use Rattle.coe_model.proofs.CoeLaw.{IsSdo, mails_all, planned_more, few_replies, ask_planned, ask_full}
 
 -- what is decided on the first answer stays so, and the others are left

@@ -1,5 +1,5 @@
 -- CoE as an exchange: the server against the services of its client.
-use Rattle.std.specs.Prelude.{ℕ, suc, ◌≤◌, ◌&&◌, nat_le, nat_lt, Bool, true, false, List, [], ◌∷◌, length, Result, Ok, Err}
+use Rattle.std.specs.Prelude.{ℕ, suc, ◌&&◌, nat_le, nat_lt, Bool, true, false, List, [], ◌∷◌, length, Result, Ok, Err}
 use Rattle.exchange_model.specs.Areas.{Areas}
 use Rattle.exchange_model.specs.Exchange.{Exchange, Speech}
 use Rattle.exchange_model.specs.Dialogue.{said, sent}

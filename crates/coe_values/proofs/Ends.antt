@@ -1,10 +1,9 @@
 -- A chain ends, and its blocks are free.
-use Rattle.std.proofs.Common.{◌≡◌, ◌≢◌, inl, inr, ℕ, ◌+◌, ◌<◌, ◌≤◌, true, false, List, [], length, get_or, set, refl, sym, ap, subst, ◌∙◌, arith, Option, Some, None, is_some, unwrap_or}
-use Rattle.std.specs.Prelude.{◌⊎◌}
+use Rattle.std.proofs.Common.{◌≡◌, ◌≢◌, inl, inr, ℕ, ◌<◌, true, false, List, [], length, get_or, set, refl, sym, ap, subst, ◌∙◌, arith, Option, Some, None, is_some, unwrap_or}
 use Rattle.std.proofs.lemmas.Grind.{common_steps}
 use Rattle.std.proofs.lemmas.Bool.{cases_eq}
 use Rattle.std.proofs.lemmas.List.{get_or-set_same, get_or-set_other, length-set}
-use Rattle.block_pool.specs.Region.{Region, IsLive, Closes, chain_of, blocks_for}
+use Rattle.block_pool.specs.Region.{Region, IsLive, Closes, blocks_for}
 use Rattle.coe_values.specs.Chains.{octets_at, IsSound, AreChains, Holds}
 
 -- a live chain's place is one of the region's

@@ -1,20 +1,19 @@
 -- The record's counters go on with a slave's own datagrams, and begin anew with its mailboxes.
-use Rattle.std.proofs.Common.{◌≡◌, ◌≤◌, ℕ, suc, ◌==◌, List, [], ◌∷◌, Bool, true, false, Option, Some, None, refl, sym, ap, ◌∙◌, subst, arith, eq-eqb, eqb-true}
-use Rattle.std.specs.Prelude.{◌&&◌, ◌||◌, not, nat_lt, if◌then◌else◌}
+use Rattle.std.proofs.Common.{◌≡◌, ℕ, suc, ◌==◌, List, [], ◌∷◌, Bool, true, false, Option, Some, None, refl, sym, ap, ◌∙◌, subst, arith, eq-eqb, eqb-true}
+use Rattle.std.specs.Prelude.{◌&&◌, nat_lt, if◌then◌else◌}
 use Rattle.std.proofs.lemmas.Bool.Decides.{nat_tests}
 use Rattle.counters_kept.specs.Lives.{StandsKept, LifeKept, is_left, came_so, lost_so}
 use Rattle.life_frames.specs.of_exchange_model.Exchange.{Speech}
 use Rattle.life_frames.specs.of_exchange_model.Rows.{Row}
 use Rattle.life_frames.specs.of_link_model.Counters.{next_counter}
-use Rattle.life_frames.specs.of_life_model.Lives
 use Rattle.life_frames.specs.of_life_model.Lives.{Life, Opening, Spot, Stand, clears, era_back, gives_up, is_shown, last_step, life_back, life_lost, life_next, opening_back, opens, opens_state, reopening, reopens, reopens_at, returns_to_init, shows_clear, steps_on}
 use Rattle.life_frames.specs.of_life_model.Own
 use Rattle.life_frames.specs.of_link_mails.Body.{Body}
 use Rattle.life_frames.specs.of_segment_model.Record.{Kept, News, nothing_kept, kept_after, told_behind, heard_behind, last_told, last_heard}
-use Rattle.life_frames.specs.of_segment_model.Seats.{Side, Choice, side_back, side_lost, side_next}
+use Rattle.life_frames.specs.of_segment_model.Seats.{Side, side_back, side_lost}
 use Rattle.life_frames.specs.of_segment_model.Slaves.{Datagram, Access, Found, grams}
 use Rattle.life_frames.specs.of_task_model.Accounts
-use Rattle.life_frames.specs.of_task_model.Accounts.{Account, Pick, duty_access}
+use Rattle.life_frames.specs.of_task_model.Accounts.{Pick, duty_access}
 use Rattle.master_side.specs.Carried.{one}
 use Rattle.master_side.specs.Passing.{IsKept}
 use Rattle.master_side.specs.declared.carried.Carried.{Carried}

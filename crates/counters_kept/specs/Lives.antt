@@ -1,5 +1,5 @@
 -- THE RECORD'S COUNTERS ARE THE SIDE'S, all along the life of a slave.
-use Rattle.std.specs.Prelude.{◌≡◌, ℕ, ◌&&◌, nat_lt, Bool, false, List, [], ⊤}
+use Rattle.std.specs.Prelude.{◌≡◌, ◌&&◌, nat_lt, Bool, false, List, [], ⊤}
 use Rattle.life_frames.specs.of_life_model.Lives.{Life, Opening, Stand}
 use Rattle.life_frames.specs.of_link_mails.Body.{Body}
 use Rattle.life_frames.specs.of_link_model.Segment.{RingFate}

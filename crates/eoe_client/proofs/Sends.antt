@@ -1,11 +1,11 @@
 -- What a client of address services and a sender of packets send next.
-use Rattle.std.proofs.Common.{◌≡◌, ℕ, ◌+◌, ◌*◌, ◌/◌, ◌-◌, ◌≤◌, ◌<◌, List, [], ◌∷◌, Bool, true, false, Option, Some, None, refl, sym, ap, ◌∙◌, subst, map, length, nat_lt, nat_le, arith}
+use Rattle.std.proofs.Common.{◌≡◌, ℕ, ◌+◌, ◌*◌, ◌/◌, ◌-◌, ◌≤◌, ◌<◌, List, [], ◌∷◌, Bool, true, false, Some, None, refl, sym, ap, ◌∙◌, map, length, nat_lt, nat_le, arith}
 use Rattle.std.specs.Prelude.{◌↔◌, not, if◌then◌else◌, zero, suc}
 use Rattle.mailbox_mail.specs.declared.mail.Kind.TheVariants.{EoE}
 use Rattle.eoe.specs.declared.message.Fragment.{Fragment}
 use Rattle.eoe.specs.Message.{eoe_text}
 use Rattle.eoe.specs.Cutting.{Cutting, fragment_at, fragments_from, next_fragment, cutting_after}
-use Rattle.eoe_model.specs.Mails.{SetIp, GetIp, Part, EoeMail, mail, part}
+use Rattle.eoe_model.specs.Mails.{SetIp, GetIp, Part, mail, part}
 use Rattle.eoe_model.specs.Octets.{mail_with}
 use Rattle.eoe_client.specs.declared.address.Unsent.{Unsent}
 use Rattle.eoe_client.specs.Talk.{Talking, Sending, unsent_mails, fragments_left, SendsNext, SendsPart}

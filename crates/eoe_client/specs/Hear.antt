@@ -1,5 +1,5 @@
 -- What a client of address services makes of one mail.
-use Rattle.std.specs.Prelude.{◌≡◌, ℕ, ◌==◌, Bool, true, List, [], ◌∷◌, if◌then◌else◌, None}
+use Rattle.std.specs.Prelude.{◌≡◌, ℕ, ◌==◌, true, List, [], ◌∷◌, if◌then◌else◌, None}
 use Rattle.mailbox_mail.specs.declared.outcome.ReplyKind.{ReplyKind}
 use Rattle.mailbox_mail.specs.declared.outcome.Took.{Took}
 use Rattle.eoe_model.specs.Mails.{Eoe, SetIpAnswer, GetIpAnswer, EoeMail, mail, failed}

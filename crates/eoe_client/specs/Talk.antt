@@ -1,6 +1,5 @@
 -- What the state of a client of address services, and of a sender of packets, stands for.
-use Rattle.std.specs.Prelude.{◌≡◌, ℕ, ◌+◌, ◌-◌, ◌*◌, ◌/◌, ◌≤◌, Bool, true, false, List, [], ◌∷◌, map, length, Option, None, Some}
-use Rattle.mailbox_mail.specs.declared.outcome.ReplyKind.{ReplyKind}
+use Rattle.std.specs.Prelude.{◌≡◌, ℕ, ◌-◌, Bool, true, false, List, [], ◌∷◌, map, length, Option, None}
 use Rattle.mailbox_mail.specs.declared.mail.Kind.TheVariants.{EoE}
 pub use Rattle.mailbox_mail.specs.Replies.{at_end}
 use Rattle.eoe.specs.Cutting.{Cutting, fragments_from}

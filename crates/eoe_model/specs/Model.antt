@@ -1,5 +1,4 @@
 -- EoE as an exchange: the server against the services of its client.
-use Rattle.std.specs.Prelude.{ℕ, ◌≤◌}
 use Rattle.exchange_model.specs.Areas.{Areas}
 use Rattle.exchange_model.specs.Exchange.{Exchange, Speech}
 use Rattle.eoe_model.specs.Mails.{EoeMail, is_emission}

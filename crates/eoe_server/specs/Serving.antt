@@ -1,12 +1,12 @@
 -- What an EoE server's state stands for: the packet that it joins, and the mails that wait in it.
-use Rattle.std.specs.Prelude.{◌≡◌, ℕ, ◌+◌, ◌-◌, ◌*◌, ◌/◌, ◌==◌, ◌&&◌, ◌||◌, nat_le, nat_lt, Bool, true, false, if◌then◌else◌, List, [], ◌∷◌, ◌++◌, map, take, drop, length, slice_index, Option, Some, None}
+use Rattle.std.specs.Prelude.{◌≡◌, ℕ, ◌+◌, ◌-◌, ◌*◌, ◌/◌, ◌==◌, ◌&&◌, nat_le, nat_lt, Bool, true, if◌then◌else◌, List, [], ◌∷◌, ◌++◌, map, length, Option, Some, None}
 use Rattle.mailbox_mail.specs.declared.mail.Mail.{Mail}
 use Rattle.eoe.specs.declared.joining.Unfinished.{Unfinished}
 use Rattle.eoe.specs.Cutting.{Cutting, fragments_from}
 use Rattle.eoe_model.specs.Mails.{SetIpAnswer, GetIpAnswer, EoeMail, mail, part, unsupported, failed}
-use Rattle.eoe_model.specs.Network.{Network, Station}
+use Rattle.eoe_model.specs.Network.{Network}
 use Rattle.eoe_model.specs.Echo.{echo_of}
-use Rattle.eoe_model.specs.Octets.{heard, eoe_mail_written}
+use Rattle.eoe_model.specs.Octets.{eoe_mail_written}
 use Rattle.eoe_model.specs.Server.{Outcome}
 use Rattle.eoe_server.specs.declared.Answer.{Answer}
 use Rattle.eoe_server.specs.declared.Addresses.{Addresses}

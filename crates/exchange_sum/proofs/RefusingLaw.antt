@@ -1,9 +1,7 @@
 -- A refused protocol keeps the laws.
-use Rattle.std.proofs.Common.{◌≡◌, ◌≢◌, ◌⊎◌, inl, inr, ℕ, suc, ◌≤◌, Bool, true, false, not, cond, List, [], ◌∷◌, ◌++◌, filter, Option, None, Some, refl, sym, ap, ap₂, ◌∙◌, subst, arith}
+use Rattle.std.proofs.Common.{◌≡◌, ◌⊎◌, inl, inr, ◌≤◌, Bool, true, false, List, [], ◌++◌, refl, sym, ap, ◌∙◌, subst, arith}
 use Rattle.std.specs.Prelude.{if◌then◌else◌}
-use Rattle.exchange_model.specs.Prefix.{IsPrefixOf}
-use Rattle.exchange_model.specs.Exchange.{Exchange, IsLawful, Before, Behind, after, given, plain, emitted}
-use Rattle.exchange_model.specs.Lifted.{EachOf}
+use Rattle.exchange_model.specs.Exchange.{Exchange, IsLawful, Before, Behind, given, plain, emitted}
 use Rattle.exchange_sum.specs.Refusing.{Refusal, refusing, gated, IsAsked, IsRefusal}
 use Rattle.exchange_sum.proofs.Refusals.{snoc_cut, each_front, all_taken, Quiet, heard_of, quiet_after, quiet_given, all_after, replies, none_emitted, some_mail, follows, all_planned}
 

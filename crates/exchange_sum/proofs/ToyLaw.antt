@@ -1,14 +1,14 @@
 -- Adders stand apart, and a run in which the mails of three come mixed.
-use Rattle.std.proofs.Common.{◌≡◌, ℕ, ◌==◌, Bool, true, false, List, [], ◌∷◌, map, Option, None, refl, ap, ◌∙◌, eqb-true, arith}
+use Rattle.std.proofs.Common.{◌≡◌, ℕ, ◌==◌, Bool, true, List, [], ◌∷◌, map, None, refl, ap, ◌∙◌, eqb-true, arith}
 use Rattle.std.proofs.lemmas.Bool.Decides.{nat_tests}
 use Rattle.std.specs.Prelude.{if◌then◌else◌}
 use Rattle.exchange_model.specs.Exchange.{IsLawful, after, given}
 use Rattle.exchange_model.specs.Lifted.{EachOf, Spells, ReadsBack}
-use Rattle.exchange_model.specs.Toy.{Mail, first, second, posted, total, held, noted, Adder, adder}
+use Rattle.exchange_model.specs.Toy.{Mail, first, second, posted, total, held, noted, adder}
 use Rattle.exchange_model.proofs.Lifting.{lifted_law}
 use Rattle.exchange_model.proofs.Toys.{adder_law}
 use Rattle.exchange_sum.specs.Sides.{IsSide}
-use Rattle.exchange_sum.specs.Toys.{Numbered, content, numbered, adder_of, Joint, seat, reseated, slave, adders}
+use Rattle.exchange_sum.specs.Toys.{Numbered, content, numbered, adder_of, Joint, seat, slave, adders}
 use Rattle.exchange_sum.proofs.SumLaw.{joined_law}
 
 reads_back : (number : ℕ) (ms : List Mail) → EachOf (ReadsBack content (numbered number)) ms

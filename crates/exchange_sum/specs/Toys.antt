@@ -1,5 +1,5 @@
 -- Adders side by side over one sum, as many as there are numbers: the mails of each have its number, and each has a half sum of its own.
-use Rattle.std.specs.Prelude.{ℕ, ◌==◌, if◌then◌else◌, Option, true, List, map}
+use Rattle.std.specs.Prelude.{ℕ, ◌==◌, if◌then◌else◌, Option, true, map}
 use Rattle.exchange_model.specs.Exchange.{Exchange}
 use Rattle.exchange_model.specs.Lifted.{lifted}
 use Rattle.exchange_model.specs.Toy.{Mail, Service, Adder, emission, adder}

@@ -1,11 +1,11 @@
 -- What a client sends is the first of the mails that it has left, and at first those are the planned ones.
-use Rattle.std.proofs.Common.{◌≡◌, inl, inr, ℕ, zero, suc, ◌+◌, ◌-◌, ◌/◌, ◌<◌, ◌≤◌, Bool, true, false, ◌&&◌, nat_le, nat_lt, ◌==◌, List, [], ◌∷◌, length, take, drop, if◌then◌else◌, Option, None, Some, refl, sym, ap, ◌∙◌, arith, length-take, length-drop, eqb-true, eq-eqb, leb-true, lt-ltb, le-ltb}
-use Rattle.std.proofs.lemmas.Bool.{eqb-false, cases_lt, and_parts, and_from}
+use Rattle.std.proofs.Common.{◌≡◌, inl, inr, ℕ, zero, suc, ◌+◌, ◌-◌, ◌/◌, ◌<◌, ◌≤◌, Bool, true, false, ◌&&◌, nat_le, nat_lt, ◌==◌, List, [], ◌∷◌, length, take, drop, if◌then◌else◌, Some, refl, sym, ap, ◌∙◌, arith, length-take, length-drop, eqb-true, eq-eqb, leb-true, lt-ltb, le-ltb}
+use Rattle.std.proofs.lemmas.Bool.{cases_lt, and_parts, and_from}
 use Rattle.std.proofs.lemmas.List.{drop-drop}
 use Rattle.exchange_model.specs.Areas.{Areas}
 use Rattle.exchange_model.specs.Dialogue.{chosen, said}
 use Rattle.foe_codec.specs.Message.{is_name, IsSpellable, foe_text}
-use Rattle.foe_model.specs.Mails.{Foe, Read, Write, Data, Ack, Error, Busy, FoeMail, mail, unread, failed, other}
+use Rattle.foe_model.specs.Mails.{Read, Write, Data, Ack, Error, Busy, FoeMail, mail, unread, failed, other}
 use Rattle.foe_model.specs.Server.{packet_room, packet_of, is_last}
 use Rattle.foe_model.specs.Meaning.{read, write}
 use Rattle.foe_model.specs.Client.{is_busy, packets, acks, decide, read_turn, write_turn, turn_behind, full_packets}

@@ -1,8 +1,7 @@
 -- What a body reads as is spelled by it, and what is written spells its message.
-use Rattle.std.proofs.Common.{◌≡◌, ℕ, ◌+◌, ◌*◌, ◌/◌, ◌%◌, ◌^◌, ◌<◌, ◌≤◌, Bool, true, false, List, [], ◌∷◌, ◌++◌, length, drop, get_or, refl, ap, sym, ◌∙◌, subst, arith, le-leb}
+use Rattle.std.proofs.Common.{◌≡◌, ℕ, ◌+◌, ◌/◌, ◌%◌, ◌^◌, ◌<◌, ◌≤◌, Bool, true, false, List, ◌∷◌, ◌++◌, length, drop, get_or, refl, ap, sym, ◌∙◌, subst, arith, le-leb}
 use Rattle.std.specs.Prelude.{Result, Ok, Err, IfOk, ◌==◌, nat_lt, if◌then◌else◌}
 use Rattle.std.proofs.lemmas.Bool.{eqb-true, ltb-false}
-use Rattle.std.proofs.lemmas.List.{get_or-drop, drop_more}
 use Rattle.byteorder.specs.Endian.{little_bytes}
 use Rattle.ec_fields.specs.Fields.{number_at}
 use Rattle.ec_fields.proofs.Cells.{AreOctets, next_cell, four_here, four_fits}

@@ -1,5 +1,5 @@
 -- An FoE message as it stands in a body.
-use Rattle.std.specs.Prelude.{ℕ, ◌≤◌, length, Result, Ok, Err}
+use Rattle.std.specs.Prelude.{◌≤◌, length, Result, Ok, Err}
 use Rattle.foe_codec.specs.declared.message.Foe.{Foe}
 use Rattle.foe_codec.specs.declared.message.Foe.TheVariants.{Read, Write, Data, Ack, Error, Busy}
 use Rattle.foe_codec.specs.declared.message.FoeFault.{FoeFault}

@@ -4,7 +4,7 @@ use Rattle.std.proofs.Math.Seq.{drop-append-add, take-append_seam}
 use Rattle.byteorder.specs.Endian.{little_bytes}
 use Rattle.std.specs.Prelude.{map}
 use Rattle.datagrams.specs.Datagram as Raw
-use Rattle.datagrams.specs.Datagram.{IsDatagram, datagram_text, size_of, front_text}
+use Rattle.datagrams.specs.Datagram.{IsDatagram, datagram_text, size_of}
 use Rattle.datagrams.specs.Frame.{IsFrame, Each, text_of, parts_of, header_text, chained, saying}
 use Rattle.datagrams.proofs.Header.{frame_read-only}
 use Rattle.datagrams.proofs.Spelled.{length-datagram_text}

@@ -14,7 +14,7 @@ use Rattle.segment_model.specs.Seats.{Side, Seat, Planned, IsFrame, ring_of, sid
 use Rattle.segment_model.specs.Slaves.{Processor, Datagram, Registers, Ring, Slave, slave_after, frame_after, ring_back}
 use Rattle.state_exchange.specs.Stated.{Stated, Service}
 use Rattle.state_model.specs.States as States
-use Rattle.state_model.specs.States.{Table, Phase, Hand}
+use Rattle.state_model.specs.States.{Table, Phase}
 use Rattle.task_model.proofs.Carries.{carry_place}
 use Rattle.task_model.proofs.Rings.{SamePlace, same_place, place_on}
 use Rattle.task_model.proofs.Served.{Served}

@@ -11,7 +11,7 @@ use Rattle.idle_slaves.proofs.Visited.{full_drains}
 use Rattle.idle_slaves.proofs.Waiting.{Holds, Comes, comes, holds}
 use Rattle.life_measure.specs.Gains.{gains}
 use Rattle.life_measure.specs.Visits.{Visit, mails_visit}
-use Rattle.life_model.specs.Lives.{Era, Life, Spot, Stand, granted, life_back, era_back, era_next, reopens, reopens_at, reopening, opens_state, returns_to_init}
+use Rattle.life_model.specs.Lives.{Era, Life, Spot, Stand, granted, life_back, era_back, era_next}
 use Rattle.life_model.specs.Own.{own}
 use Rattle.link_model.specs.Frames.{Ask, halves_accept, all_accepted}
 use Rattle.link_model.specs.Link.{Halves, Link}
@@ -24,7 +24,7 @@ use Rattle.segment_model.specs.Record.{News}
 use Rattle.segment_model.specs.Seats.{side_back}
 use Rattle.segment_model.specs.Slaves.{Datagram, Found, grams}
 use Rattle.state_exchange.specs.Stated.{Service}
-use Rattle.task_model.specs.Accounts.{Duty, Pick, Stage, account_next, starts}
+use Rattle.task_model.specs.Accounts.{Duty, Pick, account_next, starts}
 
 -- one that drains before the visit does behind it
 drains_on : {X : Type 0} (q : Wanted) (old new : Option Duty) (p s : Option Passing) (duty : Duty) → IsFor q old p → IsFor q new s → s ≡ None → old ≡ Some duty → new ≡ None → X

@@ -20,7 +20,7 @@ use Rattle.segment_model.specs.Record.{News, is_for}
 use Rattle.segment_model.specs.Slaves.{Datagram, Access, Found, grams}
 use Rattle.task_model.specs.Accounts.{Account, Duty, Stage, Progress, account_back, account_met, account_by, access_done}
 use Rattle.idle_slaves.specs.Waiting.{Wanted}
-use Rattle.idle_slaves.specs.Visited.{IsFor, Meets, CameBack, HasRow, Tells, IsStill, is_boxed, is_served}
+use Rattle.idle_slaves.specs.Visited.{IsFor, Meets, CameBack, HasRow, IsStill, is_boxed, is_served}
 
 -- the one datagram
 own_after : {M : Type 0} (station : ℕ) (h : Halves M) (d : Datagram M) (ds : List (Datagram M)) → ds ≡ d ∷ [] → d.gram.station ≡ station → halves_after station h (grams ds) ≡ halves_answered h d.gram.ask d.gram

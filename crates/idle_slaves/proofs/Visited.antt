@@ -1,5 +1,5 @@
 -- A slave that waits, visit by visit.
-use Rattle.std.proofs.Common.{◌≡◌, ◌≤◌, ℕ, Bool, true, false, is_some, Option, Some, None, List, [], refl, sym, ap, ◌∙◌, subst, if◌then◌else◌, inl, inr}
+use Rattle.std.proofs.Common.{◌≡◌, ◌≤◌, ℕ, Bool, true, false, is_some, Option, None, List, [], refl, sym, ap, ◌∙◌, subst, if◌then◌else◌, inl, inr}
 use Rattle.exchange_model.specs.Exchange.{Speech}
 use Rattle.life_measure.specs.Gains.{gains}
 use Rattle.life_measure.specs.Visits.{Visit, mails_visit, drain_visit, visit_gain, visited}
@@ -13,8 +13,8 @@ use Rattle.run_frames.specs.Waits.{Waits}
 use Rattle.segment_model.specs.Ends.{Passing}
 use Rattle.segment_model.specs.Record.{News}
 use Rattle.segment_model.specs.Slaves.{Datagram, Found}
-use Rattle.task_model.specs.Accounts.{Duty, Stage}
-use Rattle.idle_slaves.specs.Waiting.{Wanted, Memory, Coming, MayCome, IsVain, IsWaiting, IsIdle, link_by, wanted_by, memory_by, memory_behind, visit_by, visit_with, tried}
+use Rattle.task_model.specs.Accounts.{Duty}
+use Rattle.idle_slaves.specs.Waiting.{Wanted, Memory, Coming, IsVain, IsWaiting, IsIdle, link_by, wanted_by, memory_by, memory_behind, visit_by, visit_with, tried}
 use Rattle.idle_slaves.specs.Visited.{IsFor, Shows, CameBack, HasRow, IsStill, Waiting, Chosen, LifeSpent, is_served, visit_for, life_visit, memory_of}
 use Rattle.idle_slaves.proofs.Returning.{IsVainly, vainly, not_served, served_is, then_hand, then_halves, then_stands, hand_none, halves_none}
 use Rattle.idle_slaves.proofs.Visiting.{Same, vain_same}

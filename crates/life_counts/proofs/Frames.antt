@@ -4,7 +4,7 @@ use Rattle.std.specs.Prelude.{⊤}
 use Rattle.life_model.specs.Lives.{ReadsFull}
 use Rattle.life_model.specs.Own as Own
 use Rattle.link_model.specs.Frames as Link
-use Rattle.link_model.specs.Frames.{Ask, Gram, IsSent, in_ask}
+use Rattle.link_model.specs.Frames.{Ask, IsSent, in_ask}
 use Rattle.link_model.specs.Mails.{LinkMail}
 use Rattle.link_model.specs.Master.{InHalf, InState}
 use Rattle.passed_whole.specs.Led.{IsSingle, AreSingle}

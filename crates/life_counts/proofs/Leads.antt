@@ -4,11 +4,10 @@ use Rattle.exchange_model.specs.Exchange.{Speech}
 use Rattle.exchange_model.specs.Rows.{answer_after}
 use Rattle.life_model.specs.Lives.{Era, Life, era_after, returns_to_init, opens_state, reopening, reopens_at, reopens, passes}
 use Rattle.life_model.specs.Own as Own
-use Rattle.life_model.specs.Own.{own_fate, own_frame, blank}
 use Rattle.link_model.specs.Segment.{RingFate}
 use Rattle.passed_whole.specs.Led.{counted_news}
 use Rattle.segment_model.specs.Record as Record
-use Rattle.segment_model.specs.Record.{Frame, News, Kept, frame_news, kept_all, nothing_kept, mails_heard, did_read}
+use Rattle.segment_model.specs.Record.{News, mails_heard}
 use Rattle.segment_model.specs.Seats.{side_back, side_lost}
 use Rattle.segment_model.specs.Slaves.{Slave, Datagram, Ring}
 use Rattle.serving_model.specs.Tagged.{Tagged, untag}

@@ -6,7 +6,7 @@ use Rattle.exchange_model.specs.Rows.{Row, row_heard, answer_after}
 use Rattle.life_model.specs.Eras.{EraIs, era_frames}
 use Rattle.life_model.specs.Lives.{Spot, Era, Life, Stand, era_next, era_back, era_after, granted, passes}
 use Rattle.life_model.specs.Own as Own
-use Rattle.life_model.specs.Own.{own_fate, own_frame, blank}
+use Rattle.life_model.specs.Own.{own_fate, own_frame}
 use Rattle.link_model.specs.Frames.{all_accepted}
 use Rattle.link_model.specs.Segment.{RingFate}
 use Rattle.passed_whole.specs.Client.{ByContents}

@@ -1,5 +1,5 @@
 -- OF A SPEAKER: the exchange that sees what is meant by its mails keeps its laws, and an epoch that its master leads is seen so.
-use Rattle.std.proofs.Common.{◌≡◌, ℕ, Bool, true, Option, List, [], ◌∷◌}
+use Rattle.std.proofs.Common.{◌≡◌, ℕ, Bool, Option, List, [], ◌∷◌}
 use Rattle.exchange_model.specs.Exchange.{Exchange, IsLawful}
 use Rattle.life_model.specs.Eras.{planned}
 use Rattle.life_model.specs.Lives.{Spot, Era}

@@ -27,7 +27,7 @@ use Rattle.serving_model.specs.TaggedStates.{IsStatedServed, tagged_states, aske
 use Rattle.state_exchange.specs.Stated.{Stated, IsStated}
 use Rattle.state_model.specs.States.{Table, carry}
 use Rattle.task_model.specs.Accounts as Accounts
-use Rattle.task_model.specs.Accounts.{Account, Duty, Pick, Progress, account_met, account_by, account_back, access_done, duty_access}
+use Rattle.task_model.specs.Accounts.{Pick, duty_access}
 use Rattle.task_model.specs.Promise.{services_in}
 use Rattle.life_counts.specs.Epochs.{between}
 use Rattle.life_counts.specs.Foreseen.{AllRight}

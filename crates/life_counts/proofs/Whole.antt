@@ -1,5 +1,5 @@
 -- What a whole life has gained.
-use Rattle.std.proofs.Common.{◌≡◌, ℕ, ◌+◌, ◌≤◌, false, List, [], ◌∷◌, ◌++◌, take, length, refl, sym, ap, ◌∙◌, subst, arith}
+use Rattle.std.proofs.Common.{◌≡◌, ℕ, ◌+◌, ◌≤◌, false, List, [], ◌∷◌, take, length, refl, sym, ap, ◌∙◌, subst, arith}
 use Rattle.exchange_model.specs.Rows.{exec_all}
 use Rattle.link_mails.specs.Body.{Body}
 use Rattle.segment_model.specs.Record.{Frame}

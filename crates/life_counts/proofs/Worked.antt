@@ -1,5 +1,5 @@
 -- What a life has gained whose epochs are sessions.
-use Rattle.std.proofs.Common.{◌≡◌, ℕ, ◌+◌, ◌≤◌, List, [], ◌∷◌, ◌++◌, take, refl, sym, ap, ◌∙◌, subst, arith}
+use Rattle.std.proofs.Common.{◌≡◌, ℕ, ◌+◌, ◌≤◌, List, [], ◌∷◌, take, refl, sym, ap, ◌∙◌, subst, arith}
 use Rattle.exchange_model.specs.Exchange.{Exchange, IsLawful}
 use Rattle.exchange_model.specs.Rows.{exec_all}
 use Rattle.life_counts.specs.Begun.{era_most, eras_most, life_most, IsUnopened, AllUnopened, AreUnopened}

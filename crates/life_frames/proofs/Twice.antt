@@ -10,7 +10,7 @@ use Rattle.frame_view.specs.of_segment_model.Seats.{Side, Choice, is_over, is_no
 use Rattle.life_model.specs.of_state_exchange.Stated.{Service}
 use Rattle.frame_view.specs.of_segment_model.Ends.{Passing}
 use Rattle.life_model.specs.Lives
-use Rattle.life_model.specs.Lives.{Era, Life, granted, era_next, life_next, passing_begins}
+use Rattle.life_model.specs.Lives.{Era, Life, era_next, life_next, passing_begins}
 use Rattle.life_model.specs.of_task_model.Accounts.{Account, Duty, Pick, mails_choice, account_begins, account_next, is_free, is_acknowledged, starts, state_begins}
 
 module _ {Q R : Type 0} (x : Speech Body Q R) where

@@ -5,14 +5,13 @@ use Rattle.std.proofs.lemmas.Bool.{eq-eqb, ne_eqb}
 use Rattle.std.specs.List.{list_any}
 use Rattle.life_frames.specs.of_frame_view.View.{Lens}
 use Rattle.life_frames.specs.Shares as Shares
-use Rattle.life_frames.specs.Frames.{AreApart as Apart}
 use Rattle.life_frames.specs.of_life_model.Lives.{Spot}
 use Rattle.master_hand.specs.of_segment_plan.Sound.{repeated_from, is_same_station}
 use Rattle.master_hand.specs.of_segment_plan.declared.service.Service as Service
 use Rattle.master_hand.specs.of_segment_plan.declared.slave.SlaveSpec.{SlaveSpec}
 use Rattle.std.specs.Prelude.{map, ◌<◌}
 use Rattle.life_runs.specs.Led.{Leads}
-use Rattle.life_runs.specs.First.{lens_of, spot_of, script_for, leads_from, IsElsewhere, AreApart, HaveLens}
+use Rattle.life_runs.specs.First.{lens_of, spot_of, leads_from, IsElsewhere, AreApart, HaveLens}
 
 -- a station that isn't among those before
 any_false : (t b : SlaveSpec) (xs ys : List SlaveSpec) → list_any (is_same_station t) (xs ++ b ∷ ys) ≡ false → (b.station == t.station) ≡ false

@@ -1,6 +1,5 @@
 -- A step of the processor is the same for a server and for what is seen of it.
-use Rattle.std.proofs.Common.{◌≡◌, Bool, is_none, ◌&&◌, Option, List, [], ◌∷◌, refl, ap, sym, ◌∙◌}
-use Rattle.link_model.specs.Mails.{LinkMail}
+use Rattle.std.proofs.Common.{◌≡◌, is_none, ◌&&◌, List, [], ◌∷◌, refl, ap, ◌∙◌}
 use Rattle.link_model.specs.Slave.{Node, Server, SeenAs, node_seen, served, mail_taken, offers, mail_offered, all_taken, all_given, is_free, node_look, node_take, node_takes, node_offer, node_offers, processor_step}
 
 seen_taken : {B S T : Type 0} (v : Server B S) (u : Server B T) (f : S → T) → SeenAs v u f → (s : S) (xs : List B) → f (all_taken v s xs) ≡ all_taken u (f s) xs

@@ -1,5 +1,5 @@
 -- Halves that are kept in a place of their own, and what they read without a copy.
-use Rattle.std.specs.Prelude.{◌≡◌, Ok, ℕ, Option, Some, None, Bool, if◌then◌else◌, option_map, List, length, replicate, ◌≤◌, ⊤}
+use Rattle.std.specs.Prelude.{◌≡◌, Ok, ℕ, Option, Some, None, option_map, List, length, replicate, ◌≤◌, ⊤}
 use Rattle.mailbox_mail.specs.declared.mail.Kind.{Kind}
 use Rattle.mailbox_mail.specs.declared.mail.Mail.{Mail}
 use Rattle.mailbox_mail.specs.Area.{mail_area}

@@ -1,5 +1,5 @@
 -- The steps of the link agreement that the halves make, whatever slave and mails they agree with.
-use Rattle.std.specs.Prelude.{◌≡◌, ℕ, Bool, false, None, List, [], ◌∷◌, ◌++◌}
+use Rattle.std.specs.Prelude.{◌≡◌, ℕ, false, None, List, [], ◌∷◌, ◌++◌}
 use Rattle.mailbox_mail.specs.Mail.{mail_read}
 use Rattle.link_model.specs.Mails.{LinkMail}
 use Rattle.link_model.specs.Master.{OutHalf, InHalf}

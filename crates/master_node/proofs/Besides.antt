@@ -14,7 +14,7 @@ use Rattle.master_tour.specs.Orders.{AreOnce}
 use Rattle.master_tour.specs.Walks.{StepsAt}
 use Rattle.master_tour.specs.declared.stop.Stop.{Stop}
 use Rattle.master_tour.specs.declared.stop.Turned.{Turned}
-use Rattle.master_node.specs.Besides.{Does, DoesAt, DoesSo, TellsAll, answers, back_does, back_told, by_stop, does_at, given_told, is_state, passed_where, stays, then_does}
+use Rattle.master_node.specs.Besides.{Does, DoesAt, DoesSo, TellsAll, answers, back_does, by_stop, does_at, given_told, is_state, passed_where, stays, then_does}
 use Rattle.master_node.specs.Answered.{answer_at, answer_behind, answer_on}
 use Rattle.master_node.specs.Downs.{is_given_up}
 use Rattle.master_node.specs.Handed.{work_at}

@@ -2,7 +2,6 @@
 use Rattle.std.proofs.Common.{◌≡◌, ◌==◌, ℕ, suc, Bool, true, false, Option, None, Some, List, [], ◌∷◌, ◌++◌, ◌+◌, refl, sym, ap, ◌∙◌, subst, arith, length}
 use Rattle.std.specs.Prelude.{◌&&◌, is_some, nat_lt, map, if◌then◌else◌}
 use Rattle.std.proofs.lemmas.Bool.Decides.{nat_tests}
-use Rattle.life_runs.specs.Led.{Comes}
 use Rattle.life_runs.specs.of_life_frames.Shares.{given_where}
 use Rattle.master_duty.specs.Reply.{Reply}
 use Rattle.master_duty.specs.of_exchange_model.Exchange.{Speech}
@@ -12,9 +11,7 @@ use Rattle.master_duty.specs.of_segment_model.Slaves.{Datagram, Found}
 use Rattle.master_duty.specs.of_state_exchange.Stated.{Service}
 use Rattle.master_duty.specs.of_task_model.Accounts as Accounts
 use Rattle.master_duty.specs.of_task_model.Accounts.{Account, Pick, account_back}
-use Rattle.master_hand.specs.Spoken.{Asked, acknowledged, is_followed, is_passed, net}
-use Rattle.master_hand.specs.Talk.{asked_of}
-use Rattle.master_hand.specs.of_eoe_model.Client as EoeClient
+use Rattle.master_hand.specs.Spoken.{Asked, acknowledged, is_followed, is_passed}
 use Rattle.master_side.specs.Passing.{news_lost}
 use Rattle.master_side.specs.Shown.{started_by}
 use Rattle.master_side.specs.of_link_mails.Body.{Body}

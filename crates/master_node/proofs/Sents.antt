@@ -5,18 +5,16 @@ use Rattle.std.proofs.lemmas.Bool.{ne_eqb}
 use Rattle.std.specs.List.{list_any}
 use Rattle.datagrams.specs.Datagram as Raw
 use Rattle.datagrams.specs.Frame.{IsFrame, MoreButLast, chained}
-use Rattle.master_duty.specs.of_exchange_model.Exchange.{Speech}
 use Rattle.life_runs.specs.of_frame_view.View.{Lens, datagram_seen}
 use Rattle.life_runs.specs.of_frame_view.Seen.{seen, datagrams_seen}
 use Rattle.life_runs.proofs.of_frame_view.Octets.{seen_is, seen_chained}
 use Rattle.life_runs.specs.of_life_frames.Frames.{AreApart}
 use Rattle.life_runs.specs.of_life_frames.Shares.{Lived, AllFrom, AllBoth, AllThree, IsElsewhere, AreDistinct}
 use Rattle.master_tour.specs.of_life_model.Lives
-use Rattle.master_tour.specs.of_life_model.Lives.{Life, Spot, life_next}
+use Rattle.master_tour.specs.of_life_model.Lives.{Spot}
 use Rattle.life_runs.specs.Led.{Leads, Turn, Comes, Took, IsTurn, AllTurn, speech_at}
-use Rattle.master_side.specs.of_link_mails.Body.{Body}
 use Rattle.master_duty.specs.Reply.{Reply}
-use Rattle.master_hand.specs.Spoken.{Asked, net, acknowledged, is_followed, is_passed}
+use Rattle.master_hand.specs.Spoken.{Asked, acknowledged, is_followed, is_passed}
 use Rattle.master_hand.specs.declared.hand.InHand.{InHand}
 use Rattle.master_side.specs.Shown.{started_by}
 use Rattle.master_side.specs.declared.hand.Hand.{Ghosts}
@@ -28,10 +26,8 @@ use Rattle.master_tour.specs.declared.stop.Stand.{Stand}
 use Rattle.master_tour.specs.declared.stop.Stop.{Stop}
 use Rattle.master_tour.proofs.Unpassed.{unpassed_next}
 use Rattle.mailbox_master.specs.Any.{in_area_len}
-use Rattle.master_hand.specs.of_eoe_model.Client as EoeClient
-use Rattle.segment_plan.specs.declared.service.Service as Plan
 use Rattle.master_duty.specs.of_state_exchange.Stated.{Service}
-use Rattle.master_duty.specs.of_task_model.Accounts.{Account, Pick}
+use Rattle.master_duty.specs.of_task_model.Accounts.{Account}
 use Rattle.master_node.specs.Rooms.{FitAgain}
 use Rattle.master_node.specs.Begins.{begun_for, begun_of}
 use Rattle.master_node.specs.Filling.{IsAmong}

@@ -1,5 +1,5 @@
 -- How far a mail that is passed on has come behind a frame that came back: one that came no step on is still in hand.
-use Rattle.std.proofs.Common.{◌≡◌, ℕ, suc, Bool, true, Option, List, [], ◌∷◌, refl, sym, ap, ◌∙◌, subst}
+use Rattle.std.proofs.Common.{◌≡◌, ℕ, Bool, Option, List, [], ◌∷◌, refl, sym, ap, ◌∙◌, subst}
 use Rattle.std.specs.Prelude.{is_some, map}
 use Rattle.life_runs.specs.Led.{Exchanged, speech_at}
 use Rattle.life_runs.specs.of_frame_view.Seen.{seen}
@@ -11,7 +11,7 @@ use Rattle.master_duty.specs.of_segment_model.Ends as Ends
 use Rattle.master_hand.specs.Shown.{awaits_reply}
 use Rattle.master_hand.specs.Spoken.{Asked}
 use Rattle.master_hand.specs.declared.hand.InHand.{InHand}
-use Rattle.master_side.specs.Passing.{news_back, passing_seen}
+use Rattle.master_side.specs.Passing.{news_back}
 use Rattle.master_side.specs.declared.hand.Hand.{Ghosts}
 use Rattle.master_side.specs.of_link_mails.Body.{Body}
 use Rattle.master_tour.specs.Passing.{StandPassing}

@@ -14,12 +14,11 @@ use Rattle.master_hand.specs.Shown.{Shows, awaits_reply, knows}
 use Rattle.master_hand.specs.Spoken.{Asked, acknowledged, is_followed, is_passed}
 use Rattle.master_hand.specs.declared.hand.InHand.{InHand}
 use Rattle.master_hand.specs.declared.laying.Laid.{Laid}
-use Rattle.master_side.specs.Passing.{passing_behind, passing_seen}
+use Rattle.master_side.specs.Passing.{passing_behind}
 use Rattle.master_side.specs.Recall.{BeginsNone}
 use Rattle.master_side.specs.Shown.{SideShows, wish_begun}
 use Rattle.master_side.specs.declared.carried.Wish.{Wish}
 use Rattle.master_side.specs.declared.hand.Hand.{Ghosts}
-use Rattle.master_side.specs.declared.passing.Passing.{Passing}
 use Rattle.master_side.specs.of_link_mails.Body.{Body}
 use Rattle.master_tour.specs.Made.{is_in}
 use Rattle.master_tour.specs.Recalls.{BeginsAll as Begins}

@@ -1,5 +1,5 @@
 -- A SLAVE OF WHICH A FRAME HAD NOTHING has in hand behind it what it had; and so what each post has in hand behind a frame that came back is what its slave's life has.
-use Rattle.std.proofs.Common.{◌≡◌, ℕ, Bool, true, false, Option, Some, None, List, [], ◌++◌, refl, sym, ap, ◌∙◌, subst, append-nil}
+use Rattle.std.proofs.Common.{◌≡◌, ℕ, Bool, true, false, Option, Some, None, List, [], refl, sym, ap, ◌∙◌, subst, append-nil}
 use Rattle.std.specs.Prelude.{◌&&◌, nat_le, option_map, if◌then◌else◌}
 use Rattle.life_runs.specs.Led.{speech_at}
 use Rattle.life_runs.specs.of_frame_view.Seen.{seen}

@@ -42,7 +42,7 @@ use Rattle.master_tour.specs.declared.stop.Stand.{Stand}
 use Rattle.master_tour.specs.declared.stop.Stop.{Stop}
 use Rattle.master_node.proofs.Asking.{AreFor, seen_for}
 use Rattle.master_node.proofs.Lefts.{in_first}
-use Rattle.master_node.specs.Eager.{AllVisit, AsksVisit, AsksSo, EachSo, Recall, VisitAsks, next_visit, recall_of, stage_visit, turn_visit}
+use Rattle.master_node.specs.Eager.{AllVisit, AsksVisit, AsksSo, EachSo, Recall, VisitAsks, next_visit, recall_of, stage_visit}
 use Rattle.master_node.specs.Rooms.{FitFrom, HoldsAt, IsSentStop, len_in}
 use Rattle.master_node.specs.ServedEager.{AllServedAsk, ServedVisitAsks, mail_visit, served_visit, visit_next}
 use Rattle.master_node.specs.Shows.{IsOnFrame, IsUnder, side_shows}

@@ -1,5 +1,5 @@
 -- What a side remembers of its visits goes on as it was where a service comes into hand.
-use Rattle.std.proofs.Common.{◌≡◌, true, false, Bool, Option, Some, None, refl, sym, ap, ◌∙◌}
+use Rattle.std.proofs.Common.{◌≡◌, true, false, Bool, Option, Some, None, refl, sym, ◌∙◌}
 use Rattle.std.specs.Prelude.{is_some, ◌&&◌, ◌||◌}
 use Rattle.master_duty.specs.declared.stage.Met.{Met}
 use Rattle.master_side.specs.Carried.{in_hand}

@@ -10,7 +10,7 @@ use Rattle.frame_view.specs.of_segment_model.Seats
 use Rattle.frame_view.specs.of_segment_model.Seats.{Side, next_mail, side_holds, side_next}
 use Rattle.master_duty.specs.of_state_exchange.Stated.{Service}
 use Rattle.master_duty.specs.of_task_model.Accounts
-use Rattle.master_duty.specs.of_task_model.Accounts.{Account, Started, Pick, mails_choice, mails_begin, account_begins, account_next}
+use Rattle.master_duty.specs.of_task_model.Accounts.{Account, Started, mails_choice, mails_begin, account_begins, account_next}
 use Rattle.mailbox_master.specs.declared.halves.InwardHalf.{InwardHalf}
 use Rattle.mailbox_master.specs.Links.{OutLink}
 use Rattle.mailbox_master.specs.Any.{in_half_of}

@@ -9,7 +9,7 @@ use Rattle.life_frames.specs.of_segment_model.Seats.{Side}
 use Rattle.life_frames.specs.of_state_exchange.Stated.{Service}
 use Rattle.life_frames.specs.of_task_model.Accounts.{Account, Duty, Started, Pick, is_free, is_acknowledged, account_begins, account_next, starts, state_begins}
 use Rattle.life_frames.specs.of_life_model.Lives
-use Rattle.life_frames.specs.of_life_model.Lives.{Life, granted, era_next, life_next, passing_begins}
+use Rattle.life_frames.specs.of_life_model.Lives.{Life, granted, life_next}
 use Rattle.master_side.specs.of_master_duty.Reply.{Reply}
 use Rattle.master_side.specs.Shown.{started_by}
 use Rattle.master_tour.specs.Stands.{Counts}

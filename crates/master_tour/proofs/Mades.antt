@@ -19,7 +19,7 @@ use Rattle.master_side.specs.of_master_duty.Reply.{Reply}
 use Rattle.master_side.specs.declared.carried.Carried.{Carried}
 use Rattle.master_side.specs.declared.passing.Passing as Side
 use Rattle.life_frames.specs.of_life_model.Lives
-use Rattle.life_frames.specs.of_life_model.Lives.{Life, Era, Spot, life_next, era_next, passing_begins}
+use Rattle.life_frames.specs.of_life_model.Lives.{Life, Spot, life_next, era_next}
 use Rattle.life_frames.specs.Frames.{AllNotFor, IsNotFor, HasOne, AreApart}
 use Rattle.life_frames.specs.Shares.{Lived, AllBoth, AllFrom, AllThree}
 use Rattle.master_tour.specs.Walks.{EachPair}

@@ -14,7 +14,7 @@ use Rattle.life_frames.specs.of_segment_model.Record.{News}
 use Rattle.life_frames.specs.of_segment_model.Seats.{Side}
 use Rattle.life_frames.specs.of_task_model.Accounts.{Account, new_account}
 use Rattle.life_frames.specs.of_life_model.Lives
-use Rattle.life_frames.specs.of_life_model.Lives.{Opening, Life, Era, Spot, is_shown, opening_back, opens, new_era, life_back}
+use Rattle.life_frames.specs.of_life_model.Lives.{Opening, Life, Spot, is_shown, opening_back, opens, new_era, life_back}
 use Rattle.life_frames.specs.of_frame_view.View.{found_of, state_found}
 use Rattle.master_side.specs.of_master_duty.Reply.{Reply}
 use Rattle.master_side.specs.Shown.{new_side}

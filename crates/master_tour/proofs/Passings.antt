@@ -8,7 +8,7 @@ use Rattle.life_frames.specs.of_exchange_model.Exchange.{Speech}
 use Rattle.life_frames.specs.of_frame_view.View.{Lens, station_of}
 use Rattle.life_frames.specs.of_frame_view.Seen.{part_seen}
 use Rattle.life_frames.specs.of_life_model.Lives
-use Rattle.life_frames.specs.of_life_model.Lives.{Life, Era, Spot, granted, passing_begins, passes, opening_back, opens, new_era, reopens, reopens_at, returns_to_init, reopening, opens_state, era_back, life_next, life_back, life_lost, gives_up}
+use Rattle.life_frames.specs.of_life_model.Lives.{Life, Spot, granted, passing_begins, passes, opening_back, opens, new_era, reopens, reopens_at, returns_to_init, reopening, opens_state, era_back, life_next, life_back, life_lost}
 use Rattle.life_frames.specs.of_link_mails.Body.{Body}
 use Rattle.life_frames.specs.of_link_model.Link.{Halves}
 use Rattle.life_frames.specs.of_segment_model.Ends as Ends

@@ -9,7 +9,7 @@ use Rattle.life_frames.specs.of_segment_model.Slaves.{Datagram, Found}
 use Rattle.life_frames.specs.of_state_exchange.Stated.{Service}
 use Rattle.life_frames.specs.of_task_model.Accounts.{Account, Duty, Stage, Pick, account_next}
 use Rattle.life_frames.specs.of_life_model.Lives
-use Rattle.life_frames.specs.of_life_model.Lives.{Life, Opening, Spot, granted, passing_begins, passes, opening_back, clears, opens, steps_on, shows_clear, last_step, is_shown, reopens, reopens_at, returns_to_init, reopening, opens_state, life_next, era_back, life_back, life_lost, gives_up}
+use Rattle.life_frames.specs.of_life_model.Lives.{Life, Opening, Spot, granted, passing_begins, passes, opening_back, clears, opens, steps_on, shows_clear, last_step, is_shown, reopens, reopens_at, returns_to_init, reopening, opens_state, life_next, era_back, life_back, life_lost}
 use Rattle.life_frames.specs.Frames.{Share}
 use Rattle.life_frames.specs.Shares.{Lived, given_where, came_at, lived_back, lived_lost}
 use Rattle.master_side.specs.of_master_duty.Reply.{Reply}

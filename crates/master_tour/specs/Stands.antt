@@ -20,7 +20,7 @@ use Rattle.master_side.specs.Carried.{Meant}
 use Rattle.master_side.specs.Sent.{visit_gram, no_gram}
 use Rattle.master_side.specs.Shown.{started_by}
 use Rattle.life_frames.specs.of_life_model.Lives
-use Rattle.life_frames.specs.of_life_model.Lives.{Opening, Era, Life, Spot, life_next, gives_up}
+use Rattle.life_frames.specs.of_life_model.Lives.{Opening, Era, Life, Spot, life_next}
 pub use Rattle.life_frames.specs.Openings.{step_number, has_step, opening_of}
 pub use Rattle.life_frames.specs.Shares.{came_of, came_at, given_where}
 use Rattle.life_frames.specs.of_frame_view.View.{Lens, datagram_seen, found_of}

@@ -3,7 +3,7 @@ use Rattle.std.proofs.Common.{◌≡◌, inl, inr, ℕ, zero, suc, Bool, List, [
 use Rattle.std.specs.Prelude.{drop, length}
 use Rattle.exchange_model.specs.Prefix.{IsPrefixOf}
 use Rattle.exchange_model.specs.Exchange.{given, plain}
-use Rattle.exchange_model.specs.Dialogue.{Turn, next, again, stop, chosen, first_turn, turn_at, rest_at, said, sent, Decides}
+use Rattle.exchange_model.specs.Dialogue.{Turn, next, again, stop, chosen, turn_at, rest_at, said, sent, Decides}
 use Rattle.exchange_model.proofs.Lists.{append_none, cut, drop_past}
 use Rattle.exchange_model.proofs.Words.{plain-append}
 use Rattle.never_waits.proofs.Dialogues.{turn_more}

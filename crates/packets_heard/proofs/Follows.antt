@@ -13,7 +13,7 @@ use Rattle.eoe_switch.specs.declared.port.Route.{Route}
 use Rattle.eoe_switch.specs.declared.switching.SwitchEvent.{SwitchEvent}
 use Rattle.eoe_switch.specs.declared.switching.SwitchEvent.TheVariants.{Arrive, Begun, Down}
 use Rattle.master_node.specs.Begins as Begins
-use Rattle.master_node.specs.Begins.{switch_on, switch_behind, oldest_at, taken_by, taken_in}
+use Rattle.master_node.specs.Begins.{switch_on, switch_behind, taken_by, taken_in}
 use Rattle.packets_heard.specs.Over.{forwarded_to}
 
 abbrev Packets : Type 0

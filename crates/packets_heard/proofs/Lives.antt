@@ -7,7 +7,7 @@ use Rattle.frame_view.specs.Seen.{seen}
 use Rattle.life_frames.specs.Frames.{FrameFor}
 use Rattle.life_frames.specs.Shares.{came_at, given_where}
 use Rattle.life_model.specs.Lives as Lives
-use Rattle.life_model.specs.Lives.{Life, Opening, Spot, Stand, life_next, life_back, life_lost, opening_back, shows_clear, last_step, is_shown, clears, opens, reopens, reopens_at, returns_to_init, era_back, reopening}
+use Rattle.life_model.specs.Lives.{Life, Opening, Stand, life_back, life_lost, opening_back, shows_clear, last_step, is_shown, clears, opens, reopens, reopens_at, returns_to_init, era_back}
 use Rattle.life_runs.specs.Led.{Exchanged, Leads, Turn, AllTurn, speech_at, life_behind, led_behind, is_passed}
 use Rattle.link_mails.specs.Body.{Body}
 use Rattle.master_duty.specs.Reply.{Reply}

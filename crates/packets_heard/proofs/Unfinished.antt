@@ -1,9 +1,8 @@
 -- What is unfinished of the slaves' packets, before a frame, while it is under way, and behind it.
-use Rattle.std.proofs.Common.{◌≡◌, ℕ, suc, Option, None, List, [], ◌∷◌, map, length, refl, sym, ap, subst, ◌∙◌, arith}
+use Rattle.std.proofs.Common.{◌≡◌, ℕ, Option, None, List, [], ◌∷◌, map, length, refl, sym, ap, subst, ◌∙◌, arith}
 use Rattle.datagrams.specs.Datagram as Raw
 use Rattle.eoe.specs.declared.joining.Unfinished.{Unfinished}
 use Rattle.frame_view.specs.View.{Lens}
-use Rattle.life_frames.specs.Shares.{AllThree}
 use Rattle.life_model.specs.Lives.{Life, Stand}
 use Rattle.life_runs.specs.Led.{Exchanged, Leads, Turn, AllTurn, speech_at, is_passed}
 use Rattle.link_mails.specs.Body.{Body}

@@ -4,7 +4,7 @@ use Rattle.std.proofs.lemmas.List.{length-map, drop-map}
 use Rattle.exchange_model.specs.Exchange.{Speech, plain}
 use Rattle.exchange_model.specs.Rows.{Row, begun, row_heard, row_told, answer_after, left}
 use Rattle.link_model.specs.Mails.{LinkMail, is_repeat, news, seen}
-use Rattle.link_model.specs.Master.{out_hold, out_answered, read_answered, doubt_answered, asked_answered, read_lost}
+use Rattle.link_model.specs.Master.{out_hold}
 use Rattle.link_model.specs.Link.{Halves}
 use Rattle.link_model.specs.Frames.{Ask, Gram, mail_back, halves_answered, halves_accept, halves_lost, halves_after, all_accepted, halves_without}
 use Rattle.segment_model.specs.Slaves.{Datagram, Found, grams}

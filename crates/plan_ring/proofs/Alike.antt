@@ -1,5 +1,5 @@
 -- TWO CLIENTS THAT SPEAK ALIKE lead a life alike: its choices and frames make the same of it.
-use Rattle.std.proofs.Common.{◌≡◌, ℕ, ◌==◌, ◌&&◌, Bool, true, false, List, [], ◌∷◌, ◌++◌, refl, ap, ap₂, sym, ◌∙◌, subst}
+use Rattle.std.proofs.Common.{◌≡◌, ℕ, ◌==◌, ◌&&◌, Bool, true, false, List, [], ◌∷◌, ◌++◌, refl, ap, ap₂, ◌∙◌, subst}
 use Rattle.std.specs.Prelude.{if◌then◌else◌, not, Option, Some, None, option_map, is_some, is_none, drop, length}
 use Rattle.exchange_model.specs.Exchange.{Speech, plain}
 use Rattle.exchange_model.specs.Rows.{Row, begun, answer_after, row_heard, row_told, left}
@@ -11,7 +11,7 @@ use Rattle.segment_model.specs.Seats.{Side, Choice, is_over, is_none_left, side_
 use Rattle.segment_model.specs.Slaves.{Datagram, Found, grams}
 use Rattle.state_exchange.specs.Stated.{Service}
 use Rattle.task_model.specs.Accounts.{Pick, Duty, Account, mails_begin, mails_choice, is_free, is_acknowledged, account_begins, account_next, starts, state_begins, Stage}
-use Rattle.life_model.specs.Lives.{Spot, Life, Era, Stand, Opening, granted, passing_begins, era_next, era_back, era_lost, life_next, life_back, life_lost, passes, reopens, reopens_at, reopening, returns_to_init, opens_state, opening_back, clears, opens, steps_on, shows_clear, last_step, is_shown, new_era}
+use Rattle.life_model.specs.Lives.{Spot, Life, Era, Stand, granted, passing_begins, era_next, era_back, era_lost, life_next, life_back, life_lost, passes, reopens, reopens_at, reopening, returns_to_init, opens_state, clears, opens, steps_on, shows_clear, last_step, is_shown}
 use Rattle.life_model.specs.Own.{own}
 use Rattle.plan_ring.specs.Alike.{Alike, RowIs, WishIs, InHandIs}
 

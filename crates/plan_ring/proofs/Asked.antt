@@ -8,7 +8,6 @@ use Rattle.plan_ring.proofs.Named.{named_law}
 use Rattle.slave_parts.specs.of_exchange_sum.Refusing.{Refusal, gated}
 use Rattle.slave_parts.specs.of_foe_model.Meaning as FoeMeaning
 use Rattle.slave_parts.specs.of_eoe_model.Network.{Station}
-use Rattle.life_runs.specs.of_master_duty.Reply as Master
 use Rattle.life_runs.specs.of_master_hand.Spoken.{Asked, sdo, file, drive, net, passed, hand_speech, acknowledged}
 use Rattle.slave_parts.specs.of_state_exchange.Families.{InState, states_of}
 use Rattle.slave_parts.specs.of_slave_model.Acknowledged as Slave

@@ -1,5 +1,5 @@
 -- One slave of the ring, and all of them.
-use Rattle.std.proofs.Common.{◌≡◌, ℕ, suc, ◌+◌, ◌<◌, Bool, Option, Some, None, List, [], ◌∷◌, ◌++◌, map, length, refl, ap, ap₂, sym, ◌∙◌, subst, arith}
+use Rattle.std.proofs.Common.{◌≡◌, ℕ, suc, ◌+◌, ◌<◌, Bool, Option, Some, List, [], ◌∷◌, ◌++◌, map, length, refl, ap, sym, ◌∙◌, subst, arith}
 use Rattle.datagrams.specs.Datagram as Raw
 use Rattle.datagrams.specs.Frame.{IsFrame, chained}
 use Rattle.frame_view.specs.Seen.{seen}
@@ -9,13 +9,12 @@ use Rattle.life_measure.specs.Repairs.{way_of}
 use Rattle.life_model.specs.Lives.{Spot, Life, Era, Opening, Stand, life_next}
 use Rattle.life_model.specs.Own.{own}
 use Rattle.link_mails.specs.Body.{Body}
-use Rattle.run_frames.specs.Answers.{EachAsks, EachAnswers, OpeningAnswers}
+use Rattle.run_frames.specs.Answers.{EachAsks, EachAnswers}
 use Rattle.run_frames.specs.Goes.{is_same, stepped_behind}
 use Rattle.segment_model.specs.Record.{Frame}
 use Rattle.segment_model.specs.Slaves.{Datagram, Found}
 use Rattle.segment_ring.specs.Ring.{RingState, ring_returned}
-use Rattle.segment_ring.specs.declared.wire.Fate.{Fate}
-use Rattle.segment_ring.specs.declared.wire.Fate.TheVariants.{Pass, Lost}
+use Rattle.segment_ring.specs.declared.wire.Fate.TheVariants.{Pass}
 use Rattle.plan_ring.specs.Stands.{StandsTo, CameFirst}
 use Rattle.plan_ring.proofs.Answering as Answering
 use Rattle.plan_ring.proofs.SlaveTurns as Clocks
@@ -24,10 +23,8 @@ use Rattle.slave_lives.specs.Rings.{come_to, fate_seen, is_met_at, met, turned}
 use Rattle.slave_lives.specs.Seats.{AllMeet}
 use Rattle.slave_lives.proofs.AllSeats.{all_meet_first}
 use Rattle.slave_steps.specs.Node.{Node, node_passed}
-use Rattle.frame_pass.specs.Passing.{datagrams_after}
 use Rattle.whole_ring.specs.Turns as Whole
-use Rattle.whole_ring.specs.Turns.{Came}
-use Rattle.whole_ring.specs.Whole.{StandsAs, OpensAs}
+use Rattle.whole_ring.specs.Whole.{StandsAs}
 use Rattle.whole_ring.specs.Members.{Member, MemberIs, AllLived, IsRing}
 use Rattle.whole_ring.specs.Turning.{Turn, TurnsFor, AllTurn, frame_at, next_life, life_by, behind_frame}
 use Rattle.whole_ring.proofs.Members as Members

@@ -1,12 +1,11 @@
 -- An open slave, by a frame: where the acknowledge of the repeat request is awaited, the request stands.
-use Rattle.std.proofs.Common.{◌≡◌, ℕ, ◌==◌, ◌&&◌, Bool, true, false, Option, Some, None, List, [], ◌∷◌, ◌++◌, refl, sym, ap, ◌∙◌, subst, if◌then◌else◌, length}
+use Rattle.std.proofs.Common.{◌≡◌, ℕ, ◌==◌, ◌&&◌, Bool, true, false, Some, List, [], ◌∷◌, refl, sym, ap, ◌∙◌, subst, if◌then◌else◌, length}
 use Rattle.datagrams.specs.Datagram as Raw
 use Rattle.datagrams.specs.declared.command.Command.{Command}
 use Rattle.datagrams.specs.declared.command.Command.TheVariants.{Aprd, Apwr, Aprw, Fprd, Fpwr, Fprw}
 use Rattle.esc_registers.specs.Access.{is_by_station}
 use Rattle.esc_registers.specs.declared.registers.Registers as Esc
 use Rattle.exchange_model.specs.Exchange.{Speech}
-use Rattle.exchange_model.specs.Rows.{Row, begun}
 use Rattle.frame_pass.specs.Passing.{registers_after, datagrams_after}
 use Rattle.frame_view.specs.Seen.{seen, datagrams_seen}
 use Rattle.frame_view.specs.View.{Lens, station_of}
@@ -28,7 +27,7 @@ use Rattle.link_model.specs.Master.{InHalf, InState}
 use Rattle.link_model.specs.Slave.{Node}
 use Rattle.mailbox_slave.specs.Node.{node_of, in_side}
 use Rattle.segment_model.specs.Record.{Frame, News}
-use Rattle.segment_model.specs.Seats.{Side, side_begins, side_holds, side_next, is_over, Choice, next_mail}
+use Rattle.segment_model.specs.Seats.{Side, side_begins, side_next, Choice, next_mail}
 use Rattle.segment_model.specs.Slaves.{Datagram, Serving, Slave, grams, slave_after, slave_meets, frame_after}
 use Rattle.segment_ring.specs.Ring.{is_in_pace}
 use Rattle.segment_ring.specs.declared.wire.Fate.{Fate}

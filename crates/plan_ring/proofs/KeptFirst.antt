@@ -7,7 +7,7 @@ use Rattle.slave_steps.specs.Node.{Node}
 use Rattle.life_model.specs.Book.{SlaveBook}
 use Rattle.life_model.specs.Eras.{Clearing}
 use Rattle.life_model.specs.Lives.{Spot, Life, Era, Stand}
-use Rattle.book_model.specs.Chain.{Epoch, booked, leaves, behind_clear, Written, Chained, AreLeft, AllBegin}
+use Rattle.book_model.specs.Chain.{Epoch, booked, behind_clear, Written, Chained, AreLeft, AllBegin}
 use Rattle.book_model.specs.Answers.{between}
 use Rattle.book_model.specs.Open.{Setting, Begun, IsOpenLife, IsIdle}
 use Rattle.slave_lives.specs.Ends.{LeftEras}

@@ -1,6 +1,5 @@
 -- FRAME BY FRAME, from the switch on.
-use Rattle.std.proofs.Common.{◌≡◌, ℕ, suc, Bool, List, [], ◌∷◌, ◌++◌, map, length, refl, ap, sym, ◌∙◌, subst}
-use Rattle.std.specs.Prelude.{All}
+use Rattle.std.proofs.Common.{◌≡◌, ℕ, suc, Bool, List, [], ◌∷◌, ◌++◌, map, length, refl, sym, ◌∙◌, subst}
 use Rattle.std.proofs.lemmas.List.{length-map, map-append}
 use Rattle.life_runs.specs.of_datagrams.Datagram as Raw
 use Rattle.life_runs.specs.of_datagrams.Frame.{IsFrame, chained}
@@ -8,23 +7,20 @@ use Rattle.life_runs.specs.of_frame_view.View.{Lens}
 use Rattle.life_runs.specs.of_frame_view.Seen.{seen}
 use Rattle.life_runs.specs.First.{lens_of, first_leads, leads_from}
 use Rattle.life_runs.specs.Led as Led
-use Rattle.life_runs.specs.Led.{Exchanged, Leads, Turn, IsLed, IsLedFrame, is_passed, gives_up_at, missed_behind}
+use Rattle.life_runs.specs.Led.{Exchanged, Leads, Turn, IsLed, IsLedFrame, is_passed, gives_up_at}
 use Rattle.life_runs.specs.of_link_mails.Body.{Body}
 use Rattle.life_runs.specs.of_master_hand.Spoken.{Asked, is_followed}
-use Rattle.plan_ring.specs.Master as Master
 use Rattle.plan_ring.specs.Master.{AllLed, AllUnder, Under, AllBehind, GoesOn}
 use Rattle.plan_ring.specs.Plan.{PlanMember, FitsPlan, AllMacs, members_of, new_members, step}
 use Rattle.slave_parts.specs.of_segment_model.Record.{Frame}
 use Rattle.life_runs.specs.of_segment_plan.Sound as Plan
 use Rattle.life_runs.specs.of_segment_plan.declared.plan.Scenario.{Scenario}
 use Rattle.life_runs.specs.of_segment_plan.declared.slave.SlaveSpec.{SlaveSpec}
-use Rattle.life_runs.specs.of_segment_plan.declared.service.Service as Script
-use Rattle.life_runs.specs.of_segment_ring.declared.wire.Fate.{Fate}
 use Rattle.life_runs.specs.of_segment_ring.Ring.{RingState}
 use Rattle.life_runs.specs.of_segment_ring.Schedule.{fate_at}
 use Rattle.slave_lives.specs.Rings.{fate_seen}
 use Rattle.slave_server.specs.Serving.{Serving}
-use Rattle.slave_steps.specs.Node.{Node, node_passed}
+use Rattle.slave_steps.specs.Node.{Node}
 use Rattle.whole_ring.specs.Members.{IsRing, first_ring}
 use Rattle.whole_ring.specs.Turning.{frame_at}
 use Rattle.plan_ring.specs.Lives.{IsKnown, AllShown, AreLived}

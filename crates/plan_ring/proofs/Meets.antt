@@ -1,13 +1,13 @@
 -- What a frame that came back was for each of them.
-use Rattle.std.proofs.Common.{◌≡◌, ℕ, suc, Bool, List, [], ◌∷◌, ◌++◌, map, length, refl, sym, ap, ◌∙◌, subst, if◌then◌else◌}
+use Rattle.std.proofs.Common.{◌≡◌, ℕ, suc, List, [], ◌∷◌, ◌++◌, map, length, refl, sym, ap, ◌∙◌, subst, if◌then◌else◌}
 use Rattle.std.proofs.lemmas.List.{length-map}
 use Rattle.datagrams.specs.Frame.{chained}
 use Rattle.frame_view.specs.Seen.{seen}
 use Rattle.frame_view.specs.View.{Lens}
 use Rattle.life_frames.specs.Shares.{Lived}
-use Rattle.life_model.specs.Lives.{Spot, Stand, Life}
+use Rattle.life_model.specs.Lives.{Spot}
 use Rattle.life_model.specs.Own.{own}
-use Rattle.life_runs.specs.First.{lens_of, spot_of}
+use Rattle.life_runs.specs.First.{lens_of}
 use Rattle.life_runs.specs.Led.{Exchanged, Leads, Turn, IsLedFrame, is_passed}
 use Rattle.link_mails.specs.Body.{Body}
 use Rattle.master_duty.specs.Reply.{Reply}
@@ -29,9 +29,8 @@ use Rattle.segment_model.specs.Slaves.{Datagram, slave_after, slave_steps, frame
 use Rattle.segment_plan.specs.Sound as Plan
 use Rattle.segment_plan.specs.declared.plan.Scenario.{Scenario}
 use Rattle.segment_plan.specs.declared.slave.SlaveSpec.{SlaveSpec}
-use Rattle.segment_ring.specs.Ring.{RingState, ring_behind, ring_returned, is_in_pace}
+use Rattle.segment_ring.specs.Ring.{RingState, ring_returned, is_in_pace}
 use Rattle.segment_ring.specs.Schedule.{fate_at}
-use Rattle.segment_ring.specs.declared.wire.Fate.{Fate}
 use Rattle.segment_ring.specs.declared.wire.Fate.TheVariants.{Pass}
 use Rattle.slave_lives.specs.Lived.{Behind, node_seen}
 use Rattle.slave_parts.specs.Parts.{Core, Server}
@@ -43,7 +42,7 @@ use Rattle.state_exchange.specs.Families.{InState}
 use Rattle.whole_ring.specs.Turning as Whole
 use Rattle.whole_ring.specs.Turning.{frame_at, behind_frame}
 use Rattle.whole_ring.proofs.Members as Members
-use Rattle.plan_ring.specs.PlanMet.{slave_at, IsMet, AllMet}
+use Rattle.plan_ring.specs.PlanMet.{IsMet, AllMet}
 
 paces_behind : (ring : RingState (Node Serving)) (fs : List Exchanged) → (ring_after ring fs).paces ≡ ring.paces
 paces_behind ring [] = refl

@@ -1,5 +1,5 @@
 -- One open slave by a frame that came back.
-use Rattle.std.proofs.Common.{◌≡◌, ◌≢◌, ℕ, zero, suc, ◌%◌, ◌==◌, Bool, true, false, List, [], ◌∷◌, length, refl, sym, ap, ap₂, ◌∙◌, subst, if◌then◌else◌}
+use Rattle.std.proofs.Common.{◌≡◌, ℕ, zero, suc, Bool, true, false, List, [], length, refl, sym, ap, ap₂, ◌∙◌, subst, if◌then◌else◌}
 use Rattle.datagrams.specs.Datagram as Raw
 use Rattle.ec_fields.specs.Fields.{bits_of}
 use Rattle.esc_registers.specs.declared.registers.Registers as Esc
@@ -21,11 +21,11 @@ use Rattle.segment_ring.specs.Ring.{is_in_pace}
 use Rattle.segment_ring.specs.declared.wire.Fate.{Fate}
 use Rattle.segment_ring.specs.declared.wire.Fate.TheVariants.{Pass, Lost}
 use Rattle.plan_ring.proofs.Halves.{mine_is, back_mine, ring_met}
-use Rattle.slave_lives.specs.Lived.{Behind, RingFrame, LivesEra, IsForOpen, fate_of, is_reached, node_met, node_behind, frame_of, node_seen}
+use Rattle.slave_lives.specs.Lived.{Behind, RingFrame, LivesEra, IsForOpen, fate_of, is_reached, node_behind, frame_of, node_seen}
 use Rattle.slave_lives.specs.Nodes.{IsRoomy, stepped}
 use Rattle.slave_lives.specs.Opening.{Plan}
 use Rattle.slave_lives.specs.Rings.{registers_of, come_to, met, is_among, is_met_at}
-use Rattle.slave_lives.specs.Steps.{StaysUp, word_carried}
+use Rattle.slave_lives.specs.Steps.{word_carried}
 use Rattle.slave_lives.proofs.EraFrames.{lives_on}
 use Rattle.slave_lives.proofs.NodeSteps.{steps_on}
 use Rattle.slave_lives.proofs.RingFrames.{after_keeps, met_runs}

@@ -1,5 +1,5 @@
 -- One slave of the ring, and all of them.
-use Rattle.std.proofs.Common.{◌≡◌, ℕ, suc, Bool, Option, List, [], ◌∷◌, ◌++◌, map, length, refl, ap, ap₂, sym, ◌∙◌, subst, if◌then◌else◌}
+use Rattle.std.proofs.Common.{◌≡◌, ℕ, suc, Bool, Option, List, [], ◌∷◌, ◌++◌, map, length, refl, sym, ◌∙◌, subst, if◌then◌else◌}
 use Rattle.datagrams.specs.Datagram as Raw
 use Rattle.datagrams.specs.Frame.{IsFrame, chained}
 use Rattle.frame_view.specs.Seen.{seen}
@@ -9,10 +9,10 @@ use Rattle.life_model.specs.Lives.{Spot, Stand}
 use Rattle.life_model.specs.Own.{own}
 use Rattle.link_mails.specs.Body.{Body}
 use Rattle.segment_model.specs.Record.{Frame}
-use Rattle.segment_model.specs.Slaves.{Datagram, Found, Slave, slave_after, slave_steps, frame_after}
+use Rattle.segment_model.specs.Slaves.{Datagram, Found, slave_after, slave_steps, frame_after}
 use Rattle.segment_ring.specs.Ring.{RingState, ring_returned, is_in_pace}
-use Rattle.segment_ring.specs.declared.wire.Fate.TheVariants.{Pass, Lost}
-use Rattle.slave_lives.specs.Lived.{Behind, RingFrame, node_behind, frame_of, node_seen}
+use Rattle.segment_ring.specs.declared.wire.Fate.TheVariants.{Pass}
+use Rattle.slave_lives.specs.Lived.{Behind, RingFrame, node_behind, frame_of}
 use Rattle.slave_lives.specs.Rings.{come_to, is_met_at, met, turned}
 use Rattle.slave_lives.specs.Seats.{AllMeet}
 use Rattle.slave_steps.specs.Node.{Node, node_passed}
@@ -23,7 +23,7 @@ use Rattle.whole_ring.specs.Turning.{Turn, TurnsFor, AllTurn, frame_at, next_lif
 use Rattle.whole_ring.proofs.Members as Members
 use Rattle.whole_ring.proofs.Members.{node_in, seat_of, fate_in, joined, one_more, comes_past}
 use Rattle.whole_ring.proofs.Turning as One
-use Rattle.plan_ring.specs.Met.{OpenMet, AllOpenMet, slave_in, slave_on}
+use Rattle.plan_ring.specs.Met.{OpenMet, AllOpenMet, slave_in}
 use Rattle.plan_ring.proofs.Open.{open_back, open_node}
 
 module _ {S V A Q R : Type 0} (lens : ℕ → Lens) (step : Node S → Node S) (fits : Spot → S → Type 0) (more : Body → Bool) (passed : Q → Bool) (fs : List (Frame Body)) (ring : RingState (Node S)) (octets : List ℕ) (gs : List Raw.Datagram) (is_frame : IsFrame octets (chained gs))

@@ -1,14 +1,13 @@
 -- A PLAN'S RING is switched on: each of its slaves is new, and passes what its ring asks for.
 use Rattle.std.proofs.Common.{◌≡◌, ◌⊎◌, inl, inr, ℕ, suc, ◌+◌, ◌<◌, ◌≤◌, ◌==◌, ◌&&◌, ◌||◌, All, Bool, true, false, List, [], ◌∷◌, ◌++◌, map, length, refl, ap, sym, ◌∙◌, subst, arith}
-use Rattle.std.specs.Prelude.{Some, None, if◌then◌else◌}
+use Rattle.std.specs.Prelude.{Some, if◌then◌else◌}
 use Rattle.std.proofs.lemmas.Bool.{ne_eqb, eqb-true, eq-eqb}
 use Rattle.life_runs.specs.of_frame_view.View.{Lens}
 use Rattle.life_runs.specs.of_link_mails.Body.{Body}
 use Rattle.life_model.specs.Lives.{Spot}
 use Rattle.life_model.specs.Tours.{item_at}
-use Rattle.std.specs.List.{list_any}
 use Rattle.std.proofs.lemmas.List.Elements.{All-head, All-tail}
-use Rattle.life_runs.specs.of_segment_plan.Sound.{is_start, IsSlave, repeated_from, is_same_station}
+use Rattle.life_runs.specs.of_segment_plan.Sound.{is_start, IsSlave}
 use Rattle.life_runs.specs.of_segment_plan.Sound as Plan
 use Rattle.life_runs.specs.of_segment_plan.declared.plan.Scenario.{Scenario}
 use Rattle.life_runs.specs.of_segment_plan.declared.slave.SlaveSpec.{SlaveSpec}

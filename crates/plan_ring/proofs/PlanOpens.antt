@@ -1,5 +1,5 @@
 -- The slaves that are open.
-use Rattle.std.proofs.Common.{◌≡◌, ℕ, suc, List, [], ◌∷◌, map, refl, sym, ap, ◌∙◌, subst}
+use Rattle.std.proofs.Common.{◌≡◌, ℕ, suc, List, [], ◌∷◌, map, sym, ap, ◌∙◌, subst}
 use Rattle.exchange_model.specs.Exchange.{Speech, IsLawful}
 use Rattle.frame_view.specs.View.{Lens}
 use Rattle.life_frames.specs.Shares.{Lived}
@@ -11,7 +11,7 @@ use Rattle.master_duty.specs.Reply.{Reply}
 use Rattle.master_hand.specs.Spoken.{Asked, hand_speech}
 use Rattle.plan_ring.specs.Alike.{Alike, InHandIs}
 use Rattle.plan_ring.specs.Asked.{asked, is_service}
-use Rattle.plan_ring.specs.Lives.{IsKnown, IsShown, AllShown, AreLived}
+use Rattle.plan_ring.specs.Lives.{IsShown, AllShown, AreLived}
 use Rattle.plan_ring.specs.Master.{IsLed, AllLed, speech_of}
 use Rattle.plan_ring.specs.Plan.{PlanMember, FitsPlan, step}
 use Rattle.plan_ring.specs.Round.{ring_of, ring_after, all_seen}
@@ -23,7 +23,6 @@ use Rattle.slave_parts.specs.Parts.{Core, Server}
 use Rattle.slave_parts.specs.of_eoe_model.Network.{Station}
 use Rattle.slave_server.specs.Serving.{Serving}
 use Rattle.slave_server.specs.Spec.{profile_of}
-use Rattle.slave_steps.specs.Node.{Node}
 use Rattle.state_exchange.specs.Families.{InState}
 use Rattle.state_exchange.specs.Stated.{IsStated}
 use Rattle.whole_ring.specs.Whole.{StandsAs, LivesOpen}

@@ -20,10 +20,8 @@ use Rattle.slave_parts.specs.of_foe_model.Octets as FoeOctets
 use Rattle.slave_parts.specs.of_foe_model.Server as Foe
 use Rattle.slave_parts.specs.of_soe_model.Mails as SoeMails
 use Rattle.slave_parts.specs.of_soe_model.Octets as SoeOctets
-use Rattle.slave_parts.specs.of_soe_model.Server as Soe
 use Rattle.slave_parts.specs.of_eoe_model.Mails as EoeMails
 use Rattle.slave_parts.specs.of_eoe_model.Octets as EoeOctets
-use Rattle.slave_parts.specs.of_eoe_model.Server as Eoe
 use Rattle.slave_parts.specs.of_eoe_model.Network.{Station}
 use Rattle.slave_server.specs.of_object_dictionary.Dictionary as Objects
 use Rattle.slave_server.specs.of_file_store.Files as Store

@@ -1,5 +1,5 @@
 -- A MASTER THAT LEADS THE LIVES OF A PLAN'S SLAVES, and the ring in which their nodes live them.
-use Rattle.std.specs.Prelude.{◌≡◌, ℕ, suc, Bool, true, List, [], ◌∷◌, length, slice_get, IfSome, All, ⊤}
+use Rattle.std.specs.Prelude.{◌≡◌, ℕ, suc, true, List, [], ◌∷◌, length, slice_get, IfSome, All, ⊤}
 use Rattle.life_runs.specs.of_frame_view.View.{Lens}
 use Rattle.life_runs.specs.First.{lens_of, spot_of, script_for}
 use Rattle.life_runs.specs.Led.{Exchanged, Leads}

@@ -1,5 +1,5 @@
 -- AN EXCHANGE WHOSE CLIENT HAS OTHER NAMES for its services, and another form of their replies.
-use Rattle.std.specs.Prelude.{◌≡◌, ℕ, ◌&&◌, Bool, true, if◌then◌else◌, List, Option, None, option_map}
+use Rattle.std.specs.Prelude.{◌≡◌, ◌&&◌, Bool, true, if◌then◌else◌, List, None, option_map}
 use Rattle.exchange_model.specs.Exchange.{Exchange, Speech}
 use Rattle.state_exchange.specs.Stated.{Stated}
 

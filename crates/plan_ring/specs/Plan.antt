@@ -1,5 +1,5 @@
 -- THE RING OF A PLAN: its slaves as they are switched on, with their lives before the first frame.
-use Rattle.std.specs.Prelude.{◌≡◌, ℕ, suc, ◌==◌, false, Some, List, [], ◌∷◌, length, ⊤}
+use Rattle.std.specs.Prelude.{◌≡◌, ℕ, suc, Some, List, [], ◌∷◌, length, ⊤}
 use Rattle.life_runs.specs.of_frame_view.View.{Lens}
 use Rattle.slave_parts.specs.of_eoe_model.Network.{Station}
 use Rattle.slave_parts.specs.of_state_exchange.Families.{InState}

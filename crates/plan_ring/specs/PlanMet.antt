@@ -2,7 +2,7 @@
 use Rattle.std.specs.Prelude.{◌≡◌, ℕ, suc, if◌then◌else◌, List, [], ◌∷◌, ⊤}
 use Rattle.exchange_model.specs.Exchange.{IsLawful}
 use Rattle.frame_view.specs.View.{Lens}
-use Rattle.life_model.specs.Lives.{Era, Stand}
+use Rattle.life_model.specs.Lives.{Stand}
 use Rattle.life_model.specs.Own.{own}
 use Rattle.life_runs.specs.First.{lens_of, spot_of}
 use Rattle.life_runs.specs.Led.{Exchanged, Leads, speech_at}

@@ -1,5 +1,5 @@
 -- THE BOOK OF A SERVING has of scripts and epochs what that of a run has.
-use Rattle.std.proofs.Common.{◌≡◌, ℕ, zero, suc, List, [], ◌∷◌, map, length, refl, ◌∙◌}
+use Rattle.std.proofs.Common.{ℕ, zero, suc, List, [], ◌∷◌, map, length, refl, ◌∙◌}
 use Rattle.life_runs.specs.First.{leads_from, lens_of}
 use Rattle.life_runs.specs.Led.{Exchanged, gives_up_at}
 use Rattle.life_runs.specs.Opened.{AllOpenTheirs}

@@ -4,8 +4,7 @@ use Rattle.std.specs.Prelude.{nat_lt, length}
 use Rattle.exchange_model.specs.Exchange.{Speech}
 use Rattle.exchange_model.specs.Rows.{Row, begun}
 use Rattle.link_model.specs.Master.{InState}
-use Rattle.link_model.specs.Link.{Halves}
-use Rattle.link_model.specs.Frames.{Ask, Gram, halves_without, halves_lost}
+use Rattle.link_model.specs.Frames.{halves_without}
 use Rattle.segment_model.specs.Record.{News}
 use Rattle.segment_model.specs.Slaves.{Datagram, grams}
 use Rattle.segment_model.specs.Seats.{Side, side_begins, side_holds, is_over}

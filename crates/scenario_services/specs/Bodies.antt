@@ -1,7 +1,6 @@
 -- What the keys of a service say, behind its slave.
 use Rattle.std.specs.Prelude.{ℕ, ◌==◌, ◌||◌, ◌&&◌, ◌-◌, not, List, codes, Result, Ok}
 use Rattle.toml.specs.Data.{Members}
-use Rattle.arrayvec.specs.ArrayVec.{ArrayVec}
 use Rattle.eoe.specs.Address.{is_block}
 use Rattle.segment_plan.specs.declared.slave.SlaveSpec.{SlaveSpec}
 use Rattle.segment_plan.specs.declared.service.Service.{Service}

@@ -1,8 +1,7 @@
 -- The files of a slave, or their first refusal.
-use Rattle.std.specs.Prelude.{ℕ, ◌+◌, ◌||◌, nat_le, List, [], ◌∷◌, length, codes, Option, Some, None, Result, Ok, Bool, true, false, if◌then◌else◌}
+use Rattle.std.specs.Prelude.{ℕ, ◌+◌, nat_le, List, [], ◌∷◌, length, codes, Option, Some, None, Result, Ok, Bool, true, false, if◌then◌else◌}
 use Rattle.std.specs.Str.{bytes_eq}
 use Rattle.toml.specs.Data.{Members}
-use Rattle.arrayvec.specs.ArrayVec.{ArrayVec}
 use Rattle.block_pool.specs.Region.{blocks_for}
 use Rattle.file_store.specs.declared.file.FileSpec.{FileSpec}
 use Rattle.segment_plan.specs.Sound.{taken, is_new_file}

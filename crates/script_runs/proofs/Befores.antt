@@ -1,5 +1,5 @@
 -- ALL THAT STANDS IN A LIFE was before the next frame.
-use Rattle.std.proofs.Common.{ℕ, suc, ◌<◌, Bool, true, false, Option, Some, None, List, [], arith}
+use Rattle.std.proofs.Common.{ℕ, suc, ◌<◌, Bool, true, false, Option, Some, None, List, arith}
 use Rattle.std.specs.Prelude.{◌==◌, ◌&&◌, if◌then◌else◌}
 use Rattle.std.specs.List.{All}
 use Rattle.std.proofs.lemmas.List.Elements.{All-push, All-weaker}

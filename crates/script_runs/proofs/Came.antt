@@ -12,7 +12,7 @@ use Rattle.life_runs.specs.of_life_frames.Shares.{Lived, came_at, given_where}
 use Rattle.book_model.specs.of_life_model.Lives.{Spot, Life, Stand, granted, life_next, life_lost}
 use Rattle.life_runs.specs.First.{lens_of, script_for, first_leads, leads_from}
 use Rattle.life_runs.specs.Led as Led
-use Rattle.life_runs.specs.Led.{Exchanged, Leads, Turn, Comes, Took, IsTurn, AllTurn, IsLed, IsLedFrame, is_passed, speech_at, life_behind, gives_up_at}
+use Rattle.life_runs.specs.Led.{Exchanged, Leads, Turn, Comes, Took, IsTurn, AllTurn, IsLed, is_passed, speech_at, life_behind, gives_up_at}
 use Rattle.life_runs.specs.of_link_mails.Body.{Body}
 use Rattle.life_runs.specs.of_master_duty.Reply.{Reply}
 use Rattle.life_runs.specs.of_master_hand.Spoken.{Asked, acknowledged, is_followed}

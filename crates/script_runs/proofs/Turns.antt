@@ -15,7 +15,7 @@ use Rattle.script_runs.specs.of_life_model.Lives.{Era, Life, Stand, granted, lif
 use Rattle.life_runs.specs.Led.{Leads, Turn, Comes, Took, IsTurn, is_passed, speech_at}
 use Rattle.script_runs.specs.of_link_mails.Body.{Body}
 use Rattle.script_runs.specs.of_master_duty.Reply.{Reply}
-use Rattle.script_runs.specs.of_master_hand.Spoken.{Asked, sdo, file, drive, net, handed, ends, acknowledged, is_followed}
+use Rattle.script_runs.specs.of_master_hand.Spoken.{Asked, sdo, file, drive, net, handed, acknowledged, is_followed}
 use Rattle.script_runs.specs.of_master_hand.Talk.{asked_of}
 use Rattle.script_runs.specs.Came.{is_beside}
 use Rattle.script_runs.specs.of_segment_model.Ends.{Passing}

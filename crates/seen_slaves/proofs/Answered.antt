@@ -12,7 +12,7 @@ use Rattle.link_mails.specs.Body.{Body}
 use Rattle.master_duty.specs.Reply.{Reply}
 use Rattle.master_hand.specs.Spoken.{Asked}
 use Rattle.plan_ring.specs.Lives.{IsKnown}
-use Rattle.plan_ring.specs.Round.{AllRound, ring_after, ring_of}
+use Rattle.plan_ring.specs.Round.{AllRound, ring_of}
 use Rattle.plan_ring.proofs.Lives.{front_round, last_round}
 use Rattle.run_frames.specs.Answers.{AllAnswer, AllAsk}
 use Rattle.run_frames.specs.Goes.{Under}

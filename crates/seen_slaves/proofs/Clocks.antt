@@ -11,7 +11,7 @@ use Rattle.life_measure.specs.Repairs.{way_of}
 use Rattle.life_model.specs.Lives.{Life, Spot, Stand, gives_up}
 use Rattle.life_model.specs.Own.{own}
 use Rattle.life_runs.specs.First.{lens_of, leads_from}
-use Rattle.life_runs.specs.Led.{Exchanged, gives_up_at, is_passed, speech_at}
+use Rattle.life_runs.specs.Led.{Exchanged, gives_up_at, is_passed}
 use Rattle.link_mails.specs.Body.{Body}
 use Rattle.master_duty.specs.Reply.{Reply}
 use Rattle.master_hand.specs.Spoken.{Asked, acknowledged, is_followed}
@@ -29,7 +29,7 @@ use Rattle.segment_plan.specs.Sound as Plan
 use Rattle.segment_plan.specs.declared.plan.Scenario.{Scenario}
 use Rattle.segment_plan.specs.declared.service.Service as Row
 use Rattle.segment_plan.specs.declared.slave.SlaveSpec.{SlaveSpec}
-use Rattle.segment_ring.specs.Ring.{RingState, ring_returned}
+use Rattle.segment_ring.specs.Ring.{RingState}
 use Rattle.segment_ring.specs.Schedule.{fate_at}
 use Rattle.segment_ring.specs.declared.wire.Fate.{Fate}
 use Rattle.segment_ring.specs.declared.wire.Fate.TheVariants.{Pass}
@@ -37,7 +37,7 @@ use Rattle.served_places.specs.Toured.{first_served}
 use Rattle.served_rings.specs.Rings.{AllServedAt, AreServedLived, IsServedAt, ServedMember, served_member, served_members}
 use Rattle.served_rings.proofs.All as Every
 use Rattle.served_rings.proofs.One as One
-use Rattle.served_runs.specs.Served.{Serves, ServedTurn, AllServedTurn, IsServedFrame, IsServedTurn, all_serve, new_serves, served_behind}
+use Rattle.served_runs.specs.Served.{Serves, ServedTurn, AllServedTurn, IsServedFrame, IsServedTurn, all_serve, served_behind}
 use Rattle.seen_slaves.specs.Eager.{leads_of, turns_of}
 use Rattle.seen_slaves.proofs.Seats.{nodes_are}
 use Rattle.plan_ring.specs.Clocks.{AllAnswered, AllAsked, AllStand, AnswersAs, AsksAs, clocks_on}
@@ -47,7 +47,7 @@ use Rattle.plan_ring.proofs.Opened.{nothing_awaited}
 use Rattle.plan_ring.proofs.SlaveTurns.{given}
 use Rattle.slave_server.specs.Serving.{Serving}
 use Rattle.slave_server.specs.Spec.{node_of}
-use Rattle.slave_steps.specs.Node.{Node, node_passed}
+use Rattle.slave_steps.specs.Node.{Node}
 use Rattle.whole_ring.specs.Members.{AllLived, Member}
 use Rattle.whole_ring.specs.Turning.{AllTurn, Turn, behind_frame, frame_at, given_up, next_life}
 use Rattle.whole_ring.proofs.Members as Members

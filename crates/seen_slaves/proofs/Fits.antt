@@ -1,16 +1,14 @@
 -- What an epoch that is seen with what is meant by its mails says of its slave.
-use Rattle.std.proofs.Common.{◌≡◌, ◌≢◌, ℕ, ◌&&◌, Bool, true, false, not, Option, Some, None, option_map, List, [], ◌∷◌, ◌++◌, map, filter, cond, length, refl, sym, ap, ◌∙◌, subst, inl, inr, append-nil, if◌then◌else◌}
+use Rattle.std.proofs.Common.{◌≡◌, ◌≢◌, ℕ, Bool, true, false, Option, Some, None, option_map, List, [], ◌∷◌, ◌++◌, map, length, refl, sym, ap, ◌∙◌, subst, inl, inr, append-nil, if◌then◌else◌}
 use Rattle.never_waits.specs.Moments.{IsMailsLast, WasHeard}
 use Rattle.never_waits.specs.Waits.{NeverWaits}
 use Rattle.exchange_model.specs.Exchange.{Exchange, IsLawful, given, plain}
 use Rattle.exchange_model.specs.Rows.{Row}
 use Rattle.idle_slaves.proofs.Comes.{era_comes}
 use Rattle.idle_slaves.proofs.Links.{era_link}
-use Rattle.life_counts.specs.Seen.{era_seen}
 use Rattle.life_model.specs.Lives.{Era, Spot}
-use Rattle.link_model.specs.Mails.{LinkMail}
 use Rattle.passed_whole.specs.Erased.{EndOne}
-use Rattle.passed_whole.specs.Heard.{EraPasses, IsPassedBy}
+use Rattle.passed_whole.specs.Heard.{IsPassedBy}
 use Rattle.passed_whole.specs.Silent.{is_passed}
 use Rattle.seen_slaves.proofs.Comes.{come}
 use Rattle.seen_slaves.proofs.Links.{link}

@@ -1,5 +1,5 @@
 -- What is due where it is seen what is meant by mails is due to the master, by its names.
-use Rattle.std.proofs.Common.{◌≡◌, ◌⊎◌, inl, inr, ℕ, ◌&&◌, Bool, true, false, Option, None, Some, option_map, List, [], ◌∷◌, ◌++◌, map, refl, sym, ap, ◌∙◌, if◌then◌else◌}
+use Rattle.std.proofs.Common.{◌≡◌, inl, inr, ℕ, Bool, true, false, Option, None, Some, option_map, List, [], ◌∷◌, ◌++◌, map, refl, sym, ap, ◌∙◌, if◌then◌else◌}
 use Rattle.std.proofs.lemmas.List.{map-append}
 use Rattle.exchange_model.specs.Exchange.{Exchange, Speech, plain}
 use Rattle.exchange_model.specs.Rows.{Row, left}
@@ -10,7 +10,7 @@ use Rattle.passed_whole.specs.Erased.{OfRow, row_seen}
 use Rattle.passed_whole.proofs.Clients.{plain_untag}
 use Rattle.seen_slaves.proofs.Left.{left_as}
 use Rattle.serving_model.specs.Passing.{ends_told}
-use Rattle.serving_model.specs.Tagged.{Asked, Tagged, ends_marked, is_own, untag}
+use Rattle.serving_model.specs.Tagged.{Asked, Tagged, is_own, untag}
 use Rattle.state_exchange.specs.Stated.{Stated}
 use Rattle.life_counts.specs.Spoken.{Naming, Speaks}
 use Rattle.life_counts.proofs.Begins.{NowKnown, RowKnown}

@@ -1,5 +1,5 @@
 -- What a frame that came back was for each open slave of a serving.
-use Rattle.std.proofs.Common.{◌≡◌, ℕ, suc, Bool, List, [], ◌∷◌, ◌++◌, map, length, refl, sym, ap, ◌∙◌, subst}
+use Rattle.std.proofs.Common.{◌≡◌, ℕ, suc, List, [], ◌∷◌, ◌++◌, map, length, refl, sym, ap, ◌∙◌, subst}
 use Rattle.std.proofs.lemmas.List.{length-map}
 use Rattle.datagrams.specs.Frame.{chained}
 use Rattle.frame_view.specs.Seen.{seen}
@@ -16,7 +16,6 @@ use Rattle.plan_ring.specs.Round.{WentRound, all_seen, behind, frame_seen, ring_
 use Rattle.plan_ring.proofs.Known.{AllBoot, all_boot}
 use Rattle.plan_ring.proofs.Lives.{one_after}
 use Rattle.segment_model.specs.Record.{Frame}
-use Rattle.segment_model.specs.Slaves.{Datagram}
 use Rattle.segment_plan.specs.Sound as Plan
 use Rattle.segment_plan.specs.declared.plan.Scenario.{Scenario}
 use Rattle.segment_plan.specs.declared.slave.SlaveSpec.{SlaveSpec}

@@ -39,7 +39,7 @@ use Rattle.served_rings.specs.Rings.{AllServedAt, IsServedAt, ServedMember, coun
 use Rattle.seen_slaves.specs.Rows.{PassesSo, ToldSo}
 use Rattle.served_runs.specs.Served.{Serves}
 use Rattle.seen_slaves.specs.Eager.{leads_of}
-use Rattle.slave_lives.specs.Lived.{Behind, node_seen}
+use Rattle.slave_lives.specs.Lived.{node_seen}
 use Rattle.slave_model.specs.Profile.{IsProfile, Profile, areas_of}
 use Rattle.slave_parts.specs.Parts.{Server, parts}
 use Rattle.slave_served.specs.Served.{product_whole}

@@ -1,7 +1,7 @@
 -- WHAT A FRAME MORE BRINGS of an epoch that its master leads is due to it: so it is where it is seen what is meant by its mails.
-use Rattle.std.proofs.Common.{◌≡◌, ℕ, Bool, true, false, not, cond, is_some, Option, Some, None, option_map, List, [], ◌∷◌, ◌++◌, map, length, refl, sym, ap, ap₂, ◌∙◌, subst, append_assoc}
+use Rattle.std.proofs.Common.{◌≡◌, ℕ, Bool, true, false, not, cond, is_some, Option, Some, None, option_map, List, [], ◌∷◌, ◌++◌, map, length, refl, sym, ap, ◌∙◌, subst, append_assoc}
 use Rattle.std.proofs.lemmas.List.{map-append}
-use Rattle.exchange_model.specs.Exchange.{Exchange, IsLawful, plain}
+use Rattle.exchange_model.specs.Exchange.{Exchange, plain}
 use Rattle.exchange_model.specs.Rows.{Row, row_heard}
 use Rattle.exchange_model.proofs.Words.{plain-append}
 use Rattle.life_model.specs.Eras.{era_frames, planned}
@@ -22,7 +22,7 @@ use Rattle.seen_slaves.specs.Brings.{AllAreFair, SeenBringsDue}
 use Rattle.passed_whole.proofs.Naturals.{accepted_as}
 use Rattle.seen_slaves.proofs.Known.{HasRest, each_due}
 use Rattle.seen_slaves.proofs.Ties.{tied}
-use Rattle.serving_model.specs.Erasing.{all_as, slave_as}
+use Rattle.serving_model.specs.Erasing.{all_as}
 use Rattle.serving_model.specs.Passing.{ends_told}
 use Rattle.serving_model.specs.Tagged.{Asked, Rowed, Tagged, is_own, real, untag}
 use Rattle.serving_model.proofs.Erasing.{frame_after-as}

@@ -18,7 +18,6 @@ use Rattle.slave_served.proofs.JoinedLaw.{given_whole, mine_part}
 use Rattle.slave_served.proofs.Sides.{side_of, side_speech}
 use Rattle.slave_served.proofs.SlaveLaw.{client}
 use Rattle.exchange_sum.specs.Refusing.{gated}
-use Rattle.state_exchange.specs.Families.{InState}
 use Rattle.state_exchange.proofs.FamilyLaw.{plain_given_in}
 
 -- of elements all mails are told at once, whatever the protocol does, in each AL state

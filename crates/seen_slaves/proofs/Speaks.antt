@@ -1,5 +1,5 @@
 -- What a master that speaks as a slave's clients do says of whatever it asks.
-use Rattle.std.proofs.Common.{◌≡◌, ◌≢◌, Bool, true, false, Option, Some, None, option_map, List, [], ◌∷◌, refl, sym, ap, ◌∙◌, inl, inr}
+use Rattle.std.proofs.Common.{◌≡◌, ◌≢◌, true, false, Option, Some, None, option_map, List, [], ◌∷◌, refl, sym, ap, ◌∙◌, inl, inr}
 use Rattle.never_waits.specs.Waits.{NeverWaits}
 use Rattle.seen_slaves.specs.Told.{PlansSome}
 use Rattle.life_counts.specs.Epochs.{IsSpeaker, Speaker}

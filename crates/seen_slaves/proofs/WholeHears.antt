@@ -11,10 +11,10 @@ use Rattle.never_waits.proofs.HearsDialogues.{at_last, not_none}
 use Rattle.never_waits.proofs.HearsForms.{lifted_hears, refusing_hears}
 use Rattle.never_waits.proofs.HearsSlaves.{slave_hears}
 use Rattle.slave_model.specs.Application.{Parts, ArePartsLawful, station_elements, station_valid}
-use Rattle.slave_model.specs.Product.{emission, product, protocols, refusal, served, side}
+use Rattle.slave_model.specs.Product.{emission, protocols, refusal, served, side}
 use Rattle.slave_model.specs.Profile.{Profile, Protocol, IsProfile, areas_of, serves}
 use Rattle.slave_model.specs.Server.{Server, Seat, ServiceOf, heard_by, reseated, seat, told_by}
-use Rattle.slave_model.proofs.ProductLaw.{one_client, refusals}
+use Rattle.slave_model.proofs.ProductLaw.{refusals}
 use Rattle.slave_model.proofs.Sides.{sized, told_spells}
 use Rattle.slave_model.proofs.Stations.{both, elements_law, left_of}
 use Rattle.slave_served.specs.Served.{AreFilesServed, core_of, is_fine, product_whole, protocols_whole, served_whole, side_whole, slave_whole}
@@ -28,7 +28,6 @@ use Rattle.slave_served.proofs.SoeSpelled.{served_spells}
 use Rattle.soe_model.specs.Elements.{Elements, AreLawful}
 use Rattle.soe_model.specs.Mails as SoeMails
 use Rattle.soe_model.specs.Octets as SoeOctets
-use Rattle.state_exchange.specs.Families.{InState}
 use Rattle.state_exchange.proofs.FamilyLaw.{plain_given_in}
 use Rattle.seen_slaves.proofs.Served.{alone, full_same, heard_same}
 

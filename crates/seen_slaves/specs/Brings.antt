@@ -1,5 +1,5 @@
 -- WHAT ONE FRAME MORE BRINGS of an open slave whose master passes mails on.
-use Rattle.std.specs.Prelude.{ℕ, Option, List, length}
+use Rattle.std.specs.Prelude.{Option, List, length}
 use Rattle.exchange_model.specs.Exchange.{Exchange}
 use Rattle.life_model.specs.Lives.{AsksOpen, Era, Spot, era_next}
 use Rattle.life_model.specs.Own.{own}

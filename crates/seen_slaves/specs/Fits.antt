@@ -1,5 +1,5 @@
 -- WHAT AN OPEN SLAVE IS TO A MASTER that passes mails on beside services.
-use Rattle.std.specs.Prelude.{◌≡◌, ℕ, Bool, false, Option, Some, None, List, []}
+use Rattle.std.specs.Prelude.{◌≡◌, ℕ, Bool, false, Some, None, []}
 use Rattle.never_waits.specs.Moments.{IsFree, NoneLeft}
 use Rattle.exchange_model.specs.Exchange.{Exchange, Speech}
 use Rattle.exchange_model.specs.Rows.{Row, left}

@@ -10,7 +10,7 @@ use Rattle.segment_model.specs.Laws.{EachSeat, SeatPromised, HandedBy, KnowsCoun
 use Rattle.exchange_model.specs.Rows.{Row}
 use Rattle.segment_model.proofs.Rising.{RisesNow}
 use Rattle.segment_model.specs.Seats
-use Rattle.segment_model.specs.Seats.{Side, Seat, side_back, side_lost, Choice, Turn, Session, Planned, IsPlan, link_of, ring_of, seat_next, seats_next, seats_back, seats_lost, seats_after, seat_steps_at, seats_step, writes, happens, run, MayRun, new_session, new_seats, IsOpening}
+use Rattle.segment_model.specs.Seats.{Side, Seat, side_back, side_lost, Choice, Turn, Session, Planned, IsPlan, link_of, ring_of, seats_next, seats_back, seats_lost, seats_after, seat_steps_at, seats_step, writes, happens, run, MayRun, new_session, new_seats, IsOpening}
 use Rattle.segment_model.proofs.Answers
 use Rattle.segment_model.proofs.Openings.{opening_kept}
 use Rattle.segment_model.proofs.Written.{Tells, frame_tells}

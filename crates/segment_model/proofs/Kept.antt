@@ -10,7 +10,7 @@ use Rattle.segment_model.specs.Record.{Frame, News, first_end, or_later, news_ea
 use Rattle.segment_model.specs.Ends.{Outcome, mails_end}
 use Rattle.segment_model.specs.Laws.{EachSeat, IsAnswered, AllAnswered, as_outcome, SeatPromised}
 use Rattle.segment_model.specs.Seats
-use Rattle.segment_model.specs.Seats.{Side, Seat, Choice, Turn, Session, Planned, IsPlan, AllReady, link_of, ring_of, newest, rows_of, seat_next, seats_next, seat_back, seats_back, seats_lost, side_lost, seats_after, seat_steps_at, seats_step, stations_of, happens, run, MayRun, new_seat, new_seats, IsOpening}
+use Rattle.segment_model.specs.Seats.{Seat, Choice, Turn, Session, Planned, IsPlan, AllReady, ring_of, newest, rows_of, seat_next, seats_next, seat_back, seats_back, seats_lost, side_lost, seats_after, seat_steps_at, seats_step, stations_of, happens, run, MayRun, new_seats, IsOpening}
 use Rattle.segment_model.proofs.News.{mails_heard-append, heard_frame, joined-append}
 use Rattle.segment_model.proofs.Answers.{Listens, AllClosed, OpenNow, first_reply, reply_end, next_listens, back_listens, lost_listens, kept_of, news_each-push}
 use Rattle.segment_model.proofs.Openings.{opening_kept, opening_heard}

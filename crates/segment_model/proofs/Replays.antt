@@ -4,7 +4,7 @@ use Rattle.exchange_model.specs.Exchange.{Exchange}
 use Rattle.link_model.specs.Segment.{RingFate}
 use Rattle.segment_model.specs.Slaves
 use Rattle.segment_model.specs.Seats
-use Rattle.segment_model.specs.Slaves.{Processor, Datagram, grams, Ring, Move, Slave, frame_after, all_meet, first_meet, ring_after, ring_back, step_at, ring_steps, replayed}
+use Rattle.segment_model.specs.Slaves.{Processor, Datagram, Ring, Move, frame_after, all_meet, first_meet, ring_after, ring_back, step_at, ring_steps, replayed}
 use Rattle.segment_model.specs.Record.{Frame, frame_of, recorded}
 use Rattle.segment_model.specs.Seats.{Side, Seat, Choice, Turn, Session, Planned, ring_of, sides_of, seat_next, seats_next, seat_back, seats_back, seats_lost, seats_after, seat_steps_at, seats_step, happens, run, MayRun, IsFrame, new_session, new_seats, IsOpening, moves}
 use Rattle.segment_model.specs.Split.{sides_next, sides_back, sides_lost, sides_after, IsFrameOf, IsBound}

@@ -15,7 +15,7 @@ use Rattle.segment_model.specs.Slaves.{Serving, serving, Processor, IsStill, sta
 use Rattle.segment_model.specs.Slaves
 use Rattle.segment_model.specs.Seats
 use Rattle.segment_model.specs.Laws.{EachSeat}
-use Rattle.segment_model.specs.Seats.{Side, Seat, Choice, link_of, ring_of, stations_of, is_over, side_begins, side_holds, side_next, next_mail, first_left, seat_next, seats_next, seat_back, seats_back, seats_lost, seats_after, seat_steps, seat_steps_at, seats_step, IsFrame}
+use Rattle.segment_model.specs.Seats.{Side, Seat, Choice, link_of, ring_of, stations_of, is_over, side_begins, side_holds, next_mail, first_left, seat_next, seats_next, seat_back, seats_back, seats_lost, seats_after, seat_steps, seat_steps_at, IsFrame}
 use Rattle.segment_model.proofs.Links.{Sound, step_sound, frame_sound}
 use Rattle.segment_model.proofs.Views.{member_of, members, stations-members, frame_for, members-seats_after}
 

@@ -1,8 +1,8 @@
 -- What the link model sees of seats, slaves and frames.
 use Rattle.std.proofs.Common.{◌≡◌, ℕ, zero, suc, ◌==◌, if◌then◌else◌, List, [], ◌∷◌, ◌++◌, map, refl, ap, ◌∙◌}
 use Rattle.exchange_model.specs.Exchange.{Exchange}
-use Rattle.link_model.specs.Frames.{Gram, gram_meets, node_after, grams_after, halves_after, all_accepted}
-use Rattle.link_model.specs.Segment.{RingFate, RingNode, Member, frame_back, members_back, members_lost, members_after, Distinct}
+use Rattle.link_model.specs.Frames.{gram_meets, node_after, grams_after, halves_after, all_accepted}
+use Rattle.link_model.specs.Segment.{RingFate, Member, frame_back, members_back, members_lost, members_after}
 use Rattle.link_model.specs.Segment
 use Rattle.link_model.specs.Frames
 use Rattle.segment_model.specs.Slaves.{Serving, Datagram, grams, Slave, slave_meets, slave_after, frame_after, all_back}

@@ -1,5 +1,5 @@
 -- The frame bound: how many frames a run of a plan may take, by sizes alone.
-use Rattle.std.specs.Prelude.{ℕ, ◌+◌, ◌*◌, ◌-◌, ◌/◌, ◌==◌, ◌&&◌, ◌||◌, List, [], ◌∷◌, length, codes, sum_by, find, nat_le, nat_lt, slice_get, Option, Some, None, option_map, unwrap_or, Bool, true, false, if◌then◌else◌}
+use Rattle.std.specs.Prelude.{ℕ, ◌+◌, ◌*◌, ◌-◌, ◌/◌, ◌==◌, ◌&&◌, ◌||◌, List, [], ◌∷◌, length, sum_by, find, nat_le, nat_lt, slice_get, Option, option_map, unwrap_or, if◌then◌else◌}
 use Rattle.std.specs.Str.{bytes_eq}
 use Rattle.arrayvec.specs.ArrayVec.{ArrayVec}
 use Rattle.file_store.specs.declared.file.FileSpec.{FileSpec}

@@ -1,10 +1,9 @@
 -- What holds of each plan.
-use Rattle.std.specs.Prelude.{◌≡◌, ◌≢◌, ℕ, ℤ, ◌==◌, ◌&&◌, ◌||◌, ◌%◌, ◌*◌, ◌+◌, ◌^◌, ◌<◌, ◌≤◌, ◌⊎◌, nat_le, nat_lt, Bool, List, [], ◌∷◌, ◌++◌, map, length, sum_by, slice_index, replicate, Option, Some, None, IfSome, true, false, if◌then◌else◌, All}
+use Rattle.std.specs.Prelude.{◌≡◌, ◌≢◌, ℕ, ◌==◌, ◌&&◌, ◌||◌, ◌%◌, ◌+◌, ◌^◌, ◌<◌, ◌≤◌, nat_le, nat_lt, Bool, List, [], ◌∷◌, ◌++◌, map, length, sum_by, slice_index, replicate, Option, Some, None, IfSome, true, false, if◌then◌else◌, All}
 use Rattle.std.specs.List.{list_any}
 use Rattle.std.specs.Str.{bytes_eq}
 use Rattle.arrayvec.specs.ArrayVec.{ArrayVec}
 use Rattle.block_pool.specs.Region.{blocks_for}
-use Rattle.byteorder.specs.Endian.{little_number}
 use Rattle.eoe.specs.Address.{is_block}
 use Rattle.file_store.specs.declared.file.FileSpec.{FileSpec}
 use Rattle.object_dictionary.specs.declared.entry.EntrySpec.{EntrySpec}

@@ -1,5 +1,5 @@
 -- OF AN EPOCH THAT IS SEEN as a session the packets that were heard are of the services that came into hand in it.
-use Rattle.std.proofs.Common.{◌≡◌, ℕ, zero, suc, ◌+◌, ◌≤◌, ◌<◌, Bool, true, false, cond, Option, None, List, [], ◌∷◌, ◌++◌, map, take, length, refl, sym, ap, ap₂, ◌∙◌, arith}
+use Rattle.std.proofs.Common.{◌≡◌, ℕ, zero, suc, ◌+◌, ◌≤◌, ◌<◌, Bool, true, false, Option, None, List, [], ◌∷◌, ◌++◌, map, take, length, refl, sym, ap, ◌∙◌, arith}
 use Rattle.std.specs.Prelude.{sum_by}
 use Rattle.std.proofs.lemmas.List.Sums.{sum_by-cons}
 use Rattle.exchange_model.specs.Exchange.{emitted}
@@ -30,7 +30,7 @@ use Rattle.sent_packets.proofs.Owns.{own_fragment}
 use Rattle.sent_packets.specs.Quiet.{is_quiet, quiet_speaker}
 use Rattle.sent_packets.proofs.Folds.{untag_append, PassedNone, all_send, both, wants_most}
 use Rattle.sent_packets.proofs.Valid.{era_valid}
-use Rattle.serving_model.specs.Tagged.{Tagged, is_own, untag}
+use Rattle.serving_model.specs.Tagged.{is_own, untag}
 use Rattle.slave_model.specs.Product.{emission}
 use Rattle.slave_model.specs.Profile.{Profile}
 use Rattle.slave_model.specs.Server.{Reply}

@@ -1,5 +1,5 @@
 -- A PLAN'S SLAVE AND ITS MASTER keep the laws where quiet mails alone are passed on; and so are all that came into hand where those are that were asked.
-use Rattle.std.proofs.Common.{◌≡◌, ◌&&◌, not, ℕ, Bool, true, false, Option, Some, List, [], ◌∷◌, ◌++◌, All, Ok, refl, ap, sym, ◌∙◌, subst}
+use Rattle.std.proofs.Common.{◌≡◌, ◌&&◌, ℕ, Bool, true, false, Some, List, [], ◌∷◌, ◌++◌, All, Ok, refl, ap, sym, ◌∙◌, subst}
 use Rattle.std.proofs.lemmas.List.Elements.{All-head, All-tail}
 use Rattle.book_model.specs.Script.{eras_started, life_started}
 use Rattle.exchange_model.specs.Lifted.{EachOf}
@@ -8,13 +8,12 @@ use Rattle.few_replies.specs.Packets.{is_fair}
 use Rattle.frame_view.specs.View.{Lens}
 use Rattle.life_runs.specs.Led.{Comes}
 use Rattle.link_mails.specs.Body.{Body}
-use Rattle.master_hand.specs.Spoken.{Asked, passed, net, is_passed}
-use Rattle.master_hand.specs.of_eoe_model.Client as EoeClient
+use Rattle.master_hand.specs.Spoken.{Asked, passed}
 use Rattle.served_rings.specs.Speakers.{naming_of, speaker}
 use Rattle.served_rings.proofs.Any.{fewer_lawful}
 use Rattle.served_rings.proofs.Fair.{each_append, each_behind, each_front, never_passed}
 use Rattle.run_work.specs.Sessions.{OwnService}
-use Rattle.run_work.proofs.Counted.{passes, none_passes}
+use Rattle.run_work.proofs.Counted.{passes}
 use Rattle.segment_plan.specs.declared.service.Service as Plan
 use Rattle.sent_packets.specs.Quiet.{is_quiet, AsksQuiet, quiet_speaker}
 use Rattle.served_runs.specs.Came.{ServedCame, AreAmong, HasServed}

@@ -1,6 +1,6 @@
 -- ONE SLAVE BY A FRAME: the mails that its master accepts of it are those that its epoch hears.
 use Rattle.std.proofs.Common.{◌≡◌, ◌⊎◌, inl, inr, ℕ, ◌==◌, ◌&&◌, Bool, true, false, not, Option, Some, None, List, [], ◌∷◌, ◌++◌, length, refl, sym, ap, ◌∙◌, subst, arith, append-nil, if◌then◌else◌}
-use Rattle.std.specs.Prelude.{sum_by, map}
+use Rattle.std.specs.Prelude.{sum_by}
 use Rattle.std.proofs.lemmas.Bool.{eqb-true, eq-eqb}
 use Rattle.book_model.specs.Script.{eras_started}
 use Rattle.datagrams.specs.Datagram as Raw
@@ -24,7 +24,7 @@ use Rattle.master_tour.specs.Brings.{accepted_at}
 use Rattle.packets_heard.specs.Heard.{Times, mails_by, times_behind}
 use Rattle.segment_model.specs.Record.{Frame, News, is_for}
 use Rattle.segment_model.specs.Returned.{Returns}
-use Rattle.segment_model.specs.Slaves.{Access, Address, Datagram, grams}
+use Rattle.segment_model.specs.Slaves.{Access, Datagram, grams}
 use Rattle.segment_ring.specs.declared.wire.Fate.{Fate}
 use Rattle.segment_ring.specs.declared.wire.Fate.TheVariants.{Pass, Lost}
 use Rattle.served_runs.specs.Served.{Serves, ServedTurn, IsServedTurn, served_life}

@@ -19,7 +19,7 @@ use Rattle.coe_model.specs.Mails.{CoeMail, mail, unread, failed, fragment, other
 use Rattle.coe_model.specs.Octets as CoeOctets
 use Rattle.coe_model.specs.Tables.{Target, nowhere, Ask, list, object, entry, Tables}
 use Rattle.coe_model.specs.Server as Server
-use Rattle.coe_model.specs.Server.{Transfer, idle, downloading, uploading, Outcome, ended, goes_on, silent, abort, download_answer, same, stored, takes_whole, begins, takes_first, takes_segment, is_expedited, opened, takes_upload_segment, parts_of, information_parts, informed, takes_ask, unknown_command, takes_unread, coe_takes, coe_outcome, Emission, emergency, packet, issued}
+use Rattle.coe_model.specs.Server.{Transfer, idle, downloading, uploading, Outcome, ended, goes_on, abort, download_answer, same, stored, takes_whole, begins, takes_first, takes_segment, is_expedited, opened, takes_upload_segment, parts_of, information_parts, informed, unknown_command, takes_unread, coe_takes, coe_outcome, Emission, emergency, packet, issued}
 use Rattle.foe_model.specs.Mails as Foe
 use Rattle.foe_model.specs.Octets as FoeOctets
 use Rattle.soe_model.specs.Mails as Soe

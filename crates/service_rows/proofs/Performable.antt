@@ -1,5 +1,4 @@
 -- A service of a plan may be performed.
-use Rattle.std.proofs.Common.{◌≡◌}
 use Rattle.segment_plan.specs.declared.service.Service.{Service}
 use Rattle.segment_plan.specs.declared.service.Service.TheVariants.{Sdo, ReadFile, WriteFile, ReadIdn, WriteIdn, SetIp, GetIp, State, Forward}
 use Rattle.segment_plan.specs.Sound.{IsService}

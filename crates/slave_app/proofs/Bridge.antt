@@ -27,7 +27,6 @@ use Rattle.soe_model.specs.Elements as Elements
 use Rattle.eoe_model.specs.Client as Eoe
 use Rattle.eoe_model.specs.Echo.{echo_of}
 use Rattle.eoe_model.specs.Mails as EoeMails
-use Rattle.eoe_model.specs.Mails.{packet_mails}
 use Rattle.eoe_model.specs.Network.{Station}
 use Rattle.eoe_model.specs.Octets.{eoe_mail_written}
 use Rattle.eoe_model.specs.Server.{sends, addressed}
@@ -36,7 +35,7 @@ use Rattle.state_exchange.specs.Families.{InState}
 use Rattle.segment_plan.specs.declared.service.Service.TheVariants as Asked
 use Rattle.slave_model.specs.Profile.{Protocol, Profile, serves}
 use Rattle.slave_model.specs.Application as Application
-use Rattle.slave_model.specs.Application.{fragment_bodies, station_tables, station_files, station_elements, network}
+use Rattle.slave_model.specs.Application.{station_tables, station_files, network}
 use Rattle.slave_model.specs.Server.{Seat, Reply, ServiceOf, told_by}
 use Rattle.slave_model.specs.Product.{served, refusal, side, product}
 use Rattle.slave_parts.specs.Parts.{Core, parts}

@@ -17,7 +17,7 @@ use Rattle.slave_steps.specs.of_mailbox_slave.Kept.{Kept, offered}
 use Rattle.slave_steps.specs.of_mailbox_slave.Registers.{in_box, out_box, in_len, request_of, acknowledge_of}
 use Rattle.slave_steps.specs.of_mailbox_slave.Node.{node_of, in_side, out_side, server_of}
 use Rattle.slave_steps.specs.of_mailbox_slave.Exact as Exact
-use Rattle.slave_steps.specs.of_mailbox_slave.Exact.{Boxes, with_mail, with_acknowledge, with_out_free, kept_noticed, last_repeated, request_answered, boxes_looked, out_mail, is_free, mail_served, next_offered, mail_offered, slave_served}
+use Rattle.slave_steps.specs.of_mailbox_slave.Exact.{Boxes, with_mail, with_acknowledge, with_out_free, kept_noticed, last_repeated, request_answered, boxes_looked, out_mail, is_free, mail_served, next_offered, mail_offered}
 use Rattle.slave_lives.specs.Nodes.{IsPlaced, IsKept, GivesPlaced}
 use Rattle.slave_lives.specs.Steps.{Running}
 

@@ -25,7 +25,7 @@ use Rattle.slave_steps.specs.Step.{looked, shown, al_asked, al_behind, word_behi
 use Rattle.slave_steps.proofs.Init.{stays_new}
 use Rattle.frames_seen.specs.Slaves.{registers_seen}
 use Rattle.slave_lives.specs.Steps as The
-use Rattle.slave_lives.specs.Steps.{KeepsOthers, HasStepped, node_steps, node_answered, node_cleared, word_carried}
+use Rattle.slave_lives.specs.Steps.{KeepsOthers, node_steps, node_answered, node_cleared, word_carried}
 use Rattle.slave_lives.specs.Returning.{Clears, IsNewBox}
 use Rattle.slave_lives.specs.Nodes.{IsPlaced, IsKept, GivesPlaced, IsRoomy, IsShown, IsRunning, stepped, StepsOn}
 use Rattle.slave_lives.proofs.Exacts.{looked_node, answered_node, taken_node, taken_by, offered_is, noticed_kept, answered_kept, offered_kept}

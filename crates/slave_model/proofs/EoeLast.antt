@@ -1,5 +1,5 @@
 -- Each mail of an EoE service brings a reply at last.
-use Rattle.std.proofs.Common.{◌≡◌, false, List, [], ◌∷◌, refl, sym, ap, ◌∙◌}
+use Rattle.std.proofs.Common.{false, [], ◌∷◌, refl, sym, ap, ◌∙◌}
 use Rattle.exchange_model.specs.Areas.{Areas, AreMailboxes}
 use Rattle.exchange_model.specs.Exchange.{AnswersLast, plain}
 use Rattle.eoe_model.specs.Network as Network

@@ -1,38 +1,20 @@
 -- The protocols of a slave stand beside each other over the one application.
-use Rattle.std.proofs.Common.{◌≡◌, inl, inr, ℕ, zero, suc, ◌+◌, ◌-◌, ◌%◌, ◌<◌, ◌≤◌, ◌==◌, ◌&&◌, not, nat_le, nat_lt, Bool, true, false, is_none, List, [], ◌∷◌, ◌++◌, map, length, take, drop, Option, Some, None, Result, Ok, Err, refl, sym, ap, ap₂, ◌∙◌, subst, arith}
-use Rattle.std.specs.Prelude.{if◌then◌else◌}
-use Rattle.mailbox_mail.specs.declared.mail.Mail.{Mail}
+use Rattle.std.proofs.Common.{◌≡◌, ℕ, ◌+◌, ◌≤◌, Bool, true, false, is_none, List, [], ◌∷◌, ◌++◌, map, Option, Some, None, Ok, Err, refl, sym, ap, ◌∙◌, subst, arith}
 use Rattle.mailbox_mail.specs.declared.mail.Kind.{Kind}
-use Rattle.mailbox_mail.specs.declared.mail.MailFault.{MailFault}
 use Rattle.mailbox_mail.specs.declared.mail.MailFault.TheVariants.{Short, LengthPastArea, UnknownKind}
 use Rattle.link_mails.specs.Body.{Body}
-use Rattle.eoe.specs.declared.message.Eoe.{Eoe}
-use Rattle.eoe.specs.declared.message.EoeFault.{EoeFault}
-use Rattle.eoe.specs.Message.{eoe_read, eoe_text}
-use Rattle.exchange_model.specs.Exchange.{Exchange, IsLawful, after, given}
-use Rattle.exchange_model.specs.Lifted.{EachOf, ReadsBack, Spells, lifted, lifted_serve}
-use Rattle.exchange_sum.specs.Sides.{Slave, Spares, joined}
-use Rattle.exchange_sum.specs.Refusing.{Refusal, IsAsked, IsRefusal, refused_serve, refusing, gated}
+use Rattle.exchange_model.specs.Exchange.{Exchange, IsLawful, after}
+use Rattle.exchange_model.specs.Lifted.{EachOf}
+use Rattle.exchange_sum.specs.Sides.{Spares}
+use Rattle.exchange_sum.specs.Refusing.{Refusal, gated}
 use Rattle.exchange_sum.specs.Sides.{IsSide}
-use Rattle.exchange_sum.proofs.RefusingLaw.{gated_law}
-use Rattle.exchange_sum.proofs.SumLaw.{joined_law, seat_after, app_after, handled_after}
-use Rattle.coe_model.specs.Mails as CoeMails
-use Rattle.coe_model.specs.Octets as CoeOctets
-use Rattle.coe_model.specs.Octets.{is_fragment}
-use Rattle.foe_model.specs.Mails as FoeMails
-use Rattle.foe_model.specs.Octets as FoeOctets
-use Rattle.soe_model.specs.Mails as SoeMails
-use Rattle.soe_model.specs.Octets as SoeOctets
-use Rattle.eoe_model.specs.Mails as EoeMails
-use Rattle.eoe_model.specs.Octets as EoeOctets
-use Rattle.eoe_model.specs.Network.{Station}
-use Rattle.slave_model.specs.Profile.{Protocol, Profile, IsProfile, serves}
-use Rattle.slave_model.specs.Application.{Core, Parts, ArePartsLawful, station_valid}
-use Rattle.slave_model.specs.Server.{Server, Seat, seat, reseated, one_more, ServiceOf, Reply, failure, heard_by, told_by, refused_counts, refused_gives, soe_quiet, eoe_quiet}
-use Rattle.slave_model.specs.Product.{served, asked, refusal, side, protocol_of, serve_by, serve, emission, is_ready, slave, protocols}
+use Rattle.exchange_sum.proofs.SumLaw.{joined_law, seat_after}
+use Rattle.slave_model.specs.Profile.{Protocol, Profile, serves}
+use Rattle.slave_model.specs.Application.{Parts, station_valid}
+use Rattle.slave_model.specs.Server.{Server, Seat, seat, reseated}
+use Rattle.slave_model.specs.Product.{served, refusal, side, protocol_of, serve_by, serve, is_ready, slave, protocols}
 use Rattle.slave_model.specs.Owning.{same_protocol, is_of, mine, AreOwn}
-use Rattle.slave_model.proofs.Stations.{both, left_of, right_of, fragment_told}
-use Rattle.slave_model.proofs.Sides.{served_law}
+use Rattle.slave_model.proofs.Stations.{both, left_of, right_of}
 
 each_both : {M : Type 0} (P : M → Type 0) (xs ys : List M) → EachOf P xs → EachOf P ys → EachOf P (xs ++ ys)
 each_both P [] ys a b = b

@@ -1,18 +1,13 @@
 -- But for an acknowledgement of a file read no mail is left behind the last reply.
-use Rattle.std.proofs.Common.{◌≡◌, inl, inr, ℕ, zero, suc, ◌+◌, Bool, true, false, not, List, [], ◌∷◌, ◌++◌, map, filter, Option, Some, None, refl, sym, ap, ◌∙◌, subst}
-use Rattle.std.specs.Prelude.{if◌then◌else◌}
-use Rattle.exchange_model.specs.Exchange.{Exchange, IsLawful, after, given, plain}
-use Rattle.exchange_model.specs.Lifted.{EachOf, ReadsBack, Spells, lifted}
-use Rattle.exchange_model.proofs.Turns.{sent_each, each_append_right}
-use Rattle.exchange_model.proofs.Lists.{append_cancel, append_none}
-use Rattle.exchange_model.proofs.Words.{plain-append, plain_given-append}
+use Rattle.std.proofs.Common.{◌≡◌, Bool, true, false, sym, ◌∙◌, subst}
+use Rattle.exchange_model.specs.Exchange.{Exchange, IsLawful, plain}
+use Rattle.exchange_model.specs.Lifted.{EachOf}
 use Rattle.exchange_sum.specs.Sides.{Slave, joined}
-use Rattle.exchange_sum.specs.Refusing.{Refusal, IsAsked, IsRefusal, refusing, gated}
+use Rattle.exchange_sum.specs.Refusing.{Refusal, IsRefusal, refusing, gated}
 use Rattle.exchange_sum.specs.Sides.{IsSide}
 use Rattle.exchange_sum.proofs.Refusals.{all_taken}
 use Rattle.exchange_sum.proofs.SumLaw.{each_left, plain_same, told_full, told_part}
 use Rattle.exchange_model.specs.Exchange.{AnswersLast}
-use Rattle.exchange_model.proofs.Lasts.{lifted_last}
 
 -- where a protocol is refused
 module _ {V A M Q R : Type 0} (x : Exchange V A M Q R) (r : Refusal V M Q R) (law : IsLawful x) (is : IsRefusal x r) (acknowledged : Q → Bool) where

@@ -1,14 +1,13 @@
 -- What each protocol owes to stand beside the others.
-use Rattle.std.proofs.Common.{◌≡◌, ℕ, zero, suc, ◌+◌, ◌-◌, ◌%◌, ◌==◌, ◌&&◌, nat_le, nat_lt, Bool, true, false, List, [], ◌∷◌, ◌++◌, map, length, take, drop, Option, Some, None, Result, Ok, Err, refl, sym, ap, ◌∙◌, subst}
+use Rattle.std.proofs.Common.{◌≡◌, ℕ, zero, suc, ◌+◌, ◌-◌, ◌&&◌, nat_le, nat_lt, Bool, true, false, List, [], ◌∷◌, ◌++◌, map, length, take, drop, Result, Ok, Err, refl, sym, ap, ◌∙◌, subst}
 use Rattle.std.specs.Prelude.{if◌then◌else◌}
-use Rattle.mailbox_mail.specs.declared.mail.Mail.{Mail}
 use Rattle.link_mails.specs.Body.{Body}
 use Rattle.eoe.specs.declared.message.Eoe.{Eoe}
 use Rattle.eoe.specs.declared.message.EoeFault.{EoeFault}
 use Rattle.eoe.specs.Message.{eoe_read, eoe_text}
-use Rattle.exchange_model.specs.Exchange.{Exchange, after, given}
-use Rattle.exchange_model.specs.Lifted.{EachOf, ReadsBack, Spells, lifted, lifted_serve}
-use Rattle.exchange_sum.specs.Refusing.{Refusal, refused_serve, refusing, gated}
+use Rattle.exchange_model.specs.Exchange.{Exchange, given}
+use Rattle.exchange_model.specs.Lifted.{EachOf, ReadsBack, lifted}
+use Rattle.exchange_sum.specs.Refusing.{refused_serve, gated}
 use Rattle.coe_model.specs.Mails as CoeMails
 use Rattle.coe_model.specs.Octets as CoeOctets
 use Rattle.foe_model.specs.Mails as FoeMails
@@ -40,7 +39,7 @@ use Rattle.eoe_model.specs.Octets as EoeOctets
 use Rattle.slave_model.specs.Profile.{Protocol, Profile, IsProfile, serves, areas_of}
 use Rattle.slave_model.specs.Application.{Parts, ArePartsLawful, station_tables, station_files, station_elements, network}
 use Rattle.slave_model.specs.Server.{Seat, ServiceOf, failure, heard_by, told_by, refused_gives, soe_quiet, eoe_quiet}
-use Rattle.slave_model.specs.Product.{served, asked, refusal, side, emission}
+use Rattle.slave_model.specs.Product.{served, asked, refusal, emission}
 use Rattle.slave_model.specs.Owning.{mine, AreOwn}
 use Rattle.slave_model.proofs.Stations.{fragment_told, tables_law}
 use Rattle.slave_model.proofs.Sides.{sized, eoe_spelled}

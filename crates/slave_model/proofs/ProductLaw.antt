@@ -1,14 +1,12 @@
 -- The one exchange of a session keeps the laws.
-use Rattle.std.proofs.Common.{◌≡◌, ℕ, Bool, true, false, List, map, Option, refl, sym, ap, ◌∙◌}
-use Rattle.link_mails.specs.Body.{Body}
-use Rattle.exchange_model.specs.Exchange.{Exchange, IsLawful}
-use Rattle.exchange_sum.specs.Refusing.{Refusal, IsRefusal, gated}
+use Rattle.std.proofs.Common.{◌≡◌, ℕ, refl, sym, ap, ◌∙◌}
+use Rattle.exchange_model.specs.Exchange.{IsLawful}
+use Rattle.exchange_sum.specs.Refusing.{IsRefusal}
 use Rattle.exchange_sum.proofs.RefusingLaw.{gated_law}
-use Rattle.state_exchange.specs.Families.{AreOneClient, in_states}
+use Rattle.state_exchange.specs.Families.{AreOneClient}
 use Rattle.state_exchange.proofs.FamilyLaw.{family_law}
 use Rattle.slave_model.specs.Profile.{Protocol, Profile, IsProfile, serves}
 use Rattle.slave_model.specs.Application.{Parts, ArePartsLawful}
-use Rattle.slave_model.specs.Server.{Server, ServiceOf, Reply}
 use Rattle.slave_model.specs.Product.{served, refusal, side, protocols, product}
 use Rattle.slave_model.proofs.Sides.{served_law}
 use Rattle.slave_model.proofs.Joint.{protocols_law, gated_speech}

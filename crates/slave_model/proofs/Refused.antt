@@ -1,19 +1,16 @@
 -- Each protocol is refused as the laws ask: its client sends up to the first mail that waits for an answer, hears the mailbox error, and stops.
-use Rattle.std.proofs.Common.{◌≡◌, inl, inr, ℕ, zero, suc, ◌+◌, ◌-◌, ◌*◌, ◌/◌, ◌%◌, ◌<◌, ◌≤◌, ◌==◌, ◌&&◌, not, nat_le, nat_lt, Bool, true, false, List, [], ◌∷◌, ◌++◌, map, length, take, drop, Option, Some, None, Result, Ok, Err, refl, sym, ap, ap₂, ◌∙◌, subst, arith, leb-true, le-leb, lt-ltb, le-ltb, ltb-true, length-drop}
+use Rattle.std.proofs.Common.{◌≡◌, ℕ, zero, suc, ◌+◌, ◌-◌, ◌*◌, ◌/◌, ◌<◌, ◌≤◌, not, nat_le, nat_lt, Bool, true, false, List, [], ◌∷◌, ◌++◌, map, length, take, drop, Some, None, Result, Err, refl, sym, ap, ◌∙◌, subst, arith, leb-true, lt-ltb, le-ltb, length-drop}
 use Rattle.std.specs.Prelude.{if◌then◌else◌}
 use Rattle.std.proofs.lemmas.Bool.{leb-false}
 use Rattle.link_mails.specs.Body.{Body}
 use Rattle.eoe.specs.Cutting.{fragment_at, fragments_from}
-use Rattle.exchange_model.specs.Prefix.{IsPrefixOf}
-use Rattle.exchange_model.specs.Exchange.{Exchange, given}
 use Rattle.exchange_model.specs.Dialogue.{said}
-use Rattle.exchange_model.specs.Lifted.{EachOf, ReadsBack, Spells}
+use Rattle.exchange_model.specs.Lifted.{EachOf, ReadsBack}
 use Rattle.exchange_sum.specs.Refusing.{Refusal, IsAsked, IsRefusal}
 use Rattle.coe_model.specs.Mails as CoeMails
 use Rattle.coe_model.specs.Meaning as CoeMeaning
 use Rattle.coe_model.specs.Client as CoeClient
 use Rattle.coe_model.specs.Octets as CoeOctets
-use Rattle.foe_model.specs.Mails as FoeMails
 use Rattle.foe_model.specs.Meaning as FoeMeaning
 use Rattle.foe_model.specs.Client as FoeClient
 use Rattle.foe_model.specs.Octets as FoeOctets
@@ -30,7 +27,7 @@ use Rattle.eoe_model.specs.Client as EoeClient
 use Rattle.eoe_model.specs.Octets as EoeOctets
 use Rattle.slave_model.specs.Profile.{Protocol, Profile, IsProfile, areas_of}
 use Rattle.slave_model.specs.Application.{Parts, ArePartsLawful}
-use Rattle.slave_model.specs.Server.{Seat, one_more, ServiceOf, Reply, failure, heard_by, told_by, refused_counts, refused_gives, soe_quiet, eoe_counts, eoe_quiet}
+use Rattle.slave_model.specs.Server.{Seat, one_more, failure, told_by, soe_quiet, eoe_counts, eoe_quiet}
 use Rattle.slave_model.specs.Product.{served, asked, refusal}
 use Rattle.slave_model.proofs.Stations.{left_of}
 

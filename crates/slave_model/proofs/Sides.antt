@@ -1,24 +1,16 @@
 -- Each protocol, served or refused, keeps the laws.
-use Rattle.std.proofs.Common.{◌≡◌, ◌≢◌, inl, inr, ℕ, zero, suc, ◌+◌, ◌-◌, ◌%◌, ◌<◌, ◌≤◌, ◌==◌, ◌&&◌, not, nat_le, nat_lt, Bool, true, false, List, [], ◌∷◌, ◌++◌, map, length, take, drop, Option, Some, None, Result, Ok, Err, refl, sym, ap, ◌∙◌, subst, arith}
-use Rattle.std.specs.Prelude.{if◌then◌else◌}
+use Rattle.std.proofs.Common.{ℕ, List, [], ◌∷◌}
 use Rattle.mailbox_mail.specs.declared.mail.Mail.{Mail}
-use Rattle.link_mails.specs.Body.{Body}
 use Rattle.exchange_model.specs.Areas.{AreMailboxes}
 use Rattle.exchange_model.specs.Exchange.{Exchange, IsLawful, given}
-use Rattle.exchange_model.specs.Lifted.{EachOf, ReadsBack, Spells, lifted}
+use Rattle.exchange_model.specs.Lifted.{EachOf, ReadsBack, Spells}
 use Rattle.exchange_model.proofs.Lifting.{lifted_law}
-use Rattle.exchange_sum.specs.Refusing.{Refusal, IsAsked, IsRefusal, gated}
-use Rattle.exchange_sum.proofs.RefusingLaw.{gated_law}
 use Rattle.coe_model.specs.Mails as CoeMails
-use Rattle.coe_model.specs.Meaning as CoeMeaning
-use Rattle.coe_model.specs.Client as CoeClient
 use Rattle.coe_model.specs.Model as CoeModel
 use Rattle.coe_model.specs.Octets as CoeOctets
 use Rattle.coe_model.proofs.CoeLaw.{coe_law}
 use Rattle.coe_model.proofs.Spelled.{coe_spells}
 use Rattle.foe_model.specs.Mails as FoeMails
-use Rattle.foe_model.specs.Meaning as FoeMeaning
-use Rattle.foe_model.specs.Client as FoeClient
 use Rattle.foe_model.specs.Model as FoeModel
 use Rattle.foe_model.specs.Octets as FoeOctets
 use Rattle.foe_model.proofs.FoeLaw.{foe_law}
@@ -33,10 +25,10 @@ use Rattle.eoe_model.specs.Octets as EoeOctets
 use Rattle.eoe_model.specs.Mails as EoeMails
 use Rattle.eoe_model.proofs.EoeLaw.{eoe_law}
 use Rattle.eoe_model.proofs.Spelled.{eoe_spells}
-use Rattle.slave_model.specs.Profile.{Protocol, Profile, IsProfile, serves, areas_of}
+use Rattle.slave_model.specs.Profile.{Protocol, Profile, IsProfile, areas_of}
 use Rattle.slave_model.specs.Application.{Parts, ArePartsLawful, station_tables, station_files, station_elements, network}
-use Rattle.slave_model.specs.Server.{Server, Seat, seat, one_more, ServiceOf, Reply, failure, heard_by, told_by, refused_counts, refused_gives}
-use Rattle.slave_model.specs.Product.{served, asked, refusal, side}
+use Rattle.slave_model.specs.Server.{heard_by, told_by}
+use Rattle.slave_model.specs.Product.{served}
 use Rattle.slave_model.proofs.Stations.{tables_law, tables_spelled, files_law, files_spelled, elements_law, network_sound, network_spelled}
 
 -- what is read back from a mail is read back from what the link has of it

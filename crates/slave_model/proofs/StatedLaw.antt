@@ -1,11 +1,10 @@
 -- The AL state is a part of the application of the one exchange.
-use Rattle.std.proofs.Common.{◌≡◌, ℕ, Bool, true, false, [], refl}
+use Rattle.std.proofs.Common.{ℕ, [], refl}
 use Rattle.exchange_model.specs.Exchange.{AnswersLast}
 use Rattle.state_exchange.specs.Stated.{IsStated}
-use Rattle.state_exchange.specs.Families.{AreOne, in_states, states_of}
+use Rattle.state_exchange.specs.Families.{states_of}
 use Rattle.state_exchange.proofs.FamilyLaw.{family_is_stated}
 use Rattle.exchange_model.proofs.Lasts.{lifted_last}
-use Rattle.exchange_sum.proofs.RefusingLaw.{gated_law}
 use Rattle.slave_model.proofs.CoeLast.{coe_last}
 use Rattle.coe_model.specs.Mails as CoeMails
 use Rattle.coe_model.specs.Octets as CoeOctets
@@ -17,7 +16,7 @@ use Rattle.eoe_model.specs.Mails as EoeMails
 use Rattle.eoe_model.specs.Octets as EoeOctets
 use Rattle.slave_model.specs.Profile.{Protocol, Profile, IsProfile, serves, areas_of}
 use Rattle.slave_model.specs.Application.{Parts, ArePartsLawful, station_tables, station_files, station_elements, network}
-use Rattle.slave_model.specs.Server.{ServiceOf, heard_by, told_by}
+use Rattle.slave_model.specs.Server.{heard_by, told_by}
 use Rattle.slave_model.specs.Product.{served, refusal, side, slave, protocols, product}
 use Rattle.slave_model.proofs.Stations.{tables_law, files_law, elements_law, network_sound}
 use Rattle.slave_model.proofs.Sides.{told_spells, served_law, sized, coe_spelled, foe_spelled, soe_spelled, eoe_spelled}
@@ -27,7 +26,7 @@ use Rattle.slave_model.proofs.LastLaw.{gated_last, joined_last}
 use Rattle.foe_model.proofs.Lasts.{foe_last}
 use Rattle.soe_model.proofs.Lasts.{soe_last}
 use Rattle.slave_model.proofs.EoeLast.{eoe_last}
-use Rattle.slave_model.proofs.ProductLaw.{refusals, all_protocols, one_client}
+use Rattle.slave_model.proofs.ProductLaw.{refusals, one_client}
 use Rattle.slave_model.specs.Acknowledged.{acknowledges, acknowledged}
 
 module _ {T F I : Type 0} (o : Parts T F I) (law : ArePartsLawful o) (p : Profile) (is : IsProfile p) (al : ℕ) where

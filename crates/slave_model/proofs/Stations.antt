@@ -1,15 +1,12 @@
 -- What each protocol sees of a station keeps its laws.
-use Rattle.std.proofs.Common.{◌≡◌, ℕ, zero, suc, ◌+◌, ◌-◌, ◌*◌, ◌/◌, ◌%◌, ◌<◌, ◌≤◌, ◌==◌, ◌&&◌, nat_le, nat_lt, Bool, true, false, List, [], ◌∷◌, ◌++◌, map, length, take, drop, slice_index, Option, Some, None, Result, Ok, Err, refl, sym, ap, ◌∙◌, subst, arith, ltb-true, lt-ltb, le-leb, leb-true, length-append, length-drop, length-take-le}
+use Rattle.std.proofs.Common.{◌≡◌, ℕ, zero, suc, ◌+◌, ◌-◌, ◌*◌, ◌/◌, ◌%◌, ◌≤◌, ◌==◌, ◌&&◌, nat_lt, Bool, true, false, List, [], ◌∷◌, ◌++◌, map, length, take, drop, Some, None, Result, Ok, Err, refl, sym, ap, ◌∙◌, subst, arith, lt-ltb, le-leb, leb-true, length-append, length-drop}
 use Rattle.std.specs.Prelude.{if◌then◌else◌}
-use Rattle.std.proofs.lemmas.Bool.{cases_lt}
 use Rattle.eoe.specs.declared.message.Eoe.TheVariants.{Fragment as Part}
 use Rattle.eoe.specs.declared.message.Fragment.{Fragment}
-use Rattle.eoe.specs.Message.{eoe_text, first_of, second_of}
+use Rattle.eoe.specs.Message.{eoe_text}
 use Rattle.eoe.specs.Cutting.{fragments_of}
 use Rattle.exchange_model.specs.Lifted.{EachOf}
 use Rattle.coe_model.specs.Tables as Tables
-use Rattle.coe_model.specs.Tables.{Target, Ask}
-use Rattle.coe_model.specs.Server.{emission_of, emergency}
 use Rattle.coe_model.specs.Octets as CoeOctets
 use Rattle.coe_model.specs.Octets.{is_fragment}
 use Rattle.foe_model.specs.Files as Files
@@ -17,8 +14,8 @@ use Rattle.soe_model.specs.Elements as Elements
 use Rattle.eoe_model.specs.Network as Network
 use Rattle.eoe_model.specs.Network.{Station}
 use Rattle.slave_model.specs.Profile.{Profile, IsProfile}
-use Rattle.slave_model.specs.Application.{Core, Parts, ArePartsLawful, core_valid, station_valid, with_objects, stored, fragment_bodies, station_tables, station_files, written, station_elements, network}
-use Rattle.eoe_model.specs.Echo.{is_echo, echo_of}
+use Rattle.slave_model.specs.Application.{Core, Parts, ArePartsLawful, core_valid, station_valid, with_objects, stored, station_tables, station_files, written, station_elements, network}
+use Rattle.eoe_model.specs.Echo.{is_echo}
 
 pub both : (a b : Bool) → a ≡ true → b ≡ true → (a && b) ≡ true
 both a b e f = rw (e, f) refl

@@ -1,8 +1,6 @@
 -- THE PRODUCT: CoE, FoE, SoE and EoE of one slave over one application, at each AL state, as one exchange.
-use Rattle.std.specs.Prelude.{◌≡◌, ℕ, suc, ◌==◌, ◌&&◌, Bool, true, false, is_none, if◌then◌else◌, List, [], ◌∷◌, map, take, Option, Some, None, Result, Ok, Err}
-use Rattle.mailbox_mail.specs.declared.mail.Mail.{Mail}
-use Rattle.mailbox_mail.specs.declared.mail.MailFault.{MailFault}
-use Rattle.mailbox_mail.specs.declared.mail.MailFault.TheVariants.{Short, LengthPastArea, UnknownKind}
+use Rattle.std.specs.Prelude.{ℕ, suc, ◌&&◌, Bool, is_none, List, [], ◌∷◌, map, take, Option, Some, None, Ok, Err}
+use Rattle.mailbox_mail.specs.declared.mail.MailFault.TheVariants.{UnknownKind}
 use Rattle.mailbox_mail.specs.declared.mail.Kind.{Kind}
 use Rattle.mailbox_mail.specs.declared.outcome.ReplyKind.{ReplyKind}
 use Rattle.link_mails.specs.Body.{Body}

@@ -1,41 +1,26 @@
 -- The server of a slave: its application, how many services were carried out, and the unfinished transfers.
-use Rattle.std.specs.Prelude.{◌≡◌, ℕ, suc, ◌==◌, ◌&&◌, not, Bool, true, false, is_none, if◌then◌else◌, List, [], ◌∷◌, length, take, slice_index, Option, Some, None, Result, Ok, Err}
+use Rattle.std.specs.Prelude.{ℕ, suc, not, Bool, true, false, if◌then◌else◌, List, [], ◌∷◌, Option, Ok, Err}
 use Rattle.mailbox_mail.specs.Mail.{error_of}
 use Rattle.mailbox_mail.specs.declared.mail.Mail.{Mail}
-use Rattle.mailbox_mail.specs.declared.mail.MailFault.{MailFault}
-use Rattle.mailbox_mail.specs.declared.mail.MailFault.TheVariants.{Short, LengthPastArea, UnknownKind}
-use Rattle.mailbox_mail.specs.declared.mail.Kind.{Kind}
+use Rattle.mailbox_mail.specs.declared.mail.MailFault.TheVariants.{Short}
 use Rattle.mailbox_mail.specs.declared.outcome.ReplyKind.{ReplyKind}
 use Rattle.link_mails.specs.Body.{Body}
 use Rattle.eoe.specs.declared.joining.Unfinished.{Unfinished}
-use Rattle.exchange_model.specs.Exchange.{Exchange}
-use Rattle.exchange_model.specs.Lifted.{lifted}
-use Rattle.exchange_sum.specs.Refusing.{Refusal, gated}
-use Rattle.coe_model.specs.Mails as CoeMails
 use Rattle.coe_model.specs.Server as Coe
 use Rattle.coe_model.specs.Meaning as CoeMeaning
-use Rattle.coe_model.specs.Client as CoeClient
-use Rattle.coe_model.specs.Model as CoeModel
-use Rattle.coe_model.specs.Octets as CoeOctets
-use Rattle.foe_model.specs.Mails as FoeMails
 use Rattle.foe_model.specs.Server as Foe
 use Rattle.foe_model.specs.Meaning as FoeMeaning
-use Rattle.foe_model.specs.Client as FoeClient
-use Rattle.foe_model.specs.Model as FoeModel
-use Rattle.foe_model.specs.Octets as FoeOctets
 use Rattle.soe_model.specs.Mails as SoeMails
 use Rattle.soe_model.specs.Server as Soe
 use Rattle.soe_model.specs.Client as SoeClient
-use Rattle.soe_model.specs.Model as SoeModel
 use Rattle.soe_model.specs.Octets as SoeOctets
 use Rattle.eoe_model.specs.Mails as EoeMails
 use Rattle.eoe_model.specs.Server as Eoe
 use Rattle.eoe_model.specs.Client as EoeClient
-use Rattle.eoe_model.specs.Model as EoeModel
 use Rattle.eoe_model.specs.Octets as EoeOctets
 use Rattle.eoe_model.specs.Network.{Station}
-use Rattle.slave_model.specs.Profile.{Protocol, Profile, serves}
-use Rattle.slave_model.specs.Application.{Core, Parts, station_valid, station_tables, station_files, station_elements, network}
+use Rattle.slave_model.specs.Profile.{Protocol}
+use Rattle.slave_model.specs.Application.{Core}
 
 -- a server: what the services act on, how many were carried out, and the unfinished transfer of each protocol
 pub record Server (T F I : Type 0) : Type 0 where

@@ -1,8 +1,8 @@
 -- CoE services from whatever server, with an unfinished transfer or without one.
-use Rattle.std.proofs.Common.{◌≡◌, ℕ, suc, ◌≤◌, Bool, true, length, refl, sym, ◌∙◌, ap, arith}
+use Rattle.std.proofs.Common.{◌≡◌, suc, Bool, true, length, refl, sym, ◌∙◌, ap, arith}
 use Rattle.exchange_model.specs.Areas.{Areas, AreMailboxes}
 use Rattle.exchange_model.specs.Exchange.{after}
-use Rattle.coe_model.specs.Tables.{Ask, Tables, AreLawful}
+use Rattle.coe_model.specs.Tables.{Tables, AreLawful}
 use Rattle.coe_model.specs.Server.{Server, serve}
 use Rattle.coe_model.specs.Meaning.{Service, download, upload, information}
 use Rattle.coe_model.specs.Model.{turns, full, value_length, coe_exchange}

@@ -1,5 +1,5 @@
 -- EoE services from whatever server, with an unfinished packet or without one.
-use Rattle.std.proofs.Common.{◌≡◌, ◌≢◌, ℕ, suc, ◌+◌, ◌-◌, ◌*◌, ◌/◌, ◌%◌, ◌<◌, ◌≤◌, ◌&&◌, nat_le, nat_lt, Bool, true, false, List, [], ◌∷◌, map, length, Option, None, Some, refl, sym, ◌∙◌, ap, arith, leb-true, ltb-true, lt-ltb}
+use Rattle.std.proofs.Common.{◌≡◌, ℕ, ◌+◌, ◌-◌, ◌*◌, ◌/◌, ◌%◌, ◌<◌, nat_le, nat_lt, Bool, true, false, List, [], ◌∷◌, map, length, Option, None, Some, refl, sym, ◌∙◌, ap, arith, leb-true, ltb-true, lt-ltb}
 use Rattle.std.specs.Prelude.{if◌then◌else◌}
 use Rattle.eoe.specs.declared.message.Fragment.{Fragment}
 use Rattle.eoe.specs.declared.joining.Joined.{Joined}
@@ -12,7 +12,7 @@ use Rattle.exchange_model.specs.Areas.{Areas, AreMailboxes}
 use Rattle.exchange_model.specs.Exchange.{after}
 use Rattle.eoe_model.specs.Mails.{EoeMail, part}
 use Rattle.eoe_model.specs.Network.{Network, IsSound, Station, is_ready}
-use Rattle.eoe_model.specs.Server.{Server, Outcome, sends, delivered, joined, addressed, set_answer, behind, serve}
+use Rattle.eoe_model.specs.Server.{Server, sends, joined, addressed, set_answer, serve}
 use Rattle.eoe_model.specs.Client.{Service, packet, set_ip, get_ip, is_service, mails_of, meaning_of}
 use Rattle.eoe_model.specs.Model.{eoe_exchange}
 use Rattle.eoe_model.proofs.EoeLaw.{eoe_law, both, both_are}

@@ -1,5 +1,5 @@
 -- FoE services from whatever server, with an unfinished transfer or without one.
-use Rattle.std.proofs.Common.{◌≡◌, ℕ, suc, ◌≤◌, ◌+◌, ◌&&◌, Bool, true, false, length, List, Option, None, Some, refl, sym, ◌∙◌, ap, arith}
+use Rattle.std.proofs.Common.{◌≡◌, suc, ◌+◌, true, false, length, refl, sym, ◌∙◌, ap, arith}
 use Rattle.exchange_model.specs.Areas.{Areas, AreMailboxes}
 use Rattle.exchange_model.specs.Exchange.{after}
 use Rattle.foe_model.specs.Files.{Files, AreLawful}

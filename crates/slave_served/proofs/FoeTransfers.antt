@@ -1,6 +1,5 @@
 -- A service leaves no transfer, whatever stood before.
-use Rattle.std.proofs.Common.{◌≡◌, ◌⊎◌, inl, inr, ℕ, zero, suc, ◌+◌, ◌-◌, ◌==◌, ◌<◌, ◌≤◌, Bool, true, false, not, nat_lt, List, [], ◌∷◌, ◌++◌, length, take, drop, Option, None, Some, refl, sym, ap, ◌∙◌, arith, length-drop, length-take, lt-ltb, le-ltb, ltb-true}
-use Rattle.std.specs.Prelude.{if◌then◌else◌}
+use Rattle.std.proofs.Common.{◌≡◌, inl, inr, ℕ, zero, suc, ◌+◌, ◌-◌, ◌==◌, ◌<◌, ◌≤◌, Bool, true, false, nat_lt, List, [], ◌∷◌, ◌++◌, length, take, drop, Option, None, Some, refl, ap, ◌∙◌, arith, length-drop, length-take, lt-ltb, le-ltb, ltb-true}
 use Rattle.std.proofs.lemmas.Bool.{cases_lt}
 use Rattle.exchange_model.specs.Areas.{Areas}
 use Rattle.exchange_model.specs.Exchange.{after, plain}
@@ -8,7 +7,7 @@ use Rattle.exchange_model.specs.Dialogue.{next, again, stop, sent, turn_at}
 use Rattle.exchange_model.proofs.Turns.{sent_none, sent_onward, sent_repeated, sent_over, sent_waits}
 use Rattle.foe_model.specs.Mails.{FoeMail, mail, Read, Write, Data, Ack, Busy, is_emission}
 use Rattle.foe_model.specs.Files.{Files}
-use Rattle.foe_model.specs.Server.{Transfer, idle, reading, writing, closing, Server, Outcome, foe_outcome, behind, serve, ended, goes_on, silent, refusal, ack, packet_room, packet_of, is_last, opened, begun, closes, stores, takes_data, takes_ack, continues}
+use Rattle.foe_model.specs.Server.{Transfer, idle, reading, writing, closing, Server, Outcome, foe_outcome, behind, serve, ended, goes_on, silent, refusal, ack, packet_room, packet_of, is_last, opened, begun, closes}
 use Rattle.foe_model.specs.Client.{decide, turn_behind, write_turn, acks, packets}
 use Rattle.foe_model.specs.Model.{read_length}
 

@@ -1,11 +1,7 @@
 -- Each mail of a service brings a reply at last, but for the acknowledgement of a file that is read, whatever server it meets.
-use Rattle.std.proofs.Common.{◌≡◌, inl, inr, ℕ, Bool, true, false, List, [], ◌∷◌, ◌++◌, Option, Some, None, refl, sym, ap, ◌∙◌, subst}
-use Rattle.std.specs.Prelude.{if◌then◌else◌}
-use Rattle.link_mails.specs.Body.{Body}
+use Rattle.std.proofs.Common.{Bool, true, false, [], ◌∷◌, refl, sym, ap, ◌∙◌}
 use Rattle.exchange_model.specs.Areas.{Areas, AreMailboxes}
 use Rattle.exchange_model.specs.Exchange.{Exchange, AnswersLast, given, plain}
-use Rattle.exchange_model.specs.Lifted.{EachOf}
-use Rattle.exchange_model.proofs.Lasts.{lifted_last}
 use Rattle.exchange_sum.specs.Refusing.{Refusal}
 use Rattle.exchange_sum.specs.Sides.{Slave}
 use Rattle.exchange_sum.proofs.Refusals.{all_taken}

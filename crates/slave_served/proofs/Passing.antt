@@ -1,32 +1,30 @@
 -- Any mail leaves a slave of which the laws speak: a protocol leaves the files of the others' servers, and FoE its own.
-use Rattle.std.proofs.Common.{◌≡◌, ℕ, suc, ◌+◌, ◌%◌, ◌&&◌, nat_lt, Bool, true, false, List, [], length, Option, Some, None, Result, Ok, Err, refl, sym, ap, ◌∙◌, subst, lt-ltb, arith}
+use Rattle.std.proofs.Common.{◌≡◌, ℕ, ◌+◌, ◌%◌, ◌&&◌, nat_lt, Bool, true, false, List, [], length, Option, Some, None, Result, Ok, Err, refl, sym, ap, ◌∙◌, subst, lt-ltb, arith}
 use Rattle.std.specs.Prelude.{if◌then◌else◌}
 use Rattle.mailbox_mail.specs.declared.mail.Kind.{Kind}
 use Rattle.mailbox_mail.specs.declared.mail.MailFault.TheVariants.{Short, LengthPastArea, UnknownKind}
 use Rattle.link_mails.specs.Body.{Body}
 use Rattle.coe_model.specs.Mails as CoeMails
 use Rattle.coe_model.specs.Octets as CoeOctets
-use Rattle.coe_model.specs.Tables.{Target}
 use Rattle.foe_model.specs.Mails as FoeMails
 use Rattle.foe_model.specs.Octets as FoeOctets
 use Rattle.foe_model.specs.Server.{Transfer, idle, reading, writing, closing}
 use Rattle.soe_model.specs.Mails as SoeMails
 use Rattle.soe_model.specs.Octets as SoeOctets
-use Rattle.soe_model.specs.Elements as Elements
 use Rattle.eoe_model.specs.Mails as EoeMails
 use Rattle.eoe_model.specs.Octets as EoeOctets
 use Rattle.eoe_model.specs.Network.{Station}
-use Rattle.eoe_model.specs.Server.{sends, delivered}
+use Rattle.eoe_model.specs.Server.{sends}
 use Rattle.eoe_model.specs.Echo.{echo_of}
 use Rattle.slave_served.proofs.Keeping as Coe
 use Rattle.slave_served.proofs.EoeKeeping as Eoe
 use Rattle.slave_served.specs.FoeServed.{has_its_room}
 use Rattle.slave_served.proofs.Passes as Foe
-use Rattle.exchange_sum.specs.Refusing.{gated, refused_serve}
+use Rattle.exchange_sum.specs.Refusing.{gated}
 use Rattle.slave_model.specs.Profile.{Protocol, Profile, IsProfile, serves, areas_of}
 use Rattle.slave_model.specs.Application.{Core, Parts, ArePartsLawful, core_valid, station_valid, with_objects, stored, station_tables, station_files, written, station_elements, network}
 use Rattle.slave_model.specs.Server.{Server, Seat, seat, reseated, heard_by, refused_counts}
-use Rattle.slave_model.specs.Product.{served, refusal, side, serve, serve_by, serve_other, protocol_of}
+use Rattle.slave_model.specs.Product.{served, refusal, serve, serve_by, serve_other, protocol_of}
 use Rattle.slave_model.proofs.Stations.{both, left_of, right_of, tables_law, elements_law}
 use Rattle.slave_served.specs.Served.{is_fine, AreFilesServed}
 use Rattle.slave_served.proofs.SoeKeeping as Soe

@@ -1,9 +1,6 @@
 -- Each protocol of a slave, served or refused, from whatever server.
-use Rattle.std.proofs.Common.{◌≡◌, ℕ, ◌&&◌, Bool, true, false, List, [], length, refl, sym, ap, ◌∙◌}
-use Rattle.link_mails.specs.Body.{Body}
-use Rattle.exchange_model.specs.Exchange.{Exchange}
+use Rattle.std.proofs.Common.{ℕ, [], refl, sym, ◌∙◌}
 use Rattle.exchange_model.specs.Lifted.{Spells}
-use Rattle.exchange_sum.specs.Refusing.{Refusal, IsRefusal}
 use Rattle.serving_model.specs.Tagged.{IsServed}
 use Rattle.slave_served.specs.Whole.{IsRefusedWhole}
 use Rattle.slave_served.proofs.SpelledLaw.{spelled_served}
@@ -25,8 +22,8 @@ use Rattle.slave_served.proofs.ServedLaw.{soe_is_served}
 use Rattle.slave_served.specs.EoeServed as Eoe
 use Rattle.slave_served.proofs.EoeServedLaw.{eoe_is_served}
 use Rattle.slave_model.specs.Profile.{Protocol, Profile, IsProfile, serves, areas_of}
-use Rattle.slave_model.specs.Application.{Core, Parts, ArePartsLawful, core_valid, station_valid, station_tables, station_files, station_elements, network}
-use Rattle.slave_model.specs.Server.{Seat, heard_by, told_by}
+use Rattle.slave_model.specs.Application.{Parts, ArePartsLawful, core_valid, station_valid, station_tables, station_files, station_elements, network}
+use Rattle.slave_model.specs.Server.{heard_by, told_by}
 use Rattle.slave_model.specs.Product.{refusal}
 use Rattle.slave_model.proofs.Stations.{both, left_of, right_of, tables_law, files_law, elements_law, network_sound}
 use Rattle.slave_model.proofs.Sides.{told_spells, sized, coe_spelled, foe_spelled, eoe_spelled}

@@ -1,17 +1,16 @@
 -- SoE services from whatever server, with an unfinished join or without one.
-use Rattle.std.proofs.Common.{◌≡◌, ◌≢◌, ◌⊎◌, inl, inr, ℕ, zero, suc, ◌+◌, ◌-◌, ◌<◌, ◌≤◌, ◌&&◌, nat_le, Bool, true, false, List, [], ◌∷◌, ◌++◌, length, take, drop, Option, None, Some, Result, Ok, Err, refl, ap, sym, ◌∙◌, subst, arith, append-nil, length-drop, le-leb, leb-true, ◌==◌, if◌then◌else◌}
+use Rattle.std.proofs.Common.{◌≡◌, ◌≢◌, ◌⊎◌, inl, inr, ℕ, zero, suc, ◌+◌, ◌-◌, ◌<◌, nat_le, Bool, true, false, List, [], ◌∷◌, ◌++◌, length, take, drop, Option, None, Some, Result, Ok, Err, refl, ap, sym, ◌∙◌, subst, arith, append-nil, length-drop, le-leb, ◌==◌, if◌then◌else◌}
 use Rattle.std.proofs.lemmas.Bool.{cases_lt, lt-leb}
-use Rattle.std.proofs.lemmas.List.{take_all, take-append-drop, append_assoc, length-take-le}
+use Rattle.std.proofs.lemmas.List.{take-append-drop, append_assoc}
 use Rattle.exchange_model.specs.Areas.{Areas, AreMailboxes}
-use Rattle.exchange_model.specs.Prefix.{IsPrefixOf}
 use Rattle.exchange_model.specs.Exchange.{after, given, plain, emitted}
 use Rattle.exchange_model.proofs.Lists.{prefix_refl}
 use Rattle.soe_model.specs.Elements.{Target, Elements, AreLawful}
-use Rattle.soe_model.specs.Mails.{SoeMail, mail, unread, failed, other, SoeFault, Short, Opcode, Incomplete, message, is_emission, parts_of, fragments, fragments_of}
+use Rattle.soe_model.specs.Mails.{SoeMail, mail, unread, failed, other, SoeFault, Short, Opcode, Incomplete, message, is_emission, parts_of, fragments}
 use Rattle.soe_model.specs.Server.{Join, Server, serve, soe_outcome, ahead, gathered, asked, written, answered, silent, joined, target_of, takes_whole, takes_unread, behind, most}
-use Rattle.soe_model.specs.Client.{Service, read, write, is_service, is_target, mails_of, Reply, meaning_of, read_means, write_means, ends}
+use Rattle.soe_model.specs.Client.{Service, read, write, mails_of, meaning_of, ends}
 use Rattle.soe_model.proofs.Carries.{Carried, Idle, Came, came_more, carried_one, waiting, carried_more, left_by, answer_to}
-use Rattle.soe_model.proofs.SoeLaw.{none_emitted, all_plain, both_are, closed, ends_none, answer_to_read, read_carried, read_app, write_app, value_replied, write_replied, write_ready, grows}
+use Rattle.soe_model.proofs.SoeLaw.{none_emitted, all_plain, closed, ends_none, answer_to_read, read_carried, read_app, write_app, value_replied, write_replied, write_ready, grows}
 use Rattle.serving_model.specs.Tagged.{IsServed, Untouched, Touched}
 use Rattle.slave_served.specs.SoeServed.{ahead_of, met, soe_served, table_of}
 

@@ -1,7 +1,7 @@
 -- A server that is one of a family at each AL state is served where each of the family is.
-use Rattle.std.proofs.Common.{◌≡◌, ◌⊎◌, inl, inr, ℕ, Bool, true, List, [], ◌++◌, refl, sym, ap, ◌∙◌, subst}
+use Rattle.std.proofs.Common.{◌≡◌, ◌⊎◌, inl, inr, ℕ, true, List, ◌++◌, sym, ap, ◌∙◌, subst}
 use Rattle.exchange_model.specs.Prefix.{IsPrefixOf}
-use Rattle.exchange_model.specs.Exchange.{Exchange, after, given, plain, emitted}
+use Rattle.exchange_model.specs.Exchange.{Exchange, given, plain, emitted}
 use Rattle.state_exchange.specs.Families.{InState, AreOneClient, in_states}
 use Rattle.state_exchange.proofs.FamilyLaw.{after_in, plain_given_in, emitted_given_in}
 use Rattle.serving_model.specs.Tagged.{IsServed, Untouched, Touched}

@@ -1,15 +1,15 @@
 -- The protocols of a slave stand beside each other over its whole server.
-use Rattle.std.proofs.Common.{◌≡◌, ℕ, ◌&&◌, Bool, true, false, List, [], ◌∷◌, ◌++◌, length, Option, Some, None, Result, Ok, Err, refl, sym, ap, ◌∙◌, subst}
+use Rattle.std.proofs.Common.{◌≡◌, ℕ, Bool, true, false, List, [], ◌∷◌, ◌++◌, length, Option, Some, None, Ok, Err, refl, sym, ap, ◌∙◌, subst}
 use Rattle.mailbox_mail.specs.declared.mail.Kind.{Kind}
 use Rattle.link_mails.specs.Body.{Body}
-use Rattle.exchange_model.specs.Exchange.{Exchange, given}
+use Rattle.exchange_model.specs.Exchange.{given}
 use Rattle.exchange_model.specs.Lifted.{EachOf}
 use Rattle.exchange_sum.specs.Refusing.{Refusal, refused_serve, gated}
 use Rattle.slave_served.specs.Whole.{gated_whole}
 use Rattle.slave_served.specs.Sides.{IsWholeSide}
 use Rattle.slave_model.specs.Profile.{Protocol, Profile, IsProfile, serves}
-use Rattle.slave_model.specs.Application.{Core, Parts, ArePartsLawful, station_valid, station_files}
-use Rattle.slave_model.specs.Server.{Server, Seat, seat, reseated, ServiceOf, Reply, one_more}
+use Rattle.slave_model.specs.Application.{Parts, ArePartsLawful, station_valid, station_files}
+use Rattle.slave_model.specs.Server.{Server, Seat, seat, reseated, ServiceOf}
 use Rattle.slave_model.specs.Product.{served, refusal, side, serve, serve_by, protocol_of, emission}
 use Rattle.slave_model.specs.Owning.{same_protocol, is_of, mine}
 use Rattle.slave_model.proofs.Stations.{both, left_of, right_of}

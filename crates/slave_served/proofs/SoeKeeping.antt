@@ -1,5 +1,5 @@
 -- What writes keep of a table of IDNs, any mail of SoE keeps.
-use Rattle.std.proofs.Common.{◌≡◌, ℕ, ◌==◌, Bool, true, false, List, [], ◌∷◌, Option, None, Some, Result, Ok, Err, refl}
+use Rattle.std.proofs.Common.{◌≡◌, ℕ, ◌==◌, Bool, true, false, List, [], ◌∷◌, None, Some, Result, Ok, Err, refl}
 use Rattle.std.specs.Prelude.{if◌then◌else◌}
 use Rattle.soe_model.specs.Elements.{Target, Elements}
 use Rattle.soe_model.specs.Mails.{SoeMail, mail, unread, failed, other, SoeFault, Short, Opcode, Incomplete}

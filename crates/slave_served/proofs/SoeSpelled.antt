@@ -1,11 +1,10 @@
 -- What SoE answers to a service has spellings, whatever join stood before.
-use Rattle.std.proofs.Common.{◌≡◌, ℕ, zero, suc, ◌≤◌, ◌&&◌, nat_le, Bool, true, false, List, [], ◌∷◌, ◌++◌, take, length, Option, None, Some, refl, sym, ap, ◌∙◌, subst, arith, le-leb}
+use Rattle.std.proofs.Common.{◌≡◌, ℕ, zero, suc, ◌≤◌, ◌&&◌, nat_le, Bool, true, false, List, [], ◌∷◌, ◌++◌, take, length, None, refl, sym, ap, ◌∙◌, subst, arith, le-leb}
 use Rattle.std.proofs.lemmas.List.{take_all}
 use Rattle.exchange_model.specs.Areas.{Areas, AreMailboxes}
 use Rattle.exchange_model.specs.Exchange.{given}
 use Rattle.exchange_model.specs.Lifted.{EachOf, ReadsBack, Spells}
 use Rattle.soe_model.specs.Elements.{Elements, AreLawful}
-use Rattle.soe_model.specs.Mails.{SoeMail}
 use Rattle.soe_model.specs.Server.{Server, serve, most}
 use Rattle.soe_model.specs.Client.{Service, read, write, is_service, is_target, mails_of}
 use Rattle.soe_model.specs.Model.{is_ready}

@@ -1,8 +1,8 @@
 -- A server over mails is served as the same over what these mails are written as.
-use Rattle.std.proofs.Common.{◌≡◌, ◌≢◌, ◌⊎◌, inl, inr, Bool, true, false, not, cond, List, [], ◌∷◌, ◌++◌, map, filter, refl, sym, ap, ap₂, ◌∙◌, subst}
+use Rattle.std.proofs.Common.{◌≡◌, ◌≢◌, ◌⊎◌, inl, inr, Bool, true, false, not, cond, List, [], ◌∷◌, ◌++◌, map, filter, refl, sym, ap, ◌∙◌, subst}
 use Rattle.exchange_model.specs.Prefix.{IsPrefixOf}
 use Rattle.exchange_model.specs.Exchange.{Exchange, after, given, plain, emitted}
-use Rattle.exchange_model.specs.Lifted.{EachOf, ReadsBack, Spells, lifted, lifted_serve}
+use Rattle.exchange_model.specs.Lifted.{EachOf, ReadsBack, Spells, lifted}
 use Rattle.exchange_model.proofs.Words.{given_part}
 use Rattle.exchange_model.proofs.Lifting.{all_back, each_filter, map_append, map_begin, cut_before}
 use Rattle.exchange_sum.proofs.SumLaw.{each_left}

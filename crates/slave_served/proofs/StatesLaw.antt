@@ -1,8 +1,8 @@
 -- The AL state of one slave, from whatever server.
-use Rattle.std.proofs.Common.{◌≡◌, ℕ, Bool, true, false, List, [], ◌++◌, refl, sym, ap, ◌∙◌}
-use Rattle.exchange_model.specs.Exchange.{AnswersLast, given, plain}
+use Rattle.std.proofs.Common.{ℕ, [], refl, sym, ◌∙◌}
+use Rattle.exchange_model.specs.Exchange.{AnswersLast}
 use Rattle.exchange_model.proofs.Lasts.{lifted_last}
-use Rattle.state_exchange.specs.Families.{InState, states_of}
+use Rattle.state_exchange.specs.Families.{states_of}
 use Rattle.state_exchange.proofs.FamilyLaw.{plain_given_in}
 use Rattle.serving_model.specs.TaggedStates.{IsStatedServed}
 use Rattle.coe_model.specs.Mails as CoeMails

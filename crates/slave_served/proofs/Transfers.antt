@@ -1,6 +1,6 @@
 -- What a service leaves of the SDO transfer, whatever stood before.
-use Rattle.std.proofs.Common.{◌≡◌, ◌⊎◌, inl, inr, ℕ, zero, suc, ◌-◌, ◌<◌, ◌≤◌, Bool, true, false, not, nat_lt, List, [], ◌∷◌, ◌++◌, length, take, drop, Option, None, Some, Result, Ok, Err, refl, sym, ap, ◌∙◌, arith, length-drop, length-take, take_all, eq-eqb, lt-ltb, le-ltb, le-leb}
-use Rattle.std.specs.Prelude.{if◌then◌else◌, ◌==◌, nat_le}
+use Rattle.std.proofs.Common.{◌≡◌, inl, inr, ℕ, zero, suc, ◌-◌, ◌<◌, ◌≤◌, Bool, true, false, not, nat_lt, List, [], ◌∷◌, ◌++◌, length, take, drop, Option, None, Some, Result, Ok, Err, refl, ap, ◌∙◌, arith, length-drop, length-take, take_all, eq-eqb, lt-ltb, le-ltb, le-leb}
+use Rattle.std.specs.Prelude.{if◌then◌else◌, ◌==◌}
 use Rattle.std.proofs.lemmas.Bool.{cases_lt, lt-leb}
 use Rattle.exchange_model.specs.Areas.{Areas}
 use Rattle.exchange_model.specs.Exchange.{after}
@@ -8,7 +8,7 @@ use Rattle.exchange_model.specs.Dialogue.{next, stop}
 use Rattle.exchange_model.proofs.Turns.{sent_none, sent_last}
 use Rattle.coe_model.specs.Mails.{CoeMail, mail, is_emission, Upload, UploadSegment, UploadSegmentAnswer, FirstAnswer, ExpeditedAnswer, Segment, SegmentAnswer, First, Expedited}
 use Rattle.coe_model.specs.Tables.{Target, nowhere, Ask, list, object, entry, Tables}
-use Rattle.coe_model.specs.Server.{Transfer, idle, downloading, uploading, Server, Outcome, coe_outcome, behind, serve, ended, goes_on, stored, takes_whole, takes_first, takes_segment, begins, download_answer, abort, opened, takes_upload_segment, informed, same, is_expedited}
+use Rattle.coe_model.specs.Server.{Transfer, idle, downloading, uploading, Server, Outcome, coe_outcome, behind, serve, ended, goes_on, stored, takes_first, takes_segment, begins, download_answer, abort, opened, informed, same, is_expedited}
 use Rattle.coe_model.specs.Client.{decide, segments, requests, download_mails, behind_first, information_mail}
 use Rattle.coe_model.specs.Model.{value_length}
 use Rattle.coe_model.proofs.Speaks.{never}

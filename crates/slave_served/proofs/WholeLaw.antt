@@ -1,6 +1,6 @@
 -- A protocol over its whole server: the laws say all but what a service leaves of the transfers.
-use Rattle.std.proofs.Common.{◌≡◌, ◌≢◌, inl, inr, ℕ, suc, Bool, true, false, List, [], Option, None, Some, refl, sym, ap, ◌∙◌}
-use Rattle.exchange_model.specs.Exchange.{Exchange, IsLawful, Before, Behind, after, given, plain, emitted}
+use Rattle.std.proofs.Common.{◌≡◌, ◌≢◌, inl, inr, Bool, true, false, List, [], None, Some, refl, sym, ap, ◌∙◌}
+use Rattle.exchange_model.specs.Exchange.{Exchange, IsLawful, Before, Behind, given, plain, emitted}
 use Rattle.serving_model.specs.Tagged.{IsServed, Untouched, Touched}
 use Rattle.slave_served.specs.Whole.{whole_server, IsWhole}
 

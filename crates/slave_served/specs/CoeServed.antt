@@ -1,5 +1,5 @@
 -- CoE services from whatever server: a download or an upload ends the SDO transfer that stood, and information leaves it.
-use Rattle.std.specs.Prelude.{ℕ, suc, Bool}
+use Rattle.std.specs.Prelude.{suc, Bool}
 use Rattle.exchange_model.specs.Areas.{Areas}
 use Rattle.exchange_model.specs.Exchange.{Exchange}
 use Rattle.slave_served.specs.Whole.{whole_server}

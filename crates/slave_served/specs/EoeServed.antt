@@ -1,5 +1,5 @@
 -- EoE services from whatever server: a packet ends the unfinished one, the services of addresses leave it.
-use Rattle.std.specs.Prelude.{ℕ, suc, List, Option, None}
+use Rattle.std.specs.Prelude.{ℕ, suc, Option, None}
 use Rattle.eoe.specs.declared.joining.Unfinished.{Unfinished}
 use Rattle.exchange_model.specs.Areas.{Areas}
 use Rattle.exchange_model.specs.Exchange.{Exchange}

@@ -1,5 +1,5 @@
 -- Several protocols of one slave as one exchange over the whole slave: a service leaves what its protocol makes of its own part, and the rest.
-use Rattle.std.specs.Prelude.{◌≡◌, Bool, true, List}
+use Rattle.std.specs.Prelude.{◌≡◌, Bool, true}
 use Rattle.exchange_model.specs.Exchange.{Exchange, given}
 use Rattle.exchange_model.specs.Lifted.{EachOf}
 use Rattle.exchange_sum.specs.Sides.{Slave, joined_speech}

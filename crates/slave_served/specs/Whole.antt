@@ -1,5 +1,5 @@
 -- A protocol seen with its whole server: its application is the server with its unfinished transfers, and a service says what it leaves of them.
-use Rattle.std.specs.Prelude.{◌≡◌, ℕ, suc, Bool, true, false, List, [], ◌∷◌, Some}
+use Rattle.std.specs.Prelude.{◌≡◌, suc, Bool, true, false, [], ◌∷◌, Some}
 use Rattle.exchange_model.specs.Prefix.{IsPrefixOf}
 use Rattle.exchange_model.specs.Exchange.{Exchange, after}
 use Rattle.exchange_sum.specs.Refusing.{Refusal, refused_serve, IsAsked}

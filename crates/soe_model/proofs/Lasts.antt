@@ -1,5 +1,5 @@
 -- A service's reply comes for its last mail, and not before.
-use Rattle.std.proofs.Common.{◌≡◌, false, [], ◌∷◌, refl, sym, ap, ◌∙◌}
+use Rattle.std.proofs.Common.{false, [], ◌∷◌, refl, sym, ap, ◌∙◌}
 use Rattle.exchange_model.specs.Areas.{Areas, AreMailboxes}
 use Rattle.exchange_model.specs.Exchange.{AnswersLast, plain}
 use Rattle.exchange_model.proofs.Lasts.{lifted_last}

@@ -1,5 +1,5 @@
 -- SoE as an exchange: the server against the services of its client.
-use Rattle.std.specs.Prelude.{ℕ, ◌≤◌, ◌&&◌, Bool, is_none}
+use Rattle.std.specs.Prelude.{◌&&◌, Bool, is_none}
 use Rattle.std.specs.Prelude.{false, []}
 use Rattle.exchange_model.specs.Areas.{Areas}
 use Rattle.exchange_model.specs.Exchange.{Exchange, Speech}

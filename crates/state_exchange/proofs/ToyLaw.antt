@@ -2,7 +2,7 @@
 use Rattle.std.proofs.Common.{◌≡◌, ◌≢◌, ◌⊎◌, inl, inr, ℕ, zero, suc, ◌≤◌, Bool, true, false, List, [], ◌∷◌, ◌++◌, Option, None, Some, refl, sym, ap, ◌∙◌, subst, arith, le_refl, append-nil}
 use Rattle.state_model.specs.of_exchange_model.Exchange.{IsLawful, Before, Behind, given, plain, emitted}
 use Rattle.state_model.specs.of_exchange_model.Dialogue.{Decides, rest_at}
-use Rattle.state_model.specs.of_exchange_model.Toy.{Mail, first, second, posted, held, total, refused, noted, Service, sum, post, Adder, finish, emission, decide, handed}
+use Rattle.state_model.specs.of_exchange_model.Toy.{Mail, first, second, posted, held, total, refused, Service, sum, post, Adder, finish, emission, decide, handed}
 use Rattle.state_model.specs.of_exchange_model.Toy
 use Rattle.state_model.proofs.of_exchange_model.Turns.{follows, all_said}
 use Rattle.state_exchange.specs.Stated.{IsStated}

@@ -1,5 +1,5 @@
 -- An exchange whose application has an AL state, with its state services beside the services by mails: one exchange of both.
-use Rattle.std.specs.Prelude.{◌≡◌, ◌+◌, ℕ, suc, Bool, true, false, Option, Some, None, option_map, List, [], ◌∷◌, ◌++◌, map}
+use Rattle.std.specs.Prelude.{◌≡◌, ◌+◌, ℕ, suc, Bool, true, false, Option, Some, None, option_map, List, [], ◌∷◌, map}
 use Rattle.state_model.specs.of_exchange_model.Exchange.{Exchange, Speech, AnswersLast}
 use Rattle.state_model.specs.of_segment_model.Ends.{Outcome}
 use Rattle.state_model.specs.States.{Table}

@@ -2,7 +2,7 @@
 use Rattle.std.specs.Prelude.{ℕ, zero, suc, ◌+◌, nat_le, Bool, true, false, if◌then◌else◌, List, [], ◌∷◌, Option, None, Some}
 use Rattle.state_model.specs.of_exchange_model.Exchange.{Exchange, Speech}
 use Rattle.state_model.specs.of_exchange_model.Dialogue.{said, sent}
-use Rattle.state_model.specs.of_exchange_model.Toy.{Mail, first, second, posted, held, total, refused, noted, Service, sum, post, Adder, emission, decide, handed, number}
+use Rattle.state_model.specs.of_exchange_model.Toy.{Mail, first, second, posted, held, total, refused, noted, Service, sum, Adder, emission, decide, handed, number}
 use Rattle.state_model.specs.of_exchange_model.Toy
 use Rattle.state_model.specs.States.{Table}
 use Rattle.state_model.specs.of_segment_model.Ends.{Outcome}

@@ -17,7 +17,7 @@ use Rattle.whole_ring.specs.of_esc_registers.Manager.{is_enabled}
 use Rattle.whole_ring.specs.of_frames_seen.Spoken.{is_spoken, IsSpoken, AllSpoken}
 use Rattle.life_frames.specs.of_life_model.Lives.{Spot, Opening, Stand}
 use Rattle.life_frames.specs.Frames as Frames
-use Rattle.life_frames.specs.Frames.{Share, FrameFor, HasOne, IsOpenGram, IsByStation, IsByPlace, GramFor, IsRequest}
+use Rattle.life_frames.specs.Frames.{Share, FrameFor, IsOpenGram, IsRequest}
 use Rattle.life_frames.specs.Openings.{step_number, opening_of, IsOpeningGram}
 use Rattle.slave_lives.specs.Opening.{Plan}
 use Rattle.slave_lives.specs.Stands.{turn_of}

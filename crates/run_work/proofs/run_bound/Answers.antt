@@ -1,4 +1,4 @@
-use Rattle.std.proofs.Common.{◌≡◌, ℕ, ◌+◌, ◌-◌, ◌*◌, ◌<◌, length, subst, arith}
+use Rattle.std.proofs.Common.{◌≡◌, ◌+◌, ◌-◌, ◌*◌, ◌<◌, length, subst, arith}
 use Rattle.plan_counts.specs.Split.{own_work}
 use Rattle.script_runs.specs.Begun.{work_in}
 use Rattle.segment_plan.specs.Bound.{services_work, host_work, slowest}

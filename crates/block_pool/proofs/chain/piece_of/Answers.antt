@@ -1,5 +1,5 @@
-use Rattle.std.proofs.Common.{◌≡◌, ◌∙◌, ap, sym, subst, ◌<◌, ◌%◌, ◌/◌, length, take, drop, get_or, arith, length-drop}
-use Rattle.block_pool.specs.Blocks.{items_of, octets_of}
+use Rattle.std.proofs.Common.{◌∙◌, ap, sym, subst, ◌<◌, ◌%◌, length, drop, arith, length-drop}
+use Rattle.block_pool.specs.Blocks.{items_of}
 use Rattle.block_pool.proofs.Packed.{boxes_piece, boxes_inside}
 use Rattle.block_pool.proofs.chain.piece_of.Goals as goal
 

@@ -1,5 +1,4 @@
-use Rattle.std.proofs.Common.{◌≡◌, Option, Some, None, sym, ap, subst, ◌∙◌}
-use Rattle.block_pool.specs.Region.{Closes}
+use Rattle.std.proofs.Common.{sym, subst, ◌∙◌}
 use Rattle.coe_values.specs.Chains.{AreChains}
 use Rattle.coe_values.proofs.Ends.{ended}
 use Rattle.coe_values.proofs.chains.end.Goals as goal

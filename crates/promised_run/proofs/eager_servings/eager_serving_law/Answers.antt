@@ -1,4 +1,4 @@
-use Rattle.std.proofs.Common.{◌≡◌, ◌+◌, ℕ, suc, List, [], ◌∷◌, ◌++◌, refl, ap, arith, length, length-append, sym, subst, ◌∙◌}
+use Rattle.std.proofs.Common.{◌≡◌, ◌+◌, ℕ, suc, List, [], ◌∷◌, refl, ap, arith, length, length-append, sym, subst, ◌∙◌}
 use Rattle.std.specs.Prelude.{◌<◌, true}
 use Rattle.promised_run.proofs.News.{all_news}
 use Rattle.promised_run.specs.Eager.{remembers}

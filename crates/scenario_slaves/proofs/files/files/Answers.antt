@@ -1,11 +1,11 @@
-use Rattle.std.proofs.Common.{List, ℕ, ◌≡◌, ◌≤◌, ◌+◌, [], ◌∷◌, ◌++◌, map, length, sym, subst, arith}
+use Rattle.std.proofs.Common.{List, ℕ, ◌+◌, [], ◌∷◌, ◌++◌, map, length, sym, subst}
 use Rattle.std.proofs.lemmas.Result.{err_from_is_err_and}
 use Rattle.std.proofs.lemmas.List.Sums.{sum_by_push}
 use Rattle.toml.specs.View.{table_view}
 use Rattle.block_pool.specs.Region.{blocks_for}
 use Rattle.file_store.specs.declared.file.FileSpec.{FileSpec}
 use Rattle.scenario_keys.specs.declared.place.Place.TheVariants.{File}
-use Rattle.segment_plan.specs.Sound.{IsFile, taken}
+use Rattle.segment_plan.specs.Sound.{IsFile}
 use Rattle.scenario_slaves.specs.Files.{file_of}
 use Rattle.scenario_slaves.proofs.NewFiles.{are_new_files-push}
 use Rattle.scenario_keys.proofs.Each.{HasRead, goes_on, ends}

@@ -1,4 +1,4 @@
-use Rattle.std.proofs.Common.{◌≡◌, ◌≤◌, ◌*◌, ◌^◌, length, sum_by, take}
+use Rattle.std.proofs.Common.{◌≡◌, ◌≤◌, ◌*◌, ◌^◌, sum_by, take}
 use Rattle.segment_plan.specs.Bound.{addressed_work}
 use Rattle.segment_plan.proofs.counts.services_work.Given as goal
 

@@ -1,6 +1,6 @@
-use Rattle.std.proofs.Common.{◌≡◌, ◌∙◌, ap, sym, ℕ, ◌+◌, ◌*◌, ◌<◌, ◌≤◌, List, [], ◌∷◌, ◌++◌, length, arith, length-append}
+use Rattle.std.proofs.Common.{◌≡◌, ◌∙◌, ap, sym, ◌+◌, ◌*◌, [], ◌∷◌, ◌++◌, length, arith, length-append}
 use Rattle.std.proofs.lemmas.Grind.{common_steps}
-use Rattle.block_pool.specs.Blocks.{items_of, octets_of, IsPacked}
+use Rattle.block_pool.specs.Blocks.{octets_of}
 use Rattle.block_pool.proofs.Packed.{boxes_grown, boxes_grown_packed}
 use Rattle.block_pool.proofs.chain.Chain.grow.Goals as goal
 

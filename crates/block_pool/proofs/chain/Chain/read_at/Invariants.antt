@@ -1,4 +1,4 @@
-use Rattle.std.proofs.Common.{◌≡◌, ◌≤◌, ◌-◌, ◌+◌, length, take, drop, min}
+use Rattle.std.proofs.Common.{◌≡◌, ◌≤◌, ◌-◌, length, take, drop, min}
 use Rattle.block_pool.proofs.chain.Chain.read_at.Given as goal
 
 abbrev pub invariant-loop-done : goal.invariant-loop-done

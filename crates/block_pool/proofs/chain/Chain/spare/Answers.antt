@@ -1,5 +1,4 @@
-use Rattle.std.proofs.Common.{◌≡◌, ◌≤◌, ◌<◌, ◌+◌, ◌*◌, ap, length, arith}
-use Rattle.block_pool.specs.Blocks.{octets_of}
+use Rattle.std.proofs.Common.{◌≤◌, ◌+◌, ◌*◌, ap, length, arith}
 use Rattle.block_pool.proofs.Packed.{boxes_bounds}
 use Rattle.block_pool.proofs.chain.Chain.spare.Goals as goal
 

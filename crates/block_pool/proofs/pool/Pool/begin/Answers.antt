@@ -1,6 +1,6 @@
-use Rattle.std.proofs.Common.{◌≡◌, ◌∙◌, ap, sym, subst, ℕ, ◌<◌, length, get_or, true, false, is_some, [], Some, None, arith}
+use Rattle.std.proofs.Common.{◌≡◌, ◌∙◌, ap, subst, ◌<◌, length, get_or, true, false, is_some, [], arith}
 use Rattle.block_pool.specs.Chained.{Chained}
-use Rattle.block_pool.specs.Region.{Region, AllLive, IsLive}
+use Rattle.block_pool.specs.Region.{AllLive}
 use Rattle.block_pool.proofs.Places.{places, octets_at, of_live, begin_step}
 use Rattle.block_pool.proofs.pool.Pool.begin.Goals as goal
 

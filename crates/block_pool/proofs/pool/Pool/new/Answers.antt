@@ -1,4 +1,4 @@
-use Rattle.std.proofs.Common.{◌≡◌, ◌∙◌, ap, List, Option, None, replicate, ℕ}
+use Rattle.std.proofs.Common.{◌≡◌, ◌∙◌, ap, None, replicate}
 use Rattle.block_pool.specs.Pool.{chains_of}
 use Rattle.block_pool.proofs.Places.{fresh}
 use Rattle.block_pool.proofs.pool.Pool.new.Goals as goal

@@ -1,4 +1,4 @@
-use Rattle.std.proofs.Common.{◌≡◌, ap, ◌∙◌, subst}
+use Rattle.std.proofs.Common.{ap, ◌∙◌, subst}
 use Rattle.eoe.specs.Message.{eoe_text}
 use Rattle.eoe_model.specs.Mails.{SetIp}
 use Rattle.eoe_client.specs.declared.address.Unsent.{Unsent}

@@ -1,8 +1,8 @@
-use Rattle.std.proofs.Common.{◌≡◌, ◌≤◌, ◌*◌, ap, ◌∙◌, sym, subst}
+use Rattle.std.proofs.Common.{sym, subst}
 use Rattle.eoe.specs.Cutting.{Cutting}
 use Rattle.eoe.specs.View.{fragment_seen}
 use Rattle.eoe_client.specs.Talk.{Sending, SendsPart}
-use Rattle.eoe_client.proofs.Sends.{part_sent, after_counted}
+use Rattle.eoe_client.proofs.Sends.{part_sent}
 use Rattle.eoe_client.proofs.packet.PacketSender.next_mail.Goals as goal
 
 pub returns-clause-sends : goal.returns-clause-sends

@@ -1,9 +1,9 @@
 use Rattle.std.proofs.Common.{◌≡◌, ◌≤◌, true, sym, ap, ◌∙◌, subst}
 use Rattle.mailbox_mail.specs.declared.mail.Kind.TheVariants.{FoE}
-use Rattle.foe_model.specs.Mails.{FoeMail, mail}
+use Rattle.foe_model.specs.Mails.{mail}
 use Rattle.foe_model.specs.Octets.{mail_with}
-use Rattle.foe_client.specs.Talk.{Talking, is_left, later, areas_of}
-use Rattle.foe_client.specs.Send.{message_of, sent_first, IsNext}
+use Rattle.foe_client.specs.Talk.{Talking, is_left}
+use Rattle.foe_client.specs.Send.{message_of, IsNext}
 use Rattle.foe_client.proofs.Sends.{next_is}
 use Rattle.foe_client.proofs.client.FoeClient.next_mail.Goals as goal
 

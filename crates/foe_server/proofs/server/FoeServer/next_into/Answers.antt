@@ -1,7 +1,7 @@
-use Rattle.std.proofs.Common.{◌≡◌, sym, ap, ◌∙◌}
+use Rattle.std.proofs.Common.{sym, ap, ◌∙◌}
 use Rattle.foe_model.specs.Mails.{failed}
 use Rattle.foe_server.specs.declared.state.Pending.{Pending}
-use Rattle.foe_server.specs.Serving.{Serving, waiting_mails, pending_mails, GivesNext}
+use Rattle.foe_server.specs.Serving.{Serving, waiting_mails, pending_mails}
 use Rattle.foe_server.proofs.server.FoeServer.next_into.Goals as goal
 
 pub returns-in-Failed-clause-next : goal.returns-in-Failed-clause-next

@@ -1,4 +1,4 @@
-use Rattle.std.proofs.Common.{◌≡◌, [], sym, ap, ◌∙◌, subst}
+use Rattle.std.proofs.Common.{[], sym, ap, ◌∙◌, subst}
 use Rattle.std.specs.Prelude.{is_some}
 use Rattle.gateway_tool.specs.Client.{left, awaits}
 use Rattle.gateway_tool.specs.Talk.{heard_by, HearsMail}

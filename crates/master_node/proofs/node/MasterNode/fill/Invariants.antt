@@ -1,5 +1,5 @@
 use Rattle.std.proofs.Common.{◌≡◌, ◌≤◌, ◌+◌, ℕ, List, length, vec_len}
-use Rattle.std.specs.Prelude.{All, map}
+use Rattle.std.specs.Prelude.{map}
 use Rattle.datagrams.specs.Datagram as Raw
 use Rattle.datagrams.specs.Frame.{IsBegun}
 use Rattle.life_runs.specs.of_frame_view.View.{Lens}

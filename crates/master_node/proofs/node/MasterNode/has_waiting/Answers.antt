@@ -1,4 +1,4 @@
-use Rattle.std.proofs.Common.{◌≡◌, ◌<◌, ◌∙◌, sym, ap, length, arith}
+use Rattle.std.proofs.Common.{◌<◌, ◌∙◌, sym, ap, length, arith}
 use Rattle.std.proofs.lemmas.Bool.{OnFalse_from}
 use Rattle.master_node.specs.Shows.{WaitsNone}
 use Rattle.master_node.proofs.Mailings.{none_waits, waits_here}
