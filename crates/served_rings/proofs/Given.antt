@@ -153,8 +153,8 @@ module _ (p : Profile) (boot : Bool) (station : ℕ) where
   newest_given : (start : ℕ) (from : InState Server) (e : Era Body Asked Reply) (n : Node Serving) (stand : Stand) (k : IsServedNewest p boot station start from e n stand) →
       All (given_newest p boot station start from e n stand k) (era_passings e) (filter is_passed_row (rows_of e.side))
   newest_given start from e n _ (IsServedNewest.lives left done inner state was rests) = era_given e (record from { state = was.state }) left done was.era
-  newest_given start from e n _ (IsServedNewest.unopened stand shut none) = nothing_given e none
-  newest_given start from e n _ (IsServedNewest.over stand shut left done was) = era_given e (record from { state = was.state }) left done was.era
+  newest_given start from e n _ (IsServedNewest.unopened stand shut none holds) = nothing_given e none
+  newest_given start from e n _ (IsServedNewest.over stand shut left done was holds) = era_given e (record from { state = was.state }) left done was.era
 
   -- ALL ALONG A LIFE
   pub life_given : (start : ℕ) (first : InState Server) (l : Life Body Asked Reply) (n : Node Serving) (d : IsServedLife p boot station start first l n) → All (given p boot station start first l n d) (passings l) (passed_rows l)

@@ -32,8 +32,8 @@ module _ (s : SlaveSpec) (from : InState Server) (e : Era Body Asked Reply) (n :
   -- of an open epoch nothing is left
   whole : (stand : Stand) → stand ≡ Stand.Open → IsServedNewest (profile_of s) s.boot s.station s.start from e n stand → IsServedWhole (profile_of s) s.boot s.station s.start from e n
   whole _ is (IsServedNewest.lives left done inner state was rests) = record { left = left; done = done; inner = inner; state = state; was = was; nothing = rests settled wants hand over }
-  whole _ is (IsServedNewest.unopened stand shut none) = absurd (shut is)
-  whole _ is (IsServedNewest.over stand shut left done was) = absurd (shut is)
+  whole _ is (IsServedNewest.unopened stand shut none holds) = absurd (shut is)
+  whole _ is (IsServedNewest.over stand shut left done was holds) = absurd (shut is)
 
 module _ (plan : Scenario) where
   abbrev lens : ℕ → Lens

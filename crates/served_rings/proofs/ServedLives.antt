@@ -22,8 +22,8 @@ use Rattle.slave_server.specs.Serving.{Serving, fresh}
 use Rattle.slave_steps.specs.Node.{Node}
 use Rattle.state_exchange.specs.Families.{InState}
 use Rattle.life_counts.specs.Epochs.{IsSpeaker}
-use Rattle.whole_ring.specs.Whole.{OpensBy, StandsBy}
-use Rattle.served_rings.specs.Served.{AreServedEras, IsServedNewest, IsServedLife, NothingCame}
+use Rattle.whole_ring.specs.Whole.{OpensBy, StandsBy, Waits}
+use Rattle.served_rings.specs.Served.{AreServedEras, Holds, IsServedEra, IsServedNewest, IsServedLife, NothingCame}
 use Rattle.served_rings.proofs.Epochs.{era_served}
 
 pub not_open : (o : Opening) → Stand.Opens o ≢ Stand.Open
@@ -75,17 +75,32 @@ module _ (p : Profile) (k : IsSpeaker (speaker p)) (forgets : Forgets (speaker p
         same = ap (λ (z : Serving). (cleared_whole (w.sees state z).server).inner) (sym left.same) ∙ ap (λ (v : InState Server). v.inner) one.cleared;
       }
 
+  -- a slave whose newest epoch waits holds what the next one begins with
+  waits_holds : (from at : InState Server) → from.inner ≡ at.inner → (e : Era Body Asked Reply) (n : Node Serving) → Waits w from e n.server → Holds at n
+  waits_holds from at same e n x = record {
+    app = sym (ap (λ (v : InState Server). v.inner.app.app) x.begins) ∙ ap (λ (z : Server). z.app.app) same;
+    handled = sym (ap (λ (v : InState Server). v.inner.handled) x.begins) ∙ ap (λ (z : Server). z.handled) same;
+  }
+
+  -- and one whose services a return to Init clears as those that an epoch left holds what that carried out
+  left_holds : (from : InState Server) (e : Era Body Asked Reply) (left done : InState Server) → IsServedEra p boot spot.station from e left done → (n : Node Serving) (s : Serving) →
+      w.running.clear n.server ≡ w.running.clear s → s.server ≡ left.inner → Holds done n
+  left_holds from e left done era n s clears is = record {
+    app = ap (λ (z : Serving). z.server.app.app) clears ∙ ap (λ (z : Server). z.app.app) is ∙ era.app;
+    handled = ap (λ (z : Serving). z.server.handled) clears ∙ ap (λ (z : Server). z.handled) is ∙ era.handled;
+  }
+
   opens_served : (plan : Plan) (from at : InState Server) → from.inner ≡ at.inner → (e : Era Body Asked Reply) (fs : List (Frame Body)) (stand : Stand) → stand ≢ Stand.Open → (n : Node Serving) (o : Opening) →
       OpensBy w (λ a d gs m. LedYet w is_followed is_passed spot a d gs m) (λ a d gs s. LedLeft w is_followed is_passed spot a d s) plan spot from e fs o n → Newest at e n stand
   opens_served plan from at same e fs stand shut n o (OpensBy.yet again step is still) =
       let x = still.lives.epoch in
       let one = era_served p k forgets boot lens spot from x.led e fs n x.era behind at same in
-      IsServedNewest.over stand shut _ one.done one.was
-  opens_served plan from at same e fs stand shut n o (OpensBy.anew closing x start) = IsServedNewest.unopened stand shut (nothing e x.cleared x.state x.is_new)
+      IsServedNewest.over stand shut _ one.done one.was (left_holds _ e _ one.done one.was.era n n.server refl refl)
+  opens_served plan from at same e fs stand shut n o (OpensBy.anew closing x start) = IsServedNewest.unopened stand shut (nothing e x.cleared x.state x.is_new) (waits_holds from at same e n x)
   opens_served plan from at same e fs stand shut n o (OpensBy.over closing again early x) =
       let y = x.left in
       let one = era_served p k forgets boot lens spot from y.led e y.frames y.node y.era behind at same in
-      IsServedNewest.over stand shut _ one.done one.was
+      IsServedNewest.over stand shut _ one.done one.was (left_holds _ e _ one.done one.was.era n x.server x.cleared (ap (λ (z : Serving). z.server) (sym y.same)))
 
   newest_served : (plan : Plan) (kept : Kept) (counts : Bool) (from at : InState Server) → from.inner ≡ at.inner → (e : Era Body Asked Reply) (fs : List (Frame Body)) (stand : Stand) (n : Node Serving) →
       StandsBy w (λ a d gs m. LedKept w is_followed is_passed spot kept counts a d gs m) (λ a d gs m. LedYet w is_followed is_passed spot a d gs m) (λ a d gs s. LedLeft w is_followed is_passed spot a d s) plan spot from e fs stand n → Newest at e n stand

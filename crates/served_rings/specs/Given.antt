@@ -47,8 +47,8 @@ module _ (p : Profile) (boot : Bool) (station : ℕ) where
   -- in the newest
   abbrev pub given_newest : (start : ℕ) (from : InState Server) (e : Era Body Asked Reply) (n : Node Serving) (stand : Stand) → IsServedNewest p boot station start from e n stand → List Given
   given_newest start from e n _ (IsServedNewest.lives left done inner state was rests) = given_in (record from { state = was.state }) (services_in e.account.started)
-  given_newest start from e n _ (IsServedNewest.unopened stand shut none) = []
-  given_newest start from e n _ (IsServedNewest.over stand shut left done was) = given_in (record from { state = was.state }) (services_in e.account.started)
+  given_newest start from e n _ (IsServedNewest.unopened stand shut none holds) = []
+  given_newest start from e n _ (IsServedNewest.over stand shut left done was holds) = given_in (record from { state = was.state }) (services_in e.account.started)
 
   -- ALL ALONG A LIFE
   abbrev pub given : (start : ℕ) (first : InState Server) (l : Life Body Asked Reply) (n : Node Serving) → IsServedLife p boot station start first l n → List Given

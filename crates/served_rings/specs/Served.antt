@@ -146,12 +146,18 @@ module _ (p : Profile) (boot : Bool) (station : ℕ) where
   abbrev pub RestsIf : InState Server → Era Body Asked Reply → InState Server → Node Serving → Type 0
   RestsIf from e done n = is_settled next_mail n ≡ true → WantsNothing (spoken p).speech e.side → e.account.hand ≡ None → e.passing ≡ None → NothingLeft from e done
 
-  -- THE NEWEST: it is open, and what its slave left is what the node has, its AL state among it; or nothing began in it; or it is over
+  -- A NODE HOLDS what a server has of objects, files, IDNs and addresses, and the number of services that it counts
+  pub record Holds (v : InState Server) (n : Node Serving) : Type 0 where
+    pub app : n.server.server.app.app ≡ v.inner.app.app
+    pub handled : n.server.server.handled ≡ v.inner.handled
+
+  -- THE NEWEST: it is open, and what its slave left is what the node has, its AL state among it; or nothing began in it, and the node holds what the epochs before
+  -- left; or it is over, and the node holds what was carried out of it
   pub data IsServedNewest (start : ℕ) (from : InState Server) (e : Era Body Asked Reply) (n : Node Serving) : Stand → Type 0 where
     lives : (left done : InState Server) → left.inner ≡ n.server.server → left.state ≡ (registers_seen n.registers).state →
         (was : WasServed start from e left done) → RestsIf (record from { state = was.state }) e done n → IsServedNewest start from e n Stand.Open
-    unopened : (stand : Stand) → stand ≢ Stand.Open → NothingCame e → IsServedNewest start from e n stand
-    over : (stand : Stand) → stand ≢ Stand.Open → (left done : InState Server) → WasServed start from e left done → IsServedNewest start from e n stand
+    unopened : (stand : Stand) → stand ≢ Stand.Open → NothingCame e → Holds from n → IsServedNewest start from e n stand
+    over : (stand : Stand) → stand ≢ Stand.Open → (left done : InState Server) → WasServed start from e left done → Holds done n → IsServedNewest start from e n stand
 
   -- THE WHOLE LIFE of a slave with this node, from the server with which it was switched on
   pub record IsServedLife (start : ℕ) (first : InState Server) (l : Life Body Asked Reply) (n : Node Serving) : Type 0 where
