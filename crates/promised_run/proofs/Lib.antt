@@ -1,4 +1,5 @@
 pub mod Ahead
+mod Alone
 mod Asked
 mod AskedKinds
 pub mod Asks

@@ -1,5 +1,6 @@
 pub use Rattle.run_record.specs.Ran
 pub use Rattle.run_record.specs.Session
+pub mod Alone
 pub mod Bounded
 pub mod Eager
 pub mod Emergencies

@@ -4,6 +4,7 @@ use Rattle.run_record.specs.AcceptedMails.{heard_in}
 use Rattle.life_runs.specs.Led.{Leads}
 use Rattle.run_promises.specs.Promise.{slaves_behind, Keeps}
 use Rattle.run_promises.specs.Rest.{NothingIsLeft, AllIsDone}
+use Rattle.promised_run.specs.Alone.{ServesAlone}
 use Rattle.promised_run.specs.Emergencies.{AllHaveEmergencies}
 use Rattle.promised_run.specs.Epochs.{AllCaused}
 use Rattle.promised_run.specs.Few.{AreFewLost, OutlivesLosses}
@@ -39,6 +40,8 @@ pub record IsPromised (plan : Scenario) (book : Book) : Type 0 where
   pub kept : Keeps plan (map exchanged book.frames) led.leads
   pub slaves : slaves_behind plan (map exchanged book.frames) ≡ (ring_after (first_ring plan) book.frames).nodes
   pub over : LeavesNothing plan book led.leads book.ending
+  -- and each has the number of services (`handled`) of those that it carried out, epoch by epoch, as in a serving to which no mail is asked
+  pub served : ServesAlone plan book led.leads
   -- of the script just the services stand there that began, each reported with just what the frames give for it, the reply of this application, or in doubt
   pub reported : book.ending ≢ endings.NoMemory → AllReported plan (map exchanged book.frames) 0 plan.slaves led.leads (slaves_behind plan (map exchanged book.frames)) book.slaves
   -- and of each script just the rest, behind the services that began, is reported as not sent

@@ -27,6 +27,8 @@ use run_book::{Book, Ending};
 use run_promises::{read_promise_law, rest_promise_law};
 use script_runs::script_run_law;
 use segment_plan::Scenario;
+use served_rings::served_replies::served_replies_law;
+use served_runs::run_served_law;
 use std::alloc::Global;
 
 /// Runs a plan that was read, as `run_record` does. Whatever frames are lost, each slave begins just the first services of its script, each once and
@@ -52,5 +54,7 @@ pub fn run(alloc: Global, plan: &Scenario, book: &mut Book) -> Ending
     plan_due_law();
     room_law();
     uncut_law();
+    run_served_law();
+    served_replies_law();
     run_record::run(alloc, plan, book)
 }

@@ -1,0 +1,44 @@
+-- A RUN AS A SERVING to which no mail is asked.
+use Rattle.std.proofs.Common.{◌≡◌, ℕ, None, List, [], ◌∷◌, map, ap, refl, subst}
+use Rattle.std.specs.List.{All}
+use Rattle.std.proofs.lemmas.List.Elements.{All-cons, All-nil}
+use Rattle.life_runs.specs.First.{first_leads, leads_from, lens_of}
+use Rattle.life_runs.specs.Led.{Exchanged, IsLed, Leads}
+use Rattle.plan_ring.specs.Lives.{IsKnown}
+use Rattle.promised_run.proofs.Rounds.{all_round, same_ring}
+use Rattle.promised_run.proofs.Through.{RepliesLaw}
+use Rattle.promised_run.specs.Alone.{ServesAlone}
+use Rattle.run_book.specs.declared.book.Book.{Book}
+use Rattle.run_record.specs.Led.{LeadTo, exchanged}
+use Rattle.run_record.specs.Ran.{HasFrames}
+use Rattle.run_record.specs.Replay.{first_ring}
+use Rattle.segment_plan.specs.Sound.{IsPlan}
+use Rattle.segment_plan.specs.declared.plan.Scenario.{Scenario}
+use Rattle.segment_plan.specs.declared.service.Service as Plan
+use Rattle.segment_plan.specs.declared.slave.SlaveSpec.{SlaveSpec}
+use Rattle.segment_ring.specs.Ring.{RingState}
+use Rattle.served_rings.specs.Served.{AllServeSo}
+use Rattle.served_runs.specs.Served.{IsRunOf, IsServedLed, Serves, all_serve}
+use Rattle.slave_node.specs.of_slave_steps.Node.{Node}
+use Rattle.slave_server.specs.declared.server.SlaveServer.{SlaveServer}
+
+-- before the first frame no mail is passed on
+all_unpassed : (rows : List (ℕ × Plan.Service)) (place : ℕ) (ss : List SlaveSpec) → All (λ (a : Leads). a.lived.life.era.passing ≡ None) (leads_from rows place ss)
+all_unpassed rows place [] = All-nil (λ (a : Leads). a.lived.life.era.passing ≡ None)
+all_unpassed rows place (s ∷ ss) = All-cons (λ (a : Leads). a.lived.life.era.passing ≡ None) _ (leads_from rows (suc place) ss) refl (all_unpassed rows (suc place) ss)
+
+-- each run of a plan is a serving
+abbrev pub RunsServe : Scenario → Type 0
+RunsServe plan = (fs : List Exchanged) (missed : ℕ) (as' : List Leads) → All (λ (a : Leads). a.lived.life.era.passing ≡ None) (first_leads plan) → LeadTo plan fs missed as' →
+    (ws : List Serves) × IsServedLed (lens_of plan.slaves) plan.recover plan.retry (all_serve plan.paces (first_leads plan)) fs missed ws × IsRunOf ws as'
+
+pub alone : (plan : Scenario) (book : Book) (leads : List Leads) (missed : ℕ) → IsPlan plan → IsKnown plan → RepliesLaw → RunsServe plan → HasFrames plan book → LeadTo plan (map exchanged book.frames) missed leads → ServesAlone plan book leads
+alone plan book leads missed is known law runs frames lives =
+    let fs : List Exchanged = map exchanged book.frames in
+    let run = runs fs missed leads (all_unpassed plan.services 0 plan.slaves) lives in
+    record {
+      serves = run.0;
+      alone = run.1.1;
+      slaves = subst (AllServeSo plan.slaves run.0) (ap (λ (r : RingState (Node SlaveServer)). r.nodes) (same_ring (first_ring plan) book.frames))
+          (law plan is known fs missed run.0 run.1.0 (all_round (first_ring plan) book.frames frames.recorded));
+    }
