@@ -7,7 +7,7 @@ use Rattle.segment_plan.specs.declared.plan.Scenario.{Scenario}
 use Rattle.scenario_keys.specs.declared.place.Place.TheVariants as places
 use Rattle.scenario_keys.specs.declared.refusal.Rule.TheVariants.{NotToml}
 use Rattle.scenario_keys.specs.declared.refusal.Refusal.{Refusal}
-use Rattle.scenario_keys.specs.Reading.{refuse, wanted}
+use Rattle.scenario_keys.specs.Reading.{◌>>=◌, refuse, wanted}
 use Rattle.scenario_document.specs.Tables.{tables_of}
 use Rattle.scenario_document.specs.Whole.{whole}
 

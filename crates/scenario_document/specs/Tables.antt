@@ -4,6 +4,7 @@ use Rattle.toml.specs.Data.{Members}
 use Rattle.segment_plan.specs.declared.plan.Scenario.{Scenario}
 use Rattle.scenario_keys.specs.declared.place.Place.TheVariants as places
 use Rattle.scenario_keys.specs.declared.refusal.Refusal.{Refusal}
+use Rattle.scenario_keys.specs.Reading.{◌>>=◌}
 use Rattle.scenario_keys.specs.Keys.{only_keys, integer_at, integer_or}
 use Rattle.scenario_values.specs.Tables.{optional_tables_at}
 use Rattle.scenario_document.specs.Losses.{lose_at}

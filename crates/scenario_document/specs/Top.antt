@@ -5,7 +5,7 @@ use Rattle.arrayvec.specs.ArrayVec.{ArrayVec}
 use Rattle.scenario_keys.specs.declared.place.Place.TheVariants as places
 use Rattle.scenario_keys.specs.declared.refusal.Rule.TheVariants.{WrongVersion, OutOfRange}
 use Rattle.scenario_keys.specs.declared.refusal.Refusal.{Refusal}
-use Rattle.scenario_keys.specs.Reading.{wanted, unless_refused, optional, each}
+use Rattle.scenario_keys.specs.Reading.{◌>>=◌, wanted, unless_refused, optional, each}
 use Rattle.scenario_keys.specs.Keys.{only_keys, needed_at, number_in, integer_in}
 use Rattle.scenario_values.specs.Octets.{octets_at}
 use Rattle.scenario_values.specs.Tables.{tables_at}

@@ -6,7 +6,7 @@ use Rattle.scenario_keys.specs.declared.place.Place.TheVariants as places
 use Rattle.scenario_keys.specs.declared.refusal.Rule.{Rule}
 use Rattle.scenario_keys.specs.declared.refusal.Rule.TheVariants.{SameName, SameStation, Schedule, TooMany}
 use Rattle.scenario_keys.specs.declared.refusal.Refusal.{Refusal}
-use Rattle.scenario_keys.specs.Reading.{refuse, unless_refused}
+use Rattle.scenario_keys.specs.Reading.{◌>>=◌, refuse, unless_refused}
 
 -- no slave that one before it equals
 abbrev pub unless_repeated : Rule → Option ℕ → Result (Unit {0}) Refusal

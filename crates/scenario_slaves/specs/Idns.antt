@@ -7,7 +7,7 @@ use Rattle.scenario_keys.specs.declared.place.Place.{Place}
 use Rattle.scenario_keys.specs.declared.place.Place.TheVariants as places
 use Rattle.scenario_keys.specs.declared.refusal.Rule.TheVariants.{OutOfRange}
 use Rattle.scenario_keys.specs.declared.refusal.Refusal.{Refusal}
-use Rattle.scenario_keys.specs.Reading.{unless_refused, each_behind}
+use Rattle.scenario_keys.specs.Reading.{◌>>=◌, unless_refused, each_behind}
 use Rattle.scenario_keys.specs.Keys.{only_keys, integer_at, integer_or, sizes_at, bool_at, optional_label_at}
 use Rattle.scenario_values.specs.Bounds.{idn_bounds_at, idn_value_at}
 

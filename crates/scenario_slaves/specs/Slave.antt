@@ -5,8 +5,10 @@ use Rattle.file_store.specs.declared.file.FileSpec.{FileSpec}
 use Rattle.segment_plan.specs.declared.slave.ObjectSpec.{ObjectSpec}
 use Rattle.idn_table.specs.declared.spec.IdnSpec.{IdnSpec}
 use Rattle.segment_plan.specs.declared.slave.SlaveSpec.{SlaveSpec}
+use Rattle.scenario_keys.specs.declared.place.Place.{Place}
 use Rattle.scenario_keys.specs.declared.place.Place.TheVariants as places
 use Rattle.scenario_keys.specs.declared.refusal.Refusal.{Refusal}
+use Rattle.scenario_keys.specs.Reading.{◌>>=◌}
 use Rattle.scenario_keys.specs.Keys.{only_keys}
 use Rattle.scenario_values.specs.Tables.{optional_tables_at}
 use Rattle.scenario_values.specs.Objects.{objects_of}
