@@ -1,0 +1,11 @@
+-- EACH MAIL THAT WAS ACCEPTED over a serving WAS DUE.
+use Rattle.std.specs.Prelude.{ℕ}
+use Rattle.gateway_run.specs.Served.{HasAccount}
+use Rattle.run_book.specs.declared.book.Book.{Book}
+use Rattle.run_book.specs.declared.book.Ending.{Ending}
+use Rattle.run_record.specs.Written.{WereServedDue}
+use Rattle.segment_plan.specs.declared.plan.Scenario.{Scenario}
+
+-- by each account of its book: whatever an open slave sent replies to nothing, or is the reply that the service in hand still awaits
+abbrev pub IsServedDue : Scenario → ℕ → Book → Type 0
+IsServedDue plan count book = (ending : Ending) (a : HasAccount plan count book ending) → WereServedDue a.answers.serving.leading.lives
