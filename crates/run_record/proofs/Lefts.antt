@@ -178,9 +178,13 @@ module _ (plan : Scenario) (s : SessionState) (fs : List Exchanged) (w : Serving
     came = sym w.forwarded.happened.entered ∙ ap (λ z. arrivals_at 0 z) events ∙ none.host some ∙ sym w.forwarded.happened.own
 
     past : NonePast lens m.lan 0 (map run_lead ws)
-    past = λ k is.
-        (λ i. forwarded (sym w.forwarded.happened.switch i) (w.forwarded.ports i) k)
-        ∙ ap (λ (z : List SwitchEvent). forwarded (switched (ports_of plan.slaves) z).switch (ports_behind 0 plan.slaves) k) events ∙ none.slaves k is
+    past = λ k is. subst (λ n. forwarded m.lan.switch m.lan.ports.items n ≡ []) (from_first k) (
+      (λ i. forwarded (sym w.forwarded.happened.switch i) (w.forwarded.ports i) k)
+      ∙ ap (λ (z : List SwitchEvent). forwarded (switched (ports_of plan.slaves) z).switch (ports_behind 0 plan.slaves) k) events ∙ none.slaves k is
+    )
+      where
+        from_first : (n : ℕ) → n ≡ 0 + n
+        from_first n = omega arith
 
     pub all_over : WereServedDue w.leading.lives → All (IsServedOut lens) ws → AllBoth (RestsSo lens) (map run_lead ws) (session_rows s) → IsDone s
     all_over due out rows =
