@@ -38,7 +38,7 @@ alone plan book leads missed is known law runs frames lives =
     let run = runs fs missed leads (all_unpassed plan.services 0 plan.slaves) lives in
     record {
       serves = run.0;
-      alone = run.1.1;
+      alone = run.2;
       slaves = subst (AllServeSo plan.slaves run.0) (ap (λ (r : RingState (Node SlaveServer)). r.nodes) (same_ring (first_ring plan) book.frames))
-          (law plan is known fs missed run.0 run.1.0 (all_round (first_ring plan) book.frames frames.recorded));
+          (law plan is known fs missed run.0 run.1 (all_round (first_ring plan) book.frames frames.recorded));
     }
