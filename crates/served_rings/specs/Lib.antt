@@ -11,5 +11,6 @@ pub mod Served
 pub mod Serves
 pub mod Servings
 pub mod Speakers
+pub mod StoodLives
 pub mod Told
 pub mod ToldEras
