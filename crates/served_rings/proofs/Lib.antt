@@ -50,7 +50,6 @@ pub mod Slaves
 pub mod Speakers
 mod States
 pub mod Stood
-pub mod StoodAll
 pub mod Told
 pub mod ToldLives
 pub mod ToldTasks

@@ -1,9 +1,9 @@
 -- A LIFE IS LIVED by epochs that its master leads, with the slave as it stood where each that is over ended.
-use Rattle.std.proofs.Common.{◌≡◌, ◌⊎◌, ℕ, suc, ◌<◌, ◌≤◌, Bool, true, false, List, [], ◌∷◌, ◌++◌, length, refl, ap, sym, subst, arith, length-append}
+use Rattle.std.proofs.Common.{◌≡◌, inl, inr, ℕ, suc, ◌<◌, ◌≤◌, ◌==◌, ◌&&◌, Bool, true, false, List, [], ◌∷◌, ◌++◌, length, refl, ap, sym, subst, arith, length-append}
 use Rattle.std.specs.Prelude.{Option, Some, None, if◌then◌else◌}
 use Rattle.frames_seen.specs.Slaves.{registers_seen}
 use Rattle.life_model.specs.Eras.{Clearing}
-use Rattle.life_model.specs.Lives.{Spot, Era, Life, Opening, Stand, clears, gives_up, new_era, new_life, opens, reopens, reopens_at, steps_on}
+use Rattle.life_model.specs.Lives.{Spot, Era, Life, Opening, Stand, clears, gives_up, is_shown, last_step, new_era, new_life, opens, reopens, reopens_at, shows_clear, steps_on}
 use Rattle.link_mails.specs.Body.{Body}
 use Rattle.link_model.specs.Segment.{RingFate}
 use Rattle.news_kept.specs.Counts.{counts_on, kept_on}
@@ -13,14 +13,14 @@ use Rattle.slave_lives.specs.Lived.{Behind, RingFrame, frame_of, node_behind}
 use Rattle.slave_lives.specs.Opening.{Plan}
 use Rattle.slave_steps.specs.Node.{Node, new_node}
 use Rattle.task_model.specs.Accounts.{Duty, Pick, Stage}
-use Rattle.whole_ring.specs.Turns.{FrameComes, TurnsAs, life_by}
+use Rattle.whole_ring.specs.Turns.{FrameComes, TurnsAs, era_behind, life_by}
 use Rattle.whole_ring.specs.Whole.{IsLivedBy, IsWhole, Leaving, Living, OpensBy, Passing}
 use Rattle.whole_ring.proofs.WholeTurning.{begins_by, given_by, turns_by}
 use Rattle.served_rings.specs.Lives.{AllLeds, LedKept, LedLeft, LedYet, news_as, recorded_as}
 use Rattle.served_rings.specs.StoodLives.{BeginsAt, IsStoodLived, Stood}
 use Rattle.served_rings.proofs.Kept.{keeps_by, session_of}
 
-longer : {X : Type 0} (xs : List X) (x : X) → length (xs ++ x ∷ []) ≡ suc (length xs)
+pub longer : {X : Type 0} (xs : List X) (x : X) → length (xs ++ x ∷ []) ≡ suc (length xs)
 longer xs x = let e = length-append xs (x ∷ []) in omega (arith, e)
 
 -- A LIFE BEHIND A FRAME: the epochs that are over are those before it, or one more, whose return to Init it showed
@@ -49,11 +49,17 @@ module _ {M Q R : Type 0} (frame : ℕ) (l : Life M Q R) where
       at (Stage.Goes phase) = returns _ _
 
 module _ {S V A Q R : Type 0} (w : Behind S V A Q R) (more : Body → Bool) (passed : Q → Bool) (spot : Spot) (fs : List (Frame Body)) (t : RingFrame S) (pick : Pick Q) (news : List (News Body)) (l : Life Body Q R) where
+  abbrev on : Life Body Q R
+  on = record l { era = era_behind w more passed spot fs t pick news RingFate.Back l.era }
+
+  went_open : Went (length fs) l (reopens on on.era.account.hand)
+  went_open = went_reopens (length fs) l on refl refl on.era.account.hand
+
   went : (came : Option (Bool × Option Found)) (fate : RingFate) (stand : Stand) → Went (length fs) l (life_by w more passed spot fs t pick news came fate l stand)
   went None RingFate.Back (Stand.Opens o) = Went.stays l refl refl
-  went (Some came) RingFate.Back (Stand.Opens o) = went_access (length fs) l o _ _ _ _
-  went None RingFate.Back Stand.Open = went_reopens (length fs) l _ refl refl _
-  went (Some came) RingFate.Back Stand.Open = went_reopens (length fs) l _ refl refl _
+  went (Some came) RingFate.Back (Stand.Opens o) = went_access (length fs) l o (shows_clear o) (o.step == last_step o) (came.0 && is_shown 1 came.1) (came.0 && is_shown o.state came.1)
+  went None RingFate.Back Stand.Open = went_open
+  went (Some came) RingFate.Back Stand.Open = went_open
   went None RingFate.Back Stand.Gone = Went.stays l refl refl
   went (Some came) RingFate.Back Stand.Gone = Went.stays l refl refl
   went came (RingFate.Lost after) (Stand.Opens o) = Went.stays l refl refl

@@ -5,18 +5,15 @@ use Rattle.exchange_model.specs.Prefix.{IsPrefixOf}
 use Rattle.exchange_model.specs.Rows.{Row, heard_all}
 use Rattle.frames_seen.specs.Slaves.{registers_seen}
 use Rattle.life_model.specs.Lives.{Era, Life, Stand}
-use Rattle.life_runs.specs.Led.{Exchanged}
 use Rattle.link_mails.specs.Body.{Body}
 use Rattle.mailbox_mail.specs.declared.mail.Mail.{Mail}
 use Rattle.master_duty.specs.Reply.{Reply}
 use Rattle.master_hand.specs.Spoken.{Asked, emission, passed}
-use Rattle.plan_ring.specs.Round.{ring_after, ring_of}
 use Rattle.served_rings.specs.Speakers.{cleared_whole, spoken, table_of}
 use Rattle.run_work.specs.Lives.{first_server}
 use Rattle.segment_model.specs.Ends.{Passing}
 use Rattle.segment_model.specs.Laws.{WantsNothing}
 use Rattle.segment_model.specs.Seats.{rows_of}
-use Rattle.segment_plan.specs.declared.plan.Scenario.{Scenario}
 use Rattle.segment_plan.specs.declared.slave.SlaveSpec.{SlaveSpec}
 use Rattle.served_runs.specs.Served.{Serves}
 use Rattle.slave_model.specs.Profile.{Profile}
@@ -170,7 +167,3 @@ abbrev pub AllServeSo : List SlaveSpec → List Serves → List (Node Serving) �
 AllServeSo [] [] [] = ⊤
 AllServeSo (s ∷ ss) (w ∷ ws) (n ∷ ns) = IsServedLife (profile_of s) s.boot s.station s.start (first_server s) w.lead.lived.life n × AllServeSo ss ws ns
 AllServeSo _ _ _ = ⊥
-
--- THE SLAVES OF A SERVING behind frames that went round the plan's ring
-abbrev pub ServeSo : Scenario → List Exchanged → List Serves → Type 0
-ServeSo plan fs ws = AllServeSo plan.slaves ws (ring_after (ring_of plan) fs).nodes

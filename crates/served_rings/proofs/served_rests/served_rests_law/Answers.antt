@@ -13,6 +13,6 @@ returns c = λ plan is known fs missed ws l round.
     let lens = lens_of plan.slaves in
     let x = c.served_ring_law.ensures plan is known fs missed ws l round in
     let nodes = x.lives.nodes ∙ nodes_of plan lens 0 plan.slaves ws x.nodes x.at in
-    all_done plan 0 plan.slaves ws (ring_after (ring_of plan) fs).nodes (have_lens plan.slaves (apart_from [] 0 plan.slaves is.stations)) (c.served_replies_law.ensures plan is known fs missed ws l round)
+    all_done plan 0 plan.slaves ws (ring_after (ring_of plan) fs).nodes (have_lens plan.slaves (apart_from [] 0 plan.slaves is.stations)) (c.served_replies_law.ensures plan is known fs missed ws l round).each
     (subst (AllServedAt plan 0 plan.slaves ws) (sym nodes) x.at)
     (c.asked_law.ensures lens plan.recover plan.retry plan.paces (first_leads plan) fs missed ws (all_fresh plan.services 0 plan.slaves) l)
