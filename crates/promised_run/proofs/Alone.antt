@@ -1,9 +1,9 @@
 -- A RUN AS A SERVING to which no mail is asked.
-use Rattle.std.proofs.Common.{◌≡◌, ℕ, None, List, [], ◌∷◌, map, ap, refl, subst}
+use Rattle.std.proofs.Common.{◌≡◌, ℕ, suc, None, List, [], ◌∷◌, map, ap, refl, subst}
 use Rattle.std.specs.List.{All}
 use Rattle.std.proofs.lemmas.List.Elements.{All-cons, All-nil}
 use Rattle.life_runs.specs.First.{first_leads, leads_from, lens_of}
-use Rattle.life_runs.specs.Led.{Exchanged, IsLed, Leads}
+use Rattle.life_runs.specs.Led.{Exchanged, Leads}
 use Rattle.plan_ring.specs.Lives.{IsKnown}
 use Rattle.promised_run.proofs.Rounds.{all_round, same_ring}
 use Rattle.promised_run.proofs.Through.{RepliesLaw}

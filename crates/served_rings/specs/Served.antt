@@ -32,6 +32,11 @@ pub record NothingCame (e : Era Body Asked Reply) : Type 0 where
   pub started : e.account.started ≡ []
   pub rows : rows_of e.side ≡ []
 
+-- A NODE HOLDS what a server has of objects, files, IDNs and addresses, and the number of services that it counts
+pub record Holds (v : InState Server) (n : Node Serving) : Type 0 where
+  pub app : n.server.server.app.app ≡ v.inner.app.app
+  pub handled : n.server.server.handled ≡ v.inner.handled
+
 module _ (p : Profile) (boot : Bool) (station : ℕ) where
   -- THE SERVER BEHIND ROWS, one after the other: a service acts by its meaning and ends the unfinished transfer of its protocol, a mail that was passed on acts by
   -- the one step that the server takes for it, and a change of the AL state by the slave's table
@@ -142,11 +147,6 @@ module _ (p : Profile) (boot : Bool) (station : ℕ) where
   -- so it is where the slave is settled, and the master wants nothing of it and passes no mail on to it
   abbrev pub RestsIf : InState Server → Era Body Asked Reply → InState Server → Node Serving → Type 0
   RestsIf from e done n = is_settled next_mail n ≡ true → WantsNothing (spoken p).speech e.side → e.account.hand ≡ None → e.passing ≡ None → NothingLeft from e done
-
-  -- A NODE HOLDS what a server has of objects, files, IDNs and addresses, and the number of services that it counts
-  pub record Holds (v : InState Server) (n : Node Serving) : Type 0 where
-    pub app : n.server.server.app.app ≡ v.inner.app.app
-    pub handled : n.server.server.handled ≡ v.inner.handled
 
   -- THE NEWEST: it is open, and what its slave left is what the node has, its AL state among it; or nothing began in it, and the node holds what the epochs before
   -- left; or it is over, and the node holds what was carried out of it
