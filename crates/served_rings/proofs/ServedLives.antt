@@ -53,14 +53,14 @@ module _ (p : Profile) (k : IsSpeaker (speaker p)) (forgets : Forgets (speaker p
   clears_inner a b same = ap (λ (z : Server). record (fresh z.app.app) { handled = z.handled }) same
 
   -- a slave that has what an epoch begins with, cleared, holds it
-  begins_holds : (from at : InState Server) → from.inner ≡ at.inner → (al : ℕ) (n : Node Serving) → from ≡ w.exchange.app (w.sees al (w.running.clear n.server)).server → Holds p boot spot.station at n
+  begins_holds : (from at : InState Server) → from.inner ≡ at.inner → (al : ℕ) (n : Node Serving) → from ≡ w.exchange.app (w.sees al (w.running.clear n.server)).server → Holds at n
   begins_holds from at same al n begins = record {
     app = sym (ap (λ (v : InState Server). v.inner.app.app) begins) ∙ ap (λ (z : Server). z.app.app) same;
     handled = sym (ap (λ (v : InState Server). v.inner.handled) begins) ∙ ap (λ (z : Server). z.handled) same;
   }
 
   -- so it held what it was cleared from
-  held_at : (stood : ℕ → Node Serving → Type 0) (b v : InState Server) (cleared : Option ℕ) → b.inner ≡ (cleared_whole v).inner → BeginsAt w stood b cleared → HeldAt p boot spot.station stood v cleared
+  held_at : (stood : ℕ → Node Serving → Type 0) (b v : InState Server) (cleared : Option ℕ) → b.inner ≡ (cleared_whole v).inner → BeginsAt w stood b cleared → HeldAt stood v cleared
   held_at stood b v cleared same x =
       let holds = begins_holds b (cleared_whole v) same x.al x.node x.begins in
       record { frame = x.frame; shown = x.shown; node = x.node; stands = x.stands; holds = record { app = holds.app; handled = holds.handled } }
@@ -98,7 +98,7 @@ module _ (p : Profile) (k : IsSpeaker (speaker p)) (forgets : Forgets (speaker p
 
   -- and one whose services a return to Init clears as those that an epoch left holds what that carried out
   left_holds : (from : InState Server) (e : Era Body Asked Reply) (left done : InState Server) → IsServedEra p boot spot.station from e left done → (n : Node Serving) (s : Serving) →
-      w.running.clear n.server ≡ w.running.clear s → s.server ≡ left.inner → Holds p boot spot.station done n
+      w.running.clear n.server ≡ w.running.clear s → s.server ≡ left.inner → Holds done n
   left_holds from e left done era n s clears is = record {
     app = ap (λ (z : Serving). z.server.app.app) clears ∙ ap (λ (z : Server). z.app.app) is ∙ era.app;
     handled = ap (λ (z : Serving). z.server.handled) clears ∙ ap (λ (z : Server). z.handled) is ∙ era.handled;

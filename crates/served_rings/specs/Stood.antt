@@ -20,21 +20,21 @@ use Rattle.slave_server.specs.Spec.{profile_of}
 use Rattle.slave_steps.specs.Node.{Node}
 use Rattle.state_exchange.specs.Families.{InState}
 
-module _ (p : Profile) (boot : Bool) (station : ℕ) (stood : ℕ → Node Serving → Type 0) where
-  -- BEHIND THE FRAME that showed the return to Init the slave's node held what this server has
-  pub record HeldAt (v : InState Server) (cleared : Option ℕ) : Type 0 where
-    pub frame : ℕ
-    pub shown : cleared ≡ Some frame
-    pub node : Node Serving
-    pub stands : stood frame node
-    pub holds : Holds p boot station v node
+-- BEHIND THE FRAME that showed the return to Init the slave's node held what this server has; `stood` says of a frame which node the slave was behind it
+pub record HeldAt (stood : ℕ → Node Serving → Type 0) (v : InState Server) (cleared : Option ℕ) : Type 0 where
+  pub frame : ℕ
+  pub shown : cleared ≡ Some frame
+  pub node : Node Serving
+  pub stands : stood frame node
+  pub holds : Holds v node
 
+module _ (p : Profile) (boot : Bool) (station : ℕ) (stood : ℕ → Node Serving → Type 0) where
   -- OF EACH EPOCH THAT IS OVER its node held what was carried out of it, and where it was never opened what was carried out before it: behind the frame with which
   -- the next one was cleared
   abbrev pub AllHeld : (start : ℕ) (first : InState Server) (es : List (Era Body Asked Reply)) (b : InState Server) → AreServedEras p boot station start first es b → Option ℕ → Type 0
   AllHeld start first _ _ AreServedEras.none cleared = ⊤
-  AllHeld start first _ _ (AreServedEras.unopened es b e before none) cleared = AllHeld start first es b before e.cleared × HeldAt b cleared
-  AllHeld start first _ _ (AreServedEras.opened es b e left done before was) cleared = AllHeld start first es b before e.cleared × HeldAt done cleared
+  AllHeld start first _ _ (AreServedEras.unopened es b e before none) cleared = AllHeld start first es b before e.cleared × HeldAt stood b cleared
+  AllHeld start first _ _ (AreServedEras.opened es b e left done before was) cleared = AllHeld start first es b before e.cleared × HeldAt stood done cleared
 
 -- of each slave of a plan, by the nodes of these slaves behind each number of frames
 abbrev pub EachHeld : (ℕ → List (Node Serving)) → (ss : List SlaveSpec) (ws : List Serves) (ns : List (Node Serving)) → AllServeSo ss ws ns → Type 0
