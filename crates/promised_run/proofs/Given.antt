@@ -27,6 +27,7 @@ use Rattle.plan_ring.specs.Lives.{IsKnown}
 use Rattle.plan_ring.specs.Round.{AllRound, behind, ring_of}
 use Rattle.promised_run.proofs.Rounds.{all_round}
 use Rattle.promised_run.proofs.Through.{RepliesLaw, stood_behind}
+use Rattle.promised_run.specs.Stood.{StoodBehind}
 use Rattle.promised_run.specs.Given.{IsGiven, IsGivenAt, IsGivenTo, IsGivenTo.dropped as is_dropped, IsGivenTo.takes, IsGivenTo.waits as still_waits, IsServedGiven, IsStepOf, mails_given}
 use Rattle.run_book.specs.declared.book.Book.{Book}
 use Rattle.run_book.specs.declared.book.Ending.{Ending}

@@ -12,7 +12,6 @@ use Rattle.run_book.specs.declared.book.SentFrame.{SentFrame}
 use Rattle.run_promises.proofs.Known.{known}
 use Rattle.run_record.specs.Led.{exchanged}
 use Rattle.run_record.specs.Ran.{HasSent}
-use Rattle.run_record.specs.Replay as Replay
 use Rattle.run_record.specs.Replay.{AreRecorded, behind, first_ring}
 use Rattle.scenario.specs.Told.{IsTold}
 use Rattle.segment_plan.specs.Sound.{IsPlan}
@@ -25,7 +24,7 @@ use Rattle.served_runs.specs.Came.{HasServed, IsFresh}
 use Rattle.served_runs.specs.Served.{Serves, IsServedLed, TellsSo, all_serve}
 use Rattle.slave_node.specs.of_slave_steps.Node.{Node}
 use Rattle.slave_server.specs.declared.server.SlaveServer.{SlaveServer}
-use Rattle.promised_run.specs.Stood.{StoodBehind}
+use Rattle.promised_run.specs.Stood.{StoodBehind, nodes_through}
 use Rattle.promised_run.specs.Through.{IsServedThrough}
 
 -- the first of recorded frames are
@@ -33,14 +32,16 @@ first_recorded : (ring : RingState (Node SlaveServer)) (fs others : List SentFra
 first_recorded ring [] others recorded = tt
 first_recorded ring (f ∷ fs) others recorded = (recorded.0, first_recorded (behind ring f.sent) fs others recorded.1)
 
+-- the nodes of the plan's ring behind frames are those of the one that replays them
+pub same_nodes : (plan : Scenario) (fs : List SentFrame) (frames : ℕ) → nodes_behind plan (map exchanged fs) frames ≡ nodes_through plan fs frames
+same_nodes plan fs frames =
+    ap (λ hs. (ring_after (ring_of plan) hs).nodes) (take-map exchanged frames fs) ∙ ap (λ (r : RingState (Node SlaveServer)). r.nodes) (same_ring (first_ring plan) (take frames fs))
+
 -- what slaves served by frames they served by the book's
 pub stood_behind : (plan : Scenario) (fs : List SentFrame) (ws : List Serves) → ServeSo plan (map exchanged fs) ws → StoodBehind plan fs ws
 stood_behind plan fs ws served =
-    let nodes : (hs : List SentFrame) → (ring_after (ring_of plan) (map exchanged hs)).nodes ≡ (Replay.ring_after (first_ring plan) hs).nodes = λ hs. ap (λ (r : RingState (Node SlaveServer)). r.nodes) (same_ring (first_ring plan) hs) in
-    let first : (k : ℕ) → nodes_behind plan (map exchanged fs) k ≡ (Replay.ring_after (first_ring plan) (take k fs)).nodes =
-    λ k. ap (λ hs. (ring_after (ring_of plan) hs).nodes) (take-map exchanged k fs) ∙ nodes (take k fs) in
-    subst (λ ns. ServeStood (λ k. (Replay.ring_after (first_ring plan) (take k fs)).nodes) plan.slaves ws ns) (nodes fs)
-    (subst (λ (stood : ℕ → List (Node SlaveServer)). ServeStood stood plan.slaves ws (ring_after (ring_of plan) (map exchanged fs)).nodes) (λ i k. first k i) served)
+    subst (λ ns. ServeStood (nodes_through plan fs) plan.slaves ws ns) (ap (λ (r : RingState (Node SlaveServer)). r.nodes) (same_ring (first_ring plan) fs))
+    (subst (λ (stood : ℕ → List (Node SlaveServer)). ServeStood stood plan.slaves ws (ring_after (ring_of plan) (map exchanged fs)).nodes) (λ i k. same_nodes plan fs k i) served)
 
 -- the laws of a serving
 abbrev pub RepliesLaw : Type 0
