@@ -52,6 +52,8 @@ mod States
 pub mod Told
 pub mod ToldLives
 pub mod ToldTasks
+mod Taken
+mod TakenNow
 mod Turned
 pub mod Unpassed
 pub mod Whole
