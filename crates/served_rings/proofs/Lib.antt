@@ -53,7 +53,9 @@ pub mod Told
 pub mod ToldLives
 pub mod ToldTasks
 mod Taken
+mod TakenBy
 mod TakenNow
+mod TakenSo
 mod Turned
 pub mod Unpassed
 pub mod Whole
