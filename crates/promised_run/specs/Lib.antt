@@ -2,11 +2,13 @@ pub use Rattle.run_record.specs.Ran
 pub use Rattle.run_record.specs.Session
 pub mod Alone
 pub mod Bounded
+pub mod Due
 pub mod Eager
 pub mod Emergencies
 pub mod Epochs
 pub mod Few
 pub mod Given
+pub mod Left
 pub mod Numbers
 pub mod Packets
 pub mod Ports
@@ -18,6 +20,7 @@ pub mod ServedBooks
 pub mod ServedBounded
 pub mod ServedPorts
 pub mod ServedReported
+pub mod Stood
 pub mod Through
 pub mod TouredTours
 pub mod Tours

@@ -49,6 +49,7 @@ pub mod Singles
 pub mod Slaves
 pub mod Speakers
 mod States
+pub mod Stood
 pub mod Told
 pub mod ToldLives
 pub mod ToldTasks

@@ -6,18 +6,15 @@ use Rattle.exchange_model.specs.Prefix.{IsPrefixOf}
 use Rattle.exchange_model.specs.Rows.{Row, heard_all}
 use Rattle.frames_seen.specs.Slaves.{registers_seen}
 use Rattle.life_model.specs.Lives.{Era, Life, Stand}
-use Rattle.life_runs.specs.Led.{Exchanged}
 use Rattle.link_mails.specs.Body.{Body}
 use Rattle.mailbox_mail.specs.declared.mail.Mail.{Mail}
 use Rattle.master_duty.specs.Reply.{Reply}
 use Rattle.master_hand.specs.Spoken.{Asked, emission, net, passed}
-use Rattle.plan_ring.specs.Round.{ring_after, ring_of}
 use Rattle.served_rings.specs.Speakers.{cleared_whole, spoken, table_of}
 use Rattle.run_work.specs.Lives.{first_server}
 use Rattle.segment_model.specs.Ends.{Passing}
 use Rattle.segment_model.specs.Laws.{WantsNothing}
 use Rattle.segment_model.specs.Seats.{rows_of}
-use Rattle.segment_plan.specs.declared.plan.Scenario.{Scenario}
 use Rattle.segment_plan.specs.declared.slave.SlaveSpec.{SlaveSpec}
 use Rattle.served_runs.specs.Served.{Serves}
 use Rattle.slave_model.specs.Profile.{Profile}
@@ -40,6 +37,11 @@ pub record NothingCame (e : Era Body Asked Reply) : Type 0 where
 abbrev pub IsPacket : Service Asked → Type 0
 IsPacket (Service.Mails (net (EoeClient.packet octets frame))) = ⊤
 IsPacket _ = ⊥
+
+-- A NODE HOLDS what a server has of objects, files, IDNs and addresses, and the number of services that it counts
+pub record Holds (v : InState Server) (n : Node Serving) : Type 0 where
+  pub app : n.server.server.app.app ≡ v.inner.app.app
+  pub handled : n.server.server.handled ≡ v.inner.handled
 
 module _ (p : Profile) (boot : Bool) (station : ℕ) where
   -- THE SERVER BEHIND ROWS, one after the other: a service acts by its meaning and ends the unfinished transfer of its protocol, a mail that was passed on acts by
@@ -167,11 +169,6 @@ module _ (p : Profile) (boot : Bool) (station : ℕ) where
   abbrev pub RestsIf : InState Server → Era Body Asked Reply → InState Server → Node Serving → Type 0
   RestsIf from e done n = is_settled next_mail n ≡ true → WantsNothing (spoken p).speech e.side → e.account.hand ≡ None → e.passing ≡ None → NothingLeft from e done
 
-  -- A NODE HOLDS what a server has of objects, files, IDNs and addresses, and the number of services that it counts
-  pub record Holds (v : InState Server) (n : Node Serving) : Type 0 where
-    pub app : n.server.server.app.app ≡ v.inner.app.app
-    pub handled : n.server.server.handled ≡ v.inner.handled
-
   -- THE NEWEST: it is open, and what its slave left is what the node has, its AL state among it; or nothing began in it, and the node holds what the epochs before
   -- left; or it is over, and the node holds what was carried out of it
   pub data IsServedNewest (start : ℕ) (from : InState Server) (e : Era Body Asked Reply) (n : Node Serving) : Stand → Type 0 where
@@ -191,7 +188,3 @@ abbrev pub AllServeSo : List SlaveSpec → List Serves → List (Node Serving) �
 AllServeSo [] [] [] = ⊤
 AllServeSo (s ∷ ss) (w ∷ ws) (n ∷ ns) = IsServedLife (profile_of s) s.boot s.station s.start (first_server s) w.lead.lived.life n × AllServeSo ss ws ns
 AllServeSo _ _ _ = ⊥
-
--- THE SLAVES OF A SERVING behind frames that went round the plan's ring
-abbrev pub ServeSo : Scenario → List Exchanged → List Serves → Type 0
-ServeSo plan fs ws = AllServeSo plan.slaves ws (ring_after (ring_of plan) fs).nodes
