@@ -102,10 +102,14 @@ module _ (p : Profile) (boot : Bool) (station : ℕ) where
     pub over : passing ≡ None → number < count
     pub replied : plain emission r.heard ≢ [] → number < count
 
+  -- one row, where its service passes a mail on
+  abbrev pub IsTakenOne : ℕ → ℕ → Asked → Option Passing → Row Body Asked Reply → Type 0
+  IsTakenOne count number q passing r = (m : Mail) → q ≡ passed m → IsTakenOf count number passing r
+
   -- EACH MAIL that was passed on among these services, the first of which has this number, and the newest of which has come so far
   abbrev pub AllTaken : ℕ → ℕ → Option Passing → List (Service Asked) → List (Row Body Asked Reply) → Type 0
   AllTaken count number passing [] [] = ⊤
-  AllTaken count number passing (Service.Mails q ∷ qs) (r ∷ rs) = ((m : Mail) → q ≡ passed m → IsTakenOf count number (passing_before qs passing) r) × AllTaken count (suc number) passing qs rs
+  AllTaken count number passing (Service.Mails q ∷ qs) (r ∷ rs) = IsTakenOne count number q (passing_before qs passing) r × AllTaken count (suc number) passing qs rs
   AllTaken count number passing (Service.State target ∷ qs) rs = AllTaken count (suc number) passing qs rs
   AllTaken count number passing _ _ = ⊥
 
