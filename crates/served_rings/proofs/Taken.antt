@@ -1,5 +1,5 @@
 -- TURN BY TURN: a mail that is passed on, has no reply and is over was taken: its slave has carried out all services by mails that came into hand.
-use Rattle.std.proofs.Common.{◌≡◌, ◌⊎◌, inl, inr, ℕ, suc, ◌+◌, ◌-◌, ◌<◌, ◌≤◌, ◌==◌, ◌&&◌, ◌||◌, Bool, true, false, Option, Some, None, List, [], ◌∷◌, ◌++◌, map, length, refl, ap, ap₂, sym, ◌∙◌, subst, arith, append-nil, length-append, if◌then◌else◌}
+use Rattle.std.proofs.Common.{◌≡◌, ◌⊎◌, inl, inr, ℕ, suc, ◌+◌, ◌<◌, ◌≤◌, ◌&&◌, Bool, true, false, Option, Some, None, List, [], ◌∷◌, ◌++◌, map, length, refl, ap, ap₂, sym, ◌∙◌, subst, arith, append-nil, length-append, if◌then◌else◌}
 use Rattle.std.specs.Prelude.{⊤, nat_lt}
 use Rattle.exchange_model.proofs.Lists.{append_cancel, append_none}
 use Rattle.exchange_model.proofs.Words.{plain-append}
@@ -15,7 +15,6 @@ use Rattle.life_model.specs.Own.{own_fate, own_frame}
 use Rattle.link_model.specs.Frames.{all_accepted}
 use Rattle.link_model.specs.Segment.{RingFate}
 use Rattle.passed_whole.proofs.Founds.{AllFindNone, empty_was, late_tells, sees_empty, sees_late}
-use Rattle.passed_whole.proofs.Passings.{sent}
 use Rattle.passed_whole.specs.Led.{AreSingle, EraTurn, IsLed, MayTurn, frame_in, news_in, turn_after, turn_next}
 use Rattle.segment_model.proofs.Answers.{kept_of}
 use Rattle.segment_model.proofs.News.{heard_told, mails_heard-append}
