@@ -1,12 +1,12 @@
 -- A RUN AS A SERVING to which no mail is asked.
-use Rattle.std.proofs.Common.{◌≡◌, ℕ, suc, None, List, [], ◌∷◌, map, ap, refl, subst}
+use Rattle.std.proofs.Common.{◌≡◌, ℕ, suc, None, List, [], ◌∷◌, map, refl}
 use Rattle.std.specs.List.{All}
 use Rattle.std.proofs.lemmas.List.Elements.{All-cons, All-nil}
 use Rattle.life_runs.specs.First.{first_leads, leads_from, lens_of}
 use Rattle.life_runs.specs.Led.{Exchanged, Leads}
 use Rattle.plan_ring.specs.Lives.{IsKnown}
-use Rattle.promised_run.proofs.Rounds.{all_round, same_ring}
-use Rattle.promised_run.proofs.Through.{RepliesLaw}
+use Rattle.promised_run.proofs.Rounds.{all_round}
+use Rattle.promised_run.proofs.Through.{RepliesLaw, stood_behind}
 use Rattle.promised_run.specs.Alone.{ServesAlone}
 use Rattle.run_book.specs.declared.book.Book.{Book}
 use Rattle.run_record.specs.Led.{LeadTo, exchanged}
@@ -16,11 +16,7 @@ use Rattle.segment_plan.specs.Sound.{IsPlan}
 use Rattle.segment_plan.specs.declared.plan.Scenario.{Scenario}
 use Rattle.segment_plan.specs.declared.service.Service as Plan
 use Rattle.segment_plan.specs.declared.slave.SlaveSpec.{SlaveSpec}
-use Rattle.segment_ring.specs.Ring.{RingState}
-use Rattle.served_rings.specs.Served.{AllServeSo}
 use Rattle.served_runs.specs.Served.{IsRunOf, IsServedLed, Serves, all_serve}
-use Rattle.slave_node.specs.of_slave_steps.Node.{Node}
-use Rattle.slave_server.specs.declared.server.SlaveServer.{SlaveServer}
 
 -- before the first frame no mail is passed on
 all_unpassed : (rows : List (ℕ × Plan.Service)) (place : ℕ) (ss : List SlaveSpec) → All (λ (a : Leads). a.lived.life.era.passing ≡ None) (leads_from rows place ss)
@@ -39,6 +35,5 @@ alone plan book leads missed is known law runs frames lives =
     record {
       serves = run.0;
       alone = run.2;
-      slaves = subst (AllServeSo plan.slaves run.0) (ap (λ (r : RingState (Node SlaveServer)). r.nodes) (same_ring (first_ring plan) book.frames))
-          (law plan is known fs missed run.0 run.1 (all_round (first_ring plan) book.frames frames.recorded));
+      slaves = stood_behind plan book.frames run.0 (law plan is known fs missed run.0 run.1 (all_round (first_ring plan) book.frames frames.recorded));
     }

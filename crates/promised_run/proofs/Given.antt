@@ -25,8 +25,9 @@ use Rattle.master_duty.specs.Reply.{Reply}
 use Rattle.master_hand.specs.Spoken.{Asked, emission, passed}
 use Rattle.plan_ring.specs.Lives.{IsKnown}
 use Rattle.plan_ring.specs.Round.{AllRound, behind, ring_of}
-use Rattle.promised_run.proofs.Rounds.{all_round, same_ring}
-use Rattle.promised_run.proofs.Through.{RepliesLaw}
+use Rattle.promised_run.proofs.Rounds.{all_round}
+use Rattle.promised_run.proofs.Through.{RepliesLaw, stood_behind}
+use Rattle.promised_run.specs.Stood.{StoodBehind}
 use Rattle.promised_run.specs.Given.{IsGiven, IsGivenAt, IsGivenTo, IsGivenTo.dropped as is_dropped, IsGivenTo.takes, IsGivenTo.waits as still_waits, IsServedGiven, IsStepOf, mails_given}
 use Rattle.run_book.specs.declared.book.Book.{Book}
 use Rattle.run_book.specs.declared.book.Ending.{Ending}
@@ -151,21 +152,20 @@ module _ (plan : Scenario) (count : ℕ) (book : Book) (is : IsPlan plan) (told 
   abbrev nodes : List (Node Serving)
   nodes = (ring_after (first_ring plan) book.frames).nodes
 
-  served : AllServeSo plan.slaves ws nodes
-  served =
-      subst (AllServeSo plan.slaves ws) (ap (λ (r : RingState (Node Serving)). r.nodes) (same_ring (first_ring plan) book.frames))
+  served : StoodBehind plan book.frames ws
+  served = stood_behind plan book.frames ws
       (replies_law plan is (known plan told) (map exchanged book.frames) a.answers.serving.leading.missed ws a.answers.serving.leading.lives (all_round (first_ring plan) book.frames sent.recorded))
 
   by_got : (number : ℕ) (g : GramIn) (slave : ℕ) → g.queued ≡ Some slave → Got ws a.answers.came a.requests dones number g (owed_for number a.owed) →
-      (asked : Mail) × (request_in g.bytes ≡ Ok asked) × IsGivenAt plan.slaves ws nodes served a.answers.came slave number g.frame asked (is_in number dones) (owed_for number a.owed)
+      (asked : Mail) × (request_in g.bytes ≡ Ok asked) × IsGivenAt plan.slaves ws nodes served.each a.answers.came slave number g.frame asked (is_in number dones) (owed_for number a.owed)
   by_got number g slave q (ignored fault request nowhere none) = absurd (let bad : None ≡ Some slave = sym nowhere ∙ q in cc)
   by_got number g slave q (refused asked detail request nowhere seldom one) = absurd (let bad : None ≡ Some slave = sym nowhere ∙ q in cc)
   by_got number g slave q (queued asked place w numbers request there at_w at_came fares) =
       let same : place ≡ slave = (let both : Some place ≡ Some slave = sym there ∙ q in cc) in (
         asked,
         request,
-        subst (λ k. IsGivenAt plan.slaves ws nodes served a.answers.came k number g.frame asked (is_in number dones) (owed_for number a.owed)) same
-            (given_at laws law a.owed dones plan.slaves ws nodes served a.answers.came (a.answers.whole (quiet plan count book is told stays sent)) place w numbers at_w at_came (waiting_of place a.requests) (begun_of place a.requests) number g.frame asked fares),
+        subst (λ k. IsGivenAt plan.slaves ws nodes served.each a.answers.came k number g.frame asked (is_in number dones) (owed_for number a.owed)) same
+            (given_at laws law a.owed dones plan.slaves ws nodes served.each a.answers.came (a.answers.whole (quiet plan count book is told stays sent)) place w numbers at_w at_came (waiting_of place a.requests) (begun_of place a.requests) number g.frame asked fares),
       )
 
   given_all : IsGiven plan count book ending a

@@ -11,6 +11,8 @@ use Rattle.master_node.specs.Wants.{IsMailless}
 use Rattle.plan_ring.specs.Lives.{IsKnown}
 use Rattle.plan_ring.specs.Round.{AllRound, ring_after as ring_behind, ring_of}
 use Rattle.promised_run.proofs.Rounds.{all_round, same_ring}
+use Rattle.promised_run.proofs.Through.{same_nodes}
+use Rattle.promised_run.specs.Stood.{nodes_through}
 use Rattle.promised_run.specs.Rested.{AllRested, IsRested, IsServedRested}
 use Rattle.run_book.specs.declared.book.Book.{Book}
 use Rattle.run_book.specs.declared.book.Ending.{Ending}
@@ -26,6 +28,8 @@ use Rattle.segment_plan.specs.declared.plan.Scenario.{Scenario}
 use Rattle.segment_plan.specs.declared.slave.SlaveSpec.{SlaveSpec}
 use Rattle.segment_ring.specs.Ring.{RingState}
 use Rattle.served_rings.specs.Rests.{AllServedDoneIf, IsServedDone, IsServedIdle}
+use Rattle.served_rings.specs.Rings.{nodes_behind}
+use Rattle.served_rings.specs.StoodLives.{IsFirst, others}
 use Rattle.served_runs.specs.Served.{IsServedLed, Serves, all_serve}
 use Rattle.slave_server.specs.Serving.{Serving, next_mail}
 use Rattle.slave_steps.specs.Node.{Node, is_settled}
@@ -34,39 +38,43 @@ use Rattle.slave_steps.specs.Node.{Node, is_settled}
 abbrev pub RestsLaw : Type 0
 RestsLaw =
     (plan : Scenario) → IsPlan plan → IsKnown plan → (fs : List Exchanged) (missed : ℕ) (ws : List Serves) → IsServedLed (lens_of plan.slaves) plan.recover plan.retry (all_serve plan.paces (first_leads plan)) fs missed ws →
-    AllRound (ring_of plan) fs → AllServedDoneIf plan 0 plan.slaves ws (ring_behind (ring_of plan) fs).nodes
+    AllRound (ring_of plan) fs → AllServedDoneIf (nodes_behind plan fs) plan 0 plan.slaves ws (ring_behind (ring_of plan) fs).nodes
 
 module _ (plan : Scenario) where
   -- what a master wants of none
   idle_of : (w : Serves) → IsMailless (lens_of plan.slaves) w → IsServedIdle (lens_of plan.slaves) w
   idle_of w m = record { stand = m.idle.stand; side = m.idle.side; hand = m.idle.hand; script = m.idle.script; waits = m.waits; over = m.over }
 
-  one_rested : (place : ℕ) (s : SlaveSpec) (w : Serves) (row : SlaveBook) → (IsServedIdle (lens_of plan.slaves) w → is_settled next_mail row.node ≡ true → IsServedDone plan place s w row.node) → ServedRestsSo (lens_of plan.slaves) w row →
-      (w.lead.lived.life.stand ≡ Stand.Gone) ⊎ IsRested plan place s w row.node
-  one_rested place s w row law (inl gone) = inl gone
-  one_rested place s w row law (inr so) = (let idle = idle_of w so.0 in inr (record { idle = idle; settled = so.1; done = law idle so.1 }))
+  one_rested : (stood : ℕ → Node Serving → Type 0) (place : ℕ) (s : SlaveSpec) (w : Serves) (row : SlaveBook) → (IsServedIdle (lens_of plan.slaves) w → is_settled next_mail row.node ≡ true → IsServedDone stood plan place s w row.node) → ServedRestsSo (lens_of plan.slaves) w row →
+      (w.lead.lived.life.stand ≡ Stand.Gone) ⊎ IsRested stood plan place s w row.node
+  one_rested stood place s w row law (inl gone) = inl gone
+  one_rested stood place s w row law (inr so) = (let idle = idle_of w so.0 in inr (record { idle = idle; settled = so.1; done = law idle so.1 }))
 
-  each_rested : (place : ℕ) (ss : List SlaveSpec) (ws : List Serves) (rows : List SlaveBook) → AllServedDoneIf plan place ss ws (map (λ (row : SlaveBook). row.node) rows) → AllBoth (ServedRestsSo (lens_of plan.slaves)) ws rows →
-      AllRested plan place ss ws (map (λ (row : SlaveBook). row.node) rows)
-  each_rested place [] [] [] law rests = tt
-  each_rested place [] [] (row ∷ rows) law rests = absurd rests
-  each_rested place [] (w ∷ ws) [] law rests = absurd rests
-  each_rested place [] (w ∷ ws) (row ∷ rows) law rests = absurd law
-  each_rested place (s ∷ ss) [] [] law rests = absurd law
-  each_rested place (s ∷ ss) [] (row ∷ rows) law rests = absurd law
-  each_rested place (s ∷ ss) (w ∷ ws) [] law rests = absurd rests
-  each_rested place (s ∷ ss) (w ∷ ws) (row ∷ rows) law rests = (one_rested place s w row law.0 rests.0, each_rested (suc place) ss ws rows law.1 rests.1)
+  each_rested : (stood : ℕ → List (Node Serving)) (place : ℕ) (ss : List SlaveSpec) (ws : List Serves) (rows : List SlaveBook) → AllServedDoneIf stood plan place ss ws (map (λ (row : SlaveBook). row.node) rows) → AllBoth (ServedRestsSo (lens_of plan.slaves)) ws rows →
+      AllRested stood plan place ss ws (map (λ (row : SlaveBook). row.node) rows)
+  each_rested stood place [] [] [] law rests = tt
+  each_rested stood place [] [] (row ∷ rows) law rests = absurd rests
+  each_rested stood place [] (w ∷ ws) [] law rests = absurd rests
+  each_rested stood place [] (w ∷ ws) (row ∷ rows) law rests = absurd law
+  each_rested stood place (s ∷ ss) [] [] law rests = absurd law
+  each_rested stood place (s ∷ ss) [] (row ∷ rows) law rests = absurd law
+  each_rested stood place (s ∷ ss) (w ∷ ws) [] law rests = absurd rests
+  each_rested stood place (s ∷ ss) (w ∷ ws) (row ∷ rows) law rests = (one_rested (IsFirst stood) place s w row law.0 rests.0, each_rested (others stood) (suc place) ss ws rows law.1 rests.1)
 
 module _ (plan : Scenario) (count : ℕ) (book : Book) (is : IsPlan plan) (told : IsTold plan) (law : RestsLaw) (sent : HasSent plan count book) where
-  by_rows : HasRows plan book → (ending : Ending) → LeavesNone ending → (a : HasAccount plan count book ending) → AllRested plan 0 plan.slaves a.answers.serving.leading.serves (ring_after (first_ring plan) book.frames).nodes
+  abbrev stood : ℕ → List (Node Serving)
+  stood = nodes_through plan book.frames
+
+  by_rows : HasRows plan book → (ending : Ending) → LeavesNone ending → (a : HasAccount plan count book ending) → AllRested stood plan 0 plan.slaves a.answers.serving.leading.serves (ring_after (first_ring plan) book.frames).nodes
   by_rows rows ending leaves a =
       let l = a.answers.serving.leading in
       let nodes : (ring_behind (ring_of plan) (map exchanged book.frames)).nodes ≡ (ring_after (first_ring plan) book.frames).nodes = ap (λ (r : RingState (Node Serving)). r.nodes) (same_ring (first_ring plan) book.frames) in
       let done = law plan is (known plan told) (map exchanged book.frames) l.missed l.serves l.lives (all_round (first_ring plan) book.frames sent.recorded) in
-      subst (AllRested plan 0 plan.slaves l.serves) rows.nodes
-      (each_rested plan 0 plan.slaves l.serves book.slaves (subst (AllServedDoneIf plan 0 plan.slaves l.serves) (nodes ∙ sym rows.nodes) done) (a.rests leaves))
+      let done_here = subst (λ (at : ℕ → List (Node Serving)). AllServedDoneIf at plan 0 plan.slaves l.serves (ring_behind (ring_of plan) (map exchanged book.frames)).nodes) (λ i k. same_nodes plan book.frames k i) done in
+      subst (AllRested stood plan 0 plan.slaves l.serves) rows.nodes
+      (each_rested plan stood 0 plan.slaves l.serves book.slaves (subst (AllServedDoneIf stood plan 0 plan.slaves l.serves) (nodes ∙ sym rows.nodes) done_here) (a.rests leaves))
 
-  by_ending : (first last : Told) (ending : Ending) → IsServed plan count first last book ending → LeavesNone ending → (a : HasAccount plan count book ending) → AllRested plan 0 plan.slaves a.answers.serving.leading.serves (ring_after (first_ring plan) book.frames).nodes
+  by_ending : (first last : Told) (ending : Ending) → IsServed plan count first last book ending → LeavesNone ending → (a : HasAccount plan count book ending) → AllRested stood plan 0 plan.slaves a.answers.serving.leading.serves (ring_after (first_ring plan) book.frames).nodes
   by_ending first last endings.Done s leaves a = by_rows s.0.rows endings.Done leaves a
   by_ending first last endings.GivenUp s leaves a = by_rows s.0.rows endings.GivenUp leaves a
   by_ending first last endings.BudgetSpent s leaves a = by_rows s.0.rows endings.BudgetSpent leaves a

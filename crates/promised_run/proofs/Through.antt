@@ -1,10 +1,11 @@
 -- AT EACH MOMENT of a serving its frames went round the plan's ring.
-use Rattle.std.proofs.Common.{ℕ, List, [], ◌∷◌, ◌++◌, map, ap, subst}
+use Rattle.std.proofs.Common.{◌≡◌, ℕ, List, [], ◌∷◌, ◌++◌, map, take, ap, ◌∙◌, subst}
+use Rattle.std.proofs.lemmas.List.{take-map}
 use Rattle.std.specs.Prelude.{All}
 use Rattle.life_runs.specs.First.{first_leads, lens_of}
 use Rattle.life_runs.specs.Led.{Exchanged}
 use Rattle.plan_ring.specs.Lives.{IsKnown}
-use Rattle.plan_ring.specs.Round.{AllRound, ring_of}
+use Rattle.plan_ring.specs.Round.{AllRound, ring_after, ring_of}
 use Rattle.promised_run.proofs.Rounds.{all_round, same_ring}
 use Rattle.run_book.specs.declared.book.Book.{Book}
 use Rattle.run_book.specs.declared.book.SentFrame.{SentFrame}
@@ -16,18 +17,31 @@ use Rattle.scenario.specs.Told.{IsTold}
 use Rattle.segment_plan.specs.Sound.{IsPlan}
 use Rattle.segment_plan.specs.declared.plan.Scenario.{Scenario}
 use Rattle.segment_ring.specs.Ring.{RingState}
-use Rattle.served_rings.specs.Served.{AllServeSo, ServeSo}
+use Rattle.served_rings.specs.Rings.{nodes_behind}
+use Rattle.served_rings.specs.Stood.{ServeSo, ServeStood}
 use Rattle.run_work.proofs.Placed.{all_fresh}
 use Rattle.served_runs.specs.Came.{HasServed, IsFresh}
 use Rattle.served_runs.specs.Served.{Serves, IsServedLed, TellsSo, all_serve}
 use Rattle.slave_node.specs.of_slave_steps.Node.{Node}
 use Rattle.slave_server.specs.declared.server.SlaveServer.{SlaveServer}
+use Rattle.promised_run.specs.Stood.{StoodBehind, nodes_through}
 use Rattle.promised_run.specs.Through.{IsServedThrough}
 
 -- the first of recorded frames are
 first_recorded : (ring : RingState (Node SlaveServer)) (fs others : List SentFrame) → AreRecorded ring (fs ++ others) → AreRecorded ring fs
 first_recorded ring [] others recorded = tt
 first_recorded ring (f ∷ fs) others recorded = (recorded.0, first_recorded (behind ring f.sent) fs others recorded.1)
+
+-- the nodes of the plan's ring behind frames are those of the one that replays them
+pub same_nodes : (plan : Scenario) (fs : List SentFrame) (frames : ℕ) → nodes_behind plan (map exchanged fs) frames ≡ nodes_through plan fs frames
+same_nodes plan fs frames =
+    ap (λ hs. (ring_after (ring_of plan) hs).nodes) (take-map exchanged frames fs) ∙ ap (λ (r : RingState (Node SlaveServer)). r.nodes) (same_ring (first_ring plan) (take frames fs))
+
+-- what slaves served by frames they served by the book's
+pub stood_behind : (plan : Scenario) (fs : List SentFrame) (ws : List Serves) → ServeSo plan (map exchanged fs) ws → StoodBehind plan fs ws
+stood_behind plan fs ws served =
+    subst (λ ns. ServeStood (nodes_through plan fs) plan.slaves ws ns) (ap (λ (r : RingState (Node SlaveServer)). r.nodes) (same_ring (first_ring plan) fs))
+    (subst (λ (stood : ℕ → List (Node SlaveServer)). ServeStood stood plan.slaves ws (ring_after (ring_of plan) (map exchanged fs)).nodes) (λ i k. same_nodes plan fs k i) served)
 
 -- the laws of a serving
 abbrev pub RepliesLaw : Type 0
@@ -45,7 +59,7 @@ through plan count book is told law tells came sent = λ front back split missed
     let recorded = first_recorded (first_ring plan) front back (subst (AreRecorded (first_ring plan)) split sent.recorded) in
     let served = law plan is (known plan told) (map exchanged front) missed ws led (all_round (first_ring plan) front recorded) in
     record {
-      slaves = subst (AllServeSo plan.slaves ws) (ap (λ (r : RingState (Node SlaveServer)). r.nodes) (same_ring (first_ring plan) front)) served;
+      slaves = stood_behind plan front ws served;
       told = tells (map exchanged front) missed ws led;
       came = came (map exchanged front) missed ws (all_fresh plan.services 0 plan.slaves) led;
     }

@@ -2,14 +2,13 @@
 use Rattle.std.specs.Prelude.{List}
 use Rattle.life_runs.specs.Led.{Leads}
 use Rattle.run_book.specs.declared.book.Book.{Book}
-use Rattle.run_record.specs.Replay.{first_ring, ring_after}
 use Rattle.segment_plan.specs.declared.plan.Scenario.{Scenario}
-use Rattle.served_rings.specs.Served.{AllServeSo}
 use Rattle.served_runs.specs.Served.{IsRunOf, Serves}
+use Rattle.promised_run.specs.Stood.{StoodBehind}
 
 -- BY ITS SERVER each slave of the ring behind all frames has carried out, epoch by epoch, just the first of what came into hand, and counts just the services by
 -- mails that are among these: its node has the number of them (`handled`)
 pub record ServesAlone (plan : Scenario) (book : Book) (leads : List Leads) : Type 0 where
   pub serves : List Serves
   pub alone : IsRunOf serves leads
-  pub slaves : AllServeSo plan.slaves serves (ring_after (first_ring plan) book.frames).nodes
+  pub slaves : StoodBehind plan book.frames serves

@@ -23,6 +23,7 @@ use Rattle.served_runs.specs.Served.{Serves}
 use Rattle.slave_server.specs.Serving.{Serving}
 use Rattle.slave_server.specs.Spec.{profile_of}
 use Rattle.slave_steps.specs.Node.{Node}
+use Rattle.promised_run.specs.Stood.{StoodBehind}
 
 -- the mails that a slave's server gives for a mail in its one step, as they are told
 abbrev pub mails_given : SlaveSpec → Given → List Mail
@@ -59,10 +60,10 @@ IsGivenAt (s ∷ ss) (w ∷ ws) (n ∷ ns) d (came ∷ cames) (suc place) number
 -- EACH DATAGRAM THAT WAS QUEUED AT A SLAVE got what that gives for its mail, by the lives that the frames of the book lead, which the slaves of the ring behind all
 -- of them served
 pub record IsGiven (plan : Scenario) (count : ℕ) (book : Book) (ending : Ending) (a : HasAccount plan count book ending) : Type 0 where
-  pub served : AllServeSo plan.slaves a.answers.serving.leading.serves (ring_after (first_ring plan) book.frames).nodes
+  pub served : StoodBehind plan book.frames a.answers.serving.leading.serves
   pub each : (number : ℕ) (g : GramIn) (slave : ℕ) → slice_get book.grams number ≡ Some g → g.queued ≡ Some slave →
       (asked : Mail) × (request_in g.bytes ≡ Ok asked)
-      × IsGivenAt plan.slaves a.answers.serving.leading.serves (ring_after (first_ring plan) book.frames).nodes served a.answers.came slave number g.frame asked
+      × IsGivenAt plan.slaves a.answers.serving.leading.serves (ring_after (first_ring plan) book.frames).nodes served.each a.answers.came slave number g.frame asked
       (is_in number (dones_of plan count a.session book.frames book.grams a.requests a.owed a.course)) (owed_for number a.owed)
 
 -- by each account of the book

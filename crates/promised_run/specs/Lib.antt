@@ -20,6 +20,7 @@ pub mod ServedBooks
 pub mod ServedBounded
 pub mod ServedPorts
 pub mod ServedReported
+pub mod Stood
 pub mod Through
 pub mod TouredTours
 pub mod Tours

@@ -9,25 +9,27 @@ use Rattle.run_record.specs.Replay.{first_ring, ring_after}
 use Rattle.segment_plan.specs.declared.plan.Scenario.{Scenario}
 use Rattle.segment_plan.specs.declared.slave.SlaveSpec.{SlaveSpec}
 use Rattle.served_rings.specs.Rests.{IsServedDone, IsServedIdle}
+use Rattle.served_rings.specs.StoodLives.{IsFirst, others}
 use Rattle.served_runs.specs.Served.{Serves}
 use Rattle.slave_server.specs.Serving.{Serving, next_mail}
 use Rattle.slave_steps.specs.Node.{Node, is_settled}
+use Rattle.promised_run.specs.Stood.{nodes_through}
 
 -- NOTHING IS LEFT OF A SLAVE: its master wants nothing of it, and no mail waits; it is settled; over its epochs its whole script came into hand, with packets and
 -- with mails that were asked, in order, all of them where it was never given up; and all rows of its newest epoch are carried out and answered, which made its node
--- what it is, from what the epochs before left. What one of those left undone when it was cut off stays so
-pub record IsRested (plan : Scenario) (place : ℕ) (s : SlaveSpec) (w : Serves) (n : Node Serving) : Type 0 where
+-- what it is, from what the epochs before left, which it held as each of them ended. What one of those left undone when it was cut off stays so
+pub record IsRested (stood : ℕ → Node Serving → Type 0) (plan : Scenario) (place : ℕ) (s : SlaveSpec) (w : Serves) (n : Node Serving) : Type 0 where
   pub idle : IsServedIdle (lens_of plan.slaves) w
   pub settled : is_settled next_mail n ≡ true
-  pub done : IsServedDone plan place s w n
+  pub done : IsServedDone stood plan place s w n
 
--- of each slave, from a place on, that wasn't given up for good
-abbrev pub AllRested : Scenario → ℕ → List SlaveSpec → List Serves → List (Node Serving) → Type 0
-AllRested plan place [] [] [] = ⊤
-AllRested plan place (s ∷ ss) (w ∷ ws) (n ∷ ns) = ((w.lead.lived.life.stand ≡ Stand.Gone) ⊎ IsRested plan place s w n) × AllRested plan (suc place) ss ws ns
-AllRested plan place _ _ _ = ⊥
+-- of each slave, from a place on, that wasn't given up for good, by the nodes of these slaves behind each number of frames
+abbrev pub AllRested : (ℕ → List (Node Serving)) → Scenario → ℕ → List SlaveSpec → List Serves → List (Node Serving) → Type 0
+AllRested stood plan place [] [] [] = ⊤
+AllRested stood plan place (s ∷ ss) (w ∷ ws) (n ∷ ns) = ((w.lead.lived.life.stand ≡ Stand.Gone) ⊎ IsRested (IsFirst stood) plan place s w n) × AllRested (others stood) plan (suc place) ss ws ns
+AllRested stood plan place _ _ _ = ⊥
 
 -- WHERE NOTHING WAS LEFT TO DO, by the lives that the frames of the book lead and the ring behind all of them
 abbrev pub IsServedRested : Scenario → ℕ → Book → Type 0
 IsServedRested plan count book =
-    LeavesNone book.ending → (a : HasAccount plan count book book.ending) → AllRested plan 0 plan.slaves a.answers.serving.leading.serves (ring_after (first_ring plan) book.frames).nodes
+    LeavesNone book.ending → (a : HasAccount plan count book book.ending) → AllRested (nodes_through plan book.frames) plan 0 plan.slaves a.answers.serving.leading.serves (ring_after (first_ring plan) book.frames).nodes

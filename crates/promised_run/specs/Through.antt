@@ -6,22 +6,21 @@ use Rattle.life_runs.specs.Led.{gives_up_at}
 use Rattle.run_book.specs.declared.book.Book.{Book}
 use Rattle.run_book.specs.declared.book.SentFrame.{SentFrame}
 use Rattle.run_record.specs.Led.{exchanged}
-use Rattle.run_record.specs.Replay.{first_ring, ring_after}
 use Rattle.run_record.specs.Served.{ServeTo}
 use Rattle.segment_plan.specs.declared.plan.Scenario.{Scenario}
-use Rattle.served_rings.specs.Served.{AllServeSo}
 use Rattle.served_runs.specs.Came.{HasServed}
 use Rattle.segment_model.specs.Ends.{Passing}
 use Rattle.served_runs.specs.Served.{Serves, ServedTurn, IsServedFrame, TellsSo, served_behind}
 use Rattle.served_runs.specs.Told.{Passed, TellsOwn}
+use Rattle.promised_run.specs.Stood.{StoodBehind}
 
 -- BEHIND THESE FRAMES, of each slave as its master leads it: the slave of the ring that replays them has carried out, epoch by epoch, just the first of the rows
 -- that came into hand of it, each mail that was passed on by the one step that its server takes for it; each answer of the others is its server's own, of a row
 -- carried out, and what was heard that it sent of itself are the first mails that these emit; what was heard for the mail in hand are the first of the replies of
 -- that step, and all of them where it is over; what was told of it are the first of those; and what came into hand are the next services of its script, packets, and
--- the mails that were asked of it, in order, each once
+-- the mails that were asked of it, in order, each once; and as each epoch ended the slave held what was carried out of it
 pub record IsServedSo (plan : Scenario) (front : List SentFrame) (ws : List Serves) : Type 0 where
-  pub slaves : AllServeSo plan.slaves ws (ring_after (first_ring plan) front).nodes
+  pub slaves : StoodBehind plan front ws
   pub told : All TellsSo ws
   pub came : All (HasServed (lens_of plan.slaves)) ws
 

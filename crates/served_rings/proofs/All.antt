@@ -5,8 +5,9 @@ use Rattle.datagrams.specs.Datagram as Raw
 use Rattle.frame_pass.specs.Passing.{datagrams_after}
 use Rattle.frame_view.specs.View.{Lens}
 use Rattle.served_rings.specs.Lives.{news_of}
-use Rattle.served_rings.proofs.Lived as Lived
-use Rattle.served_rings.specs.LedRings.{Counters, LedMember, AllLedMembers, AllTold, all_counters}
+use Rattle.served_rings.proofs.Stood as Stood
+use Rattle.served_rings.specs.StoodLives.{AllStoodMembers, IsFirst, StoodMember, others}
+use Rattle.served_rings.specs.LedRings.{Counters, AllTold, all_counters}
 use Rattle.life_model.specs.Lives.{gives_up}
 use Rattle.life_runs.specs.First.{lens_of}
 use Rattle.life_runs.specs.Led.{Exchanged}
@@ -144,13 +145,13 @@ module _ (plan : Scenario) (made : ℕ) (ds : List Raw.Datagram) (ring : RingSta
     )
 
 -- THOSE THAT A LOST FRAME GAVE UP are led still
-pub led_given : (lens : ℕ → Lens) (ss : List SlaveSpec) (gs hs : List (Frame Body)) (place : ℕ) (ms : List ServedMember) (ks : List Counters) (bs : List Bool) (recover frame : ℕ) → AllLived lens step (FitsPlan ss) hs place ms → AllLedMembers is_followed is_passed gs ms ks →
-    AllLedMembers is_followed is_passed gs (given_up recover frame ms bs) ks
-led_given lens ss gs hs place [] ks bs recover frame lived led = led
-led_given lens ss gs hs place (m ∷ ms) [] bs recover frame lived led = absurd led
-led_given lens ss gs hs place (m ∷ ms) (k ∷ ks) [] recover frame lived led = led
-led_given lens ss gs hs place (m ∷ ms) (k ∷ ks) (b ∷ bs) recover frame lived led = (one b, led_given lens ss gs hs (suc place) ms ks bs recover frame lived.1 led.1)
+pub led_given : (lens : ℕ → Lens) (ss : List SlaveSpec) (gs hs : List (Frame Body)) (place : ℕ) (ms : List ServedMember) (ks : List Counters) (nodes : ℕ → List (Node Serving)) (bs : List Bool) (recover frame : ℕ) → AllLived lens step (FitsPlan ss) hs place ms →
+    AllStoodMembers is_followed is_passed nodes gs ms ks → AllStoodMembers is_followed is_passed nodes gs (given_up recover frame ms bs) ks
+led_given lens ss gs hs place [] ks nodes bs recover frame lived led = led
+led_given lens ss gs hs place (m ∷ ms) [] nodes bs recover frame lived led = absurd led
+led_given lens ss gs hs place (m ∷ ms) (k ∷ ks) nodes [] recover frame lived led = led
+led_given lens ss gs hs place (m ∷ ms) (k ∷ ks) nodes (b ∷ bs) recover frame lived led = (one b, led_given lens ss gs hs (suc place) ms ks (others nodes) bs recover frame lived.1 led.1)
   where
-    one : (b : Bool) → LedMember is_followed is_passed gs (if b then record m { life = gives_up recover m.spot frame m.life } else m) k
-    one true = Lived.gives m.services m.clearing m.plan m.spot lived.0.whole is_followed is_passed m.first m.life gs m.node recover frame k.kept k.counts k.kept k.counts led.0
+    one : (b : Bool) → StoodMember is_followed is_passed (IsFirst nodes) gs (if b then record m { life = gives_up recover m.spot frame m.life } else m) k
+    one true = Stood.gives m.services m.clearing m.plan m.spot lived.0.whole is_followed is_passed (IsFirst nodes) m.first m.life gs m.node recover frame k.kept k.counts k.kept k.counts led.0
     one false = led.0

@@ -4,8 +4,8 @@ use Rattle.std.specs.Prelude.{None, All}
 use Rattle.std.proofs.lemmas.List.Elements.{All-head, All-tail}
 use Rattle.slave_served.specs.FoeServed.{has_its_room}
 use Rattle.frame_view.specs.View.{Lens}
-use Rattle.served_rings.proofs.Lived as Lived
-use Rattle.served_rings.specs.LedRings.{LedMember, AllLedMembers}
+use Rattle.served_rings.proofs.Stood as Stood
+use Rattle.served_rings.specs.StoodLives.{AllStoodMembers, IsFirst, StoodMember, others}
 use Rattle.life_runs.specs.First.{first_leads, leads_from, lens_of, script_for, spot_of}
 use Rattle.life_runs.specs.Led.{new_leads}
 use Rattle.master_hand.specs.Spoken.{Asked, sdo, file, drive, net, passed, is_followed, is_passed}
@@ -28,11 +28,12 @@ use Rattle.slave_model.specs.Application.{station_files, station_valid}
 use Rattle.slave_parts.specs.Parts.{parts}
 use Rattle.slave_server.specs.Serving.{Serving, cleared}
 use Rattle.slave_server.specs.Spec.{node_of, profile_of, server_of}
+use Rattle.slave_steps.specs.Node.{Node}
 use Rattle.state_exchange.specs.Stated.{IsStated}
 use Rattle.whole_ring.specs.Whole.{IsWhole}
 use Rattle.whole_ring.proofs.WholeTurning as Turning
 use Rattle.whole_ring.specs.Members.{MemberIs, AllLived, AreDistinct, IsElsewhere, IsRing, first_ring}
-use Rattle.served_rings.specs.Rings.{AllServedAt, AreServedLived, ServedMember, counters_of, served_member, served_members}
+use Rattle.served_rings.specs.Rings.{AllServedAt, AreStoodLived, ServedMember, counters_of, served_member, served_members}
 
 -- the laws that this stands on
 pub record Laws : Type 0 where
@@ -96,8 +97,8 @@ module _ (laws : Laws) (lens : ℕ → Lens) (all : List SlaveSpec) (rows : List
       boots = tt;
     }
 
-    pub led_new : LedMember is_followed is_passed [] m (counters_of w)
-    led_new = Lived.begins m.services m.clearing m.plan m.spot whole is_followed is_passed 1 (server_of s) w.kept w.counts refl refl
+    pub led_new : (stood : ℕ → Node Serving → Type 0) → StoodMember is_followed is_passed stood [] m (counters_of w)
+    led_new stood = Stood.begins m.services m.clearing m.plan m.spot whole is_followed is_passed stood 1 (server_of s) w.kept w.counts refl refl
 
   -- ALL OF THEM
   abbrev ws : ℕ → List SlaveSpec → List ℕ → List Serves
@@ -108,13 +109,13 @@ module _ (laws : Laws) (lens : ℕ → Lens) (all : List SlaveSpec) (rows : List
 
   record AllNew (place : ℕ) (ss : List SlaveSpec) (paces : List ℕ) : Type 0 where
     pub lived : AllLived lens step (FitsPlan all) [] place (ms place ss paces)
-    pub led : AllLedMembers is_followed is_passed [] (ms place ss paces) (map counters_of (ws place ss paces))
+    pub led : (stood : ℕ → List (Node Serving)) → AllStoodMembers is_followed is_passed stood [] (ms place ss paces) (map counters_of (ws place ss paces))
     pub nodes : map (λ (m : ServedMember). m.node) (ms place ss paces) ≡ map node_of ss
     pub paces_are : map (λ (m : ServedMember). m.pace) (ms place ss paces) ≡ paces
     pub few : length (ms place ss paces) ≤ length ss
 
   all_new : (place : ℕ) (ss : List SlaveSpec) (paces : List ℕ) → length paces ≡ length ss → All IsSlave ss → AllMacs ss → AllLived lens step (FitsPlan all) [] place (new_members lens place ss paces) → AllNew place ss paces
-  all_new place [] [] e slaves macs lived = record { lived = tt; led = tt; nodes = refl; paces_are = refl; few = omega arith }
+  all_new place [] [] e slaves macs lived = record { lived = tt; led = λ stood. tt; nodes = refl; paces_are = refl; few = omega arith }
   all_new place [] (pace ∷ paces) e slaves macs lived = absurd (cc)
   all_new place (s ∷ ss) [] e slaves macs lived = absurd (cc)
   all_new place (s ∷ ss) (pace ∷ paces) e slaves macs lived =
@@ -123,7 +124,7 @@ module _ (laws : Laws) (lens : ℕ → Lens) (all : List SlaveSpec) (rows : List
       let rest = all_new (suc place) ss paces (let f : length paces ≡ length ss = cc in f) (All-tail IsSlave s ss slaves) macs.1 lived.1 in
       record {
         lived = (member_new place s pace profile lived.0, rest.lived);
-        led = (led_new place s pace profile lived.0, rest.led);
+        led = λ stood. (led_new place s pace profile lived.0 (IsFirst stood), rest.led (others stood));
         nodes = ap (λ l. node_of s ∷ l) rest.nodes;
         paces_are = ap (λ l. pace ∷ l) rest.paces_are;
         few = (let n = rest.few in omega (arith, n));
@@ -150,8 +151,8 @@ served_at plan place (s ∷ ss) [] e = absurd (cc)
 served_at plan place (s ∷ ss) (pace ∷ paces) e = (record { spot = refl; script = refl }, served_at plan (suc place) ss paces (let f : length paces ≡ length ss = cc in f))
 
 -- THE SERVING BEGINS
-pub served_begins : Laws → (plan : Scenario) → Plan.IsPlan plan → IsKnown plan → AreServedLived plan [] (all_serve plan.paces (first_leads plan))
-served_begins laws plan is known =
+pub served_begins : Laws → (plan : Scenario) → Plan.IsPlan plan → IsKnown plan → (stood : ℕ → List (Node Serving)) → AreStoodLived stood plan [] (all_serve plan.paces (first_leads plan))
+served_begins laws plan is known stood =
     let lens = lens_of plan.slaves in
     let macs = macs_in plan.slaves known.macs in
     let run = laws.ring plan is macs in
@@ -166,6 +167,6 @@ served_begins laws plan is known =
         distinct = distinct_as laws lens plan.slaves plan.services 0 plan.slaves plan.paces is.laid.paces run.distinct;
         each = new.lived;
       };
-      led = new.led;
+      led = new.led stood;
       at = served_at plan 0 plan.slaves plan.paces is.laid.paces;
     }

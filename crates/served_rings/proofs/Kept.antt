@@ -8,7 +8,7 @@ use Rattle.frames_seen.specs.Slaves.{registers_seen}
 use Rattle.served_rings.specs.Led.{LedEra, LedFrame, turn_of}
 use Rattle.served_rings.proofs.LedLives as Lives
 use Rattle.life_model.specs.Eras.{Clearing}
-use Rattle.life_model.specs.Lives.{Spot, Era, Opening, Stand}
+use Rattle.life_model.specs.Lives.{Spot, Era, Opening, Stand, new_era}
 use Rattle.life_model.specs.Own.{own}
 use Rattle.link_mails.specs.Body.{Body}
 use Rattle.news_kept.specs.Counts as Record
@@ -22,7 +22,7 @@ use Rattle.slave_lives.proofs.Quiets.{asks_none}
 use Rattle.slave_steps.specs.Node.{Node}
 use Rattle.task_model.specs.Accounts.{Pick}
 use Rattle.whole_ring.specs.Turns.{era_before, era_behind}
-use Rattle.whole_ring.specs.Whole.{IsWhole, Living}
+use Rattle.whole_ring.specs.Whole.{IsWhole, Living, Passing}
 use Rattle.whole_ring.proofs.Keeps.{Keeps}
 use Rattle.served_rings.specs.Lives.{LedKept, LedYet, LedLeft, AllLeds, news_as, recorded_as}
 use Rattle.served_rings.proofs.Frames.{tells}
@@ -118,9 +118,12 @@ module _ {S V A Q R : Type 0} (w : Behind S V A Q R) (c : Clearing V A) (p : Pla
         } in
         subst (λ (st : Stand). LedKept w more passed spot (kept_on st spot.station kept rec) (counts_on st spot.station t.pace t.ring.number rec.back counts) (w.exchange.app (w.sees al m.server).server) (opened_era {Q = Q} {R = R} cleared q.start (length fs)) gs m) (sym opens) here
 
-    -- THEY KEEP SO
-    pub keeps : Keeps w c spot E F Y (λ a d hs s. LedLeft w more passed spot a d s) (λ hs a ds b. AllLeds w more passed spot c.cleared a ds b) stand e fs t more passed pick news
-    keeps = record {
+    -- THEY KEEP SO, whatever is known besides of all that are over
+    pub keeps_by : (P : Passing A Q R) → ((first : A) (es : List (Era Body Q R)) (b : A) → P fs first es b → P gs first es b) →
+        ((first : A) (es : List (Era Body Q R)) (b : A) → P gs first es b → (at : Option ℕ) (state : ℕ) → e ≡ new_era at state → P gs first (es ++ e ∷ []) (c.cleared b)) →
+        ((first : A) (es : List (Era Body Q R)) (b : A) (s : S) → P gs first es b → LedLeft w more passed spot b e s → (al : ℕ) × P gs first (es ++ e ∷ []) (w.exchange.app (w.sees al (w.running.clear s)).server)) →
+        Keeps w c spot E F Y (λ a d hs s. LedLeft w more passed spot a d s) P stand e fs t more passed pick news
+    keeps_by P past closed left = record {
       session = λ from l. session_of from l.led e fs t.node l.era;
       still = λ from l. session_of from l.led e fs t.node l.era;
       on = on;
@@ -129,7 +132,12 @@ module _ {S V A Q R : Type 0} (w : Behind S V A Q R) (c : Clearing V A) (p : Pla
       ends = λ from l. record { led = l.led; frames = fs; node = t.node; era = l.era; same = refl };
       over = λ from s l. l;
       begins = begins;
-      past = λ first es b all. all;
-      closed = λ first es b all at state is_new. AllLeds.closed first es b e at state all is_new;
-      left = λ first es b s all x. ((registers_seen x.node.registers).state, AllLeds.opened first es b e s all x);
+      past = past;
+      closed = closed;
+      left = left;
     }
+
+    -- with nothing besides
+    pub keeps : Keeps w c spot E F Y (λ a d hs s. LedLeft w more passed spot a d s) (λ hs a ds b. AllLeds w more passed spot c.cleared a ds b) stand e fs t more passed pick news
+    keeps = keeps_by (λ hs a ds b. AllLeds w more passed spot c.cleared a ds b) (λ first es b all. all) (λ first es b all at state is_new. AllLeds.closed first es b e at state all is_new)
+        (λ first es b s all x. ((registers_seen x.node.registers).state, AllLeds.opened first es b e s all x))

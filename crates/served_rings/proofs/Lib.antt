@@ -49,9 +49,14 @@ pub mod Singles
 pub mod Slaves
 pub mod Speakers
 mod States
+pub mod Stood
 pub mod Told
 pub mod ToldLives
 pub mod ToldTasks
+mod Taken
+mod TakenBy
+mod TakenNow
+mod TakenSo
 mod Turned
 pub mod Unpassed
 pub mod Whole

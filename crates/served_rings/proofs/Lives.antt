@@ -1,11 +1,14 @@
 -- THE LIVES OF A SERVING, frame by frame, with mails that are asked between them.
-use Rattle.std.proofs.Common.{◌≡◌, ℕ, zero, suc, Bool, List, [], ◌∷◌, ◌++◌, map, length, refl, ap, sym, ◌∙◌, subst}
+use Rattle.std.proofs.Common.{◌≡◌, ℕ, zero, suc, Bool, List, [], ◌∷◌, ◌++◌, map, length, take, refl, ap, sym, ◌∙◌, subst, append-nil, append_assoc}
+use Rattle.std.proofs.Math.Seq.{take-append_seam}
 use Rattle.std.proofs.lemmas.List.{map-append, length-map}
 use Rattle.datagrams.specs.Frame.{chained}
 use Rattle.frame_view.specs.Seen.{seen}
 use Rattle.frame_view.specs.View.{Lens}
-use Rattle.served_rings.specs.LedRings.{Counters, AllLedMembers, all_counters}
-use Rattle.served_rings.proofs.Rings.{led_turns}
+use Rattle.served_rings.specs.LedRings.{Counters, all_counters}
+use Rattle.served_rings.specs.StoodLives.{AllStoodMembers}
+use Rattle.served_rings.proofs.Rings.{all_led, led_turns}
+use Rattle.served_rings.proofs.Stood.{longer}
 use Rattle.life_runs.specs.First.{first_leads, lens_of}
 use Rattle.life_runs.specs.Led.{Exchanged, gives_up_at}
 use Rattle.link_mails.specs.Body.{Body}
@@ -30,7 +33,7 @@ use Rattle.whole_ring.specs.Members.{IsRing}
 use Rattle.whole_ring.specs.Turning.{AllTurn, Turn, behind_frame, frame_at, given_up}
 use Rattle.whole_ring.proofs.Begins as Begins
 use Rattle.whole_ring.proofs.Members as Members
-use Rattle.served_rings.specs.Rings.{AllServedAt, AreServedLived, ServedMember, counters_of, served_member, served_members}
+use Rattle.served_rings.specs.Rings.{AllServedAt, AreServedLived, AreStoodLived, ServedMember, counters_of, nodes_behind, served_member, served_members}
 use Rattle.served_rings.proofs.All as Every
 
 -- A MAIL THAT IS ASKED changes no life
@@ -57,19 +60,36 @@ asked_places plan at (suc place) k (s ∷ ss) (w ∷ ws) [] all = absurd all
 asked_places plan at zero k (s ∷ ss) (w ∷ ws) (n ∷ ns) all = (record { spot = all.0.spot; script = all.0.script }, all.1)
 asked_places plan at (suc place) k (s ∷ ss) (w ∷ ws) (n ∷ ns) all = (all.0, asked_places plan (suc at) place k ss ws ns all.1)
 
-asked_lives : (plan : Scenario) (fs : List Exchanged) (ws : List Serves) (place : ℕ) (k : Keyed) → AreServedLived plan fs ws → AreServedLived plan fs (asked_at place k ws)
-asked_lives plan fs ws place k x =
+asked_lives : (stood : ℕ → List (Node Serving)) (plan : Scenario) (fs : List Exchanged) (ws : List Serves) (place : ℕ) (k : Keyed) → AreStoodLived stood plan fs ws → AreStoodLived stood plan fs (asked_at place k ws)
+asked_lives stood plan fs ws place k x =
     let lens = lens_of plan.slaves in
     let same = sym (asked_members lens 0 place k plan.slaves ws x.nodes) in
     record {
       nodes = x.nodes;
       lives = subst (λ (ms : List ServedMember). IsRing lens step (FitsPlan plan.slaves) (all_seen lens fs) (ring_after (ring_of plan) fs) ms) same x.lives;
-      led = subst (λ (ms : List ServedMember). AllLedMembers is_followed is_passed (all_seen lens fs) ms (map counters_of (asked_at place k ws))) same
-          (subst (λ (ks : List Counters). AllLedMembers is_followed is_passed (all_seen lens fs) (served_members lens 0 plan.slaves ws x.nodes) ks) (sym (asked_counters place k ws)) x.led);
+      led = subst (λ (ms : List ServedMember). AllStoodMembers is_followed is_passed stood (all_seen lens fs) ms (map counters_of (asked_at place k ws))) same
+          (subst (λ (ks : List Counters). AllStoodMembers is_followed is_passed stood (all_seen lens fs) (served_members lens 0 plan.slaves ws x.nodes) ks) (sym (asked_counters place k ws)) x.led);
       at = asked_places plan 0 place k plan.slaves ws x.nodes x.at;
     }
 
-module _ (plan : Scenario) (is : Plan.IsPlan plan) (known : IsKnown plan) (begins : AreServedLived plan [] (all_serve plan.paces (first_leads plan))) where
+-- these are the nodes of the ring behind each number of the frames
+abbrev pub AreNodes : Scenario → List Exchanged → (ℕ → List (Node Serving)) → Type 0
+AreNodes plan fs stood = (front rest : List Exchanged) → fs ≡ front ++ rest → stood (length front) ≡ (ring_after (ring_of plan) front).nodes
+
+pub nodes_are : (plan : Scenario) (fs : List Exchanged) → AreNodes plan fs (nodes_behind plan fs)
+nodes_are plan fs front rest split = ap (λ hs. (ring_after (ring_of plan) hs).nodes) (ap (take (length front)) split ∙ take-append_seam front rest)
+
+-- also of the first of the frames
+front_nodes : (plan : Scenario) (fs : List Exchanged) (f : Exchanged) (stood : ℕ → List (Node Serving)) → AreNodes plan (fs ++ f ∷ []) stood → AreNodes plan fs stood
+front_nodes plan fs f stood are front rest split = are front (rest ++ f ∷ []) (ap (λ hs. hs ++ f ∷ []) split ∙ append_assoc front rest (f ∷ []))
+
+-- SO THE LIVES ARE LIVED
+pub lived_of : (stood : ℕ → List (Node Serving)) (plan : Scenario) (fs : List Exchanged) (ws : List Serves) → AreStoodLived stood plan fs ws → AreServedLived plan fs ws
+lived_of stood plan fs ws x =
+    let lens = lens_of plan.slaves in
+    record { nodes = x.nodes; lives = x.lives; led = all_led is_followed is_passed (all_seen lens fs) (served_members lens 0 plan.slaves ws x.nodes) (map counters_of ws) stood x.led; at = x.at }
+
+module _ (plan : Scenario) (is : Plan.IsPlan plan) (known : IsKnown plan) (stood : ℕ → List (Node Serving)) (begins : AreStoodLived stood plan [] (all_serve plan.paces (first_leads plan))) where
   abbrev lens : ℕ → Lens
   lens = lens_of plan.slaves
 
@@ -77,7 +97,7 @@ module _ (plan : Scenario) (is : Plan.IsPlan plan) (known : IsKnown plan) (begin
   boots = all_boot (length plan.slaves) plan.slaves [] plan.slaves refl plan.services is.laid.services known.states
 
   -- BY A FRAME
-  module _ (fs : List Exchanged) (missed : ℕ) (ws : List Serves) (f : Exchanged) (vs : List ServedTurn) (x : AreServedLived plan fs ws) (y : IsServedFrame lens (length fs) f.sent ws vs) (went : WentRound (ring_after (ring_of plan) fs) f) where
+  module _ (fs : List Exchanged) (missed : ℕ) (ws : List Serves) (f : Exchanged) (vs : List ServedTurn) (x : AreStoodLived stood plan fs ws) (y : IsServedFrame lens (length fs) f.sent ws vs) (went : WentRound (ring_after (ring_of plan) fs) f) (are : AreNodes plan (fs ++ f ∷ []) stood) where
     abbrev ring : RingState (Node Serving)
     ring = ring_after (ring_of plan) fs
 
@@ -117,16 +137,22 @@ module _ (plan : Scenario) (is : Plan.IsPlan plan) (known : IsKnown plan) (begin
     ring_on : IsRing lens step (FitsPlan plan.slaves) (gs ++ frame_at lens ring f.sent ∷ []) (ring_behind node_passed step ring f.sent) (Behind (fate_at ring.lose ring.number))
     ring_on = Members.ring_on lens step (FitsPlan plan.slaves) is_followed is_passed gs ring f.sent y.datagrams y.frame ms turns x.lives asks
 
-    led_on : AllLedMembers is_followed is_passed (gs ++ frame_at lens ring f.sent ∷ []) (Behind (fate_at ring.lose ring.number)) (all_counters (length gs) (frame_at lens ring f.sent) ms (map counters_of ws))
-    led_on = led_turns lens step (FitsPlan plan.slaves) is_followed is_passed gs ring f.sent y.datagrams y.frame ms (map counters_of ws) turns x.lives asks x.led (Every.all_told plan (length gs) y.datagrams ring f went gs 0 plan.slaves ws x.nodes vs each x.at)
+    -- the nodes behind the frame are those of these slaves
+    nodes_on : stood (suc (length gs)) ≡ map (λ (m : ServedMember). m.node) (Behind (fate_at ring.lose ring.number))
+    nodes_on =
+        ap stood (ap suc many ∙ sym (longer fs f)) ∙ are (fs ++ f ∷ []) [] (sym (append-nil (fs ++ f ∷ [])))
+        ∙ ap (λ (r : RingState (Node Serving)). r.nodes) (one_after (ring_of plan) fs f) ∙ ring_on.nodes
 
-    by_fate : (fate : Fate) → fate_at ring.lose ring.number ≡ fate → AreServedLived plan (fs ++ f ∷ []) (map (served_behind lens plan.recover plan.retry gives (length gs) f) vs)
+    led_on : AllStoodMembers is_followed is_passed stood (gs ++ frame_at lens ring f.sent ∷ []) (Behind (fate_at ring.lose ring.number)) (all_counters (length gs) (frame_at lens ring f.sent) ms (map counters_of ws))
+    led_on = led_turns lens step (FitsPlan plan.slaves) is_followed is_passed gs ring f.sent y.datagrams y.frame ms (map counters_of ws) turns stood nodes_on x.lives asks x.led (Every.all_told plan (length gs) y.datagrams ring f went gs 0 plan.slaves ws x.nodes vs each x.at)
+
+    by_fate : (fate : Fate) → fate_at ring.lose ring.number ≡ fate → AreStoodLived stood plan (fs ++ f ∷ []) (map (served_behind lens plan.recover plan.retry gives (length gs) f) vs)
     by_fate fate at =
         let hs = gs ++ frame_at lens ring f.sent ∷ [] in
         let here = subst (λ (z : Fate). IsRing lens step (FitsPlan plan.slaves) hs (ring_behind node_passed step ring f.sent) (Behind z)) at ring_on in
-        let led = subst (λ (z : Fate). AllLedMembers is_followed is_passed hs (Behind z) (all_counters (length gs) (frame_at lens ring f.sent) ms (map counters_of ws))) at led_on in
+        let led = subst (λ (z : Fate). AllStoodMembers is_followed is_passed stood hs (Behind z) (all_counters (length gs) (frame_at lens ring f.sent) ms (map counters_of ws))) at led_on in
         let given = Begins.ring_given lens step (FitsPlan plan.slaves) hs plan.recover (length gs) (ring_behind node_passed step ring f.sent) (Behind fate) (Every.carried plan (length gs) y.datagrams ring f went gs gives fate vs) here in
-        let led_given = Every.led_given lens plan.slaves hs hs 0 (Behind fate) (all_counters (length gs) (frame_at lens ring f.sent) ms (map counters_of ws)) (Every.carried plan (length gs) y.datagrams ring f went gs gives fate vs) plan.recover (length gs) here.each led in
+        let led_given = Every.led_given lens plan.slaves hs hs 0 (Behind fate) (all_counters (length gs) (frame_at lens ring f.sent) ms (map counters_of ws)) stood (Every.carried plan (length gs) y.datagrams ring f went gs gives fate vs) plan.recover (length gs) here.each led in
         let same = Every.all_behind plan (length gs) y.datagrams ring f went gs plan.recover gives fate at (went.fate ∙ at) 0 plan.slaves ws x.nodes vs each (chained y.datagrams) x.lives.each x.at in
         let kept = Every.all_kept plan (length gs) y.datagrams ring f went gs plan.recover gives fate at (went.fate ∙ at) 0 plan.slaves ws x.nodes vs each x.lives.each x.at in
         let now = map (served_behind lens plan.recover plan.retry gives (length gs) f) vs in
@@ -136,17 +162,18 @@ module _ (plan : Scenario) (is : Plan.IsPlan plan) (known : IsKnown plan) (begin
           lives = subst (λ (r : RingState (Node Serving)). IsRing lens step (FitsPlan plan.slaves) (all_seen lens (fs ++ f ∷ [])) r (served_members lens 0 plan.slaves now nodes)) (sym (one_after (ring_of plan) fs f))
               (subst (λ (ks : List (Frame Body)). IsRing lens step (FitsPlan plan.slaves) ks (behind ring f.sent) (served_members lens 0 plan.slaves now nodes)) frames_are
               (subst (λ (ns : List ServedMember). IsRing lens step (FitsPlan plan.slaves) hs (behind ring f.sent) ns) same given));
-          led = subst (λ (ks : List (Frame Body)). AllLedMembers is_followed is_passed ks (served_members lens 0 plan.slaves now nodes) (map counters_of now)) frames_are
-              (subst (λ (ns : List ServedMember). AllLedMembers is_followed is_passed hs ns (map counters_of now)) same
-              (subst (λ (ks : List Counters). AllLedMembers is_followed is_passed hs (Given fate) ks) kept led_given));
+          led = subst (λ (ks : List (Frame Body)). AllStoodMembers is_followed is_passed stood ks (served_members lens 0 plan.slaves now nodes) (map counters_of now)) frames_are
+              (subst (λ (ns : List ServedMember). AllStoodMembers is_followed is_passed stood hs ns (map counters_of now)) same
+              (subst (λ (ks : List Counters). AllStoodMembers is_followed is_passed stood hs (Given fate) ks) kept led_given));
           at = Every.all_at plan (length gs) y.datagrams ring f went gs plan.recover gives fate 0 plan.slaves ws x.nodes vs each (chained y.datagrams) x.lives.each x.at;
         }
 
-    goes_on : AreServedLived plan (fs ++ f ∷ []) (map (served_behind lens plan.recover plan.retry gives (length fs) f) vs)
-    goes_on = subst (λ (made : ℕ). AreServedLived plan (fs ++ f ∷ []) (map (served_behind lens plan.recover plan.retry gives made f) vs)) many (by_fate (fate_at ring.lose ring.number) refl)
+    goes_on : AreStoodLived stood plan (fs ++ f ∷ []) (map (served_behind lens plan.recover plan.retry gives (length fs) f) vs)
+    goes_on = subst (λ (made : ℕ). AreStoodLived stood plan (fs ++ f ∷ []) (map (served_behind lens plan.recover plan.retry gives made f) vs)) many (by_fate (fate_at ring.lose ring.number) refl)
 
   -- THE WHOLE SERVING
-  pub served_lives : (fs : List Exchanged) (missed : ℕ) (ws : List Serves) → IsServedLed lens plan.recover plan.retry (all_serve plan.paces (first_leads plan)) fs missed ws → AllRound (ring_of plan) fs → AreServedLived plan fs ws
-  served_lives _ _ _ IsServedLed.start r = begins
-  served_lives _ _ _ (IsServedLed.asks fs missed ws place k l may) r = asked_lives plan fs ws place k (served_lives fs missed ws l r)
-  served_lives _ _ _ (IsServedLed.on fs missed ws f vs l y) r = goes_on fs missed ws f vs (served_lives fs missed ws l (front_round (ring_of plan) fs f r)) y (last_round (ring_of plan) fs f r)
+  pub served_lives : (fs : List Exchanged) (missed : ℕ) (ws : List Serves) → IsServedLed lens plan.recover plan.retry (all_serve plan.paces (first_leads plan)) fs missed ws → AllRound (ring_of plan) fs → AreNodes plan fs stood → AreStoodLived stood plan fs ws
+  served_lives _ _ _ IsServedLed.start r are = begins
+  served_lives _ _ _ (IsServedLed.asks fs missed ws place k l may) r are = asked_lives stood plan fs ws place k (served_lives fs missed ws l r are)
+  served_lives _ _ _ (IsServedLed.on fs missed ws f vs l y) r are =
+      goes_on fs missed ws f vs (served_lives fs missed ws l (front_round (ring_of plan) fs f r) (front_nodes plan fs f stood are)) y (last_round (ring_of plan) fs f r) are

@@ -17,7 +17,9 @@ use Rattle.segment_plan.specs.declared.service.Service as Plan
 use Rattle.segment_plan.specs.declared.slave.SlaveSpec.{SlaveSpec}
 use Rattle.served_rings.specs.Rests.{AllServedDoneIf, IsServedDone, IsServedIdle, IsServedWhole}
 use Rattle.served_rings.specs.Rings.{AllServedAt, IsServedAt}
-use Rattle.served_rings.specs.Served.{AllServeSo, IsServedLife, IsServedNewest}
+use Rattle.served_rings.specs.Served.{IsServedLife, IsServedNewest}
+use Rattle.served_rings.specs.Stood.{AllHeld, ServeStood}
+use Rattle.served_rings.specs.StoodLives.{IsFirst, others}
 use Rattle.served_rings.specs.Speakers.{spoken}
 use Rattle.run_work.specs.Lives.{first_server}
 use Rattle.served_runs.specs.Came.{AreAmong, HasServed, ServedCame}
@@ -39,7 +41,8 @@ module _ (plan : Scenario) where
   abbrev lens : ℕ → Lens
   lens = lens_of plan.slaves
 
-  module _ (place : ℕ) (s : SlaveSpec) (w : Serves) (n : Node Serving) (served : IsServedLife (profile_of s) s.boot s.station s.start (first_server s) w.lead.lived.life n) (at : IsServedAt plan place s w) (has : HasServed lens w)
+  module _ (stood : ℕ → Node Serving → Type 0) (place : ℕ) (s : SlaveSpec) (w : Serves) (n : Node Serving) (served : IsServedLife (profile_of s) s.boot s.station s.start (first_server s) w.lead.lived.life n)
+      (held : AllHeld (profile_of s) s.boot s.station stood s.start (first_server s) w.lead.lived.life.past served.from served.past w.lead.lived.life.era.cleared) (at : IsServedAt plan place s w) (has : HasServed lens w)
       (out : (lens s.station).out ≡ s.out_len) (back : (lens s.station).back ≡ s.in_len) (idle : IsServedIdle lens w) (settled : is_settled next_mail n ≡ true) where
     abbrev script : List Plan.Service
     script = script_for place plan.services
@@ -60,7 +63,7 @@ module _ (plan : Scenario) where
     all_script : w.lead.number ≡ length script
     all_script = idle.script ∙ ap length at.script
 
-    one_done : IsServedDone plan place s w n
+    one_done : IsServedDone stood plan place s w n
     one_done = record {
       mails = has.mails;
       came = came_whole;
@@ -68,6 +71,7 @@ module _ (plan : Scenario) where
       all = λ never. has.all never ∙ mails_are;
       from = served.from;
       past = served.past;
+      held = held;
       newest = whole s served.from w.lead.lived.life.era n settled (subst (λ (x : Speech Body Asked Reply). WantsNothing x w.lead.lived.life.era.side) speaks idle.side) idle.hand idle.over w.lead.lived.life.stand idle.stand served.newest;
     }
       where
@@ -81,13 +85,14 @@ module _ (plan : Scenario) where
             (subst (λ (k : ℕ). ServedCame k w.lead.script w.lead.number has.mails (life_started w.lead.lived.life)) room has.came))
 
   -- of all slaves
-  pub all_done : (place : ℕ) (ss : List SlaveSpec) (ws : List Serves) (ns : List (Node Serving)) → HaveLens lens ss → AllServeSo ss ws ns → AllServedAt plan place ss ws ns → All (HasServed lens) ws → AllServedDoneIf plan place ss ws ns
-  all_done place [] [] [] long served at has = tt
-  all_done place [] [] (n ∷ ns) long served at has = absurd at
-  all_done place [] (w ∷ ws) ns long served at has = absurd at
-  all_done place (s ∷ ss) [] ns long served at has = absurd at
-  all_done place (s ∷ ss) (w ∷ ws) [] long served at has = absurd at
-  all_done place (s ∷ ss) (w ∷ ws) (n ∷ ns) long served at has = (
-    (λ idle settled. one_done place s w n served.0 at.0 (All-head (HasServed lens) w ws has) long.0.0 long.0.1 idle settled),
-    all_done (suc place) ss ws ns long.1 served.1 at.1 (All-tail (HasServed lens) w ws has),
+  pub all_done : (stood : ℕ → List (Node Serving)) (place : ℕ) (ss : List SlaveSpec) (ws : List Serves) (ns : List (Node Serving)) → HaveLens lens ss → ServeStood stood ss ws ns → AllServedAt plan place ss ws ns → All (HasServed lens) ws →
+      AllServedDoneIf stood plan place ss ws ns
+  all_done stood place [] [] [] long served at has = tt
+  all_done stood place [] [] (n ∷ ns) long served at has = absurd at
+  all_done stood place [] (w ∷ ws) ns long served at has = absurd at
+  all_done stood place (s ∷ ss) [] ns long served at has = absurd at
+  all_done stood place (s ∷ ss) (w ∷ ws) [] long served at has = absurd at
+  all_done stood place (s ∷ ss) (w ∷ ws) (n ∷ ns) long served at has = (
+    (λ idle settled. one_done (IsFirst stood) place s w n served.each.0 served.held.0 at.0 (All-head (HasServed lens) w ws has) long.0.0 long.0.1 idle settled),
+    all_done (others stood) (suc place) ss ws ns long.1 (record { each = served.each.1; held = served.held.1 }) at.1 (All-tail (HasServed lens) w ws has),
   )

@@ -3,7 +3,6 @@ use Rattle.std.proofs.Common.{◌≡◌, ℕ, suc, Bool, List, [], ◌∷◌, ma
 use Rattle.std.specs.Prelude.{All}
 use Rattle.std.proofs.lemmas.List.Elements.{All-head, All-tail}
 use Rattle.frame_view.specs.View.{Lens}
-use Rattle.served_rings.specs.LedRings.{AllLedMembers}
 use Rattle.life_runs.specs.First.{lens_of, spot_of}
 use Rattle.link_mails.specs.Body.{Body}
 use Rattle.master_hand.specs.Spoken.{is_followed, is_passed}
@@ -23,7 +22,8 @@ use Rattle.slave_server.specs.Serving.{Serving}
 use Rattle.slave_server.specs.Spec.{profile_of}
 use Rattle.slave_steps.specs.Node.{Node}
 use Rattle.life_counts.specs.Epochs.{IsSpeaker}
-use Rattle.served_rings.specs.Served.{AllServeSo}
+use Rattle.served_rings.specs.Stood.{ServeStood}
+use Rattle.served_rings.specs.StoodLives.{AllStoodMembers, IsFirst, others}
 use Rattle.served_rings.specs.Serves.{serves}
 use Rattle.served_rings.proofs.ServedLives.{life_served}
 
@@ -41,15 +41,16 @@ module _ (speaks : (p : Profile) → IsProfile p → IsSpeaker (speaker p)) (for
   abbrev lens : ℕ → Lens
   lens = lens_of plan.slaves
 
-  pub all_serve_so : (place : ℕ) (ss : List SlaveSpec) (ws : List Serves) (ns : List (Node Serving)) → All IsSlave ss → AllMacs ss → AllLedMembers is_followed is_passed gs (served_members lens place ss ws ns) (map counters_of ws) → AllServedAt plan place ss ws ns → AllServeSo ss ws ns
-  all_serve_so place [] [] [] slaves macs led at = tt
-  all_serve_so place [] [] (n ∷ ns) slaves macs led at = absurd at
-  all_serve_so place [] (w ∷ ws) ns slaves macs led at = absurd at
-  all_serve_so place (s ∷ ss) [] ns slaves macs led at = absurd at
-  all_serve_so place (s ∷ ss) (w ∷ ws) [] slaves macs led at = absurd at
-  all_serve_so place (s ∷ ss) (w ∷ ws) (n ∷ ns) slaves macs led at =
+  pub all_serve_so : (stood : ℕ → List (Node Serving)) (place : ℕ) (ss : List SlaveSpec) (ws : List Serves) (ns : List (Node Serving)) → All IsSlave ss → AllMacs ss → AllStoodMembers is_followed is_passed stood gs (served_members lens place ss ws ns) (map counters_of ws) →
+      AllServedAt plan place ss ws ns → ServeStood stood ss ws ns
+  all_serve_so stood place [] [] [] slaves macs led at = record { each = tt; held = tt }
+  all_serve_so stood place [] [] (n ∷ ns) slaves macs led at = absurd at
+  all_serve_so stood place [] (w ∷ ws) ns slaves macs led at = absurd at
+  all_serve_so stood place (s ∷ ss) [] ns slaves macs led at = absurd at
+  all_serve_so stood place (s ∷ ss) (w ∷ ws) [] slaves macs led at = absurd at
+  all_serve_so stood place (s ∷ ss) (w ∷ ws) (n ∷ ns) slaves macs led at =
       let here = All-head IsSlave s ss slaves in
-      let profile : IsProfile (profile_of s) = record { out_least = here.out_least; out_most = here.out_most; back_least = here.in_least; back_most = here.in_most; mac = macs.0 } in (
-        life_served (profile_of s) (speaks (profile_of s) profile) (forgets (profile_of s)) s.boot lens (behind (profile_of s) s.boot lens) (spot_of place s) (plan_of s) w.kept w.counts (first_server s) w.lead.lived.life gs n led.0,
-        all_serve_so (suc place) ss ws ns (All-tail IsSlave s ss slaves) macs.1 led.1 at.1,
-      )
+      let profile : IsProfile (profile_of s) = record { out_least = here.out_least; out_most = here.out_most; back_least = here.in_least; back_most = here.in_most; mac = macs.0 } in
+      let one = life_served (profile_of s) (speaks (profile_of s) profile) (forgets (profile_of s)) s.boot lens (behind (profile_of s) s.boot lens) (spot_of place s) (IsFirst stood) (plan_of s) w.kept w.counts (first_server s) w.lead.lived.life gs n led.0 in
+      let rest = all_serve_so (others stood) (suc place) ss ws ns (All-tail IsSlave s ss slaves) macs.1 led.1 at.1 in
+      record { each = (one.0, rest.each); held = (one.1, rest.held) }

@@ -2,7 +2,7 @@
 use Rattle.std.proofs.Common.{◌≡◌, ◌≢◌, ℕ, Bool, false, Option, List, refl, ap, sym, ◌∙◌}
 use Rattle.frame_view.specs.View.{Lens}
 use Rattle.frames_seen.specs.Slaves.{registers_seen}
-use Rattle.served_rings.specs.Lives.{LedKept, LedYet, LedLeft, AllLeds, IsLedLived}
+use Rattle.served_rings.specs.Lives.{LedKept, LedYet, LedLeft, AllLeds}
 use Rattle.life_model.specs.Lives.{Spot, Era, Life, Opening, Stand, new_era}
 use Rattle.link_mails.specs.Body.{Body}
 use Rattle.master_duty.specs.Reply.{Reply}
@@ -22,8 +22,10 @@ use Rattle.slave_server.specs.Serving.{Serving, fresh}
 use Rattle.slave_steps.specs.Node.{Node}
 use Rattle.state_exchange.specs.Families.{InState}
 use Rattle.life_counts.specs.Epochs.{IsSpeaker}
-use Rattle.whole_ring.specs.Whole.{OpensBy, StandsBy, Waits}
+use Rattle.whole_ring.specs.Whole.{OpensBy, StandsBy}
 use Rattle.served_rings.specs.Served.{AreServedEras, Holds, IsServedEra, IsServedNewest, IsServedLife, NothingCame}
+use Rattle.served_rings.specs.Stood.{AllHeld, HeldAt}
+use Rattle.served_rings.specs.StoodLives.{AllBegin, BeginsAt, IsStoodLived}
 use Rattle.served_rings.proofs.Epochs.{era_served}
 
 pub not_open : (o : Opening) → Stand.Opens o ≢ Stand.Open
@@ -50,37 +52,49 @@ module _ (p : Profile) (k : IsSpeaker (speaker p)) (forgets : Forgets (speaker p
   clears_inner : (a b : InState Server) → a.inner ≡ b.inner → (cleared_whole a).inner ≡ (cleared_whole b).inner
   clears_inner a b same = ap (λ (z : Server). record (fresh z.app.app) { handled = z.handled }) same
 
-  -- all that are over, with the server that the next one begins with
-  record Begun (a : InState Server) (es : List (Era Body Asked Reply)) (b : InState Server) : Type 0 where
+  -- a slave that has what an epoch begins with, cleared, holds it
+  begins_holds : (from at : InState Server) → from.inner ≡ at.inner → (al : ℕ) (n : Node Serving) → from ≡ w.exchange.app (w.sees al (w.running.clear n.server)).server → Holds at n
+  begins_holds from at same al n begins = record {
+    app = sym (ap (λ (v : InState Server). v.inner.app.app) begins) ∙ ap (λ (z : Server). z.app.app) same;
+    handled = sym (ap (λ (v : InState Server). v.inner.handled) begins) ∙ ap (λ (z : Server). z.handled) same;
+  }
+
+  -- so it held what it was cleared from
+  held_at : (stood : ℕ → Node Serving → Type 0) (b v : InState Server) (cleared : Option ℕ) → b.inner ≡ (cleared_whole v).inner → BeginsAt w stood b cleared → HeldAt stood v cleared
+  held_at stood b v cleared same x =
+      let holds = begins_holds b (cleared_whole v) same x.al x.node x.begins in
+      record { frame = x.frame; shown = x.shown; node = x.node; stands = x.stands; holds = record { app = holds.app; handled = holds.handled } }
+
+  -- all that are over, with the server that the next one begins with, and what the slave held as each ended
+  record Begun (stood : ℕ → Node Serving → Type 0) (a : InState Server) (es : List (Era Body Asked Reply)) (b : InState Server) (cleared : Option ℕ) : Type 0 where
     at : InState Server
     all : Before a es at
     same : b.inner ≡ at.inner
+    held : AllHeld p boot spot.station stood spot.start a es at all cleared
 
-  past_served : {a b : InState Server} {es : List (Era Body Asked Reply)} → AllLeds w is_followed is_passed spot serves_clearing.cleared a es b → Begun a es b
-  past_served (AllLeds.none a) = record { at = a; all = AreServedEras.none; same = refl }
-  past_served (AllLeds.closed a es b e cleared state before is_new) =
-      let rest = past_served before in
+  past_served : (stood : ℕ → Node Serving → Type 0) (a : InState Server) (es : List (Era Body Asked Reply)) (b : InState Server) (all : AllLeds w is_followed is_passed spot serves_clearing.cleared a es b) (cleared : Option ℕ) →
+      AllBegin w is_followed is_passed spot stood serves_clearing.cleared a es b all cleared → Begun stood a es b cleared
+  past_served stood _ _ _ (AllLeds.none a) cleared begins = record { at = a; all = AreServedEras.none; same = refl; held = tt }
+  past_served stood _ _ _ (AllLeds.closed a es b e at state before is_new) cleared begins =
+      let rest = past_served stood a es b before e.cleared begins.0 in
+      let same = clears_inner b rest.at rest.same in
       record {
         at = cleared_whole rest.at;
-        all = AreServedEras.unopened es rest.at e rest.all (nothing e cleared state is_new);
-        same = clears_inner b rest.at rest.same;
+        all = AreServedEras.unopened es rest.at e rest.all (nothing e at state is_new);
+        same = same;
+        held = (rest.held, held_at stood (serves_clearing.cleared b) rest.at cleared same begins.1);
       }
-  past_served (AllLeds.opened a es b e s before left) =
-      let rest = past_served before in
+  past_served stood _ _ _ (AllLeds.opened a es b e s before left) cleared begins =
+      let rest = past_served stood a es b before e.cleared begins.0 in
       let one = era_served p k forgets boot lens spot b left.led e left.frames left.node left.era behind rest.at rest.same in
       let state = (registers_seen left.node.registers).state in
+      let same = ap (λ (z : Serving). (cleared_whole (w.sees state z).server).inner) (sym left.same) ∙ ap (λ (v : InState Server). v.inner) one.cleared in
       record {
         at = cleared_whole one.done;
         all = AreServedEras.opened es rest.at e _ one.done rest.all one.was;
-        same = ap (λ (z : Serving). (cleared_whole (w.sees state z).server).inner) (sym left.same) ∙ ap (λ (v : InState Server). v.inner) one.cleared;
+        same = same;
+        held = (rest.held, held_at stood (w.exchange.app (w.sees state (w.running.clear s)).server) one.done cleared same begins.1);
       }
-
-  -- a slave whose newest epoch waits holds what the next one begins with
-  waits_holds : (from at : InState Server) → from.inner ≡ at.inner → (e : Era Body Asked Reply) (n : Node Serving) → Waits w from e n.server → Holds at n
-  waits_holds from at same e n x = record {
-    app = sym (ap (λ (v : InState Server). v.inner.app.app) x.begins) ∙ ap (λ (z : Server). z.app.app) same;
-    handled = sym (ap (λ (v : InState Server). v.inner.handled) x.begins) ∙ ap (λ (z : Server). z.handled) same;
-  }
 
   -- and one whose services a return to Init clears as those that an epoch left holds what that carried out
   left_holds : (from : InState Server) (e : Era Body Asked Reply) (left done : InState Server) → IsServedEra p boot spot.station from e left done → (n : Node Serving) (s : Serving) →
@@ -96,7 +110,7 @@ module _ (p : Profile) (k : IsSpeaker (speaker p)) (forgets : Forgets (speaker p
       let x = still.lives.epoch in
       let one = era_served p k forgets boot lens spot from x.led e fs n x.era behind at same in
       IsServedNewest.over stand shut _ one.done one.was (left_holds _ e _ one.done one.was.era n n.server refl refl)
-  opens_served plan from at same e fs stand shut n o (OpensBy.anew closing x start) = IsServedNewest.unopened stand shut (nothing e x.cleared x.state x.is_new) (waits_holds from at same e n x)
+  opens_served plan from at same e fs stand shut n o (OpensBy.anew closing x start) = IsServedNewest.unopened stand shut (nothing e x.cleared x.state x.is_new) (begins_holds from at same x.al n x.begins)
   opens_served plan from at same e fs stand shut n o (OpensBy.over closing again early x) =
       let y = x.left in
       let one = era_served p k forgets boot lens spot from y.led e y.frames y.node y.era behind at same in
@@ -111,9 +125,10 @@ module _ (p : Profile) (k : IsSpeaker (speaker p)) (forgets : Forgets (speaker p
       IsServedNewest.lives _ one.done refl refl one.was one.rests
   newest_served plan kept counts from at same e fs Stand.Gone n now = opens_served plan from at same e fs Stand.Gone gone_not_open n (opening_again spot.start false) now
 
-  -- THE WHOLE LIFE
-  pub life_served : (plan : Plan) (kept : Kept) (counts : Bool) (first : InState Server) (l : Life Body Asked Reply) (fs : List (Frame Body)) (n : Node Serving) → IsLedLived w is_followed is_passed spot serves_clearing.cleared plan kept counts first l fs n →
-      IsServedLife p boot spot.station spot.start first l n
-  life_served plan kept counts first l fs n i =
-      let before = past_served i.past in
-      record { from = before.at; past = before.all; newest = newest_served plan kept counts i.from before.at before.same l.era fs l.stand n i.now }
+  -- THE WHOLE LIFE, and what the slave held as each epoch that is over ended
+  pub life_served : (stood : ℕ → Node Serving → Type 0) (plan : Plan) (kept : Kept) (counts : Bool) (first : InState Server) (l : Life Body Asked Reply) (fs : List (Frame Body)) (n : Node Serving) →
+      IsStoodLived w is_followed is_passed spot stood serves_clearing.cleared plan kept counts first l fs n →
+      (d : IsServedLife p boot spot.station spot.start first l n) × AllHeld p boot spot.station stood spot.start first l.past d.from d.past l.era.cleared
+  life_served stood plan kept counts first l fs n i =
+      let before = past_served stood first l.past i.from i.past.0 l.era.cleared i.past.1 in
+      (record { from = before.at; past = before.all; newest = newest_served plan kept counts i.from before.at before.same l.era fs l.stand n i.now }, before.held)

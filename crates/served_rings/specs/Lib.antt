@@ -11,5 +11,7 @@ pub mod Served
 pub mod Serves
 pub mod Servings
 pub mod Speakers
+pub mod Stood
+pub mod StoodLives
 pub mod Told
 pub mod ToldEras

@@ -14,6 +14,8 @@ use Rattle.segment_model.specs.Laws.{WantsNothing}
 use Rattle.segment_plan.specs.declared.plan.Scenario.{Scenario}
 use Rattle.segment_plan.specs.declared.slave.SlaveSpec.{SlaveSpec}
 use Rattle.served_rings.specs.Served.{AreServedEras, NothingLeft, WasServed}
+use Rattle.served_rings.specs.Stood.{AllHeld}
+use Rattle.served_rings.specs.StoodLives.{IsFirst, others}
 use Rattle.served_runs.specs.Came.{AreAmong, ServedCame}
 use Rattle.served_runs.specs.Served.{Keyed, Serves}
 use Rattle.slave_model.specs.Profile.{Profile}
@@ -43,19 +45,20 @@ pub record IsServedWhole (p : Profile) (boot : Bool) (station start : ℕ) (from
   pub nothing : NothingLeft p boot station (record from { state = was.state }) e done
 
 -- ALL IS DONE of a slave: its whole script came into hand, with packets and with these mails, which are those that were asked of it, in order, and all of them
--- where it was never given up; and all rows of its newest epoch are carried out, from what the epochs before it left
-pub record IsServedDone (plan : Scenario) (place : ℕ) (s : SlaveSpec) (w : Serves) (n : Node Serving) : Type 0 where
+-- where it was never given up; and all rows of its newest epoch are carried out, from what the epochs before it left, which its node held as each of them ended
+pub record IsServedDone (stood : ℕ → Node Serving → Type 0) (plan : Scenario) (place : ℕ) (s : SlaveSpec) (w : Serves) (n : Node Serving) : Type 0 where
   pub mails : List Keyed
   pub came : ServedCame s.out_len (script_for place plan.services) (length (script_for place plan.services)) mails (life_started w.lead.lived.life)
   pub among : AreAmong mails w.asked
   pub all : w.lead.lived.life.gave ≡ [] → w.asked ≡ mails
   pub from : InState Server
   pub past : AreServedEras (profile_of s) s.boot s.station s.start (first_server s) w.lead.lived.life.past from
+  pub held : AllHeld (profile_of s) s.boot s.station stood s.start (first_server s) w.lead.lived.life.past from past w.lead.lived.life.era.cleared
   pub newest : IsServedWhole (profile_of s) s.boot s.station s.start from w.lead.lived.life.era n
 
--- so it is of each slave, from a place on, that is settled and of which the master wants nothing
-abbrev pub AllServedDoneIf : Scenario → ℕ → List SlaveSpec → List Serves → List (Node Serving) → Type 0
-AllServedDoneIf plan place [] [] [] = ⊤
-AllServedDoneIf plan place (s ∷ ss) (w ∷ ws) (n ∷ ns) =
-    (IsServedIdle (lens_of plan.slaves) w → is_settled next_mail n ≡ true → IsServedDone plan place s w n) × AllServedDoneIf plan (suc place) ss ws ns
-AllServedDoneIf plan place _ _ _ = ⊥
+-- so it is of each slave, from a place on, that is settled and of which the master wants nothing, by the nodes of these slaves behind each number of frames
+abbrev pub AllServedDoneIf : (ℕ → List (Node Serving)) → Scenario → ℕ → List SlaveSpec → List Serves → List (Node Serving) → Type 0
+AllServedDoneIf stood plan place [] [] [] = ⊤
+AllServedDoneIf stood plan place (s ∷ ss) (w ∷ ws) (n ∷ ns) =
+    (IsServedIdle (lens_of plan.slaves) w → is_settled next_mail n ≡ true → IsServedDone (IsFirst stood) plan place s w n) × AllServedDoneIf (others stood) plan (suc place) ss ws ns
+AllServedDoneIf stood plan place _ _ _ = ⊥

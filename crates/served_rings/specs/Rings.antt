@@ -1,5 +1,5 @@
 -- THE RING OF A SERVING: its slaves, with the services that their nodes run, the lives that the master leads of them, and what its records keep.
-use Rattle.std.specs.Prelude.{◌≡◌, ℕ, suc, List, [], ◌∷◌, map, ⊤}
+use Rattle.std.specs.Prelude.{◌≡◌, ℕ, suc, List, [], ◌∷◌, map, take, ⊤}
 use Rattle.frame_view.specs.View.{Lens}
 use Rattle.served_rings.specs.LedRings.{Counters, AllLedMembers}
 use Rattle.life_runs.specs.First.{lens_of, spot_of, script_for}
@@ -11,6 +11,7 @@ use Rattle.plan_ring.specs.Round.{all_seen, ring_after, ring_of}
 use Rattle.segment_plan.specs.declared.plan.Scenario.{Scenario}
 use Rattle.segment_plan.specs.declared.slave.SlaveSpec.{SlaveSpec}
 use Rattle.served_rings.specs.Serves.{serves}
+use Rattle.served_rings.specs.StoodLives.{AllStoodMembers}
 use Rattle.served_rings.specs.Clearing.{serves_clearing}
 use Rattle.served_runs.specs.Served.{Serves}
 use Rattle.slave_parts.specs.Parts.{Server}
@@ -64,3 +65,15 @@ pub record AreServedLived (plan : Scenario) (fs : List Exchanged) (ws : List Ser
   pub lives : IsRing (lens_of plan.slaves) step (FitsPlan plan.slaves) (all_seen (lens_of plan.slaves) fs) (ring_after (ring_of plan) fs) (served_members (lens_of plan.slaves) 0 plan.slaves ws nodes)
   pub led : AllLedMembers is_followed is_passed (all_seen (lens_of plan.slaves) fs) (served_members (lens_of plan.slaves) 0 plan.slaves ws nodes) (map counters_of ws)
   pub at : AllServedAt plan 0 plan.slaves ws nodes
+
+-- AND EACH EPOCH BEGINS WITH WHAT ITS SLAVE HAD, cleared, behind the frame that showed the return to Init before it; `stood` has the ring's nodes behind each number
+-- of frames
+pub record AreStoodLived (stood : ℕ → List (Node Serving)) (plan : Scenario) (fs : List Exchanged) (ws : List Serves) : Type 0 where
+  pub nodes : List (Node Serving)
+  pub lives : IsRing (lens_of plan.slaves) step (FitsPlan plan.slaves) (all_seen (lens_of plan.slaves) fs) (ring_after (ring_of plan) fs) (served_members (lens_of plan.slaves) 0 plan.slaves ws nodes)
+  pub led : AllStoodMembers is_followed is_passed stood (all_seen (lens_of plan.slaves) fs) (served_members (lens_of plan.slaves) 0 plan.slaves ws nodes) (map counters_of ws)
+  pub at : AllServedAt plan 0 plan.slaves ws nodes
+
+-- the nodes of a plan's ring behind each number of these frames
+abbrev pub nodes_behind : Scenario → List Exchanged → ℕ → List (Node Serving)
+nodes_behind plan fs frames = (ring_after (ring_of plan) (take frames fs)).nodes

@@ -1,11 +1,12 @@
 //! The lives of all slaves of a ring by epochs that their master leads, mails that are passed on among them, with the counters that its records keep. A
 //! definition and a law, no running code: the function here does nothing, and its contract states the law.
 
-ghost use Rattle.std.specs.Prelude.{◌≡◌, ◌∷◌, ◌++◌, ℕ, Bool, List, [], length};
+ghost use Rattle.std.specs.Prelude.{◌≡◌, ◌∷◌, ◌++◌, ℕ, suc, Bool, List, [], length, map};
 ghost use Rattle.datagrams.specs.Datagram as Raw;
 ghost use Rattle.datagrams.specs.Frame.{IsFrame, chained};
 ghost use Rattle.frame_view.specs.View.{Lens};
 ghost use Rattle.served_rings.specs.LedRings.{Counters, AllLedMembers, AllTold, all_counters};
+ghost use Rattle.served_rings.specs.StoodLives.{AllStoodMembers};
 ghost use Rattle.life_model.specs.Lives.{Spot};
 ghost use Rattle.link_mails.specs.Body.{Body};
 ghost use Rattle.segment_model.specs.Record.{Frame};
@@ -16,10 +17,14 @@ ghost use Rattle.whole_ring.specs.Members.{AllNew, IsRing, Member, Passes};
 ghost use Rattle.whole_ring.specs.Turning.{AllTurn, Turn, behind_frame, frame_at};
 
 /// THE LIVES OF A RING'S SLAVES ARE LED from the moment these are switched on; and by each exchange of a frame that the master made, where mails that are passed
-/// on go on by the news that the records say of it; and the records' counters are those that stand behind it.
+/// on go on by the news that the records say of it; and the records' counters are those that stand behind it. Each epoch begins with what its slave had, cleared,
+/// behind the frame that showed the return to Init before it.
 pub fn led_ring_law<S, V, A, Q, R>()
-    ensures begins { (lens : ℕ → Lens) (step : Node S → Node S) (test : Spot → S → Bool) (more : Body → Bool) (passed : Q → Bool) (ms : List (Member S V A Q R)) (ks : List Counters) → length ks ≡ length ms → AllNew lens step (Passes test) 0 ms → AllLedMembers more passed [] ms ks }
-    ensures turns { (lens : ℕ → Lens) (step : Node S → Node S) (test : Spot → S → Bool) (more : Body → Bool) (passed : Q → Bool) (fs : List (Frame Body)) (ring : RingState (Node S)) (octets : List ℕ) (ds : List Raw.Datagram) (ms : List (Member S V A Q R)) (ks : List Counters) (turns : List (Turn Q)) →
-        IsFrame octets (chained ds) → IsRing lens step (Passes test) fs ring ms → AllTurn more passed lens (length fs) ds ms turns → AllLedMembers more passed fs ms ks → let f = frame_at lens ring octets in AllTold more passed f ms ks turns →
-        AllLedMembers more passed (fs ++ f ∷ []) (behind_frame more passed (length fs) f (fate_at ring.lose ring.number) 0 ms turns (chained ds)) (all_counters (length fs) f ms ks) }
+    ensures begins { (lens : ℕ → Lens) (step : Node S → Node S) (test : Spot → S → Bool) (more : Body → Bool) (passed : Q → Bool) (nodes : ℕ → List (Node S)) (ms : List (Member S V A Q R)) (ks : List Counters) → length ks ≡ length ms → AllNew lens step (Passes test) 0 ms →
+        AllStoodMembers more passed nodes [] ms ks }
+    ensures turns { (lens : ℕ → Lens) (step : Node S → Node S) (test : Spot → S → Bool) (more : Body → Bool) (passed : Q → Bool) (nodes : ℕ → List (Node S)) (fs : List (Frame Body)) (ring : RingState (Node S)) (octets : List ℕ) (ds : List Raw.Datagram) (ms : List (Member S V A Q R)) (ks : List Counters) (turns : List (Turn Q)) →
+        IsFrame octets (chained ds) → IsRing lens step (Passes test) fs ring ms → AllTurn more passed lens (length fs) ds ms turns → AllStoodMembers more passed nodes fs ms ks → let f = frame_at lens ring octets in AllTold more passed f ms ks turns →
+        let behind = behind_frame more passed (length fs) f (fate_at ring.lose ring.number) 0 ms turns (chained ds) in nodes (suc (length fs)) ≡ map (λ (m : Member S V A Q R). m.node) behind →
+        AllStoodMembers more passed nodes (fs ++ f ∷ []) behind (all_counters (length fs) f ms ks) }
+    ensures led { (more : Body → Bool) (passed : Q → Bool) (nodes : ℕ → List (Node S)) (fs : List (Frame Body)) (ms : List (Member S V A Q R)) (ks : List Counters) → AllStoodMembers more passed nodes fs ms ks → AllLedMembers more passed fs ms ks }
 {}

@@ -29,6 +29,7 @@ pub mod served_eras;
 pub mod served_lives;
 pub mod served_replies;
 pub mod served_rests;
+pub mod stood_rings;
 pub mod told_eras;
 
 /// A MASTER THAT LEADS A SERVING, by frames that went round the ring of its plan's slaves, with mails asked between them, leads lives that the nodes of the ring live
@@ -37,9 +38,7 @@ pub fn served_ring_law()
     ensures { (plan : Scenario) → IsPlan plan → IsKnown plan → (fs : List Exchanged) (missed : ℕ) (ws : List Serves) →
         IsServedLed (lens_of plan.slaves) plan.recover plan.retry (all_serve plan.paces (first_leads plan)) fs missed ws → AllRound (ring_of plan) fs → AreServedLived plan fs ws }
 {
-    plan_ring::plan_ring_law();
-    crate::served_eras::behind_law();
-    crate::plan_speakers::state_law();
+    crate::stood_rings::stood_ring_law();
 }
 
 /// SO WITH FAIR MAILS ALONE each of these lives is worked by its slave in sessions of services and fair mails, from its parts as it was switched on.

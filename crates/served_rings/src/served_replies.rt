@@ -12,7 +12,8 @@ ghost use Rattle.plan_ring.specs.Lives.{IsKnown};
 ghost use Rattle.plan_ring.specs.Round.{AllRound, ring_of};
 ghost use Rattle.segment_plan.specs.Sound.{IsPlan};
 ghost use Rattle.segment_plan.specs.declared.plan.Scenario.{Scenario};
-ghost use Rattle.served_rings.specs.Served.{ServeSo, replies_to, server_behind};
+ghost use Rattle.served_rings.specs.Served.{replies_to, server_behind};
+ghost use Rattle.served_rings.specs.Stood.{ServeSo};
 ghost use Rattle.served_runs.specs.Served.{Serves, IsServedLed, all_serve};
 ghost use Rattle.slave_model.specs.Profile.{Profile};
 ghost use Rattle.slave_model.specs.Server.{failure};
@@ -22,11 +23,13 @@ ghost use Rattle.state_exchange.specs.Stated.{Service};
 
 /// EACH SLAVE OF A SERVING has carried out, epoch by epoch, just the first of the rows that came into hand of it, each mail that was passed on by the one step that
 /// its server takes for it; and of each of these mails just the first of the replies of that step were heard, all of them where it is over: behind any frames that
-/// went round the plan's ring, with any mails asked between them. Where it is open and rests, nothing is left of its newest epoch.
+/// went round the plan's ring, with any mails asked between them. Each mail that is over or has a reply is carried out, and of two rows of an epoch that are not
+/// the older is a packet. Where it is open and rests, nothing is left of its newest epoch. And as each epoch ended, by the frame that showed its return to Init, the
+/// slave's node held what was carried out of it.
 pub fn served_replies_law()
     ensures { (plan : Scenario) → IsPlan plan → IsKnown plan → (fs : List Exchanged) (missed : ℕ) (ws : List Serves) → IsServedLed (lens_of plan.slaves) plan.recover plan.retry (all_serve plan.paces (first_leads plan)) fs missed ws → AllRound (ring_of plan) fs → ServeSo plan fs ws }
 {
-    crate::served_ring_law();
+    crate::stood_rings::stood_ring_law();
     crate::served_eras::behind_law();
     crate::plan_speakers::speaker_law();
     crate::plan_speakers::run_law();

@@ -9,14 +9,15 @@ ghost use Rattle.plan_ring.specs.Round.{AllRound, ring_after, ring_of};
 ghost use Rattle.segment_plan.specs.Sound.{IsPlan};
 ghost use Rattle.segment_plan.specs.declared.plan.Scenario.{Scenario};
 ghost use Rattle.served_rings.specs.Rests.{AllServedDoneIf};
+ghost use Rattle.served_rings.specs.Rings.{nodes_behind};
 ghost use Rattle.served_runs.specs.Served.{Serves, IsServedLed, all_serve};
 
 /// WHERE NOTHING IS LEFT: of each slave of a serving that is settled and of which its master wants nothing, all services of its script came into hand, and the mails
 /// that were asked of it, in order, and all of them where it was never given up; and all rows of its newest epoch are carried out, each once and in order, each
-/// service by mails that has a reply has it, and each change of its AL state is over.
+/// service by mails that has a reply has it, and each change of its AL state is over. What the epochs before left its node held as each of them ended.
 pub fn served_rests_law()
     ensures { (plan : Scenario) → IsPlan plan → IsKnown plan → (fs : List Exchanged) (missed : ℕ) (ws : List Serves) → IsServedLed (lens_of plan.slaves) plan.recover plan.retry (all_serve plan.paces (first_leads plan)) fs missed ws → AllRound (ring_of plan) fs →
-        AllServedDoneIf plan 0 plan.slaves ws (ring_after (ring_of plan) fs).nodes }
+        AllServedDoneIf (nodes_behind plan fs) plan 0 plan.slaves ws (ring_after (ring_of plan) fs).nodes }
 {
     crate::served_ring_law();
     crate::served_replies::served_replies_law();

@@ -1,0 +1,18 @@
+-- WHAT THE SLAVES OF THE RING THAT REPLAYS FRAMES SERVED, and what stood as each epoch that is over ended.
+use Rattle.std.specs.Prelude.{ℕ, List, take}
+use Rattle.run_book.specs.declared.book.SentFrame.{SentFrame}
+use Rattle.run_record.specs.Replay.{first_ring, ring_after}
+use Rattle.segment_plan.specs.declared.plan.Scenario.{Scenario}
+use Rattle.served_rings.specs.Stood.{ServeStood}
+use Rattle.served_runs.specs.Served.{Serves}
+use Rattle.slave_server.specs.Serving.{Serving}
+use Rattle.slave_steps.specs.Node.{Node}
+
+-- the nodes of that ring behind each number of these frames
+abbrev pub nodes_through : Scenario → List SentFrame → ℕ → List (Node Serving)
+nodes_through plan fs frames = (ring_after (first_ring plan) (take frames fs)).nodes
+
+-- BEHIND THESE FRAMES each slave has carried out just the first of what came into hand of it, epoch by epoch, and as an epoch ended, behind the frame that showed its
+-- return to Init, the slave's node held what was carried out of it
+abbrev pub StoodBehind : Scenario → List SentFrame → List Serves → Type 0
+StoodBehind plan fs ws = ServeStood (nodes_through plan fs) plan.slaves ws (ring_after (first_ring plan) fs).nodes

@@ -1,0 +1,173 @@
+-- A LIFE IS LIVED by epochs that its master leads, with the slave as it stood where each that is over ended.
+use Rattle.std.proofs.Common.{◌≡◌, inl, inr, ℕ, suc, ◌<◌, ◌≤◌, ◌==◌, ◌&&◌, Bool, true, false, List, [], ◌∷◌, ◌++◌, length, refl, ap, sym, subst, arith, length-append}
+use Rattle.std.specs.Prelude.{Option, Some, None, if◌then◌else◌}
+use Rattle.frames_seen.specs.Slaves.{registers_seen}
+use Rattle.life_model.specs.Eras.{Clearing}
+use Rattle.life_model.specs.Lives.{Spot, Era, Life, Opening, Stand, clears, gives_up, is_shown, last_step, new_era, new_life, opens, reopens, reopens_at, shows_clear, steps_on}
+use Rattle.link_mails.specs.Body.{Body}
+use Rattle.link_model.specs.Segment.{RingFate}
+use Rattle.news_kept.specs.Counts.{counts_on, kept_on}
+use Rattle.segment_model.specs.Record.{Frame, Kept, News}
+use Rattle.segment_model.specs.Slaves.{Found}
+use Rattle.slave_lives.specs.Lived.{Behind, RingFrame, frame_of, node_behind}
+use Rattle.slave_lives.specs.Opening.{Plan}
+use Rattle.slave_steps.specs.Node.{Node, new_node}
+use Rattle.task_model.specs.Accounts.{Duty, Pick, Stage}
+use Rattle.whole_ring.specs.Turns.{FrameComes, TurnsAs, era_behind, life_by}
+use Rattle.whole_ring.specs.Whole.{IsLivedBy, IsWhole, Leaving, Living, OpensBy, Passing}
+use Rattle.whole_ring.proofs.WholeTurning.{begins_by, given_by, turns_by}
+use Rattle.served_rings.specs.Lives.{AllLeds, LedKept, LedLeft, LedYet, news_as, recorded_as}
+use Rattle.served_rings.specs.StoodLives.{BeginsAt, IsStoodLived, Stood}
+use Rattle.served_rings.proofs.Kept.{keeps_by, session_of}
+
+pub longer : {X : Type 0} (xs : List X) (x : X) → length (xs ++ x ∷ []) ≡ suc (length xs)
+longer xs x = let e = length-append xs (x ∷ []) in omega (arith, e)
+
+-- A LIFE BEHIND A FRAME: the epochs that are over are those before it, or one more, whose return to Init it showed
+data Went {M Q R : Type 0} (frame : ℕ) (l : Life M Q R) : Life M Q R → Type 0 where
+  stays : (k : Life M Q R) → k.past ≡ l.past → k.era.cleared ≡ l.era.cleared → Went frame l k
+  shows : (o : Opening) → Went frame l (clears frame l o)
+
+module _ {M Q R : Type 0} (frame : ℕ) (l : Life M Q R) where
+  went_access : (o : Opening) (shows last init there : Bool) → Went frame l (if shows then (if init then clears frame l o else l) else if last then (if there then opens frame l else l) else steps_on l o)
+  went_access o true last true there = Went.shows o
+  went_access o true last false there = Went.stays l refl refl
+  went_access o false true init true = Went.stays (opens frame l) refl refl
+  went_access o false true init false = Went.stays l refl refl
+  went_access o false false init there = Went.stays (steps_on l o) refl refl
+
+  went_reopens : (k : Life M Q R) → k.past ≡ l.past → k.era.cleared ≡ l.era.cleared → (hand : Option Duty) → Went frame l (reopens k hand)
+  went_reopens k past cleared None = Went.stays k past cleared
+  went_reopens k past cleared (Some duty) = at duty.stage
+    where
+      returns : (b : Bool) (stand : Stand) → Went frame l (if b then record k { stand = stand } else k)
+      returns true stand = Went.stays (record k { stand = stand }) past cleared
+      returns false stand = Went.stays k past cleared
+
+      at : (stage : Stage) → Went frame l (reopens_at k duty.target stage)
+      at Stage.Drains = Went.stays k past cleared
+      at (Stage.Goes phase) = returns _ _
+
+module _ {S V A Q R : Type 0} (w : Behind S V A Q R) (more : Body → Bool) (passed : Q → Bool) (spot : Spot) (fs : List (Frame Body)) (t : RingFrame S) (pick : Pick Q) (news : List (News Body)) (l : Life Body Q R) where
+  abbrev on : Life Body Q R
+  on = record l { era = era_behind w more passed spot fs t pick news RingFate.Back l.era }
+
+  went_open : Went (length fs) l (reopens on on.era.account.hand)
+  went_open = went_reopens (length fs) l on refl refl on.era.account.hand
+
+  went : (came : Option (Bool × Option Found)) (fate : RingFate) (stand : Stand) → Went (length fs) l (life_by w more passed spot fs t pick news came fate l stand)
+  went None RingFate.Back (Stand.Opens o) = Went.stays l refl refl
+  went (Some came) RingFate.Back (Stand.Opens o) = went_access (length fs) l o (shows_clear o) (o.step == last_step o) (came.0 && is_shown 1 came.1) (came.0 && is_shown o.state came.1)
+  went None RingFate.Back Stand.Open = went_open
+  went (Some came) RingFate.Back Stand.Open = went_open
+  went None RingFate.Back Stand.Gone = Went.stays l refl refl
+  went (Some came) RingFate.Back Stand.Gone = Went.stays l refl refl
+  went came (RingFate.Lost after) (Stand.Opens o) = Went.stays l refl refl
+  went came (RingFate.Lost after) Stand.Open = Went.stays _ refl refl
+  went came (RingFate.Lost after) Stand.Gone = Went.stays l refl refl
+
+module _ {S V A Q R : Type 0} (w : Behind S V A Q R) (c : Clearing V A) (p : Plan) (spot : Spot) (whole : IsWhole w c p spot) (more : Body → Bool) (passed : Q → Bool) (stood : ℕ → Node S → Type 0) where
+  abbrev Kepts : Kept → Bool → Living S A Q R
+  Kepts kept counts = λ a e gs m. LedKept w more passed spot kept counts a e gs m
+
+  abbrev Yet : Living S A Q R
+  Yet = λ a e gs m. LedYet w more passed spot a e gs m
+
+  abbrev Left : Leaving S A Q R
+  Left = λ a e gs s. LedLeft w more passed spot a e s
+
+  abbrev Past : A → List (Era Body Q R) → A → Option ℕ → Type 0
+  Past a es b cleared = Stood w more passed spot stood c.cleared a es b cleared
+
+  abbrev Lived : Kept → Bool → A → Life Body Q R → List (Frame Body) → Node S → Type 0
+  Lived kept counts first l fs n = IsStoodLived w more passed spot stood c.cleared p kept counts first l fs n
+
+  -- the epochs that are over behind a frame: as many as before it, or the newest besides, or more than that
+  data Grown (e : Era Body Q R) (many : ℕ) (a : A) : List (Era Body Q R) → A → Type 0 where
+    same : (es : List (Era Body Q R)) (b : A) → length es ≡ many → Past a es b e.cleared → Grown e many a es b
+    closed : (es : List (Era Body Q R)) (b : A) (at : Option ℕ) (state : ℕ) → length es ≡ many → Past a es b e.cleared → e ≡ new_era at state → Grown e many a (es ++ e ∷ []) (c.cleared b)
+    opened : (es : List (Era Body Q R)) (b : A) (s : S) → length es ≡ many → Past a es b e.cleared → (left : LedLeft w more passed spot b e s) →
+        Grown e many a (es ++ e ∷ []) (w.exchange.app (w.sees (registers_seen left.node.registers).state (w.running.clear s)).server)
+    far : (es : List (Era Body Q R)) (b : A) → suc many < length es → Grown e many a es b
+
+  module _ (e : Era Body Q R) (many : ℕ) (a : A) where
+    farther : (es : List (Era Body Q R)) (b : A) → suc many ≤ length es → Grown e many a (es ++ e ∷ []) b
+    farther es b least = Grown.far (es ++ e ∷ []) b (let k = longer es e in omega (arith, k, least))
+
+    more_than : (es : List (Era Body Q R)) → length es ≡ many → suc many ≤ length (es ++ e ∷ [])
+    more_than es is = let k = longer es e in omega (arith, k, is)
+
+    closes : (es : List (Era Body Q R)) (b : A) → Grown e many a es b → (at : Option ℕ) (state : ℕ) → e ≡ new_era at state → Grown e many a (es ++ e ∷ []) (c.cleared b)
+    closes _ _ (Grown.same es b is past) at state new = Grown.closed es b at state is past new
+    closes _ _ (Grown.closed es b was old is past k) at state new = farther (es ++ e ∷ []) _ (more_than es is)
+    closes _ _ (Grown.opened es b s is past left) at state new = farther (es ++ e ∷ []) _ (more_than es is)
+    closes _ _ (Grown.far es b least) at state new = farther es _ (omega (arith, least))
+
+    leaves : (es : List (Era Body Q R)) (b : A) → Grown e many a es b → (s : S) → LedLeft w more passed spot b e s → (al : ℕ) × Grown e many a (es ++ e ∷ []) (w.exchange.app (w.sees al (w.running.clear s)).server)
+    leaves _ _ (Grown.same es b is past) s left = ((registers_seen left.node.registers).state, Grown.opened es b s is past left)
+    leaves _ _ (Grown.closed es b was old is past k) s left = (0, farther (es ++ e ∷ []) _ (more_than es is))
+    leaves _ _ (Grown.opened es b z is past k) s left = (0, farther (es ++ e ∷ []) _ (more_than es is))
+    leaves _ _ (Grown.far es b least) s left = (0, farther es _ (omega (arith, least)))
+
+    as_many : (es : List (Era Body Q R)) (b : A) → Grown e many a es b → length es ≡ many → Past a es b e.cleared
+    as_many _ _ (Grown.same es b is past) at = past
+    as_many _ _ (Grown.closed es b was old is past k) at = absurd (let l = longer es e in omega (arith, l, is, at))
+    as_many _ _ (Grown.opened es b z is past k) at = absurd (let l = longer es e in omega (arith, l, is, at))
+    as_many _ _ (Grown.far es b least) at = absurd (omega (arith, least, at))
+
+    one_more : (es : List (Era Body Q R)) (b : A) → Grown e many a es b → length es ≡ suc many → (cleared : Option ℕ) → BeginsAt w stood b cleared → Past a es b cleared
+    one_more _ _ (Grown.same es b is past) at cleared begins = absurd (omega (arith, is, at))
+    one_more _ _ (Grown.closed es b was old is past k) at cleared begins = (AllLeds.closed a es b e was old past.0 k, (past.1, begins))
+    one_more _ _ (Grown.opened es b s is past left) at cleared begins = (AllLeds.opened a es b e s past.0 left, (past.1, begins))
+    one_more _ _ (Grown.far es b least) at cleared begins = absurd (omega (arith, least, at))
+
+  -- behind the frame that showed the return to Init the newest epoch begins with what the slave has
+  begun : (from : A) (e : Era Body Q R) (gs : List (Frame Body)) (o : Opening) (n : Node S) (frame : ℕ) → stood frame n → OpensBy w Yet Left p spot from e gs (record o { step = 3 }) n → BeginsAt w stood from (Some frame)
+  begun from e gs o n frame here (OpensBy.yet again step plan still) = absurd (let no : 3 ≡ 1 = step in cc)
+  begun from e gs o n frame here (OpensBy.anew closing x start) = record { frame = frame; shown = refl; node = n; stands = here; al = x.al; begins = x.begins }
+  begun from e gs o n frame here (OpensBy.over closing again early x) = absurd (elim early [
+    | inl one ↦ (let no : 3 ≡ 1 = one in cc)
+    | inr two ↦ (let no : 3 ≡ 2 = two in cc)
+  ])
+
+  settled : (first : A) (l : Life Body Q R) (frame : ℕ) (gs : List (Frame Body)) (n : Node S) (kept : Kept) (counts : Bool) → stood frame n → (k : Life Body Q R) → Went frame l k →
+      IsLivedBy w (Kepts kept counts) Yet Left (λ hs a es b. Grown l.era (length l.past) a es b) p spot first k gs n → Lived kept counts first k gs n
+  settled first l frame gs n kept counts here _ (Went.stays k past cleared) x = record {
+    from = x.from;
+    past = subst (λ (at : Option ℕ). Past first k.past x.from at) (sym cleared) (as_many l.era (length l.past) first k.past x.from x.past (ap length past));
+    now = x.now;
+    runs = x.runs;
+    boot = x.boot;
+  }
+  settled first l frame gs n kept counts here _ (Went.shows o) x = record {
+    from = x.from;
+    past = one_more l.era (length l.past) first (l.past ++ l.era ∷ []) x.from x.past (longer l.past l.era) (Some frame) (begun x.from (new_era (Some frame) o.state) gs o n frame here x.now);
+    now = x.now;
+    runs = x.runs;
+    boot = x.boot;
+  }
+
+  -- from the moment the slave is switched on
+  pub begins : (al : ℕ) (s : S) (kept : Kept) (counts : Bool) → w.running.clear s ≡ s → w.running.next s ≡ None → Lived kept counts (w.exchange.app (w.sees al s).server) (new_life {M = Body} {Q = Q} {R = R} spot.start) [] (new_node p.out p.back w.boot s)
+  begins al s kept counts clear none = begins_by w c p spot whole (Kepts kept counts) Yet Left (λ gs a es b. Past a es b None) (λ a. (AllLeds.none a, tt)) al s clear none
+
+  -- by a frame, behind which the slave's node stands
+  pub turns : (first : A) (l : Life Body Q R) (fs : List (Frame Body)) (t : RingFrame S) (pick : Pick Q) (came : Option (Bool × Option Found)) (kept : Kept) (counts : Bool) → stood (length fs) (node_behind w.running t) → Lived kept counts first l fs t.node →
+      FrameComes w p spot l.stand t → TurnsAs w more passed p spot fs t pick (news_as w.lens spot.station kept counts t (frame_of w.lens t).fate) came l.era l.stand →
+      Lived (kept_on l.stand spot.station kept (recorded_as w.lens t (frame_of w.lens t).fate)) (counts_on l.stand spot.station t.pace t.ring.number (recorded_as w.lens t (frame_of w.lens t).fate).back counts) first
+      (life_by w more passed spot fs t pick (news_as w.lens spot.station kept counts t (frame_of w.lens t).fate) came (frame_of w.lens t).fate l l.stand) (fs ++ frame_of w.lens t ∷ []) (node_behind w.running t)
+  turns first l fs t pick came kept counts here i f a =
+      let news = news_as w.lens spot.station kept counts t (frame_of w.lens t).fate in
+      let next = kept_on l.stand spot.station kept (recorded_as w.lens t (frame_of w.lens t).fate) in
+      let reads = counts_on l.stand spot.station t.pace t.ring.number (recorded_as w.lens t (frame_of w.lens t).fate).back counts in
+      let grown : Passing A Q R = λ hs b es d. Grown l.era (length l.past) b es d in
+      let before : IsLivedBy w (Kepts kept counts) Yet Left grown p spot first l fs t.node = record { from = i.from; past = Grown.same l.past i.from refl i.past; now = i.now; runs = i.runs; boot = i.boot } in
+      let keeps = keeps_by w c p spot whole more passed kept counts l.stand l.era fs t pick grown (λ b es d g. g) (λ b es d g at state new. closes l.era (length l.past) b es d g at state new) (λ b es d s g left. leaves l.era (length l.past) b es d g s left) in
+      settled first l (length fs) (fs ++ frame_of w.lens t ∷ []) (node_behind w.running t) next reads here (life_by w more passed spot fs t pick news came (frame_of w.lens t).fate l l.stand) (went w more passed spot fs t pick news l came (frame_of w.lens t).fate l.stand)
+      (turns_by w c p spot whole first l fs t more passed pick news came (Kepts kept counts) (Kepts next reads) Yet Left grown keeps before f a)
+
+  -- where it is given up: the counters of an open slave are none then
+  pub gives : (first : A) (l : Life Body Q R) (fs : List (Frame Body)) (n : Node S) (recover frame : ℕ) (kept : Kept) (counts : Bool) (next : Kept) (reads : Bool) → Lived kept counts first l fs n → Lived next reads first (gives_up recover spot frame l) fs n
+  gives first l fs n recover frame kept counts next reads i =
+      given_by w c p spot whole (Kepts kept counts) (Kepts next reads) Yet Left (λ gs a es b. Past a es b l.era.cleared) first l fs n recover frame
+      (λ from x. session_of w c p spot whole more passed from x.led l.era fs n x.era) (λ from x. record { led = x.led; era = x.era }) i

@@ -1,0 +1,52 @@
+-- WHAT STOOD AS EACH EPOCH OF A SLAVE ENDED: its node held what was carried out of it. So what is said of an epoch that is over is what was so as it ended.
+use Rattle.std.specs.Prelude.{◌≡◌, ℕ, Bool, Option, Some, List, ◌∷◌, ⊤}
+use Rattle.life_model.specs.Lives.{Era}
+use Rattle.life_runs.specs.Led.{Exchanged}
+use Rattle.link_mails.specs.Body.{Body}
+use Rattle.master_duty.specs.Reply.{Reply}
+use Rattle.master_hand.specs.Spoken.{Asked}
+use Rattle.plan_ring.specs.Round.{ring_after, ring_of}
+use Rattle.run_work.specs.Lives.{first_server}
+use Rattle.segment_plan.specs.declared.plan.Scenario.{Scenario}
+use Rattle.segment_plan.specs.declared.slave.SlaveSpec.{SlaveSpec}
+use Rattle.served_rings.specs.Rings.{nodes_behind}
+use Rattle.served_rings.specs.Served.{AllServeSo, AreServedEras, Holds}
+use Rattle.served_rings.specs.StoodLives.{IsFirst, others}
+use Rattle.served_runs.specs.Served.{Serves}
+use Rattle.slave_model.specs.Profile.{Profile}
+use Rattle.slave_parts.specs.Parts.{Server}
+use Rattle.slave_server.specs.Serving.{Serving}
+use Rattle.slave_server.specs.Spec.{profile_of}
+use Rattle.slave_steps.specs.Node.{Node}
+use Rattle.state_exchange.specs.Families.{InState}
+
+-- BEHIND THE FRAME that showed the return to Init the slave's node held what this server has; `stood` says of a frame which node the slave was behind it
+pub record HeldAt (stood : ℕ → Node Serving → Type 0) (v : InState Server) (cleared : Option ℕ) : Type 0 where
+  pub frame : ℕ
+  pub shown : cleared ≡ Some frame
+  pub node : Node Serving
+  pub stands : stood frame node
+  pub holds : Holds v node
+
+module _ (p : Profile) (boot : Bool) (station : ℕ) (stood : ℕ → Node Serving → Type 0) where
+  -- OF EACH EPOCH THAT IS OVER its node held what was carried out of it, and where it was never opened what was carried out before it: behind the frame with which
+  -- the next one was cleared
+  abbrev pub AllHeld : (start : ℕ) (first : InState Server) (es : List (Era Body Asked Reply)) (b : InState Server) → AreServedEras p boot station start first es b → Option ℕ → Type 0
+  AllHeld start first _ _ AreServedEras.none cleared = ⊤
+  AllHeld start first _ _ (AreServedEras.unopened es b e before none) cleared = AllHeld start first es b before e.cleared × HeldAt stood b cleared
+  AllHeld start first _ _ (AreServedEras.opened es b e left done before was) cleared = AllHeld start first es b before e.cleared × HeldAt stood done cleared
+
+-- of each slave of a plan, by the nodes of these slaves behind each number of frames
+abbrev pub EachHeld : (ℕ → List (Node Serving)) → (ss : List SlaveSpec) (ws : List Serves) (ns : List (Node Serving)) → AllServeSo ss ws ns → Type 0
+EachHeld stood (s ∷ ss) (w ∷ ws) (n ∷ ns) served =
+    AllHeld (profile_of s) s.boot s.station (IsFirst stood) s.start (first_server s) w.lead.lived.life.past served.0.from served.0.past w.lead.lived.life.era.cleared × EachHeld (others stood) ss ws ns served.1
+EachHeld stood _ _ _ served = ⊤
+
+-- EACH SLAVE SERVED SO, and as each of its epochs ended its node held what was carried out of it
+pub record ServeStood (stood : ℕ → List (Node Serving)) (ss : List SlaveSpec) (ws : List Serves) (ns : List (Node Serving)) : Type 0 where
+  pub each : AllServeSo ss ws ns
+  pub held : EachHeld stood ss ws ns each
+
+-- THE SLAVES OF A SERVING behind frames that went round the plan's ring
+abbrev pub ServeSo : Scenario → List Exchanged → List Serves → Type 0
+ServeSo plan fs ws = ServeStood (nodes_behind plan fs) plan.slaves ws (ring_after (ring_of plan) fs).nodes
