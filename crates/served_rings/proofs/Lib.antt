@@ -16,6 +16,7 @@ pub mod Gifts
 mod Given
 mod Heard
 pub mod HeardSeen
+mod HeardTold
 pub mod Kept
 pub mod Led
 pub mod LedLives

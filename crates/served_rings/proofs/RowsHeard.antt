@@ -46,13 +46,13 @@ module _ {V A M Q R : Type 0} (x : Exchange V A M Q R) where
       go None = refl
       go (Some r) = heard_all_last d.past (row_told m r) ∙ sym (heard_all_last d.past r)
 
-  next_heard : (frame : ℕ) (d : Side M Q R) (c : Choice Q) → heard_in (side_next x.speech frame d c) ≡ heard_in d
+  pub next_heard : (frame : ℕ) (d : Side M Q R) (c : Choice Q) → heard_in (side_next x.speech frame d c) ≡ heard_in d
   next_heard frame d c =
       let e = side_begins x.speech frame d d.now c.begin in
       holds_heard e (next_mail x.speech e.now e.halves.out.holding c.hold) ∙ begins_heard frame d d.now refl c.begin
 
   -- what is accepted is heard in the newest row
-  back_heard : (frame station : ℕ) (back : List (Datagram M)) (d : Side M Q R) (r : Row M Q R) → d.now ≡ Some r → heard_in (side_back x.speech frame station back d) ≡ heard_in d ++ all_accepted station d.halves (grams back)
+  pub back_heard : (frame station : ℕ) (back : List (Datagram M)) (d : Side M Q R) (r : Row M Q R) → d.now ≡ Some r → heard_in (side_back x.speech frame station back d) ≡ heard_in d ++ all_accepted station d.halves (grams back)
   back_heard frame station back d r is =
       let ms = all_accepted station d.halves (grams back) in
       ap (λ n. heard_all (d.past ++ newest (option_map (λ k. row_heard x.speech frame ms k) n))) is ∙ heard_all_last d.past (row_heard x.speech frame ms r) ∙ sym (append_assoc (heard_all d.past) r.heard ms)
@@ -63,7 +63,7 @@ module _ {V A M Q R : Type 0} (x : Exchange V A M Q R) where
   holds_inn d [] = refl
   holds_inn d (m ∷ ms) = refl
 
-  next_inn : (frame : ℕ) (d : Side M Q R) (c : Choice Q) → (side_next x.speech frame d c).halves.inn ≡ d.halves.inn
+  pub next_inn : (frame : ℕ) (d : Side M Q R) (c : Choice Q) → (side_next x.speech frame d c).halves.inn ≡ d.halves.inn
   next_inn frame d c =
       let e = side_begins x.speech frame d d.now c.begin in
       holds_inn e (next_mail x.speech e.now e.halves.out.holding c.hold) ∙ ap (λ h. h.inn) (began_halves x frame d d.now c.begin)

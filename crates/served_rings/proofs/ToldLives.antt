@@ -23,7 +23,7 @@ use Rattle.plan_ring.specs.Epochs.{IsTold}
 use Rattle.plan_ring.specs.Plan.{AllMacs, FitsPlan, plan_of, step}
 use Rattle.plan_ring.specs.Round.{AllRound, all_seen, frame_seen, ring_of}
 use Rattle.plan_ring.proofs.Lives.{front_round}
-use Rattle.segment_model.specs.Record.{Frame, News}
+use Rattle.segment_model.specs.Record.{Frame, News, heard}
 use Rattle.segment_model.specs.Slaves.{Datagram, Found}
 use Rattle.segment_plan.specs.Sound.{IsSlave}
 use Rattle.segment_plan.specs.declared.plan.Scenario.{Scenario}
@@ -34,7 +34,9 @@ use Rattle.segment_ring.specs.declared.wire.Fate.TheVariants.{Pass, Lost}
 use Rattle.served_rings.specs.Rings.{AllServedAt, AreServedLived, served_members}
 use Rattle.served_rings.specs.Clearing.{serves_clearing}
 use Rattle.served_rings.specs.Serves.{serves}
+use Rattle.served_rings.specs.Speakers.{processor_of, spoken, spoken_states, table_of}
 use Rattle.served_rings.specs.ToldEras.{AllToldEras, AllToldLives, IsToldEra, IsToldLife, IsToldNewest, WasToldEra, next_cleared, unpassed_era}
+use Rattle.served_rings.proofs.HeardTold.{era_heard}
 use Rattle.served_rings.proofs.ServedLives.{not_open, gone_not_open}
 use Rattle.served_rings.proofs.ToldTasks.{era_told}
 use Rattle.served_rings.proofs.Unpassed.{silent, silent_lawful}
@@ -154,6 +156,7 @@ module _ {S V A : Type 0} (w : Behind S V A Asked Reply) (spot : Spot) (fs gs : 
         before = t.before;
         within = omega (arith, within, length-append fs gs);
         told = subst (λ ks. IsTold w is_followed spot ks (unpassed_era e)) (sym same) t.told;
+        in_rows = ap (heard spot.station) same ∙ t.in_rows;
       }
 
   was_stays : (cleared : Option ℕ) (e : Era Body Asked Reply) → WasToldEra w spot fs cleared e → WasToldEra w spot (fs ++ gs) cleared e
@@ -202,6 +205,7 @@ module _ (p : Profile) (boot : Bool) (lens : ℕ → Lens) (law : IsLawful (sile
     before = l.before;
     within = omega arith;
     told = era_told p boot lens law spot e l.opened (length fs) fs l.server l.registers (node_seen real n) l.is;
+    in_rows = era_heard (spoken p) spoken_states (processor_of boot) (table_of boot) spot e l.opened (length fs) fs l.server l.registers (node_seen real n) l.is;
   }
 
   left_told : (from : InState Server) (e : Era Body Asked Reply) (k : Serving) (l : LeftEra real spot from e fs k) → IsToldEra w spot fs e l.until
@@ -211,6 +215,7 @@ module _ (p : Profile) (boot : Bool) (lens : ℕ → Lens) (law : IsLawful (sile
     before = l.before;
     within = l.within;
     told = era_told p boot lens law spot e l.opened l.until fs l.server l.registers l.slave l.is;
+    in_rows = era_heard (spoken p) spoken_states (processor_of boot) (table_of boot) spot e l.opened l.until fs l.server l.registers l.slave l.is;
   }
 
   opens_told : (plan : Plan) (from : InState Server) (e : Era Body Asked Reply) (stand : Stand) → stand ≢ Stand.Open → (o : Opening) (n : Node Serving) → OpensAs real plan spot from e fs o n → IsToldNewest w spot fs e stand

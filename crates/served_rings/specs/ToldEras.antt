@@ -1,7 +1,7 @@
 -- WHAT THE MASTER OF A SERVING HAS of each slave, epoch by epoch, is what the frames of the epoch give: the answers of its rows, but for mails that are passed on,
 -- whose replies are handed on one by one, and the outcomes of its changes of state.
 use Rattle.std.specs.Prelude.{◌≡◌, ◌≢◌, ℕ, suc, ◌<◌, ◌≤◌, Option, Some, None, option_map, List, [], ◌∷◌, map, length, ⊤, if◌then◌else◌}
-use Rattle.exchange_model.specs.Rows.{Row}
+use Rattle.exchange_model.specs.Rows.{Row, heard_all}
 use Rattle.life_model.specs.Eras.{era_frames}
 use Rattle.life_model.specs.Lives.{Spot, Era, Life, Stand}
 use Rattle.life_runs.specs.First.{lens_of, spot_of}
@@ -10,8 +10,8 @@ use Rattle.master_duty.specs.Reply.{Reply}
 use Rattle.master_hand.specs.Spoken.{Asked, is_followed, is_passed}
 use Rattle.plan_ring.specs.Asked.{asked}
 use Rattle.plan_ring.specs.Epochs.{IsTold}
-use Rattle.segment_model.specs.Record.{Frame}
-use Rattle.segment_model.specs.Seats.{Side}
+use Rattle.segment_model.specs.Record.{Frame, heard}
+use Rattle.segment_model.specs.Seats.{Side, rows_of}
 use Rattle.segment_plan.specs.declared.plan.Scenario.{Scenario}
 use Rattle.segment_plan.specs.declared.slave.SlaveSpec.{SlaveSpec}
 use Rattle.served_runs.specs.Served.{Serves}
@@ -41,13 +41,15 @@ next_cleared (e ∷ es) cleared = e.cleared
 
 module _ {S V A : Type 0} (w : Behind S V A Asked Reply) (spot : Spot) (fs : List (Frame Body)) where
   -- AN EPOCH FROM THE FRAME THAT OPENED IT TO ANOTHER: its master's rows are the services by mails that came into hand, and its changes the state services, each
-  -- with the answer that the slave's own frames between these give, but for mails that are passed on; and for the change in hand they give none
+  -- with the answer that the slave's own frames between these give, but for mails that are passed on; and for the change in hand they give none. All mails that were
+  -- heard by these frames were heard in its rows, in order: none before the first of them
   pub record IsToldEra (e : Era Body Asked Reply) (until : ℕ) : Type 0 where
     pub opened : ℕ
     pub opened_at : e.opened ≡ Some opened
     pub before : opened < until
     pub within : until ≤ length fs
     pub told : IsTold w is_followed spot (era_frames spot opened until fs) (unpassed_era e)
+    pub in_rows : heard spot.station (era_frames spot opened until fs) ≡ heard_all (rows_of e.side)
 
   -- ONE THAT IS OVER, with the frame that showed the return to Init behind it: it was never opened, and nothing came into hand of it; or it was open up to a
   -- frame no later than that one

@@ -13,7 +13,7 @@ ghost use Rattle.served_runs.specs.Served.{Serves, IsServedLed, all_serve};
 
 /// EACH SERVICE OF A SERVING HAS JUST THE ANSWER THAT THE FRAMES OF ITS EPOCH GIVE, of the frame that completed it, and none where they give none; and so has each
 /// change of the AL state: whatever frames are lost, and where slaves are given up, taken up again or returned to Init. Of mails that are passed on nothing is said
-/// here: their replies are handed on one by one.
+/// here: their replies are handed on one by one. And all mails that were heard by the frames of an epoch were heard in its rows, in order: none before the first.
 pub fn told_eras_law()
     ensures { (plan : Scenario) → IsPlan plan → IsKnown plan → (fs : List Exchanged) (missed : ℕ) (ws : List Serves) → IsServedLed (lens_of plan.slaves) plan.recover plan.retry (all_serve plan.paces (first_leads plan)) fs missed ws → AllRound (ring_of plan) fs →
         AllToldLives plan (all_seen (lens_of plan.slaves) fs) 0 plan.slaves ws }
