@@ -1,4 +1,5 @@
--- WHAT STOOD AS EACH EPOCH OF A SLAVE ENDED: its node held what was carried out of it. So what is said of an epoch that is over is what was so as it ended.
+-- WHAT STOOD AS EACH EPOCH OF A SLAVE ENDED: its node held what was carried out of it. So what is said of an epoch that is over is what was so as it ended. And the
+-- AL state of a slave that was given up for good while it was open.
 use Rattle.std.specs.Prelude.{◌≡◌, ℕ, Bool, Option, Some, List, [], ◌∷◌, ◌++◌, ⊤}
 use Rattle.frames_seen.specs.Slaves.{registers_seen}
 use Rattle.life_model.specs.Lives.{Era, Life, Stand}
@@ -44,7 +45,7 @@ module _ (p : Profile) (boot : Bool) (station : ℕ) where
   StateStands start from e n _ (IsServedNewest.unopened stand shut none holds) = ⊥
   StateStands start from e n _ (IsServedNewest.over stand shut left done was holds) = done.state ≡ (registers_seen n.registers).state
 
--- A SLAVE THAT WAS GIVEN UP FOR GOOD WHILE IT WAS OPEN: the last of its give-ups was that one
+-- A SLAVE THAT WAS GIVEN UP FOR GOOD WHILE IT WAS OPEN: none of its give-ups but the last came since its epoch began, and no state service in hand returns it to Init
 pub record GoneOpen (l : Life Body Asked Reply) : Type 0 where
   pub gone : l.stand ≡ Stand.Gone
   pub before : List ℕ
