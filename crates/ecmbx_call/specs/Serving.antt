@@ -7,7 +7,9 @@ use Rattle.scenario_keys.specs.declared.refusal.Refusal.{Refusal}
 use Rattle.scenario.specs.Document.{plan_of}
 use Rattle.run_book.specs.declared.book.Book.{Book}
 use Rattle.run_book.specs.Book.{IsNew}
+use Rattle.promised_run.specs.Due.{IsServedDue}
 use Rattle.promised_run.specs.Given.{IsServedGiven}
+use Rattle.promised_run.specs.Left.{IsServedLeft}
 use Rattle.promised_run.specs.Ran.{HasSent}
 use Rattle.promised_run.specs.Rested.{IsServedRested}
 use Rattle.promised_run.specs.ServedBooks.{IsServedBooked}
@@ -42,6 +44,8 @@ pub record HasServed (plan : Scenario) (count : ℕ) (first last : Told) (book :
   pub ports : IsServedAtPorts plan count book
   -- of each script just the rest wasn't sent, and each epoch has its cause
   pub booked : IsServedBooked plan count book
+  -- each mail that was accepted of its slaves was due
+  pub due : IsServedDue plan count book
   -- the packets that came into hand stand there each with the frame with whose return its last fragment was written, or in doubt
   pub written : IsServedWritten plan count book
   -- behind all of it each datagram that was queued at a slave and is done has all mails of the one step of its slave's server
@@ -50,6 +54,8 @@ pub record HasServed (plan : Scenario) (count : ℕ) (first last : Told) (book :
   pub replied : IsServedReported plan count book
   -- where nothing was left to do the newest epoch of each slave that wasn't given up for good is all carried out
   pub rests : IsServedRested plan count book
+  -- and where the budget was spent something was left to do
+  pub left : IsServedLeft plan count book
   -- where no datagram asks for a download to 2F01:01, a budget of as many frames as the bound for so many datagrams didn't cut it off; and where besides few frames
   -- in a row were lost and the port didn't fail it ended as done
   pub bounded : IsServedBounded plan count book

@@ -48,13 +48,13 @@ use Rattle.gateway_run.specs.Account.{Course, Course.begins}
 use Rattle.gateway_run.specs.Desk.{HasNone, IsOpen, AreApart}
 use Rattle.gateway_run.specs.Mails.{HasMails}
 use Rattle.gateway_run.specs.Replies.{Answers, dones_of}
-use Rattle.gateway_run.specs.Serving.{Told, IsOn, IsServing, IsFaulted, Goes, can_hear}
+use Rattle.gateway_run.specs.Serving.{Told, IsOn, IsServing, IsFaulted, Goes, LivesOn, can_hear}
 use Rattle.gateway_run.specs.Served.{HasGrams, HasAccount, IsBroken, IsServed}
 use Rattle.gateway_run.specs.declared.turn.Serving.{Serving}
 use Rattle.gateway_run.proofs.Answering.{course_rowed}
 use Rattle.gateway_run.proofs.Dones.{all_done, none_unfinished}
 use Rattle.gateway_run.proofs.Mails.{book_late, book_mails}
-use Rattle.gateway_run.proofs.Rested.{all_rest, no_packet}
+use Rattle.gateway_run.proofs.Rested.{all_rest, no_packet, some_left}
 use Rattle.gateway_run.proofs.Strays.{course_falls, course_strays}
 use Rattle.gateway_run.proofs.Turns.{heard_none, sent_none, course_same, spelled_same}
 
@@ -125,8 +125,8 @@ module _ (plan : Scenario) (count : ℕ) (first now : Told) (v : Serving) (b b' 
   stops_as : (ending : Ending) → b'.slaves ≡ session_rows v.session → StopsSo v.session ending → StopsAs plan count b' ending
   stops_as ending rows so = ended plan count v.session b b' on.underway frames kept rows many ending so
 
-  has_account : (ending : Ending) → b'.slaves ≡ session_rows v.session → (ending ≢ endings.PortFault → v.desk.outbox.items ≡ []) → (LeavesNone ending → ServingRests v.session × (are_at_rest (session_rows v.session) ≡ true)) → HasAccount plan count b' ending
-  has_account ending rows all rests =
+  has_account : (ending : Ending) → b'.slaves ≡ session_rows v.session → (ending ≢ endings.PortFault → v.desk.outbox.items ≡ []) → (LeavesNone ending → ServingRests v.session × (are_at_rest (session_rows v.session) ≡ true)) → (ending ≡ endings.BudgetSpent → LivesOn v.session) → HasAccount plan count b' ending
+  has_account ending rows all rests lives =
       let same = course_same plan count v.session v.session b.frames b'.frames b.grams b'.grams v.desk.requests.items v.desk.requests.items on.owed b.switch b'.switch b.switched b'.switched refl frames grams refl kept.switch kept.switched (on.course, on.switch, on.switched) in
       let course' : Course plan count v.session b'.frames b'.grams v.desk.requests.items on.owed = same.0 in
       let rowed = course_rowed plan count on.is_plan v.session b'.frames b'.grams v.desk.requests.items on.owed course' in
@@ -170,6 +170,7 @@ module _ (plan : Scenario) (count : ℕ) (first now : Told) (v : Serving) (b b' 
         rests = λ none. all_rest plan count v.session b b' on.underway answers'.serving (rests none).0 rows many (rests none).1;
         packets = has_packets plan v.session.ports v.session.ring.number v.session.master.lan b b' on.underway.ports (sym (ap length frames ∙ many_sent plan count v.session b on.underway)) kept on.underway.switched;
         come = λ none. no_packet plan count v.session b b' on.underway answers'.serving (rests none).0 kept;
+        left = λ spent due none. some_left plan v.session b' answers'.serving on.underway.recover many (lives spent) rows booked due none;
         steady = course_falls plan count on.is_plan v.session b'.frames b'.grams v.desk.requests.items on.owed course';
         stray = course_strays plan count on.is_plan v.session b'.frames b'.grams v.desk.requests.items on.owed course' b'.slaves rows;
         all = all;
@@ -179,31 +180,31 @@ module _ (plan : Scenario) (count : ℕ) (first now : Told) (v : Serving) (b b' 
   faulted_so : (result : Ending) → (result ≢ endings.NoMemory → b'.slaves ≡ session_rows v.session) → (result ≡ endings.PortFault) ⊎ (result ≡ endings.NoMemory) → IsBroken first now b' → IsServed plan count first now b' result
   faulted_so result rows (inl is) broken =
       let apart : result ≢ endings.NoMemory = λ e. absurd (cc) in
-      subst (IsServed plan count first now b') (sym is) (stops_as endings.PortFault (rows apart) tt, has_grams, broken, has_account endings.PortFault (rows apart) (λ other. absurd (other refl)) (λ none. absurd (leaves_some none)))
+      subst (IsServed plan count first now b') (sym is) (stops_as endings.PortFault (rows apart) tt, has_grams, broken, has_account endings.PortFault (rows apart) (λ other. absurd (other refl)) (λ none. absurd (leaves_some none)) (λ spent. absurd (cc)))
   faulted_so result rows (inr is) broken = subst (IsServed plan count first now b') (sym is) tt
 
   -- a serving that came to its end
   through_so : (ending result : Ending) → (result ≢ endings.NoMemory → b'.slaves ≡ session_rows v.session) → (result ≡ ending) ⊎ (result ≡ endings.NoMemory) → EndsSo v.session ending → (ending ≢ endings.BudgetSpent → (length b'.grams ≡ count) ⊎ (now.over ≡ true)) →
-      (ending ≢ endings.BudgetSpent → ServingRests v.session) → v.desk.outbox.items ≡ [] → AreSent first.sent now.sent b'.replies → IsServed plan count first now b' result
-  through_so ending result rows (inr is) so over rests empty sent = subst (IsServed plan count first now b') (sym is) tt
-  through_so endings.Done result rows (inl is) so over rests empty sent =
+      (ending ≢ endings.BudgetSpent → ServingRests v.session) → (ending ≡ endings.BudgetSpent → LivesOn v.session) → v.desk.outbox.items ≡ [] → AreSent first.sent now.sent b'.replies → IsServed plan count first now b' result
+  through_so ending result rows (inr is) so over rests lives empty sent = subst (IsServed plan count first now b') (sym is) tt
+  through_so endings.Done result rows (inl is) so over rests lives empty sent =
       let apart : result ≢ endings.NoMemory = λ e. absurd (cc) in
-      subst (IsServed plan count first now b') (sym is) (stops_as endings.Done (rows apart) so, has_grams, record { over = over (λ e. absurd (cc)); sent = sent }, has_account endings.Done (rows apart) (λ other. empty) (λ none. (rests (λ e. absurd (cc)), so.0)))
-  through_so endings.GivenUp result rows (inl is) so over rests empty sent =
+      subst (IsServed plan count first now b') (sym is) (stops_as endings.Done (rows apart) so, has_grams, record { over = over (λ e. absurd (cc)); sent = sent }, has_account endings.Done (rows apart) (λ other. empty) (λ none. (rests (λ e. absurd (cc)), so.0)) (λ spent. absurd (cc)))
+  through_so endings.GivenUp result rows (inl is) so over rests lives empty sent =
       let apart : result ≢ endings.NoMemory = λ e. absurd (cc) in
-      subst (IsServed plan count first now b') (sym is) (stops_as endings.GivenUp (rows apart) so, has_grams, record { over = over (λ e. absurd (cc)); sent = sent }, has_account endings.GivenUp (rows apart) (λ other. empty) (λ none. (rests (λ e. absurd (cc)), so.0)))
-  through_so endings.BudgetSpent result rows (inl is) so over rests empty sent =
+      subst (IsServed plan count first now b') (sym is) (stops_as endings.GivenUp (rows apart) so, has_grams, record { over = over (λ e. absurd (cc)); sent = sent }, has_account endings.GivenUp (rows apart) (λ other. empty) (λ none. (rests (λ e. absurd (cc)), so.0)) (λ spent. absurd (cc)))
+  through_so endings.BudgetSpent result rows (inl is) so over rests lives empty sent =
       let apart : result ≢ endings.NoMemory = λ e. absurd (cc) in
-      subst (IsServed plan count first now b') (sym is) (stops_as endings.BudgetSpent (rows apart) so, has_grams, sent, has_account endings.BudgetSpent (rows apart) (λ other. empty) (λ none. absurd (spent_some none)))
-  through_so endings.PortFault result rows (inl is) so over rests empty sent = absurd so
-  through_so endings.NoMemory result rows (inl is) so over rests empty sent = absurd so
-  through_so endings.Unfinished result rows (inl is) so over rests empty sent = absurd so
+      subst (IsServed plan count first now b') (sym is) (stops_as endings.BudgetSpent (rows apart) so, has_grams, sent, has_account endings.BudgetSpent (rows apart) (λ other. empty) (λ none. absurd (spent_some none)) lives)
+  through_so endings.PortFault result rows (inl is) so over rests lives empty sent = absurd so
+  through_so endings.NoMemory result rows (inl is) so over rests lives empty sent = absurd so
+  through_so endings.Unfinished result rows (inl is) so over rests lives empty sent = absurd so
 
 -- what a serving that ended leaves
 pub served : (plan : Scenario) (count : ℕ) (first now : Told) (v : Serving) (b b' : Book) (ending result : Ending) → 0 < count → IsServing plan count first now v b → b'.frames ≡ b.frames → SameSwitch b b' → b'.grams ≡ b.grams → b'.replies ≡ b.replies →
     b'.serving ≡ v.session.serving → length v.session.notes ≡ length v.session.ring.nodes → (result ≢ endings.NoMemory → b'.slaves ≡ session_rows v.session) → (result ≡ ending) ⊎ (result ≡ endings.NoMemory) → EndsSo v.session ending →
-    (ending ≢ endings.BudgetSpent → can_hear v b ≡ false) → (ending ≢ endings.BudgetSpent → ServingRests v.session) → v.desk.outbox.items ≡ [] → IsServed plan count first now b' result
-served plan count first now v b b' ending result some h frames kept grams replies serving many rows is so whole rests empty =
+    (ending ≢ endings.BudgetSpent → can_hear v b ≡ false) → (ending ≢ endings.BudgetSpent → ServingRests v.session) → (ending ≡ endings.BudgetSpent → LivesOn v.session) → v.desk.outbox.items ≡ [] → IsServed plan count first now b' result
+served plan count first now v b b' ending result some h frames kept grams replies serving many rows is so whole rests lives empty =
     through_so plan count first now v b b' some h.on h.heard frames kept grams replies serving many ending result rows is so
     (λ apart.
     let counts = h.on.counts in
@@ -212,6 +213,7 @@ served plan count first now v b b' ending result some h frames kept grams replie
     over_so (length b'.grams) count v.over now.over h.over (all_heard (length b'.grams) count v.over
     (subst (λ (n : ℕ). (not v.over && nat_lt n count) ≡ false) (sym same) (subst (λ (n : ℕ). (not v.over && nat_lt (length b.grams) n) ≡ false) counts (whole apart))) (omega (arith, same, few))))
     rests
+    lives
     empty
     (subst (AreSent first.sent now.sent) (sym replies) h.sent)
 

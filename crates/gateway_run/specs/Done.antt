@@ -1,19 +1,25 @@
 -- WHERE A SERVING LEAVES NOTHING each datagram that was queued at a slave is done, or was ended by a give-up of that slave; and each slave rests.
-use Rattle.std.specs.Prelude.{◌≡◌, ◌⊎◌, ℕ, suc, Bool, true, false, Some, List, [], ◌∷◌, slice_get, ⊤}
+use Rattle.std.specs.Prelude.{◌≡◌, ◌⊎◌, ℕ, suc, Bool, true, false, Some, List, [], ◌∷◌, map, slice_get, ⊤}
 use Rattle.mailbox_mail.specs.Mail.{error_of}
 use Rattle.mailbox_mail.specs.declared.mail.Mail.{Mail}
 use Rattle.served_places.specs.Rows.{AreAll}
 use Rattle.served_places.specs.of_served_runs.Served.{Serves}
+use Rattle.master_node.specs.Serving.{run_lead}
+use Rattle.master_node.specs.of_life_frames.Shares.{AllBoth}
+use Rattle.master_node.specs.of_life_runs.First.{lens_of}
 use Rattle.master_node.specs.of_master_tour.Made.{is_in}
 use Rattle.master_node.specs.Wants.{IsMailless, gave_of}
 use Rattle.master_node.specs.of_frame_view.View.{Lens}
 use Rattle.master_node.specs.of_life_model.Lives.{Stand}
 use Rattle.master_node.specs.of_life_runs.of_link_mails.Body.{Body}
+use Rattle.run_book.specs.declared.book.Book.{Book}
 use Rattle.run_book.specs.declared.book.GramIn.{GramIn}
 use Rattle.run_book.specs.declared.book.SlaveBook.{SlaveBook}
 use Rattle.run_book.specs.of_slave_server.Serving.{next_mail}
 use Rattle.run_book.specs.of_slave_steps.Node.{is_settled}
 pub use Rattle.run_record.specs.Led.{LeavesNone}
+use Rattle.run_record.specs.Led.{LeavesNoPacket}
+use Rattle.segment_plan.specs.declared.plan.Scenario.{Scenario}
 use Rattle.gateway_run.specs.Account.{Owing}
 use Rattle.gateway_run.specs.Replies.{HasRow, mails_told}
 use Rattle.gateway_run.specs.Rooms.{owed_for}
@@ -44,3 +50,7 @@ AllDone serves came dones os n (g ∷ gs) = IsDone serves came dones os n g × A
 -- NOTHING IS LEFT of a slave of a serving at the end: it was given up for good; or its master wants nothing of it, not even by a mail that is passed on, and the slave is settled
 abbrev pub ServedRestsSo : (ℕ → Lens) → Serves → SlaveBook → Type 0
 ServedRestsSo lens w row = (w.lead.lived.life.stand ≡ Stand.Gone) ⊎ (IsMailless lens w × (is_settled next_mail row.node ≡ true))
+
+-- NOTHING IS LEFT TO DO in a serving, by its lives and its book: of no slave, and no packet
+abbrev pub ServedRestAll : Scenario → List Serves → Book → Type 0
+ServedRestAll plan ws book = AllBoth (ServedRestsSo (lens_of plan.slaves)) ws book.slaves × LeavesNoPacket plan (map run_lead ws) book.switch

@@ -1,11 +1,13 @@
 -- WHAT A PART OF A TURN LEAVES: a serving again, whatever its plan is, how many datagrams it is to hear and what its port told first.
-use Rattle.std.specs.Prelude.{◌<◌, ℕ, Bool, List, length, Option, Result}
+use Rattle.std.specs.Prelude.{◌≡◌, ◌<◌, ℕ, Bool, List, length, Option, Result, IfOk}
 use Rattle.ec_outside.specs.Port.{HeardGram}
 use Rattle.ec_outside.specs.declared.port.Heard.{Heard}
 use Rattle.ec_outside.specs.declared.port.SentGram.{SentGram}
 use Rattle.segment_plan.specs.declared.plan.Scenario.{Scenario}
 use Rattle.run_book.specs.declared.book.Book.{Book}
-use Rattle.gateway_run.specs.Serving.{Told, told, Listens, Goes, IsServing, LivesUnless, EmptyWhere}
+use Rattle.run_book.specs.declared.book.Ending.{Ending}
+use Rattle.run_book.specs.declared.book.Ending.TheVariants as endings
+use Rattle.gateway_run.specs.Serving.{Told, told, Listens, Goes, IsServing, LivesOn, LivesUnless, EmptyWhere}
 use Rattle.gateway_run.specs.declared.stop.Stop.{Stop}
 use Rattle.gateway_run.specs.declared.turn.Serving.{Serving}
 
@@ -29,6 +31,14 @@ GoesOnIf given heard sent over faults port port' v v' b b' r = GoesIf given (tol
 abbrev pub GoesOn : {Q T : Type 0} → (Q → Option (List HeardGram)) → (Q → Option (List SentGram)) → (Q → Bool) → (Q → ℕ) → Q → Q → Serving → Serving → Book → Book → Result T Stop → Type 0
 GoesOn heard sent over faults port port' v v' b b' r =
     (plan : Scenario) (count : ℕ) (first : Told) → IsServing plan count first (told heard sent over faults port) v b → Goes plan count first (told heard sent over faults port') v' b' r
+
+-- where it goes on no more, some slave is live and something is left to do
+abbrev pub LeavesIf : Type 0 → Told → Serving → Serving → Book → Result Bool Stop → Type 0
+LeavesIf given now v v' b r = (plan : Scenario) (count : ℕ) (first : Told) → given → IsServing plan count first now v b → IfOk r (λ on. LivesUnless on v'.session)
+
+-- and so it is where it ended with its budget spent
+abbrev pub LeavesSpent : Told → Serving → Serving → Book → Result Ending Stop → Type 0
+LeavesSpent now v v' b r = (plan : Scenario) (count : ℕ) (first : Told) → IsServing plan count first now v b → IfOk r (λ ending. ending ≡ endings.BudgetSpent → LivesOn v'.session)
 
 -- a serving takes what a call of its port heard, while it has room
 abbrev pub TakesHeard : {T : Type 0} → Heard → Serving → Serving → Book → Book → Result T Stop → Type 0

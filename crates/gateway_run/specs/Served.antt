@@ -31,7 +31,7 @@ use Rattle.run_record.specs.of_run_notes.Unsent.{IsSpent}
 use Rattle.run_record.specs.Ran.{StopsAs}
 use Rattle.gateway_run.specs.declared.desk.Request.{Request}
 use Rattle.gateway_run.specs.Account.{Owing, Course, AreSpelled}
-use Rattle.gateway_run.specs.Done.{AllDone, ServedRestsSo}
+use Rattle.gateway_run.specs.Done.{AllDone, ServedRestAll, ServedRestsSo}
 use Rattle.gateway_run.specs.Heard.{heard_as, AreHeard, AreSent, AreSentBut, IsOwed, IsRightly}
 use Rattle.gateway_run.specs.Mails.{AreLate, HasMails}
 use Rattle.gateway_run.specs.Replies.{Answers, dones_of}
@@ -59,7 +59,7 @@ pub record IsBroken (first last : Told) (book : Book) : Type 0 where
 
 -- WHAT WAS SENT IS WHAT WAS OWED, in order: the datagrams of the book, and behind them those that are still owed, which are none unless the port
 -- failed, are those of a course of the plan's session over the frames and the datagrams heard of the book; and these frames lead that session. The packets
--- of the host are those that the events of the switch make. Where the serving is over nothing is left of any slave, and no packet
+-- of the host are those that the events of the switch make. Where the serving is over nothing is left of any slave, and no packet; where its budget was spent something is
 pub record HasAccount (plan : Scenario) (count : ℕ) (book : Book) (ending : Ending) : Type 0 where
   pub session : SessionState
   pub requests : List Request
@@ -95,6 +95,8 @@ pub record HasAccount (plan : Scenario) (count : ℕ) (book : Book) (ending : En
   pub rests : LeavesNone ending → AllBoth (ServedRestsSo (lens_of plan.slaves)) answers.serving.leading.serves book.slaves
   pub packets : HasPackets plan book
   pub come : LeavesNone ending → LeavesNoPacket plan (map run_lead answers.serving.leading.serves) book.switch
+  -- and where the budget was spent something was left, as long as each mail that was accepted was due
+  pub left : ending ≡ endings.BudgetSpent → WereServedDue answers.serving.leading.lives → ServedRestAll plan answers.serving.leading.serves book → ⊥
   -- the frames before which the datagrams were heard don't fall; and one that wasn't passed on gets error 5 only where no slave stands under its station
   pub steady : DontFall book.grams
   pub stray : (n : ℕ) (g : GramIn) → slice_get book.grams n ≡ Some g → IsStray (map home_of plan.slaves) book.slaves owed n g

@@ -30,9 +30,13 @@ pub record Told : Type 0 where
 abbrev pub told : {Q : Type 0} → (Q → Option (List HeardGram)) → (Q → Option (List SentGram)) → (Q → Bool) → (Q → ℕ) → Q → Told
 told heard sent over faults port = record { heard = heard port; sent = sent port; over = over port; faults = faults port }
 
--- some slave is live and something is left to do, unless the segment rests
+-- some slave is live and something is left to do
+abbrev pub LivesOn : SessionState → Type 0
+LivesOn s = (has_live s.master ≡ true) × (IsDone s → ⊥)
+
+-- unless the segment rests
 abbrev pub LivesUnless : Bool → SessionState → Type 0
-LivesUnless rests s = OnFalse rests ((has_live s.master ≡ true) × (IsDone s → ⊥))
+LivesUnless rests s = OnFalse rests (LivesOn s)
 
 -- no request is unfinished, where the segment is settled
 abbrev pub EmptyWhere : Bool → Serving → Type 0

@@ -5,8 +5,8 @@ ghost use Rattle.run_book.specs.declared.book.Ending.TheVariants as endings;
 ghost use Rattle.run_record.specs.Served.{ServingRests};
 ghost use Rattle.run_record.specs.Session.{session_rows, are_at_rest};
 ghost use Rattle.run_record.specs.Ran.{HasSent, EndsSo};
-ghost use Rattle.gateway_run.specs.Goes.{GoesOn};
-ghost use Rattle.gateway_run.specs.Serving.{can_hear};
+ghost use Rattle.gateway_run.specs.Goes.{GoesOn, LeavesSpent};
+ghost use Rattle.gateway_run.specs.Serving.{can_hear, told};
 ghost use Rattle.gateway_run.specs.Served.{IsServedOver};
 
 use crate::stop::Stop;
@@ -43,6 +43,7 @@ fn turns<P: Port>(
     ensures ends { IfOk result (EndsSo serving.new.session) }
     ensures whole { IfOk result (λ ending. ending ≢ endings.BudgetSpent → can_hear serving.new book.new ≡ false) }
     ensures rests { IfOk result (λ ending. ending ≢ endings.BudgetSpent → ServingRests serving.new.session) }
+    ensures left { LeavesSpent (told P.heard P.sent P.over P.port_faults port.old) serving.old serving.new book.old result }
     ensures empty { OnOk result (serving.new.desk.outbox.items ≡ []) }
 {
     let mut settled = serving.session.settled();
@@ -86,7 +87,7 @@ fn serve_through<P: Port>(
 /// its number.
 ///
 /// `Done` and `GivenUp` come only where so many datagrams were heard or the port ended, and nothing was left to do; `BudgetSpent` where as
-/// many frames were sent as the budget allows; `PortFault` only where the port's count of faults rose. Then the last datagram of the book
+/// many frames were sent as the budget allows and something was left to do; `PortFault` only where the port's count of faults rose. Then the last datagram of the book
 /// was sent or not, and those that were not yet sent stand nowhere.
 pub fn serve<P: Port>(
     alloc: Global,

@@ -7,7 +7,7 @@ ghost use Rattle.segment_plan.specs.Sound.{IsPlan};
 ghost use Rattle.run_record.specs.Served.{ServingBegins};
 ghost use Rattle.run_record.specs.Session.{first_session};
 ghost use Rattle.gateway_run.specs.Desk.{HasNone, SameLive, StaysBusy};
-ghost use Rattle.gateway_run.specs.Goes.{GoesIf, GoesOn, GoesOnIf, HasRoom, MayTurn, TakesHeard};
+ghost use Rattle.gateway_run.specs.Goes.{GoesIf, GoesOn, GoesOnIf, HasRoom, LeavesIf, MayTurn, TakesHeard};
 ghost use Rattle.gateway_run.specs.Serving.{Told, told, SendsOne, LivesUnless, EmptyWhere, left, can_hear};
 
 use crate::desk::Desk;
@@ -144,12 +144,13 @@ impl Serving {
         self.poll(alloc, port, book)
     }
 
-    // Sends a frame, unless the segment rests; `false` where the budget of frames is spent.
+    // Sends a frame, unless the segment rests; `false` where it doesn't and the budget of frames is spent.
     fn frame(&mut self, alloc: Global, rests: bool, book: &mut Book) -> Result<bool, Stop>
         ensures goes { (now : Told) → GoesIf (LivesUnless rests self.old.session) now now self.old self.new book.old book.new result }
         ensures less { IfOk result (λ on. OnTrue on (OnFalse rests (left self.new book.new < left self.old book.old))) }
         ensures most { OnOk result (left self.new book.new ≤ left self.old book.old) }
         ensures spent { IfOk result (λ on. OnFalse on (self.new.session.ring.number ≡ self.new.session.budget)) }
+        ensures left { IfOk result (λ on. LivesUnless rests self.old.session → LivesUnless on self.new.session) }
     {
         if rests {
             return Ok(true);
@@ -176,7 +177,7 @@ impl Serving {
     }
 
     /// One turn: it waits for a datagram where no request is unfinished, takes those that are there, sends one frame unless the segment is
-    /// settled, and sends what is owed. `false` where the budget of frames is spent. `settled` says that the segment was settled before; then
+    /// settled, and sends what is owed. `false` where the budget of frames is spent and something is left to do. `settled` says that the segment was settled before; then
     /// more can be heard.
     pub fn turn<P: Port>(
         &mut self,
@@ -189,6 +190,7 @@ impl Serving {
         ensures goes { GoesOnIf (MayTurn settled self.old) P.heard P.sent P.over P.port_faults port.old port.new self.old self.new book.old book.new result }
         ensures less { IfOk result (λ on. OnTrue on (left self.new book.new < left self.old book.old)) }
         ensures spent { IfOk result (λ on. OnFalse on (self.new.session.ring.number ≡ self.new.session.budget)) }
+        ensures left { LeavesIf (MayTurn settled self.old) (told P.heard P.sent P.over P.port_faults port.old) self.old self.new book.old result }
         ensures empty { OnOk result (self.new.desk.outbox.items ≡ []) }
     {
         self.hear(alloc, settled, port, book)?;

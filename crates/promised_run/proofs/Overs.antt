@@ -22,7 +22,7 @@ use Rattle.promised_run.proofs.Through.{RepliesLaw}
 use Rattle.promised_run.proofs.Unopened.{all_opened}
 use Rattle.promised_run.proofs.Unsent.{all_unsent, come_of}
 use Rattle.promised_run.proofs.Visits.{all_visit}
-use Rattle.promised_run.proofs.Written.{all_written}
+use Rattle.promised_run.proofs.Written.{all_written, some_left}
 use Rattle.run_book.specs.declared.book.Book.{Book}
 use Rattle.run_book.specs.declared.book.Ending.{Ending}
 use Rattle.run_book.specs.declared.book.Ending.TheVariants as endings
@@ -104,7 +104,7 @@ module _ (plan : Scenario) (book : Book) where
       let fs : List Exchanged = map exchanged book.frames in
       let round : AllRound (ring_of plan) fs = all_round (first_ring plan) book.frames frames.recorded in
       let kept : Keeps plan fs led.leads = law fs [] led.missed led.leads led.lives (subst (λ (gs : List Exchanged). AllRound (ring_of plan) gs) (sym (append-nil fs)) round) in
-      record { led = led; kept = kept; slaves = same_slaves; over = leaves_nothing rests done led.leads kept book.ending ends led.rests; served = alone plan book led.leads led.missed sound known replies runs frames led.lives; reported = λ ok. all_reported plan fs 0 plan.slaves led.leads (slaves_behind plan fs) book.slaves kept.each (all_opened (lens_of plan.slaves) plan plan.retry fs led.missed led.leads led.lives) (led.answers ok); unsent = λ ok. all_unsent plan 0 led.leads book.slaves (come_of plan 0 plan.slaves led.leads (comes fs led.missed led.leads led.lives)) (led.unsent ok); epochs = λ ok. all_caused led.leads book.slaves (led.epochs ok) (led.gave ok) (opens fs led.missed led.leads led.lives); emergencies = λ ok. all_emergencies (heard_in led.lives) book.slaves (led.heard ok); packets = led.packets; ports = λ ok. all_ports plan led.lives book (led.listed ok) (led.begun ok); visits = all_visit plan sound comes fs led.tour led.leads led.toured; outlived = outlived plan book frames ends led; numbers = λ ok. all_numbers plan led.lives book (led.listed ok) (led.numbered ok) (led.answers ok) (led.gave ok) ends ok; forwards = λ ok. all_packets plan led.lives book (led.forwards ok); written = all_written plan due book frames led }
+      record { led = led; kept = kept; slaves = same_slaves; over = leaves_nothing rests done led.leads kept book.ending ends led.rests; served = alone plan book led.leads led.missed sound known replies runs frames led.lives; reported = λ ok. all_reported plan fs 0 plan.slaves led.leads (slaves_behind plan fs) book.slaves kept.each (all_opened (lens_of plan.slaves) plan plan.retry fs led.missed led.leads led.lives) (led.answers ok); unsent = λ ok. all_unsent plan 0 led.leads book.slaves (come_of plan 0 plan.slaves led.leads (comes fs led.missed led.leads led.lives)) (led.unsent ok); epochs = λ ok. all_caused led.leads book.slaves (led.epochs ok) (led.gave ok) (opens fs led.missed led.leads led.lives); emergencies = λ ok. all_emergencies (heard_in led.lives) book.slaves (led.heard ok); packets = led.packets; ports = λ ok. all_ports plan led.lives book (led.listed ok) (led.begun ok); visits = all_visit plan sound comes fs led.tour led.leads led.toured; outlived = outlived plan book frames ends led; numbers = λ ok. all_numbers plan led.lives book (led.listed ok) (led.numbered ok) (led.answers ok) (led.gave ok) ends ok; forwards = λ ok. all_packets plan led.lives book (led.forwards ok); written = all_written plan due book frames led; left = some_left plan due book frames led }
 
 -- THE PROMISE, by the laws for a plan that was read
 pub promised : (plan : Scenario) (book : Book) (ending : Ending) → IsPlan plan → IsKnown plan → RepliesLaw → RunsServe plan → MailsAreDue plan → Promises plan → Comes plan → Opens plan → Rests plan → Finishes plan → HasFrames plan book → EndsAs plan book ending → book.ending ≡ ending → LedBook plan book ending → IsPromised plan book

@@ -1,4 +1,4 @@
--- EACH MAIL THAT WAS ACCEPTED OF A PLAN'S SLAVES WAS DUE: so the packets that came into hand stand in a book with the answers that the lives give.
+-- EACH MAIL THAT WAS ACCEPTED OF A PLAN'S SLAVES WAS DUE: so the packets that came into hand stand in a book with the answers that the lives give, and where a budget was spent something was left to do.
 use Rattle.std.proofs.Common.{◌≢◌, ℕ, List, map}
 use Rattle.life_runs.specs.First.{first_leads, lens_of}
 use Rattle.life_runs.specs.Led.{Exchanged, Leads, IsLed}
@@ -6,7 +6,9 @@ use Rattle.plan_ring.proofs.Lives.{front_round}
 use Rattle.plan_ring.specs.Dues.{MailsAreDue}
 use Rattle.plan_ring.specs.Round.{AllRound, ring_of}
 use Rattle.promised_run.proofs.Recalled.{all_round}
+use Rattle.promised_run.specs.Due.{IsServedDue}
 use Rattle.promised_run.specs.Eager.{ServedMailsAreDue}
+use Rattle.promised_run.specs.Left.{IsLeft, IsServedLeft}
 use Rattle.promised_run.specs.Written.{AllWritten, IsServedWritten}
 use Rattle.run_book.specs.declared.book.Book.{Book}
 use Rattle.run_book.specs.declared.book.Ending.TheVariants as endings
@@ -24,8 +26,15 @@ module _ (plan : Scenario) (due : MailsAreDue plan) where
   were_due _ _ _ (IsLed.on fs missed leads f us l frame) r = (were_due fs missed leads l (front_round (ring_of plan) fs f r), λ pass. due fs missed leads f us l frame r pass)
 
   -- SO IT IS of the book of a run
+  all_due : (book : Book) (sent : HasFrames plan book) (led : LedBook plan book book.ending) → WereDue led.lives
+  all_due book sent led = were_due (map exchanged book.frames) led.missed led.leads led.lives (all_round (ring_of plan) book.frames sent.recorded)
+
   pub all_written : (book : Book) (sent : HasFrames plan book) (led : LedBook plan book book.ending) → book.ending ≢ endings.NoMemory → AllWritten plan book led
-  all_written book sent led ok = led.written ok (were_due (map exchanged book.frames) led.missed led.leads led.lives (all_round (ring_of plan) book.frames sent.recorded))
+  all_written book sent led ok = led.written ok (all_due book sent led)
+
+  -- and something was left where its budget was spent
+  pub some_left : (book : Book) (sent : HasFrames plan book) (led : LedBook plan book book.ending) → IsLeft plan book led
+  some_left book sent led spent = led.left spent (all_due book sent led)
 
 module _ (plan : Scenario) (due : ServedMailsAreDue plan) where
   -- of a serving
@@ -35,7 +44,13 @@ module _ (plan : Scenario) (due : ServedMailsAreDue plan) where
   were_served_due _ _ _ (IsServedLed.on fs missed ws f vs l frame) r = (were_served_due fs missed ws l (front_round (ring_of plan) fs f r), λ pass. due fs missed ws f vs l frame r pass)
 
   -- AND of each account of the book of a serving
-  pub all_served_written : (count : ℕ) (book : Book) → HasSent plan count book → IsServedWritten plan count book
-  all_served_written count book sent = λ ok a.
+  pub all_served_due : (count : ℕ) (book : Book) → HasSent plan count book → IsServedDue plan count book
+  all_served_due count book sent = λ ending a.
       let leading = a.answers.serving.leading in
-      a.written (were_served_due (map exchanged book.frames) leading.missed leading.serves leading.lives (all_round (ring_of plan) book.frames sent.recorded))
+      were_served_due (map exchanged book.frames) leading.missed leading.serves leading.lives (all_round (ring_of plan) book.frames sent.recorded)
+
+  pub all_served_written : (count : ℕ) (book : Book) → HasSent plan count book → IsServedWritten plan count book
+  all_served_written count book sent = λ ok a. a.written (all_served_due count book sent book.ending a)
+
+  pub some_served_left : (count : ℕ) (book : Book) → HasSent plan count book → IsServedLeft plan count book
+  some_served_left count book sent = λ spent a. a.left spent (all_served_due count book sent book.ending a)

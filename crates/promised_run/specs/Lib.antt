@@ -2,11 +2,13 @@ pub use Rattle.run_record.specs.Ran
 pub use Rattle.run_record.specs.Session
 pub mod Alone
 pub mod Bounded
+pub mod Due
 pub mod Eager
 pub mod Emergencies
 pub mod Epochs
 pub mod Few
 pub mod Given
+pub mod Left
 pub mod Numbers
 pub mod Packets
 pub mod Ports

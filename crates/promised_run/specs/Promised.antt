@@ -8,6 +8,7 @@ use Rattle.promised_run.specs.Alone.{ServesAlone}
 use Rattle.promised_run.specs.Emergencies.{AllHaveEmergencies}
 use Rattle.promised_run.specs.Epochs.{AllCaused}
 use Rattle.promised_run.specs.Few.{AreFewLost, OutlivesLosses}
+use Rattle.promised_run.specs.Left.{IsLeft}
 use Rattle.promised_run.specs.Numbers.{AllHaveNumbers}
 use Rattle.promised_run.specs.Packets.{AllHavePackets}
 use Rattle.promised_run.specs.Ports.{AllHavePorts}
@@ -67,3 +68,5 @@ pub record IsPromised (plan : Scenario) (book : Book) : Type 0 where
   pub forwards : book.ending ≢ endings.NoMemory → AllHavePackets led.leads book
   -- each `Handed`, of the frame with whose return its last fragment was written, or in doubt where it wasn't
   pub written : book.ending ≢ endings.NoMemory → AllWritten plan book led
+  -- and where the budget was spent something was left to do
+  pub left : IsLeft plan book led

@@ -10,7 +10,9 @@ ghost use Rattle.gateway_run.specs.Served.{IsServed};
 ghost use Rattle.promised_run.specs.ServedBooks.{IsServedBooked};
 ghost use Rattle.promised_run.specs.ServedBounded.{IsServedBounded};
 ghost use Rattle.promised_run.specs.ServedPorts.{IsServedAtPorts};
+ghost use Rattle.promised_run.specs.Due.{IsServedDue};
 ghost use Rattle.promised_run.specs.Given.{IsServedGiven};
+ghost use Rattle.promised_run.specs.Left.{IsServedLeft};
 ghost use Rattle.promised_run.specs.Rested.{IsServedRested};
 ghost use Rattle.promised_run.specs.ServedReported.{IsServedReported};
 ghost use Rattle.promised_run.specs.Through.{IsServedThrough, IsServedWhole};
@@ -47,7 +49,8 @@ use std::alloc::Global;
 /// there behind the events numbered up to the frame of a row of the script or of a mail that was passed on.
 ///
 /// Where nothing was left to do, of each slave that wasn't given up for good the whole script came into hand, with mails that were asked, in order, all of them where
-/// it was never given up; all rows of its newest epoch are carried out and answered, and nothing waits. What an earlier epoch left undone when it was cut off stays so.
+/// it was never given up; all rows of its newest epoch are carried out and answered, and nothing waits. What an earlier epoch left undone when it was cut off stays so. Where
+/// its budget was spent something was left to do. Each mail that was accepted of a slave was due.
 ///
 /// A serving of which no datagram asks for a download to 2F01:01 is never cut off by a budget of as many frames as the bound for so many datagrams. Where no more
 /// frames in a row are lost than the retry limit no slave is given up, and such a serving with that budget ends as done, unless its port fails or memory runs out.
@@ -69,9 +72,11 @@ pub fn serve<P: Port>(
     ensures ports { IsServedAtPorts plan.now count book.new }
     ensures given { IsServedGiven plan.now count book.new }
     ensures booked { IsServedBooked plan.now count book.new }
+    ensures due { IsServedDue plan.now count book.new }
     ensures written { IsServedWritten plan.now count book.new }
     ensures replied { IsServedReported plan.now count book.new }
     ensures rests { IsServedRested plan.now count book.new }
+    ensures left { IsServedLeft plan.now count book.new }
     ensures bounded { IsServedBounded plan.now count book.new }
     ensures ending { book.new.ending ≡ result }
 {

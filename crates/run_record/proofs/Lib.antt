@@ -14,6 +14,7 @@ pub mod Heads
 pub mod Hearings
 pub mod Knowing
 pub mod Leads
+pub mod Lefts
 pub mod MailEvents
 pub mod MailLives
 pub mod MailNotes

@@ -36,7 +36,7 @@ module _ {G : Ghosts InHand} (lens : ℕ → Lens) (recover : ℕ) where
   live_there (a ∷ as') (s ∷ ss) x zero = stand_lives lens recover a.lived s x.0
   live_there (a ∷ as') (s ∷ ss) x (suc k) = live_there as' ss x.1 k
 
-  live_some : (as' : List Leads) (ss : List (Stop InHand G)) → AllBoth (λ a s. IsLived lens recover a s) (map lived_of as') ss → list_any (λ s. is_live s.stand) ss ≡ list_any is_live_lead as'
+  pub live_some : (as' : List Leads) (ss : List (Stop InHand G)) → AllBoth (λ a s. IsLived lens recover a s) (map lived_of as') ss → list_any (λ s. is_live s.stand) ss ≡ list_any is_live_lead as'
   live_some [] [] x = refl
   live_some [] (s ∷ ss) x = absurd x
   live_some (a ∷ as') [] x = absurd x

@@ -37,6 +37,7 @@ use Rattle.run_notes.specs.Slaves.{gaves_in, gaves_noted}
 use Rattle.run_notes.specs.Switched.{SameSwitch}
 use Rattle.run_notes.specs.Unsent.{IsSpent}
 use Rattle.run_record.proofs.Ends.{all_done, gaves_of_rows, rest_so, served_left}
+use Rattle.run_record.proofs.Lefts.{all_out, all_over}
 use Rattle.run_record.proofs.MailNotes.{rows_forwarded}
 use Rattle.run_record.proofs.NoPackets.{none_left}
 use Rattle.run_record.proofs.RunLives.{IsRun, run_lives}
@@ -45,12 +46,12 @@ use Rattle.run_record.proofs.RunTours.{IsRunTour, run_tour, tour_by}
 use Rattle.run_record.proofs.ServedGaves.{has_lives}
 use Rattle.run_record.proofs.Unasked.{NoneAsked, leads_of}
 use Rattle.run_record.proofs.Underway.{many}
-use Rattle.run_record.specs.Led.{exchanged, LedBook, LeavesNoPacket, LeavesNone, RecalledBook, RestBy, RestsSo, TouredTo}
+use Rattle.run_record.specs.Led.{exchanged, LedBook, LeavesNoPacket, LeavesNone, RecalledBook, RestAll, RestBy, RestsSo, TouredTo}
 use Rattle.run_record.specs.Mails.{served_mails}
 use Rattle.run_record.specs.Ran.{EndsSo, IsUnderway}
 use Rattle.run_record.specs.Recalling.{state_of}
-use Rattle.run_record.specs.Served.{Serving, ServingRests}
-use Rattle.run_record.specs.Session.{SessionState, are_at_rest, session_rows, some_given_up}
+use Rattle.run_record.specs.Served.{Serving, ServingLives, ServingRests}
+use Rattle.run_record.specs.Session.{IsDone, SessionState, are_at_rest, session_rows, some_given_up}
 use Rattle.run_record.specs.Written.{WereDue, forwards_now, packets_written, served_written}
 use Rattle.segment_plan.specs.declared.plan.Scenario.{Scenario}
 use Rattle.served_runs.specs.Served.{Serves}
@@ -183,9 +184,23 @@ module _ (plan : Scenario) (s : SessionState) (b b' : Book) (h : IsUnderway plan
       (at_all (λ (z : ℕ → List (Option ℕ)). AreForwarded z (session_rows s)) (λ k. served_written w.leading.lives k) (λ k. packets_written run.lives k) run.written
       (rows_forwarded s.recover s.ring.nodes s.notes (map run_lead ws) (λ k. served_written w.leading.lives k) (λ k. forwards_now lens (map run_lead ws) k) w.told (w.written (run.due due))))
 
+  -- where the budget was spent something was left
+  some_left : ServingLives s → (IsDone s → ⊥) → b'.slaves ≡ session_rows s → WereDue run.lives → RestAll plan run.leads b' → ⊥
+  some_left lives busy rows due none =
+      let same_leads = sym leads_are in
+      busy (all_over plan s fs w h.recover same (lives plan fs h.recover w) b'.switch now.events (subst (λ (z : List Leads). LeavesNoPacket plan z b'.switch) same_leads none.1) (run.due due) (all_out lens ws run.leads b'.slaves run.quiet none.0)
+      (subst (λ (rs : List SlaveBook). AllBoth (RestsSo lens) (map run_lead ws) rs) rows (subst (λ (z : List Leads). AllBoth (RestsSo lens) z b'.slaves) same_leads none.0)))
+
+  left_by : (ending result : Ending) (settled : Bool) → OnTrue settled (ending ≢ endings.BudgetSpent) → OnFalse settled (ServingLives s) → OnFalse settled (IsDone s → ⊥) → (result ≡ ending) ⊎ (result ≡ endings.NoMemory) → (result ≢ endings.NoMemory → b'.slaves ≡ session_rows s) →
+      result ≡ endings.BudgetSpent → WereDue run.lives → RestAll plan run.leads b' → ⊥
+  left_by ending result true whole lives busy (inl is) rows spent due none = absurd (whole (sym is ∙ spent))
+  left_by ending result true whole lives busy (inr out) rows spent due none = absurd (let bad : endings.BudgetSpent ≡ endings.NoMemory = sym spent ∙ out in cc)
+  left_by ending result false whole lives busy answers rows spent due none = some_left lives busy (rows (λ out. let bad : endings.BudgetSpent ≡ endings.NoMemory = sym spent ∙ out in cc)) due none
+
   -- however it ends
-  pub led_book : (ending result : Ending) (settled : Bool) → EndsSo s ending → OnTrue settled (ServingRests s) → OnFalse settled (ending ≡ endings.BudgetSpent) → (result ≡ ending) ⊎ (result ≡ endings.NoMemory) → (result ≢ endings.NoMemory → b'.slaves ≡ session_rows s) → LedBook plan b' result
-  led_book ending result settled so out cut answers rows = record {
+  pub led_book : (ending result : Ending) (settled : Bool) → EndsSo s ending → OnTrue settled (ServingRests s) → OnFalse settled (ending ≡ endings.BudgetSpent) → OnTrue settled (ending ≢ endings.BudgetSpent) → OnFalse settled (ServingLives s) → OnFalse settled (IsDone s → ⊥) →
+      (result ≡ ending) ⊎ (result ≡ endings.NoMemory) → (result ≢ endings.NoMemory → b'.slaves ≡ session_rows s) → LedBook plan b' result
+  led_book ending result settled so out cut whole lives busy answers rows = record {
     missed = w.leading.missed;
     leads = run.leads;
     lives = run.lives;
@@ -205,6 +220,7 @@ module _ (plan : Scenario) (s : SessionState) (b b' : Book) (h : IsUnderway plan
     mails = λ ok. mails_in (rows ok);
     written = λ ok due. written (rows ok) due;
     recalled = λ ok. recalled_book;
+    left = left_by ending result settled whole lives busy answers rows;
     rests = elim answers [
       | inl is ↦ subst (λ (e : Ending). RestBy lens e run.leads b'.slaves) (sym is) (rest_by ending settled so out cut (λ ok. rows (λ none. ok (sym is ∙ none))))
       | inr none ↦ subst (λ (e : Ending). RestBy lens e run.leads b'.slaves) (sym none) tt

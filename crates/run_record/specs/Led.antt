@@ -91,6 +91,10 @@ pub record LeavesNoPacket (plan : Scenario) (leads : List Leads) (es : List Swit
   pub slaves : (k : ℕ) → holds_at is_live_lead leads k ≡ true → forwarded (switched (ports_of plan.slaves) es).switch (ports_behind 0 plan.slaves) k ≡ []
   pub host : list_any is_live_lead leads ≡ true → arrivals_at 0 es ≡ plan.host
 
+-- NOTHING IS LEFT TO DO in a run: of no slave, and no packet
+abbrev pub RestAll : Scenario → List Leads → Book → Type 0
+RestAll plan leads book = AllBoth (RestsSo (lens_of plan.slaves)) leads book.slaves × LeavesNoPacket plan leads book.switch
+
 -- HOW A RUN'S LIVES END: with nothing left of any slave, and none given up where all is done; anywhere where the budget or memory ends
 abbrev pub RestBy : (ℕ → Lens) → Ending → List Leads → List SlaveBook → Type 0
 RestBy lens endings.Done leads rows = AllBoth (DoneSo lens) leads rows
@@ -137,3 +141,5 @@ pub record LedBook (plan : Scenario) (book : Book) (ending : Ending) : Type 0 wh
   pub mails : ending ≢ endings.NoMemory → AreMails (λ k. []) (begun_in book.slaves)
   pub written : ending ≢ endings.NoMemory → WereDue lives → AreForwarded (λ k. packets_written lives k) book.slaves
   pub recalled : ending ≢ endings.NoMemory → RecalledBook plan book missed leads
+  -- where the budget was spent something was left to do, as long as each mail that was accepted was due
+  pub left : ending ≡ endings.BudgetSpent → WereDue lives → RestAll plan leads book → ⊥

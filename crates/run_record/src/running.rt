@@ -1,4 +1,4 @@
-ghost use Rattle.std.specs.Prelude.{◌≡◌, [], map, IfOk, OnErr, true, false};
+ghost use Rattle.std.specs.Prelude.{◌≡◌, ◌≢◌, [], map, IfOk, OnErr, true, false};
 ghost use Rattle.segment_plan.specs.Sound.{IsPlan};
 ghost use Rattle.run_book.specs.Book.{IsNew};
 ghost use Rattle.std.specs.Bool.{OnTrue, OnFalse};
@@ -19,6 +19,7 @@ fn ending_of(session: &Session, settled: bool) -> Ending
     requires spent { OnFalse settled (session.now.ring.number ≡ session.now.budget) }
     ensures ends { EndsSo session.now result }
     ensures cut { OnFalse settled (result ≡ endings.BudgetSpent) }
+    ensures whole { OnTrue settled (result ≢ endings.BudgetSpent) }
 {
     if !settled {
         Ending::BudgetSpent

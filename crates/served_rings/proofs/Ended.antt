@@ -1,12 +1,12 @@
 -- WHERE EACH SERVICE HAS ITS OUTCOME its master has its answer: that of the application behind those before it.
-use Rattle.std.proofs.Common.{◌≡◌, ◌<◌, ℕ, suc, ◌==◌, Bool, true, false, Option, None, Some, List, [], ◌∷◌, ◌++◌, refl, ap, sym, ◌∙◌, subst, if◌then◌else◌}
+use Rattle.std.proofs.Common.{◌≡◌, ◌<◌, ℕ, suc, ◌==◌, Bool, true, false, Option, None, Some, option_map, List, [], ◌∷◌, ◌++◌, refl, ap, sym, ◌∙◌, subst, if◌then◌else◌}
 use Rattle.std.specs.Prelude.{⊤}
-use Rattle.exchange_model.specs.Exchange.{Exchange}
+use Rattle.exchange_model.specs.Exchange.{Exchange, Speech, plain}
 use Rattle.exchange_model.specs.Rows.{Row}
 use Rattle.link_model.specs.Mails.{first_of}
-use Rattle.segment_model.specs.Ends.{Outcome, state_ends}
+use Rattle.segment_model.specs.Ends.{Outcome, mails_end, state_ends}
 use Rattle.segment_model.specs.Laws.{AllAnswered, IsAnswered, as_outcome}
-use Rattle.segment_model.specs.Record.{Frame, News, first_end, news_from, or_later}
+use Rattle.segment_model.specs.Record.{Frame, News, first_end, mails_heard, news_from, or_later}
 use Rattle.state_exchange.specs.Stated.{Service, Stated, service_exec, service_reply}
 use Rattle.state_model.specs.Promises.{answer_of, state_behind}
 use Rattle.state_model.specs.States.{Table}
@@ -40,6 +40,14 @@ first_of_all {T = T} P ends each frame before (ns ∷ nss) o e = go (ends (befor
     go : (found : Option T) → ends (before ++ ns) ≡ found → or_later found frame (first_end ends (suc frame) (before ++ ns) nss) ≡ Some o → (first_end ends (suc frame) (before ++ ns) nss ≡ Some o → P o.0) → P o.0
     go None is some later = later some
     go (Some r) is some later = let same : ◌≡◌ {A = T × ℕ} (r, frame) o = cc in each (before ++ ns) o.0 (is ∙ ap (λ (k : T × ℕ). Some k.0) same)
+
+-- and so does that of a service by mails that has a reply
+mails_reply : {M Q R : Type 0} (x : Speech M Q R) (q : Q) (ns : List (News M)) (o : Outcome R) → mails_end x q false ns ≡ Some o → IsReply o
+mails_reply {R = R} x q ns o e = go (x.ends q (plain x.emission (mails_heard ns))) e
+  where
+    go : (found : Option R) → option_map (λ r. Outcome.Replied r) found ≡ Some o → IsReply o
+    go None e = absurd (let no : None ≡ Some o = e in cc)
+    go (Some r) e = same_reply (Outcome.Replied r) o e tt
 
 module _ {V A M Q R : Type 0} (x : Exchange V A M Q R) (s : Stated V A Q) (table : Table) where
   -- a service by mails that has a reply has this one
@@ -77,6 +85,14 @@ module _ {V A M Q R : Type 0} (x : Exchange V A M Q R) (s : Stated V A Q) (table
     abbrev Replies : A × ℕ → Service Q → ℕ → Type 0
     Replies a q frame = (o : Outcome R × ℕ) → outcome q frame ≡ Some o → IsReply o.0 → o.0 ≡ service_reply x s table a q
 
+    -- an outcome of a service that has a reply tells that it was carried out, and so does one of a change of the AL state
+    pub mails_replied : (q : Q) (frame : ℕ) (o : Outcome R × ℕ) → outcome (Service.Mails q) frame ≡ Some o → x.speech.handed q ≡ false → IsReply o.0
+    mails_replied q frame o found replies = first_of_all IsReply (λ (ns : List (News M)). mails_end x.speech q false ns) (λ ns o e. mails_reply x.speech q ns o e) frame [] (news_from station frame fs) o
+        (ap (λ b. first_end (λ (ns : List (News M)). mails_end x.speech q b ns) frame [] (news_from station frame fs)) (sym replies) ∙ found)
+
+    pub state_replied : (target frame : ℕ) (o : Outcome R × ℕ) → outcome (Service.State target) frame ≡ Some o → IsReply o.0
+    state_replied target frame o found = first_of_all IsReply (λ (ns : List (News M)). state_ends target None ns) (λ ns o e. state_replies target None ns o e) frame [] (news_from station frame fs) o found
+
     -- by its outcome
     reply_of : (reply : R) (answer : Option (R × ℕ)) (o : Outcome R × ℕ) → as_outcome answer ≡ Some o → (IsReply o.0 → o.0 ≡ Outcome.Replied reply) → (frame : ℕ) × (answer ≡ Some (reply, frame))
     reply_of reply None o e is = absurd (let no : None ≡ Some o = e in cc)
@@ -98,7 +114,7 @@ module _ {V A M Q R : Type 0} (x : Exchange V A M Q R) (s : Stated V A Q) (table
     change_replied : (a : A × ℕ) (target frame : ℕ) (c : Change R) → ◌≡◌ {A = ℕ × ℕ} (target, frame) (c.target, c.frame) → state_found x.speech more station fs c.target c.frame ≡ Some (c.answer, c.completed) → Replies a (Service.State target) frame → c.answer ≡ answer_of (table (s.state a.0) target)
     change_replied a target frame c same found replies =
         let here : outcome (Service.State target) frame ≡ Some (c.answer, c.completed) = ap (λ (k : ℕ × ℕ). outcome (Service.State k.0) k.1) same ∙ found in
-        replies (c.answer, c.completed) here (first_of_all IsReply (λ (ns : List (News M)). state_ends target None ns) (λ ns o e. state_replies target None ns o e) frame [] (news_from station frame fs) (c.answer, c.completed) here)
+        replies (c.answer, c.completed) here (state_replied target frame (c.answer, c.completed) here)
 
     -- of these services
     abbrev HaveAnswers : List (Started Q) → Type 0
@@ -149,7 +165,7 @@ module _ {V A M Q R : Type 0} (x : Exchange V A M Q R) (s : Stated V A Q) (table
     change_done : (count number target frame : ℕ) (c : Change R) → ◌≡◌ {A = ℕ × ℕ} (target, frame) (c.target, c.frame) → state_found x.speech more station fs c.target c.frame ≡ Some (c.answer, c.completed) → IsDone count number (Service.State target) frame → number < count
     change_done count number target frame c same found done =
         let here : outcome (Service.State target) frame ≡ Some (c.answer, c.completed) = ap (λ (k : ℕ × ℕ). outcome (Service.State k.0) k.1) same ∙ found in
-        done (c.answer, c.completed) here (first_of_all IsReply (λ (ns : List (News M)). state_ends target None ns) (λ ns o e. state_replies target None ns o e) frame [] (news_from station frame fs) (c.answer, c.completed) here)
+        done (c.answer, c.completed) here (state_replied target frame (c.answer, c.completed) here)
 
     -- of these services, behind which no more changes than these came into hand
     abbrev HaveReplies : ℕ → List (Started Q) → Type 0

@@ -32,6 +32,7 @@ use Rattle.served_rings.proofs.Replied.{emissions_so, replies_so}
 use Rattle.served_rings.proofs.Rested.{left_so}
 use Rattle.served_rings.proofs.Heard.{all_heard, newest_there, seen_so}
 use Rattle.served_rings.proofs.Seen.{clears_so, promised, valid}
+use Rattle.served_rings.proofs.TakenSo.{packet_so, taken_so}
 
 module _ (p : Profile) (k : IsSpeaker (speaker p)) (forgets : Forgets (speaker p).exchange (speaker p).core cleared_whole) (boot : Bool) (lens : ℕ → Lens) (spot : Spot) (from : InState Server) (counts : Bool) (e : Era Body Asked Reply) (fs : List (Frame Body)) (n : Node Serving)
     (l : LedEra (serves p boot lens) is_followed is_passed spot from counts e fs n) where
@@ -75,6 +76,7 @@ module _ (p : Profile) (k : IsSpeaker (speaker p)) (forgets : Forgets (speaker p
           count = did.count;
           prefix = omega (arith, long, did.prefix);
           behind = omega (arith, long, did.behind);
+          packet = packet_so p speaks boot spot l.opened l.server l.registers fs counts e seen_node i;
           done_is = did.app
               ∙ exec_is (product_whole parts p) (λ v. true) is_mail whole_states (table_of boot spot.station) l.server 0 (take did.count (services_in i.era.account.started))
               ∙ behind_named p boot spot.station l.server (take did.count (services_in i.era.account.started)) (named_take p did.count (services_in i.era.account.started) all_valid)
@@ -84,6 +86,7 @@ module _ (p : Profile) (k : IsSpeaker (speaker p)) (forgets : Forgets (speaker p
           state = ap (λ (s : Slave (InState Server) Body). s.registers.state) (sym i.stands) ∙ did.state;
           heard = all_heard p k boot lens spot l.opened l.server l.registers l.plan l.answers fs counts e seen_node l.led;
           replies = replies_so p speaks boot spot l.opened l.server l.registers fs counts e seen_node i;
+          taken = taken_so p speaks boot spot l.opened l.server l.registers fs counts e seen_node i;
           emissions = emissions_so p speaks boot spot l.opened l.server l.registers fs counts e seen_node i (λ gs counted d m led. seen_so p k boot lens spot l.opened l.server l.registers l.plan l.answers gs counted d m led)
               (λ gs counted d m led. newest_there p k boot lens spot l.opened l.server l.registers l.plan l.answers gs counted d m led) l.led;
           newest = newest_there p k boot lens spot l.opened l.server l.registers l.plan l.answers fs counts e seen_node l.led;

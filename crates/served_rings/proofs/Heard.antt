@@ -126,7 +126,7 @@ named_rest p [] rs k = k
 named_rest p (q ∷ qs) rs k = named_rest p qs rs k.1
 
 -- what is such and named a mail that is passed on is one
-named_passed : (p : Profile) (q : Wanted) (rs : List (Service Wanted)) (m : Mail) → AllNamed p (Service.Mails q ∷ rs) → named_wanted q ≡ passed m → (answers : Bool) × (q ≡ Tagged.Asked.Passed (Ok m) answers)
+pub named_passed : (p : Profile) (q : Wanted) (rs : List (Service Wanted)) (m : Mail) → AllNamed p (Service.Mails q ∷ rs) → named_wanted q ≡ passed m → (answers : Bool) × (q ≡ Tagged.Asked.Passed (Ok m) answers)
 named_passed p (Tagged.Asked.Script (Protocol.CoE, q)) rs m k e = absurd (let no : Spoken.sdo q ≡ passed m = e in cc)
 named_passed p (Tagged.Asked.Script (Protocol.FoE, q)) rs m k e = absurd (let no : Spoken.file q ≡ passed m = e in cc)
 named_passed p (Tagged.Asked.Script (Protocol.SoE, q)) rs m k e = absurd (let no : Spoken.drive q ≡ passed m = e in cc)

@@ -54,6 +54,10 @@ pub mod Stood
 pub mod Told
 pub mod ToldLives
 pub mod ToldTasks
+mod Taken
+mod TakenBy
+mod TakenNow
+mod TakenSo
 mod Turned
 pub mod Unpassed
 pub mod Whole

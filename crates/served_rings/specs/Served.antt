@@ -1,5 +1,6 @@
 -- WHAT THE SLAVES OF A SERVING DID, epoch by epoch, of the rows that came into hand of them: services of the script, packets, and mails that were passed on.
-use Rattle.std.specs.Prelude.{◌≡◌, ◌≢◌, ℕ, suc, ◌+◌, ◌<◌, ◌≤◌, Bool, true, false, Option, None, Some, Ok, List, [], ◌∷◌, ◌++◌, length, take, ⊤}
+use Rattle.std.specs.Prelude.{◌≡◌, ◌≢◌, ℕ, suc, ◌+◌, ◌<◌, ◌≤◌, Bool, true, false, Option, None, Some, Ok, List, [], ◌∷◌, ◌++◌, drop, length, take, ⊤}
+use Rattle.eoe_model.specs.Client as EoeClient
 use Rattle.exchange_model.specs.Exchange.{emitted, plain}
 use Rattle.exchange_model.specs.Prefix.{IsPrefixOf}
 use Rattle.exchange_model.specs.Rows.{Row, heard_all}
@@ -8,7 +9,7 @@ use Rattle.life_model.specs.Lives.{Era, Life, Stand}
 use Rattle.link_mails.specs.Body.{Body}
 use Rattle.mailbox_mail.specs.declared.mail.Mail.{Mail}
 use Rattle.master_duty.specs.Reply.{Reply}
-use Rattle.master_hand.specs.Spoken.{Asked, emission, passed}
+use Rattle.master_hand.specs.Spoken.{Asked, emission, net, passed}
 use Rattle.served_rings.specs.Speakers.{cleared_whole, spoken, table_of}
 use Rattle.run_work.specs.Lives.{first_server}
 use Rattle.segment_model.specs.Ends.{Passing}
@@ -31,6 +32,11 @@ use Rattle.task_model.specs.Promise.{services_in}
 pub record NothingCame (e : Era Body Asked Reply) : Type 0 where
   pub started : e.account.started ≡ []
   pub rows : rows_of e.side ≡ []
+
+-- a packet
+abbrev pub IsPacket : Service Asked → Type 0
+IsPacket (Service.Mails (net (EoeClient.packet octets frame))) = ⊤
+IsPacket _ = ⊥
 
 -- A NODE HOLDS what a server has of objects, files, IDNs and addresses, and the number of services that it counts
 pub record Holds (v : InState Server) (n : Node Serving) : Type 0 where
@@ -91,6 +97,22 @@ module _ (p : Profile) (boot : Bool) (station : ℕ) where
       × AreReplies count (suc number) (record v { state = state_behind (table_of boot station) v.state target }) qs rs cs
   AreReplies count number v _ _ _ = ⊥
 
+  -- OF A MAIL that was passed on: it is among the first so many rows where it is over, and where a reply to it was heard
+  pub record IsTakenOf (count number : ℕ) (passing : Option Passing) (r : Row Body Asked Reply) : Type 0 where
+    pub over : passing ≡ None → number < count
+    pub replied : plain emission r.heard ≢ [] → number < count
+
+  -- one row, where its service passes a mail on
+  abbrev pub IsTakenOne : ℕ → ℕ → Asked → Option Passing → Row Body Asked Reply → Type 0
+  IsTakenOne count number q passing r = (m : Mail) → q ≡ passed m → IsTakenOf count number passing r
+
+  -- EACH MAIL that was passed on among these services, the first of which has this number, and the newest of which has come so far
+  abbrev pub AllTaken : ℕ → ℕ → Option Passing → List (Service Asked) → List (Row Body Asked Reply) → Type 0
+  AllTaken count number passing [] [] = ⊤
+  AllTaken count number passing (Service.Mails q ∷ qs) (r ∷ rs) = IsTakenOne count number q (passing_before qs passing) r × AllTaken count (suc number) passing qs rs
+  AllTaken count number passing (Service.State target ∷ qs) rs = AllTaken count (suc number) passing qs rs
+  AllTaken count number passing _ _ = ⊥
+
   -- what rows emit, one after the other: of a mail that was passed on what the server sends of itself in its one step
   abbrev pub emitted_behind : InState Server → List (Service Asked) → List Body
   emitted_behind v [] = []
@@ -98,18 +120,21 @@ module _ (p : Profile) (boot : Bool) (station : ℕ) where
   emitted_behind v (Service.State target ∷ qs) = emitted_behind (record v { state = state_behind (table_of boot station) v.state target }) qs
 
   -- AN EPOCH, from this server: its slave carried out just the first so many of its rows, each once and in order; its objects, files, IDNs and addresses, its AL
-  -- state and the number of services that it counts are those of the server behind these rows; at most the two newest rows aren't among them; each answer is its
-  -- server's own, of a row carried out; what was heard that it sent of itself are the first mails that those rows emit; and where there is a row, there is a newest
+  -- state and the number of services that it counts are those of the server behind these rows; at most the two newest rows aren't among them, of which the older
+  -- is a packet; each answer is its server's own, of a row carried out, and each mail that was passed on and is over, or has a reply, is carried out; what was
+  -- heard that it sent of itself are the first mails that those rows emit; and where there is a row, there is a newest
   pub record IsServedEra (from : InState Server) (e : Era Body Asked Reply) (left done : InState Server) : Type 0 where
     pub count : ℕ
     pub prefix : count ≤ length e.account.started
     pub behind : length e.account.started ≤ count + 2
+    pub packet : (older newest : Service Asked) → drop count (services_in e.account.started) ≡ older ∷ newest ∷ [] → IsPacket older
     pub done_is : done ≡ server_behind from (take count (services_in e.account.started))
     pub app : left.inner.app.app ≡ done.inner.app.app
     pub handled : left.inner.handled ≡ done.inner.handled
     pub state : left.state ≡ done.state
     pub heard : IsHeardSo from e
     pub replies : AreReplies count 0 from (services_in e.account.started) (rows_of e.side) e.account.over
+    pub taken : AllTaken count 0 e.passing (services_in e.account.started) (rows_of e.side)
     pub emissions : IsPrefixOf (emitted emission (heard_all (rows_of e.side))) (emitted_behind from (take count (services_in e.account.started)))
     pub newest : e.side.now ≡ None → e.side.past ≡ []
 

@@ -39,7 +39,10 @@ returns-in-Ok-clause-served g c =
     served c.args.plan.now c.args.count (told g.P.Port.heard g.P.Port.sent g.P.Port.over g.P.Port.port_faults c.args.port.now) (told g.P.Port.heard g.P.Port.sent g.P.Port.over g.P.Port.port_faults c.turns.new.port) c.turns.new.serving c.turns.new.book c.finish.new.book c.in-Ok.ending c.finish.result c.requires.some
     (c.in-Ok.ensures.goes c.args.plan.now c.args.count (told g.P.Port.heard g.P.Port.sent g.P.Port.over g.P.Port.port_faults c.args.port.now)
     (first_serving c.args.plan.now c.args.count (told g.P.Port.heard g.P.Port.sent g.P.Port.over g.P.Port.port_faults c.args.port.now) c.in_ok-serving.serving c.args.book.now c.in_ok-serving.ensures.session c.in_ok-serving.ensures.serves c.in_ok-serving.ensures.switch c.in_ok-serving.ensures.requests c.in_ok-serving.ensures.outbox c.in_ok-serving.ensures.count c.in_ok-serving.ensures.over c.requires.new c.ranges.count.fits c.requires.plan))
-    c.finish.ensures.frames c.finish.ensures.same c.finish.ensures.grams c.finish.ensures.replies c.finish.ensures.serving c.finish.ensures.many c.finish.ensures.rows c.finish.ensures.answers c.in-Ok.ensures.ends c.in-Ok.ensures.whole c.in-Ok.ensures.rests c.in-Ok.ensures.empty
+    c.finish.ensures.frames c.finish.ensures.same c.finish.ensures.grams c.finish.ensures.replies c.finish.ensures.serving c.finish.ensures.many c.finish.ensures.rows c.finish.ensures.answers c.in-Ok.ensures.ends c.in-Ok.ensures.whole c.in-Ok.ensures.rests
+    (c.in-Ok.ensures.left c.args.plan.now c.args.count (told g.P.Port.heard g.P.Port.sent g.P.Port.over g.P.Port.port_faults c.args.port.now)
+    (first_serving c.args.plan.now c.args.count (told g.P.Port.heard g.P.Port.sent g.P.Port.over g.P.Port.port_faults c.args.port.now) c.in_ok-serving.serving c.args.book.now c.in_ok-serving.ensures.session c.in_ok-serving.ensures.serves c.in_ok-serving.ensures.switch c.in_ok-serving.ensures.requests c.in_ok-serving.ensures.outbox c.in_ok-serving.ensures.count c.in_ok-serving.ensures.over c.requires.new c.ranges.count.fits c.requires.plan))
+    c.in-Ok.ensures.empty
 
 pub returns-in-Err-PortFault-clause-frames : goal.returns-in-Err-PortFault-clause-frames
 returns-in-Err-PortFault-clause-frames g c =

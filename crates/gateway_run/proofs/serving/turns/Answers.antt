@@ -1,4 +1,5 @@
-use Rattle.std.proofs.Common.{◌≡◌, refl}
+use Rattle.std.proofs.Common.{◌≡◌, false, refl, rules}
+use Rattle.std.proofs.lemmas.Bool.{OnFalse_at}
 use Rattle.std.specs.Prelude.{Err}
 use Rattle.std.proofs.lemmas.Result.{err_from_is_err_and}
 use Rattle.gateway_run.specs.Serving.{IsServing, told}
@@ -45,3 +46,16 @@ returns-in_err-turn-clause-goes g c = λ plan count first h.
       lives_on plan count c.loop-settled.serving c.loop-settled.book on.on c.loop-settled.settled c.loop-settled.settled refl c.loop-settled.invariant.lives c.loop-settled.invariant.done,
       empty_on plan count c.loop-settled.serving c.loop-settled.book on.on c.loop-settled.settled c.loop-settled.invariant.rests,
     ) on)
+
+pub returns-then-not-branch-clause-left : goal.returns-then-not-branch-clause-left
+returns-then-not-branch-clause-left g c = λ plan count first h spent.
+    let now = told g.P.Port.heard g.P.Port.sent g.P.Port.over g.P.Port.port_faults c.loop-settled.port in
+    let on : IsServing plan count first now c.loop-settled.serving c.loop-settled.book = c.loop-settled.invariant.goes plan count first h in
+    let no : c.in_ok-turn.field-0 ≡ false = search rules in
+    OnFalse_at no (c.in_ok-turn.ensures.left plan count first (
+      lives_on plan count c.loop-settled.serving c.loop-settled.book on.on c.loop-settled.settled c.loop-settled.settled refl c.loop-settled.invariant.lives c.loop-settled.invariant.done,
+      empty_on plan count c.loop-settled.serving c.loop-settled.book on.on c.loop-settled.settled c.loop-settled.invariant.rests,
+    ) on)
+
+pub returns-clause-left : goal.returns-clause-left
+returns-clause-left g c = λ plan count first h spent. absurd (c.ending_of.ensures.whole spent)

@@ -9,7 +9,7 @@ use Rattle.promised_run.proofs.ServedPorts.{at_ports}
 use Rattle.promised_run.proofs.ServedReported.{all_reported_so}
 use Rattle.promised_run.proofs.Through.{through}
 use Rattle.promised_run.proofs.Whole.{whole}
-use Rattle.promised_run.proofs.Written.{all_served_written}
+use Rattle.promised_run.proofs.Written.{all_served_due, all_served_written, some_served_left}
 use Rattle.promised_run.proofs.promised_serving.serve.Goals as goal
 use Rattle.run_book.specs.of_master_node.Happened.{events_of}
 use Rattle.run_promises.proofs.Known.{known}
@@ -57,6 +57,14 @@ returns-clause-replied g c = all_reported_so c.args.plan.now c.args.count c.serv
 pub returns-clause-written : goal.returns-clause-written
 returns-clause-written g c =
     all_served_written c.args.plan.now (c.served_due_law.ensures c.args.plan.now c.requires.plan (known c.args.plan.now c.requires.told)) c.args.count c.serve.new.book c.serve.ensures.frames
+
+pub returns-clause-due : goal.returns-clause-due
+returns-clause-due g c =
+    all_served_due c.args.plan.now (c.served_due_law.ensures c.args.plan.now c.requires.plan (known c.args.plan.now c.requires.told)) c.args.count c.serve.new.book c.serve.ensures.frames
+
+pub returns-clause-left : goal.returns-clause-left
+returns-clause-left g c =
+    some_served_left c.args.plan.now (c.served_due_law.ensures c.args.plan.now c.requires.plan (known c.args.plan.now c.requires.told)) c.args.count c.serve.new.book c.serve.ensures.frames
 
 pub returns-clause-booked : goal.returns-clause-booked
 returns-clause-booked g c = booked c.args.plan.now c.args.count c.serve.new.book (c.opened_law.ensures c.args.plan.now)

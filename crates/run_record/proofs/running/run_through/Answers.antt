@@ -98,4 +98,4 @@ returns-clause-led c =
     let s = c.loop-settled.session in
     let invariant = c.loop-settled.invariant in
     led_book c.args.plan.now s c.loop-settled.book c.finish.new.book invariant.underway invariant.stands c.finish.ensures.frames c.finish.ensures.same c.finish.ensures.many c.ending_of-ending.result c.finish.result c.loop-settled.settled
-    c.ending_of-ending.ensures.ends invariant.rests c.ending_of-ending.ensures.cut c.finish.ensures.answers c.finish.ensures.rows
+    c.ending_of-ending.ensures.ends invariant.rests c.ending_of-ending.ensures.cut c.ending_of-ending.ensures.whole invariant.lives invariant.done c.finish.ensures.answers c.finish.ensures.rows

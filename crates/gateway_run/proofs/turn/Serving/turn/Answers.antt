@@ -1,6 +1,7 @@
-use Rattle.std.proofs.Common.{◌≡◌}
+use Rattle.std.proofs.Common.{◌≡◌, sym, subst}
 use Rattle.std.specs.Prelude.{Err}
 use Rattle.std.proofs.lemmas.Result.{err_from_is_err_and}
+use Rattle.run_record.specs.Session.{SessionState}
 use Rattle.gateway_run.specs.Serving.{IsServing, LivesUnless, told}
 use Rattle.gateway_run.proofs.Leds.{lives_on, lives_still}
 use Rattle.gateway_run.proofs.Turns.{goes_so}
@@ -53,3 +54,13 @@ returns-clause-goes g c = λ plan count first may h.
       | else-settled v ↦ lives_still c.args.self.now.session c.hear.new.self.session c.in_ok-hear.ensures.live c.in_ok-hear.ensures.busy c.if-settled.rests c.args.settled v.if-settled.false may.0
     ] in
     c.in_ok-send.ensures.goes plan count first (c.in_ok-on.ensures.goes now plan count first lives heard)
+
+pub returns-clause-left : goal.returns-clause-left
+returns-clause-left g c = λ plan count first may h.
+    let now = told g.P.Port.heard g.P.Port.sent g.P.Port.over g.P.Port.port_faults c.hear.new.port in
+    let heard : IsServing plan count first now c.hear.new.self c.hear.new.book = c.in_ok-hear.ensures.goes plan count first may.1 h in
+    let lives : LivesUnless c.if-settled.rests c.hear.new.self.session = elim c.if-settled.branch [
+      | then-settled v ↦ lives_on plan count c.hear.new.self c.hear.new.book heard.on c.if-settled.rests v.settled-rests.result v.rests-is v.settled-rests.ensures.lives v.settled-rests.ensures.done
+      | else-settled v ↦ lives_still c.args.self.now.session c.hear.new.self.session c.in_ok-hear.ensures.live c.in_ok-hear.ensures.busy c.if-settled.rests c.args.settled v.if-settled.false may.0
+    ] in
+    subst (λ (s : SessionState). LivesUnless c.in_ok-on.on s) (sym c.in_ok-send.ensures.session) (c.in_ok-on.ensures.left lives)

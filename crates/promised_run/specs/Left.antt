@@ -1,0 +1,16 @@
+-- WHERE ITS BUDGET WAS SPENT a run or a serving wasn't over: not each slave that wasn't given up for good rested, or a packet was left.
+use Rattle.std.specs.Prelude.{◌≡◌, ℕ}
+use Rattle.gateway_run.specs.Done.{ServedRestAll}
+use Rattle.gateway_run.specs.Served.{HasAccount}
+use Rattle.run_book.specs.declared.book.Book.{Book}
+use Rattle.run_book.specs.declared.book.Ending.TheVariants as endings
+use Rattle.run_record.specs.Led.{LedBook, RestAll}
+use Rattle.segment_plan.specs.declared.plan.Scenario.{Scenario}
+
+-- OF A RUN, by the lives that its frames lead to
+abbrev pub IsLeft : (plan : Scenario) (book : Book) → LedBook plan book book.ending → Type 0
+IsLeft plan book led = book.ending ≡ endings.BudgetSpent → RestAll plan led.leads book → ⊥
+
+-- of a serving the same, by each account of it
+abbrev pub IsServedLeft : Scenario → ℕ → Book → Type 0
+IsServedLeft plan count book = book.ending ≡ endings.BudgetSpent → (a : HasAccount plan count book book.ending) → ServedRestAll plan a.answers.serving.leading.serves book → ⊥
