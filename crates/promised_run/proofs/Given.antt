@@ -101,7 +101,7 @@ module _ (laws : RowsLaw) (law : RowLaw) (s : SlaveSpec) (w : Serves) (n : Node 
         let both : Some (owed_for number os) ≡ Some (mails_told (plain emission row.row.heard)) = sym here ∙ ap (λ l. slice_get l row.index) all.heard ∙ there in
         cc
 
-    step_of : IsStepOf s steps came number asked (is_in number dones) (owed_for number os)
+    step_of : IsStepOf s steps (passings w.lead.lived.life) came number asked (is_in number dones) (owed_for number os)
     step_of =
         let g = law s steps (passings w.lead.lived.life) (passed_rows w.lead.lived.life) (laws s w.lead.lived.life n d) row.index row.row row.is in
         let over = both_at (λ k p. is_in k dones ≡ true → p ≡ None) came (passings w.lead.lived.life) row.index number all.over row.its in
@@ -115,10 +115,11 @@ module _ (laws : RowsLaw) (law : RowLaw) (s : SlaveSpec) (w : Serves) (n : Node 
           same = subst (IsSame asked) same row.same;
           first = subst (λ ms. IsPrefixOf ms (mails_given s g.0)) (sym owed_is) (told_first (plain emission row.row.heard) (replies_to (profile_of s) s.boot s.station g.0.server g.0.mail) g.4.heard.begin);
           all = λ done. owed_is ∙ ap mails_told (g.4.heard.all (sym stands ∙ over.2 done));
+          over = λ none. owed_is ∙ ap mails_told (g.4.heard.all (let one : Some g.1 ≡ Some None = sym g.3 ∙ none in cc));
         }
 
   given_to : (waiting begun : List Request) (number heard : ℕ) (asked : Mail) → Fares w came waiting begun (is_in number dones) number heard asked (owed_for number os) →
-      IsGivenTo s steps (gave_of w.lead) came number heard asked (is_in number dones) (owed_for number os)
+      IsGivenTo s steps (passings w.lead.lived.life) (gave_of w.lead) came number heard asked (is_in number dones) (owed_for number os)
   given_to waiting begun number heard asked (waits a b none c) = still_waits b none c
   given_to waiting begun number heard asked (dropped a b c e given h) = is_dropped e c given h
   given_to waiting begun number heard asked (replies told row spared stands same) = takes (step_of number asked told row)

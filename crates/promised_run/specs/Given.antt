@@ -1,5 +1,5 @@
 -- WHAT EACH DATAGRAM OF A SERVING GOT, by what the servers of the slaves give for its mail.
-use Rattle.std.specs.Prelude.{◌≡◌, ℕ, zero, suc, Bool, true, false, Some, List, [], ◌∷◌, slice_get, Ok}
+use Rattle.std.specs.Prelude.{◌≡◌, ℕ, zero, suc, Bool, true, false, Option, Some, None, List, [], ◌∷◌, slice_get, Ok}
 use Rattle.exchange_model.specs.Prefix.{IsPrefixOf}
 use Rattle.gateway_core.specs.Framing.{request_in}
 use Rattle.gateway_run.specs.Replies.{IsSame, dones_of, mails_told}
@@ -15,8 +15,10 @@ use Rattle.run_book.specs.declared.book.GramIn.{GramIn}
 use Rattle.run_book.specs.of_master_tour.Made.{is_in}
 use Rattle.run_record.specs.Replay.{first_ring, ring_after}
 use Rattle.run_work.specs.Lives.{first_server}
+use Rattle.segment_model.specs.Ends.{Passing}
 use Rattle.segment_plan.specs.declared.plan.Scenario.{Scenario}
 use Rattle.segment_plan.specs.declared.slave.SlaveSpec.{SlaveSpec}
+use Rattle.served_places.specs.Rows.{passings}
 use Rattle.served_rings.specs.Given.{Given, given}
 use Rattle.served_rings.specs.Served.{AllServeSo, replies_to}
 use Rattle.served_runs.specs.Served.{Serves}
@@ -30,8 +32,8 @@ abbrev pub mails_given : SlaveSpec → Given → List Mail
 mails_given s step = mails_told (replies_to (profile_of s) s.boot s.station step.server step.mail)
 
 -- ITS MAIL CAME INTO HAND: it is the one at its place among those that came to the slave's server; what was owed for it are the first of the mails of the one step
--- that this server takes for it, in order, and where it is done all of them
-pub record IsStepOf (s : SlaveSpec) (steps : List Given) (came : List ℕ) (number : ℕ) (asked : Mail) (done : Bool) (mails : List Mail) : Type 0 where
+-- that this server takes for it, in order, and all of them where it is done, or is over by how far each of them has come in the life
+pub record IsStepOf (s : SlaveSpec) (steps : List Given) (reached : List (Option Passing)) (came : List ℕ) (number : ℕ) (asked : Mail) (done : Bool) (mails : List Mail) : Type 0 where
   pub index : ℕ
   pub its : slice_get came index ≡ Some number
   pub step : Given
@@ -39,13 +41,14 @@ pub record IsStepOf (s : SlaveSpec) (steps : List Given) (came : List ℕ) (numb
   pub same : IsSame asked step.mail
   pub first : IsPrefixOf mails (mails_given s step)
   pub all : done ≡ true → mails ≡ mails_given s step
+  pub over : slice_get reached index ≡ Some None → mails ≡ mails_given s step
 
 -- WHAT A DATAGRAM GOT that was queued at a slave, heard before this frame, by the frames at which the slave was given up: nothing while its mail waits, where it
 -- wasn't given up since; error 5 where it was, and the mail never came into hand; or what its slave's server gives for it
-pub data IsGivenTo (s : SlaveSpec) (steps : List Given) (gave came : List ℕ) (number heard : ℕ) (asked : Mail) (done : Bool) (mails : List Mail) : Type 0 where
-  waits : done ≡ false → NoneSince heard gave → mails ≡ [] → IsGivenTo s steps gave came number heard asked done mails
-  dropped : done ≡ false → is_in number came ≡ false → GaveSince heard gave → mails ≡ error_of 5 ∷ [] → IsGivenTo s steps gave came number heard asked done mails
-  takes : IsStepOf s steps came number asked done mails → IsGivenTo s steps gave came number heard asked done mails
+pub data IsGivenTo (s : SlaveSpec) (steps : List Given) (reached : List (Option Passing)) (gave came : List ℕ) (number heard : ℕ) (asked : Mail) (done : Bool) (mails : List Mail) : Type 0 where
+  waits : done ≡ false → NoneSince heard gave → mails ≡ [] → IsGivenTo s steps reached gave came number heard asked done mails
+  dropped : done ≡ false → is_in number came ≡ false → GaveSince heard gave → mails ≡ error_of 5 ∷ [] → IsGivenTo s steps reached gave came number heard asked done mails
+  takes : IsStepOf s steps reached came number asked done mails → IsGivenTo s steps reached gave came number heard asked done mails
 
 -- of one that was queued at the slave at this place, by what the slaves did
 abbrev pub IsGivenAt : (ss : List SlaveSpec) (ws : List Serves) (ns : List (Node Serving)) → AllServeSo ss ws ns → List (List ℕ) → ℕ → ℕ → ℕ → Mail → Bool → List Mail → Type 0
@@ -54,7 +57,7 @@ IsGivenAt (s ∷ ss) [] ns d cames place number heard asked done mails = ⊥
 IsGivenAt (s ∷ ss) (w ∷ ws) [] d cames place number heard asked done mails = ⊥
 IsGivenAt (s ∷ ss) (w ∷ ws) (n ∷ ns) d [] place number heard asked done mails = ⊥
 IsGivenAt (s ∷ ss) (w ∷ ws) (n ∷ ns) d (came ∷ cames) zero number heard asked done mails =
-    IsGivenTo s (given (profile_of s) s.boot s.station s.start (first_server s) w.lead.lived.life n d.0) (gave_of w.lead) came number heard asked done mails
+    IsGivenTo s (given (profile_of s) s.boot s.station s.start (first_server s) w.lead.lived.life n d.0) (passings w.lead.lived.life) (gave_of w.lead) came number heard asked done mails
 IsGivenAt (s ∷ ss) (w ∷ ws) (n ∷ ns) d (came ∷ cames) (suc place) number heard asked done mails = IsGivenAt ss ws ns d.1 cames place number heard asked done mails
 
 -- EACH DATAGRAM THAT WAS QUEUED AT A SLAVE got what that gives for its mail, by the lives that the frames of the book lead, which the slaves of the ring behind all
