@@ -34,6 +34,6 @@ alone plan book leads missed is known law runs frames lives =
     let run = runs fs missed leads (all_unpassed plan.services 0 plan.slaves) lives in
     record {
       serves = run.0;
-      alone = run.1.1;
-      slaves = stood_behind plan book.frames run.0 (law plan is known fs missed run.0 run.1.0 (all_round (first_ring plan) book.frames frames.recorded));
+      alone = run.2;
+      slaves = stood_behind plan book.frames run.0 (law plan is known fs missed run.0 run.1 (all_round (first_ring plan) book.frames frames.recorded));
     }
