@@ -36,7 +36,6 @@ mod Replied
 mod Rested
 pub mod Rings
 pub mod Rows
-mod RowsHeard
 mod RowsSeen
 pub mod Seen
 mod SeenRests
