@@ -17,7 +17,7 @@ use Rattle.ecmbx_call.specs.Course.{Course}
 use Rattle.promised_run.specs.Ran.{EndsAs, IsOver, IsCut}
 use Rattle.gateway_run.specs.Serving.{Told as PortTold}
 use Rattle.gateway_run.specs.Served.{IsServed}
-use Rattle.ecmbx_call.specs.Causes.{loaded_in, IsFound, UsageCause, AbsentCause, LongCause, RefusedCause, CameOf, GivenUpCause, SpentCause, PortCause, IsBroken, BrokenCause, EndingAt, RunsTo, SavesTo, ServesTo, ShowsTo, AuditsTo, MakesTo}
+use Rattle.ecmbx_call.specs.Causes.{loaded_in, IsFound, UsageCause, AbsentCause, LongCause, RefusedCause, CameOf, GivenUpCause, LeavesWork, SpentCause, PortCause, IsBroken, BrokenCause, EndingAt, RunsTo, SavesTo, ServesTo, ShowsTo, AuditsTo, MakesTo}
 use Rattle.ecmbx_call.proofs.Told.{Told, told, planned_is, settle_one, settle_two, held, held_long, no_file, no_made, told_usage, told_other, told_absent, told_long, told_refused, told_fault, told_broken, told_ran}
 use Rattle.ecmbx_call.proofs.Found.{found_told, found_refused, found_ran, found_kept, found_served, found_shown, found_audited}
 use Rattle.ecmbx_call.proofs.Endings.{given_ending, spent_ending, told_ending, told_port, told_made}
@@ -31,6 +31,11 @@ over_of words first last plan book _ (CameOf.served count f did) is = let so : I
 cut_of : (words : List (List ℕ)) (first last : PortTold) (plan : Scenario) (book : Book) (grams : ℕ) → CameOf words first last plan book grams → book.ending ≡ endings.BudgetSpent → IsCut plan grams book
 cut_of words first last plan book _ (CameOf.ran did) is = subst (λ e. EndsAs plan book e) is did.ending
 cut_of words first last plan book _ (CameOf.served count f did) is = let so : IsServed plan count first last book endings.BudgetSpent = subst (λ e. IsServed plan count first last book e) is did.served in so.0
+
+-- and something was left to do
+work_of : (words : List (List ℕ)) (first last : PortTold) (plan : Scenario) (book : Book) (grams : ℕ) (came : CameOf words first last plan book grams) → book.ending ≡ endings.BudgetSpent → LeavesWork came
+work_of words first last plan book _ (CameOf.ran did) is = did.promise.left is
+work_of words first last plan book _ (CameOf.served count f did) is = did.left is
 
 -- ---- the clauses
 
@@ -133,7 +138,8 @@ module _ (words : List (List ℕ)) (table saved : Option Table) (faulted : Type 
   spent_cause (inr (planned, text, c, ended)) is =
       let mine = planned_is statuses.BudgetSpent planned text old new status (λ sink. cc) ended is in
       let did = told_ran words table saved faulted first last book planned text (seen planned text c) endings.BudgetSpent mine refl in
-      (did.0, did.1, did.2, cut_of words first last did.0 book did.1 did.2 (spent_ending book.ending (sym did.3 ∙ mine)))
+      let spent = spent_ending book.ending (sym did.3 ∙ mine) in
+      (did.0, did.1, did.2, cut_of words first last did.0 book did.1 did.2 spent, work_of words first last did.0 book did.1 did.2 spent)
 
   pub ending_is : Followed (Course words table saved faulted first last book) old new status → EndingAt status book.ending
   ending_is (inl memory) = subst (λ s. EndingAt s book.ending) (sym memory) tt

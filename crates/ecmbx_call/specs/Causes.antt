@@ -14,6 +14,7 @@ use Rattle.scenario.specs.Document.{plan_of}
 use Rattle.run_book.specs.declared.book.Book.{Book}
 use Rattle.run_book.specs.declared.book.Ending.{Ending}
 use Rattle.run_book.specs.declared.book.Ending.TheVariants as endings
+use Rattle.promised_run.specs.Left.{LeavesSome, ServedLeavesSome}
 use Rattle.promised_run.specs.Ran.{IsOver, IsCut}
 use Rattle.run_report.specs.Report.{report_lines}
 use Rattle.run_report.specs.Saved.{capture_of}
@@ -97,10 +98,15 @@ abbrev pub GivenUpCause : List (List ℕ) → Told → Told → Book → Status 
 GivenUpCause words first last book status =
     status ≡ statuses.GivenUp → (plan : Scenario) × (grams : ℕ) × CameOf words first last plan book grams × IsOver plan book true
 
--- BudgetSpent comes only where as many frames were sent as the budget allows.
+-- something was left to do, by the lives that its frames lead
+abbrev pub LeavesWork : {words : List (List ℕ)} {first last : Told} {plan : Scenario} {book : Book} {grams : ℕ} → CameOf words first last plan book grams → Type 0
+LeavesWork {plan = plan} {book = book} (CameOf.ran did) = LeavesSome plan book did.promise.led
+LeavesWork {plan = plan} {book = book} (CameOf.served count is did) = ServedLeavesSome plan count book
+
+-- BudgetSpent comes only where as many frames were sent as the budget allows, and something was left to do.
 abbrev pub SpentCause : List (List ℕ) → Told → Told → Book → Status → Type 0
 SpentCause words first last book status =
-    status ≡ statuses.BudgetSpent → (plan : Scenario) × (grams : ℕ) × CameOf words first last plan book grams × IsCut plan grams book
+    status ≡ statuses.BudgetSpent → (plan : Scenario) × (grams : ℕ) × (came : CameOf words first last plan book grams) × IsCut plan grams book × LeavesWork came
 
 -- words that ask for a serving
 abbrev pub IsServing : List (List ℕ) → Type 0

@@ -97,6 +97,7 @@ module _ {S V A : Type 0} (w : Behind S V A Asked Reply) (spot : Spot) (fs : Lis
         opened_at = t.opened_at;
         before = t.before;
         within = t.within;
+        in_rows = t.in_rows;
         noted = are_noted w.exchange.speech spot.station gs anew e.account.started (rows_of (unpassed_side e.side)) e.account.over ns t.told.mails t.told.answers
             (record { hand = e.account.hand; whole = t.told.states; over = t.told.over; none = t.told.hand })
             (subst (λ ts. AllNoted ts ns) (sym (ap (λ rs. scripted_in anew e.account.started (answers_in rs) e.account.over) (rows_are e.side) ∙ scripted_same anew e.account.started (rows_of e.side) e.account.over (t.told.mails ∙ rows_keys e.side))) h);

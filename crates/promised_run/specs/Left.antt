@@ -7,10 +7,18 @@ use Rattle.run_book.specs.declared.book.Ending.TheVariants as endings
 use Rattle.run_record.specs.Led.{LedBook, RestAll}
 use Rattle.segment_plan.specs.declared.plan.Scenario.{Scenario}
 
--- OF A RUN, by the lives that its frames lead to
-abbrev pub IsLeft : (plan : Scenario) (book : Book) → LedBook plan book book.ending → Type 0
-IsLeft plan book led = book.ending ≡ endings.BudgetSpent → RestAll plan led.leads book → ⊥
+-- SOMETHING WAS LEFT TO DO in a run, by the lives that its frames lead to
+abbrev pub LeavesSome : (plan : Scenario) (book : Book) → LedBook plan book book.ending → Type 0
+LeavesSome plan book led = RestAll plan led.leads book → ⊥
 
--- of a serving the same, by each account of it
+-- in a serving, by each account of it
+abbrev pub ServedLeavesSome : Scenario → ℕ → Book → Type 0
+ServedLeavesSome plan count book = (a : HasAccount plan count book book.ending) → ServedRestAll plan a.answers.serving.leading.serves book → ⊥
+
+-- so it was where the budget of a run was spent
+abbrev pub IsLeft : (plan : Scenario) (book : Book) → LedBook plan book book.ending → Type 0
+IsLeft plan book led = book.ending ≡ endings.BudgetSpent → LeavesSome plan book led
+
+-- and where that of a serving was
 abbrev pub IsServedLeft : Scenario → ℕ → Book → Type 0
-IsServedLeft plan count book = book.ending ≡ endings.BudgetSpent → (a : HasAccount plan count book book.ending) → ServedRestAll plan a.answers.serving.leading.serves book → ⊥
+IsServedLeft plan count book = book.ending ≡ endings.BudgetSpent → ServedLeavesSome plan count book

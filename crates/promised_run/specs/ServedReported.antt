@@ -1,5 +1,6 @@
 -- EACH SERVICE OF A SCRIPT IS REPORTED with just what the frames of its epoch give for it, also while mails are passed on beside it.
 use Rattle.std.specs.Prelude.{◌≡◌, ◌≢◌, ℕ, suc, ◌<◌, ◌≤◌, Option, Some, None, List, [], ◌∷◌, ◌++◌, map, length, ⊤}
+use Rattle.exchange_model.specs.Rows.{heard_all}
 use Rattle.gateway_run.specs.Served.{HasAccount}
 use Rattle.life_model.specs.Eras.{era_frames}
 use Rattle.life_model.specs.Lives.{Spot, Era, Life, Stand}
@@ -16,7 +17,8 @@ use Rattle.run_promises.specs.Slaves.{services_of}
 use Rattle.run_record.specs.Led.{exchanged}
 use Rattle.run_record.specs.of_run_notes.Reports.{noted_in}
 use Rattle.script_runs.specs.Answers.{Noted, next_opened, opened_anew}
-use Rattle.segment_model.specs.Record.{Frame}
+use Rattle.segment_model.specs.Record.{Frame, heard}
+use Rattle.segment_model.specs.Seats.{rows_of}
 use Rattle.segment_plan.specs.declared.plan.Scenario.{Scenario}
 use Rattle.segment_plan.specs.declared.slave.SlaveSpec.{SlaveSpec}
 use Rattle.segment_plan.specs.of_exchange_model.Exchange.{Speech}
@@ -25,13 +27,15 @@ use Rattle.served_runs.specs.Served.{Serves}
 
 module _ (x : Speech Body Asked Reply) (spot : Spot) (fs : List (Frame Body)) where
   -- OF AN EPOCH from the frame that opened it to another, with the frame that opened its slave anew behind it: each service of the script that came into hand of it
-  -- has just the reply that the slave's own frames between these give
+  -- has just the reply that the slave's own frames between these give; and all mails that were heard by these frames were heard in the rows of the epoch, in order:
+  -- none before the first
   pub record EraNoted (anew : Option ℕ) (e : Era Body Asked Reply) (until : ℕ) (ns : List Noted) : Type 0 where
     pub opened : ℕ
     pub opened_at : e.opened ≡ Some opened
     pub before : opened < until
     pub within : until ≤ length fs
     pub noted : AreNoted x spot.station (era_frames spot opened until fs) anew e.account.started ns
+    pub in_rows : heard spot.station (era_frames spot opened until fs) ≡ heard_all (rows_of e.side)
 
   -- OF ALL THAT ARE OVER, with the frames that showed the return to Init behind the last and that opened the slave anew, and where the slave was given up: each that
   -- was opened was open up to a frame no later than the one that showed the return to Init behind it; of one that wasn't nothing came into hand

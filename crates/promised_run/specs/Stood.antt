@@ -13,6 +13,6 @@ abbrev pub nodes_through : Scenario → List SentFrame → ℕ → List (Node Se
 nodes_through plan fs frames = (ring_after (first_ring plan) (take frames fs)).nodes
 
 -- BEHIND THESE FRAMES each slave has carried out just the first of what came into hand of it, epoch by epoch, and as an epoch ended, behind the frame that showed its
--- return to Init, the slave's node held what was carried out of it
+-- return to Init, the slave's node held what was carried out of it; and one that was given up for good while it was open has the AL state of what was carried out
 abbrev pub StoodBehind : Scenario → List SentFrame → List Serves → Type 0
 StoodBehind plan fs ws = ServeStood (nodes_through plan fs) plan.slaves ws (ring_after (first_ring plan) fs).nodes

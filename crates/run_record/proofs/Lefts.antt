@@ -88,14 +88,18 @@ module _ (lens : ℕ → Lens) (l : Lan) where
         done = done_by d d.now idle.side.idle;
         hand = idle.hand;
       } in
-      inr (record {
-        known = known;
-        free = free;
-        held = idle.side.idle;
-        clear = idle.side.clear;
-        script = let n : a.number ≡ length a.script = idle.script in slice_get_past a.script a.number (omega (arith, n));
-        packet = none (ap is_led idle.stand);
-      }, out.over, out.waits)
+      inr (
+        record {
+          known = known;
+          free = free;
+          held = idle.side.idle;
+          clear = idle.side.clear;
+          script = let n : a.number ≡ length a.script = idle.script in slice_get_past a.script a.number (omega (arith, n));
+          packet = none (ap is_led idle.stand);
+        },
+        out.over,
+        out.waits,
+      )
 
   all_rest : (place : ℕ) (ms : List Recall) (ws : List Serves) → length ms ≡ length ws → AllKnow ms → All (IsServedOut lens) ws → NonePast place (map run_lead ws) → AllServedRest lens l place ms ws
   all_rest place [] [] same known out none = tt
@@ -179,9 +183,9 @@ module _ (plan : Scenario) (s : SessionState) (fs : List Exchanged) (w : Serving
 
     past : NonePast lens m.lan 0 (map run_lead ws)
     past = λ k is. subst (λ n. forwarded m.lan.switch m.lan.ports.items n ≡ []) (from_first k) (
-      (λ i. forwarded (sym w.forwarded.happened.switch i) (w.forwarded.ports i) k)
-      ∙ ap (λ (z : List SwitchEvent). forwarded (switched (ports_of plan.slaves) z).switch (ports_behind 0 plan.slaves) k) events ∙ none.slaves k is
-    )
+        (λ i. forwarded (sym w.forwarded.happened.switch i) (w.forwarded.ports i) k)
+        ∙ ap (λ (z : List SwitchEvent). forwarded (switched (ports_of plan.slaves) z).switch (ports_behind 0 plan.slaves) k) events ∙ none.slaves k is
+        )
       where
         from_first : (n : ℕ) → n ≡ 0 + n
         from_first n = omega arith

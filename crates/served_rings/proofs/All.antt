@@ -34,6 +34,7 @@ use Rattle.whole_ring.specs.Members.{AllLived}
 use Rattle.whole_ring.specs.Turning.{AllTurn, Turn, behind_frame, frame_at, given_up}
 use Rattle.served_rings.specs.Rings.{AllServedAt, ServedMember, counters_of, served_members}
 use Rattle.served_rings.proofs.One as One
+use Rattle.served_rings.proofs.Reopened.{AllReopen}
 
 module _ (plan : Scenario) (made : ℕ) (ds : List Raw.Datagram) (ring : RingState (Node Serving)) (f : Exchanged) (went : WentRound ring f) where
   abbrev lens : ℕ → Lens
@@ -145,13 +146,13 @@ module _ (plan : Scenario) (made : ℕ) (ds : List Raw.Datagram) (ring : RingSta
     )
 
 -- THOSE THAT A LOST FRAME GAVE UP are led still
-pub led_given : (lens : ℕ → Lens) (ss : List SlaveSpec) (gs hs : List (Frame Body)) (place : ℕ) (ms : List ServedMember) (ks : List Counters) (nodes : ℕ → List (Node Serving)) (bs : List Bool) (recover frame : ℕ) → AllLived lens step (FitsPlan ss) hs place ms →
+pub led_given : (lens : ℕ → Lens) (ss : List SlaveSpec) (gs hs : List (Frame Body)) (place : ℕ) (ms : List ServedMember) (ks : List Counters) (nodes : ℕ → List (Node Serving)) (bs : List Bool) (recover frame : ℕ) → AllReopen ms bs → AllLived lens step (FitsPlan ss) hs place ms →
     AllStoodMembers is_followed is_passed nodes gs ms ks → AllStoodMembers is_followed is_passed nodes gs (given_up recover frame ms bs) ks
-led_given lens ss gs hs place [] ks nodes bs recover frame lived led = led
-led_given lens ss gs hs place (m ∷ ms) [] nodes bs recover frame lived led = absurd led
-led_given lens ss gs hs place (m ∷ ms) (k ∷ ks) nodes [] recover frame lived led = led
-led_given lens ss gs hs place (m ∷ ms) (k ∷ ks) nodes (b ∷ bs) recover frame lived led = (one b, led_given lens ss gs hs (suc place) ms ks (others nodes) bs recover frame lived.1 led.1)
+led_given lens ss gs hs place [] ks nodes bs recover frame again lived led = led
+led_given lens ss gs hs place (m ∷ ms) [] nodes bs recover frame again lived led = absurd led
+led_given lens ss gs hs place (m ∷ ms) (k ∷ ks) nodes [] recover frame again lived led = led
+led_given lens ss gs hs place (m ∷ ms) (k ∷ ks) nodes (b ∷ bs) recover frame again lived led = (one b, led_given lens ss gs hs (suc place) ms ks (others nodes) bs recover frame again.1 lived.1 led.1)
   where
     one : (b : Bool) → StoodMember is_followed is_passed (IsFirst nodes) gs (if b then record m { life = gives_up recover m.spot frame m.life } else m) k
-    one true = Stood.gives m.services m.clearing m.plan m.spot lived.0.whole is_followed is_passed (IsFirst nodes) m.first m.life gs m.node recover frame k.kept k.counts k.kept k.counts led.0
+    one true = Stood.gives m.services m.clearing m.plan m.spot lived.0.whole is_followed is_passed (IsFirst nodes) m.first m.life gs m.node recover frame k.kept k.counts k.kept k.counts again.0 led.0
     one false = led.0

@@ -34,6 +34,7 @@ pub mod Passed
 mod RestAll
 mod Replied
 mod Rested
+pub mod Reopened
 pub mod Rings
 pub mod Rows
 mod RowsSeen

@@ -25,6 +25,8 @@ use Rattle.segment_plan.specs.declared.slave.SlaveSpec.{SlaveSpec}
 use Rattle.segment_ring.specs.Ring.{RingState, ring_behind}
 use Rattle.segment_ring.specs.Schedule.{fate_at}
 use Rattle.segment_ring.specs.declared.wire.Fate.{Fate}
+use Rattle.segment_ring.specs.declared.wire.Fate.TheVariants.{Lost, Pass}
+use Rattle.served_rings.proofs.Reopened.{AllOpened, AllReopen, all_back, all_first, all_given, all_lost, all_reopen, none_given}
 use Rattle.served_runs.specs.Served.{Keyed, Serves, ServedTurn, AllServedTurn, IsServedFrame, IsServedLed, all_serve, asked_at, served_behind}
 use Rattle.slave_lives.specs.Rings.{fate_seen}
 use Rattle.slave_server.specs.Serving.{Serving}
@@ -96,8 +98,12 @@ module _ (plan : Scenario) (is : Plan.IsPlan plan) (known : IsKnown plan) (stood
   boots : AllBoot plan.services 0 plan.slaves
   boots = all_boot (length plan.slaves) plan.slaves [] plan.slaves refl plan.services is.laid.services known.states
 
+  -- with the states in which all epochs are opened
+  abbrev LivesOpened : List Exchanged → List Serves → Type 0
+  LivesOpened fs ws = (x : AreStoodLived stood plan fs ws) × AllOpened (length fs) (served_members lens 0 plan.slaves ws x.nodes)
+
   -- BY A FRAME
-  module _ (fs : List Exchanged) (missed : ℕ) (ws : List Serves) (f : Exchanged) (vs : List ServedTurn) (x : AreStoodLived stood plan fs ws) (y : IsServedFrame lens (length fs) f.sent ws vs) (went : WentRound (ring_after (ring_of plan) fs) f) (are : AreNodes plan (fs ++ f ∷ []) stood) where
+  module _ (fs : List Exchanged) (missed : ℕ) (ws : List Serves) (f : Exchanged) (vs : List ServedTurn) (x : AreStoodLived stood plan fs ws) (y : IsServedFrame lens (length fs) f.sent ws vs) (went : WentRound (ring_after (ring_of plan) fs) f) (are : AreNodes plan (fs ++ f ∷ []) stood) (opened : AllOpened (length fs) (served_members lens 0 plan.slaves ws x.nodes)) where
     abbrev ring : RingState (Node Serving)
     ring = ring_after (ring_of plan) fs
 
@@ -146,34 +152,57 @@ module _ (plan : Scenario) (is : Plan.IsPlan plan) (known : IsKnown plan) (stood
     led_on : AllStoodMembers is_followed is_passed stood (gs ++ frame_at lens ring f.sent ∷ []) (Behind (fate_at ring.lose ring.number)) (all_counters (length gs) (frame_at lens ring f.sent) ms (map counters_of ws))
     led_on = led_turns lens step (FitsPlan plan.slaves) is_followed is_passed gs ring f.sent y.datagrams y.frame ms (map counters_of ws) turns stood nodes_on x.lives asks x.led (Every.all_told plan (length gs) y.datagrams ring f went gs 0 plan.slaves ws x.nodes vs each x.at)
 
-    by_fate : (fate : Fate) → fate_at ring.lose ring.number ≡ fate → AreStoodLived stood plan (fs ++ f ∷ []) (map (served_behind lens plan.recover plan.retry gives (length gs) f) vs)
+    opened_here : AllOpened (length gs) ms
+    opened_here = subst (λ (n : ℕ). AllOpened n ms) (sym many) opened
+
+    -- those that are given up, each time a frame is lost, and all of them behind it
+    reopen : (fate : Fate) → AllReopen (Behind fate) (Every.carried plan (length gs) y.datagrams ring f went gs gives fate vs)
+    reopen Pass = all_reopen (suc (length gs)) (Behind Pass) [] (all_back lens (length gs) (frame_at lens ring f.sent) 0 0 plan.slaves ws x.nodes turns (chained y.datagrams) opened_here)
+    reopen (Lost after) =
+        all_reopen (length gs) (Behind (Lost after)) (Every.carried plan (length gs) y.datagrams ring f went gs gives (Lost after) vs) (all_lost lens (length gs) (frame_at lens ring f.sent) after 0 0 plan.slaves ws x.nodes turns (chained y.datagrams) opened_here)
+
+    opened_on : (fate : Fate) → AllOpened (suc (length gs)) (Given fate)
+    opened_on Pass = none_given plan.recover (length gs) (suc (length gs)) (Behind Pass) (all_back lens (length gs) (frame_at lens ring f.sent) 0 0 plan.slaves ws x.nodes turns (chained y.datagrams) opened_here)
+    opened_on (Lost after) =
+        all_given plan.recover (length gs) (Behind (Lost after)) (Every.carried plan (length gs) y.datagrams ring f went gs gives (Lost after) vs) (all_lost lens (length gs) (frame_at lens ring f.sent) after 0 0 plan.slaves ws x.nodes turns (chained y.datagrams) opened_here)
+
+    by_fate : (fate : Fate) → fate_at ring.lose ring.number ≡ fate → LivesOpened (fs ++ f ∷ []) (map (served_behind lens plan.recover plan.retry gives (length gs) f) vs)
     by_fate fate at =
         let hs = gs ++ frame_at lens ring f.sent ∷ [] in
         let here = subst (λ (z : Fate). IsRing lens step (FitsPlan plan.slaves) hs (ring_behind node_passed step ring f.sent) (Behind z)) at ring_on in
         let led = subst (λ (z : Fate). AllStoodMembers is_followed is_passed stood hs (Behind z) (all_counters (length gs) (frame_at lens ring f.sent) ms (map counters_of ws))) at led_on in
         let given = Begins.ring_given lens step (FitsPlan plan.slaves) hs plan.recover (length gs) (ring_behind node_passed step ring f.sent) (Behind fate) (Every.carried plan (length gs) y.datagrams ring f went gs gives fate vs) here in
-        let led_given = Every.led_given lens plan.slaves hs hs 0 (Behind fate) (all_counters (length gs) (frame_at lens ring f.sent) ms (map counters_of ws)) stood (Every.carried plan (length gs) y.datagrams ring f went gs gives fate vs) plan.recover (length gs) here.each led in
+        let led_given = Every.led_given lens plan.slaves hs hs 0 (Behind fate) (all_counters (length gs) (frame_at lens ring f.sent) ms (map counters_of ws)) stood (Every.carried plan (length gs) y.datagrams ring f went gs gives fate vs) plan.recover (length gs) (reopen fate) here.each led in
         let same = Every.all_behind plan (length gs) y.datagrams ring f went gs plan.recover gives fate at (went.fate ∙ at) 0 plan.slaves ws x.nodes vs each (chained y.datagrams) x.lives.each x.at in
         let kept = Every.all_kept plan (length gs) y.datagrams ring f went gs plan.recover gives fate at (went.fate ∙ at) 0 plan.slaves ws x.nodes vs each x.lives.each x.at in
         let now = map (served_behind lens plan.recover plan.retry gives (length gs) f) vs in
-        let nodes = Every.nodes_behind plan (length gs) y.datagrams ring f went gs fate 0 ws x.nodes plan.slaves (chained y.datagrams) in
-        record {
-          nodes = nodes;
-          lives = subst (λ (r : RingState (Node Serving)). IsRing lens step (FitsPlan plan.slaves) (all_seen lens (fs ++ f ∷ [])) r (served_members lens 0 plan.slaves now nodes)) (sym (one_after (ring_of plan) fs f))
-              (subst (λ (ks : List (Frame Body)). IsRing lens step (FitsPlan plan.slaves) ks (behind ring f.sent) (served_members lens 0 plan.slaves now nodes)) frames_are
-              (subst (λ (ns : List ServedMember). IsRing lens step (FitsPlan plan.slaves) hs (behind ring f.sent) ns) same given));
-          led = subst (λ (ks : List (Frame Body)). AllStoodMembers is_followed is_passed stood ks (served_members lens 0 plan.slaves now nodes) (map counters_of now)) frames_are
-              (subst (λ (ns : List ServedMember). AllStoodMembers is_followed is_passed stood hs ns (map counters_of now)) same
-              (subst (λ (ks : List Counters). AllStoodMembers is_followed is_passed stood hs (Given fate) ks) kept led_given));
-          at = Every.all_at plan (length gs) y.datagrams ring f went gs plan.recover gives fate 0 plan.slaves ws x.nodes vs each (chained y.datagrams) x.lives.each x.at;
-        }
+        let nodes = Every.nodes_behind plan (length gs) y.datagrams ring f went gs fate 0 ws x.nodes plan.slaves (chained y.datagrams) in (
+          record {
+            nodes = nodes;
+            lives = subst (λ (r : RingState (Node Serving)). IsRing lens step (FitsPlan plan.slaves) (all_seen lens (fs ++ f ∷ [])) r (served_members lens 0 plan.slaves now nodes)) (sym (one_after (ring_of plan) fs f))
+                (subst (λ (ks : List (Frame Body)). IsRing lens step (FitsPlan plan.slaves) ks (behind ring f.sent) (served_members lens 0 plan.slaves now nodes)) frames_are
+                (subst (λ (ns : List ServedMember). IsRing lens step (FitsPlan plan.slaves) hs (behind ring f.sent) ns) same given));
+            led = subst (λ (ks : List (Frame Body)). AllStoodMembers is_followed is_passed stood ks (served_members lens 0 plan.slaves now nodes) (map counters_of now)) frames_are
+                (subst (λ (ns : List ServedMember). AllStoodMembers is_followed is_passed stood hs ns (map counters_of now)) same
+                (subst (λ (ks : List Counters). AllStoodMembers is_followed is_passed stood hs (Given fate) ks) kept led_given));
+            at = Every.all_at plan (length gs) y.datagrams ring f went gs plan.recover gives fate 0 plan.slaves ws x.nodes vs each (chained y.datagrams) x.lives.each x.at;
+          },
+          subst (λ (z : ℕ). AllOpened z (served_members lens 0 plan.slaves now nodes)) (ap suc many ∙ sym (longer fs f)) (subst (λ (ns : List ServedMember). AllOpened (suc (length gs)) ns) same (opened_on fate)),
+        )
 
-    goes_on : AreStoodLived stood plan (fs ++ f ∷ []) (map (served_behind lens plan.recover plan.retry gives (length fs) f) vs)
-    goes_on = subst (λ (made : ℕ). AreStoodLived stood plan (fs ++ f ∷ []) (map (served_behind lens plan.recover plan.retry gives made f) vs)) many (by_fate (fate_at ring.lose ring.number) refl)
+    goes_on : LivesOpened (fs ++ f ∷ []) (map (served_behind lens plan.recover plan.retry gives (length fs) f) vs)
+    goes_on = subst (λ (made : ℕ). LivesOpened (fs ++ f ∷ []) (map (served_behind lens plan.recover plan.retry gives made f) vs)) many (by_fate (fate_at ring.lose ring.number) refl)
 
   -- THE WHOLE SERVING
+  all_lives : (fs : List Exchanged) (missed : ℕ) (ws : List Serves) → IsServedLed lens plan.recover plan.retry (all_serve plan.paces (first_leads plan)) fs missed ws → AllRound (ring_of plan) fs → AreNodes plan fs stood → LivesOpened fs ws
+  unfolding asked_lives
+  all_lives _ _ _ IsServedLed.start r are = (begins, all_first lens plan.services 0 plan.slaves plan.paces begins.nodes)
+  all_lives _ _ _ (IsServedLed.asks fs missed ws place k l may) r are =
+      let x = all_lives fs missed ws l r are in
+      (asked_lives stood plan fs ws place k x.0, subst (λ (ms : List ServedMember). AllOpened (length fs) ms) (sym (asked_members lens 0 place k plan.slaves ws x.0.nodes)) x.1)
+  all_lives _ _ _ (IsServedLed.on fs missed ws f vs l y) r are =
+      let x = all_lives fs missed ws l (front_round (ring_of plan) fs f r) (front_nodes plan fs f stood are) in
+      goes_on fs missed ws f vs x.0 y (last_round (ring_of plan) fs f r) are x.1
+
   pub served_lives : (fs : List Exchanged) (missed : ℕ) (ws : List Serves) → IsServedLed lens plan.recover plan.retry (all_serve plan.paces (first_leads plan)) fs missed ws → AllRound (ring_of plan) fs → AreNodes plan fs stood → AreStoodLived stood plan fs ws
-  served_lives _ _ _ IsServedLed.start r are = begins
-  served_lives _ _ _ (IsServedLed.asks fs missed ws place k l may) r are = asked_lives stood plan fs ws place k (served_lives fs missed ws l r are)
-  served_lives _ _ _ (IsServedLed.on fs missed ws f vs l y) r are =
-      goes_on fs missed ws f vs (served_lives fs missed ws l (front_round (ring_of plan) fs f r) (front_nodes plan fs f stood are)) y (last_round (ring_of plan) fs f r) are
+  served_lives fs missed ws l r are = (all_lives fs missed ws l r are).0

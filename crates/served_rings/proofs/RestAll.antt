@@ -93,6 +93,6 @@ module _ (plan : Scenario) where
   all_done stood place (s ∷ ss) [] ns long served at has = absurd at
   all_done stood place (s ∷ ss) (w ∷ ws) [] long served at has = absurd at
   all_done stood place (s ∷ ss) (w ∷ ws) (n ∷ ns) long served at has = (
-    (λ idle settled. one_done (IsFirst stood) place s w n served.each.0 served.held.0 at.0 (All-head (HasServed lens) w ws has) long.0.0 long.0.1 idle settled),
+    (λ idle settled. one_done (IsFirst stood) place s w n served.each.0 served.held.0.past at.0 (All-head (HasServed lens) w ws has) long.0.0 long.0.1 idle settled),
     all_done (others stood) (suc place) ss ws ns long.1 (record { each = served.each.1; held = served.held.1 }) at.1 (All-tail (HasServed lens) w ws has),
   )

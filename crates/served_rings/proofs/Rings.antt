@@ -119,4 +119,4 @@ all_led more passed fs (m ∷ ms) [] nodes stood = absurd stood
 all_led more passed fs (m ∷ ms) (k ∷ ks) nodes stood = (one stood.0, all_led more passed fs ms ks (others nodes) stood.1)
   where
     one : StoodMember more passed (IsFirst nodes) fs m k → LedMember more passed fs m k
-    one x = record { from = x.from; past = x.past.0; now = x.now; runs = x.runs; boot = x.boot }
+    one x = record { from = x.0.from; past = x.0.past.0; now = x.0.now; runs = x.0.runs; boot = x.0.boot }

@@ -53,4 +53,4 @@ module _ (speaks : (p : Profile) → IsProfile p → IsSpeaker (speaker p)) (for
       let profile : IsProfile (profile_of s) = record { out_least = here.out_least; out_most = here.out_most; back_least = here.in_least; back_most = here.in_most; mac = macs.0 } in
       let one = life_served (profile_of s) (speaks (profile_of s) profile) (forgets (profile_of s)) s.boot lens (behind (profile_of s) s.boot lens) (spot_of place s) (IsFirst stood) (plan_of s) w.kept w.counts (first_server s) w.lead.lived.life gs n led.0 in
       let rest = all_serve_so (others stood) (suc place) ss ws ns (All-tail IsSlave s ss slaves) macs.1 led.1 at.1 in
-      record { each = (one.0, rest.each); held = (one.1, rest.held) }
+      record { each = (one.0, rest.each); held = (record { past = one.1; state = one.2 }, rest.held) }

@@ -1,5 +1,5 @@
 -- EPOCH BY EPOCH: what a slave of a serving did in its life.
-use Rattle.std.proofs.Common.{◌≡◌, ◌≢◌, ℕ, Bool, false, Option, List, refl, ap, sym, ◌∙◌}
+use Rattle.std.proofs.Common.{◌≡◌, ◌≢◌, inl, inr, ℕ, Bool, false, Option, List, [], ◌∷◌, ◌++◌, refl, ap, sym, ◌∙◌, subst}
 use Rattle.frame_view.specs.View.{Lens}
 use Rattle.frames_seen.specs.Slaves.{registers_seen}
 use Rattle.served_rings.specs.Lives.{LedKept, LedYet, LedLeft, AllLeds}
@@ -24,9 +24,10 @@ use Rattle.state_exchange.specs.Families.{InState}
 use Rattle.life_counts.specs.Epochs.{IsSpeaker}
 use Rattle.whole_ring.specs.Whole.{OpensBy, StandsBy}
 use Rattle.served_rings.specs.Served.{AreServedEras, Holds, IsServedEra, IsServedNewest, IsServedLife, NothingCame}
-use Rattle.served_rings.specs.Stood.{AllHeld, HeldAt}
-use Rattle.served_rings.specs.StoodLives.{AllBegin, BeginsAt, IsStoodLived}
+use Rattle.served_rings.specs.Stood.{AllHeld, GoneOpen, HeldAt, StateStands}
+use Rattle.served_rings.specs.StoodLives.{AllBegin, BeginsAt, IsStoodLived, LeftOpen, StandsUp}
 use Rattle.served_rings.proofs.Epochs.{era_served}
+use Rattle.served_rings.proofs.Newest.{snoc_same}
 
 pub not_open : (o : Opening) → Stand.Opens o ≢ Stand.Open
 not_open o e = cc
@@ -125,10 +126,27 @@ module _ (p : Profile) (k : IsSpeaker (speaker p)) (forgets : Forgets (speaker p
       IsServedNewest.lives _ one.done refl refl one.was one.rests
   newest_served plan kept counts from at same e fs Stand.Gone n now = opens_served plan from at same e fs Stand.Gone gone_not_open n (opening_again spot.start false) now
 
+  -- the newest; where it was given up for good while it was open its AL state stands
+  newest_stood : (stood : ℕ → Node Serving → Type 0) (plan : Plan) (kept : Kept) (counts : Bool) (from at : InState Server) → from.inner ≡ at.inner → (l : Life Body Asked Reply) (fs : List (Frame Body)) (stand : Stand) (n : Node Serving) →
+      StandsBy w (λ a d gs m. LedKept w is_followed is_passed spot kept counts a d gs m) (λ a d gs m. LedYet w is_followed is_passed spot a d gs m) (λ a d gs s. LedLeft w is_followed is_passed spot a d s) plan spot from l.era fs stand n →
+      StandsUp w is_followed is_passed spot stood serves_clearing.cleared from l fs n stand → (d : Newest at l.era n stand) × (stand ≡ Stand.Gone → (before : List ℕ) (last : ℕ) → l.gave ≡ before ++ last ∷ [] → LeftOpen before l.era → StateStands p boot spot.station spot.start at l.era n stand d)
+  newest_stood stood plan kept counts from at same l fs (Stand.Opens o) n now up =
+      (newest_served plan kept counts from at same l.era fs (Stand.Opens o) n now, λ gone before last gave left. absurd (let no_ : Stand.Opens o ≡ Stand.Gone = gone in cc))
+  newest_stood stood plan kept counts from at same l fs Stand.Open n now up = (newest_served plan kept counts from at same l.era fs Stand.Open n now, λ gone before last gave left. absurd (let no_ : Stand.Open ≡ Stand.Gone = gone in cc))
+  newest_stood stood plan kept counts from at same l fs Stand.Gone n now (gave_before, last_gave, gave_is, inl still) =
+      let x = still.lives.epoch in
+      let one = era_served p k forgets boot lens spot from x.led l.era fs n x.era behind at same in
+      (IsServedNewest.over Stand.Gone gone_not_open _ one.done one.was (left_holds _ l.era _ one.done one.was.era n n.server refl refl), λ gone before last gave left. sym one.was.era.state)
+  newest_stood stood plan kept counts from at same l fs Stand.Gone n now (gave_before, last_gave, gave_is, inr never) = (
+    newest_served plan kept counts from at same l.era fs Stand.Gone n now,
+    λ gone before last gave left. absurd (never (subst (λ (gs : List ℕ). LeftOpen gs l.era) (snoc_same before gave_before last last_gave (sym gave ∙ gave_is)).0 left)),
+  )
+
   -- THE WHOLE LIFE, and what the slave held as each epoch that is over ended
   pub life_served : (stood : ℕ → Node Serving → Type 0) (plan : Plan) (kept : Kept) (counts : Bool) (first : InState Server) (l : Life Body Asked Reply) (fs : List (Frame Body)) (n : Node Serving) →
       IsStoodLived w is_followed is_passed spot stood serves_clearing.cleared plan kept counts first l fs n →
-      (d : IsServedLife p boot spot.station spot.start first l n) × AllHeld p boot spot.station stood spot.start first l.past d.from d.past l.era.cleared
+      (d : IsServedLife p boot spot.station spot.start first l n) × AllHeld p boot spot.station stood spot.start first l.past d.from d.past l.era.cleared × (GoneOpen l → StateStands p boot spot.station spot.start d.from l.era n l.stand d.newest)
   life_served stood plan kept counts first l fs n i =
-      let before = past_served stood first l.past i.from i.past.0 l.era.cleared i.past.1 in
-      (record { from = before.at; past = before.all; newest = newest_served plan kept counts i.from before.at before.same l.era fs l.stand n i.now }, before.held)
+      let before = past_served stood first l.past i.0.from i.0.past.0 l.era.cleared i.0.past.1 in
+      let newest = newest_stood stood plan kept counts i.0.from before.at before.same l fs l.stand n i.0.now i.1 in
+      (record { from = before.at; past = before.all; newest = newest.0 }, before.held, λ g. newest.1 g.gone g.before g.last g.gave g.left)

@@ -1,6 +1,8 @@
--- WHAT STOOD AS EACH EPOCH OF A SLAVE ENDED: its node held what was carried out of it. So what is said of an epoch that is over is what was so as it ended.
-use Rattle.std.specs.Prelude.{◌≡◌, ℕ, Bool, Option, Some, List, ◌∷◌, ⊤}
-use Rattle.life_model.specs.Lives.{Era}
+-- WHAT STOOD AS EACH EPOCH OF A SLAVE ENDED: its node held what was carried out of it. So what is said of an epoch that is over is what was so as it ended. And the
+-- AL state of a slave that was given up for good while it was open.
+use Rattle.std.specs.Prelude.{◌≡◌, ℕ, Bool, Option, Some, List, [], ◌∷◌, ◌++◌, ⊤}
+use Rattle.frames_seen.specs.Slaves.{registers_seen}
+use Rattle.life_model.specs.Lives.{Era, Life, Stand}
 use Rattle.life_runs.specs.Led.{Exchanged}
 use Rattle.link_mails.specs.Body.{Body}
 use Rattle.master_duty.specs.Reply.{Reply}
@@ -10,8 +12,8 @@ use Rattle.run_work.specs.Lives.{first_server}
 use Rattle.segment_plan.specs.declared.plan.Scenario.{Scenario}
 use Rattle.segment_plan.specs.declared.slave.SlaveSpec.{SlaveSpec}
 use Rattle.served_rings.specs.Rings.{nodes_behind}
-use Rattle.served_rings.specs.Served.{AllServeSo, AreServedEras, Holds}
-use Rattle.served_rings.specs.StoodLives.{IsFirst, others}
+use Rattle.served_rings.specs.Served.{AllServeSo, AreServedEras, Holds, IsServedLife, IsServedNewest}
+use Rattle.served_rings.specs.StoodLives.{IsFirst, LeftOpen, others}
 use Rattle.served_runs.specs.Served.{Serves}
 use Rattle.slave_model.specs.Profile.{Profile}
 use Rattle.slave_parts.specs.Parts.{Server}
@@ -36,10 +38,29 @@ module _ (p : Profile) (boot : Bool) (station : ℕ) (stood : ℕ → Node Servi
   AllHeld start first _ _ (AreServedEras.unopened es b e before none) cleared = AllHeld start first es b before e.cleared × HeldAt stood b cleared
   AllHeld start first _ _ (AreServedEras.opened es b e left done before was) cleared = AllHeld start first es b before e.cleared × HeldAt stood done cleared
 
--- of each slave of a plan, by the nodes of these slaves behind each number of frames
+module _ (p : Profile) (boot : Bool) (station : ℕ) where
+  -- THE NEWEST EPOCH WAS OPEN, and the AL state of the node is that of what was carried out
+  abbrev pub StateStands : (start : ℕ) (from : InState Server) (e : Era Body Asked Reply) (n : Node Serving) (stand : Stand) → IsServedNewest p boot station start from e n stand → Type 0
+  StateStands start from e n _ (IsServedNewest.lives left done inner state was rests) = done.state ≡ (registers_seen n.registers).state
+  StateStands start from e n _ (IsServedNewest.unopened stand shut none holds) = ⊥
+  StateStands start from e n _ (IsServedNewest.over stand shut left done was holds) = done.state ≡ (registers_seen n.registers).state
+
+-- A SLAVE THAT WAS GIVEN UP FOR GOOD WHILE IT WAS OPEN: none of its give-ups but the last came since its epoch began, and no state service in hand returns it to Init
+pub record GoneOpen (l : Life Body Asked Reply) : Type 0 where
+  pub gone : l.stand ≡ Stand.Gone
+  pub before : List ℕ
+  pub last : ℕ
+  pub gave : l.gave ≡ before ++ last ∷ []
+  pub left : LeftOpen before l.era
+
+-- of a slave of a plan: so it was as each epoch that is over ended; and where it was given up for good while it was open its AL state stands
+pub record HeldSo (stood : ℕ → Node Serving → Type 0) (s : SlaveSpec) (l : Life Body Asked Reply) (n : Node Serving) (d : IsServedLife (profile_of s) s.boot s.station s.start (first_server s) l n) : Type 0 where
+  pub past : AllHeld (profile_of s) s.boot s.station stood s.start (first_server s) l.past d.from d.past l.era.cleared
+  pub state : GoneOpen l → StateStands (profile_of s) s.boot s.station s.start d.from l.era n l.stand d.newest
+
+-- of each, by the nodes of these slaves behind each number of frames
 abbrev pub EachHeld : (ℕ → List (Node Serving)) → (ss : List SlaveSpec) (ws : List Serves) (ns : List (Node Serving)) → AllServeSo ss ws ns → Type 0
-EachHeld stood (s ∷ ss) (w ∷ ws) (n ∷ ns) served =
-    AllHeld (profile_of s) s.boot s.station (IsFirst stood) s.start (first_server s) w.lead.lived.life.past served.0.from served.0.past w.lead.lived.life.era.cleared × EachHeld (others stood) ss ws ns served.1
+EachHeld stood (s ∷ ss) (w ∷ ws) (n ∷ ns) served = HeldSo (IsFirst stood) s w.lead.lived.life n served.0 × EachHeld (others stood) ss ws ns served.1
 EachHeld stood _ _ _ served = ⊤
 
 -- EACH SLAVE SERVED SO, and as each of its epochs ended its node held what was carried out of it

@@ -1,7 +1,8 @@
 -- A LIFE BY EPOCHS THAT ITS MASTER LEADS, with the slave as it stood where each epoch that is over ended.
-use Rattle.std.specs.Prelude.{◌≡◌, ℕ, suc, Bool, Option, Some, List, [], ◌∷◌, take, drop, ⊤}
+use Rattle.std.specs.Prelude.{◌≡◌, ◌⊎◌, ◌<◌, ℕ, suc, Bool, Option, Some, List, [], ◌∷◌, ◌++◌, take, drop, All, ⊤}
 use Rattle.frames_seen.specs.Slaves.{registers_seen}
-use Rattle.life_model.specs.Lives.{Spot, Era, Life}
+use Rattle.life_model.specs.Lives.{Spot, Era, Life, Stand}
+use Rattle.life_runs.specs.Causes.{IsOwn, since}
 use Rattle.link_mails.specs.Body.{Body}
 use Rattle.segment_model.specs.Record.{Frame, Kept}
 use Rattle.served_rings.specs.LedRings.{Counters}
@@ -10,7 +11,7 @@ use Rattle.slave_lives.specs.Lived.{Behind}
 use Rattle.slave_lives.specs.Opening.{Plan}
 use Rattle.slave_steps.specs.Node.{Node}
 use Rattle.whole_ring.specs.Members.{Member}
-use Rattle.whole_ring.specs.Whole.{IsLivedBy}
+use Rattle.whole_ring.specs.Whole.{IsLivedBy, LivesStillBy}
 
 -- of the nodes of slaves behind each number of frames, this one is the first behind the frame with this number
 abbrev pub IsFirst : {S : Type 0} → (ℕ → List (Node S)) → ℕ → Node S → Type 0
@@ -29,6 +30,14 @@ pub record BeginsAt {S V A Q R : Type 0} (w : Behind S V A Q R) (stood : ℕ →
   pub al : ℕ
   pub begins : b ≡ w.exchange.app (w.sees al (w.running.clear node.server)).server
 
+-- OF AN EPOCH IN WHICH ITS SLAVE WAS GIVEN UP FOR GOOD, with the give-ups before: it was open, none of these came since it began, and no state service in hand returns
+-- the slave to Init. So no reopening of the slave began since the epoch was opened
+pub record LeftOpen {M Q R : Type 0} (before : List ℕ) (e : Era M Q R) : Type 0 where
+  pub opened : ℕ
+  pub opened_at : e.opened ≡ Some opened
+  pub quiet : All (λ g. g < since e.cleared) before
+  pub stays : IsOwn e → ⊥
+
 module _ {S V A Q R : Type 0} (w : Behind S V A Q R) (more : Body → Bool) (passed : Q → Bool) (spot : Spot) (stood : ℕ → Node S → Type 0) (clear : A → A) where
   -- so each behind one that is over, the last by the frame with which the newest was cleared
   abbrev pub AllBegin : (a : A) (es : List (Era Body Q R)) (b : A) → AllLeds w more passed spot clear a es b → Option ℕ → Type 0
@@ -41,10 +50,21 @@ module _ {S V A Q R : Type 0} (w : Behind S V A Q R) (more : Body → Bool) (pas
   abbrev pub Stood : A → List (Era Body Q R) → A → Option ℕ → Type 0
   Stood a es b cleared = (all : AllLeds w more passed spot clear a es b) × AllBegin a es b all cleared
 
+  -- its epochs
+  abbrev pub IsStoodBy : Plan → Kept → Bool → A → Life Body Q R → List (Frame Body) → Node S → Type 0
+  IsStoodBy p kept counts first l fs n =
+      IsLivedBy w (λ a e gs m. LedKept w more passed spot kept counts a e gs m) (λ a e gs m. LedYet w more passed spot a e gs m) (λ a e gs s. LedLeft w more passed spot a e s) (λ gs a es b. Stood a es b l.era.cleared) p spot first l fs n
+
+  -- ONE GIVEN UP FOR GOOD, last of its give-ups: it stays up and lives its epoch on, or that isn't one in which it was open then
+  abbrev pub StandsUp : A → Life Body Q R → List (Frame Body) → Node S → Stand → Type 0
+  StandsUp from l fs n (Stand.Opens o) = ⊤
+  StandsUp from l fs n Stand.Open = ⊤
+  StandsUp from l fs n Stand.Gone =
+      (before : List ℕ) × (last : ℕ) × (l.gave ≡ before ++ last ∷ []) × (LivesStillBy w from l.era (λ a e gs m. LedYet w more passed spot a e gs m) fs n ⊎ (LeftOpen before l.era → ⊥))
+
   -- THE LIFE
   abbrev pub IsStoodLived : Plan → Kept → Bool → A → Life Body Q R → List (Frame Body) → Node S → Type 0
-  IsStoodLived p kept counts first l fs n =
-      IsLivedBy w (λ a e gs m. LedKept w more passed spot kept counts a e gs m) (λ a e gs m. LedYet w more passed spot a e gs m) (λ a e gs s. LedLeft w more passed spot a e s) (λ gs a es b. Stood a es b l.era.cleared) p spot first l fs n
+  IsStoodLived p kept counts first l fs n = (i : IsStoodBy p kept counts first l fs n) × StandsUp i.from l fs n l.stand
 
 module _ {S V A Q R : Type 0} (more : Body → Bool) (passed : Q → Bool) where
   -- A SLAVE'S LIFE up to the last of these frames

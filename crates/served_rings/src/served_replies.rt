@@ -25,7 +25,7 @@ ghost use Rattle.state_exchange.specs.Stated.{Service};
 /// its server takes for it; and of each of these mails just the first of the replies of that step were heard, all of them where it is over: behind any frames that
 /// went round the plan's ring, with any mails asked between them. Each mail that is over or has a reply is carried out, and of two rows of an epoch that are not
 /// the older is a packet. Where it is open and rests, nothing is left of its newest epoch. And as each epoch ended, by the frame that showed its return to Init, the
-/// slave's node held what was carried out of it.
+/// slave's node held what was carried out of it; and one that was given up for good while it was open has the AL state of what was carried out.
 pub fn served_replies_law()
     ensures { (plan : Scenario) → IsPlan plan → IsKnown plan → (fs : List Exchanged) (missed : ℕ) (ws : List Serves) → IsServedLed (lens_of plan.slaves) plan.recover plan.retry (all_serve plan.paces (first_leads plan)) fs missed ws → AllRound (ring_of plan) fs → ServeSo plan fs ws }
 {
