@@ -1,11 +1,9 @@
 -- WHAT A SLAVE OF A SERVING SENT OF ITSELF in an epoch: at rest all that its rows emit was heard in them.
-use Rattle.std.proofs.Common.{◌≡◌, ℕ, zero, suc, Bool, true, false, not, cond, Option, None, List, [], ◌∷◌, ◌++◌, length, map, take, refl, ap, sym, ◌∙◌, subst, Ok, Err, if◌then◌else◌}
+use Rattle.std.proofs.Common.{◌≡◌, ℕ, suc, Bool, true, false, not, cond, Option, List, [], ◌∷◌, ◌++◌, length, map, refl, ap, sym, ◌∙◌, Ok, Err, if◌then◌else◌}
 use Rattle.exchange_model.specs.Exchange.{Exchange, emitted}
-use Rattle.exchange_model.specs.Prefix.{IsPrefixOf}
-use Rattle.exchange_model.specs.Rows.{emits_all, heard_all}
+use Rattle.exchange_model.specs.Rows.{emits_all}
 use Rattle.life_counts.proofs.Eras.{era_knows}
 use Rattle.life_counts.proofs.Eras as Eras
-use Rattle.life_counts.proofs.News.{kept_all_as}
 use Rattle.life_counts.proofs.TaggedWhole.{seeing_lawful, seeing_stated}
 use Rattle.life_counts.specs.Epochs.{IsSpeaker, IsSeen, between, seeing, seeing_states}
 use Rattle.life_counts.specs.Foreseen.{AllRight, IsRightAt}
@@ -14,23 +12,16 @@ use Rattle.life_model.specs.Eras.{era_frames}
 use Rattle.life_model.specs.Lives.{Spot, Era}
 use Rattle.link_mails.specs.Body.{Body}
 use Rattle.master_duty.specs.Reply.{Reply}
-use Rattle.master_hand.specs.Spoken as Spoken
-use Rattle.master_hand.specs.Spoken.{Asked, emission, is_followed, is_passed}
-use Rattle.passed_whole.specs.Erased.{row_seen}
+use Rattle.master_hand.specs.Spoken.{Asked, emission}
 use Rattle.run_work.specs.Sessions.{Meant, OwnService, Wanted, named_wanted}
 use Rattle.segment_model.specs.Ends.{Outcome}
-use Rattle.segment_model.specs.Record.{Frame, Kept, heard, kept_all, nothing_kept}
-use Rattle.segment_model.specs.Seats.{newest, rows_of}
+use Rattle.segment_model.specs.Record.{Frame, heard}
 use Rattle.segment_model.specs.Slaves.{Registers, Slave}
 use Rattle.served_rings.proofs.HeardSeen.{emitted_untag, heard_as}
 use Rattle.served_rings.proofs.Mails.{AllNamed, acts_named, is_mail, mailer}
-use Rattle.served_rings.proofs.RowsHeard.{Led, all_in_rows}
-use Rattle.served_rings.proofs.RowsSeen.{rows_seen}
-use Rattle.served_rings.proofs.Seen.{promised}
-use Rattle.served_rings.proofs.SeenRests.{answered, frames}
-use Rattle.served_rings.proofs.SeenSettled.{unmapped}
+use Rattle.served_rings.proofs.SeenRests.{frames}
 use Rattle.served_rings.specs.Served.{emitted_behind}
-use Rattle.served_rings.specs.Speakers.{naming_of, processor_of, seer_of, spoken, table_of, whole_states}
+use Rattle.served_rings.specs.Speakers.{naming_of, seer_of, spoken, table_of, whole_states}
 use Rattle.serving_model.proofs.TaggedLaw.{untag-append}
 use Rattle.serving_model.specs.Tagged as Tagged
 use Rattle.serving_model.specs.Tagged.{asked_emits, asked_exec, is_own, no_reply, own_gift, untag}
@@ -42,8 +33,6 @@ use Rattle.state_exchange.proofs.Acts.{mails_acts, mails_append}
 use Rattle.state_exchange.specs.Families.{InState}
 use Rattle.state_exchange.specs.Stated.{Act, Counting, Service, acts, mails, service_valid, with_states}
 use Rattle.state_model.specs.Promises.{state_behind}
-use Rattle.task_model.specs.Accounts.{Started}
-use Rattle.task_model.specs.Promise.{mail_of, mails_started, rows_started, services_in}
 
 -- where none of these replies, all are sent of themselves
 all_emitted : {M : Type 0} (e : M → Bool) (ms : List M) → no_reply e ms ≡ true → emitted e ms ≡ ms
@@ -57,11 +46,6 @@ all_emitted e (m ∷ ms) none = go (e m) none (all_emitted e ms)
 untag_own : {M : Type 0} (Q : Type 0) (ms : List M) → untag {Q = Q} (map (λ g. own_gift g) ms) ≡ ms
 untag_own Q [] = refl
 untag_own Q (m ∷ ms) = ap (λ l. m ∷ l) (untag_own Q ms)
-
--- no list has a first part that is longer
-none_begins : {X : Type 0} (xs : List X) → IsPrefixOf xs [] → xs ≡ []
-none_begins [] p = refl
-none_begins (x ∷ xs) p = absurd (let no : x ∷ (xs ++ p.0) ≡ [] = p.1 in cc)
 
 module _ (p : Profile) (boot : Bool) (station : ℕ) where
   abbrev both : Exchange (Counting (Tagged.Rowed (InState Server) Body OwnService)) (InState Server × ℕ) (Act Meant) (Service Wanted) (Outcome (Option SlaveReply.Reply))
@@ -96,20 +80,7 @@ module _ (p : Profile) (boot : Bool) (station : ℕ) where
       (emits_named (asked_exec x v q) k qs valid.1 right.1 ∙ ap (λ u. emitted_behind p boot station u (map (λ q. service_seen named_wanted q) qs)) (acts_named p v q valid.0))
   emits_named v k (Service.State target ∷ qs) valid right = emits_named (record v { state = state_behind (table_of boot station) v.state target }) (suc k) qs valid.1 right
 
-  -- changes of the AL state alone emit nothing
-  states_emit : (n : ℕ) (a : InState Server × ℕ) (ss : List (Started Wanted)) → mails_started ss ≡ [] → emits_all both a (take n (services_in ss)) ≡ []
-  states_emit zero a ss none = refl
-  states_emit (suc n) a [] none = refl
-  states_emit (suc n) a (s ∷ ss) none = go s.service none (λ b rest. states_emit n b ss rest)
-    where
-      go : (q : Service Wanted) → mail_of q s.frame ++ mails_started ss ≡ [] → ((b : InState Server × ℕ) → mails_started ss ≡ [] → emits_all both b (take n (services_in ss)) ≡ []) → emits_all both a (q ∷ take n (services_in ss)) ≡ []
-      go (Service.Mails q) none rest = absurd (let no : (q, s.frame) ∷ mails_started ss ≡ [] = none in cc)
-      go (Service.State target) none rest = rest (both.exec a (Service.State target)) none
-
 module _ (p : Profile) (k : IsSpeaker (mailer p)) (boot : Bool) (spot : Spot) (opened : ℕ) (v : InState Server) (r : Registers) where
-  abbrev pub LedHere : List (Frame Body) → Bool → Era Body Asked Reply → Slave (InState Server) Body → Type 0
-  LedHere fs counts e n = Led (spoken p) Spoken.acknowledged (processor_of boot) is_followed is_passed spot opened v r emission fs counts e n
-
   abbrev pub SeenHere : List (Frame Body) → Bool → Era Body Asked Reply → Slave (InState Server) Body → Type 0
   SeenHere fs counts e n = IsSeen (mailer p) (seer_of p boot) (table_of boot) spot opened v r fs counts e n
 
@@ -134,29 +105,3 @@ module _ (p : Profile) (k : IsSpeaker (mailer p)) (boot : Bool) (spot : Spot) (o
     -- what was sent of itself, without what is meant
     pub sent_is : emitted emission (heard spot.station (frames_of fs)) ≡ untag (emitted (λ (t : Meant). is_own t.meant) (heard spot.station seen_frames))
     sent_is = ap (emitted emission) (ap (heard spot.station) (sym i.same) ∙ heard_as mail spot.station seen_frames) ∙ sym (emitted_untag emission (heard spot.station seen_frames) knows.tells)
-
-    last_is : e.side.halves.inn.last ≡ (kept_all spot.station nothing_kept (frames_of fs)).heard
-    last_is = ap (λ (d : Era Body Asked Reply). d.side.halves.inn.last) (sym i.named) ∙ knows.kept ∙ ap (λ (c : Kept). c.heard) (kept_all_as mail spot.station nothing_kept seen_frames ∙ ap (kept_all spot.station nothing_kept) i.same)
-
-    -- while there is no row
-    quiet : e.side.past ≡ [] → e.side.now ≡ None → emitted emission (heard spot.station (frames_of fs)) ≡ []
-    quiet past now =
-        let t = promised (mailer p) k (seer_of p boot) (table_of boot) spot opened v r fs counts e n i in
-        let has = answered (mailer p) k (seer_of p boot) (table_of boot) spot opened v r fs counts e n i in
-        let none : rows_of e.side ≡ [] = λ j. past j ++ newest (now j) in
-        let none_named : map (λ h. row_seen mail named_wanted (λ (a : Option SlaveReply.Reply). a) h) (rows_of i.era.side) ≡ [] =
-        sym (rows_seen mail named_wanted (λ (a : Option SlaveReply.Reply). a) i.era.side) ∙ ap (λ (d : Era Body Asked Reply). rows_of d.side) i.named ∙ none in
-        let none_there : mails_started i.era.account.started ≡ [] = has.mails ∙ ap rows_started (unmapped (λ h. row_seen mail named_wanted (λ (a : Option SlaveReply.Reply). a) h) (rows_of i.era.side) none_named) in
-        let begin = subst (λ l. IsPrefixOf (emitted (λ (t : Meant). is_own t.meant) (heard spot.station seen_frames)) (mails l)) (states_emit p boot spot.station t.count (v, 0) i.era.account.started none_there) t.emissions in
-        sent_is ∙ ap untag (none_begins (emitted (λ (t : Meant). is_own t.meant) (heard spot.station seen_frames)) begin)
-
-  module _ (seen : (fs : List (Frame Body)) (counts : Bool) (e : Era Body Asked Reply) (n : Slave (InState Server) Body) → LedHere fs counts e n → SeenHere fs counts e n)
-      (none : (fs : List (Frame Body)) (counts : Bool) (e : Era Body Asked Reply) (n : Slave (InState Server) Body) → LedHere fs counts e n → e.side.now ≡ None → e.side.past ≡ []) where
-    -- ALL THAT IT SENT OF ITSELF was heard in its rows
-    pub sent_in_rows : (fs : List (Frame Body)) (counts : Bool) (e : Era Body Asked Reply) (n : Slave (InState Server) Body) → LedHere fs counts e n → emitted emission (heard spot.station (frames_of fs)) ≡ emitted emission (heard_all (rows_of e.side))
-    sent_in_rows fs counts e n led =
-        all_in_rows (spoken p) Spoken.acknowledged (processor_of boot) is_followed is_passed spot opened v r emission
-        (λ gs counted d m led_here.
-        let i = seen gs counted d m led_here in
-        let past = none gs counted d m led_here in
-        record { last = last_is gs counted d m i; none = past; quiet = λ now. quiet gs counted d m i (past now) now }) fs counts e n led

@@ -1,9 +1,11 @@
 -- AN EPOCH THAT ITS MASTER LED AND ITS NODE LIVED: what its slave carried out of it.
 use Rattle.std.proofs.Common.{◌≡◌, ℕ, Bool, true, List, map, length, take, ap, sym, ◌∙◌, subst, arith}
 use Rattle.std.proofs.lemmas.List.{length-map, take-map}
+use Rattle.exchange_model.specs.Rows.{heard_all}
 use Rattle.frame_view.specs.View.{Lens}
 use Rattle.served_rings.specs.Led.{LedEra}
 use Rattle.life_counts.specs.Seen.{service_seen}
+use Rattle.life_model.specs.Eras.{era_frames}
 use Rattle.life_model.specs.Lives.{Spot, Era}
 use Rattle.link_mails.specs.Body.{Body}
 use Rattle.master_duty.specs.Reply.{Reply}
@@ -11,10 +13,12 @@ use Rattle.master_hand.specs.Spoken.{Asked, is_followed, is_passed}
 use Rattle.passed_whole.specs.Clearing.{Forgets}
 use Rattle.served_rings.specs.Speakers.{cleared_whole, seer_of, speaker, table_of, whole_states}
 use Rattle.run_work.specs.Sessions.{named_wanted}
-use Rattle.segment_model.specs.Record.{Frame}
+use Rattle.segment_model.specs.Record.{Frame, heard}
+use Rattle.segment_model.specs.Seats.{rows_of}
 use Rattle.segment_model.specs.Slaves.{Slave}
 use Rattle.served_rings.specs.Serves.{serves}
 use Rattle.serving_model.specs.Tagged.{ideal}
+use Rattle.slave_lives.specs.Lived as Lived
 use Rattle.slave_lives.specs.Lived.{IsBehind, node_seen}
 use Rattle.slave_model.specs.Profile.{Profile}
 use Rattle.slave_parts.specs.Parts.{Server, parts}
@@ -31,6 +35,8 @@ use Rattle.served_rings.proofs.Newest.{exec_is}
 use Rattle.served_rings.proofs.Replied.{emissions_so, replies_so}
 use Rattle.served_rings.proofs.Rested.{left_so}
 use Rattle.served_rings.proofs.Heard.{all_heard, newest_there, seen_so}
+use Rattle.served_rings.proofs.HeardTold.{era_heard}
+use Rattle.served_rings.proofs.Sessions.{led_session}
 use Rattle.served_rings.proofs.Seen.{clears_so, promised, valid}
 use Rattle.served_rings.proofs.TakenSo.{packet_so, taken_so}
 
@@ -45,6 +51,13 @@ module _ (p : Profile) (k : IsSpeaker (speaker p)) (forgets : Forgets (speaker p
   -- IT IS SEEN with what is meant by its mails
   seen : IsSeen (mailer p) (seer_of p boot) (table_of boot) spot l.opened l.server l.registers fs counts e seen_node
   seen = seen_so p k boot lens spot l.opened l.server l.registers l.plan l.answers fs counts e seen_node l.led
+
+  -- all mails that were heard in it were heard in its rows
+  in_rows : heard spot.station (era_frames spot l.opened (length fs) fs) ≡ heard_all (rows_of e.side)
+  in_rows =
+      let u = serves p boot lens in
+      era_heard u.exchange u.states u.processor (Lived.table_of u) spot e l.opened (length fs) fs l.server l.registers seen_node
+      (led_session u.exchange u.states u.processor (Lived.table_of u) is_followed is_passed spot l.opened l.server l.registers l.plan l.answers fs counts e seen_node l.led)
 
   module _ (i : IsSeen (mailer p) (seer_of p boot) (table_of boot) spot l.opened l.server l.registers fs counts e seen_node) where
     abbrev left : InState Server
@@ -87,8 +100,7 @@ module _ (p : Profile) (k : IsSpeaker (speaker p)) (forgets : Forgets (speaker p
           heard = all_heard p k boot lens spot l.opened l.server l.registers l.plan l.answers fs counts e seen_node l.led;
           replies = replies_so p speaks boot spot l.opened l.server l.registers fs counts e seen_node i;
           taken = taken_so p speaks boot spot l.opened l.server l.registers fs counts e seen_node i;
-          emissions = emissions_so p speaks boot spot l.opened l.server l.registers fs counts e seen_node i (λ gs counted d m led. seen_so p k boot lens spot l.opened l.server l.registers l.plan l.answers gs counted d m led)
-              (λ gs counted d m led. newest_there p k boot lens spot l.opened l.server l.registers l.plan l.answers gs counted d m led) l.led;
+          emissions = emissions_so p speaks boot spot l.opened l.server l.registers fs counts e seen_node i in_rows;
           newest = newest_there p k boot lens spot l.opened l.server l.registers l.plan l.answers fs counts e seen_node l.led;
         }
 
@@ -113,7 +125,5 @@ module _ (p : Profile) (k : IsSpeaker (speaker p)) (forgets : Forgets (speaker p
         };
         cleared = cleared_so i;
         rests = λ settled wants hand over. subst (λ z. NothingLeft p boot spot.station z e (ideal (product_whole parts p) i.slave.node.server.server)) begins
-            (left_so p speaks boot spot l.opened l.server l.registers fs counts e seen_node i (settled_seen (serves p boot lens) behind n l.stands settled) wants hand over
-            (λ gs counted d m led. seen_so p k boot lens spot l.opened l.server l.registers l.plan l.answers gs counted d m led)
-            (λ gs counted d m led. newest_there p k boot lens spot l.opened l.server l.registers l.plan l.answers gs counted d m led) l.led);
+            (left_so p speaks boot spot l.opened l.server l.registers fs counts e seen_node i (settled_seen (serves p boot lens) behind n l.stands settled) wants hand over in_rows);
       }

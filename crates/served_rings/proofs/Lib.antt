@@ -37,7 +37,6 @@ mod Rested
 pub mod Reopened
 pub mod Rings
 pub mod Rows
-mod RowsHeard
 mod RowsSeen
 pub mod Seen
 mod SeenRests

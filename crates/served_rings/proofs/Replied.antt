@@ -1,6 +1,6 @@
 -- WHAT THE MASTER OF A SERVING HAS of an epoch at each moment: each answer is its server's own, of a row that was carried out; and what was heard that its slave
 -- sent of itself are the first mails that those rows emit.
-use Rattle.std.proofs.Common.{◌≡◌, ◌<◌, ℕ, zero, suc, Bool, true, false, Option, None, Some, option_map, List, [], ◌∷◌, ◌++◌, map, take, refl, ap, sym, ◌∙◌, subst}
+use Rattle.std.proofs.Common.{◌≡◌, ◌<◌, ℕ, zero, suc, Bool, true, false, Option, None, Some, option_map, List, [], ◌∷◌, ◌++◌, length, map, take, refl, ap, sym, ◌∙◌, subst}
 use Rattle.std.proofs.lemmas.List.{take-map}
 use Rattle.exchange_model.specs.Exchange.{emitted}
 use Rattle.exchange_model.specs.Prefix.{IsPrefixOf}
@@ -8,15 +8,16 @@ use Rattle.exchange_model.specs.Rows.{heard_all}
 use Rattle.life_counts.specs.Epochs.{IsSpeaker, IsSeen, era_named, seeing, seeing_states}
 use Rattle.life_counts.specs.Foreseen.{AllRight}
 use Rattle.life_counts.specs.Seen.{change_seen, outcome_seen, service_seen}
+use Rattle.life_model.specs.Eras.{era_frames}
 use Rattle.life_model.specs.Lives.{Spot, Era}
 use Rattle.link_mails.specs.Body.{Body}
 use Rattle.master_duty.specs.Reply.{Reply}
 use Rattle.master_hand.specs.Spoken.{Asked, emission}
 use Rattle.run_work.specs.Sessions.{Wanted, named_wanted}
-use Rattle.segment_model.specs.Record.{Frame}
+use Rattle.segment_model.specs.Record.{Frame, heard}
 use Rattle.segment_model.specs.Seats.{rows_of}
 use Rattle.segment_model.specs.Slaves.{Registers, Slave}
-use Rattle.served_rings.proofs.Emitted.{LedHere, SeenHere, emits_named, sent_in_rows, sent_is}
+use Rattle.served_rings.proofs.Emitted.{emits_named, sent_is}
 use Rattle.served_rings.proofs.Ended as Ended
 use Rattle.served_rings.proofs.Ended.{all_replies}
 use Rattle.served_rings.proofs.Mails.{AllNamed, acts_named, mailer, named_take, services_named}
@@ -113,12 +114,10 @@ module _ (p : Profile) (k : IsSpeaker (mailer p)) (boot : Bool) (spot : Spot) (o
   replies_so = subst (λ (d : Era Body Asked Reply). AreReplies p boot spot.station many 0 v (services_in d.account.started) (rows_of d.side) d.account.over) i.named replies_here
 
   -- WHAT WAS HEARD that it sent of itself
-  pub emissions_so : ((gs : List (Frame Body)) (counted : Bool) (d : Era Body Asked Reply) (m : Slave (InState Server) Body) → LedHere p k boot spot opened v r gs counted d m → SeenHere p k boot spot opened v r gs counted d m) →
-      ((gs : List (Frame Body)) (counted : Bool) (d : Era Body Asked Reply) (m : Slave (InState Server) Body) → LedHere p k boot spot opened v r gs counted d m → d.side.now ≡ None → d.side.past ≡ []) → LedHere p k boot spot opened v r fs counts e n →
-      IsPrefixOf (emitted emission (heard_all (rows_of e.side))) (emitted_behind p boot spot.station v (take many (services_in e.account.started)))
-  emissions_so seen none led =
+  pub emissions_so : heard spot.station (era_frames spot opened (length fs) fs) ≡ heard_all (rows_of e.side) → IsPrefixOf (emitted emission (heard_all (rows_of e.side))) (emitted_behind p boot spot.station v (take many (services_in e.account.started)))
+  emissions_so in_rows =
       let first = (promised (mailer p) k (seer_of p boot) (table_of boot) spot opened v r fs counts e n i).emissions in
-      let rows_is = sym (sent_in_rows p k boot spot opened v r seen none fs counts e n led) ∙ sent_is p k boot spot opened v r fs counts e n i in
+      let rows_is = ap (emitted emission) (sym in_rows) ∙ sent_is p k boot spot opened v r fs counts e n i in
       let names_is : map (λ q. service_seen named_wanted q) services ≡ services_in e.account.started = sym (services_named p i.era.account.started) ∙ ap (λ (d : Era Body Asked Reply). services_in d.account.started) i.named in (
         untag first.0,
         ap (λ l. l ++ untag first.0) rows_is ∙ sym (untag-append _ first.0) ∙ ap untag first.1

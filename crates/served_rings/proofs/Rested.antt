@@ -1,9 +1,10 @@
 -- WHERE A SLAVE OF A SERVING RESTS nothing is left of its epoch: all its rows are carried out and answered, and all that they emit was heard.
-use Rattle.std.proofs.Common.{◌≡◌, ◌&&◌, ℕ, suc, Bool, true, false, not, is_none, is_some, Option, None, Some, option_map, inl, inr, List, [], ◌∷◌, ◌++◌, map, refl, ap, ap₂, sym, ◌∙◌, subst, append-nil, Ok, Err, if◌then◌else◌}
+use Rattle.std.proofs.Common.{◌≡◌, ◌&&◌, ℕ, suc, Bool, true, false, not, is_none, is_some, Option, None, Some, option_map, inl, inr, List, [], ◌∷◌, ◌++◌, length, map, refl, ap, ap₂, sym, ◌∙◌, subst, append-nil, Ok, Err, if◌then◌else◌}
 use Rattle.exchange_model.specs.Exchange.{emitted}
 use Rattle.exchange_model.specs.Rows.{Row, heard_all}
 use Rattle.life_counts.specs.Epochs.{IsSpeaker, IsSeen, era_named, seeing, seeing_states}
 use Rattle.life_counts.specs.Seen.{change_seen, outcome_seen, service_seen}
+use Rattle.life_model.specs.Eras.{era_frames}
 use Rattle.life_model.specs.Lives.{Spot, Era}
 use Rattle.link_mails.specs.Body.{Body}
 use Rattle.link_model.specs.Mails.{LinkMail}
@@ -14,10 +15,10 @@ use Rattle.passed_whole.specs.Erased.{OfRow, PlanOne, row_seen, side_seen}
 use Rattle.run_work.specs.Sessions.{Meant, Wanted, named_wanted}
 use Rattle.segment_model.proofs.Overs.{over_parts}
 use Rattle.segment_model.specs.Laws.{IsSettled, NothingInHand, WantsNothing}
-use Rattle.segment_model.specs.Record.{Frame}
+use Rattle.segment_model.specs.Record.{Frame, heard}
 use Rattle.segment_model.specs.Seats.{Side, is_none_left, is_over, rows_of}
 use Rattle.segment_model.specs.Slaves.{Registers, Slave}
-use Rattle.served_rings.proofs.Emitted.{LedHere, SeenHere, emits_named, knows, sent_in_rows, sent_is}
+use Rattle.served_rings.proofs.Emitted.{emits_named, knows, sent_is}
 use Rattle.served_rings.proofs.Ended as Ended
 use Rattle.served_rings.proofs.Ended.{all_answered}
 use Rattle.served_rings.proofs.Mails.{AllNamed, acts_named, behind_named, is_mail, mailer, services_named}
@@ -151,8 +152,7 @@ module _ (p : Profile) (k : IsSpeaker (mailer p)) (boot : Bool) (spot : Spot) (o
       (over_here p h d.fresh new plans answers (subst (λ (box : Option (LinkMail Meant)). is_over (spoken p).speech (box_as (mail p) box) d.fresh (seen_row p h) ≡ true) held over))
 
   module _ (settled : IsSettled n) (wants : WantsNothing (spoken p).speech e.side) (hand : e.account.hand ≡ None) (over : e.passing ≡ None)
-      (seen : (gs : List (Frame Body)) (counted : Bool) (d : Era Body Asked Reply) (m : Slave (InState Server) Body) → LedHere p k boot spot opened v r gs counted d m → SeenHere p k boot spot opened v r gs counted d m)
-      (none : (gs : List (Frame Body)) (counted : Bool) (d : Era Body Asked Reply) (m : Slave (InState Server) Body) → LedHere p k boot spot opened v r gs counted d m → d.side.now ≡ None → d.side.past ≡ []) (led : LedHere p k boot spot opened v r fs counts e n) where
+      (in_rows : heard spot.station (era_frames spot opened (length fs) fs) ≡ heard_all (rows_of e.side)) where
     abbrev named : Era Body Asked Reply
     named = era_named (mailer p) i.era
 
@@ -190,7 +190,7 @@ module _ (p : Profile) (k : IsSpeaker (mailer p)) (boot : Bool) (spot : Spot) (o
               (all_answered (seeing (mailer p)) (seeing_states (mailer p)) (table_of boot spot.station) (λ m. false) spot.station (frames (mailer p) k (seer_of p boot) (table_of boot) spot opened v r fs counts e n i) (v, 0) started (rows_of i.era.side) i.era.account.over
               has.mails (has.states ∙ ap (λ l. changes_in i.era.account.over ++ l) (ap duty_in hand_there) ∙ append-nil (changes_in i.era.account.over)) has.answers has.over rest.ended
               (promised (mailer p) k (seer_of p boot) (table_of boot) spot opened v r fs counts e n i).replied)));
-          emissions = ap (λ (d : Era Body Asked Reply). emitted emission (heard_all (rows_of d.side))) i.named ∙ sym (sent_in_rows p k boot spot opened v r seen none fs counts e n led) ∙ sent_is p k boot spot opened v r fs counts e n i
+          emissions = ap (λ (d : Era Body Asked Reply). emitted emission (heard_all (rows_of d.side))) i.named ∙ ap (emitted emission) (sym in_rows) ∙ sent_is p k boot spot opened v r fs counts e n i
               ∙ ap untag rest.emissions ∙ emits_named p boot spot.station v 0 (services_in started) all_valid i.right ∙ ap (emitted_behind p boot spot.station v) (sym (services_named p started));
         }
 

@@ -57,10 +57,6 @@ idle : {M : Type 0} (holding : Option (LinkMail M)) → is_none holding ≡ true
 idle None e = refl
 idle (Some m) e = absurd (let no : false ≡ true = e in cc)
 
-no_length : {X : Type 0} (l : List X) → length l ≡ 0 → l ≡ []
-no_length [] e = refl
-no_length (m ∷ l) e = absurd (omega (arith, e))
-
 -- a first part of one item is none or all
 one_part : {X : Type 0} (own rest : List X) (one : X) → own ++ rest ≡ one ∷ [] → own ≢ [] → own ≡ one ∷ []
 one_part [] rest one e some = absurd (some refl)
