@@ -17,6 +17,7 @@ use Rattle.promised_run.specs.ServedBounded.{IsServedBounded}
 use Rattle.promised_run.specs.ServedPorts.{IsServedAtPorts}
 use Rattle.promised_run.specs.ServedReported.{IsServedReported}
 use Rattle.promised_run.specs.Through.{IsServedThrough, IsServedWhole}
+use Rattle.promised_run.specs.Visits.{IsServedVisited}
 use Rattle.promised_run.specs.Written.{IsServedWritten}
 use Rattle.run_report.specs.Report.{report_lines}
 use Rattle.gateway_run.specs.Serving.{Told}
@@ -42,6 +43,8 @@ pub record HasServed (plan : Scenario) (count : ℕ) (first last : Told) (book :
   pub whole : IsServedWhole plan book
   -- what happened at the port of each slave, with its number
   pub ports : IsServedAtPorts plan count book
+  -- its frames are the visits of one tour: each is addressed to the first slaves of its visit, in order, and to no other
+  pub visits : IsServedVisited plan count book
   -- of each script just the rest wasn't sent, and each epoch has its cause
   pub booked : IsServedBooked plan count book
   -- each mail that was accepted of its slaves was due

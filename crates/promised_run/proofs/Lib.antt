@@ -37,6 +37,7 @@ pub mod ServedBounded
 mod ServedPorts
 mod ServedReported
 mod ServedUncut
+mod ServedVisits
 pub mod Settled
 pub mod Through
 mod TouredAhead

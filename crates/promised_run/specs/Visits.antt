@@ -1,9 +1,14 @@
 -- THE VISITS OF A BOOK: which slaves each of its frames carries, and in which order.
 use Rattle.std.specs.Prelude.{◌-◌, ℕ, nat_le, if◌then◌else◌, List, [], ◌∷◌, length, map, drop, ⊤}
+use Rattle.gateway_run.specs.Served.{HasAccount}
 use Rattle.life_runs.specs.of_frame_view.Seen.{seen}
 use Rattle.script_runs.specs.of_life_model.Tours.{Member, round}
 use Rattle.life_runs.specs.First.{lens_of, first_leads}
 use Rattle.life_runs.specs.Led.{Exchanged, Leads}
+use Rattle.packets_heard.specs.Served.{IsTourServed}
+use Rattle.run_book.specs.declared.book.Book.{Book}
+use Rattle.run_book.specs.declared.book.Ending.{Ending}
+use Rattle.run_book.specs.of_master_node.Serving.{run_lead}
 use Rattle.run_book.specs.of_master_node.Shows.{is_live_lead}
 use Rattle.run_book.specs.of_master_node.Wants.{gave_of}
 use Rattle.run_book.specs.of_master_tour.Sizes.{frame_size}
@@ -12,8 +17,10 @@ use Rattle.script_runs.specs.of_segment_model.Visits
 use Rattle.script_runs.specs.of_segment_model.Visits.{Stop, carried}
 use Rattle.segment_plan.specs.declared.plan.Scenario.{Scenario}
 use Rattle.segment_plan.specs.declared.slave.SlaveSpec.{SlaveSpec}
+use Rattle.run_record.specs.ServedLed.{ServedTouredTo}
 use Rattle.run_record.specs.of_packets_heard.Toured.{IsToured, stations_of}
 use Rattle.run_record.specs.of_packets_heard.Visits.{last_station}
+use Rattle.served_runs.specs.Served.{Serves}
 
 -- a slave of a plan as a stop of its tour
 abbrev pub stop_of : SlaveSpec → Stop
@@ -43,3 +50,13 @@ IsVisit plan t as' f = Visits.IsVisit (frame_size f.sent) (stations_of (stops_of
 abbrev pub AllVisit : (plan : Scenario) {fs : List Exchanged} {t : Tour} {as' : List Leads} → IsToured (lens_of plan.slaves) plan.recover plan.retry (first_leads plan) fs t as' → Type 0
 AllVisit plan IsToured.start = ⊤
 AllVisit plan (IsToured.on fs t as' f us visit before led of) = AllVisit plan before × IsVisit plan t as' f
+
+-- and those of a serving in the same way: a mail that is asked between them changes nothing of the tour
+abbrev pub AllServedVisit : (plan : Scenario) {fs : List Exchanged} {t : Tour} {ws : List Serves} → ServedTouredTo plan fs t ws → Type 0
+AllServedVisit plan IsTourServed.start = ⊤
+AllServedVisit plan (IsTourServed.asks fs t ws place k before may) = AllServedVisit plan before
+AllServedVisit plan (IsTourServed.on fs t ws f vs visit before led of) = AllServedVisit plan before × IsVisit plan t (map run_lead ws) f
+
+-- by each account of its book
+abbrev pub IsServedVisited : Scenario → ℕ → Book → Type 0
+IsServedVisited plan count book = (ending : Ending) (a : HasAccount plan count book ending) → AllServedVisit plan a.answers.serving.leading.toured

@@ -16,6 +16,7 @@ ghost use Rattle.promised_run.specs.Left.{IsServedLeft};
 ghost use Rattle.promised_run.specs.Rested.{IsServedRested};
 ghost use Rattle.promised_run.specs.ServedReported.{IsServedReported};
 ghost use Rattle.promised_run.specs.Through.{IsServedThrough, IsServedWhole};
+ghost use Rattle.promised_run.specs.Visits.{IsServedVisited};
 ghost use Rattle.promised_run.specs.Written.{IsServedWritten};
 
 use crate::uncut_servings::uncut_law;
@@ -52,6 +53,9 @@ use std::alloc::Global;
 /// it was never given up; all rows of its newest epoch are carried out and answered, and nothing waits. What an earlier epoch left undone when it was cut off stays so. Where
 /// its budget was spent something was left to do. Each mail that was accepted of a slave was due.
 ///
+/// Each frame is addressed, datagram by datagram, to the stations of its visit of the ring, as a run's: just those of the lost frame before it, by which nobody was given
+/// up; else the one whose first bring-up goes on; else the first live ones of a round, and a slave is left out only where the lengths are together above 1,486.
+///
 /// A serving of which no datagram asks for a download to 2F01:01 is never cut off by a budget of as many frames as the bound for so many datagrams. Where no more
 /// frames in a row are lost than the retry limit no slave is given up, and such a serving with that budget ends as done, unless its port fails or memory runs out.
 pub fn serve<P: Port>(
@@ -70,6 +74,7 @@ pub fn serve<P: Port>(
     ensures through { IsServedThrough plan.now book.new }
     ensures whole { IsServedWhole plan.now book.new }
     ensures ports { IsServedAtPorts plan.now count book.new }
+    ensures visits { IsServedVisited plan.now count book.new }
     ensures given { IsServedGiven plan.now count book.new }
     ensures booked { IsServedBooked plan.now count book.new }
     ensures due { IsServedDue plan.now count book.new }

@@ -7,6 +7,7 @@ use Rattle.promised_run.proofs.ServedBooks.{booked}
 use Rattle.promised_run.proofs.ServedBounded.{bounded}
 use Rattle.promised_run.proofs.ServedPorts.{at_ports}
 use Rattle.promised_run.proofs.ServedReported.{all_reported_so}
+use Rattle.promised_run.proofs.ServedVisits.{visited}
 use Rattle.promised_run.proofs.Through.{through}
 use Rattle.promised_run.proofs.Whole.{whole}
 use Rattle.promised_run.proofs.Written.{all_served_due, all_served_written, some_served_left}
@@ -68,3 +69,6 @@ returns-clause-left g c =
 
 pub returns-clause-booked : goal.returns-clause-booked
 returns-clause-booked g c = booked c.args.plan.now c.args.count c.serve.new.book (c.opened_law.ensures c.args.plan.now)
+
+pub returns-clause-visits : goal.returns-clause-visits
+returns-clause-visits g c = visited c.args.plan.now c.requires.plan c.args.count c.serve.new.book
