@@ -110,7 +110,7 @@ spent_some : LeavesNone endings.BudgetSpent → ⊥
 spent_some (inl e) = cc
 spent_some (inr e) = cc
 
-module _ (plan : Scenario) (count : ℕ) (first now : Told) (v : Serving) (b b' : Book) (some : 0 < count) (on : IsOn plan count v b) (heard : AreHeard first.heard now.heard b.grams) (ended : v.over ≡ true → now.over ≡ true)
+module _ (plan : Scenario) (count : ℕ) (first now : Told) (v : Serving) (b b' : Book) (some : 0 < count) (on : IsOn plan count v b) (heard : AreHeard first.heard now.heard b.grams) (stays : v.over ≡ true → now.over ≡ true)
     (frames : b'.frames ≡ b.frames) (kept : SameSwitch b b') (grams : b'.grams ≡ b.grams) (replies : b'.replies ≡ b.replies) (serving : b'.serving ≡ v.session.serving) (many : length v.session.notes ≡ length v.session.ring.nodes) where
   pub sent_frames : HasSent plan count b'
   sent_frames = has_frames plan count v.session b b' on.underway frames kept.switch
@@ -129,7 +129,7 @@ module _ (plan : Scenario) (count : ℕ) (first now : Told) (v : Serving) (b b' 
 
   has_account : (ending : Ending) → b'.slaves ≡ session_rows v.session → (ending ≢ endings.PortFault → v.desk.outbox.items ≡ []) → (LeavesNone ending → ServingRests v.session × (are_at_rest (session_rows v.session) ≡ true)) → (ending ≡ endings.BudgetSpent → LivesOn v.session) → (account : HasAccount plan count b' ending) × HasWaited now account
   has_account ending rows all rests lives =
-      let same = course_same plan count v.session v.session b.frames b'.frames b.grams b'.grams v.desk.requests.items v.desk.requests.items on.owed b.switch b'.switch b.switched b'.switched v.over now.over refl frames grams refl kept.switch kept.switched (over_later v.over now.over ended) (on.course, on.switch, on.switched, on.waited) in
+      let same = course_same plan count v.session v.session b.frames b'.frames b.grams b'.grams v.desk.requests.items v.desk.requests.items on.owed b.switch b'.switch b.switched b'.switched v.over now.over refl frames grams refl kept.switch kept.switched (over_later v.over now.over stays) (on.course, on.switch, on.switched, on.waited) in
       let course' : Course plan count v.session b'.frames b'.grams v.desk.requests.items on.owed = same.0 in
       let rowed = course_rowed plan count on.is_plan v.session b'.frames b'.grams v.desk.requests.items on.owed course' in
       let answers' : Answers plan v.session (map exchanged b'.frames) b'.grams v.desk.requests.items on.owed (dones_of plan count v.session b'.frames b'.grams v.desk.requests.items on.owed course') = rowed.0 in

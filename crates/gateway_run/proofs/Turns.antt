@@ -24,7 +24,7 @@ use Rattle.run_record.specs.of_run_notes.Switched.{SameSwitch}
 use Rattle.run_record.specs.Ran.{HasSent}
 use Rattle.run_record.proofs.Underway.{same_on, has_frames, many as many_sent, stepped_on, stopped}
 use Rattle.gateway_run.specs.Heard.{heard_as, sent_as, AreHeard, AreSent, AreSentBut, IsOwed, IsRightly}
-use Rattle.gateway_run.specs.Account.{Owing, Course, Course.hears, Course.steps, AreSpelled, IsDue, Waited, happened_in, left_by_all, numbers_in, owed_by_all}
+use Rattle.gateway_run.specs.Account.{Owing, Course, Course.hears, Course.steps, AreSpelled, MayGo, Waited, happened_in, left_by_all, numbers_in, owed_by_all}
 use Rattle.gateway_run.specs.Desk.{IsSound, AsksMails, SameLan, Owes, NotesAll, Takes, TakesSo}
 use Rattle.gateway_run.specs.Goes.{MaySend}
 use Rattle.gateway_run.specs.declared.desk.Request.{Request}
@@ -311,7 +311,7 @@ module _ (plan : Scenario) (count : ℕ) (first : Told) where
             (record { recorded = step.recorded; ring = step.ring; homes = step.homes; asked = step.asked; recover = step.recover; live = live; busy = busy; happened = happened; led = led }),
         ap (λ z. z ++ (happened.making ++ happened.behind)) h.on.switch,
         ap (λ z. z ++ numbers_over (length b.frames) happened) h.on.switched,
-        (subst (λ (n : ℕ). IsDue v.over n (length b.frames) b.grams v.desk.requests.items) h.on.counts (may (sent_few h.on)), h.on.waited),
+        (subst (λ (n : ℕ). MayGo v.over n (length b.frames) b.grams v.desk.requests.items) h.on.counts (may (sent_few h.on)), h.on.waited),
       ) in
       record {
         on = record {

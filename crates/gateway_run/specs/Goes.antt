@@ -7,7 +7,7 @@ use Rattle.segment_plan.specs.declared.plan.Scenario.{Scenario}
 use Rattle.run_book.specs.declared.book.Book.{Book}
 use Rattle.run_book.specs.declared.book.Ending.{Ending}
 use Rattle.run_book.specs.declared.book.Ending.TheVariants as endings
-use Rattle.gateway_run.specs.Account.{IsDue}
+use Rattle.gateway_run.specs.Account.{MayGo}
 use Rattle.gateway_run.specs.Serving.{Told, told, Listens, Goes, IsServing, LivesOn, LivesUnless, EmptyWhere}
 use Rattle.gateway_run.specs.declared.stop.Stop.{Stop}
 use Rattle.gateway_run.specs.declared.turn.Serving.{Serving}
@@ -20,11 +20,11 @@ HasRoom v = length v.desk.requests.items < 64
 abbrev pub MayTurn : Bool → Serving → Type 0
 MayTurn settled v = LivesUnless settled v.session × EmptyWhere settled v
 
--- a frame is due, where the frames can be counted
+-- a frame may go, where the frames can be counted
 abbrev pub MaySend : Serving → Book → Type 0
-MaySend v b = length b.frames < 4294967296 → IsDue v.over v.count (length b.frames) b.grams v.desk.requests.items
+MaySend v b = length b.frames < 4294967296 → MayGo v.over v.count (length b.frames) b.grams v.desk.requests.items
 
--- unless the segment rests some slave is live and something is left to do; and a frame is due
+-- unless the segment rests some slave is live and something is left to do; and a frame may go
 abbrev pub MayStep : Bool → Serving → Book → Type 0
 MayStep rests v b = LivesUnless rests v.session × MaySend v b
 
