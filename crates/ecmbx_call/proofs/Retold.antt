@@ -14,8 +14,9 @@ use Rattle.run_book.specs.declared.book.GramIn.{GramIn}
 use Rattle.run_book.specs.declared.book.GramOut.{GramOut}
 use Rattle.run_book.specs.Book.{IsNew}
 use Rattle.gateway_run.specs.Heard.{heard_as as as_heard, sent_as as as_sent, AreHeard, AreSent, AreSentBut}
-use Rattle.gateway_run.specs.Served.{HasGrams, IsThrough, IsBroken, IsServed}
+use Rattle.gateway_run.specs.Served.{HasAccount, HasGrams, HasWaited, IsThrough, IsBroken, IsServed}
 use Rattle.gateway_run.specs.Serving.{Told}
+use Rattle.gateway_run.proofs.Waits.{over_later, waited_still}
 use Rattle.gateway_stream.specs.Cutting.{behind_of}
 use Rattle.gateway_stream.specs.Hearing.{heard_in, heard_of, is_broken}
 use Rattle.gateway_stream.specs.Sending.{sent_in, sent_of}
@@ -49,11 +50,14 @@ module _ (first last first' last' : Told) (h : Retold first last first' last') (
   broken_retold : IsBroken first last book → IsBroken first' last' book
   broken_retold b = record { rose = h.faults b.rose; sent = sent_but book.replies b.sent }
 
+  waited_retold : {plan : Scenario} {ending : Ending} → AreHeard first.heard last.heard book.grams → (account : HasAccount plan count book ending) → HasWaited last account → HasWaited last' account
+  waited_retold {plan} heard a waited = waited_still plan count a.session book.frames book.grams a.requests a.owed a.course last.over last'.over (over_later last.over last'.over (h.over book.grams heard)) waited
+
   pub served_retold : (plan : Scenario) (ending : Ending) → IsServed plan count first last book ending → IsServed plan count first' last' book ending
-  served_retold plan endings.Done (stops, grams, goes, account) = (stops, grams_retold plan grams, over_retold grams.heard goes, account)
-  served_retold plan endings.GivenUp (stops, grams, goes, account) = (stops, grams_retold plan grams, over_retold grams.heard goes, account)
-  served_retold plan endings.BudgetSpent (stops, grams, goes, account) = (stops, grams_retold plan grams, h.sent book.replies goes, account)
-  served_retold plan endings.PortFault (stops, grams, goes, account) = (stops, grams_retold plan grams, broken_retold goes, account)
+  served_retold plan endings.Done (stops, grams, goes, account, waited) = (stops, grams_retold plan grams, over_retold grams.heard goes, account, waited_retold grams.heard account waited)
+  served_retold plan endings.GivenUp (stops, grams, goes, account, waited) = (stops, grams_retold plan grams, over_retold grams.heard goes, account, waited_retold grams.heard account waited)
+  served_retold plan endings.BudgetSpent (stops, grams, goes, account, waited) = (stops, grams_retold plan grams, h.sent book.replies goes, account, waited_retold grams.heard account waited)
+  served_retold plan endings.PortFault (stops, grams, goes, account, waited) = (stops, grams_retold plan grams, broken_retold goes, account, waited_retold grams.heard account waited)
   served_retold plan endings.NoMemory done = tt
   served_retold plan endings.Unfinished served = absurd served.0
 

@@ -49,20 +49,21 @@ use Rattle.gateway_run.specs.Desk.{HasNone, IsOpen, AreApart}
 use Rattle.gateway_run.specs.Mails.{HasMails}
 use Rattle.gateway_run.specs.Replies.{Answers, dones_of}
 use Rattle.gateway_run.specs.Serving.{Told, IsOn, IsServing, IsFaulted, Goes, LivesOn, can_hear}
-use Rattle.gateway_run.specs.Served.{HasGrams, HasAccount, IsBroken, IsServed}
+use Rattle.gateway_run.specs.Served.{HasGrams, HasAccount, HasWaited, IsBroken, IsServed}
 use Rattle.gateway_run.specs.declared.turn.Serving.{Serving}
 use Rattle.gateway_run.proofs.Answering.{course_rowed}
 use Rattle.gateway_run.proofs.Dones.{all_done, none_unfinished}
 use Rattle.gateway_run.proofs.Mails.{book_late, book_mails}
 use Rattle.gateway_run.proofs.Rested.{all_rest, no_packet, some_left}
 use Rattle.gateway_run.proofs.Strays.{course_falls, course_strays}
+use Rattle.gateway_run.proofs.Waits.{over_later}
 use Rattle.gateway_run.proofs.Turns.{heard_none, sent_none, course_same, spelled_same}
 
 -- before the first turn
 pub first_serving : (plan : Scenario) (count : ℕ) (now : Told) (v : Serving) (b : Book) → v.session ≡ first_session plan count v.session.master → ServingBegins plan v.session → HasHappened (ports_of plan.slaves) plan.host [] v.session.master.lan → HasNone v.desk → v.desk.outbox.items ≡ [] → v.count ≡ count → v.over ≡ false → IsNew b → count < 4294967296 → IsPlan plan →
     IsServing plan count now now v b
 first_serving plan count now v b session serves switch none outbox counts over new fits sound = let requests = none.0 in
-    let c = course_same plan count v.session v.session [] b.frames [] b.grams [] v.desk.requests.items [] [] b.switch [] b.switched refl new.frames new.grams requests new.switch new.switched (begins v.session session serves, refl, refl) in record {
+    let c = course_same plan count v.session v.session [] b.frames [] b.grams [] v.desk.requests.items [] [] b.switch [] b.switched v.over v.over refl new.frames new.grams requests new.switch new.switched (λ e. e) (begins v.session session serves, refl, refl, tt) in record {
       on = record {
         underway = begun plan count v.session b session new switch;
         counts = counts;
@@ -82,6 +83,7 @@ first_serving plan count now v b session serves switch none outbox counts over n
         course = c.0;
         switch = c.1;
         switched = c.2;
+        waited = c.3;
         spelled = spelled_same (map heard_as b.grams) (map heard_as b.grams) [] [] (b.replies ++ v.desk.outbox.items) refl (ap (λ (l : List GramOut). l ++ v.desk.outbox.items) new.replies ∙ outbox) tt;
       };
       heard = subst (AreHeard now.heard now.heard) (sym new.grams) (heard_none now.heard);
@@ -108,7 +110,7 @@ spent_some : LeavesNone endings.BudgetSpent → ⊥
 spent_some (inl e) = cc
 spent_some (inr e) = cc
 
-module _ (plan : Scenario) (count : ℕ) (first now : Told) (v : Serving) (b b' : Book) (some : 0 < count) (on : IsOn plan count v b) (heard : AreHeard first.heard now.heard b.grams)
+module _ (plan : Scenario) (count : ℕ) (first now : Told) (v : Serving) (b b' : Book) (some : 0 < count) (on : IsOn plan count v b) (heard : AreHeard first.heard now.heard b.grams) (stays : v.over ≡ true → now.over ≡ true)
     (frames : b'.frames ≡ b.frames) (kept : SameSwitch b b') (grams : b'.grams ≡ b.grams) (replies : b'.replies ≡ b.replies) (serving : b'.serving ≡ v.session.serving) (many : length v.session.notes ≡ length v.session.ring.nodes) where
   pub sent_frames : HasSent plan count b'
   sent_frames = has_frames plan count v.session b b' on.underway frames kept.switch
@@ -125,9 +127,9 @@ module _ (plan : Scenario) (count : ℕ) (first now : Told) (v : Serving) (b b' 
   stops_as : (ending : Ending) → b'.slaves ≡ session_rows v.session → StopsSo v.session ending → StopsAs plan count b' ending
   stops_as ending rows so = ended plan count v.session b b' on.underway frames kept rows many ending so
 
-  has_account : (ending : Ending) → b'.slaves ≡ session_rows v.session → (ending ≢ endings.PortFault → v.desk.outbox.items ≡ []) → (LeavesNone ending → ServingRests v.session × (are_at_rest (session_rows v.session) ≡ true)) → (ending ≡ endings.BudgetSpent → LivesOn v.session) → HasAccount plan count b' ending
+  has_account : (ending : Ending) → b'.slaves ≡ session_rows v.session → (ending ≢ endings.PortFault → v.desk.outbox.items ≡ []) → (LeavesNone ending → ServingRests v.session × (are_at_rest (session_rows v.session) ≡ true)) → (ending ≡ endings.BudgetSpent → LivesOn v.session) → (account : HasAccount plan count b' ending) × HasWaited now account
   has_account ending rows all rests lives =
-      let same = course_same plan count v.session v.session b.frames b'.frames b.grams b'.grams v.desk.requests.items v.desk.requests.items on.owed b.switch b'.switch b.switched b'.switched refl frames grams refl kept.switch kept.switched (on.course, on.switch, on.switched) in
+      let same = course_same plan count v.session v.session b.frames b'.frames b.grams b'.grams v.desk.requests.items v.desk.requests.items on.owed b.switch b'.switch b.switched b'.switched v.over now.over refl frames grams refl kept.switch kept.switched (over_later v.over now.over stays) (on.course, on.switch, on.switched, on.waited) in
       let course' : Course plan count v.session b'.frames b'.grams v.desk.requests.items on.owed = same.0 in
       let rowed = course_rowed plan count on.is_plan v.session b'.frames b'.grams v.desk.requests.items on.owed course' in
       let answers' : Answers plan v.session (map exchanged b'.frames) b'.grams v.desk.requests.items on.owed (dones_of plan count v.session b'.frames b'.grams v.desk.requests.items on.owed course') = rowed.0 in
@@ -138,49 +140,52 @@ module _ (plan : Scenario) (count : ℕ) (first now : Told) (v : Serving) (b b' 
       let noted : begun_in b'.slaves ≡ begun_noted v.session.notes = ap begun_in rows ∙ begun_of_rows v.session.recover v.session.ring.nodes v.session.notes many in
       let mails' : AreMails (λ k. served_mails answers'.serving.leading.lives k) (begun_in b'.slaves) = subst (λ z. AreMails (λ k. served_mails answers'.serving.leading.lives k) z) (sym noted) answers'.serving.packets.mailed in
       let acts' : AllBoth HasMails answers'.serving.leading.serves b'.slaves =
-      book_mails plan (map exchanged b'.frames) answers'.serving.leading.missed answers'.serving.leading.serves answers'.serving.leading.lives b'.slaves reported' mails' in
-      record {
-        session = v.session;
-        requests = v.desk.requests.items;
-        owed = on.owed;
-        later = v.desk.outbox.items;
-        course = course';
-        spelled = spelled_same (map heard_as b.grams) (map heard_as b'.grams) on.owed (b.replies ++ v.desk.outbox.items) (b'.replies ++ v.desk.outbox.items) (ap (map heard_as) grams) (ap (λ (l : List GramOut). l ++ v.desk.outbox.items) replies) on.spelled;
-        answers = answers';
-        none = λ none. none_unfinished plan count v b on (rests none).0;
-        done = λ none. all_done plan v.session (map exchanged b'.frames) b'.grams v.desk.requests.items on.owed (dones_of plan count v.session b'.frames b'.grams v.desk.requests.items on.owed course') answers' (none_unfinished plan count v b on (rests none).0);
-        rows = rows;
-        reported = reported';
-        unsent = subst (λ (rs : List SlaveBook). AllBoth IsSpent (map run_lead answers'.serving.leading.serves) rs) (sym rows) (all_spent v.session.recover (map run_lead answers'.serving.leading.serves) v.session.ring.nodes v.session.notes many answers'.serving.told);
-        epochs = subst (λ (rs : List SlaveBook). AllBoth HasEpochs (map run_lead answers'.serving.leading.serves) rs) (sym rows) (all_epochs v.session.recover (map run_lead answers'.serving.leading.serves) v.session.ring.nodes v.session.notes many answers'.serving.told);
-        heard = ap emergencies_in rows ∙ heard_of_rows v.session.recover v.session.ring.nodes v.session.notes many ∙ answers'.serving.heard;
-        listed = subst (λ (es : List SwitchEvent). ServedListed (ports_behind 0 plan.slaves) answers'.serving.leading.lives es) booked answers'.serving.forwarded.listed;
-        begun = subst (λ (es : List SwitchEvent). AreServedBegun (ports_behind 0 plan.slaves) (ports_of plan.slaves) answers'.serving.leading.lives es) booked answers'.serving.forwarded.begun;
-        numbered = subst (λ (ns : List ℕ). ServedNumbered (ports_behind 0 plan.slaves) (ports_of plan.slaves) answers'.serving.leading.lives b'.switch ns) numbered'
-            (subst (λ (es : List SwitchEvent). ServedNumbered (ports_behind 0 plan.slaves) (ports_of plan.slaves) answers'.serving.leading.lives es answers'.serving.numbers) booked answers'.serving.numbered);
-        forwards = subst (λ z. AreNumbered (λ k. served_begun answers'.serving.leading.lives k) z) (sym noted) answers'.serving.packets.rows;
-        mails = mails';
-        acts = acts';
-        late = book_late b'.grams v.desk.requests.items on.owed 0 answers'.serving.leading.serves answers'.came b'.slaves answers'.desk acts';
-        handed = subst (λ (rs : List SlaveBook). AreHanded (λ k. served_overs answers'.serving.leading.lives k) rs) (sym rows)
-            (rows_handed v.session.recover v.session.ring.nodes v.session.notes (map run_lead answers'.serving.leading.serves) (λ k. served_overs answers'.serving.leading.lives k) (λ k. passing_at answers'.serving.leading.serves k) answers'.serving.told answers'.serving.handed);
-        written = λ due. subst (λ (rs : List SlaveBook). AreForwarded (λ k. served_written answers'.serving.leading.lives k) rs) (sym rows)
-            (rows_forwarded v.session.recover v.session.ring.nodes v.session.notes (map run_lead answers'.serving.leading.serves) (λ k. served_written answers'.serving.leading.lives k) (λ k. forwards_now (lens_of plan.slaves) (map run_lead answers'.serving.leading.serves) k) answers'.serving.told
-            (answers'.serving.written due));
-        rests = λ none. all_rest plan count v.session b b' on.underway answers'.serving (rests none).0 rows many (rests none).1;
-        packets = has_packets plan v.session.ports v.session.ring.number v.session.master.lan b b' on.underway.ports (sym (ap length frames ∙ many_sent plan count v.session b on.underway)) kept on.underway.switched;
-        come = λ none. no_packet plan count v.session b b' on.underway answers'.serving (rests none).0 kept;
-        left = λ spent due none. some_left plan v.session b' answers'.serving on.underway.recover many (lives spent) rows booked due none;
-        steady = course_falls plan count on.is_plan v.session b'.frames b'.grams v.desk.requests.items on.owed course';
-        stray = course_strays plan count on.is_plan v.session b'.frames b'.grams v.desk.requests.items on.owed course' b'.slaves rows;
-        all = all;
-      }
+      book_mails plan (map exchanged b'.frames) answers'.serving.leading.missed answers'.serving.leading.serves answers'.serving.leading.lives b'.slaves reported' mails' in (
+        record {
+          session = v.session;
+          requests = v.desk.requests.items;
+          owed = on.owed;
+          later = v.desk.outbox.items;
+          course = course';
+          spelled = spelled_same (map heard_as b.grams) (map heard_as b'.grams) on.owed (b.replies ++ v.desk.outbox.items) (b'.replies ++ v.desk.outbox.items) (ap (map heard_as) grams) (ap (λ (l : List GramOut). l ++ v.desk.outbox.items) replies) on.spelled;
+          answers = answers';
+          none = λ none. none_unfinished plan count v b on (rests none).0;
+          done = λ none. all_done plan v.session (map exchanged b'.frames) b'.grams v.desk.requests.items on.owed (dones_of plan count v.session b'.frames b'.grams v.desk.requests.items on.owed course') answers' (none_unfinished plan count v b on (rests none).0);
+          rows = rows;
+          reported = reported';
+          unsent = subst (λ (rs : List SlaveBook). AllBoth IsSpent (map run_lead answers'.serving.leading.serves) rs) (sym rows) (all_spent v.session.recover (map run_lead answers'.serving.leading.serves) v.session.ring.nodes v.session.notes many answers'.serving.told);
+          epochs = subst (λ (rs : List SlaveBook). AllBoth HasEpochs (map run_lead answers'.serving.leading.serves) rs) (sym rows) (all_epochs v.session.recover (map run_lead answers'.serving.leading.serves) v.session.ring.nodes v.session.notes many answers'.serving.told);
+          heard = ap emergencies_in rows ∙ heard_of_rows v.session.recover v.session.ring.nodes v.session.notes many ∙ answers'.serving.heard;
+          listed = subst (λ (es : List SwitchEvent). ServedListed (ports_behind 0 plan.slaves) answers'.serving.leading.lives es) booked answers'.serving.forwarded.listed;
+          begun = subst (λ (es : List SwitchEvent). AreServedBegun (ports_behind 0 plan.slaves) (ports_of plan.slaves) answers'.serving.leading.lives es) booked answers'.serving.forwarded.begun;
+          numbered = subst (λ (ns : List ℕ). ServedNumbered (ports_behind 0 plan.slaves) (ports_of plan.slaves) answers'.serving.leading.lives b'.switch ns) numbered'
+              (subst (λ (es : List SwitchEvent). ServedNumbered (ports_behind 0 plan.slaves) (ports_of plan.slaves) answers'.serving.leading.lives es answers'.serving.numbers) booked answers'.serving.numbered);
+          forwards = subst (λ z. AreNumbered (λ k. served_begun answers'.serving.leading.lives k) z) (sym noted) answers'.serving.packets.rows;
+          mails = mails';
+          acts = acts';
+          late = book_late b'.grams v.desk.requests.items on.owed 0 answers'.serving.leading.serves answers'.came b'.slaves answers'.desk acts';
+          handed = subst (λ (rs : List SlaveBook). AreHanded (λ k. served_overs answers'.serving.leading.lives k) rs) (sym rows)
+              (rows_handed v.session.recover v.session.ring.nodes v.session.notes (map run_lead answers'.serving.leading.serves) (λ k. served_overs answers'.serving.leading.lives k) (λ k. passing_at answers'.serving.leading.serves k) answers'.serving.told answers'.serving.handed);
+          written = λ due. subst (λ (rs : List SlaveBook). AreForwarded (λ k. served_written answers'.serving.leading.lives k) rs) (sym rows)
+              (rows_forwarded v.session.recover v.session.ring.nodes v.session.notes (map run_lead answers'.serving.leading.serves) (λ k. served_written answers'.serving.leading.lives k) (λ k. forwards_now (lens_of plan.slaves) (map run_lead answers'.serving.leading.serves) k) answers'.serving.told
+              (answers'.serving.written due));
+          rests = λ none. all_rest plan count v.session b b' on.underway answers'.serving (rests none).0 rows many (rests none).1;
+          packets = has_packets plan v.session.ports v.session.ring.number v.session.master.lan b b' on.underway.ports (sym (ap length frames ∙ many_sent plan count v.session b on.underway)) kept on.underway.switched;
+          come = λ none. no_packet plan count v.session b b' on.underway answers'.serving (rests none).0 kept;
+          left = λ spent due none. some_left plan v.session b' answers'.serving on.underway.recover many (lives spent) rows booked due none;
+          steady = course_falls plan count on.is_plan v.session b'.frames b'.grams v.desk.requests.items on.owed course';
+          stray = course_strays plan count on.is_plan v.session b'.frames b'.grams v.desk.requests.items on.owed course' b'.slaves rows;
+          all = all;
+        },
+        same.3,
+      )
 
   -- a serving whose port failed
   faulted_so : (result : Ending) → (result ≢ endings.NoMemory → b'.slaves ≡ session_rows v.session) → (result ≡ endings.PortFault) ⊎ (result ≡ endings.NoMemory) → IsBroken first now b' → IsServed plan count first now b' result
   faulted_so result rows (inl is) broken =
       let apart : result ≢ endings.NoMemory = λ e. absurd (cc) in
-      subst (IsServed plan count first now b') (sym is) (stops_as endings.PortFault (rows apart) tt, has_grams, broken, has_account endings.PortFault (rows apart) (λ other. absurd (other refl)) (λ none. absurd (leaves_some none)) (λ spent. absurd (cc)))
+      let a = has_account endings.PortFault (rows apart) (λ other. absurd (other refl)) (λ none. absurd (leaves_some none)) (λ spent. absurd (cc)) in
+      subst (IsServed plan count first now b') (sym is) (stops_as endings.PortFault (rows apart) tt, has_grams, broken, a.0, a.1)
   faulted_so result rows (inr is) broken = subst (IsServed plan count first now b') (sym is) tt
 
   -- a serving that came to its end
@@ -189,13 +194,16 @@ module _ (plan : Scenario) (count : ℕ) (first now : Told) (v : Serving) (b b' 
   through_so ending result rows (inr is) so over rests lives empty sent = subst (IsServed plan count first now b') (sym is) tt
   through_so endings.Done result rows (inl is) so over rests lives empty sent =
       let apart : result ≢ endings.NoMemory = λ e. absurd (cc) in
-      subst (IsServed plan count first now b') (sym is) (stops_as endings.Done (rows apart) so, has_grams, record { over = over (λ e. absurd (cc)); sent = sent }, has_account endings.Done (rows apart) (λ other. empty) (λ none. (rests (λ e. absurd (cc)), so.0)) (λ spent. absurd (cc)))
+      let a = has_account endings.Done (rows apart) (λ other. empty) (λ none. (rests (λ e. absurd (cc)), so.0)) (λ spent. absurd (cc)) in
+      subst (IsServed plan count first now b') (sym is) (stops_as endings.Done (rows apart) so, has_grams, record { over = over (λ e. absurd (cc)); sent = sent }, a.0, a.1)
   through_so endings.GivenUp result rows (inl is) so over rests lives empty sent =
       let apart : result ≢ endings.NoMemory = λ e. absurd (cc) in
-      subst (IsServed plan count first now b') (sym is) (stops_as endings.GivenUp (rows apart) so, has_grams, record { over = over (λ e. absurd (cc)); sent = sent }, has_account endings.GivenUp (rows apart) (λ other. empty) (λ none. (rests (λ e. absurd (cc)), so.0)) (λ spent. absurd (cc)))
+      let a = has_account endings.GivenUp (rows apart) (λ other. empty) (λ none. (rests (λ e. absurd (cc)), so.0)) (λ spent. absurd (cc)) in
+      subst (IsServed plan count first now b') (sym is) (stops_as endings.GivenUp (rows apart) so, has_grams, record { over = over (λ e. absurd (cc)); sent = sent }, a.0, a.1)
   through_so endings.BudgetSpent result rows (inl is) so over rests lives empty sent =
       let apart : result ≢ endings.NoMemory = λ e. absurd (cc) in
-      subst (IsServed plan count first now b') (sym is) (stops_as endings.BudgetSpent (rows apart) so, has_grams, sent, has_account endings.BudgetSpent (rows apart) (λ other. empty) (λ none. absurd (spent_some none)) lives)
+      let a = has_account endings.BudgetSpent (rows apart) (λ other. empty) (λ none. absurd (spent_some none)) lives in
+      subst (IsServed plan count first now b') (sym is) (stops_as endings.BudgetSpent (rows apart) so, has_grams, sent, a.0, a.1)
   through_so endings.PortFault result rows (inl is) so over rests lives empty sent = absurd so
   through_so endings.NoMemory result rows (inl is) so over rests lives empty sent = absurd so
   through_so endings.Unfinished result rows (inl is) so over rests lives empty sent = absurd so
@@ -205,7 +213,7 @@ pub served : (plan : Scenario) (count : ℕ) (first now : Told) (v : Serving) (b
     b'.serving ≡ v.session.serving → length v.session.notes ≡ length v.session.ring.nodes → (result ≢ endings.NoMemory → b'.slaves ≡ session_rows v.session) → (result ≡ ending) ⊎ (result ≡ endings.NoMemory) → EndsSo v.session ending →
     (ending ≢ endings.BudgetSpent → can_hear v b ≡ false) → (ending ≢ endings.BudgetSpent → ServingRests v.session) → (ending ≡ endings.BudgetSpent → LivesOn v.session) → v.desk.outbox.items ≡ [] → IsServed plan count first now b' result
 served plan count first now v b b' ending result some h frames kept grams replies serving many rows is so whole rests lives empty =
-    through_so plan count first now v b b' some h.on h.heard frames kept grams replies serving many ending result rows is so
+    through_so plan count first now v b b' some h.on h.heard h.over frames kept grams replies serving many ending result rows is so
     (λ apart.
     let counts = h.on.counts in
     let few = h.on.few in
@@ -221,7 +229,7 @@ served plan count first now v b b' ending result some h frames kept grams replie
 pub faulted : (plan : Scenario) (count : ℕ) (first now : Told) (v : Serving) (b b' : Book) (result : Ending) → 0 < count → IsFaulted plan count first now v b → b'.frames ≡ b.frames → SameSwitch b b' → b'.grams ≡ b.grams → b'.replies ≡ b.replies →
     b'.serving ≡ v.session.serving → length v.session.notes ≡ length v.session.ring.nodes → (result ≢ endings.NoMemory → b'.slaves ≡ session_rows v.session) → (result ≡ endings.PortFault) ⊎ (result ≡ endings.NoMemory) → IsServed plan count first now b' result
 faulted plan count first now v b b' result some h frames kept grams replies serving many rows is =
-    faulted_so plan count first now v b b' some h.on h.heard frames kept grams replies serving many result rows is
+    faulted_so plan count first now v b b' some h.on h.heard h.over frames kept grams replies serving many result rows is
     (record { rose = h.rose; sent = subst (AreSentBut first.sent now.sent) (sym replies) h.sent })
 
 -- the port failed, or memory ran out

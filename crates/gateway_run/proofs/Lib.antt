@@ -34,4 +34,5 @@ pub mod Tolds
 pub mod Turnings
 pub mod Turns
 pub mod Views
+pub mod Waits
 pub mod Worked

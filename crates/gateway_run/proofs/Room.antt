@@ -12,6 +12,14 @@ both : (x y : Bool) → (x && y) ≡ true → (x ≡ true) × (y ≡ true)
 both true y e = (refl, e)
 both false y e = absurd (cc)
 
+shut : (x : Bool) → not x ≡ true → x ≡ false
+shut true e = absurd (cc)
+shut false e = refl
+
+-- the port isn't over, where more can be heard
+pub not_over : (v : Serving) (b : Book) → can_hear v b ≡ true → v.over ≡ false
+not_over v b can = shut v.over (both (not v.over) (nat_lt (length b.grams) v.count) can).0
+
 pub room : (v : Serving) (b : Book) → can_hear v b ≡ true → length b.grams < v.count
 room v b can = ltb-true (length b.grams) v.count (both (not v.over) (nat_lt (length b.grams) v.count) can).1
 

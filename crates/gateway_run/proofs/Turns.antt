@@ -24,8 +24,9 @@ use Rattle.run_record.specs.of_run_notes.Switched.{SameSwitch}
 use Rattle.run_record.specs.Ran.{HasSent}
 use Rattle.run_record.proofs.Underway.{same_on, has_frames, many as many_sent, stepped_on, stopped}
 use Rattle.gateway_run.specs.Heard.{heard_as, sent_as, AreHeard, AreSent, AreSentBut, IsOwed, IsRightly}
-use Rattle.gateway_run.specs.Account.{Owing, Course, Course.hears, Course.steps, AreSpelled, happened_in, left_by_all, numbers_in, owed_by_all}
+use Rattle.gateway_run.specs.Account.{Owing, Course, Course.hears, Course.steps, AreSpelled, MayGo, Waited, happened_in, left_by_all, numbers_in, owed_by_all}
 use Rattle.gateway_run.specs.Desk.{IsSound, AsksMails, SameLan, Owes, NotesAll, Takes, TakesSo}
+use Rattle.gateway_run.specs.Goes.{MaySend}
 use Rattle.gateway_run.specs.declared.desk.Request.{Request}
 use Rattle.gateway_run.specs.Serving.{Told, IsOn, IsServing, IsFaulted, Listens, PutsOne, SentOne, FailedOne, SendsOne, Goes, left}
 use Rattle.gateway_run.specs.declared.desk.Desk.{Desk}
@@ -34,6 +35,7 @@ use Rattle.gateway_run.specs.declared.stop.Stop.TheVariants as stops
 use Rattle.gateway_run.specs.declared.turn.Serving.{Serving}
 use Rattle.gateway_run.proofs.Accounts.{spelled_both, spelled_more}
 use Rattle.gateway_run.proofs.Desks.{all_owed_more, sound_same}
+use Rattle.gateway_run.proofs.Waits.{waited_still}
 
 pub map_push : {A B : Type 0} (f : A → B) (xs : List A) (x : A) → map f (xs ++ x ∷ []) ≡ map f xs ++ f x ∷ []
 map_push f [] x = refl
@@ -131,19 +133,21 @@ left_kept v v' b b' session counts over grams =
     ap (λ (s : SessionState). left_of s (length b'.grams) v'.count v'.over) session ∙ ap (λ (l : List GramIn). left_of v.session (length l) v'.count v'.over) grams
     ∙ ap (λ (n : ℕ). left_of v.session (length b.grams) n v'.over) counts ∙ ap (λ (o : Bool). left_of v.session (length b.grams) v.count o) over
 
--- a course over which just these events came at the switch, with these numbers
-abbrev pub CourseTo : Scenario → ℕ → SessionState → List SentFrame → List GramIn → List Request → List Owing → List SwitchEvent → List ℕ → Type 0
-CourseTo plan count s fs gs rs os es ns = (c : Course plan count s fs gs rs os) × (happened_in plan count s fs gs rs os c ≡ es) × (numbers_in plan count s fs gs rs os c ≡ ns)
+-- a course over which just these events came at the switch, with these numbers, and which waited before each frame
+abbrev pub CourseTo : Scenario → ℕ → SessionState → List SentFrame → List GramIn → List Request → List Owing → List SwitchEvent → List ℕ → Bool → Type 0
+CourseTo plan count s fs gs rs os es ns over = (c : Course plan count s fs gs rs os) × (happened_in plan count s fs gs rs os c ≡ es) × (numbers_in plan count s fs gs rs os c ≡ ns) × Waited plan count s fs gs rs os c over
 
--- the same course, and the same datagrams
-pub course_same : (plan : Scenario) (count : ℕ) (s s' : SessionState) (fs fs' : List SentFrame) (gs gs' : List GramIn) (rs rs' : List Request) (os : List Owing) (es es' : List SwitchEvent) (ns ns' : List ℕ) → s' ≡ s → fs' ≡ fs → gs' ≡ gs → rs' ≡ rs → es' ≡ es → ns' ≡ ns →
-    CourseTo plan count s fs gs rs os es ns → CourseTo plan count s' fs' gs' rs' os es' ns'
-course_same plan count s s' fs fs' gs gs' rs rs' os es es' ns ns' session frames grams requests events numbers c =
-    subst (λ (l : List ℕ). CourseTo plan count s' fs' gs' rs' os es' l) (sym numbers)
-    (subst (λ (l : List SwitchEvent). CourseTo plan count s' fs' gs' rs' os l ns) (sym events)
-    (subst (λ (l : List Request). CourseTo plan count s' fs' gs' l os es ns) (sym requests)
-    (subst (λ (l : List GramIn). CourseTo plan count s' fs' l rs os es ns) (sym grams)
-    (subst (λ (l : List SentFrame). CourseTo plan count s' l gs rs os es ns) (sym frames) (subst (λ (t : SessionState). CourseTo plan count t fs gs rs os es ns) (sym session) c)))))
+-- the same course, and the same datagrams, by a port that may be over later
+pub course_same : (plan : Scenario) (count : ℕ) (s s' : SessionState) (fs fs' : List SentFrame) (gs gs' : List GramIn) (rs rs' : List Request) (os : List Owing) (es es' : List SwitchEvent) (ns ns' : List ℕ) (over over' : Bool) → s' ≡ s → fs' ≡ fs → gs' ≡ gs → rs' ≡ rs → es' ≡ es → ns' ≡ ns →
+    (over' ≡ false → over ≡ false) → CourseTo plan count s fs gs rs os es ns over → CourseTo plan count s' fs' gs' rs' os es' ns' over'
+course_same plan count s s' fs fs' gs gs' rs rs' os es es' ns ns' over over' session frames grams requests events numbers yet c =
+    let d =
+    subst (λ (l : List ℕ). CourseTo plan count s' fs' gs' rs' os es' l over) (sym numbers)
+    (subst (λ (l : List SwitchEvent). CourseTo plan count s' fs' gs' rs' os l ns over) (sym events)
+    (subst (λ (l : List Request). CourseTo plan count s' fs' gs' l os es ns over) (sym requests)
+    (subst (λ (l : List GramIn). CourseTo plan count s' fs' l rs os es ns over) (sym grams)
+    (subst (λ (l : List SentFrame). CourseTo plan count s' l gs rs os es ns over) (sym frames) (subst (λ (t : SessionState). CourseTo plan count t fs gs rs os es ns over) (sym session) c))))) in
+    (d.0, d.1, d.2, waited_still plan count s' fs' gs' rs' os d.0 over over' yet d.3)
 
 pub spelled_same : (heard heard' : List HeardGram) (os : List Owing) (rs rs' : List GramOut) → heard' ≡ heard → rs' ≡ rs → AreSpelled heard os rs → AreSpelled heard' os rs'
 spelled_same heard heard' os rs rs' grams replies a =
@@ -158,12 +162,12 @@ spelled_on heard os more sent sent' out out' same a o =
 
 module _ (plan : Scenario) (count : ℕ) (first : Told) where
   -- a serving of the same session and requests, whatever its port told: what it owes went into the book, or stands there still
-  on_moved : (v v' : Serving) (b b' : Book) (replies : List GramOut) → IsOn plan count v b → b' ≡ record b { replies = replies } → v'.session ≡ v.session → v'.count ≡ v.count → v'.desk.gateway ≡ v.desk.gateway → v'.desk.requests.items ≡ v.desk.requests.items →
+  on_moved : (v v' : Serving) (b b' : Book) (replies : List GramOut) → IsOn plan count v b → b' ≡ record b { replies = replies } → v'.session ≡ v.session → v'.count ≡ v.count → v'.desk.gateway ≡ v.desk.gateway → v'.desk.requests.items ≡ v.desk.requests.items → (v'.over ≡ false → v.over ≡ false) →
       replies ++ v'.desk.outbox.items ≡ b.replies ++ v.desk.outbox.items → All (IsOwed (map heard_as b.grams)) replies → All (IsOwed (map heard_as b.grams)) v'.desk.outbox.items → IsOn plan count v' b'
-  on_moved v v' b b' replies h put session counts gateway requests all answered owed =
+  on_moved v v' b b' replies h put session counts gateway requests yet all answered owed =
       let grams : b'.grams ≡ b.grams = ap (λ (x : Book). x.grams) put in
       let sent : b'.replies ≡ replies = ap (λ (x : Book). x.replies) put in
-      let c = course_same plan count v.session v'.session b.frames b'.frames b.grams b'.grams v.desk.requests.items v'.desk.requests.items h.owed b.switch b'.switch b.switched b'.switched session (ap (λ (x : Book). x.frames) put) grams requests (ap (λ (x : Book). x.switch) put) (ap (λ (x : Book). x.switched) put) (h.course, h.switch, h.switched) in
+      let c = course_same plan count v.session v'.session b.frames b'.frames b.grams b'.grams v.desk.requests.items v'.desk.requests.items h.owed b.switch b'.switch b.switched b'.switched v.over v'.over session (ap (λ (x : Book). x.frames) put) grams requests (ap (λ (x : Book). x.switch) put) (ap (λ (x : Book). x.switched) put) yet (h.course, h.switch, h.switched, h.waited) in
       record {
         underway = same_on plan count v.session v'.session b b' h.underway (session_same v.session v'.session session) (ap (λ (s : SessionState). s.master.lan) session) (ap (λ (x : Book). x.frames) put) (switch_same put refl refl refl) (ap (λ (x : Book). x.slaves) put);
         counts = counts ∙ h.counts;
@@ -175,6 +179,7 @@ module _ (plan : Scenario) (count : ℕ) (first : Told) where
         course = c.0;
         switch = c.1;
         switched = c.2;
+        waited = c.3;
         spelled = spelled_same (map heard_as b.grams) (map heard_as b'.grams) h.owed (b.replies ++ v.desk.outbox.items) (b'.replies ++ v'.desk.outbox.items) (ap (map heard_as) grams) (ap (λ (l : List GramOut). l ++ v'.desk.outbox.items) sent ∙ all) h.spelled;
         sound = subst (λ (l : List GramIn). IsSound (map heard_as l) v'.desk) (sym grams) (sound_same (map heard_as b.grams) v.desk v'.desk gateway requests owed h.sound);
         answered = subst (λ (l : List GramIn). All (IsOwed (map heard_as l)) b'.replies) (sym grams) (subst (All (IsOwed (map heard_as b.grams))) (sym sent) answered);
@@ -182,15 +187,15 @@ module _ (plan : Scenario) (count : ℕ) (first : Told) where
       }
 
   -- one of the same parts
-  on_same : (v v' : Serving) (b : Book) → IsOn plan count v b → v'.session ≡ v.session → v'.count ≡ v.count → v'.desk.outbox.items ≡ v.desk.outbox.items → v'.desk.gateway ≡ v.desk.gateway → v'.desk.requests.items ≡ v.desk.requests.items → IsOn plan count v' b
-  on_same v v' b h session counts outbox gateway requests =
-      on_moved v v' b b b.replies h refl session counts gateway requests (ap (λ (l : List GramOut). b.replies ++ l) outbox) h.answered (subst (All (IsOwed (map heard_as b.grams))) (sym outbox) h.sound.owed)
+  on_same : (v v' : Serving) (b : Book) → IsOn plan count v b → v'.session ≡ v.session → v'.count ≡ v.count → v'.desk.outbox.items ≡ v.desk.outbox.items → v'.desk.gateway ≡ v.desk.gateway → v'.desk.requests.items ≡ v.desk.requests.items → (v'.over ≡ false → v.over ≡ false) → IsOn plan count v' b
+  on_same v v' b h session counts outbox gateway requests yet =
+      on_moved v v' b b b.replies h refl session counts gateway requests yet (ap (λ (l : List GramOut). b.replies ++ l) outbox) h.answered (subst (All (IsOwed (map heard_as b.grams))) (sym outbox) h.sound.owed)
 
   -- a desk of the same parts
   pub same_desk : (now : Told) (v v' : Serving) (b : Book) → IsServing plan count first now v b → v'.session ≡ v.session → v'.count ≡ v.count → v'.over ≡ v.over → v'.desk.outbox.items ≡ v.desk.outbox.items → v'.desk.gateway ≡ v.desk.gateway →
       v'.desk.requests.items ≡ v.desk.requests.items → IsServing plan count first now v' b
   same_desk now v v' b h session counts over outbox gateway requests = record {
-    on = on_same v v' b h.on session counts outbox gateway requests;
+    on = on_same v v' b h.on session counts outbox gateway requests (λ e. sym over ∙ e);
     heard = h.heard;
     sent = h.sent;
     over = λ e. h.over (sym over ∙ e);
@@ -212,17 +217,21 @@ module _ (plan : Scenario) (count : ℕ) (first : Told) where
 
   module _ (now next : Told) (v v' : Serving) (b b' : Book) (h : IsServing plan count first now v b) where
     -- a datagram was taken
-    pub took : (peer : Peer) (octets : List ℕ) → length v.desk.requests.items < 64 → Listens now next (heards.From peer) octets → length b.grams < v.count → Takes v.session.homes peer octets b b' →
+    pub took : (peer : Peer) (octets : List ℕ) → length v.desk.requests.items < 64 → Listens now next (heards.From peer) octets → length b.grams < v.count → v.over ≡ false → Takes v.session.homes peer octets b b' →
         (IsSound (map heard_as b.grams) v.desk → IsSound (map heard_as b'.grams) v'.desk) → TakesSo v.session v'.session v.desk v'.desk b b' → b' ≡ record b { grams = b'.grams } → AsksMails v.session v'.session → SameLan v.session v'.session → v'.count ≡ v.count → v'.over ≡ v.over →
         IsServing plan count first next v' b'
-    took peer octets few l room t sound so same asks lan counts over =
+    took peer octets few l room yet t sound so same asks lan counts over =
         let g = t.gram in
         let grams : map heard_as b'.grams ≡ map heard_as b.grams ++ heard_as g ∷ [] = ap (map heard_as) t.put ∙ map_push heard_as b.grams g in
         let frames = ap (λ (x : Book). x.frames) same in
         let sent = ap (λ (x : Book). x.replies) same in
         let homes = h.on.underway.homes in
-        let c = course_same plan count v'.session v'.session b.frames b'.frames (b.grams ++ so.gram ∷ []) b'.grams v'.desk.requests.items v'.desk.requests.items (h.on.owed ++ so.taken.more) b.switch b'.switch b.switched b'.switched refl frames so.put refl (ap (λ (x : Book). x.switch) same) (ap (λ (x : Book). x.switched) same)
-        (hears v.session v'.session b.frames b.grams so.gram v.desk.requests.items v'.desk.requests.items h.on.owed so.taken.more h.on.course (so.frame (sent_few h.on)) few so.taken.judges, h.on.switch, h.on.switched) in
+        let c = course_same plan count v'.session v'.session b.frames b'.frames (b.grams ++ so.gram ∷ []) b'.grams v'.desk.requests.items v'.desk.requests.items (h.on.owed ++ so.taken.more) b.switch b'.switch b.switched b'.switched v'.over v'.over refl frames so.put refl (ap (λ (x : Book). x.switch) same) (ap (λ (x : Book). x.switched) same) (λ e. e) (
+          hears v.session v'.session b.frames b.grams so.gram v.desk.requests.items v'.desk.requests.items h.on.owed so.taken.more h.on.course (so.frame (sent_few h.on)) few so.taken.judges,
+          h.on.switch,
+          h.on.switched,
+          subst (Waited plan count v.session b.frames b.grams v.desk.requests.items h.on.owed h.on.course) yet h.on.waited,
+        ) in
         let told : heard_as g ≡ record { from = peer; bytes = octets } = ap (λ (p : Peer). record { from = p; bytes = g.bytes }) t.from_peer ∙ ap (λ (o : List ℕ). record { from = peer; bytes = o }) t.with_octets in
         record {
           on = record {
@@ -240,6 +249,7 @@ module _ (plan : Scenario) (count : ℕ) (first : Told) where
             course = c.0;
             switch = c.1;
             switched = c.2;
+            waited = c.3;
             spelled = spelled_on (map heard_as b'.grams) h.on.owed so.taken.more b.replies b'.replies v.desk.outbox.items v'.desk.outbox.items sent
                 (subst (λ (l : List HeardGram). AreSpelled l h.on.owed (b.replies ++ v.desk.outbox.items)) (sym grams) (spelled_more (map heard_as b.grams) (heard_as g ∷ []) h.on.owed (b.replies ++ v.desk.outbox.items) h.on.spelled)) so.taken.owes;
           };
@@ -264,9 +274,9 @@ module _ (plan : Scenario) (count : ℕ) (first : Told) where
   quiet now next v b octets h l = listened now next v b h (quiet_heard now.heard next.heard octets l.hears) l.sent (λ e. l.over ∙ h.over e) l.later
 
   -- the port ended
-  pub over : (now next : Told) (v v' : Serving) (b : Book) (octets : List ℕ) → v'.session ≡ v.session → v'.desk ≡ v.desk → v'.count ≡ v.count → IsServing plan count first now v b → Listens now next heards.Ended octets → IsServing plan count first next v' b
-  over now next v v' b octets session desk counts h l = record {
-    on = on_same v v' b h.on session counts (ap (λ (d : Desk). d.outbox.items) desk) (ap (λ (d : Desk). d.gateway) desk) (ap (λ (d : Desk). d.requests.items) desk);
+  pub over : (now next : Told) (v v' : Serving) (b : Book) (octets : List ℕ) → v'.session ≡ v.session → v'.desk ≡ v.desk → v'.count ≡ v.count → v'.over ≡ true → IsServing plan count first now v b → Listens now next heards.Ended octets → IsServing plan count first next v' b
+  over now next v v' b octets session desk counts ended h l = record {
+    on = on_same v v' b h.on session counts (ap (λ (d : Desk). d.outbox.items) desk) (ap (λ (d : Desk). d.gateway) desk) (ap (λ (d : Desk). d.requests.items) desk) (λ e. absurd (cc));
     heard = heard_same first.heard now.heard next.heard b.grams h.heard (ended_heard now.heard next.heard octets l.hears);
     sent = sent_kept first.sent now.sent next.sent b.replies h.sent l.sent;
     over = λ e. l.over;
@@ -274,19 +284,20 @@ module _ (plan : Scenario) (count : ℕ) (first : Told) where
   }
 
   -- the port failed at listening
-  pub failed : (now next : Told) (v : Serving) (b : Book) (octets : List ℕ) → IsServing plan count first now v b → Hears now.heard next.heard octets (Err errors.Failed) → next.sent ≡ now.sent → Rose now.faults next.faults → now.faults ≤ next.faults →
+  pub failed : (now next : Told) (v : Serving) (b : Book) (octets : List ℕ) → IsServing plan count first now v b → Hears now.heard next.heard octets (Err errors.Failed) → next.sent ≡ now.sent → next.over ≡ now.over → Rose now.faults next.faults → now.faults ≤ next.faults →
       IsFaulted plan count first next v b
-  failed now next v b octets h heard sent rose later = record {
+  failed now next v b octets h heard sent over rose later = record {
     on = h.on;
     heard = heard_same first.heard now.heard next.heard b.grams h.heard (failed_heard now.heard next.heard octets heard);
     sent = inl (sent_kept first.sent now.sent next.sent b.replies h.sent sent);
+    over = λ e. over ∙ h.over e;
     rose = rose_since first.faults now.faults next.faults h.later rose later;
   }
 
   -- a frame was sent
   pub stepped : (now : Told) (v v' : Serving) (b b' : Book) (f : SentFrame) → IsServing plan count first now v b → v.session.ring.number < v.session.budget → Steps v.session b v'.session b' f → (happened : FrameEvents) → SwitchGrows v.session b happened b' → ServingGoesOn v.session v'.session happened f → has_live v.session.master ≡ true →
-      (IsDone v.session → ⊥) → NotesAll (events_of v'.session.master) v.desk v'.desk → v'.count ≡ v.count → v'.over ≡ v.over → IsServing plan count first now v' b'
-  stepped now v v' b b' f h left step happened grows led live busy notes counts over =
+      (IsDone v.session → ⊥) → MaySend v b → NotesAll (events_of v'.session.master) v.desk v'.desk → v'.count ≡ v.count → v'.over ≡ v.over → IsServing plan count first now v' b'
+  stepped now v v' b b' f h left step happened grows led live busy may notes counts over =
       let told = notes (map heard_as b.grams) h.on.sound in
       let sound = told.sound in
       let more = owed_by_all (events_of v'.session.master) v.desk.requests.items in
@@ -294,12 +305,13 @@ module _ (plan : Scenario) (count : ℕ) (first : Told) where
       let grams = step.rest.grams in
       let replies = step.rest.replies in
       let grown = grows plan.host h.on.underway.switched in
-      let c = course_same plan count v'.session v'.session (b.frames ++ f ∷ []) b'.frames b.grams b'.grams left_now v'.desk.requests.items (h.on.owed ++ more) (b.switch ++ (happened.making ++ happened.behind)) b'.switch (b.switched ++ numbers_over (length b.frames) happened) b'.switched refl step.put grams told.requests grown.switch
-      (grown.switched ∙ ap (λ n. b.switched ++ numbers_over n happened) (sym (many_sent plan count v.session b h.on.underway))) (
+      let c = course_same plan count v'.session v'.session (b.frames ++ f ∷ []) b'.frames b.grams b'.grams left_now v'.desk.requests.items (h.on.owed ++ more) (b.switch ++ (happened.making ++ happened.behind)) b'.switch (b.switched ++ numbers_over (length b.frames) happened) b'.switched v.over v'.over refl step.put grams told.requests grown.switch
+      (grown.switched ∙ ap (λ n. b.switched ++ numbers_over n happened) (sym (many_sent plan count v.session b h.on.underway))) (λ e. sym over ∙ e) (
         steps v.session v'.session b.frames f b.grams v.desk.requests.items h.on.owed h.on.course
             (record { recorded = step.recorded; ring = step.ring; homes = step.homes; asked = step.asked; recover = step.recover; live = live; busy = busy; happened = happened; led = led }),
         ap (λ z. z ++ (happened.making ++ happened.behind)) h.on.switch,
         ap (λ z. z ++ numbers_over (length b.frames) happened) h.on.switched,
+        (subst (λ (n : ℕ). MayGo v.over n (length b.frames) b.grams v.desk.requests.items) h.on.counts (may (sent_few h.on)), h.on.waited),
       ) in
       record {
         on = record {
@@ -316,6 +328,7 @@ module _ (plan : Scenario) (count : ℕ) (first : Told) where
           course = c.0;
           switch = c.1;
           switched = c.2;
+          waited = c.3;
           spelled = subst (λ (l : List GramIn). AreSpelled (map heard_as l) (h.on.owed ++ more) (b'.replies ++ v'.desk.outbox.items)) (sym grams)
               (spelled_on (map heard_as b.grams) h.on.owed more b.replies b'.replies v.desk.outbox.items v'.desk.outbox.items replies h.on.spelled told.owes);
         };
@@ -329,11 +342,11 @@ module _ (plan : Scenario) (count : ℕ) (first : Told) where
   frames_cut now v b b' h left stop = stopped plan count v.session b b' h.on.underway left stop
 
   -- a datagram went from what is owed into the book
-  handed_on : (v v' : Serving) (b b' : Book) (r : GramOut) → IsOn plan count v b → v'.session ≡ v.session → v'.count ≡ v.count → v.desk.outbox.items ≡ r ∷ v'.desk.outbox.items → v'.desk.gateway ≡ v.desk.gateway → v'.desk.requests.items ≡ v.desk.requests.items →
+  handed_on : (v v' : Serving) (b b' : Book) (r : GramOut) → IsOn plan count v b → v'.session ≡ v.session → v'.count ≡ v.count → v.desk.outbox.items ≡ r ∷ v'.desk.outbox.items → v'.desk.gateway ≡ v.desk.gateway → v'.desk.requests.items ≡ v.desk.requests.items → v'.over ≡ v.over →
       PutsOne r b b' → IsOn plan count v' b'
-  handed_on v v' b b' r h session counts outbox gateway requests put =
+  handed_on v v' b b' r h session counts outbox gateway requests over put =
       let owed : All (IsOwed (map heard_as b.grams)) (r ∷ v'.desk.outbox.items) = subst (All (IsOwed (map heard_as b.grams))) outbox h.sound.owed in
-      on_moved v v' b b' (b.replies ++ r ∷ []) h put session counts gateway requests
+      on_moved v v' b b' (b.replies ++ r ∷ []) h put session counts gateway requests (λ e. sym over ∙ e)
       (append_assoc b.replies (r ∷ []) v'.desk.outbox.items ∙ ap (λ (l : List GramOut). b.replies ++ l) (sym outbox))
       (All-push (IsOwed (map heard_as b.grams)) b.replies r h.answered (All-head (IsOwed (map heard_as b.grams)) r v'.desk.outbox.items owed))
       (All-tail (IsOwed (map heard_as b.grams)) r v'.desk.outbox.items owed)
@@ -342,7 +355,7 @@ module _ (plan : Scenario) (count : ℕ) (first : Told) where
       (outbox : v.desk.outbox.items ≡ r ∷ v'.desk.outbox.items) (gateway : v'.desk.gateway ≡ v.desk.gateway) (requests : v'.desk.requests.items ≡ v.desk.requests.items) where
     pub handed : SentOne r now next b b' → IsServing plan count first next v' b'
     handed s = record {
-      on = handed_on v v' b b' r h.on session counts outbox gateway requests s.puts;
+      on = handed_on v v' b b' r h.on session counts outbox gateway requests over' s.puts;
       heard = subst (AreHeard first.heard next.heard) (sym (ap (λ (x : Book). x.grams) s.puts)) (heard_kept first.heard now.heard next.heard b.grams h.heard s.heard);
       sent = subst (AreSent first.sent next.sent) (sym (ap (λ (x : Book). x.replies) s.puts)) (sent_on first.sent now.sent next.sent b.replies r h.sent s.sent);
       over = λ e. s.over ∙ h.over (sym over' ∙ e);
@@ -351,9 +364,10 @@ module _ (plan : Scenario) (count : ℕ) (first : Told) where
 
     pub not_handed : FailedOne r now next b b' → IsFaulted plan count first next v' b'
     not_handed s = record {
-      on = handed_on v v' b b' r h.on session counts outbox gateway requests s.puts;
+      on = handed_on v v' b b' r h.on session counts outbox gateway requests over' s.puts;
       heard = subst (AreHeard first.heard next.heard) (sym (ap (λ (x : Book). x.grams) s.puts)) (heard_kept first.heard now.heard next.heard b.grams h.heard s.heard);
       sent = subst (AreSentBut first.sent next.sent) (sym (ap (λ (x : Book). x.replies) s.puts)) (sent_but first.sent now.sent next.sent b.replies r h.sent s.sent);
+      over = λ e. s.over ∙ h.over (sym over' ∙ e);
       rose = rose_since first.faults now.faults next.faults h.later s.rose s.later;
     }
 
@@ -363,10 +377,10 @@ module _ (plan : Scenario) (count : ℕ) (first : Told) where
     all_handed (Err stops.NoMemory) s = has_frames plan count v.session b b' h.on.underway (ap (λ (x : Book). x.frames) s) (ap (λ (x : Book). x.switch) s)
 
   -- the port failed at listening, or memory ran out there
-  pub listen_failed : {T : Type 0} (now next : Told) (v : Serving) (b : Book) (octets : List ℕ) (e : PortErr) (r : Result T Stop) → IsServing plan count first now v b → Hears now.heard next.heard octets (Err e) → next.sent ≡ now.sent →
+  pub listen_failed : {T : Type 0} (now next : Told) (v : Serving) (b : Book) (octets : List ℕ) (e : PortErr) (r : Result T Stop) → IsServing plan count first now v b → Hears now.heard next.heard octets (Err e) → next.sent ≡ now.sent → next.over ≡ now.over →
       (e ≡ errors.Failed → Rose now.faults next.faults) → now.faults ≤ next.faults → r ≡ Err (stop_of e) → Goes plan count first next v b r
-  listen_failed now next v b octets errors.Failed r h heard sent rose later is = subst (Goes plan count first next v b) (sym is) (failed now next v b octets h heard sent (rose refl) later)
-  listen_failed now next v b octets errors.NoMemory r h heard sent rose later is = subst (Goes plan count first next v b) (sym is) (has_frames plan count v.session b b h.on.underway refl refl)
+  listen_failed now next v b octets errors.Failed r h heard sent over rose later is = subst (Goes plan count first next v b) (sym is) (failed now next v b octets h heard sent over (rose refl) later)
+  listen_failed now next v b octets errors.NoMemory r h heard sent over rose later is = subst (Goes plan count first next v b) (sym is) (has_frames plan count v.session b b h.on.underway refl refl)
 
   -- the frames of a serving
   pub frames_of : (now : Told) (v : Serving) (b b' : Book) → IsServing plan count first now v b → b'.frames ≡ b.frames → b'.switch ≡ b.switch → HasSent plan count b'

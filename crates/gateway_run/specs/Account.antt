@@ -1,5 +1,5 @@
 -- What a serving owes its peers, by what it hears and what its session tells.
-use Rattle.std.specs.Prelude.{◌≡◌, ◌≢◌, ◌<◌, ◌≤◌, ◌+◌, ℕ, ◌==◌, ◌&&◌, Bool, true, false, not, if◌then◌else◌, List, [], ◌∷◌, ◌++◌, length, map, filter, find, slice_get, All, Option, Some, None, Ok, Err}
+use Rattle.std.specs.Prelude.{◌≡◌, ◌≢◌, ◌<◌, ◌≤◌, ◌+◌, ◌⊎◌, ℕ, ◌==◌, ◌&&◌, Bool, true, false, not, if◌then◌else◌, List, [], ◌∷◌, ◌++◌, length, map, filter, find, slice_get, All, Any, Option, Some, None, Ok, Err}
 use Rattle.slab.specs.Slab.{Slab}
 use Rattle.ec_outside.specs.Port.{HeardGram}
 use Rattle.mailbox_mail.specs.Mail.{error_of}
@@ -200,6 +200,20 @@ abbrev pub numbers_in : (plan : Scenario) (count : ℕ) (s : SessionState) (fs :
 numbers_in plan count _ _ _ _ _ (Course.begins s first serves) = []
 numbers_in plan count _ _ _ _ _ (Course.hears s s' fs gs g rs rs' os more c at few judges) = numbers_in plan count s fs gs rs os c
 numbers_in plan count _ _ _ _ _ (Course.steps s s' fs f gs rs os c m) = numbers_in plan count s fs gs rs os c ++ numbers_over (length fs) m.happened
+
+-- a datagram was heard when so many frames had been sent
+abbrev pub WasHeardAt : ℕ → List GramIn → Type 0
+WasHeardAt frames gs = Any (λ (g : GramIn). g.frame ≡ frames) gs
+
+-- A FRAME MAY GO: where no request is unfinished and more can be heard, a datagram was heard since the frame before
+abbrev pub MayGo : Bool → ℕ → ℕ → List GramIn → List Request → Type 0
+MayGo over count frames gs rs = over ≡ false → rs ≡ [] → (count ≤ length gs) ⊎ WasHeardAt frames gs
+
+-- IT WAITED: each frame of a course might go, by whether the port is over behind it; it wasn't before a datagram that was heard
+abbrev pub Waited : (plan : Scenario) (count : ℕ) (s : SessionState) (fs : List SentFrame) (gs : List GramIn) (rs : List Request) (os : List Owing) → Course plan count s fs gs rs os → Bool → Type 0
+Waited plan count _ _ _ _ _ (Course.begins s first serves) over = Unit {0}
+Waited plan count _ _ _ _ _ (Course.hears s s' fs gs g rs rs' os more c at few judges) over = Waited plan count s fs gs rs os c false
+Waited plan count _ _ _ _ _ (Course.steps s s' fs f gs rs os c m) over = MayGo over count (length fs) gs rs × Waited plan count s fs gs rs os c over
 
 -- A MAIL AS IT IS SENT: to the peer of the datagram that it answers, with that datagram's station and counter
 pub record Spells (heard : List HeardGram) (o : Owing) (r : GramOut) : Type 0 where

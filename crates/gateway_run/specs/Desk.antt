@@ -13,7 +13,7 @@ use Rattle.ec_outside.specs.declared.port.Peer.{Peer}
 use Rattle.run_book.specs.declared.book.Book.{Book}
 use Rattle.run_book.specs.declared.book.GramIn.{GramIn}
 use Rattle.run_book.specs.declared.book.GramOut.{GramOut}
-use Rattle.gateway_run.specs.Account.{Owing, Judges, AreSpelled, IsFree, owing, left_by_all, owed_by_all}
+use Rattle.gateway_run.specs.Account.{Owing, Judges, AreSpelled, IsFree, WasHeardAt, owing, left_by_all, owed_by_all}
 use Rattle.gateway_run.specs.Heard.{heard_as, IsOwed, IsRightly}
 use Rattle.gateway_run.specs.declared.desk.Request.{Request}
 use Rattle.gateway_run.specs.declared.desk.Desk.{Desk}
@@ -148,3 +148,7 @@ pub record TakesSo (s s' : SessionState) (d d' : Desk) (b b' : Book) : Type 0 wh
 -- the same of a desk that is sound
 abbrev pub TakesSoundly : SessionState → SessionState → Desk → Desk → Book → Book → Type 0
 TakesSoundly s s' d d' b b' = length b.grams < 4294967296 → IsSound (map heard_as b.grams) d → TakesSo s s' d d' b b'
+
+-- a datagram stands there that was heard when as many frames had been sent as the book has
+abbrev pub HearsNow : Book → Book → Type 0
+HearsNow b b' = length b.frames < 4294967296 → WasHeardAt (length b.frames) b'.grams

@@ -7,6 +7,7 @@ use Rattle.segment_plan.specs.declared.plan.Scenario.{Scenario}
 use Rattle.run_book.specs.declared.book.Book.{Book}
 use Rattle.run_book.specs.declared.book.Ending.{Ending}
 use Rattle.run_book.specs.declared.book.Ending.TheVariants as endings
+use Rattle.gateway_run.specs.Account.{MayGo}
 use Rattle.gateway_run.specs.Serving.{Told, told, Listens, Goes, IsServing, LivesOn, LivesUnless, EmptyWhere}
 use Rattle.gateway_run.specs.declared.stop.Stop.{Stop}
 use Rattle.gateway_run.specs.declared.turn.Serving.{Serving}
@@ -18,6 +19,14 @@ HasRoom v = length v.desk.requests.items < 64
 -- unless the segment is settled some slave is live and something is left to do; where it is, no request is unfinished
 abbrev pub MayTurn : Bool → Serving → Type 0
 MayTurn settled v = LivesUnless settled v.session × EmptyWhere settled v
+
+-- a frame may go, where the frames can be counted
+abbrev pub MaySend : Serving → Book → Type 0
+MaySend v b = length b.frames < 4294967296 → MayGo v.over v.count (length b.frames) b.grams v.desk.requests.items
+
+-- unless the segment rests some slave is live and something is left to do; and a frame may go
+abbrev pub MayStep : Bool → Serving → Book → Type 0
+MayStep rests v b = LivesUnless rests v.session × MaySend v b
 
 -- it leaves a serving where this is given, by what the port told before and behind
 abbrev pub GoesIf : {T : Type 0} → Type 0 → Told → Told → Serving → Serving → Book → Book → Result T Stop → Type 0

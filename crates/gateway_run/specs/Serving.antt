@@ -13,7 +13,7 @@ use Rattle.run_record.specs.Session.{SessionState, IsDone, budget_of, has_live}
 use Rattle.run_record.specs.of_run_notes.Slaves.{home_of}
 use Rattle.run_record.specs.Ran.{HasSent, IsUnderway}
 use Rattle.gateway_run.specs.Heard.{heard_as, AreHeard, AreSent, AreSentBut, IsOwed, IsRightly}
-use Rattle.gateway_run.specs.Account.{Owing, Course, AreSpelled, happened_in, numbers_in}
+use Rattle.gateway_run.specs.Account.{Owing, Course, AreSpelled, Waited, happened_in, numbers_in}
 use Rattle.gateway_run.specs.Desk.{IsSound}
 use Rattle.gateway_run.specs.declared.stop.Stop.{Stop}
 use Rattle.gateway_run.specs.declared.stop.Stop.TheVariants as stops
@@ -43,7 +43,7 @@ abbrev pub EmptyWhere : Bool → Serving → Type 0
 EmptyWhere settled v = OnTrue settled (v.desk.requests.items ≡ [])
 
 -- a serving of a sound plan and its book: the session is under way, each reply goes to its own asker, what was passed on was rightly so, what was
--- sent and is still to be sent is what was owed, and just what happened at the switch stands in the book, with its numbers
+-- sent and is still to be sent is what was owed, and just what happened at the switch stands in the book, with its numbers; and it waited before each frame
 pub record IsOn (plan : Scenario) (count : ℕ) (v : Serving) (b : Book) : Type 0 where
   pub is_plan : IsPlan plan
   pub underway : IsUnderway plan count v.session b
@@ -59,6 +59,7 @@ pub record IsOn (plan : Scenario) (count : ℕ) (v : Serving) (b : Book) : Type 
   pub switch : happened_in plan count v.session b.frames b.grams v.desk.requests.items owed course ≡ b.switch
   pub switched : numbers_in plan count v.session b.frames b.grams v.desk.requests.items owed course ≡ b.switched
   pub spelled : AreSpelled (map heard_as b.grams) owed (b.replies ++ v.desk.outbox.items)
+  pub waited : Waited plan count v.session b.frames b.grams v.desk.requests.items owed course v.over
 
 -- a serving and its port, by what the port told first: the book has what was heard and sent since
 pub record IsServing (plan : Scenario) (count : ℕ) (first now : Told) (v : Serving) (b : Book) : Type 0 where
@@ -73,6 +74,7 @@ pub record IsFaulted (plan : Scenario) (count : ℕ) (first now : Told) (v : Ser
   pub on : IsOn plan count v b
   pub heard : AreHeard first.heard now.heard b.grams
   pub sent : AreSentBut first.sent now.sent b.replies
+  pub over : v.over ≡ true → now.over ≡ true
   pub rose : Rose first.faults now.faults
 
 -- what a call of a port that listens tells: what it heard, and that it sent nothing
@@ -99,6 +101,7 @@ pub record FailedOne (reply : GramOut) (now next : Told) (b b' : Book) : Type 0 
   pub puts : PutsOne reply b b'
   pub heard : next.heard ≡ now.heard
   pub sent : AreSentBut now.sent next.sent (reply ∷ [])
+  pub over : next.over ≡ now.over
   pub rose : Rose now.faults next.faults
   pub later : now.faults ≤ next.faults
 

@@ -5,7 +5,7 @@ ghost use Rattle.master_node.specs.declared.event.Event.TheVariants as events;
 ghost use Rattle.gateway_run.specs.Events.{events_of};
 ghost use Rattle.gateway_run.specs.Account.{has_key, is_of, others, elsewhere, begun_first, cut_off, replied, left_by, owed_by};
 ghost use Rattle.gateway_run.specs.Heard.{IsJudged};
-ghost use Rattle.gateway_run.specs.Desk.{HasNone, IsOpen, IsSound, HearsSoundly, StaysSound, AsksMails, SameLan, SameLive, StaysBusy, Tells, NotesAll, cut_one, Answers, PassesSoundly, PassesSo, IsTakenSo, Takes, TakesSoundly};
+ghost use Rattle.gateway_run.specs.Desk.{HasNone, IsOpen, IsSound, HearsNow, HearsSoundly, StaysSound, AsksMails, SameLan, SameLive, StaysBusy, Tells, NotesAll, cut_one, Answers, PassesSoundly, PassesSo, IsTakenSo, Takes, TakesSoundly};
 
 use ec_fields::{NoMemory, Octets};
 use ec_outside::{Gram, Peer};
@@ -312,6 +312,7 @@ impl Desk {
         ensures heard { OnOk result (Takes session.old.homes peer bytes.now book.old book.new) }
         ensures sound { OnOk result (StaysSound self.old self.new book.old book.new) }
         ensures taken { OnOk result (TakesSoundly session.old session.new self.old self.new book.old book.new) }
+        ensures now { OnOk result (HearsNow book.old book.new) }
         ensures book { book.new ≡ record book.old { grams = book.new.grams } }
         ensures session { AsksMails session.old session.new }
         ensures live { SameLive session.old session.new }

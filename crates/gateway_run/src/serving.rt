@@ -79,7 +79,8 @@ fn serve_through<P: Port>(
 }
 
 /// Serves a plan: brings its segment up, hears datagrams until so many came or the port ended, passes their mails on to the slaves and sends
-/// the replies to who asked. The book then has the frames, what became of each slave, and the datagrams heard and sent; after `NoMemory` the
+/// the replies to who asked. Before each frame at which no request is unfinished and more can be heard it waits for a datagram, so nothing is
+/// sent until one was heard or the port ended. The book then has the frames, what became of each slave, and the datagrams heard and sent; after `NoMemory` the
 /// frames until then.
 ///
 /// What it has of the slaves and of the switch is just what the lives of the slaves have that its frames lead: of each the services of its script that

@@ -7,7 +7,7 @@ ghost use Rattle.segment_plan.specs.Sound.{IsPlan};
 ghost use Rattle.run_record.specs.Served.{ServingBegins};
 ghost use Rattle.run_record.specs.Session.{first_session};
 ghost use Rattle.gateway_run.specs.Desk.{HasNone, SameLive, StaysBusy};
-ghost use Rattle.gateway_run.specs.Goes.{GoesIf, GoesOn, GoesOnIf, HasRoom, LeavesIf, MayTurn, TakesHeard};
+ghost use Rattle.gateway_run.specs.Goes.{GoesIf, GoesOn, GoesOnIf, HasRoom, LeavesIf, MaySend, MayStep, MayTurn, TakesHeard};
 ghost use Rattle.gateway_run.specs.Serving.{Told, told, SendsOne, LivesUnless, EmptyWhere, left, can_hear};
 
 use crate::desk::Desk;
@@ -79,6 +79,7 @@ impl Serving {
         ensures some { IfOk result (λ some. OnTrue some (left self.new book.new < left self.old book.old)) }
         ensures loud { OnOk result (heard ≢ heards.Quiet → left self.new book.new < left self.old book.old) }
         ensures most { OnOk result (left self.new book.new ≤ left self.old book.old) }
+        ensures may { OnOk result ((heard ≡ heards.Quiet → MaySend self.old book.old) → MaySend self.new book.new) }
     {
         match heard {
             Heard::From(peer) => {
@@ -101,6 +102,7 @@ impl Serving {
         ensures live { SameLive self.old.session self.new.session }
         ensures busy { StaysBusy self.old.session self.new.session }
         ensures less { OnOk result (left self.new book.new < left self.old book.old) }
+        ensures may { OnOk result (MaySend self.new book.new) }
     {
         let heard = port.wait(&mut self.gram)?;
         self.take(alloc, heard, book)?;
@@ -113,6 +115,7 @@ impl Serving {
         ensures live { SameLive self.old.session self.new.session }
         ensures busy { StaysBusy self.old.session self.new.session }
         ensures most { OnOk result (left self.new book.new ≤ left self.old book.old) }
+        ensures may { OnOk result (MaySend self.old book.old → MaySend self.new book.new) }
     {
         while self.can_hear(book) && !self.desk.is_full() {
             let heard = port.poll(&mut self.gram)?;
@@ -137,6 +140,7 @@ impl Serving {
         ensures busy { StaysBusy self.old.session self.new.session }
         ensures less { OnOk result (OnTrue settled (left self.new book.new < left self.old book.old)) }
         ensures most { OnOk result (left self.new book.new ≤ left self.old book.old) }
+        ensures may { OnOk result (MaySend self.new book.new) }
     {
         if self.can_hear(book) && (settled || self.desk.is_empty()) {
             self.wait(alloc, port, book)?;
@@ -146,7 +150,7 @@ impl Serving {
 
     // Sends a frame, unless the segment rests; `false` where it doesn't and the budget of frames is spent.
     fn frame(&mut self, alloc: Global, rests: bool, book: &mut Book) -> Result<bool, Stop>
-        ensures goes { (now : Told) → GoesIf (LivesUnless rests self.old.session) now now self.old self.new book.old book.new result }
+        ensures goes { (now : Told) → GoesIf (MayStep rests self.old book.old) now now self.old self.new book.old book.new result }
         ensures less { IfOk result (λ on. OnTrue on (OnFalse rests (left self.new book.new < left self.old book.old))) }
         ensures most { OnOk result (left self.new book.new ≤ left self.old book.old) }
         ensures spent { IfOk result (λ on. OnFalse on (self.new.session.ring.number ≡ self.new.session.budget)) }

@@ -11,7 +11,7 @@ returns-in_err-heard-clause-goes g c = λ plan count first h.
     let e = p.1 in
     let e2 = p.2 in
     listen_failed plan count first _ _ _ c.loop-self.book _ c.in_err-heard.field-0.0 c.from_residual.result (same_gram plan count first _ c.loop-self.self _ c.loop-self.book refl refl refl refl (c.loop-self.invariant.goes plan count first h))
-    c.in_err-heard.ensures.hears c.in_err-heard.ensures.sends (λ same. c.poll.ensures.cause (c.in_err-heard.was ∙ ap Err same)) c.in_err-heard.ensures.later (p.1 ∙ ap Err p.2)
+    c.in_err-heard.ensures.hears c.in_err-heard.ensures.sends c.in_err-heard.ensures.ended (λ same. c.poll.ensures.cause (c.in_err-heard.was ∙ ap Err same)) c.in_err-heard.ensures.later (p.1 ∙ ap Err p.2)
 
 pub returns-in_err-take-clause-goes : goal.returns-in_err-take-clause-goes
 returns-in_err-take-clause-goes g c = λ plan count first h.
@@ -36,4 +36,8 @@ loop-self-preserved g c = record {
   live = c.in_ok-take.ensures.live ∙ c.loop-self.invariant.live;
   busy = λ done. c.loop-self.invariant.busy (c.in_ok-take.ensures.busy done);
   most = let a = c.in_ok-take.ensures.most in let b = c.loop-self.invariant.most in omega (arith, a, b);
+  may = λ old. c.in_ok-take.ensures.may (λ quiet. c.loop-self.invariant.may old);
 }
+
+pub returns-then-not-branch-clause-may : goal.returns-then-not-branch-clause-may
+returns-then-not-branch-clause-may g c = λ old. c.in_ok-take.ensures.may (λ quiet. c.loop-self.invariant.may old)

@@ -1,6 +1,7 @@
 use Rattle.std.proofs.Common.{◌≤◌, ℕ}
 use Rattle.segment_plan.specs.declared.plan.Scenario.{Scenario}
 use Rattle.gateway_run.specs.Desk.{SameLive, StaysBusy}
+use Rattle.gateway_run.specs.Goes.{MaySend}
 use Rattle.gateway_run.specs.Serving.{Told, told, IsServing, left}
 use Rattle.gateway_run.proofs.turn.Serving.poll.Given as goal
 
@@ -10,6 +11,7 @@ invariant-loop-self g l = record {
   live : SameLive l.fn.self.session l.self.session;
   busy : StaysBusy l.fn.self.session l.self.session;
   most : left l.self l.book ≤ left l.fn.self l.fn.book;
+  may : MaySend l.fn.self l.fn.book → MaySend l.self l.book;
 }
 
 abbrev pub decreases-loop-self : goal.decreases-loop-self

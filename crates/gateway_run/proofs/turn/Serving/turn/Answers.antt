@@ -28,7 +28,7 @@ returns-in_err-on-clause-goes g c = λ plan count first may h.
       | then-settled v ↦ lives_on plan count c.hear.new.self c.hear.new.book heard.on c.if-settled.rests v.settled-rests.result v.rests-is v.settled-rests.ensures.lives v.settled-rests.ensures.done
       | else-settled v ↦ lives_still c.args.self.now.session c.hear.new.self.session c.in_ok-hear.ensures.live c.in_ok-hear.ensures.busy c.if-settled.rests c.args.settled v.if-settled.false may.0
     ] in
-    goes_so plan count first now c.frame.new.self c.frame.new.book c.in_err-on.field-0.0 c.frame.result c.from_residual-in_err-on.result c.in_err-on.was same (c.frame.ensures.goes now plan count first lives heard)
+    goes_so plan count first now c.frame.new.self c.frame.new.book c.in_err-on.field-0.0 c.frame.result c.from_residual-in_err-on.result c.in_err-on.was same (c.frame.ensures.goes now plan count first (lives, c.in_ok-hear.ensures.may) heard)
 
 pub returns-in_err-send-clause-goes : goal.returns-in_err-send-clause-goes
 returns-in_err-send-clause-goes g c = λ plan count first may h.
@@ -43,7 +43,7 @@ returns-in_err-send-clause-goes g c = λ plan count first may h.
       | else-settled v ↦ lives_still c.args.self.now.session c.hear.new.self.session c.in_ok-hear.ensures.live c.in_ok-hear.ensures.busy c.if-settled.rests c.args.settled v.if-settled.false may.0
     ] in
     goes_so plan count first _ _ _ c.in_err-send.field-0.0 c.send.result c.from_residual-in_err-send.result c.in_err-send.was same
-    (c.send.ensures.goes plan count first (c.in_ok-on.ensures.goes now plan count first lives heard))
+    (c.send.ensures.goes plan count first (c.in_ok-on.ensures.goes now plan count first (lives, c.in_ok-hear.ensures.may) heard))
 
 pub returns-clause-goes : goal.returns-clause-goes
 returns-clause-goes g c = λ plan count first may h.
@@ -53,7 +53,7 @@ returns-clause-goes g c = λ plan count first may h.
       | then-settled v ↦ lives_on plan count c.hear.new.self c.hear.new.book heard.on c.if-settled.rests v.settled-rests.result v.rests-is v.settled-rests.ensures.lives v.settled-rests.ensures.done
       | else-settled v ↦ lives_still c.args.self.now.session c.hear.new.self.session c.in_ok-hear.ensures.live c.in_ok-hear.ensures.busy c.if-settled.rests c.args.settled v.if-settled.false may.0
     ] in
-    c.in_ok-send.ensures.goes plan count first (c.in_ok-on.ensures.goes now plan count first lives heard)
+    c.in_ok-send.ensures.goes plan count first (c.in_ok-on.ensures.goes now plan count first (lives, c.in_ok-hear.ensures.may) heard)
 
 pub returns-clause-left : goal.returns-clause-left
 returns-clause-left g c = λ plan count first may h.

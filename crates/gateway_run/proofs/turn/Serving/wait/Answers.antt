@@ -8,7 +8,7 @@ pub returns-in_err-heard-clause-goes : goal.returns-in_err-heard-clause-goes
 returns-in_err-heard-clause-goes g c = λ plan count first free h.
     let p = err_from_is_err_and c.from_residual.result c.from_residual.ensures.1 in
     listen_failed plan count first _ _ _ c.args.book.now _ c.in_err-heard.field-0.0 c.from_residual.result (same_gram plan count first _ c.args.self.now _ c.args.book.now refl refl refl refl h)
-    c.in_err-heard.ensures.hears c.in_err-heard.ensures.sends (λ same. c.wait.ensures.cause (c.in_err-heard.was ∙ ap Err same)) c.in_err-heard.ensures.later (p.1 ∙ ap Err p.2)
+    c.in_err-heard.ensures.hears c.in_err-heard.ensures.sends c.in_err-heard.ensures.ended (λ same. c.wait.ensures.cause (c.in_err-heard.was ∙ ap Err same)) c.in_err-heard.ensures.later (p.1 ∙ ap Err p.2)
 
 pub returns-in_err-take-clause-goes : goal.returns-in_err-take-clause-goes
 returns-in_err-take-clause-goes g c = λ plan count first free h.
