@@ -1,5 +1,5 @@
 -- EACH DATAGRAM THAT WAS QUEUED AT A SLAVE got what that gives for its mail.
-use Rattle.std.proofs.Common.{◌≡◌, ℕ, zero, suc, true, Option, Some, None, List, [], ◌∷◌, ◌++◌, length, map, sym, ap, ◌∙◌, subst, arith}
+use Rattle.std.proofs.Common.{◌≡◌, ℕ, zero, suc, ◌+◌, Bool, true, false, Option, Some, None, List, [], ◌∷◌, ◌++◌, length, map, refl, sym, ap, ◌∙◌, subst, arith}
 use Rattle.std.specs.Prelude.{option_map, slice_get, All, Ok}
 use Rattle.std.proofs.lemmas.Option.{slice_get-map}
 use Rattle.exchange_model.specs.Exchange.{plain}
@@ -7,11 +7,11 @@ use Rattle.exchange_model.specs.Prefix.{IsPrefixOf}
 use Rattle.exchange_model.specs.Rows.{Row}
 use Rattle.gateway_core.specs.Framing.{request_in}
 use Rattle.gateway_run.proofs.Given.{told_append}
-use Rattle.gateway_run.proofs.Hands.{both_at}
+use Rattle.gateway_run.proofs.Hands.{both_at, rises_apart}
 use Rattle.gateway_run.proofs.Judging.{got_at}
 use Rattle.gateway_run.specs.Account.{Owing}
-use Rattle.gateway_run.specs.Replies.{Fares, Fares.dropped, Fares.replies, Fares.waits, GivesAll, Got, Got.ignored, Got.queued, Got.refused, HasRow, HearNoMore, IsSame, dones_of, mails_told, owed_in}
-use Rattle.gateway_run.specs.Rooms.{begun_of, owed_for, waiting_of}
+use Rattle.gateway_run.specs.Replies.{AllDesk, Fares, Fares.dropped, Fares.replies, Fares.waits, GivesAll, Got, Got.ignored, Got.queued, Got.refused, HasRow, HearNoMore, IsSame, dones_of, mails_told, owed_in}
+use Rattle.gateway_run.specs.Rooms.{AreRising, begun_of, grams_of, owed_for, waiting_of}
 use Rattle.gateway_run.specs.Served.{HasAccount}
 use Rattle.gateway_run.specs.declared.desk.Request.{Request}
 use Rattle.life_frames.specs.Shares.{AllBoth}
@@ -86,6 +86,27 @@ map_at f xs k x e = slice_get-map f xs k ∙ ap (option_map f) e
 told_first : (xs ys : List Body) → IsPrefixOf xs ys → IsPrefixOf (mails_told xs) (mails_told ys)
 told_first xs ys p = (mails_told p.0, sym (told_append xs p.0) ∙ ap mails_told p.1)
 
+-- a datagram that waits isn't among those whose mails came into hand
+waits_apart : (came : List ℕ) (waiting : List Request) (number : ℕ) → AreRising (came ++ grams_of waiting) → is_in number (grams_of waiting) ≡ true → is_in number came ≡ false
+waits_apart came waiting number rising among = by (is_in number came) refl
+  where
+    by : (b : Bool) → is_in number came ≡ b → is_in number came ≡ false
+    by false none = none
+    by true one = (let none = rises_apart number came (grams_of waiting) rising one in cc)
+
+-- the datagrams of the slave at a place rise
+rising_at : (gs : List GramIn) (rs : List Request) (os : List Owing) (i : ℕ) (ws : List Serves) (nss : List (List ℕ)) → AllDesk gs rs os i ws nss → (place slave : ℕ) (w : Serves) (came : List ℕ) → slave ≡ i + place →
+    slice_get ws place ≡ Some w → slice_get nss place ≡ Some came → AreRising (came ++ grams_of (waiting_of slave rs))
+rising_at gs rs os i [] nss all place slave w came at at_w at_came = absurd (let bad : None ≡ Some w = at_w in cc)
+rising_at gs rs os i (u ∷ ws) [] all place slave w came at at_w at_came = absurd all
+rising_at gs rs os i (u ∷ ws) (ks ∷ nss) all zero slave w came at at_w at_came =
+    let came_same : ks ≡ came = (let is : Some ks ≡ Some came = at_came in cc) in
+    let at_first : i ≡ slave = omega (arith, at) in
+    subst (λ (z : List ℕ). AreRising (z ++ grams_of (waiting_of slave rs))) came_same (subst (λ (k : ℕ). AreRising (ks ++ grams_of (waiting_of k rs))) at_first all.0.rising)
+rising_at gs rs os i (u ∷ ws) (ks ∷ nss) all (suc place) slave w came at at_w at_came =
+    let next : slave ≡ suc i + place = omega (arith, at) in
+    rising_at gs rs os (suc i) ws nss all.1 place slave w came next at_w at_came
+
 -- ONE SLAVE
 module _ (laws : RowsLaw) (law : RowLaw) (s : SlaveSpec) (w : Serves) (n : Node Serving) (d : IsServedLife (profile_of s) s.boot s.station s.start (first_server s) w.lead.lived.life n) (came : List ℕ) (os : List Owing) (dones : List ℕ) (all : GivesAll os (λ k. is_in k dones) w came) where
   abbrev steps : List Given
@@ -118,29 +139,29 @@ module _ (laws : RowsLaw) (law : RowLaw) (s : SlaveSpec) (w : Serves) (n : Node 
           over = λ none. owed_is ∙ ap mails_told (g.4.heard.all (let one : Some g.1 ≡ Some None = sym g.3 ∙ none in cc));
         }
 
-  given_to : (waiting begun : List Request) (number heard : ℕ) (asked : Mail) → Fares w came waiting begun (is_in number dones) number heard asked (owed_for number os) →
+  given_to : (waiting begun : List Request) (number heard : ℕ) (asked : Mail) → AreRising (came ++ grams_of waiting) → Fares w came waiting begun (is_in number dones) number heard asked (owed_for number os) →
       IsGivenTo s steps (passings w.lead.lived.life) (gave_of w.lead) came number heard asked (is_in number dones) (owed_for number os)
-  given_to waiting begun number heard asked (waits a b none c) = still_waits b none c
-  given_to waiting begun number heard asked (dropped a b c e given h) = is_dropped e c given h
-  given_to waiting begun number heard asked (replies told row spared stands same) = takes (step_of number asked told row)
+  given_to waiting begun number heard asked rising (waits a b none c) = still_waits b (waits_apart came waiting number rising a) none c
+  given_to waiting begun number heard asked rising (dropped a b c e given h) = is_dropped e c given h
+  given_to waiting begun number heard asked rising (replies told row spared stands same) = takes (step_of number asked told row)
 
 -- THE SLAVE AT A PLACE
 given_at : RowsLaw → RowLaw → (os : List Owing) (dones : List ℕ) (ss : List SlaveSpec) (ws : List Serves) (ns : List (Node Serving)) (served : AllServeSo ss ws ns) (nss : List (List ℕ)) → AllBoth (GivesAll os (λ k. is_in k dones)) ws nss →
-    (place : ℕ) (w : Serves) (came : List ℕ) → slice_get ws place ≡ Some w → slice_get nss place ≡ Some came → (waiting begun : List Request) (number heard : ℕ) (asked : Mail) → Fares w came waiting begun (is_in number dones) number heard asked (owed_for number os) →
+    (place : ℕ) (w : Serves) (came : List ℕ) → slice_get ws place ≡ Some w → slice_get nss place ≡ Some came → (waiting begun : List Request) (number heard : ℕ) (asked : Mail) → AreRising (came ++ grams_of waiting) → Fares w came waiting begun (is_in number dones) number heard asked (owed_for number os) →
     IsGivenAt ss ws ns served nss place number heard asked (is_in number dones) (owed_for number os)
-given_at laws law os dones [] [] [] served nss all place w came at_w at_came waiting begun number heard asked f = absurd (let bad : None ≡ Some w = at_w in cc)
-given_at laws law os dones [] [] (n ∷ ns) served nss all place w came at_w at_came waiting begun number heard asked f = absurd served
-given_at laws law os dones [] (u ∷ ws) ns served nss all place w came at_w at_came waiting begun number heard asked f = absurd served
-given_at laws law os dones (s ∷ ss) [] ns served nss all place w came at_w at_came waiting begun number heard asked f = absurd served
-given_at laws law os dones (s ∷ ss) (u ∷ ws) [] served nss all place w came at_w at_came waiting begun number heard asked f = absurd served
-given_at laws law os dones (s ∷ ss) (u ∷ ws) (n ∷ ns) served [] all place w came at_w at_came waiting begun number heard asked f = absurd all
-given_at laws law os dones (s ∷ ss) (u ∷ ws) (n ∷ ns) served (ks ∷ nss) all zero w came at_w at_came waiting begun number heard asked f =
+given_at laws law os dones [] [] [] served nss all place w came at_w at_came waiting begun number heard asked rising f = absurd (let bad : None ≡ Some w = at_w in cc)
+given_at laws law os dones [] [] (n ∷ ns) served nss all place w came at_w at_came waiting begun number heard asked rising f = absurd served
+given_at laws law os dones [] (u ∷ ws) ns served nss all place w came at_w at_came waiting begun number heard asked rising f = absurd served
+given_at laws law os dones (s ∷ ss) [] ns served nss all place w came at_w at_came waiting begun number heard asked rising f = absurd served
+given_at laws law os dones (s ∷ ss) (u ∷ ws) [] served nss all place w came at_w at_came waiting begun number heard asked rising f = absurd served
+given_at laws law os dones (s ∷ ss) (u ∷ ws) (n ∷ ns) served [] all place w came at_w at_came waiting begun number heard asked rising f = absurd all
+given_at laws law os dones (s ∷ ss) (u ∷ ws) (n ∷ ns) served (ks ∷ nss) all zero w came at_w at_came waiting begun number heard asked rising f =
     let same : w ≡ u = (let is : Some u ≡ Some w = at_w in cc) in
     let came_same : came ≡ ks = (let is : Some ks ≡ Some came = at_came in cc) in
-    given_to laws law s u n served.0 ks os dones all.0 waiting begun number heard asked
+    given_to laws law s u n served.0 ks os dones all.0 waiting begun number heard asked (subst (λ (z : List ℕ). AreRising (z ++ grams_of waiting)) came_same rising)
     (subst (λ (z : Serves). Fares z ks waiting begun (is_in number dones) number heard asked (owed_for number os)) same (subst (λ (z : List ℕ). Fares w z waiting begun (is_in number dones) number heard asked (owed_for number os)) came_same f))
-given_at laws law os dones (s ∷ ss) (u ∷ ws) (n ∷ ns) served (ks ∷ nss) all (suc place) w came at_w at_came waiting begun number heard asked f =
-    given_at laws law os dones ss ws ns served.1 nss all.1 place w came at_w at_came waiting begun number heard asked f
+given_at laws law os dones (s ∷ ss) (u ∷ ws) (n ∷ ns) served (ks ∷ nss) all (suc place) w came at_w at_came waiting begun number heard asked rising f =
+    given_at laws law os dones ss ws ns served.1 nss all.1 place w came at_w at_came waiting begun number heard asked rising f
 
 -- ALL OF THE BOOK
 module _ (plan : Scenario) (count : ℕ) (book : Book) (is : IsPlan plan) (told : IsTold plan) (replies_law : RepliesLaw) (stays : StaysLaw) (laws : RowsLaw) (law : RowLaw) (sent : HasSent plan count book) (ending : Ending) (a : HasAccount plan count book ending) where
@@ -166,7 +187,8 @@ module _ (plan : Scenario) (count : ℕ) (book : Book) (is : IsPlan plan) (told 
         asked,
         request,
         subst (λ k. IsGivenAt plan.slaves ws nodes served.each a.answers.came k number g.frame asked (is_in number dones) (owed_for number a.owed)) same
-            (given_at laws law a.owed dones plan.slaves ws nodes served.each a.answers.came (a.answers.whole (quiet plan count book is told stays sent)) place w numbers at_w at_came (waiting_of place a.requests) (begun_of place a.requests) number g.frame asked fares),
+            (given_at laws law a.owed dones plan.slaves ws nodes served.each a.answers.came (a.answers.whole (quiet plan count book is told stays sent)) place w numbers at_w at_came (waiting_of place a.requests) (begun_of place a.requests) number g.frame asked
+            (rising_at book.grams a.requests a.owed 0 ws a.answers.came a.answers.desk place place w numbers (omega arith) at_w at_came) fares),
       )
 
   given_all : IsGiven plan count book ending a

@@ -17,6 +17,7 @@ pub mod Few
 mod First
 pub mod Frames
 mod Given
+mod LastEpochs
 pub mod Maps
 pub mod News
 mod Numbers

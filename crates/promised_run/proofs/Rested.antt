@@ -1,15 +1,17 @@
 -- WHERE NOTHING WAS LEFT TO DO all is done of each slave that wasn't given up for good.
-use Rattle.std.proofs.Common.{◌≡◌, ◌⊎◌, ℕ, suc, true, List, [], ◌∷◌, map, inl, inr, sym, ap, ◌∙◌, subst}
+use Rattle.std.proofs.Common.{◌≡◌, ◌⊎◌, ℕ, suc, true, List, [], ◌∷◌, length, map, inl, inr, sym, ap, ◌∙◌, subst}
 use Rattle.gateway_run.specs.Done.{ServedRestsSo}
 use Rattle.gateway_run.specs.Served.{HasAccount, IsServed}
 use Rattle.gateway_run.specs.Serving.{Told}
 use Rattle.life_frames.specs.Shares.{AllBoth}
 use Rattle.life_model.specs.Lives.{Stand}
+use Rattle.life_runs.proofs.Opened.{IsOpened}
 use Rattle.life_runs.specs.First.{first_leads, lens_of}
 use Rattle.life_runs.specs.Led.{Exchanged}
 use Rattle.master_node.specs.Wants.{IsMailless}
 use Rattle.plan_ring.specs.Lives.{IsKnown}
 use Rattle.plan_ring.specs.Round.{AllRound, ring_after as ring_behind, ring_of}
+use Rattle.promised_run.proofs.LastEpochs.{AllOpened, opened_over, quiet_where}
 use Rattle.promised_run.proofs.Rounds.{all_round, same_ring}
 use Rattle.promised_run.proofs.Through.{same_nodes}
 use Rattle.promised_run.specs.Stood.{nodes_through}
@@ -45,21 +47,21 @@ module _ (plan : Scenario) where
   idle_of : (w : Serves) → IsMailless (lens_of plan.slaves) w → IsServedIdle (lens_of plan.slaves) w
   idle_of w m = record { stand = m.idle.stand; side = m.idle.side; hand = m.idle.hand; script = m.idle.script; waits = m.waits; over = m.over }
 
-  one_rested : (stood : ℕ → Node Serving → Type 0) (place : ℕ) (s : SlaveSpec) (w : Serves) (row : SlaveBook) → (IsServedIdle (lens_of plan.slaves) w → is_settled next_mail row.node ≡ true → IsServedDone stood plan place s w row.node) → ServedRestsSo (lens_of plan.slaves) w row →
+  one_rested : (stood : ℕ → Node Serving → Type 0) (place : ℕ) (s : SlaveSpec) (w : Serves) (row : SlaveBook) (frames : ℕ) → IsOpened frames w.lead.lived → (IsServedIdle (lens_of plan.slaves) w → is_settled next_mail row.node ≡ true → IsServedDone stood plan place s w row.node) → ServedRestsSo (lens_of plan.slaves) w row →
       (w.lead.lived.life.stand ≡ Stand.Gone) ⊎ IsRested stood plan place s w row.node
-  one_rested stood place s w row law (inl gone) = inl gone
-  one_rested stood place s w row law (inr so) = (let idle = idle_of w so.0 in inr (record { idle = idle; settled = so.1; done = law idle so.1 }))
+  one_rested stood place s w row frames opened law (inl gone) = inl gone
+  one_rested stood place s w row frames opened law (inr so) = (let idle = idle_of w so.0 in inr (record { idle = idle; settled = so.1; quiet = quiet_where frames w opened idle.stand; done = law idle so.1 }))
 
-  each_rested : (stood : ℕ → List (Node Serving)) (place : ℕ) (ss : List SlaveSpec) (ws : List Serves) (rows : List SlaveBook) → AllServedDoneIf stood plan place ss ws (map (λ (row : SlaveBook). row.node) rows) → AllBoth (ServedRestsSo (lens_of plan.slaves)) ws rows →
+  each_rested : (stood : ℕ → List (Node Serving)) (place : ℕ) (ss : List SlaveSpec) (ws : List Serves) (rows : List SlaveBook) (frames : ℕ) → AllOpened frames ws → AllServedDoneIf stood plan place ss ws (map (λ (row : SlaveBook). row.node) rows) → AllBoth (ServedRestsSo (lens_of plan.slaves)) ws rows →
       AllRested stood plan place ss ws (map (λ (row : SlaveBook). row.node) rows)
-  each_rested stood place [] [] [] law rests = tt
-  each_rested stood place [] [] (row ∷ rows) law rests = absurd rests
-  each_rested stood place [] (w ∷ ws) [] law rests = absurd rests
-  each_rested stood place [] (w ∷ ws) (row ∷ rows) law rests = absurd law
-  each_rested stood place (s ∷ ss) [] [] law rests = absurd law
-  each_rested stood place (s ∷ ss) [] (row ∷ rows) law rests = absurd law
-  each_rested stood place (s ∷ ss) (w ∷ ws) [] law rests = absurd rests
-  each_rested stood place (s ∷ ss) (w ∷ ws) (row ∷ rows) law rests = (one_rested (IsFirst stood) place s w row law.0 rests.0, each_rested (others stood) (suc place) ss ws rows law.1 rests.1)
+  each_rested stood place [] [] [] frames opened law rests = tt
+  each_rested stood place [] [] (row ∷ rows) frames opened law rests = absurd rests
+  each_rested stood place [] (w ∷ ws) [] frames opened law rests = absurd rests
+  each_rested stood place [] (w ∷ ws) (row ∷ rows) frames opened law rests = absurd law
+  each_rested stood place (s ∷ ss) [] [] frames opened law rests = absurd law
+  each_rested stood place (s ∷ ss) [] (row ∷ rows) frames opened law rests = absurd law
+  each_rested stood place (s ∷ ss) (w ∷ ws) [] frames opened law rests = absurd rests
+  each_rested stood place (s ∷ ss) (w ∷ ws) (row ∷ rows) frames opened law rests = (one_rested (IsFirst stood) place s w row frames opened.0 law.0 rests.0, each_rested (others stood) (suc place) ss ws rows frames opened.1 law.1 rests.1)
 
 module _ (plan : Scenario) (count : ℕ) (book : Book) (is : IsPlan plan) (told : IsTold plan) (law : RestsLaw) (sent : HasSent plan count book) where
   abbrev stood : ℕ → List (Node Serving)
@@ -72,7 +74,7 @@ module _ (plan : Scenario) (count : ℕ) (book : Book) (is : IsPlan plan) (told 
       let done = law plan is (known plan told) (map exchanged book.frames) l.missed l.serves l.lives (all_round (first_ring plan) book.frames sent.recorded) in
       let done_here = subst (λ (at : ℕ → List (Node Serving)). AllServedDoneIf at plan 0 plan.slaves l.serves (ring_behind (ring_of plan) (map exchanged book.frames)).nodes) (λ i k. same_nodes plan book.frames k i) done in
       subst (AllRested stood plan 0 plan.slaves l.serves) rows.nodes
-      (each_rested plan stood 0 plan.slaves l.serves book.slaves (subst (AllServedDoneIf stood plan 0 plan.slaves l.serves) (nodes ∙ sym rows.nodes) done_here) (a.rests leaves))
+      (each_rested plan stood 0 plan.slaves l.serves book.slaves (length (map exchanged book.frames)) (opened_over plan (map exchanged book.frames) l.missed l.serves l.lives) (subst (AllServedDoneIf stood plan 0 plan.slaves l.serves) (nodes ∙ sym rows.nodes) done_here) (a.rests leaves))
 
   by_ending : (first last : Told) (ending : Ending) → IsServed plan count first last book ending → LeavesNone ending → (a : HasAccount plan count book ending) → AllRested stood plan 0 plan.slaves a.answers.serving.leading.serves (ring_after (first_ring plan) book.frames).nodes
   by_ending first last endings.Done s leaves a = by_rows s.0.rows endings.Done leaves a

@@ -43,10 +43,10 @@ pub record IsStepOf (s : SlaveSpec) (steps : List Given) (reached : List (Option
   pub all : done ≡ true → mails ≡ mails_given s step
   pub over : slice_get reached index ≡ Some None → mails ≡ mails_given s step
 
--- WHAT A DATAGRAM GOT that was queued at a slave, heard before this frame, by the frames at which the slave was given up: nothing while its mail waits, where it
--- wasn't given up since; error 5 where it was, and the mail never came into hand; or what its slave's server gives for it
+-- WHAT A DATAGRAM GOT that was queued at a slave, heard before this frame, by the frames at which the slave was given up: nothing while its mail waits, which didn't
+-- come into hand yet, where it wasn't given up since; error 5 where it was, and the mail never came into hand; or what its slave's server gives for it
 pub data IsGivenTo (s : SlaveSpec) (steps : List Given) (reached : List (Option Passing)) (gave came : List ℕ) (number heard : ℕ) (asked : Mail) (done : Bool) (mails : List Mail) : Type 0 where
-  waits : done ≡ false → NoneSince heard gave → mails ≡ [] → IsGivenTo s steps reached gave came number heard asked done mails
+  waits : done ≡ false → is_in number came ≡ false → NoneSince heard gave → mails ≡ [] → IsGivenTo s steps reached gave came number heard asked done mails
   dropped : done ≡ false → is_in number came ≡ false → GaveSince heard gave → mails ≡ error_of 5 ∷ [] → IsGivenTo s steps reached gave came number heard asked done mails
   takes : IsStepOf s steps reached came number asked done mails → IsGivenTo s steps reached gave came number heard asked done mails
 

@@ -1,8 +1,11 @@
 -- WHAT A SERVING LEAVES OF ITS SLAVES where nothing was left to do.
 use Rattle.std.specs.Prelude.{◌≡◌, ◌⊎◌, ℕ, suc, true, List, [], ◌∷◌, ⊤}
 use Rattle.gateway_run.specs.Served.{HasAccount}
+use Rattle.gateway_run.specs.Since.{NoneSince}
 use Rattle.life_model.specs.Lives.{Stand}
+use Rattle.life_runs.specs.Causes.{since}
 use Rattle.life_runs.specs.First.{lens_of}
+use Rattle.master_node.specs.Wants.{gave_of}
 use Rattle.run_book.specs.declared.book.Book.{Book}
 use Rattle.run_record.specs.Led.{LeavesNone}
 use Rattle.run_record.specs.Replay.{first_ring, ring_after}
@@ -15,12 +18,14 @@ use Rattle.slave_server.specs.Serving.{Serving, next_mail}
 use Rattle.slave_steps.specs.Node.{Node, is_settled}
 use Rattle.promised_run.specs.Stood.{nodes_through}
 
--- NOTHING IS LEFT OF A SLAVE: its master wants nothing of it, and no mail waits; it is settled; over its epochs its whole script came into hand, with packets and
--- with mails that were asked, in order, all of them where it was never given up; and all rows of its newest epoch are carried out and answered, which made its node
--- what it is, from what the epochs before left, which it held as each of them ended. What one of those left undone when it was cut off stays so
+-- NOTHING IS LEFT OF A SLAVE: its master wants nothing of it, and no mail waits; it is settled; it wasn't given up since its newest epoch began, so no mail that
+-- began since then was cut off; over its epochs its whole script came into hand, with packets and with mails that were asked, in order, all of them where it was
+-- never given up; and all rows of its newest epoch are carried out and answered, which made its node what it is, from what the epochs before left, which it held as
+-- each of them ended. What one of those left undone when it was cut off stays so
 pub record IsRested (stood : ℕ → Node Serving → Type 0) (plan : Scenario) (place : ℕ) (s : SlaveSpec) (w : Serves) (n : Node Serving) : Type 0 where
   pub idle : IsServedIdle (lens_of plan.slaves) w
   pub settled : is_settled next_mail n ≡ true
+  pub quiet : NoneSince (since w.lead.lived.life.era.cleared) (gave_of w.lead)
   pub done : IsServedDone stood plan place s w n
 
 -- of each slave, from a place on, that wasn't given up for good, by the nodes of these slaves behind each number of frames
