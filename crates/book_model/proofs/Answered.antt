@@ -7,11 +7,11 @@ use Rattle.segment_model.specs.Slaves.{Processor}
 use Rattle.segment_model.specs.Record.{Frame, first_end, news_from}
 use Rattle.segment_model.specs.Ends.{Outcome, ends}
 use Rattle.segment_model.specs.Books.{Answer, answer_from}
-use Rattle.state_model.specs.States.{Table}
-use Rattle.state_exchange.specs.Stated.{Stated, IsStated, Service}
-use Rattle.task_model.specs.Accounts.{Started}
-use Rattle.task_model.specs.Promise.{TasksPromised, AllRise, AllEnded, but_last, task_of, services_in, outcome_of}
-use Rattle.task_model.proofs.Sessions.{tasks_promised}
+use Rattle.life_model.specs.of_state_model.States.{Table}
+use Rattle.life_model.specs.of_state_exchange.Stated.{Stated, IsStated, Service}
+use Rattle.life_model.specs.of_task_model.Accounts.{Started}
+use Rattle.life_model.specs.of_task_model.Promise.{TasksPromised, AllRise, AllEnded, but_last, task_of, services_in, outcome_of}
+use Rattle.life_model.proofs.of_task_model.Sessions.{tasks_promised}
 use Rattle.life_model.specs.Lives.{Spot, returns_to_init, opens_state}
 use Rattle.life_model.specs.Eras.{frames_of}
 use Rattle.life_model.specs.Book.{Line, EpochBook, line_of, NoInits}

@@ -5,7 +5,7 @@ use Rattle.link_model.specs.Frames.{node_meets}
 use Rattle.link_model.specs.Segment.{RingFate}
 use Rattle.segment_model.specs.Slaves.{Registers, Processor, Slave, Datagram, Address, Access, Ring, is_meant, registers_met, slave_meets, slave_after, frame_after, slave_steps, first_meet, ring_after}
 use Rattle.segment_model.specs.Record.{is_for}
-use Rattle.state_model.specs.States.{Table, decided, word_carried, carry}
+use Rattle.life_model.specs.of_state_model.States.{Table, decided, word_carried, carry}
 use Rattle.life_model.specs.Own.{own, IsSeen, AreSeen}
 use Rattle.life_model.specs.Eras.{Clearing, IsClearing}
 use Rattle.book_model.specs.Ending.{NoneMean, ReturnsIt, worded, IsClosing, AreClosing, AllClose, behind_all, node_returned, steps_or_returns, HasEnded}

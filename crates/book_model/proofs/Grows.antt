@@ -6,10 +6,10 @@ use Rattle.std.proofs.lemmas.List.{length-drop, take-append-le}
 use Rattle.exchange_model.specs.Exchange.{Exchange, IsLawful, emitted}
 use Rattle.segment_model.specs.Slaves.{Processor}
 use Rattle.segment_model.specs.Record.{Frame, heard}
-use Rattle.state_model.specs.States.{Table}
-use Rattle.state_exchange.specs.Stated.{Stated, IsStated}
-use Rattle.task_model.specs.Accounts.{Started}
-use Rattle.task_model.specs.Tasks.{IsTasked}
+use Rattle.life_model.specs.of_state_model.States.{Table}
+use Rattle.life_model.specs.of_state_exchange.Stated.{Stated, IsStated}
+use Rattle.life_model.specs.of_task_model.Accounts.{Started}
+use Rattle.life_model.specs.of_task_model.Tasks.{IsTasked}
 use Rattle.life_model.specs.Own.{blank, own_frame}
 use Rattle.life_model.specs.Lives.{Spot, opens_state}
 use Rattle.life_model.specs.Eras.{era_frames, planned}

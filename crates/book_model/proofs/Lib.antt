@@ -1,4 +1,4 @@
-pub use Rattle.task_model.proofs as of_task_model
+pub use Rattle.life_model.proofs.of_task_model as of_task_model
 pub mod Lists
 pub mod Told
 pub mod Shown

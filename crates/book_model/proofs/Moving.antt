@@ -5,9 +5,9 @@ use Rattle.std.proofs.lemmas.Bool.{ltb-true, ltb-false, leb-true, leb-false}
 use Rattle.exchange_model.specs.Exchange.{Exchange, IsLawful}
 use Rattle.segment_model.specs.Slaves.{Processor}
 use Rattle.segment_model.specs.Record.{Frame}
-use Rattle.state_model.specs.States.{Table}
-use Rattle.state_exchange.specs.Stated.{Stated, IsStated}
-use Rattle.task_model.specs.Accounts.{Started}
+use Rattle.life_model.specs.of_state_model.States.{Table}
+use Rattle.life_model.specs.of_state_exchange.Stated.{Stated, IsStated}
+use Rattle.life_model.specs.of_task_model.Accounts.{Started}
 use Rattle.life_model.specs.Lives.{Spot, opens_state}
 use Rattle.life_model.specs.Eras.{EraIs}
 use Rattle.life_model.specs.Book.{EpochBook, SlaveBook}

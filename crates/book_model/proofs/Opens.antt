@@ -5,11 +5,11 @@ use Rattle.std.proofs.lemmas.Bool.{le-leb}
 use Rattle.exchange_model.specs.Exchange.{Exchange, IsLawful}
 use Rattle.segment_model.specs.Slaves.{Processor}
 use Rattle.segment_model.specs.Record.{Frame}
-use Rattle.state_model.specs.States.{Table}
-use Rattle.state_exchange.specs.Stated.{Stated, IsStated, Service}
-use Rattle.task_model.specs.Accounts.{Started}
-use Rattle.task_model.specs.Promise.{TasksRestIf, services_in}
-use Rattle.task_model.proofs.Sessions.{tasks_rest}
+use Rattle.life_model.specs.of_state_model.States.{Table}
+use Rattle.life_model.specs.of_state_exchange.Stated.{Stated, IsStated, Service}
+use Rattle.life_model.specs.of_task_model.Accounts.{Started}
+use Rattle.life_model.specs.of_task_model.Promise.{TasksRestIf, services_in}
+use Rattle.life_model.proofs.of_task_model.Sessions.{tasks_rest}
 use Rattle.life_model.specs.Lives.{Spot, returns_to_init}
 use Rattle.life_model.specs.Eras.{frames_of}
 use Rattle.life_model.specs.Book.{Line, EpochBook, SlaveBook, epoch_book, done_rows, NoInits, NoneInDoubt, IsForgetful, EpochFits, EpochRests, FitsFrom, RestsIn, RestFrom, EachDone, all_acted, done_of, done_all, all_emits, any_from, last_row, quiet_since, says_state, begins_with}

@@ -6,10 +6,10 @@ use Rattle.exchange_model.specs.Exchange.{Speech}
 use Rattle.segment_model.specs.Slaves.{Datagram, Found}
 use Rattle.segment_model.specs.Record.{News}
 use Rattle.segment_model.specs.Seats.{Side}
-use Rattle.state_exchange.specs.Stated.{Service}
-use Rattle.task_model.specs.Accounts.{Account, Duty, Stage, Pick, Started, account_begins, is_free, is_acknowledged, starts, state_begins}
-use Rattle.task_model.specs.Promise.{services_in}
-use Rattle.task_model.proofs.Completed.{started_back}
+use Rattle.life_model.specs.of_state_exchange.Stated.{Service}
+use Rattle.life_model.specs.of_task_model.Accounts.{Account, Duty, Stage, Pick, Started, account_begins, is_free, is_acknowledged, starts, state_begins}
+use Rattle.life_model.specs.of_task_model.Promise.{services_in}
+use Rattle.life_model.proofs.of_task_model.Completed.{started_back}
 use Rattle.life_model.specs.Own.{own}
 use Rattle.life_model.specs.Lives.{Life, Era, Spot, Stand, Opening, granted, era_next, life_next, life_back, life_lost, opening_back, shows_clear, is_shown, last_step, clears, opens, steps_on, reopens, reopens_at, reopening, opens_state, era_back, returns_to_init}
 use Rattle.life_model.specs.Eras.{frames_of}

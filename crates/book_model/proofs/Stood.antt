@@ -7,10 +7,10 @@ use Rattle.exchange_model.specs.Rows.{exec_all}
 use Rattle.segment_model.specs.Record.{Frame, News, first_end, or_later, news_from}
 use Rattle.segment_model.specs.Ends.{Outcome, state_ends}
 use Rattle.segment_model.specs.Books.{answer_from}
-use Rattle.state_model.specs.States.{Table}
-use Rattle.state_exchange.specs.Stated.{Stated, IsStated, Service, with_states}
-use Rattle.task_model.specs.Accounts.{Started}
-use Rattle.task_model.specs.Promise.{TasksPromised, AllDone, AllEnded, IsReply, but_last, services_in, mails_in, outcome_of}
+use Rattle.life_model.specs.of_state_model.States.{Table}
+use Rattle.life_model.specs.of_state_exchange.Stated.{Stated, IsStated, Service, with_states}
+use Rattle.life_model.specs.of_task_model.Accounts.{Started}
+use Rattle.life_model.specs.of_task_model.Promise.{TasksPromised, AllDone, AllEnded, IsReply, but_last, services_in, mails_in, outcome_of}
 use Rattle.life_model.specs.Lives.{returns_to_init}
 use Rattle.life_model.specs.Eras.{OpenEra, frames_of}
 use Rattle.life_model.specs.Book.{Line, line_of, epoch_book, done_rows, NoInits, is_in_doubt, opened_behind, acted, all_acted, state_next, weight, done, is_left, trimmed}

@@ -6,8 +6,8 @@ use Rattle.exchange_model.specs.Exchange.{Exchange, Speech, IsLawful, plain}
 use Rattle.segment_model.specs.Slaves.{Datagram, grams}
 use Rattle.segment_model.specs.Record.{Frame, News, Kept, first_end, or_later, news_each, kept_after, kept_all, nothing_kept, counted_each, without_empty, mails_heard, all_told, back_news, did_read, news_from}
 use Rattle.segment_model.specs.Ends.{Outcome, all_written, state_ends, mails_end, ends}
-use Rattle.state_exchange.specs.Stated.{Service}
-use Rattle.task_model.specs.Promise.{task_of}
+use Rattle.life_model.specs.of_state_exchange.Stated.{Service}
+use Rattle.life_model.specs.of_task_model.Promise.{task_of}
 use Rattle.life_model.specs.Own.{own_frame, blank}
 use Rattle.life_model.specs.Lives.{Spot}
 use Rattle.life_model.specs.Eras.{era_frames}

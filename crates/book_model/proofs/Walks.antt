@@ -8,11 +8,11 @@ use Rattle.segment_model.specs.Slaves.{Processor}
 use Rattle.segment_model.specs.Record.{Frame}
 use Rattle.segment_model.specs.Ends.{Outcome}
 use Rattle.segment_model.specs.Books.{Answer}
-use Rattle.state_model.specs.States.{Table}
-use Rattle.state_model.specs.Promises.{state_behind, answer_of}
-use Rattle.state_exchange.specs.Stated.{Stated, IsStated, Service}
-use Rattle.task_model.specs.Accounts.{Started}
-use Rattle.task_model.specs.Promise.{AllEnded, but_last, services_in, mails_in}
+use Rattle.life_model.specs.of_state_model.States.{Table}
+use Rattle.life_model.specs.of_state_model.Promises.{state_behind, answer_of}
+use Rattle.life_model.specs.of_state_exchange.Stated.{Stated, IsStated, Service}
+use Rattle.life_model.specs.of_task_model.Accounts.{Started}
+use Rattle.life_model.specs.of_task_model.Promise.{AllEnded, but_last, services_in, mails_in}
 use Rattle.life_model.specs.Lives.{Spot, returns_to_init, opens_state}
 use Rattle.life_model.specs.Eras.{frames_of}
 use Rattle.life_model.specs.Book.{Line, EpochBook, SlaveBook, line_of, NoInits, NoneInDoubt, IsForgetful, EpochFits, FitsFrom, RestFrom, EachDone, RepliesFit, is_in_doubt, follow, acted, all_acted, state_next, done, done_of, done_all, trimmed, opens_own, begins_with}

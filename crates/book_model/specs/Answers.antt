@@ -4,8 +4,8 @@ use Rattle.exchange_model.specs.Exchange.{Speech}
 use Rattle.segment_model.specs.Record.{Frame, News, first_end, news_each, nothing_kept, counted_each}
 use Rattle.segment_model.specs.Ends.{Outcome, ends}
 use Rattle.segment_model.specs.Books.{Answer, answer_from}
-use Rattle.state_exchange.specs.Stated.{Service}
-use Rattle.task_model.specs.Promise.{task_of}
+use Rattle.life_model.specs.of_state_exchange.Stated.{Service}
+use Rattle.life_model.specs.of_task_model.Promise.{task_of}
 use Rattle.life_model.specs.Lives.{Spot, returns_to_init, opens_state}
 use Rattle.life_model.specs.Eras.{era_frames}
 use Rattle.life_model.specs.Book.{Line, EpochBook}

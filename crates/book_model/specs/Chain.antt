@@ -5,10 +5,10 @@ use Rattle.segment_model.specs.Slaves.{Registers, Processor, Slave, Datagram}
 use Rattle.segment_model.specs.Record.{Frame, is_for}
 use Rattle.segment_model.specs.Ends.{Outcome}
 use Rattle.segment_model.specs.Books.{Answer}
-use Rattle.state_model.specs.States.{Table}
-use Rattle.state_exchange.specs.Stated.{Stated, IsStated, Service}
-use Rattle.task_model.specs.Accounts.{Started}
-use Rattle.task_model.specs.Promise.{services_in}
+use Rattle.life_model.specs.of_state_model.States.{Table}
+use Rattle.life_model.specs.of_state_exchange.Stated.{Stated, IsStated, Service}
+use Rattle.life_model.specs.of_task_model.Accounts.{Started}
+use Rattle.life_model.specs.of_task_model.Promise.{services_in}
 use Rattle.life_model.specs.Own.{own}
 use Rattle.life_model.specs.Lives.{Spot, Era, returns_to_init, opens_state, is_shown}
 use Rattle.life_model.specs.Eras.{EraIs, OpenEra}

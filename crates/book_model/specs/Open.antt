@@ -4,10 +4,10 @@ use Rattle.exchange_model.specs.Exchange.{Exchange, IsLawful}
 use Rattle.segment_model.specs.Slaves.{Processor}
 use Rattle.segment_model.specs.Record.{Frame}
 use Rattle.segment_model.specs.Laws.{IsSettled, WantsNothing}
-use Rattle.state_model.specs.States.{Table}
-use Rattle.state_exchange.specs.Stated.{Stated, IsStated, Service}
-use Rattle.task_model.specs.Accounts.{Started}
-use Rattle.task_model.specs.Promise.{services_in, mails_in}
+use Rattle.life_model.specs.of_state_model.States.{Table}
+use Rattle.life_model.specs.of_state_exchange.Stated.{Stated, IsStated, Service}
+use Rattle.life_model.specs.of_task_model.Accounts.{Started}
+use Rattle.life_model.specs.of_task_model.Promise.{services_in, mails_in}
 use Rattle.life_model.specs.Lives.{Spot, returns_to_init, opens_state}
 use Rattle.life_model.specs.Book.{Line, EpochBook, SlaveBook, FitsFrom, Fits, Rest, AllDone, IsForgetful}
 use Rattle.book_model.specs.Answers.{first_gave, between, return_of, AllAnswers}

@@ -1,9 +1,9 @@
 -- What is addressed to a slave, and whether all of it has begun: its scripted services, and the packets that are forwarded to its port.
 use Rattle.std.specs.Prelude.{◌≡◌, ◌⊎◌, ℕ, ◌&&◌, Bool, true, nat_lt, if◌then◌else◌, Option, Some, None, List, [], ◌∷◌, ◌++◌, map, filter, drop, length, ⊤}
 use Rattle.exchange_model.specs.Prefix.{IsPrefixOf}
-use Rattle.state_exchange.specs.Stated.{Service}
-use Rattle.task_model.specs.Accounts.{Account, Pick}
-use Rattle.task_model.specs.Promise.{services_in}
+use Rattle.life_model.specs.of_state_exchange.Stated.{Service}
+use Rattle.life_model.specs.of_task_model.Accounts.{Account, Pick}
+use Rattle.life_model.specs.of_task_model.Promise.{services_in}
 use Rattle.life_model.specs.Lives.{Era, Life}
 use Rattle.life_model.specs.Book.{EpochBook, SlaveBook}
 use Rattle.book_model.specs.Chain.{Chained}

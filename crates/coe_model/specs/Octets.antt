@@ -1,6 +1,6 @@
 -- The mails of CoE as octets: what a mailbox mail reads as, and what a mail is written as.
 use Rattle.std.specs.Prelude.{◌≡◌, ℕ, ◌<◌, ◌%◌, ◌==◌, ◌&&◌, nat_le, if◌then◌else◌, Bool, true, List, [], length, slice_index, Some, Result, Ok, Err}
-use Rattle.ec_fields.specs.Fields.{number_at}
+use Rattle.coe_codec.specs.of_ec_fields.Fields.{number_at}
 pub use Rattle.mailbox_mail.specs.Bodies.{is_error, mail_with}
 use Rattle.mailbox_mail.specs.Mail.{error_of}
 use Rattle.mailbox_mail.specs.declared.mail.Mail.{Mail}

@@ -3,28 +3,28 @@ use Rattle.std.proofs.Common.{◌≡◌, ℕ, suc, ◌==◌, List, [], ◌∷◌
 use Rattle.std.specs.Prelude.{◌&&◌, nat_lt, if◌then◌else◌}
 use Rattle.std.proofs.lemmas.Bool.Decides.{nat_tests}
 use Rattle.counters_kept.specs.Lives.{StandsKept, LifeKept, is_left, came_so, lost_so}
-use Rattle.life_frames.specs.of_exchange_model.Exchange.{Speech}
-use Rattle.life_frames.specs.of_exchange_model.Rows.{Row}
-use Rattle.life_frames.specs.of_link_model.Counters.{next_counter}
-use Rattle.life_frames.specs.of_life_model.Lives.{Life, Opening, Spot, Stand, clears, era_back, gives_up, is_shown, last_step, life_back, life_lost, life_next, opening_back, opens, opens_state, reopening, reopens, reopens_at, returns_to_init, shows_clear, steps_on}
-use Rattle.life_frames.specs.of_life_model.Own
-use Rattle.life_frames.specs.of_link_mails.Body.{Body}
-use Rattle.life_frames.specs.of_segment_model.Record.{Kept, News, nothing_kept, kept_after, told_behind, heard_behind, last_told, last_heard}
-use Rattle.life_frames.specs.of_segment_model.Seats.{Side, side_back, side_lost}
-use Rattle.life_frames.specs.of_segment_model.Slaves.{Datagram, Access, Found, grams}
-use Rattle.life_frames.specs.of_task_model.Accounts
-use Rattle.life_frames.specs.of_task_model.Accounts.{Pick, duty_access}
-use Rattle.master_side.specs.Carried.{one}
-use Rattle.master_side.specs.Passing.{IsKept}
-use Rattle.master_side.specs.declared.carried.Carried.{Carried}
-use Rattle.master_side.specs.of_master_duty.Reply.{Reply}
+use Rattle.master_tour.specs.of_life_frames.of_exchange_model.Exchange.{Speech}
+use Rattle.master_tour.specs.of_life_frames.of_exchange_model.Rows.{Row}
+use Rattle.master_tour.specs.of_life_frames.of_link_model.Counters.{next_counter}
+use Rattle.master_tour.specs.of_life_frames.of_life_model.Lives.{Life, Opening, Spot, Stand, clears, era_back, gives_up, is_shown, last_step, life_back, life_lost, life_next, opening_back, opens, opens_state, reopening, reopens, reopens_at, returns_to_init, shows_clear, steps_on}
+use Rattle.master_tour.specs.of_life_frames.of_life_model.Own
+use Rattle.master_tour.specs.of_life_frames.of_link_mails.Body.{Body}
+use Rattle.master_tour.specs.of_life_frames.of_segment_model.Record.{Kept, News, nothing_kept, kept_after, told_behind, heard_behind, last_told, last_heard}
+use Rattle.master_tour.specs.of_life_frames.of_segment_model.Seats.{Side, side_back, side_lost}
+use Rattle.master_tour.specs.of_life_frames.of_segment_model.Slaves.{Datagram, Access, Found, grams}
+use Rattle.master_tour.specs.of_life_frames.of_task_model.Accounts
+use Rattle.master_tour.specs.of_life_frames.of_task_model.Accounts.{Pick, duty_access}
+use Rattle.master_tour.specs.of_master_side.Carried.{one}
+use Rattle.master_tour.specs.of_master_side.Passing.{IsKept}
+use Rattle.master_tour.specs.of_master_side.declared.carried.Carried.{Carried}
+use Rattle.master_tour.specs.of_master_side.of_master_duty.Reply.{Reply}
 use Rattle.master_tour.specs.Passing.{StandKept}
 use Rattle.master_tour.specs.Under.{Grams, mine, Under}
 use Rattle.master_tour.specs.declared.stop.Stand as Stop
 use Rattle.master_tour.proofs.Backs.{own_back, own_lost}
 use Rattle.master_tour.proofs.Unders.{SameAim, back_as, lost_as}
-use Rattle.news_kept.specs.Counts.{kept_on}
-use Rattle.news_kept.proofs.Kepts.{new_kept, next_kept, back_kept, lost_kept}
+use Rattle.master_tour.specs.of_news_kept.Counts.{kept_on}
+use Rattle.master_tour.proofs.of_news_kept.Kepts.{new_kept, next_kept, back_kept, lost_kept}
 
 -- the counters count a slave's own datagrams alone
 told_mine : (station last : ℕ) (ds : Grams) → told_behind station last (grams ds) ≡ told_behind station last (grams (mine station ds))

@@ -4,20 +4,20 @@
 
 ghost use Rattle.std.specs.Prelude.{◌≡◌, ◌≤◌, ℕ, Bool, Option, List};
 ghost use Rattle.counters_kept.specs.Lives.{LifeKept, came_so, lost_so};
-ghost use Rattle.life_frames.specs.of_exchange_model.Exchange.{Speech};
-ghost use Rattle.life_frames.specs.of_frame_view.Seen.{seen};
-ghost use Rattle.life_frames.specs.of_frame_view.View.{Lens};
-ghost use Rattle.life_frames.specs.of_life_model.Lives.{Life, Spot, Stand, gives_up, life_back, life_lost, life_next, new_life};
-ghost use Rattle.life_frames.specs.of_link_mails.Body.{Body};
-ghost use Rattle.life_frames.specs.of_segment_model.Record.{Kept, News, nothing_kept};
-ghost use Rattle.life_frames.specs.of_segment_model.Slaves.{Found};
-ghost use Rattle.life_frames.specs.of_task_model.Accounts.{Pick, duty_access};
-ghost use Rattle.master_side.specs.declared.carried.Carried.{Carried};
-ghost use Rattle.master_side.specs.of_master_duty.Reply.{Reply};
+ghost use Rattle.master_tour.specs.of_life_frames.of_exchange_model.Exchange.{Speech};
+ghost use Rattle.master_tour.specs.of_life_frames.of_frame_view.Seen.{seen};
+ghost use Rattle.master_tour.specs.of_life_frames.of_frame_view.View.{Lens};
+ghost use Rattle.master_tour.specs.of_life_frames.of_life_model.Lives.{Life, Spot, Stand, gives_up, life_back, life_lost, life_next, new_life};
+ghost use Rattle.master_tour.specs.of_life_frames.of_link_mails.Body.{Body};
+ghost use Rattle.master_tour.specs.of_life_frames.of_segment_model.Record.{Kept, News, nothing_kept};
+ghost use Rattle.master_tour.specs.of_life_frames.of_segment_model.Slaves.{Found};
+ghost use Rattle.master_tour.specs.of_life_frames.of_task_model.Accounts.{Pick, duty_access};
+ghost use Rattle.master_tour.specs.of_master_side.declared.carried.Carried.{Carried};
+ghost use Rattle.master_tour.specs.of_master_side.of_master_duty.Reply.{Reply};
 ghost use Rattle.master_tour.specs.Passing.{StandKept};
 ghost use Rattle.master_tour.specs.Under.{Under};
 ghost use Rattle.master_tour.specs.declared.stop.Stand as Stop;
-ghost use Rattle.news_kept.specs.Counts.{kept_on};
+ghost use Rattle.master_tour.specs.of_news_kept.Counts.{kept_on};
 
 /// They are before the first frame, and stay so: before each frame, by any choice; behind one that came back or was lost, which has at most the slave's own
 /// datagram; and where it is given up. So they are those of an open slave's side.

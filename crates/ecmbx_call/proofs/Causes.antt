@@ -15,8 +15,8 @@ use Rattle.ecmbx_words.specs.Files.{Holds, IsLong, Followed}
 use Rattle.ecmbx_call.specs.Files.{limit}
 use Rattle.ecmbx_call.specs.Course.{Course}
 use Rattle.promised_run.specs.Ran.{EndsAs, IsOver, IsCut}
-use Rattle.gateway_run.specs.Serving.{Told as PortTold}
-use Rattle.gateway_run.specs.Served.{IsServed}
+use Rattle.promised_run.specs.of_gateway_run.Serving.{Told as PortTold}
+use Rattle.promised_run.specs.of_gateway_run.Served.{IsServed}
 use Rattle.ecmbx_call.specs.Causes.{loaded_in, IsFound, UsageCause, AbsentCause, LongCause, RefusedCause, CameOf, GivenUpCause, LeavesWork, SpentCause, PortCause, IsBroken, BrokenCause, EndingAt, RunsTo, SavesTo, ServesTo, ShowsTo, AuditsTo, MakesTo}
 use Rattle.ecmbx_call.proofs.Told.{Told, told, planned_is, settle_one, settle_two, held, held_long, no_file, no_made, told_usage, told_other, told_absent, told_long, told_refused, told_fault, told_broken, told_ran}
 use Rattle.ecmbx_call.proofs.Found.{found_told, found_refused, found_ran, found_kept, found_served, found_shown, found_audited}

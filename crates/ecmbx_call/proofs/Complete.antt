@@ -2,8 +2,8 @@
 use Rattle.std.proofs.Common.{◌≡◌, ◌≤◌, ◌⊎◌, inl, inr, ℕ, List, Option, refl, sym, ◌∙◌, subst}
 use Rattle.ec_outside.specs.Faults.{Rose}
 use Rattle.ec_outside.specs.Files.{Table}
-use Rattle.gateway_run.specs.Served.{IsServed}
-use Rattle.gateway_run.specs.Serving.{Told}
+use Rattle.promised_run.specs.of_gateway_run.Served.{IsServed}
+use Rattle.promised_run.specs.of_gateway_run.Serving.{Told}
 use Rattle.segment_plan.specs.Bound.{bound_of}
 use Rattle.segment_plan.specs.declared.plan.Scenario.{Scenario}
 use Rattle.run_book.specs.declared.book.Book.{Book}

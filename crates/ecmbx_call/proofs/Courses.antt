@@ -30,7 +30,7 @@ use Rattle.pcap_frames.specs.Reading.{capture_read, UnlessNoMemory}
 use Rattle.ecmbx_words.proofs.Loads.{said, turned, nothing_put}
 use Rattle.ecmbx_words.specs.Files.{FileCourse, Followed, IsLoaded}
 use Rattle.ecmbx_call.specs.Files.{limit}
-use Rattle.gateway_run.specs.Serving.{Told as PortTold}
+use Rattle.promised_run.specs.of_gateway_run.Serving.{Told as PortTold}
 use Rattle.ecmbx_call.specs.Audits.{AuditCourse}
 use Rattle.ecmbx_call.specs.Serving.{ServeCourse}
 use Rattle.ecmbx_call.specs.Course.{HasRun, IsReportable, RunCourse, SavedCourse, ViewCourse, Course, IsUnread, IsUnsaved, BeganOn, BeganIn}

@@ -12,8 +12,8 @@ use Rattle.ecmbx_words.specs.Form.{form_in, name_in}
 use Rattle.ecmbx_call.specs.Course.{status_of}
 use Rattle.ec_outside.specs.Faults.{Rose}
 use Rattle.promised_run.specs.Ran.{EndsAs}
-use Rattle.gateway_run.specs.Serving.{Told as PortTold}
-use Rattle.gateway_run.specs.Served.{IsServed}
+use Rattle.promised_run.specs.of_gateway_run.Serving.{Told as PortTold}
+use Rattle.promised_run.specs.of_gateway_run.Served.{IsServed}
 use Rattle.ecmbx_call.specs.Causes.{EndingAt, IsServing}
 use Rattle.ecmbx_call.proofs.Told.{Told, no_made}
 

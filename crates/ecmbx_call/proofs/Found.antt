@@ -22,7 +22,7 @@ use Rattle.ecmbx_call.specs.Audits.{verdict_text, verdict_status}
 use Rattle.ecmbx_words.specs.Files.{Holds, IsLong}
 use Rattle.ecmbx_call.specs.Files.{limit, IsSaved}
 use Rattle.ecmbx_call.specs.Course.{HasRun, status_of}
-use Rattle.gateway_run.specs.Serving.{Told as PortTold}
+use Rattle.promised_run.specs.of_gateway_run.Serving.{Told as PortTold}
 use Rattle.ecmbx_call.specs.Serving.{HasServed}
 use Rattle.ecmbx_call.specs.Causes.{loaded_in, IsRefused, IsFound}
 use Rattle.ecmbx_call.proofs.Told.{Told, held, held_long, no_file, no_made}

@@ -13,10 +13,10 @@ use Rattle.run_book.specs.declared.book.Ending.TheVariants as endings
 use Rattle.run_book.specs.declared.book.GramIn.{GramIn}
 use Rattle.run_book.specs.declared.book.GramOut.{GramOut}
 use Rattle.run_book.specs.Book.{IsNew}
-use Rattle.gateway_run.specs.Heard.{heard_as as as_heard, sent_as as as_sent, AreHeard, AreSent, AreSentBut}
-use Rattle.gateway_run.specs.Served.{HasAccount, HasGrams, HasWaited, IsThrough, IsBroken, IsServed}
-use Rattle.gateway_run.specs.Serving.{Told}
-use Rattle.gateway_run.proofs.Waits.{over_later, waited_still}
+use Rattle.promised_run.specs.of_gateway_run.Heard.{heard_as as as_heard, sent_as as as_sent, AreHeard, AreSent, AreSentBut}
+use Rattle.promised_run.specs.of_gateway_run.Served.{HasAccount, HasGrams, HasWaited, IsThrough, IsBroken, IsServed}
+use Rattle.promised_run.specs.of_gateway_run.Serving.{Told}
+use Rattle.promised_run.proofs.of_gateway_run.Waits.{over_later, waited_still}
 use Rattle.gateway_stream.specs.Cutting.{behind_of}
 use Rattle.gateway_stream.specs.Hearing.{heard_in, heard_of, is_broken}
 use Rattle.gateway_stream.specs.Sending.{sent_in, sent_of}

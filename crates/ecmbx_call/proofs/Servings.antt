@@ -21,8 +21,8 @@ use Rattle.promised_run.specs.ServedReported.{IsServedReported}
 use Rattle.promised_run.specs.Through.{IsServedThrough, IsServedWhole}
 use Rattle.promised_run.specs.Visits.{IsServedVisited}
 use Rattle.promised_run.specs.Written.{IsServedWritten}
-use Rattle.gateway_run.specs.Serving.{Told}
-use Rattle.gateway_run.specs.Served.{IsServed}
+use Rattle.promised_run.specs.of_gateway_run.Serving.{Told}
+use Rattle.promised_run.specs.of_gateway_run.Served.{IsServed}
 use Rattle.ecmbx_words.specs.declared.form.Form.TheVariants as forms
 use Rattle.ecmbx_words.specs.declared.status.Status.{Status}
 use Rattle.ecmbx_words.specs.declared.status.Status.TheVariants as statuses

@@ -27,7 +27,7 @@ use Rattle.ecmbx_call.specs.Audits.{verdict_text, verdict_status, AuditCourse}
 use Rattle.ecmbx_words.specs.Files.{Holds, IsLong, FileCourse}
 use Rattle.ecmbx_call.specs.Files.{limit, IsSaved}
 use Rattle.ecmbx_call.specs.Course.{HasRun, status_of, RunCourse, SavedCourse, ViewCourse, Course}
-use Rattle.gateway_run.specs.Serving.{Told as PortTold}
+use Rattle.promised_run.specs.of_gateway_run.Serving.{Told as PortTold}
 use Rattle.ecmbx_call.specs.Serving.{HasServed, ServeCourse}
 use Rattle.ecmbx_call.specs.Causes.{loaded_by, loaded_in, IsRefused, CameOf, IsBroken}
 

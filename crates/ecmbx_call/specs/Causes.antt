@@ -29,7 +29,7 @@ use Rattle.capture_audit.specs.Audit.{verdict_of}
 use Rattle.ecmbx_call.specs.Audits.{verdict_status, verdict_text}
 use Rattle.ecmbx_words.specs.Files.{Holds, IsLong}
 use Rattle.ecmbx_call.specs.Files.{limit, IsSaved}
-use Rattle.gateway_run.specs.Serving.{Told}
+use Rattle.promised_run.specs.of_gateway_run.Serving.{Told}
 use Rattle.ecmbx_call.specs.Course.{HasRun, status_of}
 use Rattle.ecmbx_call.specs.Serving.{HasServed}
 

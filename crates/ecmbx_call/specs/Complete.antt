@@ -2,7 +2,7 @@
 use Rattle.std.specs.Prelude.{◌≡◌, ◌≤◌, ◌⊎◌, ℕ, List, Option, Ok}
 use Rattle.ec_outside.specs.Faults.{Rose}
 use Rattle.ec_outside.specs.Files.{Table}
-use Rattle.gateway_run.specs.Serving.{Told}
+use Rattle.promised_run.specs.of_gateway_run.Serving.{Told}
 use Rattle.segment_plan.specs.Bound.{bound_of}
 use Rattle.segment_plan.specs.declared.plan.Scenario.{Scenario}
 use Rattle.scenario.specs.Document.{plan_of}

@@ -27,7 +27,7 @@ use Rattle.ecmbx_words.specs.Ends.{text_of, Ended}
 use Rattle.ecmbx_words.specs.Texts.{usage_line, refused_line, capture_line}
 pub use Rattle.ecmbx_words.specs.Files.{Followed}
 pub use Rattle.ecmbx_call.specs.Ends.{status_of}
-use Rattle.gateway_run.specs.Serving.{Told}
+use Rattle.promised_run.specs.of_gateway_run.Serving.{Told}
 use Rattle.ecmbx_call.specs.Audits.{AuditCourse}
 use Rattle.ecmbx_call.specs.Serving.{ServeCourse, Served}
 use Rattle.ecmbx_words.specs.Files.{Holds, FileCourse}

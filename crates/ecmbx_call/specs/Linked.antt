@@ -1,7 +1,7 @@
 -- What is told of a link on which requests are heard.
 use Rattle.std.specs.Prelude.{ℕ, ◌||◌, Bool, true, false, List, [], Option, Some, None}
 use Rattle.ec_outside.specs.Port.{HeardGram}
-use Rattle.gateway_run.specs.Serving.{Told}
+use Rattle.promised_run.specs.of_gateway_run.Serving.{Told}
 use Rattle.gateway_stream.specs.Cutting.{behind_of}
 use Rattle.gateway_stream.specs.Hearing.{heard_in, heard_of, is_broken}
 use Rattle.gateway_stream.specs.Sending.{sent_in, sent_of}

@@ -6,7 +6,7 @@ use Rattle.ec_outside.specs.declared.port.Port.{Ghosts as PortTells}
 use Rattle.ec_links.specs.declared.link.Link.{Ghosts as LinkTells}
 use Rattle.segment_plan.specs.declared.plan.Scenario.{Scenario}
 use Rattle.run_book.specs.declared.book.Book.{Book}
-use Rattle.gateway_run.specs.Serving.{Told, told}
+use Rattle.promised_run.specs.of_gateway_run.Serving.{Told, told}
 use Rattle.gateway_tool.specs.Told.{told as asked}
 use Rattle.tool_call.specs.Asked.{is_ask}
 use Rattle.ecmbx_words.specs.declared.status.Status.{Status}

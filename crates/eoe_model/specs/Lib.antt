@@ -1,3 +1,4 @@
+pub use Rattle.eoe.specs as of_eoe
 pub mod Mails
 pub mod Network
 pub mod Server

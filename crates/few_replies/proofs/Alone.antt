@@ -18,12 +18,12 @@ use Rattle.slave_served.proofs.JoinedLaw.{given_whole}
 use Rattle.state_exchange.specs.Families.{InState}
 use Rattle.state_exchange.proofs.FamilyLaw.{given_in}
 use Rattle.few_replies.specs.Counts.{mails_between}
-use Rattle.slave_model.specs.Application.{Parts, ArePartsLawful, station_valid, station_files, station_elements}
-use Rattle.slave_model.specs.Product.{served, refusal, serve, protocols, product}
-use Rattle.slave_model.specs.Profile.{Protocol, Profile, IsProfile, serves, areas_of}
-use Rattle.slave_model.specs.Server.{Server, seat, reseated, ServiceOf, heard_by, told_by}
-use Rattle.slave_model.proofs.Sides.{sized, told_spells}
-use Rattle.slave_model.proofs.Stations.{left_of, elements_law}
+use Rattle.slave_parts.specs.of_slave_model.Application.{Parts, ArePartsLawful, station_valid, station_files, station_elements}
+use Rattle.slave_parts.specs.of_slave_model.Product.{served, refusal, serve, protocols, product}
+use Rattle.slave_parts.specs.of_slave_model.Profile.{Protocol, Profile, IsProfile, serves, areas_of}
+use Rattle.slave_parts.specs.of_slave_model.Server.{Server, seat, reseated, ServiceOf, heard_by, told_by}
+use Rattle.slave_parts.proofs.of_slave_model.Sides.{sized, told_spells}
+use Rattle.slave_parts.proofs.of_slave_model.Stations.{left_of, elements_law}
 use Rattle.slave_served.specs.FoeServed.{has_its_room}
 use Rattle.slave_served.specs.Served.{core_of, served_whole, side_whole, is_fine, slave_whole, protocols_whole, product_whole, AreFilesServed}
 use Rattle.slave_served.proofs.Sides.{side_of}

@@ -31,11 +31,11 @@ use Rattle.eoe_model.specs.Mails as Eoe
 use Rattle.eoe_model.specs.Octets as EoeOctets
 use Rattle.eoe_model.specs.Server as EoeServer
 use Rattle.eoe_model.specs.Network.{Network, Station}
-use Rattle.slave_model.specs.Application.{Parts, ArePartsLawful, core_valid, station_valid, station_tables, station_files, station_elements, network}
-use Rattle.slave_model.specs.Product.{served, side, refusal, protocol_of, serve_by, serve_other, serve}
-use Rattle.slave_model.specs.Profile.{Protocol, Profile, IsProfile, serves}
-use Rattle.slave_model.specs.Server.{Server as SlaveServer, seat, reseated, failure, heard_by, told_by, refused_gives, soe_quiet, eoe_quiet}
-use Rattle.slave_model.proofs.Stations.{left_of, right_of, network_spelled}
+use Rattle.slave_parts.specs.of_slave_model.Application.{Parts, ArePartsLawful, core_valid, station_valid, station_tables, station_files, station_elements, network}
+use Rattle.slave_parts.specs.of_slave_model.Product.{served, side, refusal, protocol_of, serve_by, serve_other, serve}
+use Rattle.slave_parts.specs.of_slave_model.Profile.{Protocol, Profile, IsProfile, serves}
+use Rattle.slave_parts.specs.of_slave_model.Server.{Server as SlaveServer, seat, reseated, failure, heard_by, told_by, refused_gives, soe_quiet, eoe_quiet}
+use Rattle.slave_parts.proofs.of_slave_model.Stations.{left_of, right_of, network_spelled}
 use Rattle.few_replies.proofs.OfEoe.{packet_within}
 use Rattle.few_replies.proofs.OfSoe.{fragments_within}
 use Rattle.few_replies.proofs.Thirds.{one_less}

@@ -15,7 +15,7 @@ use Rattle.idn_table.specs.Idns as Idns
 use Rattle.coe_model.specs.Meaning as CoeMeaning
 use Rattle.coe_model.specs.Mails.{fragment}
 use Rattle.coe_model.specs.Server.{Emission, emergency, packet, emission_of, issued}
-use Rattle.coe_server.specs.ObjectTables.{stores}
+use Rattle.slave_parts.specs.of_coe_server.ObjectTables.{stores}
 use Rattle.foe_model.specs.Meaning as FoeMeaning
 use Rattle.soe_model.specs.Client as SoeClient
 use Rattle.eoe_model.specs.Client as EoeClient
@@ -23,12 +23,12 @@ use Rattle.eoe_model.specs.Echo.{echo_of}
 use Rattle.eoe_model.specs.Mails.{part}
 use Rattle.eoe_model.specs.Network.{Station}
 use Rattle.eoe_model.specs.Server.{addressed, sends}
-use Rattle.slave_model.specs.Application.{ArePartsLawful, core_valid, station_valid, stored, station_tables, station_files, station_elements, network, fragment_bodies}
-use Rattle.slave_model.specs.Product.{served, refusal, product}
-use Rattle.slave_model.specs.Profile.{Protocol, Profile, IsProfile, areas_of, serves}
-use Rattle.slave_model.specs.Server.{ServiceOf}
-use Rattle.slave_model.proofs.ProductLaw.{product_law}
-use Rattle.slave_model.proofs.Stations.{left_of, right_of}
+use Rattle.slave_parts.specs.of_slave_model.Application.{ArePartsLawful, core_valid, station_valid, stored, station_tables, station_files, station_elements, network, fragment_bodies}
+use Rattle.slave_parts.specs.of_slave_model.Product.{served, refusal, product}
+use Rattle.slave_parts.specs.of_slave_model.Profile.{Protocol, Profile, IsProfile, areas_of, serves}
+use Rattle.slave_parts.specs.of_slave_model.Server.{ServiceOf}
+use Rattle.slave_parts.proofs.of_slave_model.ProductLaw.{product_law}
+use Rattle.slave_parts.proofs.of_slave_model.Stations.{left_of, right_of}
 use Rattle.slave_parts.specs.Parts.{Core, parts}
 use Rattle.few_replies.specs.Counts.{third, mails_within, coe_octets, foe_octets, foe_busy, soe_octets}
 use Rattle.few_replies.specs.RowCounts.{AreCounted}

@@ -22,15 +22,15 @@ use Rattle.eoe_model.specs.Octets as EoeOctets
 use Rattle.eoe_model.specs.Network.{Station}
 use Rattle.state_exchange.specs.Families.{InState}
 use Rattle.state_exchange.proofs.FamilyLaw.{given_in}
-use Rattle.slave_model.specs.Application.{Core, Parts, ArePartsLawful, station_tables, station_files, station_elements, network}
-use Rattle.slave_model.specs.Product.{served, refusal, side, slave, protocols, product}
-use Rattle.slave_model.specs.Profile.{Protocol, Profile, IsProfile, areas_of, serves}
-use Rattle.slave_model.specs.Server.{Server, Seat, seat, ServiceOf, heard_by, told_by}
-use Rattle.slave_model.proofs.Joint.{side_of}
-use Rattle.slave_model.proofs.Own.{are_own}
-use Rattle.slave_model.proofs.ProductLaw.{refusals, one_client}
-use Rattle.slave_model.proofs.Sides.{sized, told_spells, coe_spelled, foe_spelled, soe_spelled, eoe_spelled}
-use Rattle.slave_model.proofs.Stations.{tables_law, elements_law, network_sound}
+use Rattle.slave_parts.specs.of_slave_model.Application.{Core, Parts, ArePartsLawful, station_tables, station_files, station_elements, network}
+use Rattle.slave_parts.specs.of_slave_model.Product.{served, refusal, side, slave, protocols, product}
+use Rattle.slave_parts.specs.of_slave_model.Profile.{Protocol, Profile, IsProfile, areas_of, serves}
+use Rattle.slave_parts.specs.of_slave_model.Server.{Server, Seat, seat, ServiceOf, heard_by, told_by}
+use Rattle.slave_parts.proofs.of_slave_model.Joint.{side_of}
+use Rattle.slave_parts.proofs.of_slave_model.Own.{are_own}
+use Rattle.slave_parts.proofs.of_slave_model.ProductLaw.{refusals, one_client}
+use Rattle.slave_parts.proofs.of_slave_model.Sides.{sized, told_spells, coe_spelled, foe_spelled, soe_spelled, eoe_spelled}
+use Rattle.slave_parts.proofs.of_slave_model.Stations.{tables_law, elements_law, network_sound}
 use Rattle.few_replies.specs.Counts.{third, mails_between}
 use Rattle.few_replies.proofs.Thirds.{fits}
 use Rattle.few_replies.proofs.OfCoe.{coe_within}

@@ -9,7 +9,7 @@ use Rattle.idn_table.specs.Idns as Idns
 use Rattle.exchange_sum.specs.Refusing.{gated}
 use Rattle.coe_model.specs.Mails as CoeMails
 use Rattle.coe_model.specs.Octets as CoeOctets
-use Rattle.coe_server.specs.ObjectTables.{stores}
+use Rattle.slave_parts.specs.of_coe_server.ObjectTables.{stores}
 use Rattle.foe_model.specs.Mails as FoeMails
 use Rattle.foe_model.specs.Octets as FoeOctets
 use Rattle.soe_model.specs.Mails as SoeMails
@@ -21,10 +21,10 @@ use Rattle.eoe_model.specs.Network.{Station}
 use Rattle.eoe_model.specs.Server.{sends}
 use Rattle.slave_served.specs.SoeServed.{met}
 use Rattle.slave_served.specs.Whole.{gated_whole}
-use Rattle.slave_model.specs.Application.{with_objects, stored, station_tables, station_files, written, station_elements, network}
-use Rattle.slave_model.specs.Product.{served, refusal, serve, serve_by, serve_other, protocol_of}
-use Rattle.slave_model.specs.Profile.{Protocol, Profile, serves, areas_of}
-use Rattle.slave_model.specs.Server.{Seat, seat, reseated, ServiceOf, heard_by, refused_counts}
+use Rattle.slave_parts.specs.of_slave_model.Application.{with_objects, stored, station_tables, station_files, written, station_elements, network}
+use Rattle.slave_parts.specs.of_slave_model.Product.{served, refusal, serve, serve_by, serve_other, protocol_of}
+use Rattle.slave_parts.specs.of_slave_model.Profile.{Protocol, Profile, serves, areas_of}
+use Rattle.slave_parts.specs.of_slave_model.Server.{Seat, seat, reseated, ServiceOf, heard_by, refused_counts}
 use Rattle.slave_parts.specs.Parts.{Core, Server, parts}
 use Rattle.slave_served.specs.Served.{served_whole, side_whole}
 use Rattle.slave_served.proofs.SoeKeeping as Soe

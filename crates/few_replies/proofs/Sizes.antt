@@ -22,7 +22,7 @@ use Rattle.idn_table.specs.declared.element.Element.TheVariants.{State, Name, At
 use Rattle.idn_table.specs.Idns as Idns
 use Rattle.coe_model.specs.Model.{value_length}
 use Rattle.coe_model.specs.Tables.{Target, Ask, list, object, entry}
-use Rattle.coe_server.specs.ObjectTables.{reads, tells}
+use Rattle.slave_parts.specs.of_coe_server.ObjectTables.{reads, tells}
 use Rattle.foe_model.specs.Model.{read_length}
 use Rattle.few_replies.specs.Shapes.{mosts, object_size, found_size, entry_size, ask_octets}
 

@@ -8,11 +8,11 @@ use Rattle.coe_model.specs.Server.{Transfer}
 use Rattle.slave_served.specs.CoeServed.{transfer_behind}
 use Rattle.slave_served.specs.FoeServed.{has_its_room}
 use Rattle.slave_served.specs.Whole.{gated_whole}
-use Rattle.slave_model.specs.Application.{Parts, ArePartsLawful, station_valid, station_files}
-use Rattle.slave_model.specs.Product.{refusal}
-use Rattle.slave_model.specs.Profile.{Protocol, Profile, IsProfile, serves}
-use Rattle.slave_model.specs.Server.{Server, seat, reseated, ServiceOf}
-use Rattle.slave_model.proofs.Stations.{left_of}
+use Rattle.slave_parts.specs.of_slave_model.Application.{Parts, ArePartsLawful, station_valid, station_files}
+use Rattle.slave_parts.specs.of_slave_model.Product.{refusal}
+use Rattle.slave_parts.specs.of_slave_model.Profile.{Protocol, Profile, IsProfile, serves}
+use Rattle.slave_parts.specs.of_slave_model.Server.{Server, seat, reseated, ServiceOf}
+use Rattle.slave_parts.proofs.of_slave_model.Stations.{left_of}
 use Rattle.slave_served.specs.Served.{served_whole, side_whole, product_whole}
 use Rattle.few_replies.specs.Most.{Tells, AreEnough, brings_packet, begins_packet}
 use Rattle.few_replies.proofs.Few.{replies, frees, not_true}

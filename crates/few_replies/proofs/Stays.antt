@@ -15,7 +15,7 @@ use Rattle.mailbox_mail.specs.declared.outcome.ReplyKind.{ReplyKind}
 use Rattle.coe_model.specs.Tables as Tables
 use Rattle.coe_model.specs.Meaning as CoeMeaning
 use Rattle.coe_model.specs.Server.{Emission, emergency, packet, emission_of, issued}
-use Rattle.coe_server.specs.ObjectTables.{stores}
+use Rattle.slave_parts.specs.of_coe_server.ObjectTables.{stores}
 use Rattle.foe_model.specs.Meaning as FoeMeaning
 use Rattle.soe_model.specs.Client as SoeClient
 use Rattle.eoe_model.specs.Client as EoeClient
@@ -23,10 +23,10 @@ use Rattle.eoe_model.specs.Echo.{echo_of}
 use Rattle.eoe_model.specs.Network.{Station}
 use Rattle.eoe_model.specs.Server.{sends}
 use Rattle.exchange_sum.specs.Refusing.{gated}
-use Rattle.slave_model.specs.Application.{stored, written, station_tables, station_files, station_elements, network}
-use Rattle.slave_model.specs.Product.{served, refusal, side}
-use Rattle.slave_model.specs.Profile.{Protocol, Profile, serves}
-use Rattle.slave_model.specs.Server.{ServiceOf}
+use Rattle.slave_parts.specs.of_slave_model.Application.{stored, written, station_tables, station_files, station_elements, network}
+use Rattle.slave_parts.specs.of_slave_model.Product.{served, refusal, side}
+use Rattle.slave_parts.specs.of_slave_model.Profile.{Protocol, Profile, serves}
+use Rattle.slave_parts.specs.of_slave_model.Server.{ServiceOf}
 use Rattle.slave_parts.specs.Parts.{Core, parts}
 use Rattle.few_replies.specs.Shapes.{mosts, size_at, object_size, found_size, entry_size, shape_of}
 

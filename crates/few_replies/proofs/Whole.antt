@@ -4,7 +4,7 @@ use Rattle.object_dictionary.specs.Dictionary.{Table}
 use Rattle.object_dictionary.specs.Sound.{is_table}
 use Rattle.coe_model.specs.Model.{value_length}
 use Rattle.coe_model.specs.Tables.{Ask, list, object, entry}
-use Rattle.coe_server.specs.ObjectTables.{tells}
+use Rattle.slave_parts.specs.of_coe_server.ObjectTables.{tells}
 use Rattle.exchange_model.specs.Exchange.{IsLawful}
 use Rattle.few_replies.specs.Most.{Tells}
 use Rattle.slave_served.specs.FoeServed.{has_its_room}
@@ -17,9 +17,9 @@ use Rattle.few_replies.proofs.Sizes.{told_within, element_within}
 use Rattle.serving_model.specs.Tagged.{ideal}
 use Rattle.few_replies.specs.Packets.{is_calm, is_fair}
 use Rattle.few_replies.proofs.Slave.{calm_slave, smaller}
-use Rattle.slave_model.specs.Application.{ArePartsLawful, station_valid, station_files}
-use Rattle.slave_model.specs.Profile.{Profile, IsProfile}
-use Rattle.slave_model.proofs.Stations.{both, left_of}
+use Rattle.slave_parts.specs.of_slave_model.Application.{ArePartsLawful, station_valid, station_files}
+use Rattle.slave_parts.specs.of_slave_model.Profile.{Profile, IsProfile}
+use Rattle.slave_parts.proofs.of_slave_model.Stations.{both, left_of}
 use Rattle.slave_parts.specs.Parts.{Server, parts}
 use Rattle.slave_served.specs.Served.{product_whole, AreFilesServed}
 use Rattle.slave_served.proofs.Sides.{side_speech}

@@ -7,9 +7,9 @@ use Rattle.coe_model.specs.Model.{value_length}
 use Rattle.coe_model.specs.Octets.{coe_mail_heard}
 use Rattle.coe_model.specs.Server.{Transfer, idle, downloading, uploading}
 use Rattle.coe_model.specs.Tables.{Target, Ask}
-use Rattle.slave_model.specs.Application.{Parts}
-use Rattle.slave_model.specs.Profile.{Profile}
-use Rattle.slave_model.specs.Server.{Server, heard_by}
+use Rattle.slave_parts.specs.of_slave_model.Application.{Parts}
+use Rattle.slave_parts.specs.of_slave_model.Profile.{Profile}
+use Rattle.slave_parts.specs.of_slave_model.Server.{Server, heard_by}
 use Rattle.soe_model.specs.Elements as Elements
 
 -- WHAT AN APPLICATION TELLS: no information of its objects has more octets than the one number, and no element of its IDNs more than the other

@@ -1,7 +1,7 @@
 -- Which mails make a slave send a packet of itself, and which slaves are about to.
 use Rattle.std.specs.Prelude.{not, Bool}
 use Rattle.link_mails.specs.Body.{Body}
-use Rattle.slave_model.specs.Server.{Server}
+use Rattle.slave_parts.specs.of_slave_model.Server.{Server}
 use Rattle.state_exchange.specs.Families.{InState}
 use Rattle.few_replies.specs.Most.{begins_packet, is_packet_free}
 

@@ -14,8 +14,8 @@ use Rattle.soe_model.specs.Client as SoeClient
 use Rattle.eoe_model.specs.Client as EoeClient
 use Rattle.eoe_model.specs.Echo.{echo_of}
 use Rattle.few_replies.specs.Counts.{mails_within, eoe_mails}
-use Rattle.slave_model.specs.Profile.{Protocol, Profile, areas_of}
-use Rattle.slave_model.specs.Server.{ServiceOf}
+use Rattle.slave_parts.specs.of_slave_model.Profile.{Protocol, Profile, areas_of}
+use Rattle.slave_parts.specs.of_slave_model.Server.{ServiceOf}
 use Rattle.slave_parts.specs.Parts.{Core, Server}
 use Rattle.state_exchange.specs.Families.{InState}
 

@@ -4,9 +4,9 @@ use Rattle.coe_model.specs.Meaning as CoeMeaning
 use Rattle.eoe_model.specs.Client as EoeClient
 use Rattle.eoe_model.specs.Network.{Station}
 use Rattle.few_replies.specs.Counts.{mails_within, coe_octets, foe_octets, foe_busy, soe_octets, eoe_mails}
-use Rattle.slave_model.specs.Application.{Core, Parts, station_tables, station_files, station_elements, network}
-use Rattle.slave_model.specs.Profile.{Protocol, Profile, areas_of}
-use Rattle.slave_model.specs.Server.{ServiceOf}
+use Rattle.slave_parts.specs.of_slave_model.Application.{Core, Parts, station_tables, station_files, station_elements, network}
+use Rattle.slave_parts.specs.of_slave_model.Profile.{Protocol, Profile, areas_of}
+use Rattle.slave_parts.specs.of_slave_model.Server.{ServiceOf}
 
 -- the mails of a service at most, of a slave with these parts in this AL state, on this application
 abbrev pub service_most : {T F I : Type 0} → Parts T F I → Profile → ℕ → Station (Core T F I) → (i : Protocol) → ServiceOf i → ℕ

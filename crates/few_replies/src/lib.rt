@@ -4,10 +4,10 @@
 
 ghost use Rattle.few_replies.specs.Most.{Tells, AreEnough, begins_packet, is_packet_free};
 ghost use Rattle.link_mails.specs.Body.{Body};
-ghost use Rattle.slave_model.specs.Application.{Parts, ArePartsLawful, station_valid};
-ghost use Rattle.slave_model.specs.Product.{serve};
-ghost use Rattle.slave_model.specs.Profile.{Profile, IsProfile};
-ghost use Rattle.slave_model.specs.Server.{Server};
+ghost use Rattle.slave_parts.specs.of_slave_model.Application.{Parts, ArePartsLawful, station_valid};
+ghost use Rattle.slave_parts.specs.of_slave_model.Product.{serve};
+ghost use Rattle.slave_parts.specs.of_slave_model.Profile.{Profile, IsProfile};
+ghost use Rattle.slave_parts.specs.of_slave_model.Server.{Server};
 ghost use Rattle.std.specs.Prelude.{◌≡◌, ◌≤◌, ℕ, true, false, length};
 
 pub mod mail_counts;

@@ -3,10 +3,10 @@
 
 ghost use Rattle.std.specs.Prelude.{◌≡◌, ◌≤◌, true};
 ghost use Rattle.few_replies.specs.Counts.{mails_between};
-ghost use Rattle.slave_model.specs.Application.{Parts, ArePartsLawful};
-ghost use Rattle.slave_model.specs.Product.{product};
-ghost use Rattle.slave_model.specs.Profile.{Protocol, Profile, IsProfile};
-ghost use Rattle.slave_model.specs.Server.{Server, ServiceOf};
+ghost use Rattle.slave_parts.specs.of_slave_model.Application.{Parts, ArePartsLawful};
+ghost use Rattle.slave_parts.specs.of_slave_model.Product.{product};
+ghost use Rattle.slave_parts.specs.of_slave_model.Profile.{Protocol, Profile, IsProfile};
+ghost use Rattle.slave_parts.specs.of_slave_model.Server.{Server, ServiceOf};
 ghost use Rattle.state_exchange.specs.Families.{InState};
 ghost use Rattle.slave_parts.specs.Parts.{Server as PartsServer, parts};
 ghost use Rattle.few_replies.specs.RowCounts.{AreCounted};

@@ -2,8 +2,8 @@
 //! no running code: the functions here do nothing, and their contracts state the laws.
 
 ghost use Rattle.std.specs.Prelude.{◌≡◌, ℕ, length, replicate};
-ghost use Rattle.slave_model.specs.Application.{Parts, ArePartsLawful};
-ghost use Rattle.slave_model.specs.Profile.{Profile, IsProfile};
+ghost use Rattle.slave_parts.specs.of_slave_model.Application.{Parts, ArePartsLawful};
+ghost use Rattle.slave_parts.specs.of_slave_model.Profile.{Profile, IsProfile};
 ghost use Rattle.slave_served.specs.Served.{product_whole};
 ghost use Rattle.soe_model.specs.Elements.{target};
 ghost use Rattle.soe_model.specs.Mails.{fragments_of};

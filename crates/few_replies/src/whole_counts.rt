@@ -8,7 +8,7 @@ ghost use Rattle.few_replies.specs.Calm.{IsCalm, KeepsPassed, calm_tagged, asked
 ghost use Rattle.few_replies.specs.Shapes.{shape_at, shape_most};
 ghost use Rattle.serving_model.specs.Tagged.{ideal};
 ghost use Rattle.few_replies.specs.Packets.{is_calm, is_fair};
-ghost use Rattle.slave_model.specs.Profile.{Profile, IsProfile};
+ghost use Rattle.slave_parts.specs.of_slave_model.Profile.{Profile, IsProfile};
 ghost use Rattle.slave_parts.specs.Parts.{parts};
 ghost use Rattle.slave_served.specs.Served.{product_whole};
 

@@ -4,7 +4,7 @@ use Rattle.std.specs.Prelude.{find}
 use Rattle.std.specs.List.{list_all}
 use Rattle.std.proofs.lemmas.Bool.{le-leb, leb-true, and_parts, and_from}
 use Rattle.std.proofs.lemmas.List.Sums.{sum_by-cons}
-use Rattle.block_pool.specs.Region.{blocks_for}
+use Rattle.file_store.specs.of_block_pool.Region.{blocks_for}
 use Rattle.file_store.specs.Files.{Filed, Kept, taken, free_of, is_named, file_of, has_room, is_valid, code_at, rewritten, put}
 use Rattle.foe_model.specs.Files.{AreLawful, AreSpelled}
 use Rattle.foe_server.specs.Stores.{store_files}

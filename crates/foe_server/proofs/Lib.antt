@@ -1,2 +1,3 @@
+pub use Rattle.foe_model.proofs as of_foe_model
 pub mod Lawful
 pub mod Exchanged

@@ -1,13 +1,13 @@
 -- A datagram of octets as a session sees it.
 use Rattle.std.specs.Prelude.{ℕ, ◌-◌, ◌==◌, ◌&&◌, nat_le, nat_lt, not, Bool, false, if◌then◌else◌, Option, Some, None, List, length, slice_index}
-use Rattle.ec_fields.specs.Fields.{number_at, bits_of}
+use Rattle.datagrams.specs.of_ec_fields.Fields.{number_at, bits_of}
 use Rattle.datagrams.specs.declared.command.Command.{Command}
 use Rattle.datagrams.specs.declared.command.Command.TheVariants.{Aprd, Apwr, Aprw, Fprd, Fpwr, Fprw}
 use Rattle.datagrams.specs.declared.head.Head.{Head}
 use Rattle.datagrams.specs.Datagram as Raw
-use Rattle.mailbox_mail.specs.Mail.{mail_read}
-use Rattle.link_model.specs.Mails.{LinkMail}
-use Rattle.link_model.specs.Frames.{Ask}
+use Rattle.link_mails.specs.of_mailbox_mail.Mail.{mail_read}
+use Rattle.segment_model.specs.of_link_model.Mails.{LinkMail}
+use Rattle.segment_model.specs.of_link_model.Frames.{Ask}
 use Rattle.link_mails.specs.Body.{Body, link_read, mail_brought, bit_1}
 use Rattle.segment_model.specs.Slaves.{Address, Access, Found, Datagram}
 

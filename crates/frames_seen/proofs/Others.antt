@@ -5,8 +5,8 @@ use Rattle.link_model.specs.Frames.{Ask}
 use Rattle.link_mails.specs.Body.{Body}
 use Rattle.segment_model.specs.Slaves.{Slave, Address, Access, is_meant, address_behind, registers_met, counter_met, found_met, slave_meets, datagram_meets}
 use Rattle.datagrams.specs.Datagram as Raw
-use Rattle.esc_registers.specs.declared.registers.Registers as Esc
-use Rattle.esc_registers.specs.Access.{Passed}
+use Rattle.frame_pass.specs.of_esc_registers.declared.registers.Registers as Esc
+use Rattle.frame_pass.specs.of_esc_registers.Access.{Passed}
 use Rattle.frame_pass.specs.Passing.{passed}
 use Rattle.mailbox_slave.specs.Kept.{Kept}
 use Rattle.mailbox_slave.specs.Node.{node_of}

@@ -2,7 +2,7 @@
 use Rattle.std.proofs.Common.{◌≡◌, ℕ, ◌==◌, Bool, true, false, List, [], ◌∷◌, refl, ap, sym, ◌∙◌, subst}
 use Rattle.std.specs.Prelude.{if◌then◌else◌, Option, Some, None}
 use Rattle.datagrams.specs.Datagram as Raw
-use Rattle.esc_registers.specs.declared.registers.Registers as Esc
+use Rattle.frame_pass.specs.of_esc_registers.declared.registers.Registers as Esc
 use Rattle.frame_pass.specs.Passing.{datagrams_after}
 use Rattle.link_mails.specs.Body.{Body}
 use Rattle.link_model.specs.Mails.{LinkMail}

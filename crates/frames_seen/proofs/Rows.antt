@@ -3,13 +3,13 @@ use Rattle.std.proofs.Common.{◌≡◌, ℕ, ◌+◌, ◌%◌, ◌<◌, ◌==�
 use Rattle.std.specs.Prelude.{Option, Some, None, if◌then◌else◌, is_some, unwrap_or}
 use Rattle.std.proofs.lemmas.Bool.{eqb-true, and_parts}
 use Rattle.datagrams.specs.declared.head.Head.{Head}
-use Rattle.esc_registers.specs.declared.registers.Registers as Esc
-use Rattle.esc_registers.specs.declared.row.Row.{Row}
-use Rattle.esc_registers.specs.declared.row.Row.TheVariants.{Station, AlControl, AlStatus, AlStatusAndCode, AlStatusCode, Whole, Status, Activate, PdiControl, OutArea, InArea}
-use Rattle.esc_registers.specs.declared.row.Mailbox.TheVariants.{Outward, Inward}
+use Rattle.frame_pass.specs.of_esc_registers.declared.registers.Registers as Esc
+use Rattle.frame_pass.specs.of_esc_registers.declared.row.Row.{Row}
+use Rattle.frame_pass.specs.of_esc_registers.declared.row.Row.TheVariants.{Station, AlControl, AlStatus, AlStatusAndCode, AlStatusCode, Whole, Status, Activate, PdiControl, OutArea, InArea}
+use Rattle.frame_pass.specs.of_esc_registers.declared.row.Mailbox.TheVariants.{Outward, Inward}
 use Rattle.byteorder.specs.Endian.{little_bytes}
-use Rattle.esc_registers.specs.Manager.{is_right, manager_text, status_of, pdi_control_of}
-use Rattle.esc_registers.specs.Access.{row_of, row_len, manager_of, read_row, behind_read, write_row, reads, writes, accessed, is_meant, is_by_place, passed_at, access}
+use Rattle.frame_pass.specs.of_esc_registers.Manager.{is_right, manager_text, status_of, pdi_control_of}
+use Rattle.frame_pass.specs.of_esc_registers.Access.{row_of, row_len, manager_of, read_row, behind_read, write_row, reads, writes, accessed, is_meant, is_by_place, passed_at, access}
 use Rattle.frames_seen.specs.Kept.{FrameKeeps}
 
 -- a row that was found has the length of the access

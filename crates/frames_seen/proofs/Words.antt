@@ -6,9 +6,9 @@ use Rattle.byteorder.specs.Endian.{little_bytes}
 use Rattle.ec_fields.specs.Fields.{number_at, bits_of}
 use Rattle.datagrams.specs.declared.command.Command.TheVariants.{Aprd, Apwr, Fprd, Fpwr}
 use Rattle.datagrams.specs.Datagram as Raw
-use Rattle.esc_registers.specs.declared.registers.Registers.{Registers}
-use Rattle.esc_registers.specs.Access.{Passed}
-use Rattle.esc_registers.specs.Manager.{status_of}
+use Rattle.frame_pass.specs.of_esc_registers.declared.registers.Registers.{Registers}
+use Rattle.frame_pass.specs.of_esc_registers.Access.{Passed}
+use Rattle.frame_pass.specs.of_esc_registers.Manager.{status_of}
 use Rattle.frame_pass.specs.Passing.{passed}
 use Rattle.link_mails.specs.Body.{Body}
 use Rattle.mailbox_slave.specs.Kept.{Kept}

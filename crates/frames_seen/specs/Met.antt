@@ -1,8 +1,8 @@
 -- A datagram at an open slave, as the session has it.
 use Rattle.std.specs.Prelude.{◌≡◌, ℕ}
 use Rattle.datagrams.specs.Datagram as Raw
-use Rattle.esc_registers.specs.declared.registers.Registers as Esc
-use Rattle.esc_registers.specs.Access.{Passed}
+use Rattle.frame_pass.specs.of_esc_registers.declared.registers.Registers as Esc
+use Rattle.frame_pass.specs.of_esc_registers.Access.{Passed}
 use Rattle.frame_pass.specs.Passing.{passed}
 use Rattle.link_mails.specs.Body.{Body}
 use Rattle.mailbox_slave.specs.Kept.{Kept}

@@ -5,7 +5,7 @@
 ghost use Rattle.std.specs.Prelude.{◌≡◌, ◌<◌, ◌==◌, ℕ, List, false, ◌+◌, length};
 ghost use Rattle.datagrams.specs.Datagram as Raw;
 ghost use Rattle.datagrams.specs.Frame.{IsFrame};
-ghost use Rattle.esc_registers.specs.declared.registers.Registers.{Registers};
+ghost use Rattle.frame_pass.specs.of_esc_registers.declared.registers.Registers.{Registers};
 ghost use Rattle.frame_pass.specs.Passing.{IsPassed, frame_passed, datagrams_after};
 ghost use Rattle.link_mails.specs.Body.{Body};
 ghost use Rattle.mailbox_slave.specs.Kept.{Kept};

@@ -21,10 +21,10 @@ use Rattle.run_record.proofs.ServedGaves.{one_gives}
 use Rattle.run_record.specs.Served.{ServeTo}
 use Rattle.segment_plan.specs.declared.plan.Scenario.{Scenario}
 use Rattle.segment_plan.specs.declared.slave.SlaveSpec.{SlaveSpec}
-use Rattle.served_places.proofs.Behind.{behind_stays}
-use Rattle.served_places.proofs.Next.{next_stays}
-use Rattle.served_places.specs.Rows.{Stays, passed_rows, row_begun}
-use Rattle.served_places.specs.of_served_runs.Served.{AllServedTurn, IsServedLed, IsServedTurn, Keyed, ServedTurn, Serves, all_serve, asked_at, new_serves, served_behind}
+use Rattle.run_record.proofs.of_served_places.Behind.{behind_stays}
+use Rattle.run_record.proofs.of_served_places.Next.{next_stays}
+use Rattle.run_record.specs.of_served_places.Rows.{Stays, passed_rows, row_begun}
+use Rattle.run_record.specs.of_served_places.of_served_runs.Served.{AllServedTurn, IsServedLed, IsServedTurn, Keyed, ServedTurn, Serves, all_serve, asked_at, new_serves, served_behind}
 use Rattle.gateway_run.specs.Since.{NoneSince}
 
 -- these rows began before the frame of this number

@@ -4,11 +4,11 @@ use Rattle.std.specs.Prelude.{◌==◌, if◌then◌else◌, map, not, slice_get
 use Rattle.std.proofs.lemmas.List.Elements.{All-filter, All-head, filter_passes}
 use Rattle.master_node.specs.of_life_frames.of_exchange_model.Rows.{begun}
 use Rattle.gateway_core.specs.Framing.{request_in}
-use Rattle.served_places.specs.Rows.{Stays, passed_rows, passings, replies_of, row_begun}
-use Rattle.served_places.proofs.Next.{next_free, next_heard, next_over, next_passing, next_stays, waiting_row}
-use Rattle.served_places.proofs.Stay.{StaysOver}
-use Rattle.served_places.specs.of_served_runs.Served.{Keyed, Serves, ServedComes, ServedTurn, IsServedTurn}
-use Rattle.served_places.specs.of_served_runs.Told.{Passed}
+use Rattle.run_record.specs.of_served_places.Rows.{Stays, passed_rows, passings, replies_of, row_begun}
+use Rattle.run_record.proofs.of_served_places.Next.{next_free, next_heard, next_over, next_passing, next_stays, waiting_row}
+use Rattle.run_record.proofs.of_served_places.Stay.{StaysOver}
+use Rattle.run_record.specs.of_served_places.of_served_runs.Served.{Keyed, Serves, ServedComes, ServedTurn, IsServedTurn}
+use Rattle.run_record.specs.of_served_places.of_served_runs.Told.{Passed}
 use Rattle.mailbox_mail.specs.declared.mail.Mail.{Mail}
 use Rattle.master_node.proofs.Handeds.{comes_own}
 use Rattle.master_node.specs.Begins.{is_other}

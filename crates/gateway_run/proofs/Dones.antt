@@ -4,10 +4,10 @@ use Rattle.std.specs.Prelude.{All, ◌==◌, ◌&&◌, cond, not, slice_get}
 use Rattle.std.specs.Bool.{OnTrue}
 use Rattle.std.proofs.lemmas.Bool.{OnTrue_at, OnTrue_from}
 use Rattle.std.proofs.lemmas.List.Elements.{All-head, All-tail}
-use Rattle.served_places.proofs.Held.{all_held}
-use Rattle.served_places.specs.Rows.{IsHeld}
-use Rattle.served_places.specs.of_served_runs.Served.{Serves}
-use Rattle.served_places.specs.of_served_runs.Told.{Passed}
+use Rattle.run_record.proofs.of_served_places.Held.{all_held}
+use Rattle.run_record.specs.of_served_places.Rows.{IsHeld}
+use Rattle.run_record.specs.of_served_places.of_served_runs.Served.{Serves}
+use Rattle.run_record.specs.of_served_places.of_served_runs.Told.{Passed}
 use Rattle.mailbox_mail.specs.declared.mail.Mail.{Mail}
 use Rattle.master_node.specs.Serving.{run_lead}
 use Rattle.master_node.specs.Wants.{AllCounted, IsCounted, IsServedOut, gave_of}

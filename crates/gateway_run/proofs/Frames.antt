@@ -2,10 +2,10 @@
 use Rattle.std.proofs.Common.{◌≡◌, ℕ, Bool, true, false, Option, Some, None, List, [], ◌++◌, refl, sym, ap, ◌∙◌, subst, append-nil}
 use Rattle.std.specs.Prelude.{if◌then◌else◌, is_some, All}
 use Rattle.std.proofs.lemmas.List.Elements.{All-filter, All-weaker}
-use Rattle.served_places.proofs.Behind.{behind_stays, unpassed_behind}
-use Rattle.served_places.specs.Rows.{AreAll, Stays, passed_rows, passings, told_besides}
-use Rattle.served_places.specs.of_served_runs.Served.{Serves, ServedTurn, TellsSo, served_behind}
-use Rattle.served_places.specs.of_served_runs.Told.{Passed, replies_in, told_on}
+use Rattle.run_record.proofs.of_served_places.Behind.{behind_stays, unpassed_behind}
+use Rattle.run_record.specs.of_served_places.Rows.{AreAll, Stays, passed_rows, passings, told_besides}
+use Rattle.run_record.specs.of_served_places.of_served_runs.Served.{Serves, ServedTurn, TellsSo, served_behind}
+use Rattle.run_record.specs.of_served_places.of_served_runs.Told.{Passed, replies_in, told_on}
 use Rattle.master_node.specs.Gateways.{done_told, life_told, replies_told}
 use Rattle.master_node.specs.Named.{is_left}
 use Rattle.master_node.specs.Serving.{serves_of}

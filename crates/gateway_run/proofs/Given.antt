@@ -6,9 +6,9 @@ use Rattle.std.proofs.lemmas.List.Quantifiers.{Any-push}
 use Rattle.master_node.specs.Wants.{gave_of}
 use Rattle.master_node.specs.of_life_frames.of_exchange_model.Rows.{Row}
 use Rattle.gateway_core.specs.Framing.{request_in}
-use Rattle.served_places.specs.Rows.{Stays, eras_rows, is_passed_row, passed_rows}
-use Rattle.served_places.specs.of_served_runs.Served.{Keyed, Serves}
-use Rattle.served_places.specs.of_served_runs.Told.{Passed, TellsOwn}
+use Rattle.run_record.specs.of_served_places.Rows.{Stays, eras_rows, is_passed_row, passed_rows}
+use Rattle.run_record.specs.of_served_places.of_served_runs.Served.{Keyed, Serves}
+use Rattle.run_record.specs.of_served_places.of_served_runs.Told.{Passed, TellsOwn}
 use Rattle.mailbox_mail.specs.Mail.{error_of}
 use Rattle.mailbox_mail.specs.declared.mail.Mail.{Mail}
 use Rattle.master_node.specs.of_life_frames.Shares.{AllBoth}

@@ -3,10 +3,10 @@ use Rattle.std.proofs.Common.{◌≡◌, ◌<◌, ℕ, zero, suc, Bool, true, fa
 use Rattle.std.specs.Prelude.{slice_get, All}
 use Rattle.std.proofs.lemmas.List.{map-append}
 use Rattle.std.proofs.lemmas.List.Elements.{All-nil, All-cons, All-head, All-tail, All-weaker}
-use Rattle.served_places.proofs.Hears.{last_none, last_push}
-use Rattle.served_places.proofs.Stay.{StaysOver}
-use Rattle.served_places.specs.Rows.{last_more, passed_rows, passings, replies_of}
-use Rattle.served_places.specs.of_served_runs.Served.{Keyed, Serves, asked_at}
+use Rattle.run_record.proofs.of_served_places.Hears.{last_none, last_push}
+use Rattle.run_record.proofs.of_served_places.Stay.{StaysOver}
+use Rattle.run_record.specs.of_served_places.Rows.{last_more, passed_rows, passings, replies_of}
+use Rattle.run_record.specs.of_served_places.of_served_runs.Served.{Keyed, Serves, asked_at}
 use Rattle.mailbox_mail.specs.declared.mail.Mail.{Mail}
 use Rattle.master_node.specs.of_life_frames.Shares.{AllBoth}
 use Rattle.master_node.specs.of_life_runs.of_link_mails.Body.{Body}

@@ -3,8 +3,8 @@ use Rattle.std.proofs.Common.{◌≡◌, ◌<◌, ◌≤◌, ℕ, zero, suc, Boo
 use Rattle.std.specs.Prelude.{All, ◌&&◌, if◌then◌else◌, is_some, replicate, slice_get}
 use Rattle.std.proofs.lemmas.Option.{none-some, same_Some}
 use Rattle.std.proofs.lemmas.List.Elements.{All-nil, All-cons, All-head, All-tail}
-use Rattle.served_places.specs.of_served_runs.Served.{Keyed, Serves, ServedComes, ServedTurn, AllServedTurn, IsServedTurn, asked_at, gives_it, served_behind, served_life}
-use Rattle.served_places.specs.of_served_runs.Told.{Passed}
+use Rattle.run_record.specs.of_served_places.of_served_runs.Served.{Keyed, Serves, ServedComes, ServedTurn, AllServedTurn, IsServedTurn, asked_at, gives_it, served_behind, served_life}
+use Rattle.run_record.specs.of_served_places.of_served_runs.Told.{Passed}
 use Rattle.master_node.proofs.Counts.{lost_gave}
 use Rattle.master_node.specs.Serving.{run_lead}
 use Rattle.master_node.specs.Wants.{gave_of}

@@ -3,9 +3,9 @@ use Rattle.std.proofs.Common.{◌≡◌, ◌<◌, ◌≤◌, ℕ, zero, suc, ◌
 use Rattle.std.specs.Prelude.{◌≢◌, ◌==◌, ◌&&◌, cond, filter, if◌then◌else◌, not, slice_get, slice_index_or, All}
 use Rattle.std.proofs.lemmas.List.{map-append}
 use Rattle.std.proofs.lemmas.List.Elements.{All-nil, All-append, All-cons, All-head, All-map, All-push, All-tail, All-weaker, filter-append}
-use Rattle.served_places.specs.Rows.{ToldAll, passed_rows}
-use Rattle.served_places.specs.of_served_runs.Served.{Keyed, Serves, asked_at}
-use Rattle.served_places.specs.of_served_runs.Told.{Passed}
+use Rattle.run_record.specs.of_served_places.Rows.{ToldAll, passed_rows}
+use Rattle.run_record.specs.of_served_places.of_served_runs.Served.{Keyed, Serves, asked_at}
+use Rattle.run_record.specs.of_served_places.of_served_runs.Told.{Passed}
 use Rattle.mailbox_mail.specs.declared.mail.Mail.{Mail}
 use Rattle.master_node.specs.Wants.{gave_of}
 use Rattle.master_node.specs.of_life_frames.Shares.{AllBoth}

@@ -4,8 +4,8 @@ use Rattle.std.specs.Prelude.{◌≢◌, slice_get, All, Ok}
 use Rattle.std.proofs.lemmas.List.Elements.{All-nil, All-append, All-cons, All-push, All-weaker}
 use Rattle.std.proofs.lemmas.List.Sums.{count_by-le-length, length-filter}
 use Rattle.gateway_core.specs.Framing.{request_in}
-use Rattle.served_places.specs.Rows.{ToldAll}
-use Rattle.served_places.specs.of_served_runs.Served.{Keyed, MayAsk, Serves, asked_at}
+use Rattle.run_record.specs.of_served_places.Rows.{ToldAll}
+use Rattle.run_record.specs.of_served_places.of_served_runs.Served.{Keyed, MayAsk, Serves, asked_at}
 use Rattle.mailbox_mail.specs.Mail.{error_of}
 use Rattle.mailbox_mail.specs.declared.mail.Mail.{Mail}
 use Rattle.master_node.specs.Wants.{gave_of}

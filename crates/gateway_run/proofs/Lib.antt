@@ -1,3 +1,4 @@
+pub use Rattle.master_node.proofs as of_master_node
 pub mod Accounts
 pub mod Answering
 pub mod Befores

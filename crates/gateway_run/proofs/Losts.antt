@@ -2,11 +2,11 @@
 use Rattle.std.proofs.Common.{◌≡◌, ◌≤◌, ℕ, suc, Bool, true, false, Option, Some, None, List, [], ◌∷◌, ◌++◌, map, refl, sym, ap, ◌∙◌, subst, append-nil}
 use Rattle.std.specs.Prelude.{if◌then◌else◌, slice_index_or, All}
 use Rattle.std.proofs.lemmas.List.Elements.{All-weaker}
-use Rattle.served_places.proofs.Behind.{Goes, behind_stays, lost_goes, unpassed_behind}
-use Rattle.served_places.proofs.Hears.{told_none}
-use Rattle.served_places.specs.Rows.{Stays, passed_rows, passings, told_besides}
-use Rattle.served_places.specs.of_served_runs.Served.{Serves, ServedTurn, TellsSo, gives_it, served_behind}
-use Rattle.served_places.specs.of_served_runs.Told.{Passed, replies_in, told_on}
+use Rattle.run_record.proofs.of_served_places.Behind.{Goes, behind_stays, lost_goes, unpassed_behind}
+use Rattle.run_record.proofs.of_served_places.Hears.{told_none}
+use Rattle.run_record.specs.of_served_places.Rows.{Stays, passed_rows, passings, told_besides}
+use Rattle.run_record.specs.of_served_places.of_served_runs.Served.{Serves, ServedTurn, TellsSo, gives_it, served_behind}
+use Rattle.run_record.specs.of_served_places.of_served_runs.Told.{Passed, replies_in, told_on}
 use Rattle.mailbox_mail.specs.Mail.{error_of}
 use Rattle.master_node.specs.Serving.{serves_of}
 use Rattle.master_node.specs.Wants.{gave_of}

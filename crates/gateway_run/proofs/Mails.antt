@@ -25,11 +25,11 @@ use Rattle.run_record.specs.of_run_notes.Packets.{AreMails, begun_in, mail_row, 
 use Rattle.run_record.specs.of_run_notes.Reports.{IsBooked}
 use Rattle.segment_plan.specs.declared.plan.Scenario.{Scenario}
 use Rattle.segment_plan.specs.declared.slave.SlaveSpec.{SlaveSpec}
-use Rattle.served_places.proofs.Behind.{behind_stays}
-use Rattle.served_places.proofs.Next.{next_stays}
-use Rattle.served_places.specs.Rows.{Stays, passed_rows, row_begun}
-use Rattle.served_places.specs.of_served_runs.Served.{AllServedTurn, IsServedLed, IsServedTurn, Keyed, Serves, ServedComes, ServedTurn, all_serve, asked_at, gives_it, served_behind}
-use Rattle.served_places.specs.of_served_runs.Told.{Passed}
+use Rattle.run_record.proofs.of_served_places.Behind.{behind_stays}
+use Rattle.run_record.proofs.of_served_places.Next.{next_stays}
+use Rattle.run_record.specs.of_served_places.Rows.{Stays, passed_rows, row_begun}
+use Rattle.run_record.specs.of_served_places.of_served_runs.Served.{AllServedTurn, IsServedLed, IsServedTurn, Keyed, Serves, ServedComes, ServedTurn, all_serve, asked_at, gives_it, served_behind}
+use Rattle.run_record.specs.of_served_places.of_served_runs.Told.{Passed}
 use Rattle.gateway_run.specs.Mails.{AreLate, HasMails, IsLateRow, IsRowOf}
 use Rattle.gateway_run.specs.Replies.{AllDesk, IsLate}
 use Rattle.gateway_run.specs.declared.desk.Request.{Request}

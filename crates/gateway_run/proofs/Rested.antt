@@ -22,7 +22,7 @@ use Rattle.run_record.specs.Session.{SessionState, are_at_rest, session_rows}
 use Rattle.run_record.specs.Written.{WereServedDue}
 use Rattle.run_record.specs.of_run_notes.Switched.{SameSwitch}
 use Rattle.segment_plan.specs.declared.plan.Scenario.{Scenario}
-use Rattle.served_places.specs.of_served_runs.Served.{Serves}
+use Rattle.run_record.specs.of_served_places.of_served_runs.Served.{Serves}
 use Rattle.gateway_run.specs.Done.{ServedRestAll, ServedRestsSo}
 use Rattle.gateway_run.specs.Serving.{LivesOn}
 

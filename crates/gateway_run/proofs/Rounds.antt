@@ -3,10 +3,10 @@ use Rattle.std.proofs.Common.{◌≡◌, ℕ, suc, ◌≤◌, Bool, true, false,
 use Rattle.std.specs.Prelude.{◌==◌, cond, if◌then◌else◌, slice_get, slice_index_or, All, Ok}
 use Rattle.std.proofs.lemmas.List.Elements.{All-filter, filter-append, filter_passes}
 use Rattle.gateway_core.specs.Framing.{request_in}
-use Rattle.served_places.proofs.Hears.{behind_heard, behind_over}
-use Rattle.served_places.specs.Rows.{AreAll, HearsNoMore, passed_rows, told_besides}
-use Rattle.served_places.specs.of_served_runs.Served.{Serves, ServedTurn, IsServedTurn, TellsSo, accepted_by, gives_it, served_behind}
-use Rattle.served_places.specs.of_served_runs.Told.{Passed, TellsOwn, replies_in}
+use Rattle.run_record.proofs.of_served_places.Hears.{behind_heard, behind_over}
+use Rattle.run_record.specs.of_served_places.Rows.{AreAll, HearsNoMore, passed_rows, told_besides}
+use Rattle.run_record.specs.of_served_places.of_served_runs.Served.{Serves, ServedTurn, IsServedTurn, TellsSo, accepted_by, gives_it, served_behind}
+use Rattle.run_record.specs.of_served_places.of_served_runs.Told.{Passed, TellsOwn, replies_in}
 use Rattle.mailbox_mail.specs.declared.mail.Mail.{Mail}
 use Rattle.master_node.specs.Events.{begun_told}
 use Rattle.master_node.specs.Serving.{serves_of}

@@ -3,12 +3,12 @@ use Rattle.std.proofs.Common.{◌≡◌, ◌<◌, ◌≤◌, ℕ, suc, ◌+◌, 
 use Rattle.std.specs.Prelude.{◌≢◌, ◌==◌, cond, filter, find, if◌then◌else◌, is_some, nat_le, not, slice_get, slice_index_or, All}
 use Rattle.std.proofs.lemmas.Bool.{leb-true}
 use Rattle.std.proofs.lemmas.List.Elements.{All-nil, All-append, All-cons, All-filter, All-head, All-map, All-tail, All-weaker}
-use Rattle.served_places.proofs.Held.{all_has}
-use Rattle.served_places.proofs.of_served_runs.Tells.{HasPassed}
-use Rattle.served_places.proofs.of_served_runs.Telling.{serves_tell}
-use Rattle.served_places.specs.Rows.{ToldAll}
-use Rattle.served_places.specs.of_served_runs.Served.{Serves, ServedTurn, TellsSo}
-use Rattle.served_places.specs.of_served_runs.Told.{Passed}
+use Rattle.run_record.proofs.of_served_places.Held.{all_has}
+use Rattle.run_record.proofs.of_served_places.of_served_runs.Tells.{HasPassed}
+use Rattle.run_record.proofs.of_served_places.of_served_runs.Telling.{serves_tell}
+use Rattle.run_record.specs.of_served_places.Rows.{ToldAll}
+use Rattle.run_record.specs.of_served_places.of_served_runs.Served.{Serves, ServedTurn, TellsSo}
+use Rattle.run_record.specs.of_served_places.of_served_runs.Told.{Passed}
 use Rattle.mailbox_mail.specs.Mail.{error_of}
 use Rattle.mailbox_mail.specs.declared.mail.Mail.{Mail}
 use Rattle.master_node.specs.Begins.{begun_of as began_of}

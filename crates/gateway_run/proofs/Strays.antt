@@ -6,7 +6,7 @@ use Rattle.std.proofs.lemmas.List.Elements.{All-nil, All-head, All-push, All-tai
 use Rattle.gateway_core.specs.Framing.{request_in}
 use Rattle.gateway_core.specs.Gateway.{is_passed, judged_at, place_from, unfinished_at}
 use Rattle.gateway_core.specs.declared.asker.Asker.{Asker}
-use Rattle.served_places.specs.of_served_runs.Served.{Serves, served_behind}
+use Rattle.run_record.specs.of_served_places.of_served_runs.Served.{Serves, served_behind}
 use Rattle.mailbox_mail.specs.Mail.{error_of}
 use Rattle.mailbox_mail.specs.declared.mail.Mail.{Mail}
 use Rattle.master_node.specs.Serving.{run_lead}

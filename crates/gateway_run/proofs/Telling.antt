@@ -3,10 +3,10 @@ use Rattle.std.proofs.Common.{◌≡◌, ℕ, Bool, true, false, Option, Some, N
 use Rattle.std.specs.Prelude.{◌≢◌, if◌then◌else◌, length, slice_get, slice_index_or, All, Ok}
 use Rattle.std.proofs.lemmas.List.Elements.{All-filter, All-map, All-weaker}
 use Rattle.gateway_core.specs.Framing.{request_in}
-use Rattle.served_places.proofs.Stay.{StaysOver, passings_last}
-use Rattle.served_places.specs.Rows.{AreAll, Stays, last_more, passed_rows, passings, replies_of}
-use Rattle.served_places.specs.of_served_runs.Served.{Serves}
-use Rattle.served_places.specs.of_served_runs.Told.{Passed, TellsOwn}
+use Rattle.run_record.proofs.of_served_places.Stay.{StaysOver, passings_last}
+use Rattle.run_record.specs.of_served_places.Rows.{AreAll, Stays, last_more, passed_rows, passings, replies_of}
+use Rattle.run_record.specs.of_served_places.of_served_runs.Served.{Serves}
+use Rattle.run_record.specs.of_served_places.of_served_runs.Told.{Passed, TellsOwn}
 use Rattle.mailbox_mail.specs.declared.mail.Mail.{Mail}
 use Rattle.master_node.specs.Wants.{gave_of}
 use Rattle.master_node.specs.declared.event.Event.{Event}

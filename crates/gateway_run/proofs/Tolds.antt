@@ -2,9 +2,9 @@
 use Rattle.std.proofs.Common.{◌≡◌, ◌≤◌, ℕ, zero, suc, Bool, true, false, Option, Some, None, List, [], ◌∷◌, ◌++◌, length, map, refl, sym, ap, ◌∙◌, append-nil, length-append, arith}
 use Rattle.std.specs.Prelude.{◌&&◌, cond, nat_lt, if◌then◌else◌, is_some, filter, slice_get, Ok, Err}
 use Rattle.std.proofs.lemmas.Bool.{le-ltb, lt-ltb}
-use Rattle.served_places.proofs.Unread.{unread_accepted, unread_passing}
-use Rattle.served_places.specs.of_served_runs.Served.{Serves, ServedTurn, IsServedTurn, gives_it, served_behind}
-use Rattle.served_places.specs.of_served_runs.Told.{Passed, replies_in}
+use Rattle.run_record.proofs.of_served_places.Unread.{unread_accepted, unread_passing}
+use Rattle.run_record.specs.of_served_places.of_served_runs.Served.{Serves, ServedTurn, IsServedTurn, gives_it, served_behind}
+use Rattle.run_record.specs.of_served_places.of_served_runs.Told.{Passed, replies_in}
 use Rattle.master_node.proofs.Counts.{lost_gave}
 use Rattle.master_node.specs.Begins.{begun_of as began_of}
 use Rattle.master_node.specs.Besides.{given_told}

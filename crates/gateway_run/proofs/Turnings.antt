@@ -3,13 +3,13 @@ use Rattle.std.proofs.Common.{◌≡◌, ◌≤◌, ℕ, zero, suc, ◌+◌, Boo
 use Rattle.std.specs.Prelude.{◌≢◌, ◌&&◌, cond, filter, if◌then◌else◌, slice_get, All, Ok}
 use Rattle.std.proofs.lemmas.List.Elements.{All-nil, All-cons, All-head, All-tail, All-filter, All-weaker}
 use Rattle.gateway_core.specs.Framing.{request_in}
-use Rattle.served_places.proofs.All.{goes_told, same_stand, turn_held}
-use Rattle.served_places.proofs.Held.{next_has}
-use Rattle.served_places.proofs.Next.{next_free, next_passing}
-use Rattle.served_places.proofs.of_served_runs.Tells.{HasPassed}
-use Rattle.served_places.specs.Rows.{AreAll, HearsNoMore, IsHeld, StandsTold, ToldAll}
-use Rattle.served_places.specs.of_served_runs.Served.{AllServedTurn, IsServedTurn, Keyed, ServedComes, Serves, ServedTurn, TellsSo, gives_it}
-use Rattle.served_places.specs.of_served_runs.Told.{Passed, replies_in, told_on}
+use Rattle.run_record.proofs.of_served_places.All.{goes_told, same_stand, turn_held}
+use Rattle.run_record.proofs.of_served_places.Held.{next_has}
+use Rattle.run_record.proofs.of_served_places.Next.{next_free, next_passing}
+use Rattle.run_record.proofs.of_served_places.of_served_runs.Tells.{HasPassed}
+use Rattle.run_record.specs.of_served_places.Rows.{AreAll, HearsNoMore, IsHeld, StandsTold, ToldAll}
+use Rattle.run_record.specs.of_served_places.of_served_runs.Served.{AllServedTurn, IsServedTurn, Keyed, ServedComes, Serves, ServedTurn, TellsSo, gives_it}
+use Rattle.run_record.specs.of_served_places.of_served_runs.Told.{Passed, replies_in, told_on}
 use Rattle.mailbox_mail.specs.declared.mail.Mail.{Mail}
 use Rattle.master_node.proofs.Counts.{lost_gave}
 use Rattle.master_node.proofs.Handeds.{comes_own}
@@ -21,7 +21,7 @@ use Rattle.master_node.specs.Shows.{is_carried}
 use Rattle.master_node.specs.Wants.{gave_of}
 use Rattle.master_node.specs.declared.event.Event.{Event}
 use Rattle.master_node.specs.declared.event.Event.TheVariants as events
-use Rattle.served_places.specs.of_counters_kept.Lives.{LifeKept}
+use Rattle.run_record.specs.of_served_places.of_counters_kept.Lives.{LifeKept}
 use Rattle.master_node.specs.of_datagrams.Datagram as Raw
 use Rattle.master_node.specs.of_datagrams.Frame.{IsFrame, chained}
 use Rattle.master_node.specs.of_frame_view.Seen.{seen}

@@ -3,7 +3,7 @@ use Rattle.std.proofs.Common.{◌≡◌, ◌<◌, ◌≤◌, ◌⊎◌, ℕ, tru
 use Rattle.std.specs.Prelude.{Option, Some, None, Ok, slice_index_or}
 use Rattle.std.proofs.lemmas.List.Elements.{All-cons, All-nil}
 use Rattle.std.proofs.lemmas.List.Quantifiers.{Any-push}
-use Rattle.served_places.specs.of_served_runs.Served.{Serves}
+use Rattle.run_record.specs.of_served_places.of_served_runs.Served.{Serves}
 use Rattle.mailbox_mail.specs.Mail.{error_of}
 use Rattle.mailbox_mail.specs.declared.mail.Kind.TheVariants.{SoE}
 use Rattle.mailbox_mail.specs.declared.mail.Mail.{Mail}

@@ -2,8 +2,8 @@
 use Rattle.std.specs.Prelude.{◌≡◌, ◌⊎◌, ℕ, suc, Bool, true, false, Some, List, [], ◌∷◌, map, slice_get, ⊤}
 use Rattle.mailbox_mail.specs.Mail.{error_of}
 use Rattle.mailbox_mail.specs.declared.mail.Mail.{Mail}
-use Rattle.served_places.specs.Rows.{AreAll}
-use Rattle.served_places.specs.of_served_runs.Served.{Serves}
+use Rattle.run_record.specs.of_served_places.Rows.{AreAll}
+use Rattle.run_record.specs.of_served_places.of_served_runs.Served.{Serves}
 use Rattle.master_node.specs.Serving.{run_lead}
 use Rattle.master_node.specs.of_life_frames.Shares.{AllBoth}
 use Rattle.master_node.specs.of_life_runs.First.{lens_of}

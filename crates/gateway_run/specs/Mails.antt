@@ -8,8 +8,8 @@ use Rattle.master_node.specs.of_master_hand.Spoken.{Asked, passed}
 use Rattle.run_book.specs.declared.book.GramIn.{GramIn}
 use Rattle.run_book.specs.declared.book.SlaveBook.{SlaveBook}
 use Rattle.run_record.specs.of_run_notes.Packets.{mail_row, rows_with}
-use Rattle.served_places.specs.Rows.{passed_rows}
-use Rattle.served_places.specs.of_served_runs.Served.{Keyed, Serves}
+use Rattle.run_record.specs.of_served_places.Rows.{passed_rows}
+use Rattle.run_record.specs.of_served_places.of_served_runs.Served.{Keyed, Serves}
 
 -- A ROW OF THE BOOK IS THAT OF A LIFE: it began before the same frame, and its mail is the one with its number among all that were asked; the count has 32 bits
 pub record IsRowOf (asked : List Keyed) (row : ℕ × ℕ) (r : Row Body Asked Reply) : Type 0 where

@@ -6,9 +6,9 @@ use Rattle.master_node.specs.Wants.{gave_of}
 use Rattle.master_node.specs.of_life_frames.of_exchange_model.Rows.{Row}
 use Rattle.gateway_core.specs.Framing.{request_in}
 use Rattle.gateway_core.specs.declared.framing.GatewayFault.{GatewayFault}
-use Rattle.served_places.specs.Rows.{AreAll, HearsNoMore, ToldAll, passed_rows, passings, replies_of}
-use Rattle.served_places.specs.of_served_runs.Served.{IsServedFrame, Keyed, ServedTurn, Serves}
-use Rattle.served_places.specs.of_served_runs.Told.{Passed}
+use Rattle.run_record.specs.of_served_places.Rows.{AreAll, HearsNoMore, ToldAll, passed_rows, passings, replies_of}
+use Rattle.run_record.specs.of_served_places.of_served_runs.Served.{IsServedFrame, Keyed, ServedTurn, Serves}
+use Rattle.run_record.specs.of_served_places.of_served_runs.Told.{Passed}
 use Rattle.mailbox_mail.specs.Mail.{error_of}
 use Rattle.mailbox_mail.specs.declared.mail.Mail.{Mail}
 use Rattle.master_node.specs.of_life_frames.Shares.{AllBoth}

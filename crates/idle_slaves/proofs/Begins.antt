@@ -12,15 +12,15 @@ use Rattle.link_mails.specs.Body.{Body}
 use Rattle.link_model.specs.Link.{Halves}
 use Rattle.link_model.specs.Master.{InState}
 use Rattle.master_duty.specs.Reply.{Reply}
-use Rattle.master_hand.specs.Spoken.{Asked}
+use Rattle.plan_ring.specs.of_master_hand.Spoken.{Asked}
 use Rattle.plan_ring.specs.PlanMet.{slave_at}
-use Rattle.run_frames.specs.Clocks.{duty_reopens, goes_to_init}
-use Rattle.run_frames.specs.Goes.{HandAt}
-use Rattle.run_frames.specs.Waits.{new_waits}
+use Rattle.plan_ring.specs.of_run_frames.Clocks.{duty_reopens, goes_to_init}
+use Rattle.plan_ring.specs.of_run_frames.Goes.{HandAt}
+use Rattle.plan_ring.specs.of_run_frames.Waits.{new_waits}
 use Rattle.segment_model.specs.Slaves.{serving}
 use Rattle.segment_plan.specs.declared.service.Service as Plan
 use Rattle.segment_plan.specs.declared.slave.SlaveSpec.{SlaveSpec}
-use Rattle.slave_server.specs.Serving.{Serving}
+use Rattle.plan_ring.specs.of_slave_server.Serving.{Serving}
 use Rattle.slave_steps.specs.Node.{Node}
 use Rattle.task_model.specs.Accounts.{Duty, Stage}
 use Rattle.idle_slaves.proofs.Fits.{IsFit, exchange_at, table_at}

@@ -7,7 +7,7 @@ use Rattle.idle_slaves.specs.Visited.{HasRow}
 use Rattle.life_model.specs.Lives.{Life, Stand, life_next, granted, passing_begins}
 use Rattle.link_model.specs.Mails.{LinkMail}
 use Rattle.link_model.specs.Slave.{Node}
-use Rattle.run_frames.proofs.Access.{begins_same, holds_same}
+use Rattle.plan_ring.proofs.of_run_frames.Access.{begins_same, holds_same}
 use Rattle.segment_model.specs.Ends.{Passing}
 use Rattle.segment_model.specs.Seats.{Side, Choice, side_begins, side_holds, side_next, next_mail, first_left, is_over}
 use Rattle.state_exchange.specs.Stated.{Service}

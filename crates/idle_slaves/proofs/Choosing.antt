@@ -8,7 +8,7 @@ use Rattle.link_model.specs.Link.{Halves, Link, held_after}
 use Rattle.link_model.specs.Mails.{LinkMail}
 use Rattle.link_model.specs.Master.{out_hold}
 use Rattle.link_model.specs.Slave.{Node, Server}
-use Rattle.run_frames.specs.Waits.{Waits}
+use Rattle.plan_ring.specs.of_run_frames.Waits.{Waits}
 use Rattle.segment_model.specs.Ends.{Passing}
 use Rattle.segment_model.specs.Seats.{Side, Choice, side_begins, side_holds, side_next, next_mail, first_left, is_over, is_none_left}
 use Rattle.state_exchange.specs.Stated.{Service}

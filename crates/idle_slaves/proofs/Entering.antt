@@ -2,13 +2,13 @@
 use Rattle.std.proofs.Common.{◌≡◌, ◌⊎◌, ◌≤◌, ℕ, suc, ◌+◌, ◌==◌, Bool, true, false, Option, List, length, refl, sym, ap, ◌∙◌, arith, if◌then◌else◌, inl, inr, eq-eqb}
 use Rattle.std.proofs.lemmas.Bool.{eqb-true}
 use Rattle.idle_slaves.specs.Eager.{Remembered}
-use Rattle.life_runs.specs.First.{lens_of, first_leads}
-use Rattle.life_runs.specs.Led.{Exchanged, Leads}
-use Rattle.run_frames.specs.Clocks.{repair_of}
-use Rattle.run_frames.specs.Led.{behind_back, still_led, waits_led}
-use Rattle.run_frames.specs.Runs.{Progress}
-use Rattle.run_frames.specs.Toured.{IsToured}
-use Rattle.run_frames.specs.Waits.{Waits, all_anew}
+use Rattle.plan_ring.specs.of_life_runs.First.{lens_of, first_leads}
+use Rattle.plan_ring.specs.of_life_runs.Led.{Exchanged, Leads}
+use Rattle.plan_ring.specs.of_run_frames.Clocks.{repair_of}
+use Rattle.plan_ring.specs.of_run_frames.Led.{behind_back, still_led, waits_led}
+use Rattle.plan_ring.specs.of_run_frames.Runs.{Progress}
+use Rattle.plan_ring.specs.of_run_frames.Toured.{IsToured}
+use Rattle.plan_ring.specs.of_run_frames.Waits.{Waits, all_anew}
 use Rattle.segment_plan.specs.declared.plan.Scenario.{Scenario}
 use Rattle.idle_slaves.proofs.Lists.{Slave, still_same}
 use Rattle.idle_slaves.specs.Entered.{EagerBut, host_frames, Entered}

@@ -10,8 +10,8 @@ use Rattle.link_model.specs.Link.{Halves, Event, happens, written, write_counter
 use Rattle.link_model.specs.Mails.{LinkMail}
 use Rattle.link_model.specs.Slave.{Node, Server, processor_step}
 use Rattle.master_duty.specs.Reply.{Reply}
-use Rattle.master_hand.specs.Spoken.{Asked}
-use Rattle.run_frames.specs.Waits.{Waits}
+use Rattle.plan_ring.specs.of_master_hand.Spoken.{Asked}
+use Rattle.plan_ring.specs.of_run_frames.Waits.{Waits}
 use Rattle.segment_model.specs.Ends.{Passing}
 use Rattle.segment_model.specs.Slaves.{Datagram, Serving, Slave, Registers, slave_after, slave_meets, registers_met}
 use Rattle.state_model.specs.States.{Table, carry, word_carried, decided}

@@ -13,23 +13,23 @@ use Rattle.idle_slaves.specs.Visited.{LifeSpent}
 use Rattle.life_measure.specs.Gains.{gains}
 use Rattle.life_model.specs.Lives.{Era, Life, Spot, Stand, life_next}
 use Rattle.life_model.specs.Own.{own}
-use Rattle.life_runs.specs.Led.{Leads, Took, speech_at, is_passed}
+use Rattle.plan_ring.specs.of_life_runs.Led.{Leads, Took, speech_at, is_passed}
 use Rattle.link_mails.specs.Body.{Body}
 use Rattle.master_duty.specs.Reply.{Reply}
-use Rattle.master_hand.specs.Spoken.{Asked, acknowledged, is_followed}
+use Rattle.plan_ring.specs.of_master_hand.Spoken.{Asked, acknowledged, is_followed}
 use Rattle.plan_ring.specs.PlanMet.{slave_at, IsMet}
 use Rattle.plan_ring.specs.Asked.{asked}
-use Rattle.run_frames.specs.Clocks.{Clocked}
-use Rattle.run_frames.specs.Goes.{Under, back_life}
-use Rattle.run_frames.specs.Waits.{Waits}
+use Rattle.plan_ring.specs.of_run_frames.Clocks.{Clocked}
+use Rattle.plan_ring.specs.of_run_frames.Goes.{Under, back_life}
+use Rattle.plan_ring.specs.of_run_frames.Waits.{Waits}
 use Rattle.segment_model.specs.Slaves.{Datagram, serving}
 use Rattle.segment_plan.specs.declared.service.Service as Plan
 use Rattle.segment_plan.specs.declared.slave.SlaveSpec.{SlaveSpec}
 use Rattle.slave_lives.specs.Lived.{table_of}
 use Rattle.slave_parts.specs.Parts.{Core, Server}
 use Rattle.slave_parts.specs.of_eoe_model.Network.{Station}
-use Rattle.slave_server.specs.Serving.{Serving}
-use Rattle.slave_server.specs.Spec.{profile_of}
+use Rattle.plan_ring.specs.of_slave_server.Serving.{Serving}
+use Rattle.plan_ring.specs.of_slave_server.Spec.{profile_of}
 use Rattle.slave_steps.specs.Node.{Node}
 use Rattle.state_exchange.specs.Families.{InState}
 use Rattle.state_exchange.specs.Stated.{Service}

@@ -8,10 +8,10 @@ use Rattle.life_model.specs.Own.{own}
 use Rattle.link_mails.specs.Body.{Body}
 use Rattle.link_model.specs.Slave.{Server, processor_step}
 use Rattle.master_duty.specs.Reply.{Reply}
-use Rattle.master_hand.specs.Spoken.{Asked}
-use Rattle.run_frames.specs.Clocks.{Clocked}
-use Rattle.run_frames.specs.Goes.{Under, back_life}
-use Rattle.run_frames.specs.Waits.{Waits, waits_on}
+use Rattle.plan_ring.specs.of_master_hand.Spoken.{Asked}
+use Rattle.plan_ring.specs.of_run_frames.Clocks.{Clocked}
+use Rattle.plan_ring.specs.of_run_frames.Goes.{Under, back_life}
+use Rattle.plan_ring.specs.of_run_frames.Waits.{Waits, waits_on}
 use Rattle.segment_model.specs.Slaves.{Datagram, Serving, Slave, Processor, Registers, serving, slave_after, slave_steps, frame_after}
 use Rattle.state_model.specs.States.{Table, carry}
 use Rattle.idle_slaves.specs.Steps.{NotGone}

@@ -6,9 +6,9 @@ use Rattle.life_measure.specs.Gains.{gains}
 use Rattle.life_measure.proofs.Gaining.{next_same}
 use Rattle.life_model.specs.Lives.{Life, Spot, Stand, life_back}
 use Rattle.link_model.specs.Slave.{Node, Server, processor_step}
-use Rattle.run_frames.specs.Clocks.{Clocked}
-use Rattle.run_frames.specs.Goes.{Under, back_life}
-use Rattle.run_frames.specs.Waits.{Waits, waits_on}
+use Rattle.plan_ring.specs.of_run_frames.Clocks.{Clocked}
+use Rattle.plan_ring.specs.of_run_frames.Goes.{Under, back_life}
+use Rattle.plan_ring.specs.of_run_frames.Waits.{Waits, waits_on}
 use Rattle.segment_model.specs.Slaves.{Datagram}
 use Rattle.idle_slaves.specs.Frames.{InVain, node_on, memory_on}
 use Rattle.idle_slaves.specs.Visited.{Waiting, Chosen, IsStill, LifeSpent, life_visit, memory_of}

@@ -14,10 +14,10 @@ use Rattle.link_model.specs.Link.{Link}
 use Rattle.link_model.specs.Master.{InHalf}
 use Rattle.link_model.specs.Slave.{Server, processor_step}
 use Rattle.master_duty.specs.Reply.{Reply}
-use Rattle.master_hand.specs.Spoken.{Asked}
-use Rattle.run_frames.specs.Clocks.{Clocked}
-use Rattle.run_frames.specs.Goes.{Under, back_life}
-use Rattle.run_frames.specs.Waits.{Waits, new_waits, waits_on}
+use Rattle.plan_ring.specs.of_master_hand.Spoken.{Asked}
+use Rattle.plan_ring.specs.of_run_frames.Clocks.{Clocked}
+use Rattle.plan_ring.specs.of_run_frames.Goes.{Under, back_life}
+use Rattle.plan_ring.specs.of_run_frames.Waits.{Waits, new_waits, waits_on}
 use Rattle.segment_model.specs.Slaves.{Datagram, Serving, Slave, Processor, serving, slave_after}
 use Rattle.state_model.specs.States.{Table}
 use Rattle.idle_slaves.specs.Steps.{NotGone}

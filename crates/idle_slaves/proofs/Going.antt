@@ -6,9 +6,9 @@ use Rattle.life_measure.specs.Gains.{gains, phase_gains, stage_gains, progress_g
 use Rattle.life_measure.proofs.Gaining.{next_same, state_gains}
 use Rattle.life_model.specs.Lives.{Era, Life, Spot, Stand, life_next, life_back, era_back, reopens, reopens_at, reopening, opens_state, returns_to_init, granted}
 use Rattle.life_model.specs.Own.{own}
-use Rattle.run_frames.specs.Clocks.{Clocked}
-use Rattle.run_frames.specs.Goes.{Under, back_life}
-use Rattle.run_frames.specs.Waits.{Waits, waits_on}
+use Rattle.plan_ring.specs.of_run_frames.Clocks.{Clocked}
+use Rattle.plan_ring.specs.of_run_frames.Goes.{Under, back_life}
+use Rattle.plan_ring.specs.of_run_frames.Waits.{Waits, waits_on}
 use Rattle.segment_model.specs.Ends.{Outcome}
 use Rattle.segment_model.specs.Record.{News}
 use Rattle.segment_model.specs.Seats.{Side}

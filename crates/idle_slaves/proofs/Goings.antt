@@ -14,11 +14,11 @@ use Rattle.link_model.specs.Link.{Halves}
 use Rattle.link_model.specs.Master.{InState, InHalf}
 use Rattle.link_model.specs.Slave.{Server}
 use Rattle.master_duty.specs.Reply.{Reply}
-use Rattle.master_hand.specs.Spoken.{Asked}
-use Rattle.run_frames.specs.Clocks.{Clocked}
-use Rattle.run_frames.specs.Goes.{Under, back_life}
-use Rattle.run_frames.specs.Orders.{is_live}
-use Rattle.run_frames.specs.Waits.{Waits, waits_on}
+use Rattle.plan_ring.specs.of_master_hand.Spoken.{Asked}
+use Rattle.plan_ring.specs.of_run_frames.Clocks.{Clocked}
+use Rattle.plan_ring.specs.of_run_frames.Goes.{Under, back_life}
+use Rattle.plan_ring.specs.of_run_frames.Orders.{is_live}
+use Rattle.plan_ring.specs.of_run_frames.Waits.{Waits, waits_on}
 use Rattle.segment_model.specs.Slaves.{Datagram, Found, Serving, Slave, Processor, grams, serving, slave_after, registers_met}
 use Rattle.segment_plan.specs.declared.service.Service as Plan
 use Rattle.state_exchange.specs.Stated.{Service}

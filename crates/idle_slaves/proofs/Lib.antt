@@ -1,3 +1,4 @@
+pub use Rattle.plan_ring.proofs as of_plan_ring
 pub mod Begins
 pub mod Behind
 pub mod Choices

@@ -12,24 +12,24 @@ use Rattle.life_measure.specs.Repairs.{way_of, stand_way}
 use Rattle.life_measure.proofs.Gaining.{next_same, back_grows}
 use Rattle.life_model.specs.Lives.{Life, Spot, Stand}
 use Rattle.life_model.specs.Own.{own}
-use Rattle.life_runs.specs.Led.{Leads, Turn, speech_at, is_passed}
+use Rattle.plan_ring.specs.of_life_runs.Led.{Leads, Turn, speech_at, is_passed}
 use Rattle.link_mails.specs.Body.{Body}
 use Rattle.link_model.specs.Frames.{all_accepted}
 use Rattle.link_model.specs.Link.{Halves}
 use Rattle.link_model.specs.Master.{InState}
 use Rattle.master_duty.specs.Reply.{Reply}
-use Rattle.master_hand.specs.Spoken.{Asked, acknowledged, is_followed}
+use Rattle.plan_ring.specs.of_master_hand.Spoken.{Asked, acknowledged, is_followed}
 use Rattle.plan_ring.specs.PlanMet.{slave_at}
 use Rattle.plan_ring.specs.Hands.{AllHand}
-use Rattle.run_frames.specs.Clocks.{gains_all, reopened_all, still_behind}
-use Rattle.run_frames.specs.Goes.{Under, IsUnder, AllUnder, back_life, all_back}
-use Rattle.run_frames.specs.Led.{AreLed}
-use Rattle.run_frames.specs.Orders.{AllRepaired}
-use Rattle.run_frames.specs.Waits.{Waits, all_anew, all_on, SomeWaits}
+use Rattle.plan_ring.specs.of_run_frames.Clocks.{gains_all, reopened_all, still_behind}
+use Rattle.plan_ring.specs.of_run_frames.Goes.{Under, IsUnder, AllUnder, back_life, all_back}
+use Rattle.plan_ring.specs.of_run_frames.Led.{AreLed}
+use Rattle.plan_ring.specs.of_run_frames.Orders.{AllRepaired}
+use Rattle.plan_ring.specs.of_run_frames.Waits.{Waits, all_anew, all_on, SomeWaits}
 use Rattle.segment_model.specs.Slaves.{Datagram, grams, serving}
 use Rattle.segment_plan.specs.declared.service.Service as Plan
 use Rattle.segment_plan.specs.declared.slave.SlaveSpec.{SlaveSpec}
-use Rattle.slave_server.specs.Serving.{Serving}
+use Rattle.plan_ring.specs.of_slave_server.Serving.{Serving}
 use Rattle.slave_steps.specs.Node.{Node}
 use Rattle.idle_slaves.specs.WaitEager.{AllRest}
 use Rattle.idle_slaves.proofs.Begins.{begins}

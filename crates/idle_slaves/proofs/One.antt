@@ -16,25 +16,25 @@ use Rattle.idle_slaves.specs.Going.{Going}
 use Rattle.idle_slaves.specs.Visited.{Waiting, IsUnpaused}
 use Rattle.life_model.specs.Lives.{Life, Spot, Stand, life_next, life_back, era_next, granted}
 use Rattle.life_model.specs.Own.{own}
-use Rattle.life_runs.specs.Led.{Leads, Took, speech_at, is_passed}
+use Rattle.plan_ring.specs.of_life_runs.Led.{Leads, Took, speech_at, is_passed}
 use Rattle.link_mails.specs.Body.{Body}
 use Rattle.link_model.specs.Frames.{all_accepted}
 use Rattle.link_model.specs.Master.{InState as HalfState}
 use Rattle.master_duty.specs.Reply.{Reply}
-use Rattle.master_hand.specs.Spoken.{Asked, acknowledged, is_followed}
+use Rattle.plan_ring.specs.of_master_hand.Spoken.{Asked, acknowledged, is_followed}
 use Rattle.plan_ring.specs.PlanMet.{slave_at, IsMet}
 use Rattle.plan_ring.specs.Asked.{asked}
-use Rattle.run_frames.specs.Goes.{Under, back_life}
-use Rattle.run_frames.specs.Orders.{is_live}
-use Rattle.run_frames.specs.Waits.{Waits, waits_on}
+use Rattle.plan_ring.specs.of_run_frames.Goes.{Under, back_life}
+use Rattle.plan_ring.specs.of_run_frames.Orders.{is_live}
+use Rattle.plan_ring.specs.of_run_frames.Waits.{Waits, waits_on}
 use Rattle.segment_model.specs.Seats.{Side, side_next}
 use Rattle.segment_model.specs.Slaves.{Datagram, Slave, Processor, frame_after, grams, serving, slave_after, slave_steps}
 use Rattle.segment_plan.specs.declared.service.Service as Plan
 use Rattle.segment_plan.specs.declared.slave.SlaveSpec.{SlaveSpec}
 use Rattle.slave_parts.specs.Parts.{Core, Server}
 use Rattle.slave_parts.specs.of_eoe_model.Network.{Station}
-use Rattle.slave_server.specs.Serving.{Serving}
-use Rattle.slave_server.specs.Spec.{profile_of}
+use Rattle.plan_ring.specs.of_slave_server.Serving.{Serving}
+use Rattle.plan_ring.specs.of_slave_server.Spec.{profile_of}
 use Rattle.slave_steps.specs.Node.{Node}
 use Rattle.state_exchange.specs.Families.{InState}
 use Rattle.state_exchange.specs.Stated.{Service}

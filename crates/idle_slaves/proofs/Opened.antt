@@ -12,11 +12,11 @@ use Rattle.idle_slaves.specs.Visited.{IsLeft, LifeSpent}
 use Rattle.idle_slaves.proofs.Links.{era_link}
 use Rattle.idle_slaves.proofs.Settled.{is_left}
 use Rattle.life_model.specs.Lives.{Life}
-use Rattle.life_runs.specs.First.{lens_of, spot_of}
-use Rattle.life_runs.specs.Led.{Exchanged, Leads, speech_at}
+use Rattle.plan_ring.specs.of_life_runs.First.{lens_of, spot_of}
+use Rattle.plan_ring.specs.of_life_runs.Led.{Exchanged, Leads, speech_at}
 use Rattle.link_mails.specs.Body.{Body}
 use Rattle.master_duty.specs.Reply.{Reply}
-use Rattle.master_hand.specs.Spoken.{Asked, acknowledged}
+use Rattle.plan_ring.specs.of_master_hand.Spoken.{Asked, acknowledged}
 use Rattle.plan_ring.specs.Alike.{Alike}
 use Rattle.plan_ring.proofs.NamedAlike.{answered_alike}
 use Rattle.never_waits.specs.Waits.{NeverWaits}
@@ -28,8 +28,8 @@ use Rattle.segment_plan.specs.declared.plan.Scenario.{Scenario}
 use Rattle.segment_plan.specs.declared.slave.SlaveSpec.{SlaveSpec}
 use Rattle.slave_lives.specs.Ends.{IsAnswered}
 use Rattle.slave_lives.specs.Lived.{table_of}
-use Rattle.slave_server.specs.Serving.{Serving}
-use Rattle.slave_server.specs.Spec.{profile_of}
+use Rattle.plan_ring.specs.of_slave_server.Serving.{Serving}
+use Rattle.plan_ring.specs.of_slave_server.Spec.{profile_of}
 use Rattle.slave_steps.specs.Node.{Node}
 use Rattle.idle_slaves.proofs.Comes.{era_comes}
 use Rattle.idle_slaves.proofs.StatesSteps.{era_alone}

@@ -14,18 +14,18 @@ use Rattle.idle_slaves.proofs.Returning.{passing_is}
 use Rattle.life_measure.specs.Gains.{gains}
 use Rattle.life_model.specs.Lives.{Life, Spot, Stand, life_next, life_back, granted, passes, passing_begins}
 use Rattle.life_model.specs.Own.{own}
-use Rattle.life_runs.specs.First.{lens_of}
-use Rattle.life_runs.specs.Led.{Exchanged, Leads, Turn, IsTurn, AllTurn, Comes, led_behind, speech_at, is_passed}
+use Rattle.plan_ring.specs.of_life_runs.First.{lens_of}
+use Rattle.plan_ring.specs.of_life_runs.Led.{Exchanged, Leads, Turn, IsTurn, AllTurn, Comes, led_behind, speech_at, is_passed}
 use Rattle.link_mails.specs.Body.{Body}
 use Rattle.link_model.specs.Frames.{all_accepted}
 use Rattle.master_duty.specs.Reply.{Reply}
-use Rattle.master_hand.specs.Spoken.{Asked, acknowledged, is_followed}
+use Rattle.plan_ring.specs.of_master_hand.Spoken.{Asked, acknowledged, is_followed}
 use Rattle.never_waits.specs.Waits.{NeverWaits}
 use Rattle.plan_ring.specs.PlanMet.{IsMet, AllOpenAt, AllMet}
 use Rattle.plan_ring.specs.Asked.{asked, is_service}
-use Rattle.run_frames.specs.Goes.{Under, back_life}
-use Rattle.run_frames.specs.Led.{AreLed, under_of, unders}
-use Rattle.run_frames.specs.Waits.{Waits}
+use Rattle.plan_ring.specs.of_run_frames.Goes.{Under, back_life}
+use Rattle.plan_ring.specs.of_run_frames.Led.{AreLed, under_of, unders}
+use Rattle.plan_ring.specs.of_run_frames.Waits.{Waits}
 use Rattle.segment_model.specs.Ends.{Passing}
 use Rattle.segment_model.specs.Slaves.{Datagram, grams}
 use Rattle.segment_plan.specs.Sound.{IsSlave}
@@ -33,8 +33,8 @@ use Rattle.segment_plan.specs.declared.plan.Scenario.{Scenario}
 use Rattle.segment_plan.specs.declared.service.Service as Plan
 use Rattle.segment_plan.specs.declared.slave.SlaveSpec.{SlaveSpec}
 use Rattle.slave_parts.specs.of_slave_model.Profile.{Profile, IsProfile}
-use Rattle.slave_server.specs.Serving.{Serving}
-use Rattle.slave_server.specs.Spec.{profile_of}
+use Rattle.plan_ring.specs.of_slave_server.Serving.{Serving}
+use Rattle.plan_ring.specs.of_slave_server.Spec.{profile_of}
 use Rattle.slave_steps.specs.Node.{Node}
 use Rattle.state_exchange.specs.Stated.{Service}
 use Rattle.task_model.specs.Accounts.{Account}

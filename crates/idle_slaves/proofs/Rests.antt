@@ -6,11 +6,11 @@ use Rattle.frame_view.specs.View.{Lens}
 use Rattle.idle_slaves.specs.Visited.{IsLeft}
 use Rattle.idle_slaves.proofs.Settled.{is_left}
 use Rattle.life_model.specs.Lives.{Stand}
-use Rattle.life_runs.specs.Led.{Leads, speech_at}
+use Rattle.plan_ring.specs.of_life_runs.Led.{Leads, speech_at}
 use Rattle.plan_ring.specs.PlanMet.{slave_at}
 use Rattle.segment_model.specs.Slaves.{serving}
 use Rattle.segment_plan.specs.declared.slave.SlaveSpec.{SlaveSpec}
-use Rattle.slave_server.specs.Serving.{Serving}
+use Rattle.plan_ring.specs.of_slave_server.Serving.{Serving}
 use Rattle.slave_steps.specs.Node.{Node}
 use Rattle.idle_slaves.specs.WaitEager.{IsResting}
 use Rattle.idle_slaves.proofs.Fits.{IsFit, IsSeated, Rests, exchange_at, next_of}

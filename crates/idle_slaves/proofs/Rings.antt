@@ -7,10 +7,10 @@ use Rattle.link_model.specs.Agree.{Agrees}
 use Rattle.link_model.specs.Link.{Link, Halves}
 use Rattle.link_model.specs.Master.{InState}
 use Rattle.link_model.specs.Slave.{Node, Server}
-use Rattle.run_frames.specs.Clocks.{Clocked}
-use Rattle.run_frames.specs.Goes.{Under, back_life, all_back}
-use Rattle.run_frames.specs.Orders.{is_live}
-use Rattle.run_frames.specs.Waits.{Waits, new_waits, waits_on, all_on, SomeWaits}
+use Rattle.plan_ring.specs.of_run_frames.Clocks.{Clocked}
+use Rattle.plan_ring.specs.of_run_frames.Goes.{Under, back_life, all_back}
+use Rattle.plan_ring.specs.of_run_frames.Orders.{is_live}
+use Rattle.plan_ring.specs.of_run_frames.Waits.{Waits, new_waits, waits_on, all_on, SomeWaits}
 use Rattle.segment_model.specs.Slaves.{Datagram}
 use Rattle.idle_slaves.specs.Rings.{Kept, Stays, IsVainFor, AllVain, AllStay, AllSpent, kept_on}
 use Rattle.idle_slaves.specs.Visited.{Shows, Waiting, LifeSpent}

@@ -2,15 +2,15 @@
 use Rattle.std.proofs.Common.{◌≡◌, ℕ, suc, Option, List, sym, subst, inl, inr}
 use Rattle.frame_view.specs.Seen.{seen}
 use Rattle.frame_view.specs.View.{Lens}
-use Rattle.life_runs.specs.Led.{Exchanged, Leads, Turn, speech_at, is_passed}
+use Rattle.plan_ring.specs.of_life_runs.Led.{Exchanged, Leads, Turn, speech_at, is_passed}
 use Rattle.link_mails.specs.Body.{Body}
 use Rattle.master_duty.specs.Reply.{Reply}
-use Rattle.master_hand.specs.Spoken.{Asked, acknowledged, is_followed}
-use Rattle.run_frames.specs.Clocks.{Clocked}
-use Rattle.run_frames.specs.Led.{unders, behind_back, still_led, waits_led}
-use Rattle.run_frames.specs.Runs.{Progress}
-use Rattle.run_frames.specs.Toured.{IsToured, WaitIn}
-use Rattle.run_frames.specs.Waits.{SomeWaits, waits_behind}
+use Rattle.plan_ring.specs.of_master_hand.Spoken.{Asked, acknowledged, is_followed}
+use Rattle.plan_ring.specs.of_run_frames.Clocks.{Clocked}
+use Rattle.plan_ring.specs.of_run_frames.Led.{unders, behind_back, still_led, waits_led}
+use Rattle.plan_ring.specs.of_run_frames.Runs.{Progress}
+use Rattle.plan_ring.specs.of_run_frames.Toured.{IsToured, WaitIn}
+use Rattle.plan_ring.specs.of_run_frames.Waits.{SomeWaits, waits_behind}
 use Rattle.idle_slaves.specs.Runs.{MadeInVain, VainIn}
 use Rattle.idle_slaves.proofs.Rings.{some_or_spent}
 

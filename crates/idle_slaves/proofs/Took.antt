@@ -3,8 +3,8 @@ use Rattle.std.proofs.Common.{◌≡◌, ℕ, ◌+◌, Bool, true, false, Option
 use Rattle.std.specs.Prelude.{◌&&◌}
 use Rattle.exchange_model.specs.Exchange.{Exchange, Speech, IsLawful, given, plain}
 use Rattle.exchange_model.specs.Rows.{Row, begun}
-use Rattle.life_runs.specs.Led.{Comes}
-use Rattle.master_hand.specs.Spoken.{Asked}
+use Rattle.plan_ring.specs.of_life_runs.Led.{Comes}
+use Rattle.plan_ring.specs.of_master_hand.Spoken.{Asked}
 use Rattle.plan_ring.specs.Alike.{WishIs}
 use Rattle.never_waits.specs.Waits.{NeverWaits}
 use Rattle.plan_ring.specs.Asked.{is_service}

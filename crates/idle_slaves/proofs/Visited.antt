@@ -9,7 +9,7 @@ use Rattle.link_model.specs.Frames.{node_meets}
 use Rattle.link_model.specs.Link.{Halves, Link, Event, happens}
 use Rattle.link_model.specs.Master.{InState}
 use Rattle.link_model.specs.Slave.{Node, Server, processor_step}
-use Rattle.run_frames.specs.Waits.{Waits}
+use Rattle.plan_ring.specs.of_run_frames.Waits.{Waits}
 use Rattle.segment_model.specs.Ends.{Passing}
 use Rattle.segment_model.specs.Record.{News}
 use Rattle.segment_model.specs.Slaves.{Datagram, Found}

@@ -7,10 +7,10 @@ use Rattle.idle_slaves.proofs.Ends.{ends_known}
 use Rattle.idle_slaves.proofs.Held.{side_is}
 use Rattle.life_model.specs.Lives.{Era, Life, Spot, Stand, life_back, era_next}
 use Rattle.life_model.specs.Own.{own}
-use Rattle.life_runs.specs.Led.{is_passed}
+use Rattle.plan_ring.specs.of_life_runs.Led.{is_passed}
 use Rattle.link_mails.specs.Body.{Body}
 use Rattle.master_duty.specs.Reply.{Reply}
-use Rattle.master_hand.specs.Spoken.{Asked, acknowledged, is_followed}
+use Rattle.plan_ring.specs.of_master_hand.Spoken.{Asked, acknowledged, is_followed}
 use Rattle.segment_model.specs.Record.{News}
 use Rattle.segment_model.specs.Seats.{Side, side_back}
 use Rattle.segment_model.specs.Slaves.{Datagram, Found}

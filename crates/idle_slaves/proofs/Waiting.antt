@@ -10,7 +10,7 @@ use Rattle.link_model.specs.Master.{InState, OutHalf, out_hold}
 use Rattle.link_model.specs.Slave.{Server}
 use Rattle.link_model.proofs.Gains.{clear_gains, clear_settled, processor_steps}
 use Rattle.link_model.proofs.Law.{happens_keeps}
-use Rattle.run_frames.specs.Waits.{Waits}
+use Rattle.plan_ring.specs.of_run_frames.Waits.{Waits}
 use Rattle.idle_slaves.specs.Waiting.{Wanted, Memory, Coming, MayCome, IsVain, IsWaiting, IsSpent, IsIdle, link_by, wanted_by, memory_by, memory_behind, visit_by, visit_with, tried}
 use Rattle.idle_slaves.proofs.Steps.{full_stays, empty_stays}
 use Rattle.idle_slaves.proofs.Visiting.{Same, vain_same, read_empty, write_full, seen_full}

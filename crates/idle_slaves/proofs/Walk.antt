@@ -7,11 +7,11 @@ use Rattle.exchange_model.specs.Exchange.{Speech}
 use Rattle.frame_view.specs.Seen.{seen, datagrams_seen}
 use Rattle.frame_view.specs.View.{Lens}
 use Rattle.life_model.specs.Lives.{Spot}
-use Rattle.life_runs.specs.First.{lens_of, first_leads, leads_from}
-use Rattle.life_runs.specs.Led.{Exchanged, Leads, Turn, IsLed, IsLedFrame, speech_at, is_passed, gives_up_at, missed_behind}
+use Rattle.plan_ring.specs.of_life_runs.First.{lens_of, first_leads, leads_from}
+use Rattle.plan_ring.specs.of_life_runs.Led.{Exchanged, Leads, Turn, IsLed, IsLedFrame, speech_at, is_passed, gives_up_at, missed_behind}
 use Rattle.link_mails.specs.Body.{Body}
 use Rattle.master_duty.specs.Reply.{Reply}
-use Rattle.master_hand.specs.Spoken.{Asked, acknowledged, is_followed}
+use Rattle.plan_ring.specs.of_master_hand.Spoken.{Asked, acknowledged, is_followed}
 use Rattle.plan_ring.specs.PlanMet.{AllOpenAt, AllMet}
 use Rattle.plan_ring.specs.Lives.{AreLived}
 use Rattle.plan_ring.specs.Round.{ring_of, ring_after, WentRound, AllRound}
@@ -19,14 +19,14 @@ use Rattle.plan_ring.proofs.Lives.{front_round, last_round}
 use Rattle.plan_ring.specs.Hands.{AllHand}
 use Rattle.plan_ring.proofs.Hands.{hands_back, hands_lost}
 use Rattle.plan_ring.proofs.Repairs.{all_repaired, none_repaired}
-use Rattle.run_frames.specs.Clocks.{repair_of, still_behind, reopened_all, gains_all}
-use Rattle.run_frames.specs.Goes.{Under, AllUnder, AllClocked, all_back, all_lost}
-use Rattle.run_frames.specs.Led.{AreLed, first_clocked, unders, behind_back, behind_lost, leads_behind, still_led, waits_led}
-use Rattle.run_frames.specs.Orders.{opened_on}
-use Rattle.run_frames.specs.Runs.{Progress}
-use Rattle.run_frames.specs.Toured.{IsToured, WaitIn}
-use Rattle.run_frames.specs.Waits.{new_waits, all_anew, all_on, waits_behind, SomeWaits}
-use Rattle.run_frames.proofs.Leading.{SeenIs, led_view, all_under, all_led_lost, all_led_back}
+use Rattle.plan_ring.specs.of_run_frames.Clocks.{repair_of, still_behind, reopened_all, gains_all}
+use Rattle.plan_ring.specs.of_run_frames.Goes.{Under, AllUnder, AllClocked, all_back, all_lost}
+use Rattle.plan_ring.specs.of_run_frames.Led.{AreLed, first_clocked, unders, behind_back, behind_lost, leads_behind, still_led, waits_led}
+use Rattle.plan_ring.specs.of_run_frames.Orders.{opened_on}
+use Rattle.plan_ring.specs.of_run_frames.Runs.{Progress}
+use Rattle.plan_ring.specs.of_run_frames.Toured.{IsToured, WaitIn}
+use Rattle.plan_ring.specs.of_run_frames.Waits.{new_waits, all_anew, all_on, waits_behind, SomeWaits}
+use Rattle.plan_ring.proofs.of_run_frames.Leading.{SeenIs, led_view, all_under, all_led_lost, all_led_back}
 use Rattle.segment_model.specs.Slaves.{Datagram}
 use Rattle.segment_plan.specs.declared.plan.Scenario.{Scenario}
 use Rattle.segment_plan.specs.declared.service.Service as Script

@@ -8,14 +8,14 @@ use Rattle.idle_slaves.specs.Waiting.{Memory, memory_behind}
 use Rattle.life_measure.specs.Visits.{Visit, drain_visit}
 use Rattle.life_model.specs.Lives.{Life, Stand}
 use Rattle.life_model.specs.Own.{own}
-use Rattle.life_runs.specs.Led.{Leads, Turn, speech_at}
+use Rattle.plan_ring.specs.of_life_runs.Led.{Leads, Turn, speech_at}
 use Rattle.link_mails.specs.Body.{Body}
 use Rattle.link_model.specs.Frames.{Ask}
 use Rattle.link_model.specs.Link.{Halves}
 use Rattle.link_model.specs.Mails.{LinkMail}
 use Rattle.link_model.specs.Master.{InState}
 use Rattle.master_duty.specs.Reply.{Reply}
-use Rattle.master_hand.specs.Spoken.{Asked, acknowledged}
+use Rattle.plan_ring.specs.of_master_hand.Spoken.{Asked, acknowledged}
 use Rattle.segment_model.specs.Ends.{Passing}
 use Rattle.segment_model.specs.Slaves.{Datagram, Access, Found}
 use Rattle.segment_plan.specs.declared.service.Service as Plan

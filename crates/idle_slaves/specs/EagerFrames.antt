@@ -11,11 +11,11 @@ use Rattle.life_model.specs.Own.{own}
 use Rattle.link_mails.specs.Body.{Body}
 use Rattle.link_model.specs.Frames.{Ask}
 use Rattle.master_duty.specs.Reply.{Reply}
-use Rattle.master_hand.specs.Spoken.{Asked}
-use Rattle.run_frames.specs.Clocks.{Clocked}
-use Rattle.run_frames.specs.Goes.{Under, back_life}
-use Rattle.run_frames.specs.Orders.{is_live}
-use Rattle.run_frames.specs.Waits.{Waits, waits_on}
+use Rattle.plan_ring.specs.of_master_hand.Spoken.{Asked}
+use Rattle.plan_ring.specs.of_run_frames.Clocks.{Clocked}
+use Rattle.plan_ring.specs.of_run_frames.Goes.{Under, back_life}
+use Rattle.plan_ring.specs.of_run_frames.Orders.{is_live}
+use Rattle.plan_ring.specs.of_run_frames.Waits.{Waits, waits_on}
 use Rattle.segment_model.specs.Record.{News}
 use Rattle.segment_model.specs.Slaves.{Access, Found, Datagram, Address, Processor, Slave, serving, slave_after, slave_steps, frame_after}
 use Rattle.segment_plan.specs.declared.service.Service as Plan

@@ -5,9 +5,9 @@ use Rattle.life_measure.specs.Gains.{gains}
 use Rattle.life_model.specs.Lives.{Spot, life_next}
 use Rattle.life_model.specs.Own.{own}
 use Rattle.link_model.specs.Slave.{Node, Server, processor_step}
-use Rattle.run_frames.specs.Clocks.{Clocked}
-use Rattle.run_frames.specs.Goes.{Under, back_life}
-use Rattle.run_frames.specs.Waits.{Waits}
+use Rattle.plan_ring.specs.of_run_frames.Clocks.{Clocked}
+use Rattle.plan_ring.specs.of_run_frames.Goes.{Under, back_life}
+use Rattle.plan_ring.specs.of_run_frames.Waits.{Waits}
 use Rattle.segment_model.specs.Slaves.{Datagram}
 use Rattle.task_model.specs.Accounts.{Pick}
 use Rattle.idle_slaves.specs.Waiting.{Memory, memory_behind}

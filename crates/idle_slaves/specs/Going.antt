@@ -4,9 +4,9 @@ use Rattle.exchange_model.specs.Exchange.{Speech}
 use Rattle.life_measure.specs.Gains.{gains}
 use Rattle.life_model.specs.Lives.{Life, Spot, Stand, life_next, returns_to_init}
 use Rattle.life_model.specs.Own.{own}
-use Rattle.run_frames.specs.Clocks.{Clocked}
-use Rattle.run_frames.specs.Goes.{Under, back_life}
-use Rattle.run_frames.specs.Waits.{Waits}
+use Rattle.plan_ring.specs.of_run_frames.Clocks.{Clocked}
+use Rattle.plan_ring.specs.of_run_frames.Goes.{Under, back_life}
+use Rattle.plan_ring.specs.of_run_frames.Waits.{Waits}
 use Rattle.segment_model.specs.Record.{is_for}
 use Rattle.segment_model.specs.Slaves.{Registers, Datagram, Found}
 use Rattle.state_model.specs.Promises.{IsTable}

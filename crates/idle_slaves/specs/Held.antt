@@ -6,7 +6,7 @@ use Rattle.idle_slaves.specs.Waiting.{Memory}
 use Rattle.life_model.specs.Lives.{Era, Life, era_next}
 use Rattle.plan_ring.specs.Alike.{WishIs}
 use Rattle.life_model.specs.Own.{own}
-use Rattle.run_frames.specs.Waits.{Waits}
+use Rattle.plan_ring.specs.of_run_frames.Waits.{Waits}
 use Rattle.segment_model.specs.Slaves.{Datagram}
 use Rattle.state_exchange.specs.Stated.{Service}
 use Rattle.task_model.specs.Accounts.{Pick, starts}

@@ -2,14 +2,14 @@
 use Rattle.std.specs.Prelude.{◌≡◌, ℕ, suc, Option, List, ⊤}
 use Rattle.frame_view.specs.Seen.{seen}
 use Rattle.frame_view.specs.View.{Lens}
-use Rattle.life_runs.specs.Led.{Exchanged, Leads, Turn, speech_at, is_passed}
+use Rattle.plan_ring.specs.of_life_runs.Led.{Exchanged, Leads, Turn, speech_at, is_passed}
 use Rattle.link_mails.specs.Body.{Body}
 use Rattle.master_duty.specs.Reply.{Reply}
-use Rattle.master_hand.specs.Spoken.{Asked, acknowledged, is_followed}
-use Rattle.run_frames.specs.Clocks.{Clocked}
-use Rattle.run_frames.specs.Led.{unders, still_led}
-use Rattle.run_frames.specs.Runs.{Progress}
-use Rattle.run_frames.specs.Toured.{IsToured}
+use Rattle.plan_ring.specs.of_master_hand.Spoken.{Asked, acknowledged, is_followed}
+use Rattle.plan_ring.specs.of_run_frames.Clocks.{Clocked}
+use Rattle.plan_ring.specs.of_run_frames.Led.{unders, still_led}
+use Rattle.plan_ring.specs.of_run_frames.Runs.{Progress}
+use Rattle.plan_ring.specs.of_run_frames.Toured.{IsToured}
 use Rattle.idle_slaves.specs.Rings.{Kept, AllVain, AllSpent}
 
 -- SUCH A FRAME: it was in vain of each slave, and was made, so not each was spent before it

@@ -12,8 +12,8 @@ use Rattle.link_model.specs.Link.{Link}
 use Rattle.link_model.specs.Master.{InState}
 use Rattle.link_model.specs.Slave.{Node, Server, processor_step}
 use Rattle.master_duty.specs.Reply.{Reply}
-use Rattle.master_hand.specs.Spoken.{Asked}
-use Rattle.run_frames.specs.Waits.{Waits}
+use Rattle.plan_ring.specs.of_master_hand.Spoken.{Asked}
+use Rattle.plan_ring.specs.of_run_frames.Waits.{Waits}
 use Rattle.segment_model.specs.Slaves.{Serving, Slave}
 use Rattle.segment_plan.specs.declared.service.Service as Plan
 use Rattle.state_model.specs.States.{Table}

@@ -5,23 +5,23 @@ use Rattle.frame_view.specs.Seen.{seen}
 use Rattle.frame_view.specs.View.{Lens}
 use Rattle.life_model.specs.Lives.{Stand}
 use Rattle.life_model.specs.Own.{own}
-use Rattle.life_runs.specs.First.{lens_of, first_leads}
-use Rattle.life_runs.specs.Led.{Exchanged, Leads, Turn, speech_at}
+use Rattle.plan_ring.specs.of_life_runs.First.{lens_of, first_leads}
+use Rattle.plan_ring.specs.of_life_runs.Led.{Exchanged, Leads, Turn, speech_at}
 use Rattle.link_mails.specs.Body.{Body}
 use Rattle.link_model.specs.Frames.{all_accepted}
 use Rattle.master_duty.specs.Reply.{Reply}
-use Rattle.master_hand.specs.Spoken.{Asked}
+use Rattle.plan_ring.specs.of_master_hand.Spoken.{Asked}
 use Rattle.plan_ring.specs.PlanMet.{slave_at}
 use Rattle.plan_ring.specs.Round.{ring_of, ring_after}
-use Rattle.run_frames.specs.Clocks.{Clocked}
-use Rattle.run_frames.specs.Led.{still_led}
-use Rattle.run_frames.specs.Runs.{Progress}
-use Rattle.run_frames.specs.Toured.{IsToured}
+use Rattle.plan_ring.specs.of_run_frames.Clocks.{Clocked}
+use Rattle.plan_ring.specs.of_run_frames.Led.{still_led}
+use Rattle.plan_ring.specs.of_run_frames.Runs.{Progress}
+use Rattle.plan_ring.specs.of_run_frames.Toured.{IsToured}
 use Rattle.segment_model.specs.Laws.{IsSettled}
 use Rattle.segment_model.specs.Slaves.{Datagram, grams}
 use Rattle.segment_plan.specs.declared.plan.Scenario.{Scenario}
 use Rattle.segment_plan.specs.declared.slave.SlaveSpec.{SlaveSpec}
-use Rattle.slave_server.specs.Serving.{Serving}
+use Rattle.plan_ring.specs.of_slave_server.Serving.{Serving}
 use Rattle.slave_steps.specs.Node.{Node}
 
 -- ALL IS DONE OF A SLAVE: it is open with nothing in doubt, no mail is held, a service might begin but its script is at its end, no packet waits at its port,

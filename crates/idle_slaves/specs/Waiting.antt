@@ -7,7 +7,7 @@ use Rattle.link_model.specs.Link.{Link, Event, happens}
 use Rattle.link_model.specs.Mails.{LinkMail}
 use Rattle.link_model.specs.Master.{InState}
 use Rattle.link_model.specs.Slave.{Server}
-use Rattle.run_frames.specs.Waits.{Waits, new_waits}
+use Rattle.plan_ring.specs.of_run_frames.Waits.{Waits, new_waits}
 
 -- what its visits are for: mails are written and heard, or mailbox 0 is to be seen empty
 pub data Wanted : Type 0 where

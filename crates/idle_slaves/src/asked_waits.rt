@@ -2,7 +2,7 @@
 //! contract states the law.
 
 ghost use Rattle.std.specs.Prelude.{ℕ, Bool};
-ghost use Rattle.life_runs.specs.of_frame_view.View.{Lens};
+ghost use Rattle.plan_ring.specs.of_life_runs.of_frame_view.View.{Lens};
 ghost use Rattle.never_waits.specs.Waits.{NeverWaits};
 ghost use Rattle.plan_ring.specs.Asked.{asked};
 ghost use Rattle.slave_parts.specs.of_slave_model.Profile.{Profile, IsProfile};

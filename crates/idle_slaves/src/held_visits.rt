@@ -13,7 +13,7 @@ ghost use Rattle.life_model.specs.Lives.{Life, Era, Spot, Stand, life_back, era_
 ghost use Rattle.link_model.specs.Slave.{Node, Server};
 ghost use Rattle.plan_ring.specs.Alike.{Alike, RowIs};
 ghost use Rattle.plan_ring.specs.of_never_waits.Waits.{NeverWaits};
-ghost use Rattle.run_frames.specs.Waits.{Waits};
+ghost use Rattle.plan_ring.specs.of_run_frames.Waits.{Waits};
 ghost use Rattle.segment_model.specs.Record.{Frame, News};
 ghost use Rattle.segment_model.specs.Seats.{side_back};
 ghost use Rattle.life_model.specs.Own.{own};

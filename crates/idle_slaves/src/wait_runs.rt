@@ -3,16 +3,16 @@
 
 ghost use Rattle.std.specs.Prelude.{ℕ, List, Option};
 ghost use Rattle.idle_slaves.specs.Eager.{Remembered};
-ghost use Rattle.life_runs.specs.First.{lens_of, first_leads};
-ghost use Rattle.life_runs.specs.Led.{Exchanged, Leads};
+ghost use Rattle.plan_ring.specs.of_life_runs.First.{lens_of, first_leads};
+ghost use Rattle.plan_ring.specs.of_life_runs.Led.{Exchanged, Leads};
 ghost use Rattle.link_mails.specs.Body.{Body};
 ghost use Rattle.master_duty.specs.Reply.{Reply};
-ghost use Rattle.master_hand.specs.Spoken.{Asked};
+ghost use Rattle.plan_ring.specs.of_master_hand.Spoken.{Asked};
 ghost use Rattle.plan_ring.specs.Lives.{IsKnown};
 ghost use Rattle.plan_ring.specs.Round.{ring_of, AllRound};
-ghost use Rattle.run_frames.specs.Clocks.{Clocked};
-ghost use Rattle.run_frames.specs.Runs.{Progress};
-ghost use Rattle.run_frames.specs.Toured.{IsToured, WaitIn};
+ghost use Rattle.plan_ring.specs.of_run_frames.Clocks.{Clocked};
+ghost use Rattle.plan_ring.specs.of_run_frames.Runs.{Progress};
+ghost use Rattle.plan_ring.specs.of_run_frames.Toured.{IsToured, WaitIn};
 ghost use Rattle.segment_plan.specs.Bound.{slowest};
 ghost use Rattle.segment_plan.specs.Sound.{IsPlan};
 ghost use Rattle.segment_plan.specs.declared.plan.Scenario.{Scenario};

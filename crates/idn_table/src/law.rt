@@ -1,5 +1,5 @@
-ghost use Rattle.exchange_model.specs.Areas.{Areas, AreMailboxes};
-ghost use Rattle.exchange_model.specs.Exchange.{IsLawful};
+ghost use Rattle.soe_model.specs.of_exchange_model.Areas.{Areas, AreMailboxes};
+ghost use Rattle.soe_model.specs.of_exchange_model.Exchange.{IsLawful};
 ghost use Rattle.soe_model.specs.Elements.{AreLawful};
 ghost use Rattle.soe_model.specs.Octets.{soe_mail_exchange};
 ghost use Rattle.idn_table.specs.Idns.{idn_elements};

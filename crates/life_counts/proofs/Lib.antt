@@ -1,3 +1,5 @@
+pub use Rattle.whole_ring.proofs.of_slave_lives as of_slave_lives
+pub use Rattle.passed_whole.proofs as of_passed_whole
 pub mod Answered
 pub mod Backs
 pub mod Begins

@@ -10,10 +10,10 @@ use Rattle.task_model.specs.Promise.{services_in}
 use Rattle.life_measure.specs.Gains.{era_gains, eras_gains, gains}
 use Rattle.life_model.specs.Eras.{Clearing, EraIs, OpenEra}
 use Rattle.life_model.specs.Lives.{Spot, Era, Life, Opening, Stand}
-use Rattle.slave_lives.specs.Ends.{LeftEra, LeftEras}
-use Rattle.slave_lives.specs.Lived.{Behind, table_of, node_seen, LivesEra}
-use Rattle.slave_lives.specs.Opening.{Plan}
-use Rattle.slave_lives.specs.Stands.{opening_again}
+use Rattle.whole_ring.specs.of_slave_lives.Ends.{LeftEra, LeftEras}
+use Rattle.whole_ring.specs.of_slave_lives.Lived.{Behind, table_of, node_seen, LivesEra}
+use Rattle.whole_ring.specs.of_slave_lives.Opening.{Plan}
+use Rattle.whole_ring.specs.of_slave_lives.Stands.{opening_again}
 use Rattle.slave_steps.specs.Node.{Node}
 use Rattle.whole_ring.specs.Whole.{OwesLaws, OpensAs, OpensBy, StandsAs, IsLived}
 use Rattle.life_counts.proofs.Epoch.{epoch_within, epoch_app}

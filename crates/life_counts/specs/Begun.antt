@@ -6,7 +6,7 @@ use Rattle.task_model.specs.Promise.{services_in}
 use Rattle.life_measure.specs.Gains.{era_gains}
 use Rattle.life_model.specs.Eras.{Clearing}
 use Rattle.life_model.specs.Lives.{Era, Life, Stand}
-use Rattle.slave_lives.specs.Lived.{Behind}
+use Rattle.whole_ring.specs.of_slave_lives.Lived.{Behind}
 
 -- one service: a state service has its control word and five steps
 abbrev pub service_most : {Q : Type 0} → (Q → ℕ) → Service Q → ℕ

@@ -1,3 +1,4 @@
+pub use Rattle.passed_whole.specs as of_passed_whole
 pub mod Begun
 pub mod Epochs
 pub mod Foreseen

@@ -11,8 +11,8 @@ ghost use Rattle.life_model.specs.Lives.{Spot, Life, new_life, life_next, life_b
 ghost use Rattle.link_mails.specs.Body.{Body};
 ghost use Rattle.segment_model.specs.Record.{Frame, News};
 ghost use Rattle.segment_model.specs.Slaves.{Datagram, Found};
-ghost use Rattle.slave_lives.specs.Lived.{Behind};
-ghost use Rattle.slave_lives.specs.Opening.{Plan};
+ghost use Rattle.whole_ring.specs.of_slave_lives.Lived.{Behind};
+ghost use Rattle.whole_ring.specs.of_slave_lives.Opening.{Plan};
 ghost use Rattle.slave_steps.specs.Node.{Node};
 ghost use Rattle.std.specs.Prelude.{◌≡◌, ◌≤◌, ◌+◌, ℕ, Bool, Option, List};
 ghost use Rattle.task_model.specs.Accounts.{Pick};

@@ -6,13 +6,13 @@ use Rattle.exchange_model.specs.Rows.{Row, begun, left, row_heard, row_told}
 use Rattle.link_model.specs.Mails.{LinkMail}
 use Rattle.link_model.specs.Link.{Halves}
 use Rattle.link_model.specs.Frames.{Ask, Gram, halves_after, halves_answered, halves_without, halves_lost, all_accepted}
-use Rattle.segment_model.specs.Slaves.{Datagram, Access, Found, grams}
-use Rattle.segment_model.specs.Record.{News, is_for}
-use Rattle.segment_model.specs.Ends.{Outcome}
-use Rattle.segment_model.specs.Seats.{Side, Choice, side_begins, side_holds, side_next, next_mail, first_left, is_over}
-use Rattle.state_model.specs.States.{Phase, Turn, shown}
-use Rattle.state_exchange.specs.Stated.{Service}
-use Rattle.task_model.specs.Accounts.{Stage, Duty, Change, Account, Pick, Progress, mails_choice, account_begins, account_back, account_met, account_by, access_done, word_done, found_done, turn_progress, is_free, is_acknowledged, starts, state_begins}
+use Rattle.life_model.specs.of_segment_model.Slaves.{Datagram, Access, Found, grams}
+use Rattle.life_model.specs.of_segment_model.Record.{News, is_for}
+use Rattle.life_model.specs.of_segment_model.Ends.{Outcome}
+use Rattle.life_model.specs.of_segment_model.Seats.{Side, Choice, side_begins, side_holds, side_next, next_mail, first_left, is_over}
+use Rattle.life_model.specs.of_state_model.States.{Phase, Turn, shown}
+use Rattle.life_model.specs.of_state_exchange.Stated.{Service}
+use Rattle.life_model.specs.of_task_model.Accounts.{Stage, Duty, Change, Account, Pick, Progress, mails_choice, account_begins, account_back, account_met, account_by, access_done, word_done, found_done, turn_progress, is_free, is_acknowledged, starts, state_begins}
 use Rattle.life_model.specs.Own.{own}
 use Rattle.life_model.specs.Lives.{Era, Life, Stand, Spot, Opening, life_next, life_back, life_lost, era_back, opening_back, clears, opens, steps_on, shows_clear, last_step, is_shown, reopens, reopens_at, reopening, opens_state, returns_to_init, granted}
 use Rattle.life_measure.specs.Gains.{row_gains, rows_gains, newest_gains, phase_gains, stage_gains, duty_gains, progress_gains, changes_gains, idle_gains, side_gains, account_gains, era_gains, eras_gains, gains}

@@ -5,11 +5,11 @@ use Rattle.link_model.specs.Mails.{differs}
 use Rattle.link_model.specs.Master.{InState, InHalf}
 use Rattle.link_model.specs.Link.{Halves}
 use Rattle.link_model.specs.Frames.{Ask, Gram, halves_after, halves_answered, halves_without, halves_lost}
-use Rattle.segment_model.specs.Slaves.{Datagram, Found, grams}
-use Rattle.segment_model.specs.Record.{News}
+use Rattle.life_model.specs.of_segment_model.Slaves.{Datagram, Found, grams}
+use Rattle.life_model.specs.of_segment_model.Record.{News}
 use Rattle.life_model.specs.Own.{own}
 use Rattle.life_model.specs.Lives.{Stand, Life, Spot, life_back, life_lost, era_back, reopens, reopens_at, reopening, opens_state, returns_to_init}
-use Rattle.task_model.specs.Accounts.{Duty, Stage}
+use Rattle.life_model.specs.of_task_model.Accounts.{Duty, Stage}
 use Rattle.life_measure.specs.Tally.{broken}
 use Rattle.life_measure.specs.Repairs.{Way, way_of, stand_way, half_way, whole_way, StandsAt, IsAnswered, GoesOn}
 

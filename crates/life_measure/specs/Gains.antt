@@ -2,9 +2,9 @@
 use Rattle.std.specs.Prelude.{ℕ, ◌+◌, Option, Some, None, List, [], ◌∷◌, length}
 use Rattle.exchange_model.specs.Rows.{Row}
 use Rattle.link_model.specs.Mails.{LinkMail}
-use Rattle.state_model.specs.States.{Phase}
-use Rattle.segment_model.specs.Seats.{Side}
-use Rattle.task_model.specs.Accounts.{Stage, Duty, Change, Account, Progress}
+use Rattle.life_model.specs.of_state_model.States.{Phase}
+use Rattle.life_model.specs.of_segment_model.Seats.{Side}
+use Rattle.life_model.specs.of_task_model.Accounts.{Stage, Duty, Change, Account, Progress}
 use Rattle.life_model.specs.Lives.{Era, Life}
 
 -- of a row: each mail told and each heard

@@ -3,7 +3,7 @@ use Rattle.std.specs.Prelude.{◌≡◌, ℕ, ◌+◌, ◌*◌, ◌-◌, ◌≤�
 use Rattle.link_model.specs.Master.{InState}
 use Rattle.link_model.specs.Mails.{differs}
 use Rattle.link_model.specs.Frames.{in_ask}
-use Rattle.segment_model.specs.Slaves.{Datagram, Found}
+use Rattle.life_model.specs.of_segment_model.Slaves.{Datagram, Found}
 use Rattle.life_model.specs.Lives.{Opening, Stand, Life, last_step, shows_clear, is_shown}
 
 -- how far a repair is: in how many frames at most what comes behind its access in hand is done, and whether that access is in vain until the slave

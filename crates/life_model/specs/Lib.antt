@@ -1,3 +1,4 @@
+pub use Rattle.task_model.specs.of_segment_model as of_segment_model
 pub use Rattle.task_model.specs.of_exchange_model as of_exchange_model
 pub use Rattle.task_model.specs.of_state_exchange as of_state_exchange
 pub use Rattle.task_model.specs.of_state_model as of_state_model

@@ -2,15 +2,15 @@
 use Rattle.std.proofs.Common.{◌≡◌, ℕ, ◌==◌, Bool, true, false, Option, Some, None, List, [], ◌∷◌, ◌++◌, Result, Ok, Err, refl, ap, sym, subst, if◌then◌else◌}
 use Rattle.mailbox_mail.specs.declared.mail.Mail.{Mail}
 use Rattle.mailbox_mail.specs.declared.mail.MailFault.{MailFault}
-use Rattle.link_model.specs.Mails.{LinkMail, news}
-use Rattle.link_model.specs.Master.{OutHalf, InHalf, InState, read_answered}
-use Rattle.link_model.specs.Slave.{OutSide, InSide}
-use Rattle.link_model.specs.Link.{Fate, written}
-use Rattle.link_model.specs.Agree.{OutAgree, InAgree}
-use Rattle.link_model.proofs.Outward.{out_keeps}
-use Rattle.link_model.proofs.Inward.{in_keeps}
+use Rattle.link_mails.specs.of_link_model.Mails.{LinkMail, news}
+use Rattle.link_mails.specs.of_link_model.Master.{OutHalf, InHalf, InState, read_answered}
+use Rattle.link_mails.specs.of_link_model.Slave.{OutSide, InSide}
+use Rattle.link_mails.specs.of_link_model.Link.{Fate, written}
+use Rattle.link_mails.specs.of_link_model.Agree.{OutAgree, InAgree}
+use Rattle.link_mails.proofs.of_link_model.Outward.{out_keeps}
+use Rattle.link_mails.proofs.of_link_model.Inward.{in_keeps}
 use Rattle.link_mails.specs.Body.{link_mail, uncounted, mail_brought}
-use Rattle.link_model.specs.Counters.{repeats}
+use Rattle.link_mails.specs.of_link_model.Counters.{repeats}
 use Rattle.mailbox_master.specs.Next.{got_by, accepted_by}
 use Rattle.mailbox_master.specs.declared.inward.Got.TheVariants.{Mail as GotMail, Repeat, Empty, Bad}
 

@@ -2,8 +2,8 @@
 use Rattle.std.specs.Prelude.{ℕ, Bool, Option, Some, None, List, slice_index}
 use Rattle.mailbox_mail.specs.declared.mail.Mail.{Mail}
 use Rattle.mailbox_mail.specs.Mail.{mail_read}
-use Rattle.link_model.specs.Mails.{LinkMail}
-use Rattle.link_model.specs.Master.{OutHalf, InHalf, InState, out_hold, out_answered, read_answered, doubt_answered, asked_answered}
+use Rattle.link_mails.specs.of_link_model.Mails.{LinkMail}
+use Rattle.link_mails.specs.of_link_model.Master.{OutHalf, InHalf, InState, out_hold, out_answered, read_answered, doubt_answered, asked_answered}
 use Rattle.link_mails.specs.Body.{Body, mail_brought, bit_1}
 use Rattle.mailbox_master.specs.Halves.{idle_half, holding_half, in_half, held_mail}
 use Rattle.mailbox_master.specs.Next.{got_by}

@@ -1,8 +1,8 @@
 -- The halves of the link model that the typed halves are.
 use Rattle.std.specs.Prelude.{◌≡◌, ℕ, ◌==◌, Bool, if◌then◌else◌, Some, None}
 use Rattle.mailbox_mail.specs.declared.mail.Mail.{Mail}
-use Rattle.link_model.specs.Master.{OutHalf, InHalf, InState}
-use Rattle.link_model.specs.Slave.{InSide}
+use Rattle.link_mails.specs.of_link_model.Master.{OutHalf, InHalf, InState}
+use Rattle.link_mails.specs.of_link_model.Slave.{InSide}
 use Rattle.link_mails.specs.Body.{Body, link_mail}
 use Rattle.mailbox_master.specs.Links.{OutLink, InLink}
 use Rattle.mailbox_master.specs.declared.states.Holding.{Holding}

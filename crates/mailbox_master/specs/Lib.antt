@@ -1,4 +1,4 @@
-pub use Rattle.link_model.specs as of_link_model
+pub use Rattle.link_mails.specs.of_link_model as of_link_model
 pub mod Links
 pub mod Halves
 pub mod Next

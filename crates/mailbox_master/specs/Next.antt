@@ -2,9 +2,9 @@
 use Rattle.std.specs.Prelude.{ℕ, ◌==◌, Bool, true, false, if◌then◌else◌, List, [], ◌∷◌, Result, Ok, Err}
 use Rattle.mailbox_mail.specs.declared.mail.Mail.{Mail}
 use Rattle.mailbox_mail.specs.declared.mail.MailFault.{MailFault}
-use Rattle.link_model.specs.Master.{OutHalf, InHalf, InState}
+use Rattle.link_mails.specs.of_link_model.Master.{OutHalf, InHalf, InState}
 use Rattle.link_mails.specs.Body.{Body, uncounted}
-use Rattle.link_model.specs.Counters.{repeats}
+use Rattle.link_mails.specs.of_link_model.Counters.{repeats}
 use Rattle.mailbox_master.specs.Halves.{idle_half, holding_half, in_half, SameOut, SameIn}
 use Rattle.mailbox_master.specs.Links.{OutLink, InLink}
 use Rattle.mailbox_master.specs.declared.outward.OutNext.{OutNext}

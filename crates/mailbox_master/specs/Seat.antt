@@ -5,7 +5,7 @@ use Rattle.mailbox_mail.specs.declared.mail.Mail.{Mail}
 use Rattle.mailbox_mail.specs.Area.{mail_area}
 use Rattle.mailbox_mail.specs.Mail.{mail_read}
 use Rattle.mailbox_mail.specs.View.{mail_seen}
-use Rattle.link_model.specs.Master.{OutHalf}
+use Rattle.link_mails.specs.of_link_model.Master.{OutHalf}
 use Rattle.link_mails.specs.Body.{Body, link_mail}
 use Rattle.mailbox_master.specs.Links.{OutLink}
 use Rattle.mailbox_master.specs.declared.inward.Got.{Got}

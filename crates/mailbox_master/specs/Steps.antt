@@ -1,11 +1,11 @@
 -- The steps of the link agreement that the halves make, whatever slave and mails they agree with.
 use Rattle.std.specs.Prelude.{◌≡◌, ℕ, false, None, List, [], ◌∷◌, ◌++◌}
 use Rattle.mailbox_mail.specs.Mail.{mail_read}
-use Rattle.link_model.specs.Mails.{LinkMail}
-use Rattle.link_model.specs.Master.{OutHalf, InHalf}
-use Rattle.link_model.specs.Slave.{OutSide, InSide}
-use Rattle.link_model.specs.Link.{written, write_counter}
-use Rattle.link_model.specs.Agree.{OutAgree, InAgree}
+use Rattle.link_mails.specs.of_link_model.Mails.{LinkMail}
+use Rattle.link_mails.specs.of_link_model.Master.{OutHalf, InHalf}
+use Rattle.link_mails.specs.of_link_model.Slave.{OutSide, InSide}
+use Rattle.link_mails.specs.of_link_model.Link.{written, write_counter}
+use Rattle.link_mails.specs.of_link_model.Agree.{OutAgree, InAgree}
 use Rattle.link_mails.specs.Body.{Body, mail_brought, bit_1}
 use Rattle.mailbox_master.specs.Halves.{request_met}
 use Rattle.mailbox_master.specs.Next.{accepted_by}

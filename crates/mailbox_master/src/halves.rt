@@ -5,7 +5,7 @@ ghost use Rattle.mailbox_mail.specs.Mail.{mail_read};
 ghost use Rattle.mailbox_mail.specs.Area.{mail_area};
 ghost use Rattle.std.specs.Option.{ForSome};
 ghost use Rattle.mailbox_master.specs.Seat.{got_seen, IsWithin};
-ghost use Rattle.link_model.specs.Master.{in_lost};
+ghost use Rattle.link_mails.specs.of_link_model.Master.{in_lost};
 ghost use Rattle.link_mails.specs.Body.{uncounted};
 ghost use Rattle.mailbox_master.specs.Access.{access_head, write_access};
 ghost use Rattle.mailbox_master.specs.Any.{out_half_of, out_station, out_len, out_held, out_returned, mail_held, in_half_of, in_station, in_area_len, in_returned, in_got, in_access_of, out_next_of, doubt_next_of, asked_next_of};

@@ -2,10 +2,10 @@
 
 ghost use Rattle.std.specs.Prelude.{◌≡◌, ◌≢◌, ◌≤◌, ◌==◌, ◌||◌, false, None, List, [], ◌++◌, length, replicate};
 ghost use Rattle.mailbox_mail.specs.Mail.{mail_read};
-ghost use Rattle.link_model.specs.Mails.{differs};
-ghost use Rattle.link_model.specs.Master.{InState, read_answered, read_lost, doubt_answered, asked_answered};
-ghost use Rattle.link_model.specs.Slave.{InSide};
-ghost use Rattle.link_model.specs.Agree.{InAgree};
+ghost use Rattle.link_mails.specs.of_link_model.Mails.{differs};
+ghost use Rattle.link_mails.specs.of_link_model.Master.{InState, read_answered, read_lost, doubt_answered, asked_answered};
+ghost use Rattle.link_mails.specs.of_link_model.Slave.{InSide};
+ghost use Rattle.link_mails.specs.of_link_model.Agree.{InAgree};
 ghost use Rattle.link_mails.specs.Body.{Body, mail_brought, bit_1};
 ghost use Rattle.mailbox_master.specs.Halves.{in_half, SameIn};
 ghost use Rattle.mailbox_master.specs.Steps.{empty_side, AgreesRead, AgreesLost, AgreesRequested, AgreesUnrequested, AgreesAcknowledged, AgreesUnread};

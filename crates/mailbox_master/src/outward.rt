@@ -2,11 +2,11 @@
 
 ghost use Rattle.std.specs.Prelude.{◌≡◌, ◌+◌, ◌≤◌, ◌==◌, List, ◌∷◌, [], ◌++◌, None, Ok, length, replicate};
 ghost use Rattle.mailbox_mail.specs.Mail.{mail_read};
-ghost use Rattle.link_model.specs.Counters.{next_counter};
-ghost use Rattle.link_model.specs.Master.{out_hold, out_answered};
-ghost use Rattle.link_model.specs.Slave.{OutSide};
-ghost use Rattle.link_model.specs.Link.{written, write_counter};
-ghost use Rattle.link_model.specs.Agree.{OutAgree};
+ghost use Rattle.link_mails.specs.of_link_model.Counters.{next_counter};
+ghost use Rattle.link_mails.specs.of_link_model.Master.{out_hold, out_answered};
+ghost use Rattle.link_mails.specs.of_link_model.Slave.{OutSide};
+ghost use Rattle.link_mails.specs.of_link_model.Link.{written, write_counter};
+ghost use Rattle.link_mails.specs.of_link_model.Agree.{OutAgree};
 ghost use Rattle.link_mails.specs.Body.{Body, uncounted, counted_as, link_mail};
 ghost use Rattle.mailbox_mail.specs.Area.{mail_area};
 ghost use Rattle.mailbox_master.specs.Halves.{idle_half, holding_half, held_mail, SameOut};

@@ -10,7 +10,7 @@ ghost use Rattle.mailbox_master.specs.Any.{out_held, out_returned, in_half_of, i
 ghost use Rattle.mailbox_master.specs.Halves.{in_half, SameIn};
 ghost use Rattle.mailbox_master.specs.Next.{got_by};
 ghost use Rattle.mailbox_master.specs.Seat.{seat_half, mail_by, got_seen, IsWithin, ReadsAs};
-ghost use Rattle.link_model.specs.Master.{InState, read_answered, in_lost};
+ghost use Rattle.link_mails.specs.of_link_model.Master.{InState, read_answered, in_lost};
 
 use crate::access::{ACTIVATE, ENABLE, PDI_CONTROL, REPEAT, head_of};
 use crate::halves::InwardHalf;

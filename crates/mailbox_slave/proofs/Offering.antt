@@ -3,8 +3,8 @@ use Rattle.std.proofs.Common.{◌≡◌, ℕ, true, false, Option, Some, None, i
 use Rattle.std.specs.Prelude.{option_map}
 use Rattle.std.proofs.lemmas.Grind.{common_steps}
 use Rattle.mailbox_mail.specs.declared.mail.Mail.{Mail}
-use Rattle.link_model.specs.Counters.{next_counter}
-use Rattle.link_model.specs.Slave.{node_offer}
+use Rattle.link_mails.specs.of_link_model.Counters.{next_counter}
+use Rattle.link_mails.specs.of_link_model.Slave.{node_offer}
 use Rattle.link_mails.specs.Body.{Body, counted_as, link_mail}
 use Rattle.esc_registers.specs.declared.registers.Registers.{Registers}
 use Rattle.mailbox_mail.specs.Area.{mail_area}

@@ -2,8 +2,8 @@
 use Rattle.std.specs.Prelude.{ℕ, Bool, true, false, not, ◌&&◌, if◌then◌else◌, is_some, is_none, Option, Some, None}
 use Rattle.mailbox_mail.specs.declared.mail.Mail.{Mail}
 use Rattle.mailbox_mail.specs.Mail.{mail_read}
-use Rattle.link_model.specs.Counters.{next_counter, repeats}
-use Rattle.link_model.specs.Mails.{LinkMail, first_of}
+use Rattle.link_mails.specs.of_link_model.Counters.{next_counter, repeats}
+use Rattle.link_mails.specs.of_link_model.Mails.{LinkMail, first_of}
 use Rattle.link_mails.specs.Body.{Body, counted_as, link_read}
 use Rattle.mailbox_mail.specs.Area.{mail_area}
 use Rattle.esc_registers.specs.Manager.{is_repeat_asked}

@@ -2,9 +2,9 @@
 
 ghost use Rattle.std.specs.Prelude.{◌≡◌, ℕ, MatchOption, ◌+◌, ◌≤◌, None, Some, true, false, is_some, IsSome, length, option_map};
 ghost use Rattle.std.specs.Option.{ForSome};
-ghost use Rattle.link_model.specs.Counters.{next_counter};
+ghost use Rattle.link_mails.specs.of_link_model.Counters.{next_counter};
 ghost use Rattle.mailbox_mail.specs.Mail.{mail_read};
-ghost use Rattle.link_model.specs.Slave.{noticed, repeated, looked, node_take, node_offer, node_serve, processor_step};
+ghost use Rattle.link_mails.specs.of_link_model.Slave.{noticed, repeated, looked, node_take, node_offer, node_serve, processor_step};
 ghost use Rattle.link_mails.specs.Body.{counted_as, link_mail, link_read};
 ghost use Rattle.mailbox_slave.specs.Kept.{IsCounted, FitsArea, KeptFits, is_at_rest};
 ghost use Rattle.mailbox_slave.specs.Registers.{in_box, in_len, acknowledge_of, ChangesIn, ChangesOut, ChangesBoxes};

@@ -1,5 +1,5 @@
-pub use Rattle.segment_model.specs.of_exchange_model as of_exchange_model
-pub use Rattle.segment_model.specs as of_segment_model
+pub use Rattle.task_model.specs.of_segment_model.of_exchange_model as of_exchange_model
+pub use Rattle.task_model.specs.of_segment_model as of_segment_model
 pub use Rattle.task_model.specs.of_state_exchange as of_state_exchange
 pub use Rattle.task_model.specs as of_task_model
 pub mod Reply

@@ -2,8 +2,8 @@
 use Rattle.std.specs.Prelude.{◌≡◌, ℕ, ⊤}
 use Rattle.al_state.specs.declared.climbing.Climb.{Climb}
 use Rattle.al_state.specs.declared.climbing.Climb.TheVariants.{Ask, Await, Acknowledge, Recover, Arrived, Refused}
-use Rattle.segment_model.specs.Ends.{Outcome}
-use Rattle.state_model.specs.States.{Phase}
+use Rattle.task_model.specs.of_segment_model.Ends.{Outcome}
+use Rattle.task_model.specs.of_state_model.States.{Phase}
 use Rattle.task_model.specs.Accounts
 use Rattle.task_model.specs.Accounts.{Progress}
 use Rattle.master_duty.specs.declared.stage.Met.{Met}

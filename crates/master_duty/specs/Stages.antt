@@ -1,13 +1,13 @@
 -- The stages of a state service as the model has them.
 use Rattle.std.specs.Prelude.{ℕ, ◌==◌, ◌&&◌, nat_lt, Bool, true, false, if◌then◌else◌, Option, Some, None, option_map}
-use Rattle.ec_fields.specs.Fields.{bits_of}
+use Rattle.al_state.specs.of_ec_fields.Fields.{bits_of}
 use Rattle.al_state.specs.declared.climbing.Climb.{Climb}
 use Rattle.al_state.specs.declared.climbing.Climb.TheVariants.{Ask, Await, Acknowledge, Recover, Arrived, Refused}
 use Rattle.al_state.specs.declared.climbing.ClimbNext.{ClimbNext}
 use Rattle.al_state.specs.declared.climbing.ClimbNext.TheVariants.{Write, ReadStatus, Arrived as Reached, Refused as Denied}
 use Rattle.al_state.specs.Climb.{next_of}
-use Rattle.segment_model.specs.Slaves.{Access, Found}
-use Rattle.state_model.specs.States.{Phase}
+use Rattle.task_model.specs.of_segment_model.Slaves.{Access, Found}
+use Rattle.task_model.specs.of_state_model.States.{Phase}
 use Rattle.task_model.specs.Accounts
 use Rattle.master_duty.specs.declared.stage.Stage.{Stage}
 use Rattle.master_duty.specs.declared.stage.Errand.{Errand}

@@ -1,6 +1,6 @@
 -- A SLAVE THAT STAYS is served as before.
 use Rattle.std.proofs.Common.{◌≡◌, ℕ, true, Option, List, refl, sym, ap, ◌∙◌, subst}
-use Rattle.life_runs.specs.of_frame_view.View.{Lens}
+use Rattle.served_runs.specs.of_life_runs.of_frame_view.View.{Lens}
 use Rattle.master_duty.specs.of_state_exchange.Stated.{Service}
 use Rattle.master_hand.specs.Laying.{scripted}
 use Rattle.master_hand.specs.Shown.{awaits_reply, knows}

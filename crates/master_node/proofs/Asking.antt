@@ -7,10 +7,10 @@ use Rattle.datagrams.specs.declared.frame.Frame.{Frame}
 use Rattle.datagrams.specs.declared.frame.FrameFault.{FrameFault}
 use Rattle.datagrams.specs.declared.frame.Part.{Part}
 use Rattle.datagrams.specs.Frame.{frame_read}
-use Rattle.life_runs.specs.of_frame_view.View.{Lens, address_of, place_of, station_of}
-use Rattle.life_runs.specs.of_frame_view.Seen.{seen, part_seen, parts_seen}
-use Rattle.life_runs.specs.of_life_frames.Shares.{AllBoth}
-use Rattle.life_runs.specs.Led.{Turn}
+use Rattle.served_runs.specs.of_life_runs.of_frame_view.View.{Lens, address_of, place_of, station_of}
+use Rattle.served_runs.specs.of_life_runs.of_frame_view.Seen.{seen, part_seen, parts_seen}
+use Rattle.served_runs.specs.of_life_runs.of_life_frames.Shares.{AllBoth}
+use Rattle.served_runs.specs.of_life_runs.Led.{Turn}
 use Rattle.mailbox_master.specs.declared.halves.InwardHalf.{InwardHalf}
 use Rattle.mailbox_master.specs.Any.{in_half_of}
 use Rattle.mailbox_master.specs.of_link_model.Link.{Halves}

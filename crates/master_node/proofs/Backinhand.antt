@@ -1,7 +1,7 @@
 -- BEHIND A FRAME THAT CAME BACK a post has in hand what the life behind it has, and just what the lives tell was told.
 use Rattle.std.proofs.Common.{◌≡◌, ◌==◌, ℕ, suc, Bool, true, false, Option, Some, None, List, [], ◌∷◌, ◌++◌, length, refl, sym, ap, ◌∙◌, subst, append_assoc, append-nil}
 use Rattle.std.specs.Prelude.{◌&&◌, is_some, option_map, if◌then◌else◌}
-use Rattle.life_runs.specs.of_life_frames.of_exchange_model.Areas.{Areas}
+use Rattle.served_runs.specs.of_life_runs.of_life_frames.of_exchange_model.Areas.{Areas}
 use Rattle.master_duty.specs.Reply.{Reply}
 use Rattle.master_duty.specs.of_exchange_model.Exchange.{Speech}
 use Rattle.master_duty.specs.of_exchange_model.Rows.{row_heard}

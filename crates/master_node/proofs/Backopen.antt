@@ -1,7 +1,7 @@
 -- WHAT AN OPEN SLAVE TELLS behind a frame that came back, by its side and account, and what its post has in hand then.
 use Rattle.std.proofs.Common.{◌≡◌, ℕ, Bool, true, false, Option, Some, None, List, [], ◌++◌, length, refl, sym, ap, ◌∙◌, subst, append_assoc, append-nil}
 use Rattle.std.specs.Prelude.{◌&&◌, not, is_some, option_map}
-use Rattle.life_runs.specs.of_life_frames.of_exchange_model.Areas.{Areas}
+use Rattle.served_runs.specs.of_life_runs.of_life_frames.of_exchange_model.Areas.{Areas}
 use Rattle.mailbox_mail.specs.declared.mail.Mail.{Mail}
 use Rattle.master_duty.specs.Reply.{Reply}
 use Rattle.master_duty.specs.of_exchange_model.Exchange.{Speech, plain}

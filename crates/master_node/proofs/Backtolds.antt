@@ -1,12 +1,12 @@
 -- WHAT A FRAME THAT CAME BACK TELLS of the slaves that it carried is just what their lives tell.
 use Rattle.std.proofs.Common.{◌≡◌, ℕ, zero, suc, Bool, true, List, [], ◌∷◌, refl, sym, ap, ◌∙◌, subst}
 use Rattle.std.specs.Prelude.{map}
-use Rattle.life_runs.specs.Led.{Exchanged, speech_at}
-use Rattle.life_runs.specs.of_frame_view.Seen.{seen}
-use Rattle.life_runs.specs.of_frame_view.View.{Lens}
-use Rattle.life_runs.specs.of_life_frames.of_exchange_model.Areas.{Areas}
-use Rattle.life_runs.specs.of_life_frames.Shares.{AllThree, Lived, came_at}
-use Rattle.life_runs.specs.of_segment_ring.declared.wire.Fate.TheVariants.{Pass}
+use Rattle.served_runs.specs.of_life_runs.Led.{Exchanged, speech_at}
+use Rattle.served_runs.specs.of_life_runs.of_frame_view.Seen.{seen}
+use Rattle.served_runs.specs.of_life_runs.of_frame_view.View.{Lens}
+use Rattle.served_runs.specs.of_life_runs.of_life_frames.of_exchange_model.Areas.{Areas}
+use Rattle.served_runs.specs.of_life_runs.of_life_frames.Shares.{AllThree, Lived, came_at}
+use Rattle.served_runs.specs.of_life_runs.of_segment_ring.declared.wire.Fate.TheVariants.{Pass}
 use Rattle.master_duty.specs.Reply.{Reply}
 use Rattle.master_duty.specs.of_segment_model.Slaves.{Datagram}
 use Rattle.master_hand.specs.Brings.{Brings}

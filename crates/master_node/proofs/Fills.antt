@@ -3,10 +3,10 @@ use Rattle.std.proofs.Common.{◌≡◌, ◌==◌, ◌+◌, ℕ, zero, suc, Bool
 use Rattle.std.specs.Prelude.{is_some, map, if◌then◌else◌}
 use Rattle.std.proofs.lemmas.Bool.{eq-eqb, eqb-true}
 use Rattle.datagrams.specs.Datagram as Raw
-use Rattle.life_runs.specs.of_frame_view.View.{Lens}
-use Rattle.life_runs.specs.of_life_frames.Shares.{Lived, AllFrom, IsElsewhere, AreDistinct}
+use Rattle.served_runs.specs.of_life_runs.of_frame_view.View.{Lens}
+use Rattle.served_runs.specs.of_life_runs.of_life_frames.Shares.{Lived, AllFrom, IsElsewhere, AreDistinct}
 use Rattle.master_tour.specs.of_life_model.Lives.{Spot}
-use Rattle.life_runs.specs.Led.{Leads, Comes}
+use Rattle.served_runs.specs.of_life_runs.Led.{Leads, Comes}
 use Rattle.master_duty.specs.Reply.{Reply}
 use Rattle.master_hand.specs.Spoken.{Asked}
 use Rattle.master_hand.specs.declared.hand.InHand.{InHand}

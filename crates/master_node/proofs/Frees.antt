@@ -1,8 +1,8 @@
 -- A SLAVE OF WHICH A SERVICE MIGHT COME INTO HAND: so it stays as long as none did, and its side shows it.
 use Rattle.std.proofs.Common.{◌≡◌, ℕ, Bool, true, false, Option, Some, None, List, [], ◌∷◌, refl, sym, ap, ◌∙◌, subst}
 use Rattle.std.specs.Prelude.{◌&&◌}
-use Rattle.life_runs.specs.of_frame_view.View.{Lens}
-use Rattle.life_runs.specs.Led.{speech_at}
+use Rattle.served_runs.specs.of_life_runs.of_frame_view.View.{Lens}
+use Rattle.served_runs.specs.of_life_runs.Led.{speech_at}
 use Rattle.mailbox_master.specs.of_link_model.Mails.{LinkMail}
 use Rattle.master_duty.specs.Reply.{Reply}
 use Rattle.master_duty.specs.of_exchange_model.Exchange.{Speech}

@@ -1,11 +1,11 @@
 -- WHAT IS TOLD TO WHO ASKED of one slave is what its life tells.
 use Rattle.std.proofs.Common.{◌≡◌, ℕ, zero, suc, Bool, true, false, Option, Some, None, List, [], ◌∷◌, ◌++◌, refl, sym, ap, ◌∙◌, subst}
 use Rattle.std.specs.Prelude.{is_some, map, option_map, if◌then◌else◌}
-use Rattle.life_runs.specs.Led.{Exchanged}
-use Rattle.life_runs.specs.of_frame_view.Seen.{seen}
-use Rattle.life_runs.specs.of_frame_view.View.{Lens}
-use Rattle.life_runs.specs.of_life_frames.Shares.{AllThree}
-use Rattle.life_runs.specs.of_segment_ring.declared.wire.Fate.TheVariants.{Pass}
+use Rattle.served_runs.specs.of_life_runs.Led.{Exchanged}
+use Rattle.served_runs.specs.of_life_runs.of_frame_view.Seen.{seen}
+use Rattle.served_runs.specs.of_life_runs.of_frame_view.View.{Lens}
+use Rattle.served_runs.specs.of_life_runs.of_life_frames.Shares.{AllThree}
+use Rattle.served_runs.specs.of_life_runs.of_segment_ring.declared.wire.Fate.TheVariants.{Pass}
 use Rattle.mailbox_mail.specs.declared.mail.Mail.{Mail}
 use Rattle.master_duty.specs.Reply.{Reply}
 use Rattle.master_duty.specs.of_segment_model.Ends as Ends

@@ -1,8 +1,8 @@
 -- WHAT A POST HAS IN HAND is what its slave's life has: before the first frame, at a visit, and behind a lost frame.
 use Rattle.std.proofs.Common.{◌≡◌, inr, ℕ, Bool, true, false, Option, Some, None, List, [], ◌∷◌, length, refl, sym, ap, ◌∙◌, subst}
 use Rattle.std.specs.Prelude.{◌&&◌, is_some, nat_lt, option_map, if◌then◌else◌}
-use Rattle.life_runs.specs.of_life_frames.Shares.{given_where}
-use Rattle.life_runs.specs.of_life_frames.of_exchange_model.Areas.{Areas}
+use Rattle.served_runs.specs.of_life_runs.of_life_frames.Shares.{given_where}
+use Rattle.served_runs.specs.of_life_runs.of_life_frames.of_exchange_model.Areas.{Areas}
 use Rattle.master_duty.specs.Reply.{Reply}
 use Rattle.master_duty.specs.of_exchange_model.Exchange.{Speech}
 use Rattle.master_duty.specs.of_exchange_model.Rows.{Row, begun, row_told}

@@ -4,10 +4,10 @@ use Rattle.std.specs.Prelude.{◌==◌, ◌&&◌, nat_lt, if◌then◌else◌, m
 use Rattle.std.proofs.lemmas.Bool.Decides.{nat_tests}
 use Rattle.eoe.specs.declared.joining.Unfinished.{Unfinished}
 use Rattle.master_duty.specs.of_exchange_model.Exchange.{Speech}
-use Rattle.life_runs.specs.of_life_frames.Shares.{AllBoth, AllThree, given_where}
+use Rattle.served_runs.specs.of_life_runs.of_life_frames.Shares.{AllBoth, AllThree, given_where}
 use Rattle.master_tour.specs.of_life_model.Lives.{Life, Era, Opening, Spot, Stand, shows_clear, last_step, is_shown, clears, opens, steps_on, opening_back, reopens, reopens_at, reopening, opens_state, returns_to_init, era_back, life_back, life_lost}
-use Rattle.life_runs.specs.Led.{Turn}
-use Rattle.life_runs.specs.Spans.{is_leaving}
+use Rattle.served_runs.specs.of_life_runs.Led.{Turn}
+use Rattle.served_runs.specs.of_life_runs.Spans.{is_leaving}
 use Rattle.master_side.specs.of_link_mails.Body.{Body}
 use Rattle.mailbox_master.specs.of_link_model.Link.{Halves}
 use Rattle.master_duty.specs.Reply.{Reply}

@@ -2,7 +2,7 @@
 use Rattle.std.proofs.Common.{◌≡◌, ◌+◌, ℕ, zero, suc, true, Option, None, Some, List, [], ◌∷◌, refl, sym, ap, subst, arith}
 use Rattle.std.specs.Prelude.{All, IfSome, slice_get}
 use Rattle.std.proofs.lemmas.List.Elements.{All-head}
-use Rattle.life_runs.specs.of_frame_view.View.{Lens}
+use Rattle.served_runs.specs.of_life_runs.of_frame_view.View.{Lens}
 use Rattle.master_duty.specs.of_state_exchange.Stated.{Service}
 use Rattle.master_hand.specs.Laying.{Waiting}
 use Rattle.master_hand.specs.Spoken.{Asked}

@@ -1,8 +1,8 @@
 -- The slaves of a frame that is under way, of a run and of a serving.
 use Rattle.std.proofs.Common.{ℕ, List, [], ◌∷◌, map, sym, ap, ◌∙◌, subst}
-use Rattle.life_runs.specs.of_frame_view.View.{Lens}
-use Rattle.life_runs.specs.of_life_frames.Shares.{AllBoth, AllThree}
-use Rattle.life_runs.specs.Led.{Turn}
+use Rattle.served_runs.specs.of_life_runs.of_frame_view.View.{Lens}
+use Rattle.served_runs.specs.of_life_runs.of_life_frames.Shares.{AllBoth, AllThree}
+use Rattle.served_runs.specs.of_life_runs.Led.{Turn}
 use Rattle.master_hand.specs.Shown.{awaits_reply}
 use Rattle.master_hand.specs.declared.hand.InHand.{InHand}
 use Rattle.master_side.specs.Passing.{passing_seen}

@@ -1,7 +1,7 @@
 -- A PACKET THAT IS OVER stays so, whatever is held, heard or lost; and one that came into hand isn't over before its fragments are written.
 use Rattle.std.proofs.Common.{◌≡◌, ◌==◌, ℕ, Bool, true, false, Option, Some, None, List, [], ◌∷◌, length, refl, sym, ap, ◌∙◌, subst}
 use Rattle.std.specs.Prelude.{◌&&◌, not, drop, is_none, is_some, if◌then◌else◌, option_map}
-use Rattle.life_runs.specs.of_life_frames.of_exchange_model.Areas.{Areas}
+use Rattle.served_runs.specs.of_life_runs.of_life_frames.of_exchange_model.Areas.{Areas}
 use Rattle.mailbox_master.specs.of_link_model.Frames.{Ask, Gram, halves_after, halves_answered, halves_lost, halves_without}
 use Rattle.mailbox_master.specs.of_link_model.Link.{Halves}
 use Rattle.mailbox_master.specs.of_link_model.Mails.{LinkMail}

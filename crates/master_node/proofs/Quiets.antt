@@ -6,10 +6,10 @@ use Rattle.std.proofs.lemmas.Bool.{ltb-true, ltb-false, le-leb, lt-leb}
 use Rattle.std.proofs.lemmas.List.Elements.{All-nil, All-cons, All-head, All-tail}
 use Rattle.master_duty.specs.of_exchange_model.Exchange.{Speech}
 use Rattle.master_duty.specs.of_exchange_model.Rows.{Row}
-use Rattle.life_runs.specs.of_frame_view.View.{Lens}
-use Rattle.life_runs.specs.of_life_frames.Shares.{AllBoth}
+use Rattle.served_runs.specs.of_life_runs.of_frame_view.View.{Lens}
+use Rattle.served_runs.specs.of_life_runs.of_life_frames.Shares.{AllBoth}
 use Rattle.master_tour.specs.of_life_model.Lives
-use Rattle.life_runs.specs.Led.{Leads, speech_at}
+use Rattle.served_runs.specs.of_life_runs.Led.{Leads, speech_at}
 use Rattle.master_side.specs.of_link_mails.Body.{link_mail}
 use Rattle.master_duty.specs.declared.duty.Duty.{Duty}
 use Rattle.master_hand.specs.Shown.{Shows}

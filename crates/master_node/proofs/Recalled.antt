@@ -3,10 +3,10 @@ use Rattle.std.proofs.Common.{◌≡◌, ◌==◌, ℕ, Bool, true, false, not, 
 use Rattle.std.specs.Prelude.{◌&&◌, ◌||◌, cond, if◌then◌else◌, is_some, map}
 use Rattle.std.proofs.lemmas.Bool.{eq-eqb}
 use Rattle.life_measure.specs.Visits.{Visit, mails_visit}
-use Rattle.life_runs.specs.of_frame_view.View.{Lens, link_counter, register_counter}
-use Rattle.life_runs.specs.of_frame_view.Seen.{seen}
-use Rattle.life_runs.specs.of_life_frames.Shares.{AllBoth, AllThree}
-use Rattle.life_runs.specs.Led.{Turn, speech_at}
+use Rattle.served_runs.specs.of_life_runs.of_frame_view.View.{Lens, link_counter, register_counter}
+use Rattle.served_runs.specs.of_life_runs.of_frame_view.Seen.{seen}
+use Rattle.served_runs.specs.of_life_runs.of_life_frames.Shares.{AllBoth, AllThree}
+use Rattle.served_runs.specs.of_life_runs.Led.{Turn, speech_at}
 use Rattle.mailbox_master.specs.Any.{in_half_of}
 use Rattle.mailbox_master.specs.of_link_model.Frames.{Ask, in_ask}
 use Rattle.mailbox_master.specs.of_link_model.Link.{Halves}

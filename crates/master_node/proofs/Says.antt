@@ -4,10 +4,10 @@ use Rattle.std.specs.Prelude.{IfSome, IfOk, Result, Ok, Err, slice_get, is_some,
 use Rattle.std.proofs.lemmas.List.{append-nil}
 use Rattle.master_duty.specs.of_exchange_model.Exchange.{Speech}
 use Rattle.master_duty.specs.of_exchange_model.Rows.{Row}
-use Rattle.life_runs.specs.of_frame_view.View.{Lens}
-use Rattle.life_runs.specs.of_life_frames.Shares.{AllBoth, Lived}
+use Rattle.served_runs.specs.of_life_runs.of_frame_view.View.{Lens}
+use Rattle.served_runs.specs.of_life_runs.of_life_frames.Shares.{AllBoth, Lived}
 use Rattle.master_tour.specs.of_life_model.Lives
-use Rattle.life_runs.specs.Led.{Leads}
+use Rattle.served_runs.specs.of_life_runs.Led.{Leads}
 use Rattle.master_side.specs.of_link_mails.Body.{Body}
 use Rattle.mailbox_mail.specs.declared.outcome.ReplyKind.{ReplyKind}
 use Rattle.master_duty.specs.Reply.{Reply}

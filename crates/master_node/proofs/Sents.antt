@@ -5,14 +5,14 @@ use Rattle.std.proofs.lemmas.Bool.{ne_eqb}
 use Rattle.std.specs.List.{list_any}
 use Rattle.datagrams.specs.Datagram as Raw
 use Rattle.datagrams.specs.Frame.{IsFrame, MoreButLast, chained}
-use Rattle.life_runs.specs.of_frame_view.View.{Lens, datagram_seen}
-use Rattle.life_runs.specs.of_frame_view.Seen.{seen, datagrams_seen}
-use Rattle.life_runs.proofs.of_frame_view.Octets.{seen_is, seen_chained}
-use Rattle.life_runs.specs.of_life_frames.Frames.{AreApart}
-use Rattle.life_runs.specs.of_life_frames.Shares.{Lived, AllFrom, AllBoth, AllThree, IsElsewhere, AreDistinct}
+use Rattle.served_runs.specs.of_life_runs.of_frame_view.View.{Lens, datagram_seen}
+use Rattle.served_runs.specs.of_life_runs.of_frame_view.Seen.{seen, datagrams_seen}
+use Rattle.served_runs.proofs.of_life_runs.of_frame_view.Octets.{seen_is, seen_chained}
+use Rattle.served_runs.specs.of_life_runs.of_life_frames.Frames.{AreApart}
+use Rattle.served_runs.specs.of_life_runs.of_life_frames.Shares.{Lived, AllFrom, AllBoth, AllThree, IsElsewhere, AreDistinct}
 use Rattle.master_tour.specs.of_life_model.Lives
 use Rattle.master_tour.specs.of_life_model.Lives.{Spot}
-use Rattle.life_runs.specs.Led.{Leads, Turn, Comes, Took, IsTurn, AllTurn, speech_at}
+use Rattle.served_runs.specs.of_life_runs.Led.{Leads, Turn, Comes, Took, IsTurn, AllTurn, speech_at}
 use Rattle.master_duty.specs.Reply.{Reply}
 use Rattle.master_hand.specs.Spoken.{Asked, acknowledged, is_followed, is_passed}
 use Rattle.master_hand.specs.declared.hand.InHand.{InHand}

@@ -5,12 +5,12 @@ use Rattle.std.proofs.lemmas.List.Elements.{All-nil}
 use Rattle.counters_kept.specs.Lives.{LifeKept}
 use Rattle.counters_kept.proofs.Lives.{given_life, lost_life}
 use Rattle.counters_kept.specs.of_news_kept.Counts.{counts_on}
-use Rattle.life_runs.specs.Led.{Exchanged, Leads, led_behind, speech_at}
-use Rattle.life_runs.specs.of_frame_view.View.{Lens}
-use Rattle.life_runs.specs.of_frame_view.Seen.{seen}
-use Rattle.life_runs.specs.of_life_frames.Shares.{Lived, AllThree, given_where, lived_lost}
-use Rattle.life_runs.specs.of_segment_ring.declared.wire.Fate.{Fate}
-use Rattle.life_runs.specs.of_segment_ring.declared.wire.Fate.TheVariants.{Lost}
+use Rattle.served_runs.specs.of_life_runs.Led.{Exchanged, Leads, led_behind, speech_at}
+use Rattle.served_runs.specs.of_life_runs.of_frame_view.View.{Lens}
+use Rattle.served_runs.specs.of_life_runs.of_frame_view.Seen.{seen}
+use Rattle.served_runs.specs.of_life_runs.of_life_frames.Shares.{Lived, AllThree, given_where, lived_lost}
+use Rattle.served_runs.specs.of_life_runs.of_segment_ring.declared.wire.Fate.{Fate}
+use Rattle.served_runs.specs.of_life_runs.of_segment_ring.declared.wire.Fate.TheVariants.{Lost}
 use Rattle.master_duty.specs.Reply.{Reply}
 use Rattle.master_duty.specs.of_segment_model.Record.{Kept, News}
 use Rattle.master_duty.specs.of_segment_model.Slaves.{Datagram}

@@ -5,10 +5,10 @@ use Rattle.std.proofs.lemmas.List.Elements.{All-tail}
 use Rattle.datagrams.specs.Datagram as Raw
 use Rattle.counters_kept.specs.Lives.{LifeKept}
 use Rattle.counters_kept.proofs.Lives.{next_life}
-use Rattle.life_runs.specs.of_frame_view.View.{Lens}
-use Rattle.life_runs.specs.of_frame_view.Seen.{seen, datagrams_seen}
-use Rattle.life_runs.specs.of_life_frames.Shares.{AllFrom, Lived, AllBoth, AllThree, AreDistinct}
-use Rattle.life_runs.specs.Led.{Turn, speech_at}
+use Rattle.served_runs.specs.of_life_runs.of_frame_view.View.{Lens}
+use Rattle.served_runs.specs.of_life_runs.of_frame_view.Seen.{seen, datagrams_seen}
+use Rattle.served_runs.specs.of_life_runs.of_life_frames.Shares.{AllFrom, Lived, AllBoth, AllThree, AreDistinct}
+use Rattle.served_runs.specs.of_life_runs.Led.{Turn, speech_at}
 use Rattle.mailbox_master.specs.Any.{in_area_len}
 use Rattle.master_duty.specs.Reply.{Reply}
 use Rattle.master_duty.specs.of_state_exchange.Stated.{Service}

@@ -3,13 +3,13 @@ use Rattle.std.proofs.Common.{◌≡◌, ◌≤◌, ◌<◌, ℕ, zero, suc, ◌
 use Rattle.std.specs.Prelude.{◌||◌, is_some, map, nat_le, if◌then◌else◌}
 use Rattle.std.proofs.Math.Nat.{add-mod_right, mod-eq_of_lt}
 use Rattle.counters_kept.proofs.Lives.{back_life}
-use Rattle.life_runs.specs.Led.{Exchanged, led_behind, speech_at}
-use Rattle.life_runs.specs.of_frame_view.View.{Lens}
-use Rattle.life_runs.specs.of_frame_view.Seen.{seen}
-use Rattle.life_runs.specs.of_life_frames.Frames.{Share, AreApart}
-use Rattle.life_runs.specs.of_life_frames.Shares.{Lived, AllBoth, AllThree, AreDistinct, IsElsewhere, came_at, lived_back}
-use Rattle.life_runs.specs.of_segment_ring.declared.wire.Fate.{Fate}
-use Rattle.life_runs.specs.of_segment_ring.declared.wire.Fate.TheVariants.{Pass}
+use Rattle.served_runs.specs.of_life_runs.Led.{Exchanged, led_behind, speech_at}
+use Rattle.served_runs.specs.of_life_runs.of_frame_view.View.{Lens}
+use Rattle.served_runs.specs.of_life_runs.of_frame_view.Seen.{seen}
+use Rattle.served_runs.specs.of_life_runs.of_life_frames.Frames.{Share, AreApart}
+use Rattle.served_runs.specs.of_life_runs.of_life_frames.Shares.{Lived, AllBoth, AllThree, AreDistinct, IsElsewhere, came_at, lived_back}
+use Rattle.served_runs.specs.of_life_runs.of_segment_ring.declared.wire.Fate.{Fate}
+use Rattle.served_runs.specs.of_life_runs.of_segment_ring.declared.wire.Fate.TheVariants.{Pass}
 use Rattle.mailbox_master.specs.of_link_model.Link.{Halves}
 use Rattle.master_duty.specs.Reply.{Reply}
 use Rattle.master_duty.specs.of_exchange_model.Exchange.{Speech}

@@ -3,7 +3,7 @@ use Rattle.std.proofs.Common.{◌≡◌, ◌≤◌, ◌<◌, ◌+◌, ℕ, zero,
 use Rattle.std.specs.Prelude.{map, All, is_some, ⊤}
 use Rattle.std.proofs.lemmas.List.Elements.{All-nil, All-head, All-tail, All-push}
 use Rattle.counters_kept.specs.Lives.{LifeKept}
-use Rattle.life_runs.specs.First.{leads_from}
+use Rattle.served_runs.specs.of_life_runs.First.{leads_from}
 use Rattle.master_hand.specs.Spoken as Talk
 use Rattle.master_side.specs.Passing.{passing_seen}
 use Rattle.master_side.specs.declared.passing.Passing.{Passing}
@@ -18,9 +18,9 @@ use Rattle.counters_kept.specs.of_news_kept.Counts.{CountsAt}
 use Rattle.counters_kept.proofs.of_news_kept.Kepts.{new_kept}
 use Rattle.segment_plan.specs.declared.service.Service as Plan
 use Rattle.segment_plan.specs.declared.slave.SlaveSpec.{SlaveSpec}
-use Rattle.life_runs.specs.of_frame_view.View.{Lens}
-use Rattle.life_runs.specs.of_life_frames.Shares.{AllBoth, AllThree}
-use Rattle.life_runs.specs.Led.{Leads, speech_at}
+use Rattle.served_runs.specs.of_life_runs.of_frame_view.View.{Lens}
+use Rattle.served_runs.specs.of_life_runs.of_life_frames.Shares.{AllBoth, AllThree}
+use Rattle.served_runs.specs.of_life_runs.Led.{Leads, speech_at}
 use Rattle.master_hand.specs.Shown.{knows}
 use Rattle.master_hand.specs.declared.hand.InHand.{InHand}
 use Rattle.master_side.specs.declared.hand.Hand.{Ghosts}

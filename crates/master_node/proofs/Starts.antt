@@ -3,9 +3,9 @@ use Rattle.std.proofs.Common.{◌≡◌, ◌==◌, ◌+◌, ◌<◌, ℕ, zero, 
 use Rattle.std.specs.Prelude.{IfSome, length, map, nat_lt, slice_get}
 use Rattle.std.proofs.lemmas.Bool.{eq-eqb, eqb-true, ltb-false}
 use Rattle.datagrams.specs.Datagram as Raw
-use Rattle.life_runs.specs.of_frame_view.View.{Lens}
-use Rattle.life_runs.specs.of_life_frames.Shares.{AllBoth, AllFrom, Lived}
-use Rattle.life_runs.specs.Led.{Leads, Turn, speech_at}
+use Rattle.served_runs.specs.of_life_runs.of_frame_view.View.{Lens}
+use Rattle.served_runs.specs.of_life_runs.of_life_frames.Shares.{AllBoth, AllFrom, Lived}
+use Rattle.served_runs.specs.of_life_runs.Led.{Leads, Turn, speech_at}
 use Rattle.master_duty.specs.Reply.{Reply}
 use Rattle.master_duty.specs.of_state_exchange.Stated as Stated
 use Rattle.master_duty.specs.of_task_model.Accounts.{Pick}

@@ -2,7 +2,7 @@
 use Rattle.std.proofs.Common.{◌≡◌, ◌⊎◌, inl, inr, ◌<◌, ◌≤◌, ◌+◌, ◌==◌, ℕ, zero, suc, Bool, true, false, Option, Some, None, List, [], ◌∷◌, ◌++◌, refl, sym, ap, ◌∙◌, subst, arith, length, append_assoc}
 use Rattle.std.specs.Prelude.{nat_lt, ◌&&◌, not, if◌then◌else◌}
 use Rattle.std.proofs.lemmas.Bool.{eq-eqb, eqb-true, lt-ltb, le-ltb}
-use Rattle.life_runs.specs.of_life_frames.Frames.{Share}
+use Rattle.served_runs.specs.of_life_runs.of_life_frames.Frames.{Share}
 use Rattle.master_hand.specs.contracts.hand.InHandHand.TheImpl as Impl
 use Rattle.master_hand.specs.declared.hand.InHand.{InHand}
 use Rattle.master_tour.specs.declared.tour.Tour as Tours
@@ -27,9 +27,9 @@ use Rattle.master_tour.proofs.Firsts.{visits_once, visited_same}
 use Rattle.master_node.specs.Kept.{TourOn}
 use Rattle.master_node.specs.Toured.{stop_share, turn_share, again_of, tour_of, StaysPut, TakesPart, IsBare, HasVisited}
 use Rattle.master_node.specs.Shows.{IsOnFrame}
-use Rattle.life_runs.specs.of_frame_view.View.{Lens}
-use Rattle.life_runs.specs.of_life_frames.Shares.{AllBoth}
-use Rattle.life_runs.specs.Led.{Turn}
+use Rattle.served_runs.specs.of_life_runs.of_frame_view.View.{Lens}
+use Rattle.served_runs.specs.of_life_runs.of_life_frames.Shares.{AllBoth}
+use Rattle.served_runs.specs.of_life_runs.Led.{Turn}
 use Rattle.master_tour.specs.Goes.{opened_behind}
 use Rattle.master_tour.specs.Orders.{last_behind}
 use Rattle.master_tour.specs.Toured.{goes_on, lost_on}

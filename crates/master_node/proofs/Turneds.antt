@@ -1,11 +1,11 @@
 -- WHAT IS TOLD OF HOW A SLAVE TURNED is what its life tells.
 use Rattle.std.proofs.Common.{◌≡◌, ℕ, zero, suc, Bool, Option, List, [], ◌∷◌, refl, sym, ap, ◌∙◌, subst}
 use Rattle.std.specs.Prelude.{◌&&◌, map}
-use Rattle.life_runs.specs.Led.{Exchanged, speech_at}
-use Rattle.life_runs.specs.of_frame_view.View.{Lens}
-use Rattle.life_runs.specs.of_frame_view.Seen.{seen}
-use Rattle.life_runs.specs.of_life_frames.Shares.{AllThree, given_where}
-use Rattle.life_runs.specs.of_segment_ring.declared.wire.Fate.TheVariants.{Lost}
+use Rattle.served_runs.specs.of_life_runs.Led.{Exchanged, speech_at}
+use Rattle.served_runs.specs.of_life_runs.of_frame_view.View.{Lens}
+use Rattle.served_runs.specs.of_life_runs.of_frame_view.Seen.{seen}
+use Rattle.served_runs.specs.of_life_runs.of_life_frames.Shares.{AllThree, given_where}
+use Rattle.served_runs.specs.of_life_runs.of_segment_ring.declared.wire.Fate.TheVariants.{Lost}
 use Rattle.master_hand.specs.Spoken.{acknowledged, is_followed, is_passed}
 use Rattle.master_hand.specs.declared.hand.InHand.{InHand}
 use Rattle.master_side.specs.Passing.{news_lost}

@@ -1,10 +1,10 @@
 -- A SLAVE OF WHICH A FRAME HAD NOTHING has in hand behind it what it had; and so what each post has in hand behind a frame that came back is what its slave's life has.
 use Rattle.std.proofs.Common.{◌≡◌, ℕ, Bool, true, false, Option, Some, None, List, [], refl, sym, ap, ◌∙◌, subst, append-nil}
 use Rattle.std.specs.Prelude.{◌&&◌, nat_le, option_map, if◌then◌else◌}
-use Rattle.life_runs.specs.Led.{speech_at}
-use Rattle.life_runs.specs.of_frame_view.Seen.{seen}
-use Rattle.life_runs.specs.of_frame_view.View.{Lens}
-use Rattle.life_runs.specs.of_life_frames.Shares.{came_at}
+use Rattle.served_runs.specs.of_life_runs.Led.{speech_at}
+use Rattle.served_runs.specs.of_life_runs.of_frame_view.Seen.{seen}
+use Rattle.served_runs.specs.of_life_runs.of_frame_view.View.{Lens}
+use Rattle.served_runs.specs.of_life_runs.of_life_frames.Shares.{came_at}
 use Rattle.master_duty.specs.Reply.{Reply}
 use Rattle.master_duty.specs.of_exchange_model.Exchange.{Speech, plain}
 use Rattle.master_duty.specs.of_exchange_model.Rows.{Row, answer_after, row_heard}

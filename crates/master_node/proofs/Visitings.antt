@@ -3,11 +3,11 @@ use Rattle.std.proofs.Common.{◌≡◌, ◌+◌, ◌==◌, ℕ, suc, Bool, true
 use Rattle.std.proofs.lemmas.Bool.{eqb-true}
 use Rattle.std.specs.Prelude.{cond, ◌&&◌, ◌||◌, not, if◌then◌else◌, is_some, option_map, map, length}
 use Rattle.life_measure.specs.Visits.{Visit, mails_visit, drain_visit}
-use Rattle.life_runs.specs.of_frame_view.View.{Lens}
-use Rattle.life_runs.specs.of_frame_view.Seen.{seen}
-use Rattle.life_runs.specs.of_life_frames.Shares.{AllBoth}
-use Rattle.life_runs.specs.of_state_model.States.{Phase}
-use Rattle.life_runs.specs.Led.{Turn}
+use Rattle.served_runs.specs.of_life_runs.of_frame_view.View.{Lens}
+use Rattle.served_runs.specs.of_life_runs.of_frame_view.Seen.{seen}
+use Rattle.served_runs.specs.of_life_runs.of_life_frames.Shares.{AllBoth}
+use Rattle.served_runs.specs.of_life_runs.of_state_model.States.{Phase}
+use Rattle.served_runs.specs.of_life_runs.Led.{Turn}
 use Rattle.mailbox_mail.specs.declared.mail.Mail.{Mail}
 use Rattle.mailbox_master.specs.Any.{in_half_of}
 use Rattle.mailbox_master.specs.Seat.{seat_half}

@@ -1,10 +1,10 @@
 -- A VISIT: what comes into hand of one slave, and what stays of all others.
 use Rattle.std.proofs.Common.{◌≡◌, ◌<◌, ℕ, suc, Bool, true, false, Option, Some, None, List, [], refl, sym, ap, ◌∙◌, subst, arith, length}
 use Rattle.std.specs.Prelude.{is_some, slice_get, map, IfSome, if◌then◌else◌}
-use Rattle.life_runs.specs.of_frame_view.View.{Lens}
-use Rattle.life_runs.specs.of_life_frames.Shares.{Lived, AllFrom, AreDistinct}
+use Rattle.served_runs.specs.of_life_runs.of_frame_view.View.{Lens}
+use Rattle.served_runs.specs.of_life_runs.of_life_frames.Shares.{Lived, AllFrom, AreDistinct}
 use Rattle.master_duty.specs.Reply.{Reply}
-use Rattle.life_runs.specs.Led.{Leads, Comes}
+use Rattle.served_runs.specs.of_life_runs.Led.{Leads, Comes}
 use Rattle.master_hand.specs.Laying.{Scripted, scripted, scripted_behind, ready_of}
 use Rattle.master_hand.specs.Spoken.{Asked, is_passed}
 use Rattle.master_hand.specs.declared.hand.InHand.{InHand}

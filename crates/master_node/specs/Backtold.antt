@@ -1,7 +1,7 @@
 -- WHAT A FRAME THAT CAME BACK TELLS of a slave, by its life before the frame and behind it.
 use Rattle.std.specs.Prelude.{◌&&◌, not, ℕ, zero, suc, Bool, true, false, is_some, Option, Some, None, List, [], ◌∷◌, ◌++◌, length}
-use Rattle.life_runs.specs.Led.{speech_at}
-use Rattle.life_runs.specs.of_frame_view.View.{Lens}
+use Rattle.served_runs.specs.of_life_runs.Led.{speech_at}
+use Rattle.served_runs.specs.of_life_runs.of_frame_view.View.{Lens}
 use Rattle.mailbox_mail.specs.declared.outcome.ReplyKind.{ReplyKind}
 use Rattle.master_duty.specs.Reply.{Reply}
 use Rattle.master_duty.specs.of_exchange_model.Exchange.{Speech}

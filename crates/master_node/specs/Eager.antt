@@ -2,9 +2,9 @@
 -- no mail is left that could be held.
 use Rattle.std.specs.Prelude.{◌≡◌, ℕ, Bool, true, is_some, Option, Some, None, List, [], ◌∷◌, map, ⊤}
 use Rattle.life_measure.specs.Visits.{Visit, mails_visit, drain_visit}
-use Rattle.life_runs.specs.of_frame_view.View.{Lens}
-use Rattle.life_runs.specs.Led.{Turn, speech_at}
-use Rattle.life_runs.specs.of_state_model.States.{Phase}
+use Rattle.served_runs.specs.of_life_runs.of_frame_view.View.{Lens}
+use Rattle.served_runs.specs.of_life_runs.Led.{Turn, speech_at}
+use Rattle.served_runs.specs.of_life_runs.of_state_model.States.{Phase}
 use Rattle.mailbox_master.specs.of_link_model.Frames.{Ask}
 use Rattle.mailbox_master.specs.of_link_model.Link.{Halves}
 use Rattle.mailbox_master.specs.of_link_model.Mails.{LinkMail}

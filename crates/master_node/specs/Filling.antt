@@ -2,9 +2,9 @@
 use Rattle.std.specs.Prelude.{◌≡◌, ◌≤◌, ◌<◌, ℕ, ◌%◌, true, false, Option, None, List, [], map, length, All}
 use Rattle.std.specs.List.{list_any}
 use Rattle.datagrams.specs.Datagram as Raw
-use Rattle.life_runs.specs.of_frame_view.View.{Lens}
-use Rattle.life_runs.specs.of_life_frames.Shares.{Lived, AllFrom}
-use Rattle.life_runs.specs.Led.{Leads, Comes, speech_at}
+use Rattle.served_runs.specs.of_life_runs.of_frame_view.View.{Lens}
+use Rattle.served_runs.specs.of_life_runs.of_life_frames.Shares.{Lived, AllFrom}
+use Rattle.served_runs.specs.of_life_runs.Led.{Leads, Comes, speech_at}
 use Rattle.master_duty.specs.Reply.{Reply}
 use Rattle.master_hand.specs.Spoken.{Asked, acknowledged, is_followed, is_passed}
 use Rattle.master_hand.specs.declared.hand.InHand.{InHand}

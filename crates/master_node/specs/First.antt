@@ -1,8 +1,8 @@
 -- THE SLAVES OF A PLAN as a master has them before the first frame.
 use Rattle.std.specs.Prelude.{◌≡◌, ℕ, true, None, List}
-use Rattle.life_runs.specs.of_frame_view.View.{Lens}
-use Rattle.life_runs.specs.Led.{new_leads}
-use Rattle.life_runs.specs.First.{spot_of, script_for}
+use Rattle.served_runs.specs.of_life_runs.of_frame_view.View.{Lens}
+use Rattle.served_runs.specs.of_life_runs.Led.{new_leads}
+use Rattle.served_runs.specs.of_life_runs.First.{spot_of, script_for}
 use Rattle.mailbox_master.specs.Any.{in_area_len}
 use Rattle.master_hand.specs.Shown.{Shows, knows}
 use Rattle.master_hand.specs.Spoken.{hand_speech}

@@ -1,7 +1,7 @@
 -- WHAT A POST HAS IN HAND of a mail that is passed on: as it is laid ready, as it comes into hand, and behind a frame.
 use Rattle.std.specs.Prelude.{◌≡◌, ◌⊎◌, ◌&&◌, ◌||◌, not, ℕ, zero, suc, Bool, if◌then◌else◌, is_some, Option, Some, None, List, [], ◌∷◌, ⊤}
-use Rattle.life_runs.specs.Led.{speech_at}
-use Rattle.life_runs.specs.of_frame_view.View.{Lens}
+use Rattle.served_runs.specs.of_life_runs.Led.{speech_at}
+use Rattle.served_runs.specs.of_life_runs.of_frame_view.View.{Lens}
 use Rattle.master_duty.specs.Reply.{Reply}
 use Rattle.master_duty.specs.of_state_exchange.Stated.{Service}
 use Rattle.master_duty.specs.of_task_model.Accounts.{Duty}

@@ -2,9 +2,9 @@
 use Rattle.std.specs.Prelude.{◌≡◌, ◌≤◌, ◌<◌, ◌%◌, ℕ, zero, suc, true, false, Option, Some, None, List, [], ◌∷◌, map, length, drop, All, ⊤}
 use Rattle.std.specs.List.{list_any}
 use Rattle.counters_kept.specs.Lives.{LifeKept}
-use Rattle.life_runs.specs.Led.{Leads}
-use Rattle.life_runs.specs.of_frame_view.View.{Lens}
-use Rattle.life_runs.specs.of_life_frames.Shares.{AllBoth}
+use Rattle.served_runs.specs.of_life_runs.Led.{Leads}
+use Rattle.served_runs.specs.of_life_runs.of_frame_view.View.{Lens}
+use Rattle.served_runs.specs.of_life_runs.of_life_frames.Shares.{AllBoth}
 use Rattle.master_duty.specs.Reply.{Reply}
 use Rattle.master_duty.specs.of_state_exchange.Stated as Stated
 use Rattle.master_hand.specs.Laying.{Waiting, ready_of}

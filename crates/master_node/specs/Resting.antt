@@ -1,7 +1,7 @@
 -- WHAT A MASTER WANTS NOTHING MORE OF, by the lives of its slaves and by what it has of them.
 use Rattle.std.specs.Prelude.{◌≡◌, ◌⊎◌, ℕ, suc, true, None, List, [], ◌∷◌, slice_get, ⊤}
-use Rattle.life_runs.specs.of_frame_view.View.{Lens}
-use Rattle.life_runs.specs.Led.{Leads, speech_at}
+use Rattle.served_runs.specs.of_life_runs.of_frame_view.View.{Lens}
+use Rattle.served_runs.specs.of_life_runs.Led.{Leads, speech_at}
 use Rattle.mailbox_master.specs.Any.{in_half_of}
 use Rattle.mailbox_master.specs.of_link_model.Master.{InState}
 use Rattle.master_duty.specs.Reply.{Reply}

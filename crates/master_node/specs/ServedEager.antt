@@ -1,9 +1,9 @@
 -- A MASTER MAKES NO VISIT IN VAIN ALSO WHILE MAILS ARE PASSED ON: what its frames ask a slave of a serving, what is then remembered, what begins, and when all rest.
 use Rattle.std.specs.Prelude.{◌≡◌, ◌⊎◌, ℕ, suc, Bool, true, false, is_some, Option, Some, None, List, [], ◌∷◌, ⊤}
 use Rattle.life_measure.specs.Visits.{Visit, mails_visit, drain_visit}
-use Rattle.life_runs.specs.of_frame_view.View.{Lens}
-use Rattle.life_runs.specs.of_life_frames.Shares.{AllThree}
-use Rattle.life_runs.specs.Led.{Leads, Turn, speech_at}
+use Rattle.served_runs.specs.of_life_runs.of_frame_view.View.{Lens}
+use Rattle.served_runs.specs.of_life_runs.of_life_frames.Shares.{AllThree}
+use Rattle.served_runs.specs.of_life_runs.Led.{Leads, Turn, speech_at}
 use Rattle.master_duty.specs.of_segment_model.Slaves.{Datagram}
 use Rattle.master_duty.specs.of_task_model.Accounts.{Duty}
 use Rattle.master_side.specs.Due.{EachDue}

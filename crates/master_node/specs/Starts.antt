@@ -1,8 +1,8 @@
 -- WHAT MAY BEGIN AT A VISIT BEGINS, and without a visit nothing does.
 use Rattle.std.specs.Prelude.{◌≡◌, ℕ, suc, true, false, Option, Some, None, List, [], ◌∷◌, slice_get, ⊤}
-use Rattle.life_runs.specs.of_frame_view.View.{Lens}
-use Rattle.life_runs.specs.of_life_frames.Shares.{AllFrom}
-use Rattle.life_runs.specs.Led.{Leads, Turn}
+use Rattle.served_runs.specs.of_life_runs.of_frame_view.View.{Lens}
+use Rattle.served_runs.specs.of_life_runs.of_life_frames.Shares.{AllFrom}
+use Rattle.served_runs.specs.of_life_runs.Led.{Leads, Turn}
 use Rattle.master_duty.specs.Reply.{Reply}
 use Rattle.master_duty.specs.of_exchange_model.Exchange.{Speech}
 use Rattle.master_duty.specs.of_segment_model.Seats

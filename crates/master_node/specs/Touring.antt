@@ -1,7 +1,7 @@
 -- A FRAME OF A SERVING IS A VISIT OF ITS MASTER'S TOUR.
 use Rattle.std.specs.Prelude.{◌≡◌, ℕ, List, map, length}
-use Rattle.life_runs.specs.of_frame_view.Seen.{seen}
-use Rattle.life_runs.specs.of_frame_view.View.{Lens}
+use Rattle.served_runs.specs.of_life_runs.of_frame_view.Seen.{seen}
+use Rattle.served_runs.specs.of_life_runs.of_frame_view.View.{Lens}
 use Rattle.master_tour.specs.Goes.{holds_at}
 use Rattle.master_tour.specs.Sizes.{frame_size}
 use Rattle.master_tour.specs.Toured.{IsOfTour}

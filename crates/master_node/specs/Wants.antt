@@ -2,9 +2,9 @@
 use Rattle.std.specs.Prelude.{◌≡◌, ◌⊎◌, ◌≤◌, ℕ, suc, ◌-◌, Bool, true, false, nat_lt, nat_le, Option, None, IfSome, List, [], ◌∷◌, length, slice_get, ⊤}
 use Rattle.std.specs.List.{list_any}
 use Rattle.master_duty.specs.of_exchange_model.Exchange.{Speech}
-use Rattle.life_runs.specs.of_frame_view.View.{Lens}
+use Rattle.served_runs.specs.of_life_runs.of_frame_view.View.{Lens}
 use Rattle.master_tour.specs.of_life_model.Lives
-use Rattle.life_runs.specs.Led.{Leads, speech_at}
+use Rattle.served_runs.specs.of_life_runs.Led.{Leads, speech_at}
 use Rattle.master_side.specs.of_link_mails.Body.{Body}
 use Rattle.mailbox_master.specs.of_link_model.Master.{InState}
 use Rattle.mailbox_master.specs.Any.{in_half_of}

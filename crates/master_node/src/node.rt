@@ -66,10 +66,10 @@ impl MasterNode {
     ghost use Rattle.master_node.specs.Kept.{TourKept, TourOn};
     ghost use Rattle.master_node.specs.Coming.{PassesBy, CameBy};
     ghost use Rattle.std.specs.Prelude.{◌⊎◌, ◌+◌, [], nat_lt, map, take, if◌then◌else◌};
-    ghost use Rattle.life_runs.specs.of_frame_view.View.{Lens};
-    ghost use Rattle.life_runs.specs.of_frame_view.Seen.{seen};
-    ghost use Rattle.life_runs.specs.of_life_frames.Shares.{AreDistinct};
-    ghost use Rattle.life_runs.specs.Led.{Leads, Turn, IsLedFrame};
+    ghost use Rattle.served_runs.specs.of_life_runs.of_frame_view.View.{Lens};
+    ghost use Rattle.served_runs.specs.of_life_runs.of_frame_view.Seen.{seen};
+    ghost use Rattle.served_runs.specs.of_life_runs.of_life_frames.Shares.{AreDistinct};
+    ghost use Rattle.served_runs.specs.of_life_runs.Led.{Leads, Turn, IsLedFrame};
     ghost use Rattle.master_tour.specs.Made.{is_in};
     ghost use Rattle.master_tour.specs.Orders.{IsCarried};
     ghost use Rattle.master_node.specs.Shows.{GoesOn, lived_of, MasterShows, MasterUnder};

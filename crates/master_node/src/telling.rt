@@ -27,11 +27,11 @@ impl MasterNode {
     ghost use Rattle.master_node.specs.Downs.{Lists, down_by, downs_in, is_given_up, gives_at, GoDown};
     ghost use Rattle.master_node.specs.Forwards.{port_by};
     ghost use Rattle.eoe.specs.declared.joining.Unfinished.{Unfinished};
-    ghost use Rattle.life_runs.specs.of_frame_view.View.{Lens};
-    ghost use Rattle.life_runs.specs.of_frame_view.Seen.{seen};
+    ghost use Rattle.served_runs.specs.of_life_runs.of_frame_view.View.{Lens};
+    ghost use Rattle.served_runs.specs.of_life_runs.of_frame_view.Seen.{seen};
     ghost use Rattle.master_duty.specs.of_segment_model.Returned.{Returns};
-    ghost use Rattle.life_runs.specs.of_segment_ring.declared.wire.Fate.{Fate};
-    ghost use Rattle.life_runs.specs.Led.{Leads, Turn, Exchanged, led_behind, gives_up_at, missed_behind};
+    ghost use Rattle.served_runs.specs.of_life_runs.of_segment_ring.declared.wire.Fate.{Fate};
+    ghost use Rattle.served_runs.specs.of_life_runs.Led.{Leads, Turn, Exchanged, led_behind, gives_up_at, missed_behind};
     ghost use Rattle.master_node.specs.Brought.{HasBrought};
     ghost use Rattle.master_node.specs.Joined.{HasUnfinished, HasCompleted, stand_before, stand_under, unfinished_after, mails_back, mails_lost};
     ghost use Rattle.master_node.specs.Kept.{NodeKept};

@@ -52,8 +52,8 @@ impl MasterNode {
     ghost use Rattle.std.specs.Prelude.{◌≡◌, ◌<◌, ℕ, List, All, IfSome, true, nat_lt, length, map, slice_get, vec_len};
     ghost use Rattle.std.specs.Bool.{OnTrue, OnFalse};
     ghost use Rattle.std.specs.List.{list_any};
-    ghost use Rattle.life_runs.specs.of_frame_view.View.{Lens};
-    ghost use Rattle.life_runs.specs.Led.{Leads};
+    ghost use Rattle.served_runs.specs.of_life_runs.of_frame_view.View.{Lens};
+    ghost use Rattle.served_runs.specs.of_life_runs.Led.{Leads};
     ghost use Rattle.master_tour.specs.Goes.{is_live, holds_at};
     ghost use Rattle.master_node.specs.Shows.{MasterShows, lived_of};
     ghost use Rattle.master_node.specs.Told.{HasLives};

@@ -1,3 +1,5 @@
+pub use Rattle.life_model.specs as of_life_model
+pub use Rattle.frame_view.specs as of_frame_view
 pub use Rattle.frame_view.specs.of_link_mails as of_link_mails
 pub use Rattle.mailbox_mail.specs as of_mailbox_mail
 pub use Rattle.mailbox_master.specs as of_mailbox_master

@@ -1,3 +1,4 @@
+pub use Rattle.news_kept.proofs as of_news_kept
 pub mod Unders
 pub mod Visits
 pub mod Walks

@@ -13,10 +13,10 @@ use Rattle.life_frames.specs.Shares.{Asked}
 use Rattle.life_frames.proofs.Frames.{own_none}
 use Rattle.life_model.specs.Lives.{Stand}
 use Rattle.life_model.specs.Own.{own}
-use Rattle.life_runs.specs.Led.{Exchanged, Leads, Turn, AllTurn}
+use Rattle.master_node.specs.of_life_runs.Led.{Exchanged, Leads, Turn, AllTurn}
 use Rattle.link_mails.specs.Body.{Body}
 use Rattle.link_model.specs.Frames.{all_accepted}
-use Rattle.master_hand.specs.Joins.{packets_in}
+use Rattle.master_node.specs.of_master_hand.Joins.{packets_in}
 use Rattle.master_node.specs.Arrivals.{completed_at, ComeIn}
 use Rattle.master_node.specs.Downs.{goes_down, GoDown}
 use Rattle.master_node.specs.Happened.{events_of}
@@ -26,11 +26,11 @@ use Rattle.master_node.specs.Shows.{is_carried}
 use Rattle.master_node.specs.Toured.{turn_share}
 use Rattle.master_node.specs.declared.happened.Happening.{Happening}
 use Rattle.master_node.specs.declared.node.MasterNode.{MasterNode}
-use Rattle.master_tour.specs.Brings.{accepted_at}
-use Rattle.master_tour.specs.Goes.{holds_at}
-use Rattle.master_tour.specs.Made.{is_in}
-use Rattle.master_tour.specs.Orders.{AreOnce}
-use Rattle.master_tour.specs.Toured.{Tour, IsOfTour, visit_of, visit_on}
+use Rattle.master_node.specs.of_master_tour.Brings.{accepted_at}
+use Rattle.master_node.specs.of_master_tour.Goes.{holds_at}
+use Rattle.master_node.specs.of_master_tour.Made.{is_in}
+use Rattle.master_node.specs.of_master_tour.Orders.{AreOnce}
+use Rattle.master_node.specs.of_master_tour.Toured.{Tour, IsOfTour, visit_of, visit_on}
 use Rattle.packets_heard.specs.Heard.{Joined}
 use Rattle.segment_model.specs.Returned.{Returns}
 use Rattle.segment_model.specs.Record.{is_for}
@@ -38,7 +38,7 @@ use Rattle.segment_model.specs.Slaves.{Datagram, grams}
 use Rattle.segment_ring.specs.declared.wire.Fate.{Fate}
 use Rattle.segment_ring.specs.declared.wire.Fate.TheVariants.{Pass, Lost}
 use Rattle.packets_heard.specs.Listed.{unfinished_of, CarriesAll, packets_by, listed_behind, ListedOn}
-use Rattle.served_runs.specs.Served.{Serves, ServedTurn, AllServedTurn}
+use Rattle.master_node.specs.of_served_runs.Served.{Serves, ServedTurn, AllServedTurn}
 
 -- ---- the places that a frame carries are among those of its visit
 in_first : (k : ℕ) (ps rest : List ℕ) → is_in k ps ≡ true → is_in k (ps ++ rest) ≡ true

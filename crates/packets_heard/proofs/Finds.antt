@@ -2,7 +2,7 @@
 use Rattle.std.proofs.Common.{◌≡◌, ◌≤◌, ◌<◌, ℕ, zero, suc, ◌+◌, Bool, true, false, Some, List, [], ◌∷◌, refl, sym, ap, ◌∙◌, subst, arith, inl, inr}
 use Rattle.std.specs.Prelude.{cond, fold, slice_get}
 use Rattle.std.proofs.lemmas.Bool.{cases_order}
-use Rattle.life_runs.specs.First.{leads_from}
+use Rattle.master_node.specs.of_life_runs.First.{leads_from}
 use Rattle.master_node.specs.Forwards.{port_by}
 use Rattle.master_node.specs.Ports.{ports_behind, ports_of, port_where, last_where}
 use Rattle.master_node.specs.Shows.{is_live_lead}

@@ -3,26 +3,26 @@ use Rattle.std.proofs.Common.{◌≡◌, ◌≤◌, ◌⊎◌, inl, inr, ℕ, ze
 use Rattle.std.specs.Prelude.{◌&&◌, if◌then◌else◌, slice_get}
 use Rattle.std.proofs.lemmas.Option.{slice_get_past}
 use Rattle.eoe_switch.specs.declared.switching.SwitchEvent.{SwitchEvent}
-use Rattle.life_runs.specs.of_datagrams.Datagram as Raw
-use Rattle.life_runs.specs.of_frame_view.View.{Lens}
-use Rattle.life_runs.specs.of_frame_view.Seen.{seen}
-use Rattle.life_runs.specs.of_life_frames.Shares.{came_at, given_where, lived_back, lived_lost}
-use Rattle.life_runs.specs.of_life_frames.of_life_model.Lives.{Life, Spot, Stand, life_lost}
-use Rattle.life_runs.specs.First.{first_leads, leads_from}
-use Rattle.life_runs.specs.Led.{Exchanged, Leads, Turn, AllTurn, IsLed, led_behind, life_behind, gives_up_at, is_passed, speech_at}
-use Rattle.life_runs.specs.of_link_mails.Body.{Body}
-use Rattle.life_runs.specs.of_master_duty.Reply.{Reply}
-use Rattle.life_runs.specs.of_segment_plan.declared.plan.Scenario.{Scenario}
-use Rattle.life_runs.specs.of_segment_plan.declared.service.Service as Plan
-use Rattle.life_runs.specs.of_segment_plan.declared.slave.SlaveSpec.{SlaveSpec}
-use Rattle.master_hand.specs.Spoken.{Asked, acknowledged, is_followed}
+use Rattle.master_node.specs.of_life_runs.of_datagrams.Datagram as Raw
+use Rattle.master_node.specs.of_life_runs.of_frame_view.View.{Lens}
+use Rattle.master_node.specs.of_life_runs.of_frame_view.Seen.{seen}
+use Rattle.master_node.specs.of_life_runs.of_life_frames.Shares.{came_at, given_where, lived_back, lived_lost}
+use Rattle.master_node.specs.of_life_runs.of_life_frames.of_life_model.Lives.{Life, Spot, Stand, life_lost}
+use Rattle.master_node.specs.of_life_runs.First.{first_leads, leads_from}
+use Rattle.master_node.specs.of_life_runs.Led.{Exchanged, Leads, Turn, AllTurn, IsLed, led_behind, life_behind, gives_up_at, is_passed, speech_at}
+use Rattle.master_node.specs.of_life_runs.of_link_mails.Body.{Body}
+use Rattle.master_node.specs.of_life_runs.of_master_duty.Reply.{Reply}
+use Rattle.master_node.specs.of_life_runs.of_segment_plan.declared.plan.Scenario.{Scenario}
+use Rattle.master_node.specs.of_life_runs.of_segment_plan.declared.service.Service as Plan
+use Rattle.master_node.specs.of_life_runs.of_segment_plan.declared.slave.SlaveSpec.{SlaveSpec}
+use Rattle.master_node.specs.of_master_hand.Spoken.{Asked, acknowledged, is_followed}
 use Rattle.master_node.proofs.Servings.{leads_same, run_all}
 use Rattle.master_node.specs.Serving.{run_lead, run_turn}
 use Rattle.master_node.specs.Shows.{is_led, is_live_lead}
 use Rattle.master_node.specs.Wants.{gave_of, IsCounted, AllCounted}
 use Rattle.master_node.proofs.Counts.{back_gave, counted, lost_gave, next_gave, turn_gave}
 use Rattle.master_side.specs.Passing.{news_back, news_lost}
-use Rattle.master_tour.specs.Goes.{holds_at}
+use Rattle.master_node.specs.of_master_tour.Goes.{holds_at}
 use Rattle.packets_heard.specs.Numbers.{Numbered, NumberedOn, given_up_at, goes, number_behind, numbers_where}
 use Rattle.packets_heard.proofs.Counts.{count, count_goes, repeat}
 use Rattle.packets_heard.proofs.Numbers.{frame_count, frame_numbers, numbered_many, serving_numbered}
@@ -34,7 +34,7 @@ use Rattle.packets_heard.specs.Servings.{AreServedBegun, ServedListed, ServedNum
 use Rattle.segment_model.specs.Record.{News}
 use Rattle.segment_ring.specs.declared.wire.Fate.{Fate}
 use Rattle.segment_ring.specs.declared.wire.Fate.TheVariants.{Pass, Lost}
-use Rattle.served_runs.specs.Served.{AllServedTurn, IsServedLed, IsServedTurn, Serves, ServedTurn, all_serve, served_behind, served_life}
+use Rattle.master_node.specs.of_served_runs.Served.{AllServedTurn, IsServedLed, IsServedTurn, Serves, ServedTurn, all_serve, served_behind, served_life}
 
 abbrev SlaveLife : Type 0
 SlaveLife = Life Body Asked Reply

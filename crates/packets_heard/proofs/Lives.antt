@@ -8,21 +8,21 @@ use Rattle.life_frames.specs.Frames.{FrameFor}
 use Rattle.life_frames.specs.Shares.{came_at, given_where}
 use Rattle.life_model.specs.Lives as Lives
 use Rattle.life_model.specs.Lives.{Life, Opening, Stand, life_back, life_lost, opening_back, shows_clear, last_step, is_shown, clears, opens, reopens, reopens_at, returns_to_init, era_back}
-use Rattle.life_runs.specs.Led.{Exchanged, Leads, Turn, AllTurn, speech_at, life_behind, led_behind, is_passed}
+use Rattle.master_node.specs.of_life_runs.Led.{Exchanged, Leads, Turn, AllTurn, speech_at, life_behind, led_behind, is_passed}
 use Rattle.link_mails.specs.Body.{Body}
 use Rattle.master_duty.specs.Reply.{Reply}
-use Rattle.master_hand.specs.Spoken.{Asked, acknowledged, is_followed}
+use Rattle.master_node.specs.of_master_hand.Spoken.{Asked, acknowledged, is_followed}
 use Rattle.master_node.specs.Downs.{goes_down}
 use Rattle.master_node.specs.Serving.{run_lead, run_turn}
 use Rattle.master_node.specs.Shows.{is_led, is_live_lead, is_live_turn, is_carried}
 use Rattle.master_node.proofs.Counts.{if_by, next_stand}
 use Rattle.master_side.specs.Passing.{news_back, news_lost}
-use Rattle.master_tour.specs.Goes.{holds_at}
+use Rattle.master_node.specs.of_master_tour.Goes.{holds_at}
 use Rattle.segment_model.specs.Record.{News}
 use Rattle.segment_model.specs.Slaves.{Found}
 use Rattle.segment_ring.specs.declared.wire.Fate.{Fate}
 use Rattle.segment_ring.specs.declared.wire.Fate.TheVariants.{Pass, Lost}
-use Rattle.served_runs.specs.Served.{Serves, ServedTurn, AllServedTurn, served_behind, served_life}
+use Rattle.master_node.specs.of_served_runs.Served.{Serves, ServedTurn, AllServedTurn, served_behind, served_life}
 use Rattle.task_model.specs.Accounts.{Duty, Stage}
 
 abbrev SlaveLife : Type 0

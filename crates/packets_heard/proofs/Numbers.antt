@@ -5,8 +5,8 @@ use Rattle.std.proofs.lemmas.List.{map-append}
 use Rattle.arrayvec.specs.ArrayVec.{ArrayVec}
 use Rattle.eoe_switch.specs.Switch.{switched}
 use Rattle.eoe_switch.specs.declared.switching.SwitchEvent.{SwitchEvent}
-use Rattle.life_runs.specs.of_frame_view.View.{Lens}
-use Rattle.life_runs.specs.Led.{Exchanged, Leads, Turn, IsLed, IsLedFrame}
+use Rattle.master_node.specs.of_life_runs.of_frame_view.View.{Lens}
+use Rattle.master_node.specs.of_life_runs.Led.{Exchanged, Leads, Turn, IsLed, IsLedFrame}
 use Rattle.master_node.specs.Begins.{PacketsBegin, begun_of}
 use Rattle.master_node.specs.Happened.{arrivals_at, events_of}
 use Rattle.master_node.specs.Made.{AreOfMaking}
@@ -22,7 +22,7 @@ use Rattle.packets_heard.proofs.Carries.{events_making}
 use Rattle.packets_heard.proofs.Ports.{long_append, making_arrivals}
 use Rattle.packets_heard.proofs.Runs.{packets_more, run_arrivals, serving_arrivals}
 use Rattle.packets_heard.specs.Servings.{AreServedBegun, ServedListed, ServedNumbered, served_begun, served_completed, served_joined, served_packets}
-use Rattle.served_runs.specs.Served.{Serves, IsServedLed}
+use Rattle.master_node.specs.of_served_runs.Served.{Serves, IsServedLed}
 
 -- ---- ONE FRAME MORE, where each event before it has its number
 module _ (listed begun : List SwitchEvent → Type 0) (before : List SwitchEvent → List ℕ → Type 0) (ports : List (Option ℕ)) (many made : ℕ) (us : List Turn) (es : List SwitchEvent) (ns : List ℕ) (x : NumberedOn listed begun before ports many made us es ns)

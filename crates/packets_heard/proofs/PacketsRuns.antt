@@ -7,11 +7,11 @@ use Rattle.arrayvec.specs.ArrayVec.{ArrayVec}
 use Rattle.eoe_switch.specs.Switch.{Switched, downed_at, first_switch, switched}
 use Rattle.eoe_switch.specs.declared.switching.SwitchEvent.{SwitchEvent}
 use Rattle.eoe_switch.specs.declared.switching.SwitchEvent.TheVariants.{Arrive, Begun, Down}
-use Rattle.life_runs.specs.of_frame_view.View.{Lens}
-use Rattle.life_runs.specs.of_life_frames.of_state_exchange.Stated.{Service}
-use Rattle.life_runs.specs.Led.{Exchanged, Leads, Turn, IsLed}
-use Rattle.master_hand.specs.of_eoe_model.Client as EoeClient
-use Rattle.master_hand.specs.Spoken.{Asked, sdo, file, drive, net, passed}
+use Rattle.master_node.specs.of_life_runs.of_frame_view.View.{Lens}
+use Rattle.master_node.specs.of_life_runs.of_life_frames.of_state_exchange.Stated.{Service}
+use Rattle.master_node.specs.of_life_runs.Led.{Exchanged, Leads, Turn, IsLed}
+use Rattle.master_node.specs.of_master_hand.of_eoe_model.Client as EoeClient
+use Rattle.master_node.specs.of_master_hand.Spoken.{Asked, sdo, file, drive, net, passed}
 use Rattle.master_node.specs.Arrivals.{arrive_where, arrive_at, arrive_by, arrivals_in}
 use Rattle.master_node.specs.Begins as Begins
 use Rattle.master_node.specs.Begins.{PacketsBegin, begins_by, begins_in, begun_of, packet_asked, switch_behind, switch_on, taken_by, taken_in}
@@ -20,15 +20,15 @@ use Rattle.master_node.specs.Forwards.{port_by, waiting_by}
 use Rattle.master_node.specs.Happened.{events_of}
 use Rattle.master_node.specs.Serving.{run_turn}
 use Rattle.master_node.specs.declared.lan.Lan.{Lan}
-use Rattle.master_tour.specs.Made.{is_in}
-use Rattle.master_tour.specs.Orders.{AreOnce}
+use Rattle.master_node.specs.of_master_tour.Made.{is_in}
+use Rattle.master_node.specs.of_master_tour.Orders.{AreOnce}
 use Rattle.packets_heard.specs.Over.{AreBegun, BegunOn, IsNoBegun, begun_at, begun_by_event, forwarded_to, packet_begun, packet_of, packets_begun}
 use Rattle.packets_heard.proofs.Follows.{all_append, all_at, closed_none, down_closed, first_taken, flow_switch, taken_append}
 use Rattle.packets_heard.specs.Listed.{IsOwn}
 use Rattle.packets_heard.specs.Servings.{AreServedBegun, served_packets}
 use Rattle.segment_ring.specs.declared.wire.Fate.{Fate}
 use Rattle.segment_ring.specs.declared.wire.Fate.TheVariants.{Pass, Lost}
-use Rattle.served_runs.specs.Served.{Serves, IsServedLed}
+use Rattle.master_node.specs.of_served_runs.Served.{Serves, IsServedLed}
 
 -- ---- how many are taken at a port, whether one waits there or not
 abbrev one_for : ℕ → Option ℕ → ℕ

@@ -11,8 +11,8 @@ use Rattle.master_node.specs.Downs.{down_by, downs_in}
 use Rattle.master_node.specs.Forwards.{port_by}
 use Rattle.master_node.specs.Happened.{arrived_by, arrivals_at}
 use Rattle.master_node.specs.Made.{IsOfMaking}
-use Rattle.master_tour.specs.Made.{is_in}
-use Rattle.master_tour.specs.Orders.{AreOnce}
+use Rattle.master_node.specs.of_master_tour.Made.{is_in}
+use Rattle.master_node.specs.of_master_tour.Orders.{AreOnce}
 use Rattle.packets_heard.specs.Listed.{down_by_event, downs_at, long_where, long_ones, IsOwn}
 
 same_port : (p : ℕ) → (p == p) ≡ true

@@ -4,8 +4,8 @@ use Rattle.std.specs.Prelude.{All}
 use Rattle.std.proofs.lemmas.List.Elements.{All-nil, All-cons, All-head, All-tail, All-append}
 use Rattle.eoe_switch.specs.Switch.{switched}
 use Rattle.eoe_switch.specs.declared.switching.SwitchEvent.{SwitchEvent}
-use Rattle.life_runs.specs.of_frame_view.View.{Lens}
-use Rattle.life_runs.specs.Led.{Exchanged, Leads, Turn, IsLed}
+use Rattle.master_node.specs.of_life_runs.of_frame_view.View.{Lens}
+use Rattle.master_node.specs.of_life_runs.Led.{Exchanged, Leads, Turn, IsLed}
 use Rattle.master_node.specs.Begins.{begins_other, begun_of}
 use Rattle.master_node.specs.Forwards.{waiting_by}
 use Rattle.master_node.specs.Serving.{run_turn}
@@ -15,7 +15,7 @@ use Rattle.packets_heard.proofs.Numbers.{numbered_many, serving_numbered}
 use Rattle.packets_heard.specs.Listed.{IsOwn, Listed}
 use Rattle.packets_heard.specs.Over.{AreBegun}
 use Rattle.packets_heard.specs.Servings.{AreServedBegun, ServedListed, ServedNumbered, served_other}
-use Rattle.served_runs.specs.Served.{Serves, IsServedLed}
+use Rattle.master_node.specs.of_served_runs.Served.{Serves, IsServedLed}
 
 -- of each of them
 weaker : (P Q : ℕ → Type 0) → ((j : ℕ) → P j → Q j) → (js : List ℕ) → All P js → All Q js

@@ -5,8 +5,8 @@ use Rattle.std.proofs.lemmas.Bool.{cases_order}
 use Rattle.eoe_switch.specs.Switch.{Flow, queue_of, queue_at, switched, first_port, first_switch}
 use Rattle.eoe_switch.specs.declared.switching.SwitchEvent.{SwitchEvent}
 use Rattle.frame_view.specs.View.{Lens}
-use Rattle.life_runs.specs.First.{lens_of, first_leads}
-use Rattle.life_runs.specs.Led.{Exchanged, Leads, IsLed}
+use Rattle.master_node.specs.of_life_runs.First.{lens_of, first_leads}
+use Rattle.master_node.specs.of_life_runs.Led.{Exchanged, Leads, IsLed}
 use Rattle.master_node.specs.Forwards.{forwarded, port_by, waiting_by}
 use Rattle.master_node.specs.Happened.{NoneWaits}
 use Rattle.master_node.specs.Ports.{ports_behind, ports_of}
@@ -27,7 +27,7 @@ use Rattle.packets_heard.proofs.Shut.{down_shut, host_empty, host_first, past_be
 use Rattle.packets_heard.specs.Recalled.{IsLanOf}
 use Rattle.packets_heard.specs.Servings.{ServedListed}
 use Rattle.segment_plan.specs.declared.plan.Scenario.{Scenario}
-use Rattle.served_runs.specs.Served.{Serves, IsServedLed, all_serve}
+use Rattle.master_node.specs.of_served_runs.Served.{Serves, IsServedLed, all_serve}
 
 -- at the port of a live slave that rests none waits
 live_none : (lens : ℕ → Lens) (l : Lan) (place : ℕ) (ms : List Recall) (as' : List Leads) (k : ℕ) → AllRest lens l place ms as' → holds_at is_live_lead as' k ≡ true → forwarded l.switch l.ports.items (place + k) ≡ []

@@ -4,22 +4,22 @@ use Rattle.std.specs.Prelude.{◌&&◌, not, if◌then◌else◌}
 use Rattle.eoe_switch.specs.declared.switching.SwitchEvent.{SwitchEvent}
 use Rattle.frame_view.specs.View.{Lens}
 use Rattle.frame_view.specs.Seen.{seen}
-use Rattle.life_runs.specs.Led.{Exchanged, Leads, Turn, IsLed, led_behind, gives_up_at}
-use Rattle.master_hand.specs.Joins.{packets_in}
+use Rattle.master_node.specs.of_life_runs.Led.{Exchanged, Leads, Turn, IsLed, led_behind, gives_up_at}
+use Rattle.master_node.specs.of_master_hand.Joins.{packets_in}
 use Rattle.master_node.specs.Arrivals.{completed_at}
 use Rattle.master_node.specs.Downs.{goes_down}
 use Rattle.master_node.specs.Happened.{arrivals_at}
 use Rattle.master_node.specs.Serving.{run_lead, run_turn}
 use Rattle.master_node.specs.Shows.{is_carried, is_live_lead, is_live_turn}
 use Rattle.master_node.proofs.Servings.{leads_same}
-use Rattle.master_tour.specs.Goes.{holds_at}
-use Rattle.master_tour.specs.Made.{is_in}
+use Rattle.master_node.specs.of_master_tour.Goes.{holds_at}
+use Rattle.master_node.specs.of_master_tour.Made.{is_in}
 use Rattle.packets_heard.specs.Heard.{Joined, joined_in, joined_on, joined_none, mails_by}
 use Rattle.segment_ring.specs.declared.wire.Fate.{Fate}
 use Rattle.segment_ring.specs.declared.wire.Fate.TheVariants.{Pass, Lost}
 use Rattle.packets_heard.specs.Listed.{downs_at, long_ones, packets_at, unfinished_of, IsOwn, packets_by, listed_behind, Listed, ListedOn}
 use Rattle.packets_heard.specs.Servings.{ServedListed, served_joined}
-use Rattle.served_runs.specs.Served.{Serves, IsServedLed, served_behind}
+use Rattle.master_node.specs.of_served_runs.Served.{Serves, IsServedLed, served_behind}
 use Rattle.packets_heard.proofs.Lives.{pass_lives, lost_carried, lost_gone, turn_lives, serving_carried, serving_gone, serving_lives, serving_pass}
 use Rattle.packets_heard.proofs.Ports.{once_if, downs_append, arrivals_append, long_append, making_downs, making_arrivals, downs_bring, arrivals_take, downs_visit, arrivals_visit}
 

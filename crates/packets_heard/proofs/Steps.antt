@@ -8,10 +8,10 @@ use Rattle.eoe_switch.specs.Switch.{switched}
 use Rattle.eoe_switch.specs.declared.switching.SwitchEvent.{SwitchEvent}
 use Rattle.frame_view.specs.Seen.{seen}
 use Rattle.frame_view.specs.View.{Lens}
-use Rattle.life_runs.specs.First.{lens_of}
-use Rattle.life_runs.specs.Led.{Exchanged, Leads, Turn}
-use Rattle.master_hand.specs.Joins.{packets_in}
-use Rattle.master_hand.specs.declared.hand.InHand.{InHand}
+use Rattle.master_node.specs.of_life_runs.First.{lens_of}
+use Rattle.master_node.specs.of_life_runs.Led.{Exchanged, Leads, Turn}
+use Rattle.master_node.specs.of_master_hand.Joins.{packets_in}
+use Rattle.master_node.specs.of_master_hand.declared.hand.InHand.{InHand}
 use Rattle.master_node.specs.Arrivals.{ComeIn, arrivals_in, arrive_by, completed_at}
 use Rattle.master_node.specs.Begins.{PacketsBegin, begins_in, begun_of, taken_in}
 use Rattle.master_node.specs.Eager.{recall_of, recalls}

@@ -4,20 +4,20 @@ use Rattle.datagrams.specs.Datagram as Raw
 use Rattle.eoe.specs.declared.joining.Unfinished.{Unfinished}
 use Rattle.frame_view.specs.View.{Lens}
 use Rattle.life_model.specs.Lives.{Life, Stand}
-use Rattle.life_runs.specs.Led.{Exchanged, Leads, Turn, AllTurn, speech_at, is_passed}
+use Rattle.master_node.specs.of_life_runs.Led.{Exchanged, Leads, Turn, AllTurn, speech_at, is_passed}
 use Rattle.link_mails.specs.Body.{Body}
 use Rattle.master_duty.specs.Reply.{Reply}
-use Rattle.master_hand.specs.Joins.{unfinished_behind}
-use Rattle.master_hand.specs.Spoken.{Asked, acknowledged, is_followed}
+use Rattle.master_node.specs.of_master_hand.Joins.{unfinished_behind}
+use Rattle.master_node.specs.of_master_hand.Spoken.{Asked, acknowledged, is_followed}
 use Rattle.master_node.specs.Joined.{IsUnfinished, HasUnfinished, JoinsKept, stand_before, stand_under, unfinished_after}
 use Rattle.master_node.specs.Serving.{run_lead, run_turn}
 use Rattle.master_node.specs.declared.node.MasterNode.{MasterNode}
 use Rattle.master_node.proofs.Counts.{next_stand}
 use Rattle.master_node.proofs.Joineds.{three_kept}
-use Rattle.master_tour.specs.Joins.{join_at}
+use Rattle.master_node.specs.of_master_tour.Joins.{join_at}
 use Rattle.packets_heard.specs.Heard.{Joined, joined_on, mails_by}
 use Rattle.packets_heard.specs.Listed.{unfinished_of}
-use Rattle.served_runs.specs.Served.{Serves, ServedTurn, AllServedTurn}
+use Rattle.master_node.specs.of_served_runs.Served.{Serves, ServedTurn, AllServedTurn}
 
 -- a frame under way leaves it as it was
 turn_stands : (lens : ℕ → Lens) (made : ℕ) (ds : List Raw.Datagram) (as' : List Leads) (us : List Turn) → AllTurn lens made ds as' us → map stand_under us ≡ map stand_before as'

@@ -4,12 +4,12 @@ use Rattle.eoe.specs.declared.joining.Unfinished.{Unfinished}
 use Rattle.frame_view.specs.View.{Lens}
 use Rattle.frame_view.specs.Seen.{seen}
 use Rattle.life_model.specs.Lives.{Stand}
-use Rattle.life_runs.specs.Led.{Exchanged, Leads, Turn, IsLed}
+use Rattle.master_node.specs.of_life_runs.Led.{Exchanged, Leads, Turn, IsLed}
 use Rattle.link_mails.specs.Body.{Body}
-use Rattle.master_hand.specs.Joins.{unfinished_behind, packets_in}
+use Rattle.master_node.specs.of_master_hand.Joins.{unfinished_behind, packets_in}
 use Rattle.master_side.specs.Heard.{joined_by}
-use Rattle.master_tour.specs.Brings.{accepted_in}
-use Rattle.master_tour.specs.Joins.{join_at}
+use Rattle.master_node.specs.of_master_tour.Brings.{accepted_in}
+use Rattle.master_node.specs.of_master_tour.Joins.{join_at}
 use Rattle.segment_ring.specs.declared.wire.Fate.{Fate}
 use Rattle.segment_ring.specs.declared.wire.Fate.TheVariants.{Pass, Lost}
 

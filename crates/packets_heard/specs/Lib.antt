@@ -1,3 +1,4 @@
+pub use Rattle.master_node.specs as of_master_node
 pub mod Heard
 pub mod Listed
 pub mod Numbers

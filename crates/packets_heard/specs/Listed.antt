@@ -6,15 +6,15 @@ use Rattle.eoe_switch.specs.declared.switching.SwitchEvent.{SwitchEvent}
 use Rattle.eoe_switch.specs.declared.switching.SwitchEvent.TheVariants.{Arrive, Begun, Down}
 use Rattle.frame_view.specs.View.{Lens}
 use Rattle.frame_view.specs.Seen.{seen}
-use Rattle.life_runs.specs.Led.{Exchanged, Leads, Turn, IsLed, led_behind, gives_up_at}
+use Rattle.master_node.specs.of_life_runs.Led.{Exchanged, Leads, Turn, IsLed, led_behind, gives_up_at}
 use Rattle.master_node.specs.Arrivals.{arrivals_in, completed_at}
 use Rattle.master_node.specs.Downs.{downs_in, goes_down}
 use Rattle.master_node.specs.Forwards.{port_by}
 use Rattle.master_node.specs.Made.{IsOfMaking}
 use Rattle.master_node.specs.Shows.{is_carried}
-use Rattle.master_tour.specs.Goes.{holds_at}
-use Rattle.master_tour.specs.Made.{is_in}
-use Rattle.master_tour.specs.Orders.{AreOnce}
+use Rattle.master_node.specs.of_master_tour.Goes.{holds_at}
+use Rattle.master_node.specs.of_master_tour.Made.{is_in}
+use Rattle.master_node.specs.of_master_tour.Orders.{AreOnce}
 use Rattle.packets_heard.specs.Heard.{Joined, joined_in}
 use Rattle.segment_ring.specs.declared.wire.Fate.{Fate}
 use Rattle.segment_ring.specs.declared.wire.Fate.TheVariants.{Pass, Lost}

@@ -3,8 +3,8 @@ use Rattle.std.specs.Prelude.{◌≡◌, ℕ, zero, suc, ◌==◌, nat_le, Bool,
 use Rattle.eoe_switch.specs.Switch.{queue_at, switched}
 use Rattle.eoe_switch.specs.declared.switching.SwitchEvent.{SwitchEvent}
 use Rattle.eoe_switch.specs.declared.switching.SwitchEvent.TheVariants.{Arrive, Begun, Down}
-use Rattle.life_runs.specs.of_frame_view.View.{Lens}
-use Rattle.life_runs.specs.Led.{Exchanged, Leads, Turn, IsLed}
+use Rattle.master_node.specs.of_life_runs.of_frame_view.View.{Lens}
+use Rattle.master_node.specs.of_life_runs.Led.{Exchanged, Leads, Turn, IsLed}
 use Rattle.master_node.specs.Begins.{begins_other, begun_of}
 use Rattle.master_node.specs.Made.{IsOfMaking}
 use Rattle.master_node.specs.Wants.{gave_of}

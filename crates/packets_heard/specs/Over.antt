@@ -4,15 +4,15 @@ use Rattle.arrayvec.specs.ArrayVec.{ArrayVec}
 use Rattle.eoe_switch.specs.Switch.{switched}
 use Rattle.eoe_switch.specs.declared.switching.SwitchEvent.{SwitchEvent}
 use Rattle.eoe_switch.specs.declared.switching.SwitchEvent.TheVariants.{Arrive, Begun, Down}
-use Rattle.life_runs.specs.of_frame_view.View.{Lens}
-use Rattle.life_runs.specs.Led.{Exchanged, Leads, Turn, IsLed}
-use Rattle.master_hand.specs.of_eoe_model.Client as EoeClient
-use Rattle.master_hand.specs.Spoken.{Asked, sdo, file, drive, net, passed}
+use Rattle.master_node.specs.of_life_runs.of_frame_view.View.{Lens}
+use Rattle.master_node.specs.of_life_runs.Led.{Exchanged, Leads, Turn, IsLed}
+use Rattle.master_node.specs.of_master_hand.of_eoe_model.Client as EoeClient
+use Rattle.master_node.specs.of_master_hand.Spoken.{Asked, sdo, file, drive, net, passed}
 use Rattle.master_node.specs.Begins.{begins_by, begins_in, begins_other, begun_of, taken_in}
 use Rattle.master_node.specs.Forwards.{port_by, waiting_by}
-use Rattle.life_runs.specs.of_life_frames.of_state_exchange.Stated.{Service}
-use Rattle.master_tour.specs.Made.{is_in}
-use Rattle.master_tour.specs.Orders.{AreOnce}
+use Rattle.master_node.specs.of_life_runs.of_life_frames.of_state_exchange.Stated.{Service}
+use Rattle.master_node.specs.of_master_tour.Made.{is_in}
+use Rattle.master_node.specs.of_master_tour.Orders.{AreOnce}
 
 -- how often a packet begins at a port by an event
 abbrev pub begun_by_event : ℕ → SwitchEvent → ℕ

@@ -4,8 +4,8 @@ use Rattle.std.specs.List.{list_any}
 use Rattle.eoe_switch.specs.Switch.{switched}
 use Rattle.eoe_switch.specs.declared.switching.SwitchEvent.{SwitchEvent}
 use Rattle.eoe_switch.specs.declared.switching.SwitchEvent.TheVariants.{Arrive, Begun, Down}
-use Rattle.life_runs.specs.First.{lens_of, first_leads}
-use Rattle.life_runs.specs.Led.{Exchanged, Leads, Turn}
+use Rattle.master_node.specs.of_life_runs.First.{lens_of, first_leads}
+use Rattle.master_node.specs.of_life_runs.Led.{Exchanged, Leads, Turn}
 use Rattle.master_node.specs.Begins.{begins_by, begins_in, begun_of, taken_in}
 use Rattle.master_node.specs.Eager.{AllTakeUp, AllVisit}
 use Rattle.master_node.specs.Joined.{mails_back}
@@ -26,8 +26,8 @@ use Rattle.master_side.specs.Recall.{Recall}
 use Rattle.segment_plan.specs.declared.plan.Scenario.{Scenario}
 use Rattle.segment_ring.specs.Ring.{RingState, ring_behind}
 use Rattle.segment_ring.specs.declared.wire.Fate.TheVariants.{Pass, Lost}
-use Rattle.slave_node.specs.of_slave_steps.Node.{Node, node_passed, is_settled}
-use Rattle.slave_node.specs.of_slave_steps.Step.{pdi_step}
+use Rattle.slave_server.specs.of_slave_node.of_slave_steps.Node.{Node, node_passed, is_settled}
+use Rattle.slave_server.specs.of_slave_node.of_slave_steps.Step.{pdi_step}
 use Rattle.slave_server.specs.Serving.{Serving, takes, next_mail, rest, cleared}
 use Rattle.slave_server.specs.Spec.{node_of}
 use Rattle.packets_heard.specs.Toured.{IsToured}

@@ -1,7 +1,7 @@
 -- A SERVING OF ONE TOUR, with what its master remembers of its slaves' visits and what happens at its switch, frame by frame.
 use Rattle.std.specs.Prelude.{◌≡◌, ℕ, true, List, [], ◌++◌, length, map}
-use Rattle.life_runs.specs.First.{lens_of, first_leads}
-use Rattle.life_runs.specs.Led.{Exchanged, gives_up_at}
+use Rattle.master_node.specs.of_life_runs.First.{lens_of, first_leads}
+use Rattle.master_node.specs.of_life_runs.Led.{Exchanged, gives_up_at}
 use Rattle.master_node.specs.Eager.{AllTakeUp}
 use Rattle.master_node.specs.ServedEager.{AllServedAsk, AllServedBegin, AllServedRecall, AllServedRest, AllServedStill}
 use Rattle.master_node.specs.Serving.{run_lead, run_turn}
@@ -12,8 +12,8 @@ use Rattle.master_node.specs.of_master_tour.Toured.{Tour}
 use Rattle.segment_plan.specs.declared.plan.Scenario.{Scenario}
 use Rattle.segment_ring.specs.Ring.{ring_behind}
 use Rattle.segment_ring.specs.declared.wire.Fate.TheVariants.{Pass, Lost}
-use Rattle.served_runs.specs.Served.{Serves, ServedTurn, all_serve, served_behind}
-use Rattle.slave_node.specs.of_slave_steps.Node.{node_passed}
+use Rattle.master_node.specs.of_served_runs.Served.{Serves, ServedTurn, all_serve, served_behind}
+use Rattle.slave_server.specs.of_slave_node.of_slave_steps.Node.{node_passed}
 use Rattle.packets_heard.specs.Recalled.{AllSettled, AtSwitch, IsFirst, IsLanOf, State, has_entered, stepped}
 use Rattle.packets_heard.specs.Served.{IsTourServed}
 

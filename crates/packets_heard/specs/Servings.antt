@@ -2,15 +2,15 @@
 use Rattle.std.specs.Prelude.{◌≡◌, ℕ, Option, List, [], ◌++◌, map, length}
 use Rattle.arrayvec.specs.ArrayVec.{ArrayVec}
 use Rattle.eoe_switch.specs.declared.switching.SwitchEvent.{SwitchEvent}
-use Rattle.life_runs.specs.of_frame_view.View.{Lens}
-use Rattle.life_runs.specs.Led.{Exchanged, gives_up_at}
+use Rattle.master_node.specs.of_life_runs.of_frame_view.View.{Lens}
+use Rattle.master_node.specs.of_life_runs.Led.{Exchanged, gives_up_at}
 use Rattle.master_node.specs.Begins.{begins_other, begun_of}
 use Rattle.master_node.specs.Serving.{run_lead, run_turn}
 use Rattle.packets_heard.specs.Heard.{Joined, Times, joined_none, joined_on, times_none, times_on}
 use Rattle.packets_heard.specs.Listed.{ListedOn, long_ones, packets_by}
 use Rattle.packets_heard.specs.Numbers.{NumberedOn, each_with, frame_where}
 use Rattle.packets_heard.specs.Over.{BegunOn, packet_begun}
-use Rattle.served_runs.specs.Served.{Serves, IsServedLed, served_behind}
+use Rattle.master_node.specs.of_served_runs.Served.{Serves, IsServedLed, served_behind}
 
 module _ {lens : ℕ → Lens} {recover retry : ℕ} {first : List Serves} where
   -- a slave's packets, as its master joins them

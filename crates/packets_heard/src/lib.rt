@@ -6,13 +6,13 @@ ghost use Rattle.eoe.specs.declared.message.Fragment.{Fragment};
 ghost use Rattle.exchange_model.specs.Prefix.{IsPrefixOf};
 ghost use Rattle.frame_view.specs.View.{Lens};
 ghost use Rattle.life_frames.specs.Shares.{AllBoth};
-ghost use Rattle.life_runs.specs.Led.{Exchanged, Leads, Turn, IsLed, IsLedFrame};
+ghost use Rattle.master_node.specs.of_life_runs.Led.{Exchanged, Leads, Turn, IsLed, IsLedFrame};
 ghost use Rattle.link_mails.specs.Body.{Body};
-ghost use Rattle.master_hand.specs.Joins.{fragment_in, packets_in};
+ghost use Rattle.master_node.specs.of_master_hand.Joins.{fragment_in, packets_in};
 ghost use Rattle.packet_model.specs.Packets.{Emitted, ArePackets, all_fragments, octets_of, parts};
 ghost use Rattle.packets_heard.specs.Heard.{IsJoined, times_in, joined_in, joined_on};
 ghost use Rattle.packets_heard.specs.Servings.{served_joined, served_times};
-ghost use Rattle.served_runs.specs.Served.{Serves, IsServedLed};
+ghost use Rattle.master_node.specs.of_served_runs.Served.{Serves, IsServedLed};
 ghost use Rattle.std.specs.Prelude.{◌≡◌, ◌≤◌, ◌++◌, ℕ, None, List, length};
 
 pub mod packets_begun;

@@ -4,10 +4,10 @@ ghost use Rattle.std.specs.Prelude.{◌≡◌, ◌<◌, ◌++◌, ◌∷◌, ℕ
 ghost use Rattle.arrayvec.specs.ArrayVec.{ArrayVec};
 ghost use Rattle.eoe_switch.specs.Switch.{switched};
 ghost use Rattle.eoe_switch.specs.declared.switching.SwitchEvent.{SwitchEvent};
-ghost use Rattle.life_runs.specs.of_frame_view.View.{Lens};
-ghost use Rattle.life_runs.specs.of_segment_plan.declared.plan.Scenario.{Scenario};
-ghost use Rattle.life_runs.specs.First.{first_leads};
-ghost use Rattle.life_runs.specs.Led.{Exchanged, Leads, Turn, IsLed, IsLedFrame};
+ghost use Rattle.master_node.specs.of_life_runs.of_frame_view.View.{Lens};
+ghost use Rattle.master_node.specs.of_life_runs.of_segment_plan.declared.plan.Scenario.{Scenario};
+ghost use Rattle.master_node.specs.of_life_runs.First.{first_leads};
+ghost use Rattle.master_node.specs.of_life_runs.Led.{Exchanged, Leads, Turn, IsLed, IsLedFrame};
 ghost use Rattle.master_node.specs.Arrivals.{ComeIn};
 ghost use Rattle.master_node.specs.Begins.{PacketsBegin};
 ghost use Rattle.master_node.specs.Downs.{GoDown};
@@ -16,12 +16,12 @@ ghost use Rattle.master_node.specs.Made.{AreOfMaking};
 ghost use Rattle.master_node.specs.Serving.{run_turn};
 ghost use Rattle.master_node.specs.Shows.{is_live_lead};
 ghost use Rattle.master_node.specs.declared.node.MasterNode.{MasterNode};
-ghost use Rattle.master_tour.specs.Goes.{holds_at};
+ghost use Rattle.master_node.specs.of_master_tour.Goes.{holds_at};
 ghost use Rattle.packets_heard.specs.Numbers.{NoneWaits, Numbered, begins, comes_in, each_with, events_up_to, frames_begun, frames_heard, frames_other, given_up_at, goes, number_behind, numbers_where};
 ghost use Rattle.packets_heard.specs.Over.{AreBegun, begun_at, forwarded_to, packets_begun};
 ghost use Rattle.packets_heard.specs.Listed.{IsOwn, Listed};
 ghost use Rattle.packets_heard.specs.Servings.{AreServedBegun, ServedListed, ServedNumbered, served_begun, served_completed, served_other, served_packets};
-ghost use Rattle.served_runs.specs.Served.{Serves, ServedTurn, IsServedFrame, IsServedLed};
+ghost use Rattle.master_node.specs.of_served_runs.Served.{Serves, ServedTurn, IsServedFrame, IsServedLed};
 ghost use Rattle.segment_ring.specs.declared.wire.Fate.{Fate};
 
 /// WHERE JUST THE PACKETS BEGIN THAT CAME INTO HAND, frame by frame, each the oldest at the port of its slave, over a run: at a port as many packets begin as came

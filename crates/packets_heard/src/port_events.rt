@@ -6,7 +6,7 @@ ghost use Rattle.eoe.specs.declared.joining.Unfinished.{Unfinished};
 ghost use Rattle.eoe_switch.specs.declared.switching.SwitchEvent.{SwitchEvent};
 ghost use Rattle.frame_view.specs.View.{Lens};
 ghost use Rattle.frame_view.specs.Seen.{seen};
-ghost use Rattle.life_runs.specs.Led.{Exchanged, Leads, Turn, AllTurn, IsLed, IsLedFrame, led_behind, gives_up_at};
+ghost use Rattle.master_node.specs.of_life_runs.Led.{Exchanged, Leads, Turn, AllTurn, IsLed, IsLedFrame, led_behind, gives_up_at};
 ghost use Rattle.master_node.specs.Arrivals.{completed_at, ComeIn};
 ghost use Rattle.master_node.specs.Downs.{GoDown};
 ghost use Rattle.master_node.specs.Made.{AreOfMaking};
@@ -18,16 +18,16 @@ ghost use Rattle.master_node.specs.Joined.{HasUnfinished, JoinsKept, stand_befor
 ghost use Rattle.master_node.specs.Serving.{run_lead, run_turn};
 ghost use Rattle.master_node.specs.Toured.{turn_share};
 ghost use Rattle.master_node.specs.declared.node.MasterNode.{MasterNode};
-ghost use Rattle.master_tour.specs.Goes.{holds_at};
-ghost use Rattle.master_tour.specs.Orders.{AreOnce};
-ghost use Rattle.master_tour.specs.Toured.{Tour, IsOfTour};
+ghost use Rattle.master_node.specs.of_master_tour.Goes.{holds_at};
+ghost use Rattle.master_node.specs.of_master_tour.Orders.{AreOnce};
+ghost use Rattle.master_node.specs.of_master_tour.Toured.{Tour, IsOfTour};
 ghost use Rattle.segment_model.specs.Returned.{Returns};
 ghost use Rattle.segment_plan.specs.declared.slave.SlaveSpec.{SlaveSpec};
 ghost use Rattle.segment_ring.specs.declared.wire.Fate.{Fate};
 ghost use Rattle.packets_heard.specs.Heard.{Joined, joined_in, joined_on, mails_by};
 ghost use Rattle.packets_heard.specs.Listed.{CarriesAll, IsOwn, Listed, downs_at, long_ones, packets_at, packets_by, unfinished_of};
 ghost use Rattle.packets_heard.specs.Servings.{ServedListed, served_joined};
-ghost use Rattle.served_runs.specs.Served.{Serves, ServedTurn, AllServedTurn, IsServedFrame, IsServedLed, served_behind};
+ghost use Rattle.master_node.specs.of_served_runs.Served.{Serves, ServedTurn, AllServedTurn, IsServedFrame, IsServedLed, served_behind};
 
 /// WHERE A MASTER'S STEPS LIST JUST THIS of the switch, over a run: the port of a slave that was live at its begin went down once if the slave was given
 /// up for good, and else not; and the packets that came in there are just those that the mails accepted of this slave complete, in order, each whole. A frame carries

@@ -1,8 +1,8 @@
 -- What a slave answers by a frame that came back.
 use Rattle.std.proofs.Common.{◌≡◌, ◌+◌, ◌%◌, ◌==◌, ◌&&◌, Bool, true, false, Option, Some, List, [], ◌∷◌, refl, sym, ap, ap₂, ◌∙◌, subst}
 use Rattle.frame_view.specs.Seen.{seen}
-use Rattle.frames_seen.specs.Own.{own_seen}
-use Rattle.frames_seen.specs.Slaves.{registers_seen, slave_of}
+use Rattle.whole_ring.specs.of_frames_seen.Own.{own_seen}
+use Rattle.whole_ring.specs.of_frames_seen.Slaves.{registers_seen, slave_of}
 use Rattle.plan_ring.specs.SlaveAsked.{AllAsk, AllMet, AllRead}
 use Rattle.plan_ring.proofs.Answers.{just_one}
 use Rattle.life_measure.specs.Repairs.{awaits_at, awaited}
@@ -19,9 +19,9 @@ use Rattle.run_frames.specs.Answers.{EachAsks, EachAnswers, OpeningAnswers}
 use Rattle.segment_model.specs.Record.{Frame, News}
 use Rattle.segment_model.specs.Slaves.{Datagram, Found, Slave, grams}
 use Rattle.segment_ring.specs.declared.wire.Fate.TheVariants.{Pass}
-use Rattle.slave_lives.specs.Lived.{Behind, RingFrame, LivesEra, fate_of, frame_of}
-use Rattle.slave_lives.specs.Opening.{Plan}
-use Rattle.slave_lives.specs.Stands.{Closing}
+use Rattle.whole_ring.specs.of_slave_lives.Lived.{Behind, RingFrame, LivesEra, fate_of, frame_of}
+use Rattle.whole_ring.specs.of_slave_lives.Opening.{Plan}
+use Rattle.whole_ring.specs.of_slave_lives.Stands.{Closing}
 use Rattle.steps_shown.specs.Shown.{StandsFor}
 use Rattle.steps_shown.proofs.Standing.{access_shows}
 use Rattle.task_model.specs.Accounts.{Pick}

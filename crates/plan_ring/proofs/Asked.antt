@@ -1,14 +1,14 @@
 -- A SLAVE'S SERVICES BY THE MASTER'S NAMES are such as the laws of lives speak of.
 use Rattle.std.proofs.Common.{◌≡◌, ℕ, ◌&&◌, Bool, true, false, List, refl, ap, sym, ◌∙◌}
 use Rattle.std.specs.Prelude.{if◌then◌else◌, None, option_map}
-use Rattle.life_runs.specs.of_frame_view.View.{Lens}
-use Rattle.life_runs.specs.of_link_mails.Body.{Body}
+use Rattle.run_frames.specs.of_life_runs.of_frame_view.View.{Lens}
+use Rattle.run_frames.specs.of_life_runs.of_link_mails.Body.{Body}
 use Rattle.exchange_model.specs.Exchange.{Exchange, IsLawful}
 use Rattle.plan_ring.proofs.Named.{named_law}
 use Rattle.slave_parts.specs.of_exchange_sum.Refusing.{Refusal, gated}
 use Rattle.slave_parts.specs.of_foe_model.Meaning as FoeMeaning
 use Rattle.slave_parts.specs.of_eoe_model.Network.{Station}
-use Rattle.life_runs.specs.of_master_hand.Spoken.{Asked, sdo, file, drive, net, passed, hand_speech, acknowledged}
+use Rattle.run_frames.specs.of_life_runs.of_master_hand.Spoken.{Asked, sdo, file, drive, net, passed, hand_speech, acknowledged}
 use Rattle.slave_parts.specs.of_state_exchange.Families.{InState, states_of}
 use Rattle.slave_parts.specs.of_slave_model.Acknowledged as Slave
 use Rattle.slave_parts.specs.of_slave_model.Product.{product, served, refusal, side}

@@ -4,7 +4,7 @@ use Rattle.datagrams.specs.Datagram as Raw
 use Rattle.datagrams.specs.Frame.{IsFrame, chained}
 use Rattle.frame_view.specs.Seen.{seen}
 use Rattle.frame_view.specs.View.{Lens}
-use Rattle.life_frames.specs.Shares.{came_at, Asked as FrameHas}
+use Rattle.master_tour.specs.of_life_frames.Shares.{came_at, Asked as FrameHas}
 use Rattle.life_measure.specs.Repairs.{way_of}
 use Rattle.life_model.specs.Lives.{Spot, Life, Era, Opening, Stand, life_next}
 use Rattle.life_model.specs.Own.{own}
@@ -18,11 +18,11 @@ use Rattle.segment_ring.specs.declared.wire.Fate.TheVariants.{Pass}
 use Rattle.plan_ring.specs.Stands.{StandsTo, CameFirst}
 use Rattle.plan_ring.proofs.Answering as Answering
 use Rattle.plan_ring.proofs.SlaveTurns as Clocks
-use Rattle.slave_lives.specs.Lived.{Behind, RingFrame, node_behind, frame_of}
-use Rattle.slave_lives.specs.Rings.{come_to, fate_seen, is_met_at, met, turned}
-use Rattle.slave_lives.specs.Seats.{AllMeet}
-use Rattle.slave_lives.proofs.AllSeats.{all_meet_first}
-use Rattle.slave_steps.specs.Node.{Node, node_passed}
+use Rattle.whole_ring.specs.of_slave_lives.Lived.{Behind, RingFrame, node_behind, frame_of}
+use Rattle.whole_ring.specs.of_slave_lives.Rings.{come_to, fate_seen, is_met_at, met, turned}
+use Rattle.whole_ring.specs.of_slave_lives.Seats.{AllMeet}
+use Rattle.whole_ring.proofs.of_slave_lives.AllSeats.{all_meet_first}
+use Rattle.whole_ring.specs.of_slave_steps.Node.{Node, node_passed}
 use Rattle.whole_ring.specs.Turns as Whole
 use Rattle.whole_ring.specs.Whole.{StandsAs}
 use Rattle.whole_ring.specs.Members.{Member, MemberIs, AllLived, IsRing}

@@ -8,12 +8,12 @@ use Rattle.exchange_model.specs.Exchange.{emitted, plain}
 use Rattle.exchange_model.specs.Prefix.{IsPrefixOf}
 use Rattle.segment_model.specs.Record.{Frame, heard}
 use Rattle.segment_model.specs.Slaves.{Registers, Slave}
-use Rattle.slave_lives.specs.Ends.{LeftEra, LeftEras}
-use Rattle.slave_lives.specs.Lived.{Behind, table_of, node_seen, LivesEra}
-use Rattle.slave_lives.specs.Opening.{Plan}
-use Rattle.slave_lives.specs.Stands.{opening_again}
-use Rattle.slave_lives.proofs.EraEnds as Ends
-use Rattle.slave_steps.specs.Node.{Node}
+use Rattle.whole_ring.specs.of_slave_lives.Ends.{LeftEra, LeftEras}
+use Rattle.whole_ring.specs.of_slave_lives.Lived.{Behind, table_of, node_seen, LivesEra}
+use Rattle.whole_ring.specs.of_slave_lives.Opening.{Plan}
+use Rattle.whole_ring.specs.of_slave_lives.Stands.{opening_again}
+use Rattle.whole_ring.proofs.of_slave_lives.EraEnds as Ends
+use Rattle.whole_ring.specs.of_slave_steps.Node.{Node}
 use Rattle.state_exchange.specs.Stated.{mails, with_states}
 use Rattle.task_model.specs.Promise.{TasksPromised, TasksAnswered, TasksRestIf, services_in}
 use Rattle.task_model.proofs.Sessions.{of_slaves, tasks_promised, tasks_rest, tasks_answered}

@@ -8,7 +8,7 @@ use Rattle.life_model.specs.Lives.{Spot, Era}
 use Rattle.link_model.specs.Frames.{IsFrameFor, all_accepted}
 use Rattle.link_model.specs.Segment.{RingFate}
 use Rattle.link_model.proofs.Law.{accepted_of_offered}
-use Rattle.master_side.specs.Due.{IsDue, EachDue}
+use Rattle.master_tour.specs.of_master_side.Due.{IsDue, EachDue}
 use Rattle.segment_model.specs.Record.{Frame}
 use Rattle.segment_model.specs.Seats.{Seat, link_of, seat_next, seat_back}
 use Rattle.segment_model.specs.Slaves.{Datagram, Processor, Registers, Slave, grams, frame_after}

@@ -4,15 +4,15 @@ use Rattle.std.proofs.lemmas.List.{length-map, map-append}
 use Rattle.datagrams.specs.Frame.{chained}
 use Rattle.frame_view.specs.Seen.{seen}
 use Rattle.frame_view.specs.View.{Lens}
-use Rattle.life_frames.specs.Shares.{Lived}
+use Rattle.master_tour.specs.of_life_frames.Shares.{Lived}
 use Rattle.life_model.specs.Lives.{Stand}
 use Rattle.life_model.specs.Own.{own}
-use Rattle.life_runs.specs.First.{lens_of}
-use Rattle.life_runs.specs.Led as Led
-use Rattle.life_runs.specs.Led.{Exchanged, Leads, Turn, IsLedFrame, AllTurn, is_passed, speech_at, gives_up_at}
+use Rattle.run_frames.specs.of_life_runs.First.{lens_of}
+use Rattle.run_frames.specs.of_life_runs.Led as Led
+use Rattle.run_frames.specs.of_life_runs.Led.{Exchanged, Leads, Turn, IsLedFrame, AllTurn, is_passed, speech_at, gives_up_at}
 use Rattle.link_mails.specs.Body.{Body}
 use Rattle.master_duty.specs.Reply.{Reply}
-use Rattle.master_hand.specs.Spoken.{Asked, acknowledged, is_followed}
+use Rattle.run_frames.specs.of_master_hand.Spoken.{Asked, acknowledged, is_followed}
 use Rattle.plan_ring.specs.Lives.{IsKnown, AreLived}
 use Rattle.plan_ring.specs.Master.{AllLed, AllUnder, AllSame, AllBehind}
 use Rattle.plan_ring.specs.Plan.{PlanMember, FitsPlan, step}
@@ -28,15 +28,15 @@ use Rattle.run_frames.specs.Led.{AreLed, unders, behind_lost, behind_back}
 use Rattle.run_frames.proofs.Leading.{SeenIs, all_led_lost, all_led_back}
 use Rattle.segment_model.specs.Record.{Frame}
 use Rattle.segment_model.specs.Slaves.{Datagram}
-use Rattle.segment_plan.specs.Sound as Plan
-use Rattle.segment_plan.specs.declared.plan.Scenario.{Scenario}
+use Rattle.scenario.specs.of_segment_plan.Sound as Plan
+use Rattle.scenario.specs.of_segment_plan.declared.plan.Scenario.{Scenario}
 use Rattle.segment_ring.specs.Ring.{RingState, ring_behind}
 use Rattle.segment_ring.specs.Schedule.{fate_at}
 use Rattle.segment_ring.specs.declared.wire.Fate.{Fate}
 use Rattle.segment_ring.specs.declared.wire.Fate.TheVariants.{Pass, Lost}
-use Rattle.slave_lives.specs.Rings.{fate_seen}
+use Rattle.whole_ring.specs.of_slave_lives.Rings.{fate_seen}
 use Rattle.slave_server.specs.Serving.{Serving}
-use Rattle.slave_steps.specs.Node.{Node, node_passed}
+use Rattle.whole_ring.specs.of_slave_steps.Node.{Node, node_passed}
 use Rattle.whole_ring.specs.Members.{IsRing}
 use Rattle.whole_ring.specs.Turning as Whole
 use Rattle.whole_ring.specs.Turning.{frame_at, behind_frame, given_up, next_life}

@@ -9,11 +9,11 @@ use Rattle.exchange_model.specs.Exchange.{Speech}
 use Rattle.frame_pass.specs.Passing.{registers_after, datagrams_after}
 use Rattle.frame_view.specs.Seen.{seen, datagrams_seen}
 use Rattle.frame_view.specs.View.{Lens, station_of}
-use Rattle.frames_seen.specs.Own.{own_of, own_seen, is_to, IsAlone}
-use Rattle.frames_seen.specs.Ring.{AllApart, IsRingMet}
-use Rattle.frames_seen.specs.Slaves.{registers_seen, slave_of}
-use Rattle.frames_seen.specs.Spoken.{AllSpoken}
-use Rattle.frames_seen.proofs.Rings as FrameRings
+use Rattle.whole_ring.specs.of_frames_seen.Own.{own_of, own_seen, is_to, IsAlone}
+use Rattle.whole_ring.specs.of_frames_seen.Ring.{AllApart, IsRingMet}
+use Rattle.whole_ring.specs.of_frames_seen.Slaves.{registers_seen, slave_of}
+use Rattle.whole_ring.specs.of_frames_seen.Spoken.{AllSpoken}
+use Rattle.whole_ring.proofs.of_frames_seen.Rings as FrameRings
 use Rattle.plan_ring.specs.SlaveAsked.{AllHere, IsAsked, GoesOn}
 use Rattle.plan_ring.proofs.Goes.{all_back, all_lost, all_unmet, first}
 use Rattle.life_model.specs.Eras.{Clearing}
@@ -34,13 +34,13 @@ use Rattle.segment_ring.specs.declared.wire.Fate.{Fate}
 use Rattle.segment_ring.specs.declared.wire.Fate.TheVariants.{Pass, Lost}
 use Rattle.run_frames.specs.Goes.{stepped_behind}
 use Rattle.run_frames.proofs.Access.{begins_same, holds_same}
-use Rattle.slave_lives.specs.Lived.{Behind, RingFrame, LivesEra, fate_of, is_reached, node_met, node_behind, frame_of, returned, IsForOpen}
-use Rattle.slave_lives.specs.Nodes.{stepped}
-use Rattle.slave_lives.specs.Opening.{Plan}
-use Rattle.slave_lives.specs.Rings.{registers_of, come_to, come_back, met, is_met_at, fate_seen}
-use Rattle.slave_lives.proofs.Owned.{own_is}
-use Rattle.slave_lives.proofs.RingFrames.{met_runs}
-use Rattle.slave_lives.proofs.RingLives.{sent_is, back_is}
+use Rattle.whole_ring.specs.of_slave_lives.Lived.{Behind, RingFrame, LivesEra, fate_of, is_reached, node_met, node_behind, frame_of, returned, IsForOpen}
+use Rattle.whole_ring.specs.of_slave_lives.Nodes.{stepped}
+use Rattle.whole_ring.specs.of_slave_lives.Opening.{Plan}
+use Rattle.whole_ring.specs.of_slave_lives.Rings.{registers_of, come_to, come_back, met, is_met_at, fate_seen}
+use Rattle.whole_ring.proofs.of_slave_lives.Owned.{own_is}
+use Rattle.whole_ring.proofs.of_slave_lives.RingFrames.{met_runs}
+use Rattle.whole_ring.proofs.of_slave_lives.RingLives.{sent_is, back_is}
 use Rattle.steps_shown.proofs.Asking.{acknowledges}
 use Rattle.task_model.specs.Accounts.{Pick, mails_choice}
 use Rattle.whole_ring.specs.Turns.{FrameComes, era_before, era_behind}

@@ -5,11 +5,11 @@ use Rattle.std.proofs.lemmas.Bool.{eqb-true}
 use Rattle.std.proofs.lemmas.List.Elements.{All-nil, All-head, All-tail, All-cons, All-get_or}
 use Rattle.std.proofs.lemmas.Option.{slice_get_read, slice_get_within, get_or_from_slice_get}
 use Rattle.std.proofs.Math.Seq.{get_or-append_seam}
-use Rattle.life_runs.specs.First.{script_for}
+use Rattle.run_frames.specs.of_life_runs.First.{script_for}
 use Rattle.plan_ring.specs.Plan.{AllMacs}
-use Rattle.life_runs.specs.of_segment_plan.Sound.{IsAddressed, IsService, is_target}
-use Rattle.life_runs.specs.of_segment_plan.declared.service.Service as Plan
-use Rattle.life_runs.specs.of_segment_plan.declared.slave.SlaveSpec.{SlaveSpec}
+use Rattle.run_frames.specs.of_life_runs.of_segment_plan.Sound.{IsAddressed, IsService, is_target}
+use Rattle.run_frames.specs.of_life_runs.of_segment_plan.declared.service.Service as Plan
+use Rattle.run_frames.specs.of_life_runs.of_segment_plan.declared.slave.SlaveSpec.{SlaveSpec}
 use Rattle.plan_ring.specs.Lives.{StateFits, RowFits}
 
 -- a state service of a script asks for Bootstrap, as AL control has it, only where the slave has that

@@ -1,3 +1,5 @@
+pub use Rattle.run_frames.proofs as of_run_frames
+pub use Rattle.whole_ring.proofs as of_whole_ring
 pub use Rattle.slave_server.proofs as of_slave_server
 pub mod Alike
 pub mod All

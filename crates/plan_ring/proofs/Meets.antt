@@ -4,14 +4,14 @@ use Rattle.std.proofs.lemmas.List.{length-map}
 use Rattle.datagrams.specs.Frame.{chained}
 use Rattle.frame_view.specs.Seen.{seen}
 use Rattle.frame_view.specs.View.{Lens}
-use Rattle.life_frames.specs.Shares.{Lived}
+use Rattle.master_tour.specs.of_life_frames.Shares.{Lived}
 use Rattle.life_model.specs.Lives.{Spot}
 use Rattle.life_model.specs.Own.{own}
-use Rattle.life_runs.specs.First.{lens_of}
-use Rattle.life_runs.specs.Led.{Exchanged, Leads, Turn, IsLedFrame, is_passed}
+use Rattle.run_frames.specs.of_life_runs.First.{lens_of}
+use Rattle.run_frames.specs.of_life_runs.Led.{Exchanged, Leads, Turn, IsLedFrame, is_passed}
 use Rattle.link_mails.specs.Body.{Body}
 use Rattle.master_duty.specs.Reply.{Reply}
-use Rattle.master_hand.specs.Spoken.{Asked, is_followed}
+use Rattle.run_frames.specs.of_master_hand.Spoken.{Asked, is_followed}
 use Rattle.plan_ring.specs.Met.{OpenMet, AllOpenMet}
 use Rattle.plan_ring.proofs.OpenEach.{each_met}
 use Rattle.plan_ring.specs.Asked.{asked}
@@ -26,18 +26,18 @@ use Rattle.plan_ring.proofs.Turns.{under_of, all_under}
 use Rattle.plan_ring.proofs.Each.{meets}
 use Rattle.segment_model.specs.Record.{Frame}
 use Rattle.segment_model.specs.Slaves.{Datagram, slave_after, slave_steps, frame_after}
-use Rattle.segment_plan.specs.Sound as Plan
-use Rattle.segment_plan.specs.declared.plan.Scenario.{Scenario}
-use Rattle.segment_plan.specs.declared.slave.SlaveSpec.{SlaveSpec}
+use Rattle.scenario.specs.of_segment_plan.Sound as Plan
+use Rattle.scenario.specs.of_segment_plan.declared.plan.Scenario.{Scenario}
+use Rattle.scenario.specs.of_segment_plan.declared.slave.SlaveSpec.{SlaveSpec}
 use Rattle.segment_ring.specs.Ring.{RingState, ring_returned, is_in_pace}
 use Rattle.segment_ring.specs.Schedule.{fate_at}
 use Rattle.segment_ring.specs.declared.wire.Fate.TheVariants.{Pass}
-use Rattle.slave_lives.specs.Lived.{Behind, node_seen}
+use Rattle.whole_ring.specs.of_slave_lives.Lived.{Behind, node_seen}
 use Rattle.slave_parts.specs.Parts.{Core, Server}
 use Rattle.slave_parts.specs.of_eoe_model.Network.{Station}
 use Rattle.slave_server.specs.Serving.{Serving}
 use Rattle.slave_server.specs.Spec.{profile_of}
-use Rattle.slave_steps.specs.Node.{Node, node_passed}
+use Rattle.whole_ring.specs.of_slave_steps.Node.{Node, node_passed}
 use Rattle.state_exchange.specs.Families.{InState}
 use Rattle.whole_ring.specs.Turning as Whole
 use Rattle.whole_ring.specs.Turning.{frame_at, behind_frame}

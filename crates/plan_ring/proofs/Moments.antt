@@ -10,7 +10,7 @@ use Rattle.exchange_model.proofs.Settles.{settled_ready}
 use Rattle.exchange_model.proofs.Words.{plain-append, plain_given-append}
 use Rattle.never_waits.specs.Hears.{HearsFirst}
 use Rattle.never_waits.proofs.HearsDialogues.{drop_none, not_none}
-use Rattle.master_side.specs.Due.{IsReply}
+use Rattle.master_tour.specs.of_master_side.Due.{IsReply}
 
 -- nothing is left further on either
 drop_further : {X : Type 0} (xs ys l : List X) → drop (length xs) l ≡ [] → drop (length (xs ++ ys)) l ≡ []

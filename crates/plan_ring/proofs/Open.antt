@@ -5,11 +5,11 @@ use Rattle.ec_fields.specs.Fields.{bits_of}
 use Rattle.esc_registers.specs.declared.registers.Registers as Esc
 use Rattle.frame_pass.specs.Passing.{registers_after, datagrams_after}
 use Rattle.frame_view.specs.Seen.{seen}
-use Rattle.frames_seen.specs.Kept.{FrameKeeps}
-use Rattle.frames_seen.specs.Own.{own_of, own_seen, IsAlone}
-use Rattle.frames_seen.specs.Ring.{AllApart, IsRingMet}
-use Rattle.frames_seen.specs.Slaves.{registers_seen, slave_of}
-use Rattle.frames_seen.specs.Spoken.{AllSpoken}
+use Rattle.whole_ring.specs.of_frames_seen.Kept.{FrameKeeps}
+use Rattle.whole_ring.specs.of_frames_seen.Own.{own_of, own_seen, IsAlone}
+use Rattle.whole_ring.specs.of_frames_seen.Ring.{AllApart, IsRingMet}
+use Rattle.whole_ring.specs.of_frames_seen.Slaves.{registers_seen, slave_of}
+use Rattle.whole_ring.specs.of_frames_seen.Spoken.{AllSpoken}
 use Rattle.life_model.specs.Eras.{Clearing}
 use Rattle.life_model.specs.Lives.{Spot, Era, AsksOpen, Stand, granted}
 use Rattle.life_model.specs.Own.{own}
@@ -21,17 +21,17 @@ use Rattle.segment_ring.specs.Ring.{is_in_pace}
 use Rattle.segment_ring.specs.declared.wire.Fate.{Fate}
 use Rattle.segment_ring.specs.declared.wire.Fate.TheVariants.{Pass, Lost}
 use Rattle.plan_ring.proofs.Halves.{mine_is, back_mine, ring_met}
-use Rattle.slave_lives.specs.Lived.{Behind, RingFrame, LivesEra, IsForOpen, fate_of, is_reached, node_behind, frame_of, node_seen}
-use Rattle.slave_lives.specs.Nodes.{IsRoomy, stepped}
-use Rattle.slave_lives.specs.Opening.{Plan}
-use Rattle.slave_lives.specs.Rings.{registers_of, come_to, met, is_among, is_met_at}
-use Rattle.slave_lives.specs.Steps.{word_carried}
-use Rattle.slave_lives.proofs.EraFrames.{lives_on}
-use Rattle.slave_lives.proofs.NodeSteps.{steps_on}
-use Rattle.slave_lives.proofs.RingFrames.{after_keeps, met_runs}
-use Rattle.slave_lives.proofs.RingLives.{sent_is}
-use Rattle.slave_lives.proofs.Stepping.{step_view}
-use Rattle.slave_steps.specs.Node.{Node}
+use Rattle.whole_ring.specs.of_slave_lives.Lived.{Behind, RingFrame, LivesEra, IsForOpen, fate_of, is_reached, node_behind, frame_of, node_seen}
+use Rattle.whole_ring.specs.of_slave_lives.Nodes.{IsRoomy, stepped}
+use Rattle.whole_ring.specs.of_slave_lives.Opening.{Plan}
+use Rattle.whole_ring.specs.of_slave_lives.Rings.{registers_of, come_to, met, is_among, is_met_at}
+use Rattle.whole_ring.specs.of_slave_lives.Steps.{word_carried}
+use Rattle.whole_ring.proofs.of_slave_lives.EraFrames.{lives_on}
+use Rattle.whole_ring.proofs.of_slave_lives.NodeSteps.{steps_on}
+use Rattle.whole_ring.proofs.of_slave_lives.RingFrames.{after_keeps, met_runs}
+use Rattle.whole_ring.proofs.of_slave_lives.RingLives.{sent_is}
+use Rattle.whole_ring.proofs.of_slave_lives.Stepping.{step_view}
+use Rattle.whole_ring.specs.of_slave_steps.Node.{Node}
 use Rattle.state_law.specs.Shows.{slave_table}
 use Rattle.state_model.specs.States as States
 use Rattle.task_model.specs.Accounts.{Pick}

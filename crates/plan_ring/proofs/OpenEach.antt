@@ -4,7 +4,7 @@ use Rattle.datagrams.specs.Datagram as Raw
 use Rattle.datagrams.specs.Frame.{IsFrame, chained}
 use Rattle.frame_view.specs.Seen.{seen}
 use Rattle.frame_view.specs.View.{Lens}
-use Rattle.life_frames.specs.Shares.{came_at, Asked as FrameHas}
+use Rattle.master_tour.specs.of_life_frames.Shares.{came_at, Asked as FrameHas}
 use Rattle.life_model.specs.Lives.{Spot, Stand}
 use Rattle.life_model.specs.Own.{own}
 use Rattle.link_mails.specs.Body.{Body}
@@ -12,10 +12,10 @@ use Rattle.segment_model.specs.Record.{Frame}
 use Rattle.segment_model.specs.Slaves.{Datagram, Found, slave_after, slave_steps, frame_after}
 use Rattle.segment_ring.specs.Ring.{RingState, ring_returned, is_in_pace}
 use Rattle.segment_ring.specs.declared.wire.Fate.TheVariants.{Pass}
-use Rattle.slave_lives.specs.Lived.{Behind, RingFrame, node_behind, frame_of}
-use Rattle.slave_lives.specs.Rings.{come_to, is_met_at, met, turned}
-use Rattle.slave_lives.specs.Seats.{AllMeet}
-use Rattle.slave_steps.specs.Node.{Node, node_passed}
+use Rattle.whole_ring.specs.of_slave_lives.Lived.{Behind, RingFrame, node_behind, frame_of}
+use Rattle.whole_ring.specs.of_slave_lives.Rings.{come_to, is_met_at, met, turned}
+use Rattle.whole_ring.specs.of_slave_lives.Seats.{AllMeet}
+use Rattle.whole_ring.specs.of_slave_steps.Node.{Node, node_passed}
 use Rattle.whole_ring.specs.Turns as Whole
 use Rattle.whole_ring.specs.Whole.{StandsAs}
 use Rattle.whole_ring.specs.Members.{Member, MemberIs, AllLived, IsRing}

@@ -5,7 +5,7 @@ use Rattle.std.proofs.lemmas.Bool.{ne_eqb}
 use Rattle.ec_fields.specs.Fields.{bits_of}
 use Rattle.esc_registers.specs.declared.registers.Registers as Esc
 use Rattle.al_state.specs.Request.{is_state}
-use Rattle.frames_seen.specs.Slaves.{registers_seen}
+use Rattle.whole_ring.specs.of_frames_seen.Slaves.{registers_seen}
 use Rattle.life_measure.specs.Repairs.{awaits_at}
 use Rattle.life_model.specs.Eras.{Clearing}
 use Rattle.life_model.specs.Lives.{Spot, Era, Opening, Stand, shows_clear, last_step}
@@ -15,15 +15,15 @@ use Rattle.segment_model.specs.Slaves.{Found}
 use Rattle.segment_ring.specs.Ring.{is_in_pace}
 use Rattle.segment_ring.specs.declared.wire.Fate.{Fate}
 use Rattle.run_frames.specs.Goes.{stepped_behind}
-use Rattle.slave_lives.specs.Lived.{Behind, RingFrame, ClosedFrame, is_reached, node_met, node_behind}
-use Rattle.slave_lives.specs.Nodes.{IsRunning}
-use Rattle.slave_lives.specs.Opening.{Plan, IsPlan, JustOne}
-use Rattle.slave_lives.specs.Rings.{come_to, met, is_met_at}
-use Rattle.slave_lives.specs.Stands.{IsClosed, Closing, MayStep, OpenUp}
-use Rattle.slave_lives.proofs.Arrives as Arrived
-use Rattle.slave_lives.proofs.Closing as Closed
-use Rattle.slave_lives.proofs.RingFrames.{met_runs}
-use Rattle.slave_lives.proofs.Words.{state_in}
+use Rattle.whole_ring.specs.of_slave_lives.Lived.{Behind, RingFrame, ClosedFrame, is_reached, node_met, node_behind}
+use Rattle.whole_ring.specs.of_slave_lives.Nodes.{IsRunning}
+use Rattle.whole_ring.specs.of_slave_lives.Opening.{Plan, IsPlan, JustOne}
+use Rattle.whole_ring.specs.of_slave_lives.Rings.{come_to, met, is_met_at}
+use Rattle.whole_ring.specs.of_slave_lives.Stands.{IsClosed, Closing, MayStep, OpenUp}
+use Rattle.whole_ring.proofs.of_slave_lives.Arrives as Arrived
+use Rattle.whole_ring.proofs.of_slave_lives.Closing as Closed
+use Rattle.whole_ring.proofs.of_slave_lives.RingFrames.{met_runs}
+use Rattle.whole_ring.proofs.of_slave_lives.Words.{state_in}
 use Rattle.steps_shown.specs.Shown.{StandsFor}
 use Rattle.steps_shown.proofs.Going.{stays_on, goes_on, step_on}
 use Rattle.steps_shown.proofs.Standing.{watch_stands}

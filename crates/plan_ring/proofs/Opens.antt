@@ -11,8 +11,8 @@ use Rattle.mailbox_slave.specs.Node.{in_side}
 use Rattle.run_frames.specs.Goes.{is_same, stepped_behind}
 use Rattle.segment_model.specs.Record.{Frame, News}
 use Rattle.segment_model.specs.Slaves.{Found}
-use Rattle.slave_lives.specs.Lived.{Behind, RingFrame, LivesEra, fate_of, node_met, node_behind, frame_of}
-use Rattle.slave_lives.specs.Opening.{Plan}
+use Rattle.whole_ring.specs.of_slave_lives.Lived.{Behind, RingFrame, LivesEra, fate_of, node_met, node_behind, frame_of}
+use Rattle.whole_ring.specs.of_slave_lives.Opening.{Plan}
 use Rattle.task_model.specs.Accounts.{Pick, Duty, Stage}
 use Rattle.whole_ring.specs.Turns.{FrameComes, AsksFor, era_before, era_behind, life_by}
 use Rattle.whole_ring.specs.Whole.{IsWhole}

@@ -2,14 +2,14 @@
 use Rattle.std.proofs.Common.{◌≡◌, ℕ, suc, Bool, true, false, List, [], ◌∷◌, map, length, refl, sym, ap, ◌∙◌, subst, if◌then◌else◌}
 use Rattle.std.specs.Prelude.{⊤}
 use Rattle.exchange_model.specs.Exchange.{Speech}
-use Rattle.life_frames.specs.Shares.{Lived}
+use Rattle.master_tour.specs.of_life_frames.Shares.{Lived}
 use Rattle.life_measure.specs.Repairs.{way_of}
 use Rattle.life_model.specs.Lives.{Spot, Life, gives_up}
-use Rattle.life_runs.specs.First.{leads_from}
-use Rattle.life_runs.specs.Led.{Leads}
+use Rattle.run_frames.specs.of_life_runs.First.{leads_from}
+use Rattle.run_frames.specs.of_life_runs.Led.{Leads}
 use Rattle.link_mails.specs.Body.{Body}
 use Rattle.master_duty.specs.Reply.{Reply}
-use Rattle.master_hand.specs.Spoken.{Asked}
+use Rattle.run_frames.specs.of_master_hand.Spoken.{Asked}
 use Rattle.plan_ring.specs.Lives.{AllShown}
 use Rattle.plan_ring.specs.Master.{AllSame}
 use Rattle.plan_ring.specs.Plan.{PlanMember}
@@ -18,9 +18,9 @@ use Rattle.run_frames.specs.Clocks.{Clocked}
 use Rattle.run_frames.specs.Goes.{Under, is_same, stepped_behind, clocked_behind, all_lost, all_back}
 use Rattle.run_frames.specs.Led.{AreLed, first_clocked}
 use Rattle.segment_model.specs.Slaves.{Datagram}
-use Rattle.segment_plan.specs.declared.plan.Scenario.{Scenario}
-use Rattle.segment_plan.specs.declared.service.Service as Plan
-use Rattle.segment_plan.specs.declared.slave.SlaveSpec.{SlaveSpec}
+use Rattle.scenario.specs.of_segment_plan.declared.plan.Scenario.{Scenario}
+use Rattle.scenario.specs.of_segment_plan.declared.service.Service as Plan
+use Rattle.scenario.specs.of_segment_plan.declared.slave.SlaveSpec.{SlaveSpec}
 use Rattle.plan_ring.specs.Stands.{StandsTo}
 use Rattle.plan_ring.proofs.Opened.{nothing_awaited}
 use Rattle.plan_ring.proofs.SlaveTurns.{given}

@@ -2,28 +2,28 @@
 use Rattle.std.proofs.Common.{◌≡◌, ◌⊎◌, inl, inr, ℕ, suc, ◌+◌, ◌<◌, ◌≤◌, ◌==◌, ◌&&◌, ◌||◌, All, Bool, true, false, List, [], ◌∷◌, ◌++◌, map, length, refl, ap, sym, ◌∙◌, subst, arith}
 use Rattle.std.specs.Prelude.{Some, if◌then◌else◌}
 use Rattle.std.proofs.lemmas.Bool.{ne_eqb, eqb-true, eq-eqb}
-use Rattle.life_runs.specs.of_frame_view.View.{Lens}
-use Rattle.life_runs.specs.of_link_mails.Body.{Body}
+use Rattle.run_frames.specs.of_life_runs.of_frame_view.View.{Lens}
+use Rattle.run_frames.specs.of_life_runs.of_link_mails.Body.{Body}
 use Rattle.life_model.specs.Lives.{Spot}
 use Rattle.life_model.specs.Tours.{item_at}
 use Rattle.std.proofs.lemmas.List.Elements.{All-head, All-tail}
-use Rattle.life_runs.specs.of_segment_plan.Sound.{is_start, IsSlave}
-use Rattle.life_runs.specs.of_segment_plan.Sound as Plan
-use Rattle.life_runs.specs.of_segment_plan.declared.plan.Scenario.{Scenario}
-use Rattle.life_runs.specs.of_segment_plan.declared.slave.SlaveSpec.{SlaveSpec}
+use Rattle.run_frames.specs.of_life_runs.of_segment_plan.Sound.{is_start, IsSlave}
+use Rattle.run_frames.specs.of_life_runs.of_segment_plan.Sound as Plan
+use Rattle.run_frames.specs.of_life_runs.of_segment_plan.declared.plan.Scenario.{Scenario}
+use Rattle.run_frames.specs.of_life_runs.of_segment_plan.declared.slave.SlaveSpec.{SlaveSpec}
 use Rattle.slave_parts.specs.of_slave_model.Profile.{Profile, IsProfile}
-use Rattle.slave_lives.specs.Opening.{Plan, IsPlan}
+use Rattle.whole_ring.specs.of_slave_lives.Opening.{Plan, IsPlan}
 use Rattle.slave_server.specs.Serving.{Serving}
 use Rattle.slave_server.specs.Spec.{profile_of, server_of, node_of}
-use Rattle.slave_steps.specs.Node.{Node}
+use Rattle.whole_ring.specs.of_slave_steps.Node.{Node}
 use Rattle.plan_ring.specs.Real.{real, running_as, real_clearing, StepsAs}
 use Rattle.plan_ring.specs.Rooms.{IsSound}
-use Rattle.slave_lives.specs.Nodes.{GivesPlaced}
+use Rattle.whole_ring.specs.of_slave_lives.Nodes.{GivesPlaced}
 use Rattle.whole_ring.specs.Whole.{OwesLaws}
 use Rattle.whole_ring.specs.Members as Ring
 use Rattle.whole_ring.specs.Members.{Serves, IsNew, AllNew, IsRing, first_ring}
 use Rattle.whole_ring.proofs.Begins.{ring_begins}
-use Rattle.life_runs.proofs.First.{apart_from}
+use Rattle.run_frames.proofs.of_life_runs.First.{apart_from}
 use Rattle.plan_ring.specs.Asked.{asked}
 use Rattle.plan_ring.proofs.Valid.{core_is_valid}
 use Rattle.plan_ring.specs.Plan.{PlanMember, plan_of, spot_of, new_member, new_members, step, FitsPlan, IsPlanned, AllPlanned, AllMacs, lens_of, members_of, IsElsewhere, AreApart}

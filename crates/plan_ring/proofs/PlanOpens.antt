@@ -2,13 +2,13 @@
 use Rattle.std.proofs.Common.{◌≡◌, ℕ, suc, List, [], ◌∷◌, map, sym, ap, ◌∙◌, subst}
 use Rattle.exchange_model.specs.Exchange.{Speech, IsLawful}
 use Rattle.frame_view.specs.View.{Lens}
-use Rattle.life_frames.specs.Shares.{Lived}
+use Rattle.master_tour.specs.of_life_frames.Shares.{Lived}
 use Rattle.life_model.specs.Lives.{Spot, Stand, Life}
-use Rattle.life_runs.specs.First.{lens_of, spot_of}
-use Rattle.life_runs.specs.Led.{Exchanged, Leads, speech_at}
+use Rattle.run_frames.specs.of_life_runs.First.{lens_of, spot_of}
+use Rattle.run_frames.specs.of_life_runs.Led.{Exchanged, Leads, speech_at}
 use Rattle.link_mails.specs.Body.{Body}
 use Rattle.master_duty.specs.Reply.{Reply}
-use Rattle.master_hand.specs.Spoken.{Asked, hand_speech}
+use Rattle.run_frames.specs.of_master_hand.Spoken.{Asked, hand_speech}
 use Rattle.plan_ring.specs.Alike.{Alike, InHandIs}
 use Rattle.plan_ring.specs.Asked.{asked, is_service}
 use Rattle.plan_ring.specs.Lives.{IsShown, AllShown, AreLived}
@@ -16,9 +16,9 @@ use Rattle.plan_ring.specs.Master.{IsLed, AllLed, speech_of}
 use Rattle.plan_ring.specs.Plan.{PlanMember, FitsPlan, step}
 use Rattle.plan_ring.specs.Round.{ring_of, ring_after, all_seen}
 use Rattle.segment_model.specs.Record.{Frame}
-use Rattle.segment_plan.specs.declared.plan.Scenario.{Scenario}
-use Rattle.segment_plan.specs.declared.slave.SlaveSpec.{SlaveSpec}
-use Rattle.slave_lives.specs.Lived.{Behind, IsBehind}
+use Rattle.scenario.specs.of_segment_plan.declared.plan.Scenario.{Scenario}
+use Rattle.scenario.specs.of_segment_plan.declared.slave.SlaveSpec.{SlaveSpec}
+use Rattle.whole_ring.specs.of_slave_lives.Lived.{Behind, IsBehind}
 use Rattle.slave_parts.specs.Parts.{Core, Server}
 use Rattle.slave_parts.specs.of_eoe_model.Network.{Station}
 use Rattle.slave_server.specs.Serving.{Serving}

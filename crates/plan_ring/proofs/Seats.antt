@@ -5,7 +5,7 @@ use Rattle.exchange_model.specs.Prefix.{IsPrefixOf}
 use Rattle.exchange_model.specs.Rows.{Row, left}
 use Rattle.never_waits.specs.Hears.{HearsFirst}
 use Rattle.never_waits.proofs.HearsStates.{states_hears}
-use Rattle.master_side.specs.Due.{IsReply, IsAwaited}
+use Rattle.master_tour.specs.of_master_side.Due.{IsReply, IsAwaited}
 use Rattle.segment_model.specs.Ends.{Outcome}
 use Rattle.segment_model.specs.Laws.{as_outcome}
 use Rattle.segment_model.specs.Seats.{Seat}

@@ -1,7 +1,7 @@
 -- A NODE THAT IS SETTLED is so as it is seen.
 use Rattle.std.proofs.Common.{◌≡◌, ◌&&◌, Bool, true, false, Option, Some, None, List, [], ◌∷◌, refl, ap, sym, ◌∙◌}
 use Rattle.std.specs.Prelude.{not, is_none, option_map, if◌then◌else◌, Ok}
-use Rattle.frames_seen.specs.Slaves.{registers_seen}
+use Rattle.whole_ring.specs.of_frames_seen.Slaves.{registers_seen}
 use Rattle.link_mails.specs.Body.{Body, link_read, link_mail, uncounted}
 use Rattle.link_model.specs.Mails.{LinkMail}
 use Rattle.mailbox_mail.specs.Mail.{mail_read}
@@ -11,9 +11,9 @@ use Rattle.mailbox_slave.specs.Node.{in_side}
 use Rattle.mailbox_slave.specs.Registers.{in_box}
 use Rattle.segment_model.specs.Laws.{IsSettled}
 use Rattle.segment_model.specs.Slaves.{first_waiting}
-use Rattle.slave_lives.specs.Lived.{Behind, IsBehind, node_seen}
-use Rattle.slave_lives.specs.Steps.{Stands}
-use Rattle.slave_steps.specs.Node.{Node, is_settled}
+use Rattle.whole_ring.specs.of_slave_lives.Lived.{Behind, IsBehind, node_seen}
+use Rattle.whole_ring.specs.of_slave_lives.Steps.{Stands}
+use Rattle.whole_ring.specs.of_slave_steps.Node.{Node, is_settled}
 
 first_of : (a b : Bool) → (a && b) ≡ true → a ≡ true
 first_of true b e = refl

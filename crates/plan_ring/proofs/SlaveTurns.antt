@@ -11,8 +11,8 @@ use Rattle.link_model.specs.Segment.{RingFate}
 use Rattle.run_frames.specs.Goes.{is_same, stepped_behind}
 use Rattle.segment_model.specs.Record.{Frame, News}
 use Rattle.segment_model.specs.Slaves.{Found}
-use Rattle.slave_lives.specs.Lived.{Behind, RingFrame, node_behind, frame_of}
-use Rattle.slave_lives.specs.Opening.{Plan}
+use Rattle.whole_ring.specs.of_slave_lives.Lived.{Behind, RingFrame, node_behind, frame_of}
+use Rattle.whole_ring.specs.of_slave_lives.Opening.{Plan}
 use Rattle.steps_shown.specs.Shown.{StandsFor}
 use Rattle.task_model.specs.Accounts.{Pick}
 use Rattle.whole_ring.specs.Turns.{FrameComes, TurnsAs, CameAs, Came, life_by}

@@ -1,20 +1,20 @@
 -- One slave of a plan's ring by a frame that came back.
 use Rattle.std.proofs.Common.{◌≡◌, ℕ, Option, List, length, refl, sym, ap, ◌∙◌, subst}
-use Rattle.life_runs.specs.of_datagrams.Datagram as Raw
+use Rattle.run_frames.specs.of_life_runs.of_datagrams.Datagram as Raw
 use Rattle.plan_ring.proofs.Eras.{era_due}
 use Rattle.exchange_model.specs.Exchange.{Exchange, Speech}
-use Rattle.life_runs.specs.of_frame_view.Seen.{datagrams_seen}
-use Rattle.life_runs.specs.of_frame_view.View.{Lens}
+use Rattle.run_frames.specs.of_life_runs.of_frame_view.Seen.{datagrams_seen}
+use Rattle.run_frames.specs.of_life_runs.of_frame_view.View.{Lens}
 use Rattle.never_waits.specs.Hears.{HearsFirst}
-use Rattle.life_runs.specs.of_life_frames.of_life_model.Lives.{Life, Spot, Stand, AsksOpen, life_next, granted}
-use Rattle.life_runs.specs.of_life_frames.of_life_model.Own.{own}
-use Rattle.life_runs.specs.First.{lens_of, spot_of}
-use Rattle.life_runs.specs.Led.{Exchanged, Leads, Turn, IsTurn, speech_at, is_passed}
-use Rattle.life_runs.specs.of_link_mails.Body.{Body}
-use Rattle.life_runs.specs.of_life_frames.of_link_model.Frames.{IsFrameFor, all_accepted}
-use Rattle.life_runs.specs.of_master_duty.Reply.{Reply}
-use Rattle.life_runs.specs.of_master_hand.Spoken.{Asked, acknowledged, is_followed}
-use Rattle.life_runs.specs.of_master_side.Due.{EachDue}
+use Rattle.run_frames.specs.of_life_runs.of_life_frames.of_life_model.Lives.{Life, Spot, Stand, AsksOpen, life_next, granted}
+use Rattle.run_frames.specs.of_life_runs.of_life_frames.of_life_model.Own.{own}
+use Rattle.run_frames.specs.of_life_runs.First.{lens_of, spot_of}
+use Rattle.run_frames.specs.of_life_runs.Led.{Exchanged, Leads, Turn, IsTurn, speech_at, is_passed}
+use Rattle.run_frames.specs.of_life_runs.of_link_mails.Body.{Body}
+use Rattle.run_frames.specs.of_life_runs.of_life_frames.of_link_model.Frames.{IsFrameFor, all_accepted}
+use Rattle.run_frames.specs.of_life_runs.of_master_duty.Reply.{Reply}
+use Rattle.run_frames.specs.of_life_runs.of_master_hand.Spoken.{Asked, acknowledged, is_followed}
+use Rattle.run_frames.specs.of_life_runs.of_master_side.Due.{EachDue}
 use Rattle.master_tour.specs.Brings.{accepted_at}
 use Rattle.plan_ring.specs.Alike.{RowIs, WishIs}
 use Rattle.plan_ring.proofs.Alike.{next_same, next_is}
@@ -23,14 +23,14 @@ use Rattle.plan_ring.specs.Asked.{asked, is_service}
 use Rattle.plan_ring.specs.Round.{all_seen}
 use Rattle.plan_ring.proofs.Turns.{wish_is}
 use Rattle.slave_parts.specs.of_segment_model.Slaves.{Datagram, Slave, grams}
-use Rattle.life_runs.specs.of_segment_plan.declared.plan.Scenario.{Scenario}
-use Rattle.life_runs.specs.of_segment_plan.declared.slave.SlaveSpec.{SlaveSpec}
-use Rattle.slave_lives.specs.Lived.{table_of}
+use Rattle.run_frames.specs.of_life_runs.of_segment_plan.declared.plan.Scenario.{Scenario}
+use Rattle.run_frames.specs.of_life_runs.of_segment_plan.declared.slave.SlaveSpec.{SlaveSpec}
+use Rattle.whole_ring.specs.of_slave_lives.Lived.{table_of}
 use Rattle.slave_parts.specs.Parts.{Core, Server}
 use Rattle.slave_parts.specs.of_eoe_model.Network.{Station}
 use Rattle.slave_server.specs.Serving.{Serving}
 use Rattle.slave_server.specs.Spec.{profile_of}
-use Rattle.slave_steps.specs.Node.{Node}
+use Rattle.whole_ring.specs.of_slave_steps.Node.{Node}
 use Rattle.slave_parts.specs.of_state_exchange.Families.{InState}
 use Rattle.slave_parts.specs.of_state_exchange.Stated.{Service}
 use Rattle.task_model.specs.Accounts.{Pick}

@@ -13,11 +13,11 @@ use Rattle.slave_parts.proofs.of_idn_table.Placed.{idns_placed}
 use Rattle.slave_parts.specs.of_object_dictionary.Dictionary.{Table}
 use Rattle.slave_parts.specs.of_object_dictionary.Sound.{placed, own_table, is_table, is_rising, is_row, is_object, is_emitter, are_sized}
 use Rattle.slave_parts.proofs.of_object_dictionary.Placed.{table_placed}
-use Rattle.life_runs.specs.of_segment_plan.declared.slave.ObjectSpec.{ObjectSpec}
+use Rattle.run_frames.specs.of_life_runs.of_segment_plan.declared.slave.ObjectSpec.{ObjectSpec}
 use Rattle.slave_parts.specs.of_idn_table.declared.spec.IdnSpec.{IdnSpec}
-use Rattle.life_runs.specs.of_segment_plan.declared.slave.SlaveSpec.{SlaveSpec}
-use Rattle.life_runs.specs.of_segment_plan.Sound as Plan
-use Rattle.life_runs.specs.of_segment_plan.Sound.{kept, IsObject, IsFile, IsIdn, IsSlave, indexes, taken}
+use Rattle.run_frames.specs.of_life_runs.of_segment_plan.declared.slave.SlaveSpec.{SlaveSpec}
+use Rattle.run_frames.specs.of_life_runs.of_segment_plan.Sound as Plan
+use Rattle.run_frames.specs.of_life_runs.of_segment_plan.Sound.{kept, IsObject, IsFile, IsIdn, IsSlave, indexes, taken}
 use Rattle.slave_parts.specs.of_slave_model.Application.{station_valid}
 use Rattle.slave_parts.proofs.of_slave_model.Stations.{both}
 use Rattle.slave_parts.specs.Parts.{parts}

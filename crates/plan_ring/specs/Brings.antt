@@ -2,7 +2,7 @@
 use Rattle.std.specs.Prelude.{ℕ, List}
 use Rattle.exchange_model.specs.Exchange.{Speech}
 use Rattle.link_model.specs.Frames.{IsFrameFor, all_accepted}
-use Rattle.master_side.specs.Due.{EachDue}
+use Rattle.master_tour.specs.of_master_side.Due.{EachDue}
 use Rattle.segment_model.specs.Seats.{Side, side_next}
 use Rattle.segment_model.specs.Slaves.{Datagram, Slave, grams, frame_after}
 use Rattle.task_model.specs.Accounts.{Account, Pick, mails_choice}

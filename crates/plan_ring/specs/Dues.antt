@@ -1,14 +1,14 @@
 -- What a frame that came back brings of a plan's slaves is due.
 use Rattle.std.specs.Prelude.{◌≡◌, ℕ, List, [], ◌∷◌, ◌++◌, length, ⊤}
-use Rattle.life_runs.specs.First.{lens_of, first_leads}
-use Rattle.life_runs.specs.Led.{Exchanged, Leads, Turn, IsLed, IsLedFrame, speech_at}
-use Rattle.life_runs.specs.of_frame_view.Seen.{seen}
-use Rattle.life_runs.specs.of_frame_view.View.{Lens}
-use Rattle.life_runs.specs.of_life_frames.of_life_model.Lives.{Stand}
-use Rattle.life_runs.specs.of_link_mails.Body.{Body}
-use Rattle.life_runs.specs.of_master_side.Due.{EachDue}
-use Rattle.life_runs.specs.of_segment_plan.declared.plan.Scenario.{Scenario}
-use Rattle.life_runs.specs.of_segment_ring.declared.wire.Fate.TheVariants.{Pass}
+use Rattle.run_frames.specs.of_life_runs.First.{lens_of, first_leads}
+use Rattle.run_frames.specs.of_life_runs.Led.{Exchanged, Leads, Turn, IsLed, IsLedFrame, speech_at}
+use Rattle.run_frames.specs.of_life_runs.of_frame_view.Seen.{seen}
+use Rattle.run_frames.specs.of_life_runs.of_frame_view.View.{Lens}
+use Rattle.run_frames.specs.of_life_runs.of_life_frames.of_life_model.Lives.{Stand}
+use Rattle.run_frames.specs.of_life_runs.of_link_mails.Body.{Body}
+use Rattle.run_frames.specs.of_life_runs.of_master_side.Due.{EachDue}
+use Rattle.run_frames.specs.of_life_runs.of_segment_plan.declared.plan.Scenario.{Scenario}
+use Rattle.run_frames.specs.of_life_runs.of_segment_ring.declared.wire.Fate.TheVariants.{Pass}
 use Rattle.master_tour.specs.Brings.{accepted_in}
 use Rattle.plan_ring.specs.Round.{ring_of, AllRound}
 use Rattle.slave_parts.specs.of_segment_model.Slaves.{Datagram}

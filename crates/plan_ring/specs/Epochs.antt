@@ -9,8 +9,8 @@ use Rattle.link_mails.specs.Body.{Body}
 use Rattle.segment_model.specs.Laws.{AllAnswered, WantsNothing}
 use Rattle.segment_model.specs.Record.{Frame, heard}
 use Rattle.segment_model.specs.Seats.{rows_of}
-use Rattle.slave_lives.specs.Lived.{Behind, table_of, node_seen}
-use Rattle.slave_steps.specs.Node.{Node, is_settled}
+use Rattle.whole_ring.specs.of_slave_lives.Lived.{Behind, table_of, node_seen}
+use Rattle.whole_ring.specs.of_slave_steps.Node.{Node, is_settled}
 use Rattle.state_exchange.specs.Stated.{Service, with_states, mails}
 use Rattle.task_model.specs.Accounts.{Started}
 use Rattle.task_model.specs.Promise.{services_in, mails_started, rows_started, states_started, changes_in, duty_in, AllReplied, AllDone, AllFound, IsOpenYet, AllEnded, but_last}

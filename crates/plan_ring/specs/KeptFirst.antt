@@ -3,7 +3,7 @@ use Rattle.std.specs.Prelude.{◌≡◌, ℕ, Bool, None, List, [], length}
 use Rattle.link_mails.specs.Body.{Body}
 use Rattle.segment_model.specs.Laws.{IsSettled, WantsNothing}
 use Rattle.segment_model.specs.Record.{Frame}
-use Rattle.slave_steps.specs.Node.{Node}
+use Rattle.whole_ring.specs.of_slave_steps.Node.{Node}
 use Rattle.task_model.specs.Promise.{services_in}
 use Rattle.life_model.specs.Book.{SlaveBook, IsForgetful}
 use Rattle.life_model.specs.Eras.{Clearing}
@@ -11,8 +11,8 @@ use Rattle.life_model.specs.Lives.{Spot, Life}
 use Rattle.book_model.specs.Chain.{KeepsSame}
 use Rattle.book_model.specs.Open.{Setting, IsOpenLife, BookAnswers, BookFits, BookRests, BookDone}
 use Rattle.book_model.specs.Script.{services_of}
-use Rattle.slave_lives.specs.Lived.{Behind, table_of, node_seen}
-use Rattle.slave_lives.specs.Opening.{Plan}
+use Rattle.whole_ring.specs.of_slave_lives.Lived.{Behind, table_of, node_seen}
+use Rattle.whole_ring.specs.of_slave_lives.Opening.{Plan}
 use Rattle.whole_ring.specs.Whole.{OwesLaws}
 
 -- what telling an AL state and a return to Init do to an application

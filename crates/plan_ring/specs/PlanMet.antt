@@ -4,23 +4,23 @@ use Rattle.exchange_model.specs.Exchange.{IsLawful}
 use Rattle.frame_view.specs.View.{Lens}
 use Rattle.life_model.specs.Lives.{Stand}
 use Rattle.life_model.specs.Own.{own}
-use Rattle.life_runs.specs.First.{lens_of, spot_of}
-use Rattle.life_runs.specs.Led.{Exchanged, Leads, speech_at}
+use Rattle.run_frames.specs.of_life_runs.First.{lens_of, spot_of}
+use Rattle.run_frames.specs.of_life_runs.Led.{Exchanged, Leads, speech_at}
 use Rattle.link_mails.specs.Body.{Body}
-use Rattle.master_hand.specs.Spoken.{acknowledged}
+use Rattle.run_frames.specs.of_master_hand.Spoken.{acknowledged}
 use Rattle.plan_ring.specs.Alike.{Alike, InHandIs}
 use Rattle.plan_ring.specs.Asked.{asked, is_service}
 use Rattle.plan_ring.specs.Round.{all_seen}
 use Rattle.segment_model.specs.Slaves.{Datagram, Slave, slave_after, slave_steps, frame_after}
-use Rattle.segment_plan.specs.declared.plan.Scenario.{Scenario}
-use Rattle.segment_plan.specs.declared.slave.SlaveSpec.{SlaveSpec}
+use Rattle.scenario.specs.of_segment_plan.declared.plan.Scenario.{Scenario}
+use Rattle.scenario.specs.of_segment_plan.declared.slave.SlaveSpec.{SlaveSpec}
 use Rattle.segment_ring.specs.Ring.{is_in_pace}
-use Rattle.slave_lives.specs.Lived.{IsBehind, node_seen}
+use Rattle.whole_ring.specs.of_slave_lives.Lived.{IsBehind, node_seen}
 use Rattle.slave_parts.specs.Parts.{Core, Server}
 use Rattle.slave_parts.specs.of_eoe_model.Network.{Station}
 use Rattle.slave_server.specs.Serving.{Serving}
 use Rattle.slave_server.specs.Spec.{profile_of}
-use Rattle.slave_steps.specs.Node.{Node}
+use Rattle.whole_ring.specs.of_slave_steps.Node.{Node}
 use Rattle.state_exchange.specs.Families.{InState}
 use Rattle.state_exchange.specs.Stated.{IsStated}
 use Rattle.whole_ring.specs.Whole.{LivesOpen}

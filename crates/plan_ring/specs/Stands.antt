@@ -7,8 +7,8 @@ use Rattle.link_mails.specs.Body.{Body}
 use Rattle.link_model.specs.Master.{InHalf, InState}
 use Rattle.mailbox_slave.specs.Registers.{request_of, acknowledge_of}
 use Rattle.segment_model.specs.Slaves.{Found}
-use Rattle.slave_lives.specs.Lived.{Behind, RingFrame, AccessBack}
-use Rattle.slave_lives.specs.Opening.{Plan}
+use Rattle.whole_ring.specs.of_slave_lives.Lived.{Behind, RingFrame, AccessBack}
+use Rattle.whole_ring.specs.of_slave_lives.Opening.{Plan}
 use Rattle.steps_shown.specs.Shown.{StandsFor}
 use Rattle.whole_ring.specs.Whole.{plan_to}
 

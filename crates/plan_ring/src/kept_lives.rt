@@ -5,9 +5,9 @@ ghost use Rattle.life_model.specs.Eras.{Clearing};
 ghost use Rattle.life_model.specs.Lives.{Spot, Life};
 ghost use Rattle.link_mails.specs.Body.{Body};
 ghost use Rattle.segment_model.specs.Record.{Frame};
-ghost use Rattle.slave_lives.specs.Lived.{Behind};
-ghost use Rattle.slave_lives.specs.Opening.{Plan};
-ghost use Rattle.slave_steps.specs.Node.{Node};
+ghost use Rattle.whole_ring.specs.of_slave_lives.Lived.{Behind};
+ghost use Rattle.whole_ring.specs.of_slave_lives.Opening.{Plan};
+ghost use Rattle.whole_ring.specs.of_slave_steps.Node.{Node};
 ghost use Rattle.std.specs.Prelude.{◌≡◌, true, Bool, List};
 ghost use Rattle.whole_ring.specs.Whole.{OwesLaws, IsLived};
 

@@ -3,9 +3,9 @@
 
 ghost use Rattle.std.specs.Prelude.{ℕ, Bool};
 ghost use Rattle.never_waits.specs.Hears.{HearsFirst};
-ghost use Rattle.life_runs.specs.of_frame_view.View.{Lens};
-ghost use Rattle.life_runs.specs.of_segment_plan.Sound.{IsPlan};
-ghost use Rattle.life_runs.specs.of_segment_plan.declared.plan.Scenario.{Scenario};
+ghost use Rattle.run_frames.specs.of_life_runs.of_frame_view.View.{Lens};
+ghost use Rattle.run_frames.specs.of_life_runs.of_segment_plan.Sound.{IsPlan};
+ghost use Rattle.run_frames.specs.of_life_runs.of_segment_plan.declared.plan.Scenario.{Scenario};
 ghost use Rattle.plan_ring.specs.Dues.{MailsAreDue};
 ghost use Rattle.plan_ring.specs.Asked.{asked};
 ghost use Rattle.plan_ring.specs.Lives.{IsKnown};

@@ -2,13 +2,13 @@
 //! and a law, no running code: the function here does nothing, and its contract states the law.
 
 ghost use Rattle.frame_view.specs.Seen.{seen};
-ghost use Rattle.life_runs.specs.First.{lens_of};
-ghost use Rattle.life_runs.specs.Led.{Exchanged, Leads, Turn, IsLedFrame};
+ghost use Rattle.run_frames.specs.of_life_runs.First.{lens_of};
+ghost use Rattle.run_frames.specs.of_life_runs.Led.{Exchanged, Leads, Turn, IsLedFrame};
 ghost use Rattle.plan_ring.specs.PlanMet.{AllMet, AllOpenAt};
 ghost use Rattle.plan_ring.specs.Lives.{IsKnown, AreLived};
 ghost use Rattle.plan_ring.specs.Round.{ring_of, ring_after, WentRound};
-ghost use Rattle.segment_plan.specs.Sound.{IsPlan};
-ghost use Rattle.segment_plan.specs.declared.plan.Scenario.{Scenario};
+ghost use Rattle.scenario.specs.of_segment_plan.Sound.{IsPlan};
+ghost use Rattle.scenario.specs.of_segment_plan.declared.plan.Scenario.{Scenario};
 ghost use Rattle.segment_ring.specs.declared.wire.Fate.{Fate};
 ghost use Rattle.std.specs.Prelude.{◌≡◌, ◌∷◌, ◌++◌, ℕ, List, [], length};
 

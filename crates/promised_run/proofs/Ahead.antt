@@ -12,9 +12,9 @@ use Rattle.life_runs.specs.Led.{Exchanged, Leads, Turn, IsTurn, AllTurn, speech_
 use Rattle.link_mails.specs.Body.{Body}
 use Rattle.master_duty.specs.Reply.{Reply}
 use Rattle.master_hand.specs.Spoken.{Asked, acknowledged, is_followed}
-use Rattle.master_node.specs.Shows.{is_opening_lead}
-use Rattle.master_node.specs.of_master_tour.Goes.{holds_at}
-use Rattle.master_node.specs.of_master_tour.Stands.{is_opening}
+use Rattle.run_book.specs.of_master_node.Shows.{is_opening_lead}
+use Rattle.run_book.specs.of_master_node.of_master_tour.Goes.{holds_at}
+use Rattle.run_book.specs.of_master_node.of_master_tour.Stands.{is_opening}
 use Rattle.segment_model.specs.Slaves.{Datagram}
 use Rattle.segment_ring.specs.declared.wire.Fate.{Fate}
 use Rattle.segment_ring.specs.declared.wire.Fate.TheVariants.{Pass, Lost}

@@ -9,7 +9,7 @@ use Rattle.gateway_run.specs.declared.desk.Request.{Request}
 use Rattle.mailbox_mail.specs.declared.mail.Mail.{Mail}
 use Rattle.run_book.specs.declared.book.GramIn.{GramIn}
 use Rattle.run_book.specs.declared.book.SentFrame.{SentFrame}
-use Rattle.run_notes.specs.declared.standing.AskedMail.{AskedMail}
+use Rattle.run_record.specs.of_run_notes.declared.standing.AskedMail.{AskedMail}
 use Rattle.run_record.specs.Served.{as_asked}
 use Rattle.run_record.specs.Session.{SessionState, asked_mail, asked_more}
 use Rattle.run_work.specs.Fair.{AsksFair, IsFairGram}

@@ -11,8 +11,8 @@ use Rattle.mailbox_mail.specs.declared.mail.Kind.{Kind}
 use Rattle.mailbox_mail.specs.declared.mail.Mail.{Mail}
 use Rattle.run_book.specs.declared.book.GramIn.{GramIn}
 use Rattle.run_book.specs.declared.book.SentFrame.{SentFrame}
-use Rattle.run_notes.specs.Notes.{stations_of}
-use Rattle.run_notes.specs.declared.standing.AskedMail.{AskedMail}
+use Rattle.run_record.specs.of_run_notes.Notes.{stations_of}
+use Rattle.run_record.specs.of_run_notes.declared.standing.AskedMail.{AskedMail}
 use Rattle.run_record.specs.Served.{as_asked}
 use Rattle.run_record.specs.Session.{SessionState, asked_mail, asked_more}
 use Rattle.run_work.specs.Fair.{AsksFair}

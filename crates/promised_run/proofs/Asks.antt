@@ -4,8 +4,8 @@ use Rattle.link_mails.specs.Body.{Body}
 use Rattle.link_model.specs.Frames.{in_ask}
 use Rattle.link_model.specs.Master.{InState, InHalf}
 use Rattle.life_runs.specs.Led.{Turn}
-use Rattle.master_node.specs.Asks as Master
-use Rattle.master_node.specs.of_master_side.Carried.{is_clear}
+use Rattle.run_book.specs.of_master_node.Asks as Master
+use Rattle.run_book.specs.of_master_node.of_master_side.Carried.{is_clear}
 use Rattle.segment_model.specs.Slaves.{Datagram}
 use Rattle.run_frames.specs.Answers.{AsksHalf, EachAsks, AllAsk}
 use Rattle.life_model.specs.Own.{own}

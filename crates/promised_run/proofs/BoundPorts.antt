@@ -9,15 +9,15 @@ use Rattle.eoe_switch.specs.declared.port.Port.{Port}
 use Rattle.eoe_switch.specs.declared.switching.SwitchEvent.{SwitchEvent}
 use Rattle.eoe_switch.specs.declared.switching.SwitchEvent.TheVariants.{Arrive, Begun, Down}
 use Rattle.life_runs.specs.Led.{Exchanged, Turn}
-use Rattle.master_node.specs.Begins.{begun_of, switch_on, switch_behind, taken_in}
-use Rattle.master_node.specs.Forwards.{port_by, waiting_by}
-use Rattle.master_node.specs.Made.{IsOfMaking}
-use Rattle.master_node.specs.Ports.{ports_behind, ports_of}
-use Rattle.packets_heard.specs.Over.{packet_begun}
-use Rattle.packets_heard.proofs.Follows.{all_at, flow_switch}
-use Rattle.packets_heard.proofs.PacketsRuns.{frame_all}
-use Rattle.packets_heard.proofs.Owns.{own_port}
-use Rattle.packets_heard.specs.Recalled.{AtSwitch, enters, has_entered}
+use Rattle.run_book.specs.of_master_node.Begins.{begun_of, switch_on, switch_behind, taken_in}
+use Rattle.run_book.specs.of_master_node.Forwards.{port_by, waiting_by}
+use Rattle.run_book.specs.of_master_node.Made.{IsOfMaking}
+use Rattle.run_book.specs.of_master_node.Ports.{ports_behind, ports_of}
+use Rattle.run_record.specs.of_packets_heard.Over.{packet_begun}
+use Rattle.run_record.proofs.of_packets_heard.Follows.{all_at, flow_switch}
+use Rattle.run_record.proofs.of_packets_heard.PacketsRuns.{frame_all}
+use Rattle.run_record.proofs.of_packets_heard.Owns.{own_port}
+use Rattle.run_record.specs.of_packets_heard.Recalled.{AtSwitch, enters, has_entered}
 use Rattle.segment_plan.specs.declared.plan.Scenario.{Scenario}
 use Rattle.promised_run.specs.Runs.{waiting_at}
 

@@ -4,9 +4,9 @@ use Rattle.std.specs.Prelude.{◌||◌}
 use Rattle.eoe_switch.specs.declared.switching.SwitchEvent.{SwitchEvent}
 use Rattle.eoe_switch.specs.declared.switching.SwitchEvent.TheVariants.{Arrive, Begun, Down}
 use Rattle.life_runs.specs.Led.{Exchanged}
-use Rattle.master_node.specs.Happened.{arrivals_at, arrived_by}
-use Rattle.packets_heard.proofs.Ports.{arrivals_append}
-use Rattle.packets_heard.specs.Recalled.{enters, has_entered}
+use Rattle.run_book.specs.of_master_node.Happened.{arrivals_at, arrived_by}
+use Rattle.run_record.proofs.of_packets_heard.Ports.{arrivals_append}
+use Rattle.run_record.specs.of_packets_heard.Recalled.{enters, has_entered}
 use Rattle.run_frames.specs.Fates.{lost_by, lost_of}
 use Rattle.segment_ring.specs.declared.wire.Fate.TheVariants.{Lost}
 

@@ -23,14 +23,14 @@ use Rattle.life_runs.specs.Led.{Exchanged, speech_at}
 use Rattle.link_mails.specs.Body.{Body}
 use Rattle.master_duty.specs.Reply.{Reply}
 use Rattle.master_hand.specs.Spoken.{Asked, acknowledged, is_followed, is_passed}
-use Rattle.master_node.specs.Begins.{begun_of}
-use Rattle.master_node.specs.Eager as Master
-use Rattle.master_node.specs.Recalled.{AllKnow}
-use Rattle.master_node.specs.ServedEager.{AllServedAsk, AllServedBegin, AllServedRecall, AllServedStill, ServedBegins, ServedRecallsBack, ServedVisitAsks}
-use Rattle.master_node.specs.Starts as Starts
-use Rattle.master_node.specs.declared.lan.Lan.{Lan}
+use Rattle.run_book.specs.of_master_node.Begins.{begun_of}
+use Rattle.run_book.specs.of_master_node.Eager as Master
+use Rattle.run_book.specs.of_master_node.Recalled.{AllKnow}
+use Rattle.run_book.specs.of_master_node.ServedEager.{AllServedAsk, AllServedBegin, AllServedRecall, AllServedStill, ServedBegins, ServedRecallsBack, ServedVisitAsks}
+use Rattle.run_book.specs.of_master_node.Starts as Starts
+use Rattle.run_book.specs.of_master_node.declared.lan.Lan.{Lan}
 use Rattle.master_side.specs.Recall.{Recall}
-use Rattle.packets_heard.specs.Recalled.{IsLanOf}
+use Rattle.run_record.specs.of_packets_heard.Recalled.{IsLanOf}
 use Rattle.segment_model.specs.Slaves.{Datagram}
 use Rattle.segment_plan.specs.declared.plan.Scenario.{Scenario}
 use Rattle.segment_plan.specs.declared.service.Service as Plan

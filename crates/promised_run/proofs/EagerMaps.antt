@@ -11,8 +11,8 @@ use Rattle.link_mails.specs.Body.{Body}
 use Rattle.link_model.specs.Link.{Halves}
 use Rattle.master_duty.specs.Reply.{Reply}
 use Rattle.master_hand.specs.Spoken.{Asked, acknowledged, is_followed, is_passed}
-use Rattle.master_node.specs.Eager as Master
-use Rattle.master_node.specs.ServedEager.{mail_visit, visit_next}
+use Rattle.run_book.specs.of_master_node.Eager as Master
+use Rattle.run_book.specs.of_master_node.ServedEager.{mail_visit, visit_next}
 use Rattle.master_side.specs.Recall.{Recall}
 use Rattle.segment_model.specs.Ends.{Passing}
 use Rattle.segment_model.specs.Slaves.{Datagram}

@@ -9,12 +9,12 @@ use Rattle.eoe_switch.specs.declared.switching.SwitchEvent.{SwitchEvent}
 use Rattle.frame_view.specs.View.{Lens}
 use Rattle.idle_slaves.specs.WaitEager.{AllRest, IsResting}
 use Rattle.life_runs.specs.First.{lens_of}
-use Rattle.master_node.specs.Recalled.{AllKnow}
-use Rattle.master_node.specs.Resting as Resting
-use Rattle.master_node.specs.ServedEager.{AllServedRest}
-use Rattle.master_node.specs.declared.lan.Lan.{Lan}
+use Rattle.run_book.specs.of_master_node.Recalled.{AllKnow}
+use Rattle.run_book.specs.of_master_node.Resting as Resting
+use Rattle.run_book.specs.of_master_node.ServedEager.{AllServedRest}
+use Rattle.run_book.specs.of_master_node.declared.lan.Lan.{Lan}
 use Rattle.master_side.specs.Recall.{Recall}
-use Rattle.packets_heard.specs.Recalled.{AllSettled, IsLanOf}
+use Rattle.run_record.specs.of_packets_heard.Recalled.{AllSettled, IsLanOf}
 use Rattle.plan_ring.specs.Asked.{asked}
 use Rattle.plan_ring.specs.Plan.{FitsPlan, new_members, step}
 use Rattle.segment_plan.specs.declared.plan.Scenario.{Scenario}

@@ -21,15 +21,15 @@ use Rattle.life_runs.specs.Led.{Exchanged, gives_up_at, missed_behind}
 use Rattle.link_mails.specs.Body.{Body}
 use Rattle.master_duty.specs.Reply.{Reply}
 use Rattle.master_hand.specs.Spoken.{Asked}
-use Rattle.master_node.specs.Happened.{arrivals_at}
-use Rattle.master_node.specs.Recalled.{AllKnow}
-use Rattle.master_node.specs.Serving.{run_lead}
-use Rattle.master_node.specs.Shows.{is_opening_lead}
-use Rattle.master_node.specs.of_master_tour.Toured.{Tour, goes_on}
-use Rattle.packets_heard.specs.Recalled.{AllSettled, IsFirst, State, has_entered}
-use Rattle.packets_heard.specs.Served as Visits
-use Rattle.packets_heard.specs.ServedRecalled.{IsServedRecalled, ServedRecalledIn}
-use Rattle.packets_heard.specs.Toured.{tour_behind}
+use Rattle.run_book.specs.of_master_node.Happened.{arrivals_at}
+use Rattle.run_book.specs.of_master_node.Recalled.{AllKnow}
+use Rattle.run_book.specs.of_master_node.Serving.{run_lead}
+use Rattle.run_book.specs.of_master_node.Shows.{is_opening_lead}
+use Rattle.run_book.specs.of_master_node.of_master_tour.Toured.{Tour, goes_on}
+use Rattle.run_record.specs.of_packets_heard.Recalled.{AllSettled, IsFirst, State, has_entered}
+use Rattle.run_record.specs.of_packets_heard.Served as Visits
+use Rattle.run_record.specs.of_packets_heard.ServedRecalled.{IsServedRecalled, ServedRecalledIn}
+use Rattle.run_record.specs.of_packets_heard.Toured.{tour_behind}
 use Rattle.plan_ring.specs.Round.{AllRound, behind, ring_after, ring_of}
 use Rattle.plan_ring.proofs.Lives.{front_round, one_after}
 use Rattle.run_frames.specs.Clocks.{Clocked}
@@ -43,8 +43,8 @@ use Rattle.segment_plan.specs.declared.plan.Scenario.{Scenario}
 use Rattle.segment_ring.specs.Ring.{RingState}
 use Rattle.segment_ring.specs.declared.wire.Fate.{Fate}
 use Rattle.segment_ring.specs.declared.wire.Fate.TheVariants.{Pass, Lost}
-use Rattle.served_places.specs.Answered.{ServedAsks}
-use Rattle.served_places.specs.Toured.{IsServedToured, back_under, first_served, serves_on, still_served, waits_served}
+use Rattle.run_record.specs.of_served_places.Answered.{ServedAsks}
+use Rattle.run_record.specs.of_served_places.Toured.{IsServedToured, back_under, first_served, serves_on, still_served, waits_served}
 use Rattle.served_rings.specs.Rings.{AreServedLived}
 use Rattle.served_runs.specs.Served.{Keyed, MayAsk, Serves, ServedTurn, IsServedFrame, IsServedLed, all_serve, asked_at, served_behind}
 use Rattle.seen_slaves.specs.Eager.{AllStaySo, AllStill, IsServedEager, ServedEagerIn, leads_of, turns_of}

@@ -18,14 +18,14 @@ use Rattle.link_mails.specs.Body.{Body}
 use Rattle.link_model.specs.Frames.{all_accepted}
 use Rattle.master_duty.specs.Reply.{Reply}
 use Rattle.master_hand.specs.Spoken.{Asked, acknowledged, is_followed}
-use Rattle.master_node.specs.Begins.{begun_of}
-use Rattle.master_node.specs.Eager as Master
-use Rattle.master_node.specs.Recalled.{AllKnow, AllRecall, RecallsBack}
-use Rattle.master_node.specs.Starts as Starts
-use Rattle.master_node.specs.declared.lan.Lan.{Lan}
+use Rattle.run_book.specs.of_master_node.Begins.{begun_of}
+use Rattle.run_book.specs.of_master_node.Eager as Master
+use Rattle.run_book.specs.of_master_node.Recalled.{AllKnow, AllRecall, RecallsBack}
+use Rattle.run_book.specs.of_master_node.Starts as Starts
+use Rattle.run_book.specs.of_master_node.declared.lan.Lan.{Lan}
 use Rattle.master_side.specs.Recall.{Recall}
 use Rattle.master_tour.specs.Brings.{accepted_at}
-use Rattle.packets_heard.specs.Recalled.{AllQuiet, AllStill, IsLanOf}
+use Rattle.run_record.specs.of_packets_heard.Recalled.{AllQuiet, AllStill, IsLanOf}
 use Rattle.segment_model.specs.Slaves.{Datagram, grams}
 use Rattle.segment_plan.specs.declared.plan.Scenario.{Scenario}
 use Rattle.idle_slaves.specs.WaitEager.{AllSilent}

@@ -20,7 +20,7 @@ use Rattle.life_runs.specs.First.{first_leads, lens_of}
 use Rattle.life_runs.specs.Led.{Exchanged}
 use Rattle.link_mails.specs.Body.{Body}
 use Rattle.mailbox_mail.specs.declared.mail.Mail.{Mail}
-use Rattle.master_node.specs.Wants.{gave_of}
+use Rattle.run_book.specs.of_master_node.Wants.{gave_of}
 use Rattle.master_duty.specs.Reply.{Reply}
 use Rattle.master_hand.specs.Spoken.{Asked, emission, passed}
 use Rattle.plan_ring.specs.Lives.{IsKnown}
@@ -44,7 +44,7 @@ use Rattle.segment_plan.specs.Sound.{IsPlan}
 use Rattle.segment_plan.specs.declared.plan.Scenario.{Scenario}
 use Rattle.segment_plan.specs.declared.slave.SlaveSpec.{SlaveSpec}
 use Rattle.segment_ring.specs.Ring.{RingState}
-use Rattle.served_places.specs.Rows.{HearsNoMore, passed_rows, passings, replies_of}
+use Rattle.run_record.specs.of_served_places.Rows.{HearsNoMore, passed_rows, passings, replies_of}
 use Rattle.served_rings.specs.Given.{AllGiven, Given, IsGiven as IsGivenRow, given}
 use Rattle.served_rings.specs.Served.{AllServeSo, IsServedLife, replies_to}
 use Rattle.served_runs.specs.Served.{IsServedFrame, IsServedLed, ServedTurn, Serves, all_serve}

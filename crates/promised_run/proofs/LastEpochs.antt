@@ -10,7 +10,7 @@ use Rattle.life_runs.proofs.Opened.{IsOpened, Now, missed_so, opened_first, retu
 use Rattle.life_runs.specs.Causes.{since}
 use Rattle.life_runs.specs.First.{first_leads, leads_from, lens_of}
 use Rattle.life_runs.specs.Led.{Exchanged, gives_up_at, speech_at}
-use Rattle.master_node.specs.Wants.{gave_of}
+use Rattle.run_book.specs.of_master_node.Wants.{gave_of}
 use Rattle.master_side.specs.Passing.{news_back, news_lost}
 use Rattle.segment_plan.specs.declared.plan.Scenario.{Scenario}
 use Rattle.segment_plan.specs.declared.service.Service as Row

@@ -1,3 +1,4 @@
+pub use Rattle.gateway_run.proofs as of_gateway_run
 pub mod Ahead
 mod Alone
 mod Asked

@@ -10,9 +10,9 @@ use Rattle.link_mails.specs.Body.{Body}
 use Rattle.link_model.specs.Link.{Halves}
 use Rattle.master_duty.specs.Reply.{Reply}
 use Rattle.master_hand.specs.Spoken.{Asked}
-use Rattle.master_node.specs.Eager as Master
-use Rattle.master_node.specs.Eager.{next_visit}
-use Rattle.master_node.specs.Recalled.{IsFull, paused_behind, turn_behind}
+use Rattle.run_book.specs.of_master_node.Eager as Master
+use Rattle.run_book.specs.of_master_node.Eager.{next_visit}
+use Rattle.run_book.specs.of_master_node.Recalled.{IsFull, paused_behind, turn_behind}
 use Rattle.master_side.specs.Recall.{Recall}
 use Rattle.segment_model.specs.Ends.{Passing}
 use Rattle.segment_model.specs.Slaves.{Datagram}

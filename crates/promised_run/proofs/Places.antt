@@ -7,13 +7,13 @@ use Rattle.life_runs.specs.Led.{Leads, Turn}
 use Rattle.link_mails.specs.Body.{Body}
 use Rattle.master_duty.specs.Reply.{Reply}
 use Rattle.master_hand.specs.Spoken.{Asked}
-use Rattle.master_node.specs.Shows.{is_led, is_live_lead, is_opening_lead}
-use Rattle.master_node.specs.Toured.{turn_share}
-use Rattle.master_node.specs.of_master_tour.Goes.{holds_at, opened_behind}
-use Rattle.master_node.specs.of_master_tour.Made as Made
-use Rattle.master_node.specs.of_master_tour.Orders as Orders
-use Rattle.master_node.specs.of_master_tour.Stands as Stands
-use Rattle.master_node.specs.of_master_tour.Toured as Tours
+use Rattle.run_book.specs.of_master_node.Shows.{is_led, is_live_lead, is_opening_lead}
+use Rattle.run_book.specs.of_master_node.Toured.{turn_share}
+use Rattle.run_book.specs.of_master_node.of_master_tour.Goes.{holds_at, opened_behind}
+use Rattle.run_book.specs.of_master_node.of_master_tour.Made as Made
+use Rattle.run_book.specs.of_master_node.of_master_tour.Orders as Orders
+use Rattle.run_book.specs.of_master_node.of_master_tour.Stands as Stands
+use Rattle.run_book.specs.of_master_node.of_master_tour.Toured as Tours
 use Rattle.segment_model.specs.Slaves.{Datagram}
 use Rattle.run_frames.specs.Clocks.{Clocked, start_of}
 use Rattle.run_frames.specs.Led.{AreLed, unders}

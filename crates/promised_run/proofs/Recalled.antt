@@ -7,10 +7,10 @@ use Rattle.life_runs.specs.Led.{Exchanged, Leads}
 use Rattle.link_mails.specs.Body.{Body}
 use Rattle.master_duty.specs.Reply.{Reply}
 use Rattle.master_hand.specs.Spoken.{Asked}
-use Rattle.master_node.specs.Happened.{arrivals_at}
-use Rattle.master_node.specs.of_master_tour.Toured.{Tour}
+use Rattle.run_book.specs.of_master_node.Happened.{arrivals_at}
+use Rattle.run_book.specs.of_master_node.of_master_tour.Toured.{Tour}
 use Rattle.plan_ring.specs.Round.{ring_of, AllRound, behind}
-use Rattle.packets_heard.specs.Recalled.{State, RecalledIn}
+use Rattle.run_record.specs.of_packets_heard.Recalled.{State, RecalledIn}
 use Rattle.run_book.specs.declared.book.Book.{Book}
 use Rattle.run_book.specs.declared.book.Ending.{Ending}
 use Rattle.run_book.specs.declared.book.Ending.TheVariants as endings
@@ -27,7 +27,7 @@ use Rattle.segment_plan.specs.declared.plan.Scenario.{Scenario}
 use Rattle.segment_ring.specs.Ring.{RingState}
 use Rattle.slave_server.specs.Serving.{Serving}
 use Rattle.slave_steps.specs.Node.{Node}
-use Rattle.packets_heard.specs.Toured.{IsToured}
+use Rattle.run_record.specs.of_packets_heard.Toured.{IsToured}
 
 -- its frames went round the ring
 pub all_round : (ring : RingState (Node Serving)) (fs : List SentFrame) → AreRecorded ring fs → AllRound ring (map exchanged fs)

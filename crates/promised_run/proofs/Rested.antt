@@ -8,7 +8,7 @@ use Rattle.life_model.specs.Lives.{Stand}
 use Rattle.life_runs.proofs.Opened.{IsOpened}
 use Rattle.life_runs.specs.First.{first_leads, lens_of}
 use Rattle.life_runs.specs.Led.{Exchanged}
-use Rattle.master_node.specs.Wants.{IsMailless}
+use Rattle.run_book.specs.of_master_node.Wants.{IsMailless}
 use Rattle.plan_ring.specs.Lives.{IsKnown}
 use Rattle.plan_ring.specs.Round.{AllRound, ring_after as ring_behind, ring_of}
 use Rattle.promised_run.proofs.LastEpochs.{AllOpened, opened_over, quiet_where}

@@ -6,14 +6,14 @@ use Rattle.eoe_switch.specs.declared.switching.SwitchEvent.{SwitchEvent}
 use Rattle.frame_view.specs.View.{Lens}
 use Rattle.life_runs.specs.First.{lens_of}
 use Rattle.life_runs.specs.Led.{Exchanged, Leads}
-use Rattle.master_node.specs.Forwards.{forwarded, port_by, waiting_by}
-use Rattle.master_node.specs.Recalled.{AllKnow}
-use Rattle.master_node.specs.Resting as Resting
-use Rattle.master_node.specs.declared.lan.Lan.{Lan}
+use Rattle.run_book.specs.of_master_node.Forwards.{forwarded, port_by, waiting_by}
+use Rattle.run_book.specs.of_master_node.Recalled.{AllKnow}
+use Rattle.run_book.specs.of_master_node.Resting as Resting
+use Rattle.run_book.specs.of_master_node.declared.lan.Lan.{Lan}
 use Rattle.master_side.specs.Recall.{Recall}
 use Rattle.plan_ring.specs.PlanMet.{AllOpenAt, IsAt}
 use Rattle.plan_ring.specs.Asked.{asked}
-use Rattle.packets_heard.specs.Recalled.{AllSettled, IsLanOf}
+use Rattle.run_record.specs.of_packets_heard.Recalled.{AllSettled, IsLanOf}
 use Rattle.segment_plan.specs.declared.plan.Scenario.{Scenario}
 use Rattle.segment_plan.specs.declared.slave.SlaveSpec.{SlaveSpec}
 use Rattle.slave_server.specs.Serving.{Serving, next_mail}

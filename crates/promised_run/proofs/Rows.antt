@@ -13,7 +13,7 @@ use Rattle.life_runs.specs.of_link_mails.Body.{Body}
 use Rattle.life_runs.specs.of_master_duty.Reply.{Reply}
 use Rattle.life_runs.specs.of_master_hand.Spoken.{Asked, sdo, file, drive, net, passed, acknowledged, is_followed}
 use Rattle.life_runs.specs.of_master_side.Passing.{news_back, news_lost}
-use Rattle.master_node.proofs.Servings.{leads_same, run_all}
+use Rattle.gateway_run.proofs.of_master_node.Servings.{leads_same, run_all}
 use Rattle.promised_run.specs.Numbers.{eras_rows, life_rows, packet_frames, rows_at}
 use Rattle.promised_run.specs.ServedPorts.{is_mail, mail_frames}
 use Rattle.run_book.specs.of_master_node.Begins.{begins_other, begun_of}

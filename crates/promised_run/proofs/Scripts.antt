@@ -5,7 +5,7 @@ use Rattle.frame_view.specs.View.{Lens}
 use Rattle.life_runs.specs.First.{AreApart, HaveLens, lens_of, script_for}
 use Rattle.life_runs.proofs.First.{have_lens}
 use Rattle.life_runs.specs.Led.{Leads}
-use Rattle.master_node.specs.Starts.{NeverBegins}
+use Rattle.run_book.specs.of_master_node.Starts.{NeverBegins}
 use Rattle.plan_ring.specs.Lives.{AllShown, IsShown}
 use Rattle.plan_ring.specs.Plan.{PlanMember}
 use Rattle.segment_plan.specs.declared.plan.Scenario.{Scenario}

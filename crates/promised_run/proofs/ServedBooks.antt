@@ -5,7 +5,7 @@ use Rattle.life_runs.specs.Led.{Exchanged, gives_up_at}
 use Rattle.life_runs.specs.Opened.{AllOpenTheirs}
 use Rattle.datagrams.specs.Datagram as Raw
 use Rattle.frame_view.specs.View.{Lens}
-use Rattle.master_node.specs.Serving.{run_lead}
+use Rattle.run_book.specs.of_master_node.Serving.{run_lead}
 use Rattle.promised_run.proofs.Epochs.{all_caused}
 use Rattle.promised_run.proofs.ServedPorts.{gave_so}
 use Rattle.promised_run.proofs.Unsent.{AllOfPlan, all_unsent}

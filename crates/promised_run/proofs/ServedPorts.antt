@@ -6,7 +6,7 @@ use Rattle.gateway_run.specs.Serving.{Told}
 use Rattle.life_runs.specs.First.{first_leads, lens_of}
 use Rattle.life_runs.specs.Led.{Exchanged, Leads}
 use Rattle.life_runs.specs.of_life_frames.Shares.{AllBoth}
-use Rattle.master_node.proofs.Servings.{run_all}
+use Rattle.gateway_run.proofs.of_master_node.Servings.{run_all}
 use Rattle.promised_run.proofs.Numbers.{given_are, scripts_are}
 use Rattle.promised_run.proofs.Ports.{by_times, few_ports, first_live}
 use Rattle.promised_run.proofs.Rows.{both_hold, serving_packets, serving_plain}

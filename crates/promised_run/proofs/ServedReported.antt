@@ -10,7 +10,7 @@ use Rattle.life_runs.specs.Led.{Exchanged}
 use Rattle.link_mails.specs.Body.{Body}
 use Rattle.master_duty.specs.Reply.{Reply}
 use Rattle.master_hand.specs.Spoken.{Asked, sdo, file, drive, net, passed}
-use Rattle.master_node.specs.Serving.{run_lead}
+use Rattle.run_book.specs.of_master_node.Serving.{run_lead}
 use Rattle.plan_ring.specs.Lives.{IsKnown}
 use Rattle.plan_ring.specs.Round.{AllRound, all_seen, ring_of}
 use Rattle.promised_run.proofs.Reported.{are_noted, first_row, none_noted, parts, unopened_none}

@@ -7,13 +7,13 @@ use Rattle.promised_run.specs.Eager.{IsEagerServing}
 use Rattle.eoe_switch.specs.declared.switching.SwitchEvent.{SwitchEvent}
 use Rattle.gateway_run.specs.Served.{HasAccount}
 use Rattle.life_runs.specs.Led.{Exchanged}
-use Rattle.master_node.specs.Happened.{arrivals_at, events_of}
-use Rattle.master_node.specs.Ports.{IsAtPort, ports_behind, ports_of}
-use Rattle.master_node.specs.Toured.{tour_of}
-use Rattle.master_node.specs.of_master_tour.Toured.{Tour}
-use Rattle.packets_heard.specs.Recalled.{State}
-use Rattle.packets_heard.specs.ServedRecalled.{ServedRecalledIn}
-use Rattle.packets_heard.specs.Servings.{AreServedBegun, ServedListed}
+use Rattle.run_book.specs.of_master_node.Happened.{arrivals_at, events_of}
+use Rattle.run_book.specs.of_master_node.Ports.{IsAtPort, ports_behind, ports_of}
+use Rattle.run_book.specs.of_master_node.Toured.{tour_of}
+use Rattle.run_book.specs.of_master_node.of_master_tour.Toured.{Tour}
+use Rattle.run_record.specs.of_packets_heard.Recalled.{State}
+use Rattle.run_record.specs.of_packets_heard.ServedRecalled.{ServedRecalledIn}
+use Rattle.run_record.specs.of_packets_heard.Servings.{AreServedBegun, ServedListed}
 use Rattle.plan_ring.specs.Round.{AllRound, ring_of}
 use Rattle.run_book.specs.declared.book.Book.{Book}
 use Rattle.run_book.specs.declared.book.Ending.{Ending}

@@ -11,14 +11,14 @@ use Rattle.life_runs.specs.of_datagrams.Datagram as Raw
 use Rattle.link_mails.specs.Body.{Body}
 use Rattle.master_duty.specs.Reply.{Reply}
 use Rattle.master_hand.specs.Spoken.{Asked, acknowledged, is_followed}
-use Rattle.master_node.specs.Rooms.{area_at}
-use Rattle.master_node.specs.Serving.{run_lead, run_turn}
-use Rattle.master_node.specs.Shows.{is_live_lead, lead_of}
-use Rattle.master_node.specs.Toured.{turn_share}
-use Rattle.master_node.specs.of_master_tour.Goes.{holds_at}
-use Rattle.master_node.specs.of_master_tour.Sizes.{frame_size}
-use Rattle.master_node.specs.of_master_tour.Toured.{HaveFrom, IsOfTour, Tour, has_number, visit_of}
-use Rattle.packets_heard.specs.Served.{IsTourServed, serves_behind}
+use Rattle.run_book.specs.of_master_node.Rooms.{area_at}
+use Rattle.run_book.specs.of_master_node.Serving.{run_lead, run_turn}
+use Rattle.run_book.specs.of_master_node.Shows.{is_live_lead, lead_of}
+use Rattle.run_book.specs.of_master_node.Toured.{turn_share}
+use Rattle.run_book.specs.of_master_node.of_master_tour.Goes.{holds_at}
+use Rattle.run_book.specs.of_master_node.of_master_tour.Sizes.{frame_size}
+use Rattle.run_book.specs.of_master_node.of_master_tour.Toured.{HaveFrom, IsOfTour, Tour, has_number, visit_of}
+use Rattle.run_record.specs.of_packets_heard.Served.{IsTourServed, serves_behind}
 use Rattle.promised_run.proofs.TouredTours.{leads_asked}
 use Rattle.promised_run.proofs.Visits.{AllStand, AllTurnStand, Placed, frame_placed, none_placed, one_visit}
 use Rattle.promised_run.specs.Visits.{AllServedVisit, IsServedVisited, stops_of}
@@ -33,7 +33,7 @@ use Rattle.segment_plan.specs.declared.service.Service as Plan
 use Rattle.segment_plan.specs.declared.slave.SlaveSpec.{SlaveSpec}
 use Rattle.segment_ring.specs.declared.wire.Fate.{Fate}
 use Rattle.segment_ring.specs.declared.wire.Fate.TheVariants.{Pass, Lost}
-use Rattle.served_places.proofs.Slaves.{first_leads_in}
+use Rattle.run_record.proofs.of_served_places.Slaves.{first_leads_in}
 use Rattle.served_runs.specs.Served.{AllServedTurn, IsServedFrame, IsServedTurn, Serves, ServedTurn, served_life}
 use Rattle.task_model.specs.Accounts.{Pick, account_next, mails_choice}
 use Rattle.exchange_model.specs.Exchange.{Speech}

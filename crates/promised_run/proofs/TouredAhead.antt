@@ -10,10 +10,10 @@ use Rattle.life_runs.specs.Led.{Exchanged, speech_at, is_passed}
 use Rattle.link_mails.specs.Body.{Body}
 use Rattle.master_duty.specs.Reply.{Reply}
 use Rattle.master_hand.specs.Spoken.{Asked, acknowledged, is_followed}
-use Rattle.master_node.specs.Serving.{run_lead, run_turn}
-use Rattle.master_node.specs.Shows.{is_opening_lead}
-use Rattle.master_node.specs.of_master_tour.Goes.{holds_at}
-use Rattle.master_node.specs.of_master_tour.Stands.{is_opening}
+use Rattle.run_book.specs.of_master_node.Serving.{run_lead, run_turn}
+use Rattle.run_book.specs.of_master_node.Shows.{is_opening_lead}
+use Rattle.run_book.specs.of_master_node.of_master_tour.Goes.{holds_at}
+use Rattle.run_book.specs.of_master_node.of_master_tour.Stands.{is_opening}
 use Rattle.master_side.specs.Passing.{news_back, news_lost}
 use Rattle.segment_model.specs.Record.{News}
 use Rattle.segment_model.specs.Slaves.{Datagram}

@@ -8,16 +8,16 @@ use Rattle.life_runs.specs.Led.{Exchanged, Leads, gives_up_at, missed_behind}
 use Rattle.link_mails.specs.Body.{Body}
 use Rattle.master_duty.specs.Reply.{Reply}
 use Rattle.master_hand.specs.Spoken.{Asked}
-use Rattle.master_node.specs.Rooms.{area_at}
-use Rattle.master_node.specs.Serving.{run_lead, run_turn}
-use Rattle.master_node.specs.Shows.{is_live_lead, is_opening_lead}
-use Rattle.master_node.specs.Toured.{turn_share}
-use Rattle.master_node.specs.of_master_tour.Goes.{holds_at, opened_behind}
-use Rattle.master_node.specs.of_master_tour.Orders as Orders
-use Rattle.master_node.specs.of_master_tour.Sizes.{frame_size}
-use Rattle.master_node.specs.of_master_tour.Toured.{Carries, Tour, IsOfTour, goes_on}
-use Rattle.packets_heard.specs.Served as Visits
-use Rattle.packets_heard.specs.Toured.{tour_behind}
+use Rattle.run_book.specs.of_master_node.Rooms.{area_at}
+use Rattle.run_book.specs.of_master_node.Serving.{run_lead, run_turn}
+use Rattle.run_book.specs.of_master_node.Shows.{is_live_lead, is_opening_lead}
+use Rattle.run_book.specs.of_master_node.Toured.{turn_share}
+use Rattle.run_book.specs.of_master_node.of_master_tour.Goes.{holds_at, opened_behind}
+use Rattle.run_book.specs.of_master_node.of_master_tour.Orders as Orders
+use Rattle.run_book.specs.of_master_node.of_master_tour.Sizes.{frame_size}
+use Rattle.run_book.specs.of_master_node.of_master_tour.Toured.{Carries, Tour, IsOfTour, goes_on}
+use Rattle.run_record.specs.of_packets_heard.Served as Visits
+use Rattle.run_record.specs.of_packets_heard.Toured.{tour_behind}
 use Rattle.run_frames.specs.Answers.{AllAsk}
 use Rattle.run_frames.specs.Goes.{Under}
 use Rattle.run_frames.specs.Led.{AreLed}
@@ -28,9 +28,9 @@ use Rattle.run_frames.specs.Waits.{all_anew}
 use Rattle.run_frames.proofs.Leading.{SeenIs}
 use Rattle.segment_ring.specs.declared.wire.Fate.{Fate}
 use Rattle.segment_ring.specs.declared.wire.Fate.TheVariants.{Pass, Lost}
-use Rattle.served_places.specs.Answered.{ServedAsks}
-use Rattle.served_places.specs.Toured.{IsServedToured, back_under, first_served, lost_under, served_back, served_lost, serves_on, still_served, waits_served}
-use Rattle.served_places.proofs.Slaves.{all_led_back, all_led_lost}
+use Rattle.run_record.specs.of_served_places.Answered.{ServedAsks}
+use Rattle.run_record.specs.of_served_places.Toured.{IsServedToured, back_under, first_served, lost_under, served_back, served_lost, serves_on, still_served, waits_served}
+use Rattle.run_record.proofs.of_served_places.Slaves.{all_led_back, all_led_lost}
 use Rattle.served_runs.specs.Served.{Keyed, Serves, ServedTurn, AllServedTurn, IsServedFrame, MayAsk, asked_at}
 use Rattle.promised_run.proofs.Asks.{asks_same}
 use Rattle.promised_run.proofs.Ahead.{alone, not_in}

@@ -5,13 +5,13 @@ use Rattle.std.proofs.lemmas.Bool.{ltb-true, ltb-false, cases_order, cases_lt}
 use Rattle.frame_view.specs.Seen.{seen}
 use Rattle.frame_view.specs.View.{Lens}
 use Rattle.life_runs.specs.Led.{Exchanged, Leads, Turn, IsLedFrame, AllTurn, gives_up_at, missed_behind}
-use Rattle.master_node.specs.Rooms.{area_at}
-use Rattle.master_node.specs.Shows.{is_live_lead, is_opening_lead}
-use Rattle.master_node.specs.Toured.{turn_share}
-use Rattle.master_node.specs.of_master_tour.Goes.{holds_at, opened_behind}
-use Rattle.master_node.specs.of_master_tour.Orders as Orders
-use Rattle.master_node.specs.of_master_tour.Sizes.{frame_size}
-use Rattle.master_node.specs.of_master_tour.Toured.{Tour, IsOfTour, goes_on}
+use Rattle.run_book.specs.of_master_node.Rooms.{area_at}
+use Rattle.run_book.specs.of_master_node.Shows.{is_live_lead, is_opening_lead}
+use Rattle.run_book.specs.of_master_node.Toured.{turn_share}
+use Rattle.run_book.specs.of_master_node.of_master_tour.Goes.{holds_at, opened_behind}
+use Rattle.run_book.specs.of_master_node.of_master_tour.Orders as Orders
+use Rattle.run_book.specs.of_master_node.of_master_tour.Sizes.{frame_size}
+use Rattle.run_book.specs.of_master_node.of_master_tour.Toured.{Tour, IsOfTour, goes_on}
 use Rattle.segment_ring.specs.declared.wire.Fate.{Fate}
 use Rattle.segment_ring.specs.declared.wire.Fate.TheVariants.{Pass, Lost}
 use Rattle.run_frames.specs.Led.{AreLed, unders, first_clocked, behind_lost, behind_back, still_led, waits_led, leads_behind}
@@ -22,8 +22,8 @@ use Rattle.run_frames.specs.Toured.{IsToured, AskIn}
 use Rattle.run_frames.specs.Tours.{IsVisited, PlacesOf, again_behind, last_lost}
 use Rattle.run_frames.specs.Waits.{all_anew}
 use Rattle.run_frames.proofs.Leading.{SeenIs, all_led_lost, all_led_back}
-use Rattle.packets_heard.specs.Toured as Visits
-use Rattle.packets_heard.specs.Toured.{tour_behind}
+use Rattle.run_record.specs.of_packets_heard.Toured as Visits
+use Rattle.run_record.specs.of_packets_heard.Toured.{tour_behind}
 use Rattle.promised_run.proofs.Asks.{asks_same}
 use Rattle.promised_run.proofs.Ahead.{out_stays, kept_stays, alone, not_in}
 use Rattle.promised_run.proofs.Places.{Slave, lives_same, long_same, opened_same, places_are, comes_again, shares_are, under_same, last_round, last_first, opened_kept, last_kept}

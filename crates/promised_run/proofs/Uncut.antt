@@ -8,11 +8,11 @@ use Rattle.life_runs.specs.Led.{Exchanged, Leads, IsLed}
 use Rattle.link_mails.specs.Body.{Body}
 use Rattle.master_duty.specs.Reply.{Reply}
 use Rattle.master_hand.specs.Spoken.{Asked}
-use Rattle.master_node.specs.Happened.{arrivals_at}
-use Rattle.master_node.specs.Ports.{IsAtPort, ports_behind, ports_of}
-use Rattle.packets_heard.specs.Over.{AreBegun}
+use Rattle.run_book.specs.of_master_node.Happened.{arrivals_at}
+use Rattle.run_book.specs.of_master_node.Ports.{IsAtPort, ports_behind, ports_of}
+use Rattle.run_record.specs.of_packets_heard.Over.{AreBegun}
 use Rattle.plan_ring.specs.Round.{ring_of, AllRound}
-use Rattle.packets_heard.specs.Listed.{Listed}
+use Rattle.run_record.specs.of_packets_heard.Listed.{Listed}
 use Rattle.run_book.specs.declared.book.Book.{Book}
 use Rattle.run_book.specs.declared.book.Ending.{Ending}
 use Rattle.run_book.specs.declared.book.Ending.TheVariants as endings

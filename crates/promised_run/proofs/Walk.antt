@@ -10,14 +10,14 @@ use Rattle.life_runs.specs.Led.{Exchanged, Leads, Turn, IsLed, IsLedFrame, gives
 use Rattle.link_mails.specs.Body.{Body}
 use Rattle.master_duty.specs.Reply.{Reply}
 use Rattle.master_hand.specs.Spoken.{Asked}
-use Rattle.master_node.specs.Happened.{arrivals_at}
-use Rattle.master_node.specs.Recalled.{AllKnow}
-use Rattle.master_node.specs.of_master_tour.Toured.{Tour}
+use Rattle.run_book.specs.of_master_node.Happened.{arrivals_at}
+use Rattle.run_book.specs.of_master_node.Recalled.{AllKnow}
+use Rattle.run_book.specs.of_master_node.of_master_tour.Toured.{Tour}
 use Rattle.plan_ring.specs.PlanMet.{AllOpenAt}
 use Rattle.plan_ring.specs.Lives.{AreLived}
 use Rattle.plan_ring.specs.Round.{ring_of, ring_after, behind, AllRound}
 use Rattle.plan_ring.proofs.Lives.{front_round, one_after}
-use Rattle.packets_heard.specs.Recalled.{State, AllSettled, IsFirst, IsRecalledFrame, RecalledIn, has_entered}
+use Rattle.run_record.specs.of_packets_heard.Recalled.{State, AllSettled, IsFirst, IsRecalledFrame, RecalledIn, has_entered}
 use Rattle.run_frames.specs.Clocks.{Clocked}
 use Rattle.run_frames.specs.Fates.{lost_of}
 use Rattle.run_frames.specs.Led.{leads_behind}
@@ -28,7 +28,7 @@ use Rattle.segment_ring.specs.Ring.{RingState}
 use Rattle.segment_ring.specs.declared.wire.Fate.TheVariants.{Pass, Lost}
 use Rattle.slave_server.specs.Serving.{Serving}
 use Rattle.slave_steps.specs.Node.{Node}
-use Rattle.packets_heard.specs.Toured as Visits
+use Rattle.run_record.specs.of_packets_heard.Toured as Visits
 use Rattle.idle_slaves.specs.WaitEager.{AllRest, AllUnpassed, IsEagerFrame}
 use Rattle.plan_ring.specs.Dues.{MailsAreDue}
 use Rattle.promised_run.specs.Runs.{ScriptsMay, remembered, waiting_at}

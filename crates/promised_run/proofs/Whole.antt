@@ -24,8 +24,8 @@ use Rattle.segment_model.specs.Slaves.{Datagram, Found}
 use Rattle.segment_plan.specs.declared.plan.Scenario.{Scenario}
 use Rattle.segment_ring.specs.declared.wire.Fate.{Fate}
 use Rattle.segment_ring.specs.declared.wire.Fate.TheVariants.{Pass, Lost}
-use Rattle.served_places.proofs.Behind.{reopens_keeps}
-use Rattle.served_places.proofs.Held.{all_has, next_has}
+use Rattle.run_record.proofs.of_served_places.Behind.{reopens_keeps}
+use Rattle.run_record.proofs.of_served_places.Held.{all_has, next_has}
 use Rattle.served_runs.specs.Served.{Serves, ServedTurn, AllServedTurn, accepted_by, gives_it, served_behind, served_life}
 use Rattle.served_runs.specs.Told.{Passed, TellsOwn, replies_in, told_on}
 use Rattle.served_runs.proofs.Tells.{HasPassed, back_has, lost_has}

@@ -15,8 +15,8 @@ use Rattle.run_frames.specs.Runs.{Progress}
 use Rattle.run_work.specs.ServedGained.{asked_in}
 use Rattle.segment_plan.specs.Bound.{slowest}
 use Rattle.segment_plan.specs.declared.plan.Scenario.{Scenario}
-use Rattle.served_places.specs.Answered.{ServedAsks}
-use Rattle.served_places.specs.Toured.{IsServedToured}
+use Rattle.run_record.specs.of_served_places.Answered.{ServedAsks}
+use Rattle.run_record.specs.of_served_places.Toured.{IsServedToured}
 use Rattle.served_runs.specs.Served.{Keyed, Serves, all_serve}
 pub use Rattle.seen_slaves.specs.Dues.{ServedMailsAreDue}
 use Rattle.seen_slaves.specs.Eager.{ServedEagerIn}

@@ -8,7 +8,7 @@ use Rattle.gateway_run.specs.Served.{HasAccount}
 use Rattle.gateway_run.specs.Since.{GaveSince, NoneSince}
 use Rattle.mailbox_mail.specs.Mail.{error_of}
 use Rattle.mailbox_mail.specs.declared.mail.Mail.{Mail}
-use Rattle.master_node.specs.Wants.{gave_of}
+use Rattle.run_book.specs.of_master_node.Wants.{gave_of}
 use Rattle.run_book.specs.declared.book.Book.{Book}
 use Rattle.run_book.specs.declared.book.Ending.{Ending}
 use Rattle.run_book.specs.declared.book.GramIn.{GramIn}
@@ -18,7 +18,7 @@ use Rattle.run_work.specs.Lives.{first_server}
 use Rattle.segment_model.specs.Ends.{Passing}
 use Rattle.segment_plan.specs.declared.plan.Scenario.{Scenario}
 use Rattle.segment_plan.specs.declared.slave.SlaveSpec.{SlaveSpec}
-use Rattle.served_places.specs.Rows.{passings}
+use Rattle.run_record.specs.of_served_places.Rows.{passings}
 use Rattle.served_rings.specs.Given.{Given, given}
 use Rattle.served_rings.specs.Served.{AllServeSo, replies_to}
 use Rattle.served_runs.specs.Served.{Serves}

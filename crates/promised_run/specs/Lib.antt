@@ -1,3 +1,4 @@
+pub use Rattle.gateway_run.specs as of_gateway_run
 pub use Rattle.run_record.specs.Ran
 pub use Rattle.run_record.specs.Session
 pub mod Alone

@@ -5,7 +5,7 @@ use Rattle.gateway_run.specs.Since.{NoneSince}
 use Rattle.life_model.specs.Lives.{Stand}
 use Rattle.life_runs.specs.Causes.{since}
 use Rattle.life_runs.specs.First.{lens_of}
-use Rattle.master_node.specs.Wants.{gave_of}
+use Rattle.run_book.specs.of_master_node.Wants.{gave_of}
 use Rattle.run_book.specs.declared.book.Book.{Book}
 use Rattle.run_record.specs.Led.{LeavesNone}
 use Rattle.run_record.specs.Replay.{first_ring, ring_after}

@@ -9,8 +9,8 @@ use Rattle.life_runs.specs.Led.{Exchanged, Leads}
 use Rattle.link_mails.specs.Body.{Body}
 use Rattle.master_duty.specs.Reply.{Reply}
 use Rattle.master_hand.specs.Spoken.{Asked}
-use Rattle.master_node.specs.Forwards.{port_by, waiting_by}
-use Rattle.master_node.specs.Ports.{ports_behind, ports_of}
+use Rattle.run_book.specs.of_master_node.Forwards.{port_by, waiting_by}
+use Rattle.run_book.specs.of_master_node.Ports.{ports_behind, ports_of}
 use Rattle.master_side.specs.Recall.{Recall}
 use Rattle.plan_ring.specs.Round.{ring_of, AllRound}
 use Rattle.plan_ring.specs.PlanRooms.{MayBegin}

@@ -5,15 +5,15 @@ use Rattle.life_runs.specs.Led.{Exchanged}
 use Rattle.link_mails.specs.Body.{Body}
 use Rattle.master_duty.specs.Reply.{Reply}
 use Rattle.master_hand.specs.Spoken.{Asked}
-use Rattle.master_node.specs.Serving.{run_lead}
-use Rattle.master_node.specs.of_master_tour.Toured.{Tour}
+use Rattle.run_book.specs.of_master_node.Serving.{run_lead}
+use Rattle.run_book.specs.of_master_node.of_master_tour.Toured.{Tour}
 use Rattle.run_frames.specs.Clocks.{Clocked}
 use Rattle.run_frames.specs.Led.{AreLed}
 use Rattle.run_frames.specs.Runs.{Progress}
 use Rattle.segment_plan.specs.Bound.{slowest}
 use Rattle.segment_plan.specs.declared.plan.Scenario.{Scenario}
-use Rattle.served_places.specs.Answered.{ServedAsks}
-use Rattle.served_places.specs.Toured.{IsServedToured}
+use Rattle.run_record.specs.of_served_places.Answered.{ServedAsks}
+use Rattle.run_record.specs.of_served_places.Toured.{IsServedToured}
 use Rattle.served_runs.specs.Served.{Serves, all_serve}
 
 -- how far the serving has come, and its slaves with the clocks of their processors: its frames are visits of one tour, which stands where the master's does,

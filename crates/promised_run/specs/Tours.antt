@@ -5,7 +5,7 @@ use Rattle.life_runs.specs.Led.{Exchanged, Leads}
 use Rattle.link_mails.specs.Body.{Body}
 use Rattle.master_duty.specs.Reply.{Reply}
 use Rattle.master_hand.specs.Spoken.{Asked}
-use Rattle.master_node.specs.of_master_tour.Toured.{Tour}
+use Rattle.run_book.specs.of_master_node.of_master_tour.Toured.{Tour}
 use Rattle.run_frames.specs.Clocks.{Clocked}
 use Rattle.run_frames.specs.Led.{AreLed}
 use Rattle.run_frames.specs.Runs.{Progress}

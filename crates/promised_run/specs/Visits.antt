@@ -5,7 +5,7 @@ use Rattle.life_runs.specs.of_frame_view.Seen.{seen}
 use Rattle.script_runs.specs.of_life_model.Tours.{Member, round}
 use Rattle.life_runs.specs.First.{lens_of, first_leads}
 use Rattle.life_runs.specs.Led.{Exchanged, Leads}
-use Rattle.packets_heard.specs.Served.{IsTourServed}
+use Rattle.run_record.specs.of_packets_heard.Served.{IsTourServed}
 use Rattle.run_book.specs.declared.book.Book.{Book}
 use Rattle.run_book.specs.declared.book.Ending.{Ending}
 use Rattle.run_book.specs.of_master_node.Serving.{run_lead}

@@ -3,7 +3,7 @@
 
 ghost use Rattle.std.specs.Prelude.{◌≤◌, ℕ, All, length, map};
 ghost use Rattle.gateway_run.specs.Served.{HasAccount};
-ghost use Rattle.master_node.specs.Toured.{tour_of};
+ghost use Rattle.run_book.specs.of_master_node.Toured.{tour_of};
 ghost use Rattle.run_book.specs.declared.book.Book.{Book};
 ghost use Rattle.run_book.specs.declared.book.Ending.{Ending};
 ghost use Rattle.run_book.specs.declared.book.GramIn.{GramIn};

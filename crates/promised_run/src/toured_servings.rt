@@ -3,8 +3,8 @@
 
 ghost use Rattle.life_runs.specs.First.{lens_of, first_leads};
 ghost use Rattle.life_runs.specs.Led.{Exchanged};
-ghost use Rattle.master_node.specs.of_master_tour.Toured.{Tour};
-ghost use Rattle.packets_heard.specs.Served.{IsTourServed};
+ghost use Rattle.run_book.specs.of_master_node.of_master_tour.Toured.{Tour};
+ghost use Rattle.run_record.specs.of_packets_heard.Served.{IsTourServed};
 ghost use Rattle.segment_plan.specs.Sound.{IsPlan};
 ghost use Rattle.segment_plan.specs.declared.plan.Scenario.{Scenario};
 ghost use Rattle.served_runs.specs.Served.{Serves, all_serve};

@@ -2,9 +2,9 @@
 //! states the law.
 
 ghost use Rattle.gateway_run.specs.Served.{HasAccount};
-ghost use Rattle.master_node.specs.Happened.{events_of};
-ghost use Rattle.packets_heard.specs.Recalled.{State};
-ghost use Rattle.packets_heard.specs.ServedRecalled.{ServedRecalledIn};
+ghost use Rattle.run_book.specs.of_master_node.Happened.{events_of};
+ghost use Rattle.run_record.specs.of_packets_heard.Recalled.{State};
+ghost use Rattle.run_record.specs.of_packets_heard.ServedRecalled.{ServedRecalledIn};
 ghost use Rattle.plan_ring.specs.Lives.{IsKnown};
 ghost use Rattle.plan_ring.specs.PlanRooms.{HasRoom};
 ghost use Rattle.run_book.specs.declared.book.Book.{Book};

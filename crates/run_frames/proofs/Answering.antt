@@ -6,9 +6,9 @@ use Rattle.datagrams.specs.declared.command.Command.TheVariants.{Fprd, Fpwr}
 use Rattle.datagrams.specs.Datagram as Raw
 use Rattle.frame_view.specs.Seen.{datagrams_seen}
 use Rattle.frame_view.specs.View.{Lens, datagram_seen, address_of, station_of}
-use Rattle.life_frames.specs.Frames.{FrameFor, HasOne, GramFor, IsOpenGram}
-use Rattle.life_frames.specs.Shares.{Asked, came_at, came_of}
-use Rattle.life_frames.proofs.Frames.{own_none, own_one}
+use Rattle.life_runs.specs.of_life_frames.Frames.{FrameFor, HasOne, GramFor, IsOpenGram}
+use Rattle.life_runs.specs.of_life_frames.Shares.{Asked, came_at, came_of}
+use Rattle.life_runs.proofs.of_life_frames.Frames.{own_none, own_one}
 use Rattle.life_model.specs.Lives.{Stand}
 use Rattle.life_model.specs.Own.{own}
 use Rattle.life_model.specs.Tours.{item_at}
@@ -18,8 +18,8 @@ use Rattle.link_model.specs.Frames as Link
 use Rattle.link_model.specs.Frames.{Gram, IsSent, in_ask}
 use Rattle.link_model.specs.Mails.{LinkMail}
 use Rattle.link_model.specs.Master.{InHalf, InState}
-use Rattle.master_duty.specs.Reply.{Reply}
-use Rattle.master_hand.specs.Spoken as Spoken
+use Rattle.life_runs.specs.of_master_duty.Reply.{Reply}
+use Rattle.life_runs.specs.of_master_hand.Spoken as Spoken
 use Rattle.segment_model.specs.Record.{is_for}
 use Rattle.segment_model.specs.Returned.{IsReturn, Returns}
 use Rattle.segment_model.specs.Slaves.{Datagram, grams}

@@ -3,8 +3,8 @@ use Rattle.std.proofs.Common.{◌≡◌, ℕ, zero, suc, ◌+◌, ◌<◌, ◌�
 use Rattle.link_mails.specs.Body.{Body}
 use Rattle.life_measure.specs.Gains.{gains}
 use Rattle.life_runs.specs.Led.{Exchanged, Leads}
-use Rattle.master_duty.specs.Reply.{Reply}
-use Rattle.master_hand.specs.Spoken.{Asked}
+use Rattle.life_runs.specs.of_master_duty.Reply.{Reply}
+use Rattle.life_runs.specs.of_master_hand.Spoken.{Asked}
 use Rattle.segment_ring.specs.Schedule.{fate_at}
 use Rattle.segment_ring.specs.declared.wire.Fate.TheVariants.{Lost}
 use Rattle.run_frames.specs.Clocks.{Clocked, reopened, gains_all, reopened_all}

@@ -6,14 +6,14 @@ use Rattle.datagrams.specs.Frame.{IsFrame, chained}
 use Rattle.frame_view.specs.Seen.{seen, datagrams_seen}
 use Rattle.frame_view.specs.View.{Lens, datagram_seen, address_of, place_of}
 use Rattle.frame_view.proofs.Octets.{seen_chained}
-use Rattle.life_frames.specs.Frames.{FrameFor, AllNotFor, IsNotFor}
-use Rattle.life_frames.specs.Shares.{Asked as Asks, IsNext, came_at, given_where}
+use Rattle.life_runs.specs.of_life_frames.Frames.{FrameFor, AllNotFor, IsNotFor}
+use Rattle.life_runs.specs.of_life_frames.Shares.{Asked as Asks, IsNext, came_at, given_where}
 use Rattle.life_model.specs.Lives.{Spot, Life, life_next, life_lost, life_back}
 use Rattle.life_model.specs.Own.{own}
 use Rattle.life_runs.specs.Led.{Exchanged, Leads, Turn, IsTurn, AllTurn, speech_at, is_passed, led_behind, life_behind}
 use Rattle.link_mails.specs.Body.{Body}
-use Rattle.master_duty.specs.Reply.{Reply}
-use Rattle.master_hand.specs.Spoken.{Asked, acknowledged, is_followed}
+use Rattle.life_runs.specs.of_master_duty.Reply.{Reply}
+use Rattle.life_runs.specs.of_master_hand.Spoken.{Asked, acknowledged, is_followed}
 use Rattle.segment_model.specs.Record.{is_for}
 use Rattle.segment_model.specs.Slaves.{Datagram, Address}
 use Rattle.segment_ring.specs.declared.wire.Fate.TheVariants.{Pass, Lost}

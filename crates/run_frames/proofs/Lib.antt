@@ -1,3 +1,4 @@
+pub use Rattle.life_runs.proofs as of_life_runs
 pub mod Access
 pub mod Answering
 mod Back

@@ -8,12 +8,12 @@ use Rattle.frame_view.specs.View.{Lens}
 use Rattle.life_runs.specs.First.{leads_from}
 use Rattle.life_runs.specs.Led.{Exchanged, Leads, IsLed, IsLedFrame, speech_at, is_passed, gives_up_at}
 use Rattle.link_mails.specs.Body.{Body}
-use Rattle.master_duty.specs.Reply.{Reply}
-use Rattle.master_hand.specs.Spoken.{Asked, acknowledged, is_followed}
-use Rattle.segment_plan.specs.Bound.{slowest, slowest_of}
-use Rattle.segment_plan.specs.Sound.{IsPace}
-use Rattle.segment_plan.specs.declared.service.Service as Plan
-use Rattle.segment_plan.specs.declared.slave.SlaveSpec.{SlaveSpec}
+use Rattle.life_runs.specs.of_master_duty.Reply.{Reply}
+use Rattle.life_runs.specs.of_master_hand.Spoken.{Asked, acknowledged, is_followed}
+use Rattle.life_runs.specs.of_segment_plan.Bound.{slowest, slowest_of}
+use Rattle.life_runs.specs.of_segment_plan.Sound.{IsPace}
+use Rattle.life_runs.specs.of_segment_plan.declared.service.Service as Plan
+use Rattle.life_runs.specs.of_segment_plan.declared.slave.SlaveSpec.{SlaveSpec}
 use Rattle.run_frames.specs.Begins.{AllNew}
 use Rattle.run_frames.specs.Clocks.{Clocked}
 use Rattle.run_frames.specs.Goes.{AllClocked}

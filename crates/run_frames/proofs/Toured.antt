@@ -5,8 +5,8 @@ use Rattle.frame_view.specs.Seen.{seen}
 use Rattle.frame_view.specs.View.{Lens}
 use Rattle.life_runs.specs.Led.{Exchanged, Leads, Turn, IsLedFrame, speech_at, is_passed, gives_up_at}
 use Rattle.link_mails.specs.Body.{Body}
-use Rattle.master_duty.specs.Reply.{Reply}
-use Rattle.master_hand.specs.Spoken.{Asked, acknowledged, is_followed}
+use Rattle.life_runs.specs.of_master_duty.Reply.{Reply}
+use Rattle.life_runs.specs.of_master_hand.Spoken.{Asked, acknowledged, is_followed}
 use Rattle.run_frames.specs.Answers.{AllAsk, AllAnswer, AllReturned}
 use Rattle.segment_model.specs.Returned.{Returns}
 use Rattle.segment_ring.specs.declared.wire.Fate.TheVariants.{Pass}

@@ -6,11 +6,11 @@ use Rattle.life_model.specs.Lives.{Spot}
 use Rattle.life_runs.specs.First.{lens_of}
 use Rattle.life_runs.specs.Led.{Leads, speech_at, is_passed}
 use Rattle.link_mails.specs.Body.{Body}
-use Rattle.master_duty.specs.Reply.{Reply}
-use Rattle.master_hand.specs.Spoken.{Asked, acknowledged, is_followed}
-use Rattle.segment_plan.specs.Bound.{slowest as slowest_pace}
-use Rattle.segment_plan.specs.Sound.{IsPlan}
-use Rattle.segment_plan.specs.declared.plan.Scenario.{Scenario}
+use Rattle.life_runs.specs.of_master_duty.Reply.{Reply}
+use Rattle.life_runs.specs.of_master_hand.Spoken.{Asked, acknowledged, is_followed}
+use Rattle.life_runs.specs.of_segment_plan.Bound.{slowest as slowest_pace}
+use Rattle.life_runs.specs.of_segment_plan.Sound.{IsPlan}
+use Rattle.life_runs.specs.of_segment_plan.declared.plan.Scenario.{Scenario}
 use Rattle.run_frames.specs.Clocks.{Clocked, gains_all, reopened_all, tally_of}
 use Rattle.run_frames.specs.Fates.{gained_in}
 use Rattle.run_frames.specs.Led.{AreLed}

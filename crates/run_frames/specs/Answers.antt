@@ -2,7 +2,7 @@
 use Rattle.std.specs.Prelude.{◌≡◌, ◌==◌, ◌&&◌, ℕ, Bool, true, false, Option, Some, List, [], ◌∷◌, ⊤}
 use Rattle.frame_view.specs.Seen.{seen}
 use Rattle.frame_view.specs.View.{Lens}
-use Rattle.life_frames.specs.Shares.{came_at}
+use Rattle.life_runs.specs.of_life_frames.Shares.{came_at}
 use Rattle.life_measure.specs.Repairs.{awaits_at, awaited}
 use Rattle.life_model.specs.Lives.{Opening, Stand, is_shown}
 use Rattle.life_model.specs.Own.{own}
@@ -11,8 +11,8 @@ use Rattle.link_mails.specs.Body.{Body}
 use Rattle.link_model.specs.Frames.{Ask, in_ask}
 use Rattle.link_model.specs.Mails.{differs}
 use Rattle.link_model.specs.Master.{InState}
-use Rattle.master_duty.specs.Reply.{Reply}
-use Rattle.master_hand.specs.Spoken.{Asked}
+use Rattle.life_runs.specs.of_master_duty.Reply.{Reply}
+use Rattle.life_runs.specs.of_master_hand.Spoken.{Asked}
 use Rattle.segment_model.specs.Returned.{Returns}
 use Rattle.segment_model.specs.Slaves.{Datagram, Found}
 use Rattle.segment_ring.specs.declared.wire.Fate.TheVariants.{Pass}

@@ -1,3 +1,6 @@
+pub use Rattle.life_runs.specs.of_master_side as of_master_side
+pub use Rattle.life_runs.specs.of_master_hand as of_master_hand
+pub use Rattle.life_runs.specs as of_life_runs
 pub mod Answers
 pub mod Begins
 pub mod Brings

@@ -23,7 +23,7 @@ use Rattle.segment_plan.specs.declared.service.Service as Plan
 use Rattle.segment_plan.specs.declared.slave.SlaveSpec.{SlaveSpec}
 use Rattle.segment_ring.specs.declared.wire.Fate.{Fate}
 use Rattle.segment_ring.specs.declared.wire.Fate.TheVariants.{Pass, Lost}
-use Rattle.slave_server.specs.declared.server.SlaveServer.{SlaveServer}
+use Rattle.run_book.specs.of_slave_server.declared.server.SlaveServer.{SlaveServer}
 use Rattle.slave_node.specs.of_slave_steps.Node.{Node}
 
 -- BEFORE THE FIRST FRAME

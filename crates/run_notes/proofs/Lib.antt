@@ -1,3 +1,4 @@
+pub use Rattle.life_heard.proofs as of_life_heard
 pub use Rattle.script_runs.proofs as of_script_runs
 pub mod Counted
 pub mod Epochs

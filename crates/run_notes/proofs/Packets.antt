@@ -13,7 +13,7 @@ use Rattle.run_notes.specs.Slaves.{slave_rows}
 use Rattle.run_notes.specs.declared.notes.Awaited.{Awaited}
 use Rattle.run_notes.specs.declared.notes.Notes.{Notes}
 use Rattle.slave_node.specs.of_slave_steps.Node.{Node}
-use Rattle.slave_server.specs.declared.server.SlaveServer.{SlaveServer}
+use Rattle.run_book.specs.of_slave_server.declared.server.SlaveServer.{SlaveServer}
 
 -- where the rows of a slave stay, those of all do
 pub same_begun : (notes : List Notes) (place : ℕ) (d n : Notes) → n.begun ≡ (slice_index_or notes place d).begun → begun_noted (slice_set notes place n) ≡ begun_noted notes

@@ -29,7 +29,7 @@ use Rattle.master_node.specs.of_task_model.Accounts.{Account, Change}
 use Rattle.run_notes.specs.declared.notes.Awaited.{Awaited}
 use Rattle.run_notes.specs.declared.notes.Notes.{Notes}
 use Rattle.run_notes.proofs.Reports.{turn_same, turn_more, pass_still, pass_waits, pass_goes, pass_replied, pass_changed, pass_some, pass_anew, lost_still, lost_given, end_noted, end_spent, end_epochs}
-use Rattle.slave_server.specs.declared.server.SlaveServer.{SlaveServer}
+use Rattle.run_book.specs.of_slave_server.declared.server.SlaveServer.{SlaveServer}
 use Rattle.slave_node.specs.of_slave_steps.Node.{Node}
 
 abbrev Held : Type 0

@@ -26,7 +26,7 @@ use Rattle.run_notes.specs.declared.notes.Notes.{Notes}
 use Rattle.script_runs.specs.Answers.{Noted, AllNoted, IsNoted, Waits, life_scripted, newest_answer, reply_by}
 use Rattle.script_runs.specs.Steps.{EndedSo, TurnsSo, PassesSo, LosesSo, account_of, awaited, with_begun, with_reply}
 use Rattle.master_node.specs.of_segment_model.Ends.{Outcome}
-use Rattle.slave_server.specs.declared.server.SlaveServer.{SlaveServer}
+use Rattle.run_book.specs.of_slave_server.declared.server.SlaveServer.{SlaveServer}
 use Rattle.slave_node.specs.of_slave_steps.Node.{Node}
 
 -- ONE ANSWER MORE, which is no reply

@@ -1,3 +1,4 @@
+pub use Rattle.life_heard.specs as of_life_heard
 pub use Rattle.eoe_switch.specs as of_eoe_switch
 pub use Rattle.script_runs.specs as of_script_runs
 pub mod Notes

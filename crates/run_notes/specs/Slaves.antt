@@ -3,7 +3,7 @@ use Rattle.std.specs.Prelude.{◌≡◌, ℕ, zero, suc, map, ◌+◌, ◌==◌,
 use Rattle.segment_plan.specs.declared.service.Service.{Service}
 use Rattle.segment_plan.specs.declared.slave.SlaveSpec.{SlaveSpec}
 use Rattle.slave_node.specs.of_slave_steps.Node.{Node}
-use Rattle.slave_server.specs.declared.server.SlaveServer.{SlaveServer}
+use Rattle.run_book.specs.of_slave_server.declared.server.SlaveServer.{SlaveServer}
 use Rattle.run_book.specs.Ports.{IsAtPort}
 use Rattle.run_book.specs.declared.book.Book.{Book}
 use Rattle.run_book.specs.declared.book.SlaveBook.{SlaveBook}

@@ -30,10 +30,10 @@ use Rattle.run_notes.specs.Reports.{AllReport}
 use Rattle.run_notes.specs.Slaves.{first_notes}
 use Rattle.run_notes.specs.declared.notes.Notes.{Notes}
 use Rattle.run_notes.proofs.Packets.{mails_among, packets_among, rows_append, with_append}
-use Rattle.script_runs.specs.Answers.{turned}
-use Rattle.script_runs.specs.Came.{is_beside}
-use Rattle.script_runs.specs.Steps.{TurnsBy}
-use Rattle.script_runs.proofs.Turns.{life_mails}
+use Rattle.run_notes.specs.of_script_runs.Answers.{turned}
+use Rattle.run_notes.specs.of_script_runs.Came.{is_beside}
+use Rattle.run_notes.specs.of_script_runs.Steps.{TurnsBy}
+use Rattle.run_notes.proofs.of_script_runs.Turns.{life_mails}
 use Rattle.segment_plan.specs.declared.plan.Scenario.{Scenario}
 use Rattle.segment_plan.specs.declared.service.Service as Plan
 use Rattle.segment_plan.specs.declared.slave.SlaveSpec.{SlaveSpec}

@@ -21,7 +21,7 @@ use Rattle.run_notes.specs.Slaves.{gaves_noted, gaves_in, slave_row, slave_rows}
 use Rattle.run_record.specs.Session.{is_at_rest, are_at_rest, some_given_up, has_live}
 use Rattle.run_record.proofs.Heads.{heads, not_none, rests}
 use Rattle.run_record.proofs.Gones.{AllGone, all_gone, first_false, second_false}
-use Rattle.served_runs.specs.Served.{Serves}
+use Rattle.master_node.specs.of_served_runs.Served.{Serves}
 use Rattle.slave_server.specs.Serving.{next_mail}
 use Rattle.slave_server.specs.declared.server.SlaveServer.{SlaveServer}
 use Rattle.slave_node.specs.of_slave_steps.Node.{Node, is_settled}

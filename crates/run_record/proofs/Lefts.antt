@@ -52,7 +52,7 @@ use Rattle.run_record.specs.Served.{Serving}
 use Rattle.run_record.specs.Session.{IsDone, SessionState, has_live, session_rows}
 use Rattle.run_record.specs.Written.{WereServedDue}
 use Rattle.segment_plan.specs.declared.plan.Scenario.{Scenario}
-use Rattle.served_runs.specs.Served.{IsQuiet, IsRunOf, Serves}
+use Rattle.master_node.specs.of_served_runs.Served.{IsQuiet, IsRunOf, Serves}
 use Rattle.slave_node.specs.of_slave_steps.Node.{Node}
 use Rattle.slave_server.specs.declared.server.SlaveServer.{SlaveServer}
 

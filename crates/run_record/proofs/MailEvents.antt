@@ -24,8 +24,8 @@ use Rattle.master_node.specs.of_task_model.Accounts.{Change, is_free}
 use Rattle.run_notes.specs.Handed.{kinds_in}
 use Rattle.run_notes.proofs.Handings.{kinds_append}
 use Rattle.run_record.proofs.MailLives.{emergency_kinds, five_kinds, reply_kinds}
-use Rattle.served_runs.specs.Served.{Serves, ServedTurn}
-use Rattle.served_runs.specs.Told.{Passed, replies_in}
+use Rattle.master_node.specs.of_served_runs.Served.{Serves, ServedTurn}
+use Rattle.master_node.specs.of_served_runs.Told.{Passed, replies_in}
 
 -- ---- of another slave
 

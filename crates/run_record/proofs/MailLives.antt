@@ -30,7 +30,7 @@ use Rattle.master_node.proofs.Rowtells.{kind_told, passed_kind, passed_other}
 use Rattle.run_notes.specs.Handed.{kinds_in}
 use Rattle.run_notes.proofs.Handings.{kinds_append}
 use Rattle.run_record.specs.Mails.{has_passing}
-use Rattle.served_runs.specs.Told.{Passed, replies_in}
+use Rattle.master_node.specs.of_served_runs.Told.{Passed, replies_in}
 
 pub open_is : (stand : Stand) → is_open stand ≡ true → stand ≡ Stand.Open
 open_is (Stand.Opens o) e = absurd (let bad : false ≡ true = e in cc)

@@ -35,7 +35,7 @@ use Rattle.run_notes.specs.Handed.{kinds_in}
 use Rattle.run_notes.proofs.Handings.{kinds_append}
 use Rattle.run_record.proofs.MailLives.{Goes, behind_so, both_true, changes_none, e as era_behind, emergency_kinds, era_is, five_kinds, open_is, reply_kinds, same_account}
 use Rattle.run_record.specs.Written.{has_fragments}
-use Rattle.served_runs.specs.Told.{Passed, replies_in}
+use Rattle.master_node.specs.of_served_runs.Told.{Passed, replies_in}
 
 not_true : (b : Bool) → not b ≡ true → b ≡ false
 not_true true e = absurd (let bad : false ≡ true = e in cc)

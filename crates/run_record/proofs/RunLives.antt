@@ -4,7 +4,7 @@ use Rattle.std.proofs.Common.{◌≡◌, ℕ, zero, suc, Bool, Option, Some, Non
 use Rattle.std.specs.Prelude.{if◌then◌else◌}
 use Rattle.datagrams.specs.Datagram as Raw
 use Rattle.eoe_switch.specs.declared.switching.SwitchEvent.{SwitchEvent}
-use Rattle.life_heard.specs.Heard.{brought_by, heard_in, heard_none, heard_on}
+use Rattle.run_notes.specs.of_life_heard.Heard.{brought_by, heard_in, heard_none, heard_on}
 use Rattle.master_node.proofs.Handeds.{comes_own}
 use Rattle.master_node.specs.Begins.{begun_of}
 use Rattle.master_node.specs.Events.{oldest_in}
@@ -29,7 +29,7 @@ use Rattle.run_record.specs.Written.{WereDue, WereServedDue, packets_written, se
 use Rattle.segment_plan.specs.declared.plan.Scenario.{Scenario}
 use Rattle.segment_plan.specs.declared.service.Service as Plan
 use Rattle.segment_plan.specs.declared.slave.SlaveSpec.{SlaveSpec}
-use Rattle.served_runs.specs.Served.{IsRunOf, IsServedFrame, IsServedLed, ServedTurn, Serves, all_serve, served_behind}
+use Rattle.master_node.specs.of_served_runs.Served.{IsRunOf, IsServedFrame, IsServedLed, ServedTurn, Serves, all_serve, served_behind}
 
 -- ---- WHAT CAME INTO HAND is no mail that is passed on
 one_mailed : (room : ℕ) (script : List Plan.Service) (n m number frame : ℕ) (b : Option (Service Asked)) → Comes room script n b m → mail_begun number frame b ≡ []

@@ -26,11 +26,11 @@ use Rattle.run_record.proofs.ServedReports.{turn_by}
 use Rattle.run_record.specs.Mails.{mail_begun, served_mails}
 use Rattle.run_record.specs.Forwarded.{PacketsNoted}
 use Rattle.run_record.specs.Served.{ServeTo}
-use Rattle.script_runs.specs.Answers.{turned}
-use Rattle.script_runs.specs.Came.{is_beside}
-use Rattle.script_runs.specs.Steps.{TurnsBy}
+use Rattle.run_notes.specs.of_script_runs.Answers.{turned}
+use Rattle.run_notes.specs.of_script_runs.Came.{is_beside}
+use Rattle.run_notes.specs.of_script_runs.Steps.{TurnsBy}
 use Rattle.segment_plan.specs.declared.plan.Scenario.{Scenario}
-use Rattle.served_runs.specs.Served.{AllServedTurn, IsServedFrame, IsServedLed, Serves, ServedTurn}
+use Rattle.master_node.specs.of_served_runs.Served.{AllServedTurn, IsServedFrame, IsServedLed, Serves, ServedTurn}
 
 all_by : (lens : ℕ → Lens) (made : ℕ) (ds : List Raw.Datagram) (ws : List Serves) (vs : List ServedTurn) → AllServedTurn lens made ds ws vs → AllBoth (λ a u. TurnsBy lens made a u) (map run_lead ws) (map run_turn vs)
 all_by lens made ds [] [] t = tt

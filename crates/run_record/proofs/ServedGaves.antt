@@ -29,7 +29,7 @@ use Rattle.run_record.proofs.Noted.{GivesOne, lost_gives, next_gives, pass_gives
 use Rattle.segment_plan.specs.declared.plan.Scenario.{Scenario}
 use Rattle.segment_ring.specs.declared.wire.Fate.{Fate}
 use Rattle.segment_ring.specs.declared.wire.Fate.TheVariants as Fates
-use Rattle.served_runs.specs.Served.{Serves, ServedTurn, AllServedTurn, IsServedLed, IsServedTurn, all_serve, served_behind, served_life}
+use Rattle.master_node.specs.of_served_runs.Served.{Serves, ServedTurn, AllServedTurn, IsServedLed, IsServedTurn, all_serve, served_behind, served_life}
 use Rattle.slave_node.specs.of_link_mails.Body.{Body}
 
 -- ---- what is known of each life at its stop

@@ -64,8 +64,8 @@ use Rattle.segment_ring.specs.declared.wire.Fate.TheVariants as Fates
 use Rattle.segment_ring.specs.declared.wire.Fate.{Fate}
 use Rattle.served_places.proofs.Next.{next_free, next_open, next_passing}
 use Rattle.served_places.proofs.Unread.{unread_passing}
-use Rattle.served_runs.specs.Served.{IsServedFrame, IsServedTurn, Keyed, ServedComes, ServedTurn, Serves, served_life}
-use Rattle.served_runs.specs.Told.{Passed}
+use Rattle.master_node.specs.of_served_runs.Served.{IsServedFrame, IsServedTurn, Keyed, ServedComes, ServedTurn, Serves, served_life}
+use Rattle.master_node.specs.of_served_runs.Told.{Passed}
 
 pub cancel : {X : Type 0} (xs ys zs : List X) → xs ++ ys ≡ xs ++ zs → ys ≡ zs
 cancel [] ys zs e = e

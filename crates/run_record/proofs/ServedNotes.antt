@@ -50,12 +50,12 @@ use Rattle.run_record.proofs.ServedGaves.{one_gives}
 use Rattle.run_record.specs.Forwarded.{PacketsNoted}
 use Rattle.run_record.specs.Mails.{mail_begun, overs_behind, served_mails}
 use Rattle.run_record.specs.Served.{ServeTo, events_behind}
-use Rattle.script_runs.specs.Answers.{turned}
+use Rattle.run_notes.specs.of_script_runs.Answers.{turned}
 use Rattle.segment_plan.specs.declared.plan.Scenario.{Scenario}
 use Rattle.segment_plan.specs.declared.slave.SlaveSpec.{SlaveSpec}
 use Rattle.segment_ring.specs.declared.wire.Fate.TheVariants as Fates
 use Rattle.segment_ring.specs.declared.wire.Fate.{Fate}
-use Rattle.served_runs.specs.Served.{AllServedTurn, IsServedFrame, IsServedLed, IsServedTurn, ServedTurn, Serves, all_serve, served_behind, served_life}
+use Rattle.master_node.specs.of_served_runs.Served.{AllServedTurn, IsServedFrame, IsServedLed, IsServedTurn, ServedTurn, Serves, all_serve, served_behind, served_life}
 
 -- ---- at a place
 

@@ -21,17 +21,17 @@ use Rattle.run_notes.specs.declared.standing.Log.{Log}
 use Rattle.run_record.proofs.Befores.{AllBefore, first_before, one_more}
 use Rattle.run_record.proofs.ServedGaves.{Behind, serve_leads}
 use Rattle.run_record.specs.Served.{ServeTo}
-use Rattle.script_runs.proofs.Losses.{loses_so, passes_so}
-use Rattle.script_runs.proofs.Turns.{turns_by}
-use Rattle.script_runs.specs.Answers.{turned}
-use Rattle.script_runs.specs.Steps.{ComesBy, IsBefore, LosesSo, PassesSo, TurnsBy, TurnsSo}
+use Rattle.run_notes.proofs.of_script_runs.Losses.{loses_so, passes_so}
+use Rattle.run_notes.proofs.of_script_runs.Turns.{turns_by}
+use Rattle.run_notes.specs.of_script_runs.Answers.{turned}
+use Rattle.run_notes.specs.of_script_runs.Steps.{ComesBy, IsBefore, LosesSo, PassesSo, TurnsBy, TurnsSo}
 use Rattle.segment_plan.specs.declared.plan.Scenario.{Scenario}
 use Rattle.segment_ring.specs.declared.wire.Fate.{Fate}
 use Rattle.segment_ring.specs.declared.wire.Fate.TheVariants as Fates
 use Rattle.master_node.specs.of_master_duty.of_state_exchange.Stated.{Service}
 use Rattle.master_node.specs.of_master_hand.Spoken.{Asked}
-use Rattle.served_runs.specs.Told.{Passed}
-use Rattle.served_runs.specs.Served.{AllServedTurn, IsServedLed, IsServedTurn, Keyed, Serves, ServedComes, ServedTurn, served_life}
+use Rattle.master_node.specs.of_served_runs.Told.{Passed}
+use Rattle.master_node.specs.of_served_runs.Served.{AllServedTurn, IsServedLed, IsServedTurn, Keyed, Serves, ServedComes, ServedTurn, served_life}
 
 -- ---- what is known of each at its stop
 

@@ -29,7 +29,7 @@ use Rattle.master_node.specs.of_master_tour.declared.stop.Turned.{Turned}
 use Rattle.run_record.specs.Served.{TellsFrame, told_behind}
 use Rattle.segment_ring.specs.declared.wire.Fate.{Fate}
 use Rattle.segment_ring.specs.declared.wire.Fate.TheVariants as Fates
-use Rattle.served_runs.specs.Served.{Serves, ServedTurn}
+use Rattle.master_node.specs.of_served_runs.Served.{Serves, ServedTurn}
 
 -- where all that is told of a slave gets known, all that is told of these does
 known_in : (tells : ℕ → List Event) → ((k : ℕ) → filter is_gateway (tells k) ≡ tells k) → (ps : List ℕ) → filter is_gateway (told_in tells ps) ≡ told_in tells ps

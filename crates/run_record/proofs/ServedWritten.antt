@@ -46,8 +46,8 @@ use Rattle.run_record.specs.Written.{forwards_now, has_fragments, has_unwritten,
 use Rattle.segment_plan.specs.declared.plan.Scenario.{Scenario}
 use Rattle.segment_ring.specs.declared.wire.Fate.TheVariants as Fates
 use Rattle.served_places.proofs.Next.{next_open}
-use Rattle.served_runs.specs.Served.{IsServedFrame, IsServedTurn, Keyed, ServedComes, ServedTurn, Serves, served_life}
-use Rattle.served_runs.specs.Told.{Passed}
+use Rattle.master_node.specs.of_served_runs.Served.{IsServedFrame, IsServedTurn, Keyed, ServedComes, ServedTurn, Serves, served_life}
+use Rattle.master_node.specs.of_served_runs.Told.{Passed}
 
 -- the rows of what came into hand, where that is a packet
 abbrev pub rows_came : ℕ → ℕ → Option (Service Asked) → List (ℕ × ℕ)

@@ -3,7 +3,7 @@ use Rattle.std.proofs.Common.{◌≡◌, ◌<◌, ◌^◌, ℕ, zero, suc, Bool,
 use Rattle.std.specs.Prelude.{◌↔◌, replicate, slice_get}
 use Rattle.datagrams.specs.Datagram as Raw
 use Rattle.datagrams.specs.Frame.{chained}
-use Rattle.life_heard.specs.Heard.{AllNoted, emergencies_of, heard_none}
+use Rattle.run_notes.specs.of_life_heard.Heard.{AllNoted, emergencies_of, heard_none}
 use Rattle.master_node.proofs.OnFrames.{served_way}
 use Rattle.master_node.specs.Backtold.{known_at}
 use Rattle.master_node.specs.Eager.{recalls}
@@ -74,7 +74,7 @@ use Rattle.run_record.specs.Replay.{IsRecorded, behind as behind_ring, first_rin
 use Rattle.run_record.specs.Served.{ListsBehind, ServedLeading, ServesOn, Serving, ServingGoesOn, TellsBehind, as_asked, served_heard}
 use Rattle.run_record.specs.Session.{FrameEvents, IsDone, SessionState, has_live, numbers_over}
 use Rattle.run_record.specs.Written.{WereServedDue, forwards_now, served_written}
-use Rattle.script_runs.specs.Answers.{turned}
+use Rattle.run_notes.specs.of_script_runs.Answers.{turned}
 use Rattle.segment_plan.specs.declared.plan.Scenario.{Scenario}
 use Rattle.segment_plan.specs.declared.service.Service as Plan
 use Rattle.segment_plan.specs.declared.slave.SlaveSpec.{SlaveSpec}
@@ -82,7 +82,7 @@ use Rattle.segment_ring.specs.Ring.{ring_returned}
 use Rattle.segment_ring.specs.Schedule.{fate_at}
 use Rattle.segment_ring.specs.declared.wire.Fate.TheVariants as Fates
 use Rattle.segment_ring.specs.declared.wire.Fate.{Fate}
-use Rattle.served_runs.specs.Served.{AllServedTurn, IsServedFrame, IsServedLed, ServedTurn, Serves, all_serve, new_serves, served_behind}
+use Rattle.master_node.specs.of_served_runs.Served.{AllServedTurn, IsServedFrame, IsServedLed, ServedTurn, Serves, all_serve, new_serves, served_behind}
 use Rattle.slave_node.specs.of_slave_steps.Node.{node_passed}
 
 -- BEFORE THE FIRST FRAME no mail was asked

@@ -24,8 +24,8 @@ use Rattle.segment_ring.specs.declared.wire.Fate.{Fate}
 use Rattle.segment_ring.specs.declared.wire.Fate.TheVariants as Fates
 use Rattle.served_places.proofs.Behind.{unpassed_behind}
 use Rattle.served_places.proofs.Next.{next_passing}
-use Rattle.served_runs.specs.Served.{AllServedTurn, IsQuiet, IsRunOf, IsServedTurn, Keyed, MayAsk, ServedComes, ServedTurn, Serves, asked_at, gives_it, served_behind, served_life}
-use Rattle.served_runs.specs.Told.{Passed}
+use Rattle.master_node.specs.of_served_runs.Served.{AllServedTurn, IsQuiet, IsRunOf, IsServedTurn, Keyed, MayAsk, ServedComes, ServedTurn, Serves, asked_at, gives_it, served_behind, served_life}
+use Rattle.master_node.specs.of_served_runs.Told.{Passed}
 
 -- no mail was asked of these slaves
 abbrev pub NoneAsked : List Serves → Type 0

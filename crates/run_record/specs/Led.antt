@@ -8,7 +8,7 @@ use Rattle.master_node.specs.Forwards.{forwarded}
 use Rattle.master_node.specs.Happened.{arrivals_at}
 use Rattle.master_node.specs.of_frame_view.View.{Lens}
 use Rattle.master_node.specs.of_life_frames.Shares.{AllBoth}
-use Rattle.life_heard.specs.Heard.{AllNoted, heard_in}
+use Rattle.run_notes.specs.of_life_heard.Heard.{AllNoted, heard_in}
 use Rattle.master_node.specs.of_life_model.Lives.{Stand}
 use Rattle.master_node.specs.of_life_runs.First.{lens_of, first_leads}
 use Rattle.master_node.specs.of_life_runs.Led.{Exchanged, Leads, IsLed}

@@ -1,13 +1,14 @@
+pub use Rattle.served_places.specs as of_served_places
 pub use Rattle.arrayvec.specs as of_arrayvec
 pub use Rattle.eoe_switch.specs as of_eoe_switch
 pub use Rattle.packets_heard.specs as of_packets_heard
 pub use Rattle.run_notes.specs as of_run_notes
-pub use Rattle.script_runs.specs as of_script_runs
+pub use Rattle.run_notes.specs.of_script_runs as of_script_runs
 pub mod Replay
 pub mod Led
 pub mod Session
 pub mod Ran
-pub use Rattle.life_heard.specs.Heard as AcceptedMails
+pub use Rattle.run_notes.specs.of_life_heard.Heard as AcceptedMails
 pub mod Forwarded
 pub mod Mails
 pub mod Recalling

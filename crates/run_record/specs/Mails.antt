@@ -14,7 +14,7 @@ use Rattle.master_node.specs.of_master_tour.Goes.{holds_at}
 use Rattle.run_notes.specs.Handed.{last_set}
 use Rattle.segment_ring.specs.declared.wire.Fate.{Fate}
 use Rattle.segment_ring.specs.declared.wire.Fate.TheVariants as Fates
-use Rattle.served_runs.specs.Served.{IsServedLed, Serves, ServedTurn, served_behind}
+use Rattle.master_node.specs.of_served_runs.Served.{IsServedLed, Serves, ServedTurn, served_behind}
 use Rattle.slave_node.specs.of_link_mails.Body.{Body}
 
 -- the row of what came into hand before a frame, where that is the mail with this number which was passed on

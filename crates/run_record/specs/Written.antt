@@ -22,7 +22,7 @@ use Rattle.run_notes.specs.Handed.{AllWhere, is_packet}
 use Rattle.run_notes.specs.declared.notes.Notes.{Notes}
 use Rattle.run_record.specs.Mails.{overs_behind}
 use Rattle.segment_ring.specs.declared.wire.Fate.TheVariants as Fates
-use Rattle.served_runs.specs.Served.{IsServedLed, Serves, served_behind}
+use Rattle.master_node.specs.of_served_runs.Served.{IsServedLed, Serves, served_behind}
 
 -- a packet is in hand of an open slave, by its life: the newest service by mails is one, and a fragment of it isn't written yet
 abbrev pub has_fragments : Speech Body Asked Reply → Life Body Asked Reply → Bool

@@ -7,10 +7,10 @@ use Rattle.book_model.specs.Script.{eras_started, life_started}
 use Rattle.eoe_model.specs.Client as EoeClient
 use Rattle.life_counts.specs.Begun.{service_most, begun_most}
 use Rattle.life_model.specs.Lives.{Era, Life}
-use Rattle.life_runs.specs.Led.{Comes}
-use Rattle.master_hand.specs.Spoken.{Asked, net, passed, is_passed}
-use Rattle.master_hand.specs.Talk.{asked_of}
-use Rattle.passed_whole.specs.Steps.{passed_one, passed_in, eras_passed, life_passed}
+use Rattle.run_frames.specs.of_life_runs.Led.{Comes}
+use Rattle.run_frames.specs.of_master_hand.Spoken.{Asked, net, passed, is_passed}
+use Rattle.run_frames.specs.of_master_hand.Talk.{asked_of}
+use Rattle.life_counts.specs.of_passed_whole.Steps.{passed_one, passed_in, eras_passed, life_passed}
 use Rattle.plan_counts.specs.Asked.{asked_most}
 use Rattle.plan_counts.specs.Split.{own_work, entering}
 use Rattle.run_frames.specs.States.{state_of}
@@ -23,7 +23,7 @@ use Rattle.served_runs.specs.Came.{ServedCame, AreAmong}
 use Rattle.served_runs.specs.Served.{Keyed}
 use Rattle.run_work.specs.ServedGained.{serving_most}
 use Rattle.few_replies.specs.Shapes.{shape_of}
-use Rattle.slave_server.specs.Spec.{core_of, profile_of}
+use Rattle.plan_ring.specs.of_slave_server.Spec.{core_of, profile_of}
 use Rattle.state_exchange.specs.Stated.{Service}
 use Rattle.task_model.specs.Accounts.{Started}
 use Rattle.task_model.specs.Promise.{services_in}

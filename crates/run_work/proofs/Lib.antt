@@ -1,3 +1,5 @@
+pub use Rattle.life_counts.proofs.of_slave_lives as of_slave_lives
+pub use Rattle.life_counts.proofs as of_life_counts
 pub mod Counted
 mod Echoes
 mod Flows

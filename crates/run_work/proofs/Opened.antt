@@ -10,10 +10,10 @@ use Rattle.life_frames.specs.Frames.{Share}
 use Rattle.life_frames.specs.Shares.{Lived, given_where, came_at}
 use Rattle.life_model.specs.Lives.{Spot, Life}
 use Rattle.link_mails.specs.Body.{Body}
-use Rattle.life_runs.specs.First.{leads_from, first_leads}
-use Rattle.life_runs.specs.Led.{Exchanged, Leads, Turn, AllTurn, IsLed, speech_at, life_behind, led_behind, gives_up_at}
+use Rattle.run_frames.specs.of_life_runs.First.{leads_from, first_leads}
+use Rattle.run_frames.specs.of_life_runs.Led.{Exchanged, Leads, Turn, AllTurn, IsLed, speech_at, life_behind, led_behind, gives_up_at}
 use Rattle.master_duty.specs.Reply.{Reply}
-use Rattle.master_hand.specs.Spoken.{Asked, acknowledged, is_followed, is_passed}
+use Rattle.run_frames.specs.of_master_hand.Spoken.{Asked, acknowledged, is_followed, is_passed}
 use Rattle.segment_plan.specs.declared.plan.Scenario.{Scenario}
 use Rattle.segment_plan.specs.declared.service.Service as Plan
 use Rattle.segment_plan.specs.declared.slave.SlaveSpec.{SlaveSpec}

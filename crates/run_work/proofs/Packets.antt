@@ -5,7 +5,7 @@ use Rattle.std.proofs.lemmas.List.Elements.{All-head, All-tail}
 use Rattle.std.proofs.Math.Nat.{mul-le-mul_right}
 use Rattle.std.proofs.lemmas.List.Sums.{sum_by-cons}
 use Rattle.arrayvec.specs.ArrayVec.{ArrayVec}
-use Rattle.life_runs.specs.Led.{Leads}
+use Rattle.run_frames.specs.of_life_runs.Led.{Leads}
 use Rattle.run_work.specs.Packets.{cuts}
 use Rattle.plan_counts.specs.Split.{own_work, entering, split_work}
 use Rattle.script_runs.specs.Begun.{work_begun, addressed, work_in}

@@ -8,7 +8,7 @@ use Rattle.life_model.specs.Lives.{Life}
 use Rattle.link_mails.specs.Body.{Body}
 use Rattle.few_replies.specs.RowCounts.{AreCounted}
 use Rattle.master_duty.specs.Reply as Master
-use Rattle.master_hand.specs.Spoken as Spoken
+use Rattle.run_frames.specs.of_master_hand.Spoken as Spoken
 use Rattle.segment_plan.specs.Sound.{IsSlave}
 use Rattle.segment_plan.specs.declared.slave.SlaveSpec.{SlaveSpec}
 use Rattle.served_runs.specs.Served.{Serves}
@@ -20,7 +20,7 @@ use Rattle.slave_model.specs.Acknowledged.{acknowledged}
 use Rattle.slave_model.specs.Profile.{Profile, IsProfile}
 use Rattle.slave_parts.specs.Parts.{Server, parts}
 use Rattle.slave_served.specs.Served.{product_whole}
-use Rattle.slave_server.specs.Spec.{profile_of}
+use Rattle.plan_ring.specs.of_slave_server.Spec.{profile_of}
 use Rattle.state_exchange.specs.Families.{InState, states_of}
 use Rattle.state_exchange.specs.Stated.{IsStated}
 use Rattle.life_counts.proofs.Seen.{gains_seen, unopened_seen, most_seen}

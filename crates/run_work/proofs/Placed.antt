@@ -4,8 +4,8 @@ use Rattle.std.specs.Prelude.{⊤}
 use Rattle.std.proofs.lemmas.List.Elements.{All-nil, All-cons}
 use Rattle.datagrams.specs.Datagram as Raw
 use Rattle.frame_view.specs.View.{Lens}
-use Rattle.life_runs.specs.First.{spot_of, script_for, leads_from, first_leads}
-use Rattle.life_runs.specs.Led.{Exchanged, Leads, gives_up_at}
+use Rattle.run_frames.specs.of_life_runs.First.{spot_of, script_for, leads_from, first_leads}
+use Rattle.run_frames.specs.of_life_runs.Led.{Exchanged, Leads, gives_up_at}
 use Rattle.segment_plan.specs.declared.plan.Scenario.{Scenario}
 use Rattle.segment_plan.specs.declared.service.Service as Plan
 use Rattle.segment_plan.specs.declared.slave.SlaveSpec.{SlaveSpec}

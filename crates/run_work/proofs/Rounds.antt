@@ -5,16 +5,16 @@ use Rattle.datagrams.specs.Datagram as Raw
 use Rattle.datagrams.specs.Frame.{IsFrame, chained}
 use Rattle.frame_view.specs.Seen.{seen}
 use Rattle.frame_view.specs.View.{Lens}
-use Rattle.life_runs.specs.Led.{Exchanged, Leads}
+use Rattle.run_frames.specs.of_life_runs.Led.{Exchanged, Leads}
 use Rattle.link_mails.specs.Body.{Body}
 use Rattle.master_duty.specs.Reply.{Reply}
-use Rattle.master_hand.specs.Spoken.{Asked}
+use Rattle.run_frames.specs.of_master_hand.Spoken.{Asked}
 use Rattle.plan_ring.specs.Round.{AllRound, behind}
 use Rattle.segment_model.specs.Returned.{Returns}
 use Rattle.segment_ring.specs.declared.wire.Fate.TheVariants.{Pass}
 use Rattle.segment_ring.specs.Ring.{RingState, ring_returned}
 use Rattle.segment_ring.specs.Schedule.{fate_at}
-use Rattle.slave_server.specs.Serving.{Serving}
+use Rattle.plan_ring.specs.of_slave_server.Serving.{Serving}
 use Rattle.slave_steps.specs.Node.{Node, node_passed}
 use Rattle.run_frames.specs.Answers.{AllReturned}
 use Rattle.run_frames.specs.Clocks.{Clocked}

@@ -5,8 +5,8 @@ use Rattle.frame_view.specs.View.{Lens}
 use Rattle.life_counts.specs.Begun.{life_most, AreUnopened, KeepsShape}
 use Rattle.life_counts.proofs.Whole.{life_gains}
 use Rattle.life_measure.specs.Gains.{gains}
-use Rattle.life_runs.specs.First.{lens_of}
-use Rattle.life_runs.specs.Led.{Leads}
+use Rattle.run_frames.specs.of_life_runs.First.{lens_of}
+use Rattle.run_frames.specs.of_life_runs.Led.{Leads}
 use Rattle.link_mails.specs.Body.{Body}
 use Rattle.plan_counts.specs.Asked.{asked_most}
 use Rattle.plan_ring.specs.Asked.{asked}
@@ -20,8 +20,8 @@ use Rattle.segment_plan.specs.Sound.{IsSlave}
 use Rattle.plan_ring.specs.Real.{real_clearing}
 use Rattle.few_replies.specs.Shapes.{shape_of}
 use Rattle.slave_model.specs.Profile.{Profile, IsProfile}
-use Rattle.slave_server.specs.Spec.{core_of, profile_of}
-use Rattle.whole_ring.specs.Members.{MemberIs, AllLived}
+use Rattle.plan_ring.specs.of_slave_server.Spec.{core_of, profile_of}
+use Rattle.plan_ring.specs.of_whole_ring.Members.{MemberIs, AllLived}
 use Rattle.run_work.specs.Gained.{app_shape, AllGain}
 use Rattle.run_work.proofs.Opened.{AllUnopened}
 

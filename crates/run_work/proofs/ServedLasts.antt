@@ -9,12 +9,12 @@ use Rattle.life_counts.specs.Begun.{AreUnopened}
 use Rattle.life_counts.proofs.Unopened.{new_unopened, next_unopened, back_unopened, lost_unopened, gives_unopened}
 use Rattle.life_frames.specs.Shares.{given_where, came_at}
 use Rattle.life_model.specs.Lives.{Spot, Life, new_life, life_next, life_back, life_lost, gives_up}
-use Rattle.life_runs.specs.First.{leads_from, first_leads}
-use Rattle.life_runs.specs.Led.{Exchanged, speech_at, gives_up_at}
+use Rattle.run_frames.specs.of_life_runs.First.{leads_from, first_leads}
+use Rattle.run_frames.specs.of_life_runs.Led.{Exchanged, speech_at, gives_up_at}
 use Rattle.link_mails.specs.Body.{Body}
 use Rattle.master_duty.specs.Reply.{Reply}
-use Rattle.master_hand.specs.Spoken.{Asked, acknowledged, is_followed, is_passed}
-use Rattle.master_side.specs.Passing.{news_back, news_lost}
+use Rattle.run_frames.specs.of_master_hand.Spoken.{Asked, acknowledged, is_followed, is_passed}
+use Rattle.plan_counts.specs.of_master_side.Passing.{news_back, news_lost}
 use Rattle.run_frames.proofs.Stating.{LifeCame, new_came, next_came, life_back_came, lost_came}
 use Rattle.segment_model.specs.Record.{News}
 use Rattle.segment_model.specs.Slaves.{Datagram, Found}

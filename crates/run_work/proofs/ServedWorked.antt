@@ -7,11 +7,11 @@ use Rattle.frame_view.specs.View.{Lens}
 use Rattle.life_counts.specs.Begun.{begun_most, life_most}
 use Rattle.life_measure.specs.Gains.{gains}
 use Rattle.life_model.specs.Lives.{Life}
-use Rattle.life_runs.specs.First.{lens_of, script_for, leads_from}
+use Rattle.run_frames.specs.of_life_runs.First.{lens_of, script_for, leads_from}
 use Rattle.link_mails.specs.Body.{Body}
 use Rattle.master_duty.specs.Reply.{Reply}
-use Rattle.master_hand.specs.Spoken.{Asked, is_passed}
-use Rattle.passed_whole.proofs.PassingSteps as Steps
+use Rattle.run_frames.specs.of_master_hand.Spoken.{Asked, is_passed}
+use Rattle.life_counts.proofs.of_passed_whole.PassingSteps as Steps
 use Rattle.plan_counts.specs.Asked.{asked_most}
 use Rattle.plan_counts.specs.Split.{own_work}
 use Rattle.run_frames.specs.Clocks.{reopened}
@@ -37,7 +37,7 @@ use Rattle.run_work.proofs.Counted.{Enough, all_came, life_all, among_fewer}
 use Rattle.run_work.proofs.Placed.{AllPlaced}
 use Rattle.run_work.proofs.ServedLasts.{AllLives}
 use Rattle.few_replies.specs.Shapes.{shape_of}
-use Rattle.slave_server.specs.Spec.{core_of, profile_of}
+use Rattle.plan_ring.specs.of_slave_server.Spec.{core_of, profile_of}
 
 module _ (enough : Enough) (plan : Scenario) (services : All (λ (row : ℕ × Plan.Service). IsAddressed (length plan.slaves) row) plan.services) (lens : ℕ → Lens) where
   one_slave : (place : ℕ) (s : SlaveSpec) (w : Serves) → IsSlave s → w.lead.script ≡ script_for place plan.services → HasServed lens w → gains w.lead.lived.life ≤ 1 + life_most (serving_most (profile_of s) (shape_of (core_of s))) w.lead.lived.life → reopened w.lead.lived.life ≤ states_begun w.lead.lived.life →

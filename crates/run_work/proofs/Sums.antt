@@ -5,7 +5,7 @@ use Rattle.std.proofs.lemmas.List.Sums.{sum_by-cons, sum_by-append}
 use Rattle.book_model.specs.Script.{eras_started, life_started}
 use Rattle.life_counts.specs.Begun.{service_most, begun_most, eras_most, life_most}
 use Rattle.life_model.specs.Lives.{Era, Life}
-use Rattle.master_hand.specs.Spoken.{Asked}
+use Rattle.run_frames.specs.of_master_hand.Spoken.{Asked}
 use Rattle.run_frames.specs.States.{state_of, states_in, states_of, states_begun}
 use Rattle.script_runs.specs.Came.{is_packet}
 use Rattle.state_exchange.specs.Stated.{Service}

@@ -6,10 +6,10 @@ use Rattle.std.proofs.lemmas.List.Sums.{sum_by-cons}
 use Rattle.book_model.specs.Script.{life_started}
 use Rattle.life_counts.specs.Begun.{service_most, begun_most, life_most}
 use Rattle.life_measure.specs.Gains.{gains}
-use Rattle.life_runs.specs.First.{lens_of, script_for}
-use Rattle.life_runs.specs.Led.{Leads}
-use Rattle.master_hand.specs.Spoken.{Asked}
-use Rattle.master_hand.specs.Talk.{asked_of}
+use Rattle.run_frames.specs.of_life_runs.First.{lens_of, script_for}
+use Rattle.run_frames.specs.of_life_runs.Led.{Leads}
+use Rattle.run_frames.specs.of_master_hand.Spoken.{Asked}
+use Rattle.run_frames.specs.of_master_hand.Talk.{asked_of}
 use Rattle.plan_counts.specs.Asked.{asked_most}
 use Rattle.run_work.specs.Gained.{AllGain}
 use Rattle.script_runs.specs.Came.{handed_over, AreThose, is_packet}
@@ -22,7 +22,7 @@ use Rattle.segment_plan.specs.declared.plan.Scenario.{Scenario}
 use Rattle.segment_plan.specs.declared.service.Service as Plan
 use Rattle.segment_plan.specs.declared.slave.SlaveSpec.{SlaveSpec}
 use Rattle.few_replies.specs.Shapes.{shape_of}
-use Rattle.slave_server.specs.Spec.{core_of, profile_of}
+use Rattle.plan_ring.specs.of_slave_server.Spec.{core_of, profile_of}
 use Rattle.state_exchange.specs.Stated.{Service}
 use Rattle.run_frames.specs.Clocks.{reopened}
 use Rattle.run_frames.specs.Fates.{gained_in}

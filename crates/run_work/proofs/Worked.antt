@@ -1,6 +1,6 @@
 -- A plan before its first frame.
 use Rattle.std.proofs.Common.{◌≡◌, ℕ, suc, None, List, [], ◌∷◌, refl, arith}
-use Rattle.life_runs.specs.First.{first_leads, leads_from}
+use Rattle.run_frames.specs.of_life_runs.First.{first_leads, leads_from}
 use Rattle.run_frames.specs.Led.{first_clocked}
 use Rattle.run_frames.specs.Runs.{nothing_sent}
 use Rattle.run_frames.specs.Toured.{IsToured}

@@ -1,10 +1,10 @@
 -- THE FRAMES OF A PLAN'S RUN, and how many they may be.
 use Rattle.std.specs.Prelude.{ℕ, ◌+◌, ◌*◌, ◌≤◌, Option, List, length}
-use Rattle.life_runs.specs.First.{lens_of, first_leads}
-use Rattle.life_runs.specs.Led.{Exchanged, Leads}
+use Rattle.run_frames.specs.of_life_runs.First.{lens_of, first_leads}
+use Rattle.run_frames.specs.of_life_runs.Led.{Exchanged, Leads}
 use Rattle.link_mails.specs.Body.{Body}
 use Rattle.master_duty.specs.Reply.{Reply}
-use Rattle.master_hand.specs.Spoken.{Asked}
+use Rattle.run_frames.specs.of_master_hand.Spoken.{Asked}
 use Rattle.plan_ring.specs.Round.{ring_of, AllRound}
 use Rattle.run_frames.specs.Clocks.{Clocked}
 use Rattle.run_frames.specs.Fates.{lost_of}

@@ -2,8 +2,8 @@
 use Rattle.std.specs.Prelude.{ℕ, ◌+◌, ◌≤◌, if◌then◌else◌, List, [], ◌∷◌, map, length, ⊤}
 use Rattle.life_counts.specs.Begun.{life_most}
 use Rattle.life_measure.specs.Gains.{gains}
-use Rattle.life_runs.specs.Led.{Leads}
-use Rattle.master_hand.specs.Spoken.{Asked, is_passed}
+use Rattle.run_frames.specs.of_life_runs.Led.{Leads}
+use Rattle.run_frames.specs.of_master_hand.Spoken.{Asked, is_passed}
 use Rattle.plan_counts.specs.Asked.{asked_most}
 use Rattle.run_frames.specs.Clocks.{reopened}
 use Rattle.segment_plan.specs.declared.slave.SlaveSpec.{SlaveSpec}
@@ -11,7 +11,7 @@ use Rattle.life_counts.specs.Served.{served_gains}
 use Rattle.served_runs.specs.Served.{Serves}
 use Rattle.few_replies.specs.Shapes.{Shape, shape_of}
 use Rattle.slave_model.specs.Profile.{Profile}
-use Rattle.slave_server.specs.Spec.{core_of, profile_of}
+use Rattle.plan_ring.specs.of_slave_server.Spec.{core_of, profile_of}
 
 -- how many mails what a master asks for takes at most; a mail that is passed on takes itself, 76 that answer it, and one that may be made up
 abbrev pub serving_most : Profile → Shape → Asked → ℕ

@@ -3,7 +3,7 @@ use Rattle.std.specs.Prelude.{Option, Ok, Err}
 use Rattle.exchange_model.specs.Exchange.{Exchange}
 use Rattle.link_mails.specs.Body.{Body}
 use Rattle.mailbox_mail.specs.Mail.{error_of}
-use Rattle.master_hand.specs.Spoken as Spoken
+use Rattle.run_frames.specs.of_master_hand.Spoken as Spoken
 use Rattle.few_replies.specs.Calm.{calm_tagged}
 use Rattle.serving_model.specs.Tagged.{Tagged, Asked, Rowed}
 use Rattle.serving_model.specs.TaggedStates.{tagged_states}

@@ -1,7 +1,7 @@
 -- THE PACKETS OF A RUN AS THOSE OF ONE SWITCH.
 use Rattle.std.specs.Prelude.{ℕ, ◌+◌, ◌*◌, ◌≤◌, List, length, sum_by}
 use Rattle.arrayvec.specs.ArrayVec.{ArrayVec}
-use Rattle.life_runs.specs.Led.{Leads}
+use Rattle.run_frames.specs.of_life_runs.Led.{Leads}
 use Rattle.run_work.specs.Packets.{cuts}
 use Rattle.plan_counts.specs.Split.{entering}
 use Rattle.script_runs.specs.Begun.{work_begun}

@@ -4,11 +4,11 @@
 
 ghost use Rattle.frame_view.specs.View.{Lens};
 ghost use Rattle.life_counts.specs.Begun.{KeepsShape};
-ghost use Rattle.life_runs.specs.First.{lens_of, first_leads};
-ghost use Rattle.life_runs.specs.Led.{Exchanged, Leads, IsLed};
+ghost use Rattle.run_frames.specs.of_life_runs.First.{lens_of, first_leads};
+ghost use Rattle.run_frames.specs.of_life_runs.Led.{Exchanged, Leads, IsLed};
 ghost use Rattle.link_mails.specs.Body.{Body};
 ghost use Rattle.master_duty.specs.Reply.{Reply};
-ghost use Rattle.master_hand.specs.Spoken.{Asked};
+ghost use Rattle.run_frames.specs.of_master_hand.Spoken.{Asked};
 ghost use Rattle.plan_counts.specs.Asked.{asked_most};
 ghost use Rattle.plan_counts.specs.Split.{own_work};
 ghost use Rattle.plan_ring.specs.Asked.{asked};

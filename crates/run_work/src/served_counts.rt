@@ -5,11 +5,11 @@ ghost use Rattle.std.specs.Prelude.{◌≡◌, ◌≤◌, ◌+◌, ◌*◌, ℕ,
 ghost use Rattle.life_counts.specs.Begun.{life_most, AreUnopened};
 ghost use Rattle.life_measure.specs.Gains.{gains};
 ghost use Rattle.life_model.specs.Lives.{Life};
-ghost use Rattle.life_runs.specs.First.{lens_of, first_leads};
-ghost use Rattle.life_runs.specs.Led.{Exchanged};
+ghost use Rattle.run_frames.specs.of_life_runs.First.{lens_of, first_leads};
+ghost use Rattle.run_frames.specs.of_life_runs.Led.{Exchanged};
 ghost use Rattle.link_mails.specs.Body.{Body};
 ghost use Rattle.master_duty.specs.Reply.{Reply};
-ghost use Rattle.master_hand.specs.Spoken.{Asked};
+ghost use Rattle.run_frames.specs.of_master_hand.Spoken.{Asked};
 ghost use Rattle.plan_counts.specs.Split.{own_work};
 ghost use Rattle.run_work.specs.Switched.{cuts_begun};
 ghost use Rattle.run_work.specs.Together.{packets_begun};

@@ -3,8 +3,8 @@
 
 ghost use Rattle.std.specs.Prelude.{◌≡◌, ◌≤◌, ◌+◌, ◌*◌, ℕ, List, [], ◌∷◌, length};
 ghost use Rattle.life_model.specs.Lives.{Spot};
-ghost use Rattle.life_runs.specs.First.{lens_of, first_leads};
-ghost use Rattle.life_runs.specs.Led.{Exchanged, new_leads};
+ghost use Rattle.run_frames.specs.of_life_runs.First.{lens_of, first_leads};
+ghost use Rattle.run_frames.specs.of_life_runs.Led.{Exchanged, new_leads};
 ghost use Rattle.plan_counts.specs.Split.{own_work};
 ghost use Rattle.plan_ring.specs.Round.{ring_of, AllRound};
 ghost use Rattle.run_frames.specs.Answers.{AllReturned};

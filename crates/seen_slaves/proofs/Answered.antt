@@ -11,9 +11,9 @@ use Rattle.life_runs.specs.of_datagrams.Datagram as Raw
 use Rattle.link_mails.specs.Body.{Body}
 use Rattle.master_duty.specs.Reply.{Reply}
 use Rattle.master_hand.specs.Spoken.{Asked}
-use Rattle.plan_ring.specs.Lives.{IsKnown}
-use Rattle.plan_ring.specs.Round.{AllRound, ring_of}
-use Rattle.plan_ring.proofs.Lives.{front_round, last_round}
+use Rattle.idle_slaves.specs.of_plan_ring.Lives.{IsKnown}
+use Rattle.idle_slaves.specs.of_plan_ring.Round.{AllRound, ring_of}
+use Rattle.idle_slaves.proofs.of_plan_ring.Lives.{front_round, last_round}
 use Rattle.run_frames.specs.Answers.{AllAnswer, AllAsk}
 use Rattle.run_frames.specs.Goes.{Under}
 use Rattle.run_frames.specs.Led.{AreLed}
@@ -22,18 +22,18 @@ use Rattle.run_frames.proofs.Leading.{SeenIs}
 use Rattle.segment_plan.specs.Sound as Plan
 use Rattle.segment_plan.specs.declared.plan.Scenario.{Scenario}
 use Rattle.segment_ring.specs.declared.wire.Fate.TheVariants.{Pass, Lost}
-use Rattle.served_places.specs.Answered.{ServedAnswers, ServedAsks}
-use Rattle.served_places.specs.Toured.{IsServedToured, back_under, first_served, lost_under, serves_on, served_back, served_lost}
-use Rattle.served_places.proofs.Slaves.{all_led_back, all_led_lost, leads_asked}
+use Rattle.served_rings.specs.of_served_places.Answered.{ServedAnswers, ServedAsks}
+use Rattle.served_rings.specs.of_served_places.Toured.{IsServedToured, back_under, first_served, lost_under, serves_on, served_back, served_lost}
+use Rattle.served_rings.proofs.of_served_places.Slaves.{all_led_back, all_led_lost, leads_asked}
 use Rattle.served_rings.specs.Rings.{AreServedLived, ServedMember, served_members}
 use Rattle.served_rings.proofs.Lives.{asked_members}
-use Rattle.served_runs.specs.Served.{Keyed, MayAsk, Serves, ServedTurn, AllServedTurn, IsServedFrame, IsServedLed, all_serve, asked_at}
+use Rattle.served_rings.specs.of_served_runs.Served.{Keyed, MayAsk, Serves, ServedTurn, AllServedTurn, IsServedFrame, IsServedLed, all_serve, asked_at}
 use Rattle.seen_slaves.specs.Eager.{leads_of, turns_of}
 use Rattle.seen_slaves.proofs.Clocks.{RunOn, answers, clocks, run_back, run_lost, stands_on}
 use Rattle.seen_slaves.proofs.Seats.{nodes_are}
 use Rattle.seen_slaves.proofs.Stays.{paces_asked, paces_served}
 use Rattle.seen_slaves.proofs.Walk.{Led, first_of, nodes_at}
-use Rattle.plan_ring.specs.Clocks.{AllStand}
+use Rattle.idle_slaves.specs.of_plan_ring.Clocks.{AllStand}
 
 -- a clock that runs on keeps its pace
 run_paces : (number : ℕ) (cs ds : List Slave) → RunOn number cs ds → map (λ (c : Slave). c.pace) ds ≡ map (λ (c : Slave). c.pace) cs

@@ -15,11 +15,11 @@ use Rattle.life_runs.specs.Led.{Exchanged, gives_up_at, is_passed}
 use Rattle.link_mails.specs.Body.{Body}
 use Rattle.master_duty.specs.Reply.{Reply}
 use Rattle.master_hand.specs.Spoken.{Asked, acknowledged, is_followed}
-use Rattle.plan_ring.specs.Lives.{IsKnown}
-use Rattle.plan_ring.specs.Plan.{FitsPlan, step}
-use Rattle.plan_ring.specs.Round.{WentRound, all_seen, frame_seen, ring_after, ring_of}
-use Rattle.plan_ring.proofs.Known.{AllBoot, all_boot}
-use Rattle.plan_ring.proofs.Lives.{one_after}
+use Rattle.idle_slaves.specs.of_plan_ring.Lives.{IsKnown}
+use Rattle.idle_slaves.specs.of_plan_ring.Plan.{FitsPlan, step}
+use Rattle.idle_slaves.specs.of_plan_ring.Round.{WentRound, all_seen, frame_seen, ring_after, ring_of}
+use Rattle.idle_slaves.proofs.of_plan_ring.Known.{AllBoot, all_boot}
+use Rattle.idle_slaves.proofs.of_plan_ring.Lives.{one_after}
 use Rattle.run_frames.specs.Answers.{AllAnswer, AllAsk, AsksFirst, EachAsks, StandAnswers}
 use Rattle.run_frames.specs.Goes.{Under, all_back, all_lost, clocked_behind, is_same, stepped_behind}
 use Rattle.run_frames.specs.Led.{AreLed}
@@ -33,20 +33,20 @@ use Rattle.segment_ring.specs.Ring.{RingState}
 use Rattle.segment_ring.specs.Schedule.{fate_at}
 use Rattle.segment_ring.specs.declared.wire.Fate.{Fate}
 use Rattle.segment_ring.specs.declared.wire.Fate.TheVariants.{Pass}
-use Rattle.served_places.specs.Toured.{first_served}
+use Rattle.served_rings.specs.of_served_places.Toured.{first_served}
 use Rattle.served_rings.specs.Rings.{AllServedAt, AreServedLived, IsServedAt, ServedMember, served_member, served_members}
 use Rattle.served_rings.proofs.All as Every
 use Rattle.served_rings.proofs.One as One
-use Rattle.served_runs.specs.Served.{Serves, ServedTurn, AllServedTurn, IsServedFrame, IsServedTurn, all_serve, served_behind}
+use Rattle.served_rings.specs.of_served_runs.Served.{Serves, ServedTurn, AllServedTurn, IsServedFrame, IsServedTurn, all_serve, served_behind}
 use Rattle.seen_slaves.specs.Eager.{leads_of, turns_of}
 use Rattle.seen_slaves.proofs.Seats.{nodes_are}
-use Rattle.plan_ring.specs.Clocks.{AllAnswered, AllAsked, AllStand, AnswersAs, AsksAs, clocks_on}
-use Rattle.plan_ring.specs.Stands.{StandsTo}
-use Rattle.plan_ring.proofs.Each.{each_answers, each_stand, meets}
-use Rattle.plan_ring.proofs.Opened.{nothing_awaited}
-use Rattle.plan_ring.proofs.SlaveTurns.{given}
-use Rattle.slave_server.specs.Serving.{Serving}
-use Rattle.slave_server.specs.Spec.{node_of}
+use Rattle.idle_slaves.specs.of_plan_ring.Clocks.{AllAnswered, AllAsked, AllStand, AnswersAs, AsksAs, clocks_on}
+use Rattle.idle_slaves.specs.of_plan_ring.Stands.{StandsTo}
+use Rattle.idle_slaves.proofs.of_plan_ring.Each.{each_answers, each_stand, meets}
+use Rattle.idle_slaves.proofs.of_plan_ring.Opened.{nothing_awaited}
+use Rattle.idle_slaves.proofs.of_plan_ring.SlaveTurns.{given}
+use Rattle.idle_slaves.specs.of_slave_server.Serving.{Serving}
+use Rattle.idle_slaves.specs.of_slave_server.Spec.{node_of}
 use Rattle.slave_steps.specs.Node.{Node}
 use Rattle.whole_ring.specs.Members.{AllLived, Member}
 use Rattle.whole_ring.specs.Turning.{AllTurn, Turn, behind_frame, frame_at, given_up, next_life}

@@ -18,12 +18,12 @@ use Rattle.segment_plan.specs.declared.service.Service as Plan
 use Rattle.segment_plan.specs.declared.slave.SlaveSpec.{SlaveSpec}
 use Rattle.segment_ring.specs.declared.wire.Fate.{Fate}
 use Rattle.segment_ring.specs.declared.wire.Fate.TheVariants.{Pass}
-use Rattle.served_runs.specs.Served.{Serves, ServedTurn, AllServedTurn, IsServedTurn, recorded, served_behind}
-use Rattle.served_places.specs.Toured.{back_under}
+use Rattle.served_rings.specs.of_served_runs.Served.{Serves, ServedTurn, AllServedTurn, IsServedTurn, recorded, served_behind}
+use Rattle.served_rings.specs.of_served_places.Toured.{back_under}
 use Rattle.seen_slaves.specs.Eager.{leads_of}
 use Rattle.seen_slaves.proofs.Ready.{AllCounted, AllStationed, nexts_then}
 use Rattle.seen_slaves.proofs.Unread.{unread_on}
-use Rattle.slave_server.specs.Serving.{Serving}
+use Rattle.idle_slaves.specs.of_slave_server.Serving.{Serving}
 use Rattle.slave_steps.specs.Node.{Node}
 use Rattle.idle_slaves.proofs.Fits.{AllReady, IsReady, Slave, next_of, nexts_of}
 use Rattle.idle_slaves.proofs.Lists.{AllStanding, IsStanding}

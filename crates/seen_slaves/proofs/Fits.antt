@@ -31,9 +31,9 @@ use Rattle.serving_model.proofs.TaggedLaw.{marked-answer}
 use Rattle.seen_slaves.specs.Last.{LastPasses}
 use Rattle.state_exchange.specs.Stated.{IsStated, Service}
 use Rattle.state_model.specs.States.{Table}
-use Rattle.life_counts.specs.Epochs.{IsRun, IsSeen, IsSpeaker, Speaker, between, era_named, newest_of, seeing, seeing_states}
-use Rattle.life_counts.specs.Spoken.{IsNamed, IsPassed}
-use Rattle.life_counts.proofs.TaggedWhole.{seeing_lawful, seeing_stated}
+use Rattle.run_work.specs.of_life_counts.Epochs.{IsRun, IsSeen, IsSpeaker, Speaker, between, era_named, newest_of, seeing, seeing_states}
+use Rattle.run_work.specs.of_life_counts.Spoken.{IsNamed, IsPassed}
+use Rattle.run_work.proofs.of_life_counts.TaggedWhole.{seeing_lawful, seeing_stated}
 use Rattle.seen_slaves.proofs.Never.{never_calm}
 use Rattle.task_model.specs.Accounts.{Started}
 

@@ -3,7 +3,7 @@ use Rattle.std.proofs.Common.{◌≡◌, ℕ, zero, suc, Bool, true, List, [], �
 use Rattle.std.specs.Prelude.{drop}
 use Rattle.std.proofs.lemmas.List.{length-map}
 use Rattle.exchange_model.specs.Exchange.{Exchange, given, plain}
-use Rattle.few_replies.specs.Calm.{calm_tagged}
+use Rattle.served_rings.specs.of_few_replies.Calm.{calm_tagged}
 use Rattle.never_waits.specs.Hears.{HearsFirst}
 use Rattle.never_waits.proofs.HearsDialogues.{not_none}
 use Rattle.serving_model.specs.Tagged.{IsServed, Asked, Meant, Rowed, Tagged, ideal, is_own, more_of, tagged, told, untag}

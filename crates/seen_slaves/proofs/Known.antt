@@ -3,7 +3,7 @@ use Rattle.std.proofs.Common.{◌≡◌, inl, inr, ℕ, Bool, true, false, Optio
 use Rattle.std.proofs.lemmas.List.{map-append}
 use Rattle.exchange_model.specs.Exchange.{Exchange, Speech, plain}
 use Rattle.exchange_model.specs.Rows.{Row, left}
-use Rattle.few_replies.specs.Calm.{calm_tagged}
+use Rattle.served_rings.specs.of_few_replies.Calm.{calm_tagged}
 use Rattle.master_side.specs.Due.{EachDue, IsAwaited, IsDue, IsReply}
 use Rattle.passed_whole.specs.Client.{ByContents}
 use Rattle.passed_whole.specs.Erased.{OfRow, row_seen}
@@ -12,9 +12,9 @@ use Rattle.seen_slaves.proofs.Left.{left_as}
 use Rattle.serving_model.specs.Passing.{ends_told}
 use Rattle.serving_model.specs.Tagged.{Asked, Tagged, is_own, untag}
 use Rattle.state_exchange.specs.Stated.{Stated}
-use Rattle.life_counts.specs.Spoken.{Naming, Speaks}
-use Rattle.life_counts.proofs.Begins.{NowKnown, RowKnown}
-use Rattle.life_counts.proofs.Clients.{IsKnown, plans}
+use Rattle.run_work.specs.of_life_counts.Spoken.{Naming, Speaks}
+use Rattle.run_work.proofs.of_life_counts.Begins.{NowKnown, RowKnown}
+use Rattle.run_work.proofs.of_life_counts.Clients.{IsKnown, plans}
 
 module _ {V M Q R T : Type 0} (x : Exchange V V M Q R) (calm : V → Bool) (fair : M → Bool) (s : Stated V V Q) (n : Naming M Q T R) (speaks : Speaks n x.speech s.acknowledged) where
   abbrev Meant : Type 0

@@ -9,12 +9,12 @@ use Rattle.life_runs.specs.First.{lens_of}
 use Rattle.life_runs.specs.Led.{Exchanged}
 use Rattle.link_mails.specs.Body.{Body}
 use Rattle.master_hand.specs.Spoken.{Asked, is_followed, is_passed}
-use Rattle.plan_ring.specs.PlanMet.{AllMet, IsMet}
-use Rattle.plan_ring.specs.Lives.{IsKnown}
-use Rattle.plan_ring.specs.Plan.{FitsPlan, step}
-use Rattle.plan_ring.specs.Round.{WentRound, all_seen, behind, frame_seen, ring_after, ring_of}
-use Rattle.plan_ring.proofs.Known.{AllBoot, all_boot}
-use Rattle.plan_ring.proofs.Lives.{one_after}
+use Rattle.idle_slaves.specs.of_plan_ring.PlanMet.{AllMet, IsMet}
+use Rattle.idle_slaves.specs.of_plan_ring.Lives.{IsKnown}
+use Rattle.idle_slaves.specs.of_plan_ring.Plan.{FitsPlan, step}
+use Rattle.idle_slaves.specs.of_plan_ring.Round.{WentRound, all_seen, behind, frame_seen, ring_after, ring_of}
+use Rattle.idle_slaves.proofs.of_plan_ring.Known.{AllBoot, all_boot}
+use Rattle.idle_slaves.proofs.of_plan_ring.Lives.{one_after}
 use Rattle.segment_model.specs.Record.{Frame}
 use Rattle.segment_plan.specs.Sound as Plan
 use Rattle.segment_plan.specs.declared.plan.Scenario.{Scenario}
@@ -24,13 +24,13 @@ use Rattle.segment_ring.specs.Schedule.{fate_at}
 use Rattle.segment_ring.specs.declared.wire.Fate.TheVariants.{Pass}
 use Rattle.served_rings.specs.Rings.{AllServedAt, AreServedLived, ServedMember, served_member, served_members}
 use Rattle.served_rings.proofs.All as Every
-use Rattle.served_runs.specs.Served.{Serves, ServedTurn, AllServedTurn, IsServedFrame}
+use Rattle.served_rings.specs.of_served_runs.Served.{Serves, ServedTurn, AllServedTurn, IsServedFrame}
 use Rattle.seen_slaves.specs.Eager.{leads_of}
 use Rattle.seen_slaves.proofs.Seats.{nodes_are, paces_are}
-use Rattle.plan_ring.specs.Met.{AllOpenMet, OpenMet}
-use Rattle.plan_ring.proofs.Each.{meets}
-use Rattle.plan_ring.proofs.OpenEach.{each_met}
-use Rattle.slave_server.specs.Serving.{Serving}
+use Rattle.idle_slaves.specs.of_plan_ring.Met.{AllOpenMet, OpenMet}
+use Rattle.idle_slaves.proofs.of_plan_ring.Each.{meets}
+use Rattle.idle_slaves.proofs.of_plan_ring.OpenEach.{each_met}
+use Rattle.idle_slaves.specs.of_slave_server.Serving.{Serving}
 use Rattle.slave_steps.specs.Node.{Node, node_passed}
 use Rattle.whole_ring.specs.Turning.{AllTurn, Turn, behind_frame, frame_at}
 use Rattle.whole_ring.proofs.Members as Members

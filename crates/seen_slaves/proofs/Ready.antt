@@ -17,7 +17,7 @@ use Rattle.link_mails.specs.Body.{Body}
 use Rattle.master_duty.specs.Reply.{Reply}
 use Rattle.master_hand.specs.Spoken.{Asked, acknowledged, is_followed, passed}
 use Rattle.master_tour.proofs.Backs.{seen_aims}
-use Rattle.plan_ring.specs.PlanMet.{slave_at, AllMet, IsMet}
+use Rattle.idle_slaves.specs.of_plan_ring.PlanMet.{slave_at, AllMet, IsMet}
 use Rattle.run_frames.specs.Goes.{Under, back_life}
 use Rattle.run_frames.specs.Led.{AreLed}
 use Rattle.run_frames.specs.Waits.{Waits}
@@ -26,12 +26,12 @@ use Rattle.segment_plan.specs.declared.service.Service as Plan
 use Rattle.segment_plan.specs.declared.slave.SlaveSpec.{SlaveSpec}
 use Rattle.segment_ring.specs.declared.wire.Fate.{Fate}
 use Rattle.segment_ring.specs.declared.wire.Fate.TheVariants.{Pass}
-use Rattle.served_runs.specs.Served.{Keyed, Serves, ServedTurn, AllServedTurn, IsServedTurn, ServedComes, served_behind, served_life}
-use Rattle.served_runs.specs.Told.{Passed}
-use Rattle.served_places.specs.Toured.{back_under}
+use Rattle.served_rings.specs.of_served_runs.Served.{Keyed, Serves, ServedTurn, AllServedTurn, IsServedTurn, ServedComes, served_behind, served_life}
+use Rattle.served_rings.specs.of_served_runs.Told.{Passed}
+use Rattle.served_rings.specs.of_served_places.Toured.{back_under}
 use Rattle.seen_slaves.specs.Eager.{AllStill, leads_of, turns_of}
 use Rattle.seen_slaves.proofs.Tells.{tells}
-use Rattle.slave_server.specs.Serving.{Serving}
+use Rattle.idle_slaves.specs.of_slave_server.Serving.{Serving}
 use Rattle.slave_steps.specs.Node.{Node}
 use Rattle.state_exchange.specs.Stated.{Service}
 use Rattle.idle_slaves.proofs.Fits.{AllReady, AllSeated, IsReady, IsSeated, Slave, next_of, nexts_of}

@@ -22,8 +22,8 @@ use Rattle.link_mails.specs.Body.{Body}
 use Rattle.master_duty.specs.Reply.{Reply}
 use Rattle.master_hand.specs.Spoken.{Asked, acknowledged, hand_speech, is_followed, is_passed}
 use Rattle.passed_whole.specs.Heard.{EraPasses}
-use Rattle.plan_ring.specs.PlanMet.{slave_at}
-use Rattle.plan_ring.specs.Plan.{AllMacs, FitsPlan, plan_of, step}
+use Rattle.idle_slaves.specs.of_plan_ring.PlanMet.{slave_at}
+use Rattle.idle_slaves.specs.of_plan_ring.Plan.{AllMacs, FitsPlan, plan_of, step}
 use Rattle.served_rings.specs.Speakers.{any_speaker, processor_of, seer_of, spoken, table_of}
 use Rattle.seen_slaves.specs.Fits.{FitsSo, HasNone}
 use Rattle.seen_slaves.proofs.Fits.{fits}
@@ -37,19 +37,19 @@ use Rattle.segment_plan.specs.declared.slave.SlaveSpec.{SlaveSpec}
 use Rattle.served_rings.specs.Serves.{serves}
 use Rattle.served_rings.specs.Rings.{AllServedAt, IsServedAt, ServedMember, counters_of, served_member, served_members}
 use Rattle.seen_slaves.specs.Rows.{PassesSo, ToldSo}
-use Rattle.served_runs.specs.Served.{Serves}
+use Rattle.served_rings.specs.of_served_runs.Served.{Serves}
 use Rattle.seen_slaves.specs.Eager.{leads_of}
 use Rattle.slave_lives.specs.Lived.{node_seen}
 use Rattle.slave_model.specs.Profile.{IsProfile, Profile, areas_of}
 use Rattle.slave_parts.specs.Parts.{Server, parts}
 use Rattle.slave_served.specs.Served.{product_whole}
-use Rattle.slave_server.specs.Serving.{Serving}
-use Rattle.slave_server.specs.Spec.{profile_of}
+use Rattle.idle_slaves.specs.of_slave_server.Serving.{Serving}
+use Rattle.idle_slaves.specs.of_slave_server.Spec.{profile_of}
 use Rattle.slave_steps.specs.Node.{Node}
 use Rattle.seen_slaves.proofs.Told.{none_sent, none_waits}
 use Rattle.state_exchange.specs.Families.{InState}
-use Rattle.life_counts.specs.Epochs.{AllFair, IsRun, IsSeen, IsSpeaker, between, seeing, seeing_states}
-use Rattle.life_counts.proofs.TaggedWhole.{epoch_seen}
+use Rattle.run_work.specs.of_life_counts.Epochs.{AllFair, IsRun, IsSeen, IsSpeaker, between, seeing, seeing_states}
+use Rattle.run_work.proofs.of_life_counts.TaggedWhole.{epoch_seen}
 use Rattle.task_model.specs.Accounts.{Started}
 use Rattle.task_model.specs.Tasks.{IsTaskPlan}
 use Rattle.whole_ring.specs.Members.{AllLived}

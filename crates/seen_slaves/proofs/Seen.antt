@@ -15,7 +15,7 @@ use Rattle.passed_whole.specs.Client.{ByContents}
 use Rattle.passed_whole.specs.Erased.{OfRow}
 use Rattle.passed_whole.specs.Led.{AreSingle, EraTurn, IsLed, MayTurn}
 use Rattle.passed_whole.specs.Silent.{is_passed}
-use Rattle.plan_ring.proofs.Eras.{era_due}
+use Rattle.idle_slaves.proofs.of_plan_ring.Eras.{era_due}
 use Rattle.segment_model.specs.Record.{Frame}
 use Rattle.segment_model.specs.Slaves.{Datagram, Processor, Registers, Slave, frame_after, grams, slave_after}
 use Rattle.seen_slaves.specs.Brings.{AllAreFair, SeenBringsDue}
@@ -27,18 +27,18 @@ use Rattle.serving_model.specs.Passing.{ends_told}
 use Rattle.serving_model.specs.Tagged.{Asked, Rowed, Tagged, is_own, real, untag}
 use Rattle.serving_model.proofs.Erasing.{frame_after-as}
 use Rattle.state_model.specs.States.{Table}
-use Rattle.life_counts.specs.Epochs.{IsRun, IsSpeaker, Speaker, between, era_named, seeing, seeing_states}
-use Rattle.life_counts.specs.Foreseen.{AllRight}
-use Rattle.life_counts.proofs.Answered.{AllAnswered, HasAnswer, StateLast, next_rests}
-use Rattle.life_counts.proofs.Begins.{Next}
-use Rattle.life_counts.proofs.Eras.{Knows, era_knows}
-use Rattle.life_counts.proofs.Frames.{frame_to, own_to, to_own}
-use Rattle.life_counts.proofs.Led as Led
-use Rattle.life_counts.proofs.Marks.{HasReplies, IsPassedNow, PassedNow}
-use Rattle.life_counts.proofs.Opened.{after_started}
-use Rattle.life_counts.proofs.Turns as Turns
-use Rattle.life_counts.proofs.Ways.{met}
-use Rattle.life_counts.proofs.TaggedWhole.{seeing_lawful, seeing_stated}
+use Rattle.run_work.specs.of_life_counts.Epochs.{IsRun, IsSpeaker, Speaker, between, era_named, seeing, seeing_states}
+use Rattle.run_work.specs.of_life_counts.Foreseen.{AllRight}
+use Rattle.run_work.proofs.of_life_counts.Answered.{AllAnswered, HasAnswer, StateLast, next_rests}
+use Rattle.run_work.proofs.of_life_counts.Begins.{Next}
+use Rattle.run_work.proofs.of_life_counts.Eras.{Knows, era_knows}
+use Rattle.run_work.proofs.of_life_counts.Frames.{frame_to, own_to, to_own}
+use Rattle.run_work.proofs.of_life_counts.Led as Led
+use Rattle.run_work.proofs.of_life_counts.Marks.{HasReplies, IsPassedNow, PassedNow}
+use Rattle.run_work.proofs.of_life_counts.Opened.{after_started}
+use Rattle.run_work.proofs.of_life_counts.Turns as Turns
+use Rattle.run_work.proofs.of_life_counts.Ways.{met}
+use Rattle.run_work.proofs.of_life_counts.TaggedWhole.{seeing_lawful, seeing_stated}
 use Rattle.seen_slaves.proofs.Hears.{hears_calm}
 use Rattle.task_model.specs.Accounts.{Pick, Started}
 use Rattle.task_model.specs.Promise.{services_in}

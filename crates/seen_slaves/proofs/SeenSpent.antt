@@ -22,7 +22,7 @@ use Rattle.serving_model.specs.Erasing.{box_as}
 use Rattle.seen_slaves.specs.Last.{LastPasses}
 use Rattle.state_exchange.specs.Stated.{Service, Stated, IsStated}
 use Rattle.state_model.specs.States.{Table}
-use Rattle.life_counts.specs.Seen.{era_seen, service_seen, started_seen}
+use Rattle.run_work.specs.of_life_counts.Seen.{era_seen, service_seen, started_seen}
 use Rattle.task_model.specs.Accounts.{Started, is_acknowledged, is_free}
 
 map_none : {X Y : Type 0} (f : X → Y) (xs : List X) → map f xs ≡ [] → xs ≡ []

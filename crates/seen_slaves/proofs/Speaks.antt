@@ -2,8 +2,8 @@
 use Rattle.std.proofs.Common.{◌≡◌, ◌≢◌, true, false, Option, Some, None, option_map, List, [], ◌∷◌, refl, sym, ap, ◌∙◌, inl, inr}
 use Rattle.never_waits.specs.Waits.{NeverWaits}
 use Rattle.seen_slaves.specs.Told.{PlansSome}
-use Rattle.life_counts.specs.Epochs.{IsSpeaker, Speaker}
-use Rattle.life_counts.specs.Spoken.{IsNamed}
+use Rattle.run_work.specs.of_life_counts.Epochs.{IsSpeaker, Speaker}
+use Rattle.run_work.specs.of_life_counts.Spoken.{IsNamed}
 
 module _ {V M Q R C T : Type 0} (w : Speaker V M Q R C T) (k : IsSpeaker w) where
   abbrev Named : T → Type 0

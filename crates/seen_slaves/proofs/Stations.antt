@@ -6,13 +6,13 @@ use Rattle.std.proofs.lemmas.List.Elements.{All-nil, All-cons, All-head, All-tai
 use Rattle.idle_slaves.specs.Eager.{Remembered}
 use Rattle.frame_view.specs.Seen.{seen}
 use Rattle.frame_view.specs.View.{Lens}
-use Rattle.served_places.proofs.Each.{each}
+use Rattle.served_rings.proofs.of_served_places.Each.{each}
 use Rattle.life_model.specs.Lives.{Spot}
 use Rattle.life_runs.specs.First.{lens_of, first_leads, leads_from}
 use Rattle.life_runs.specs.Led.{Exchanged, Leads}
 use Rattle.life_runs.specs.of_datagrams.Datagram as Raw
-use Rattle.plan_ring.specs.PlanMet.{AllMet}
-use Rattle.plan_ring.specs.Round.{ring_of, AllRound}
+use Rattle.idle_slaves.specs.of_plan_ring.PlanMet.{AllMet}
+use Rattle.idle_slaves.specs.of_plan_ring.Round.{ring_of, AllRound}
 use Rattle.run_frames.specs.Runs.{Progress}
 use Rattle.run_frames.proofs.Leading.{SeenIs}
 use Rattle.segment_plan.specs.Bound.{slowest}
@@ -24,10 +24,10 @@ use Rattle.segment_ring.specs.declared.wire.Fate.{Fate}
 use Rattle.segment_ring.specs.declared.wire.Fate.TheVariants.{Pass, Lost}
 use Rattle.seen_slaves.specs.Rows.{IsNew}
 use Rattle.seen_slaves.proofs.Rows.{each_first}
-use Rattle.served_runs.specs.Served.{Serves, ServedTurn, IsServedFrame, IsServedTurn, all_serve, served_behind, served_life}
-use Rattle.served_places.specs.Answered.{ServedWaits}
-use Rattle.served_places.specs.Toured.{IsServedToured}
-use Rattle.served_places.proofs.Slaves.{begins_so}
+use Rattle.served_rings.specs.of_served_runs.Served.{Serves, ServedTurn, IsServedFrame, IsServedTurn, all_serve, served_behind, served_life}
+use Rattle.served_rings.specs.of_served_places.Answered.{ServedWaits}
+use Rattle.served_rings.specs.of_served_places.Toured.{IsServedToured}
+use Rattle.served_rings.proofs.of_served_places.Slaves.{begins_so}
 use Rattle.seen_slaves.specs.Eager.{ServedEagerIn, leads_of}
 use Rattle.seen_slaves.proofs.Ready.{AllStationed}
 use Rattle.seen_slaves.proofs.Walk.{Led, ServedLaws, first_of, nodes_at, walks}

@@ -12,17 +12,17 @@ use Rattle.life_runs.specs.Led.{Exchanged, speech_at}
 use Rattle.link_mails.specs.Body.{Body}
 use Rattle.link_model.specs.Frames.{all_accepted}
 use Rattle.master_hand.specs.Spoken.{acknowledged}
-use Rattle.plan_ring.specs.PlanMet.{slave_at}
+use Rattle.idle_slaves.specs.of_plan_ring.PlanMet.{slave_at}
 use Rattle.run_frames.specs.Led.{AreLed}
 use Rattle.run_frames.specs.Waits.{Waits}
 use Rattle.segment_model.specs.Slaves.{Datagram, grams, serving}
 use Rattle.segment_plan.specs.declared.service.Service as Plan
 use Rattle.segment_plan.specs.declared.slave.SlaveSpec.{SlaveSpec}
-use Rattle.served_runs.specs.Served.{Keyed, Serves, ServedTurn, AllServedTurn, asked_at, served_behind}
-use Rattle.served_places.specs.Toured.{back_under}
+use Rattle.served_rings.specs.of_served_runs.Served.{Keyed, Serves, ServedTurn, AllServedTurn, asked_at, served_behind}
+use Rattle.served_rings.specs.of_served_places.Toured.{back_under}
 use Rattle.seen_slaves.specs.Eager.{AllStaySo, StaysSo, leads_of, turns_of}
 use Rattle.seen_slaves.proofs.Ready.{AllCounted}
-use Rattle.slave_server.specs.Serving.{Serving}
+use Rattle.idle_slaves.specs.of_slave_server.Serving.{Serving}
 use Rattle.slave_steps.specs.Node.{Node}
 use Rattle.idle_slaves.specs.WaitEager.{AllSilent}
 use Rattle.idle_slaves.proofs.Fits.{Slave, exchange_at}

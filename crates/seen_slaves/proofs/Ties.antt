@@ -12,10 +12,10 @@ use Rattle.segment_model.specs.Slaves.{Processor, Registers, Slave}
 use Rattle.seen_slaves.specs.Brings.{AllAreFair}
 use Rattle.serving_model.specs.Tagged.{Asked, Rowed, Tagged}
 use Rattle.state_model.specs.States.{Table}
-use Rattle.life_counts.specs.Epochs.{IsRun, IsSpeaker, Speaker, between, seeing, seeing_states}
-use Rattle.life_counts.proofs.Led as Led
-use Rattle.life_counts.proofs.Sessions.{begin}
-use Rattle.life_counts.proofs.TaggedWhole.{seeing_lawful, seeing_stated}
+use Rattle.run_work.specs.of_life_counts.Epochs.{IsRun, IsSpeaker, Speaker, between, seeing, seeing_states}
+use Rattle.run_work.proofs.of_life_counts.Led as Led
+use Rattle.run_work.proofs.of_life_counts.Sessions.{begin}
+use Rattle.run_work.proofs.of_life_counts.TaggedWhole.{seeing_lawful, seeing_stated}
 use Rattle.task_model.specs.Tasks.{IsTaskPlan}
 
 module _ {V M Q R C T A : Type 0} (w : Speaker V M Q R C T) (k : IsSpeaker w) (fair : AllAreFair w) (u : Exchange V A M T (Option R)) (processor : Processor V) (seer : Processor (Rowed V M Q)) (tables : ℕ → Table) (spot : Spot)

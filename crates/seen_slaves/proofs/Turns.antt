@@ -22,7 +22,7 @@ use Rattle.segment_model.specs.Returned.{Returns}
 use Rattle.segment_model.specs.Slaves.{Datagram}
 use Rattle.segment_ring.specs.declared.wire.Fate.{Fate}
 use Rattle.segment_ring.specs.declared.wire.Fate.TheVariants.{Pass, Lost}
-use Rattle.served_runs.specs.Served.{Keyed, Serves, ServedTurn, AllServedTurn, IsServedLed, IsServedTurn, all_serve, asked_at, new_serves, recorded, served_behind, served_life}
+use Rattle.served_rings.specs.of_served_runs.Served.{Keyed, Serves, ServedTurn, AllServedTurn, IsServedLed, IsServedTurn, all_serve, asked_at, new_serves, recorded, served_behind, served_life}
 use Rattle.seen_slaves.specs.Rows.{IsNew, ToldSo}
 use Rattle.seen_slaves.proofs.Rows.{each_first}
 use Rattle.seen_slaves.proofs.Stands.{At, back_at, lost_at, next_at}

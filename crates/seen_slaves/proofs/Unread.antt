@@ -22,7 +22,7 @@ use Rattle.link_model.specs.Slave.{InSide}
 use Rattle.master_duty.specs.Reply.{Reply}
 use Rattle.master_hand.specs.Spoken.{Asked, acknowledged, is_followed}
 use Rattle.master_tour.proofs.Unders.{SameAim}
-use Rattle.plan_ring.specs.PlanMet.{slave_at}
+use Rattle.idle_slaves.specs.of_plan_ring.PlanMet.{slave_at}
 use Rattle.run_frames.proofs.Access.{begins_same, holds_same}
 use Rattle.run_frames.specs.Goes.{Under}
 use Rattle.run_frames.specs.Waits.{Waits}
@@ -30,7 +30,7 @@ use Rattle.segment_model.specs.Record.{did_read, is_for, is_read}
 use Rattle.segment_model.specs.Slaves.{Datagram, frame_after, grams, serving}
 use Rattle.segment_plan.specs.declared.service.Service as Plan
 use Rattle.segment_plan.specs.declared.slave.SlaveSpec.{SlaveSpec}
-use Rattle.slave_server.specs.Serving.{Serving}
+use Rattle.idle_slaves.specs.of_slave_server.Serving.{Serving}
 use Rattle.slave_steps.specs.Node.{Node as Real}
 use Rattle.idle_slaves.proofs.Fits.{IsFit, IsReady, Slave, exchange_at, next_of}
 use Rattle.idle_slaves.proofs.Lists.{IsStanding}

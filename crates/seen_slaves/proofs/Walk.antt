@@ -10,12 +10,12 @@ use Rattle.life_runs.specs.Led.{Exchanged, speech_at, is_passed, gives_up_at, mi
 use Rattle.link_mails.specs.Body.{Body}
 use Rattle.master_duty.specs.Reply.{Reply}
 use Rattle.master_hand.specs.Spoken.{Asked, acknowledged, is_followed}
-use Rattle.plan_ring.specs.PlanMet.{AllMet}
-use Rattle.plan_ring.specs.Round.{ring_of, ring_after, AllRound}
-use Rattle.plan_ring.proofs.Lives.{front_round}
-use Rattle.plan_ring.specs.Hands.{AllHand}
-use Rattle.plan_ring.proofs.Hands.{hands_back, hands_lost}
-use Rattle.plan_ring.proofs.Repairs.{all_repaired, none_repaired}
+use Rattle.idle_slaves.specs.of_plan_ring.PlanMet.{AllMet}
+use Rattle.idle_slaves.specs.of_plan_ring.Round.{ring_of, ring_after, AllRound}
+use Rattle.idle_slaves.proofs.of_plan_ring.Lives.{front_round}
+use Rattle.idle_slaves.specs.of_plan_ring.Hands.{AllHand}
+use Rattle.idle_slaves.proofs.of_plan_ring.Hands.{hands_back, hands_lost}
+use Rattle.idle_slaves.proofs.of_plan_ring.Repairs.{all_repaired, none_repaired}
 use Rattle.run_frames.specs.Clocks.{repair_of, gains_all}
 use Rattle.run_frames.specs.Goes.{Under, AllUnder, AllClocked}
 use Rattle.run_frames.specs.Led.{AreLed}
@@ -25,15 +25,15 @@ use Rattle.run_frames.specs.Waits.{Waits, all_anew, all_on, waits_behind, SomeWa
 use Rattle.run_frames.proofs.Leading.{SeenIs, led_view}
 use Rattle.segment_plan.specs.declared.plan.Scenario.{Scenario}
 use Rattle.segment_ring.specs.declared.wire.Fate.TheVariants.{Pass, Lost}
-use Rattle.served_runs.specs.Served.{Keyed, MayAsk, Serves, ServedTurn, IsServedFrame, IsServedLed, all_serve, asked_at}
-use Rattle.served_places.specs.Answered.{ServedWaits}
-use Rattle.served_places.specs.Toured.{IsServedToured, back_under, first_served, lost_under, serves_on, served_back, served_lost, still_served, waits_served}
-use Rattle.served_places.proofs.Slaves.{all_led_back, all_led_lost, all_under, leads_asked}
+use Rattle.served_rings.specs.of_served_runs.Served.{Keyed, MayAsk, Serves, ServedTurn, IsServedFrame, IsServedLed, all_serve, asked_at}
+use Rattle.served_rings.specs.of_served_places.Answered.{ServedWaits}
+use Rattle.served_rings.specs.of_served_places.Toured.{IsServedToured, back_under, first_served, lost_under, serves_on, served_back, served_lost, still_served, waits_served}
+use Rattle.served_rings.proofs.of_served_places.Slaves.{all_led_back, all_led_lost, all_under, leads_asked}
 use Rattle.seen_slaves.specs.Eager.{AllStaySo, IsServedEager, ServedEagerIn, leads_of, turns_of}
 use Rattle.seen_slaves.proofs.Counted.{counted_anew, counted_on}
 use Rattle.seen_slaves.proofs.Ready.{AllCounted, AllStationed, all_ready, nexts_served, nexts_then}
 use Rattle.seen_slaves.proofs.Stays.{all_silent, all_stay, counted_asked, paces_asked, paces_served}
-use Rattle.slave_server.specs.Serving.{Serving}
+use Rattle.idle_slaves.specs.of_slave_server.Serving.{Serving}
 use Rattle.slave_steps.specs.Node.{Node}
 use Rattle.idle_slaves.specs.WaitEager.{AllRest, AllSilent}
 use Rattle.idle_slaves.proofs.Fits.{AllReady, AllSeated, Slave, nexts_of}

@@ -8,7 +8,7 @@ use Rattle.master_side.specs.Due.{EachDue}
 use Rattle.passed_whole.specs.Led.{AreSingle}
 use Rattle.segment_model.specs.Record.{Frame}
 use Rattle.segment_model.specs.Slaves.{Datagram, Slave, frame_after, grams}
-use Rattle.life_counts.specs.Epochs.{AllFair, Speaker}
+use Rattle.run_work.specs.of_life_counts.Epochs.{AllFair, Speaker}
 use Rattle.task_model.specs.Accounts.{Pick, Started}
 
 module _ {V M Q R C T : Type 0} (w : Speaker V M Q R C T) where

@@ -3,11 +3,11 @@ use Rattle.std.specs.Prelude.{◌≡◌, ℕ, List, [], ◌∷◌, ◌++◌, len
 use Rattle.frame_view.specs.Seen.{seen}
 use Rattle.life_runs.specs.First.{first_leads, lens_of}
 use Rattle.life_runs.specs.Led.{Exchanged}
-use Rattle.plan_ring.specs.Dues.{AllDue}
-use Rattle.plan_ring.specs.Round.{AllRound, ring_of}
+use Rattle.idle_slaves.specs.of_plan_ring.Dues.{AllDue}
+use Rattle.idle_slaves.specs.of_plan_ring.Round.{AllRound, ring_of}
 use Rattle.segment_plan.specs.declared.plan.Scenario.{Scenario}
 use Rattle.segment_ring.specs.declared.wire.Fate.TheVariants.{Pass}
-use Rattle.served_runs.specs.Served.{Serves, ServedTurn, IsServedFrame, IsServedLed, all_serve}
+use Rattle.served_rings.specs.of_served_runs.Served.{Serves, ServedTurn, IsServedFrame, IsServedLed, all_serve}
 
 -- THE SLAVES OF A PLAN SEND NO MAIL THAT ISN'T DUE, by each frame of a serving that came back
 abbrev pub ServedMailsAreDue : Scenario → Type 0

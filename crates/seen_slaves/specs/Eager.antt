@@ -7,12 +7,12 @@ use Rattle.life_runs.specs.Led.{Exchanged, Leads, Turn, gives_up_at}
 use Rattle.link_mails.specs.Body.{Body}
 use Rattle.master_duty.specs.Reply.{Reply}
 use Rattle.master_hand.specs.Spoken.{Asked}
-use Rattle.plan_ring.specs.Round.{ring_of, ring_after}
+use Rattle.idle_slaves.specs.of_plan_ring.Round.{ring_of, ring_after}
 use Rattle.run_frames.specs.Clocks.{Clocked}
 use Rattle.run_frames.specs.Runs.{Progress}
 use Rattle.segment_plan.specs.declared.plan.Scenario.{Scenario}
-use Rattle.served_runs.specs.Served.{Serves, ServedTurn, served_behind}
-use Rattle.served_places.specs.Toured.{IsServedToured, still_served}
+use Rattle.served_rings.specs.of_served_runs.Served.{Serves, ServedTurn, served_behind}
+use Rattle.served_rings.specs.of_served_places.Toured.{IsServedToured, still_served}
 use Rattle.idle_slaves.specs.WaitEager.{AllRest, AllSilent}
 
 -- what is remembered of a slave's visits stays, and no packet came to its port, nor was a mail asked that is to be passed on

@@ -5,7 +5,7 @@ use Rattle.life_model.specs.Lives.{Stand, new_life}
 use Rattle.life_runs.specs.Led.{Leads, speech_at, is_passed}
 use Rattle.master_hand.specs.Spoken.{is_followed}
 use Rattle.passed_whole.specs.Heard.{EraPasses}
-use Rattle.served_runs.specs.Served.{Serves}
+use Rattle.served_rings.specs.of_served_runs.Served.{Serves}
 use Rattle.seen_slaves.specs.Last.{LastPasses}
 use Rattle.never_waits.specs.Moments.{NowAnswered}
 use Rattle.seen_slaves.specs.Told.{EraTold}

@@ -12,7 +12,7 @@ ghost use Rattle.std.specs.Prelude.{◌≡◌, ◌∷◌, ℕ, Bool, Option, Lis
 ghost use Rattle.life_model.specs.Eras.{planned};
 ghost use Rattle.serving_model.specs.Tagged.{Rowed};
 ghost use Rattle.state_model.specs.States.{Table};
-ghost use Rattle.life_counts.specs.Epochs.{IsRun, IsSpeaker, Speaker, between, seeing, seeing_states};
+ghost use Rattle.run_work.specs.of_life_counts.Epochs.{IsRun, IsSpeaker, Speaker, between, seeing, seeing_states};
 ghost use Rattle.task_model.specs.Tasks.{IsTaskPlan};
 
 /// EACH MAIL THAT A FRAME MORE BRINGS of an open epoch is due to its master, where the client hears first: of services, and of mails that are passed on, each as

@@ -20,8 +20,8 @@ ghost use Rattle.serving_model.specs.Tagged.{Rowed};
 ghost use Rattle.seen_slaves.specs.Last.{LastPasses};
 ghost use Rattle.state_exchange.specs.Stated.{Stated, IsStated};
 ghost use Rattle.state_model.specs.States.{Table};
-ghost use Rattle.life_counts.specs.Epochs.{IsRun, IsSeen, IsSpeaker, Speaker};
-ghost use Rattle.life_counts.specs.Seen.{era_seen};
+ghost use Rattle.run_work.specs.of_life_counts.Epochs.{IsRun, IsSeen, IsSpeaker, Speaker};
+ghost use Rattle.run_work.specs.of_life_counts.Seen.{era_seen};
 
 /// WHERE NOTHING IS LEFT of a slave as another sees it, its newest service is over for the other.
 pub fn free_seen<N, M, P, Q, S, R, V, A, W>()

@@ -2,7 +2,7 @@
 //! nothing, and their contracts state the laws.
 
 ghost use Rattle.exchange_model.specs.Exchange.{Exchange};
-ghost use Rattle.few_replies.specs.Calm.{calm_tagged};
+ghost use Rattle.served_rings.specs.of_few_replies.Calm.{calm_tagged};
 ghost use Rattle.never_waits.specs.Hears.{HearsFirst};
 ghost use Rattle.never_waits.specs.Waits.{NeverWaits};
 ghost use Rattle.serving_model.specs.Tagged.{IsServed, tagged};

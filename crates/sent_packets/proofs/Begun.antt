@@ -21,9 +21,9 @@ use Rattle.life_runs.specs.Led.{Exchanged, Leads, Turn, AllTurn, IsLed, is_passe
 use Rattle.link_mails.specs.Body.{Body}
 use Rattle.master_duty.specs.Reply.{Reply}
 use Rattle.master_hand.specs.Spoken.{Asked, acknowledged, is_followed, sdo, file, drive, net, passed}
-use Rattle.master_node.specs.Begins.{Taken, switch_on, taken_by, taken_in, begins_by, begun_of, begins_in}
-use Rattle.master_node.specs.Forwards.{port_by}
-use Rattle.master_node.specs.Serving.{run_lead, run_turn}
+use Rattle.packets_heard.specs.of_master_node.Begins.{Taken, switch_on, taken_by, taken_in, begins_by, begun_of, begins_in}
+use Rattle.packets_heard.specs.of_master_node.Forwards.{port_by}
+use Rattle.packets_heard.specs.of_master_node.Serving.{run_lead, run_turn}
 use Rattle.master_side.specs.Passing.{news_back, news_lost}
 use Rattle.master_tour.specs.Made.{is_in}
 use Rattle.run_work.specs.Packets.{waiting_work, queue_work}

@@ -21,7 +21,7 @@ use Rattle.slave_model.specs.Profile.{Protocol, Profile}
 use Rattle.slave_model.specs.Product.{side}
 use Rattle.slave_model.specs.Server.{ServiceOf}
 use Rattle.slave_parts.specs.Parts.{Core, Server, parts as real_parts}
-use Rattle.slave_server.specs.Serving.{Serving}
+use Rattle.plan_ring.specs.of_slave_server.Serving.{Serving}
 use Rattle.slave_steps.specs.Node.{Node}
 use Rattle.eoe_model.specs.Network.{Station}
 use Rattle.sent_packets.specs.Sends.{MaySend, Sends, may_send, asked_sends, sends_most}

@@ -8,7 +8,7 @@ use Rattle.exchange_model.specs.Rows.{emits_all}
 use Rattle.exchange_sum.specs.Refusing.{gated}
 use Rattle.few_replies.specs.Calm.{IsCalm}
 use Rattle.few_replies.specs.Packets.{is_calm, is_fair}
-use Rattle.life_counts.specs.Seen.{service_seen}
+use Rattle.run_work.specs.of_life_counts.Seen.{service_seen}
 use Rattle.link_mails.specs.Body.{Body}
 use Rattle.master_hand.specs.Joins.{fragment_in}
 use Rattle.packet_model.specs.Packets.{parts}
@@ -35,7 +35,7 @@ use Rattle.state_exchange.specs.Families.{InState}
 use Rattle.state_exchange.specs.Stated.{Act, Counting, Service, acts, mails, service_valid, with_states}
 use Rattle.state_exchange.proofs.Acts.{mails_acts, mails_append}
 use Rattle.state_model.specs.States.{Table}
-use Rattle.life_counts.specs.Epochs.{seeing, seeing_states}
+use Rattle.run_work.specs.of_life_counts.Epochs.{seeing, seeing_states}
 
 not_false : (b : Bool) → not b ≡ true → b ≡ false
 not_false true e = absurd (cc)

@@ -20,11 +20,11 @@ use Rattle.slave_lives.specs.Lived.{Behind, node_seen}
 use Rattle.slave_lives.specs.Opening.{Plan}
 use Rattle.slave_model.specs.Profile.{Profile}
 use Rattle.slave_parts.specs.Parts.{Server}
-use Rattle.slave_server.specs.Serving.{Serving}
+use Rattle.plan_ring.specs.of_slave_server.Serving.{Serving}
 use Rattle.slave_steps.specs.Node.{Node}
 use Rattle.state_exchange.specs.Families.{InState}
-use Rattle.life_counts.specs.Epochs.{AllFair, IsSeen}
-use Rattle.life_counts.proofs.TaggedWhole.{epoch_seen}
+use Rattle.run_work.specs.of_life_counts.Epochs.{AllFair, IsSeen}
+use Rattle.run_work.proofs.of_life_counts.TaggedWhole.{epoch_seen}
 use Rattle.whole_ring.specs.Whole.{LivesOpenBy, StandsBy}
 
 module _ (weigh : List ℕ → ℕ) (p : Profile) (laws : Quiets weigh p) (boot : Bool) (lens : ℕ → Lens) (spot : Spot) where

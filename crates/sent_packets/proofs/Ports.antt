@@ -8,8 +8,8 @@ use Rattle.std.proofs.lemmas.Nat.{mul-le}
 use Rattle.arrayvec.specs.ArrayVec.{ArrayVec}
 use Rattle.eoe_switch.specs.declared.switching.SwitchEvent.{SwitchEvent}
 use Rattle.eoe_switch.specs.declared.switching.SwitchEvent.TheVariants.{Arrive, Begun, Down}
-use Rattle.master_node.specs.Happened.{arrived_by, arrivals_at}
-use Rattle.master_node.specs.Ports.{IsAtPort}
+use Rattle.packets_heard.specs.of_master_node.Happened.{arrived_by, arrivals_at}
+use Rattle.packets_heard.specs.of_master_node.Ports.{IsAtPort}
 use Rattle.run_work.specs.Flows.{forwards_work, slaves_work, entry_work, entries_work, AllComeAt}
 use Rattle.run_work.specs.Packets.{waiting_work, queue_work}
 use Rattle.packets_heard.specs.Over.{forwarded_to}

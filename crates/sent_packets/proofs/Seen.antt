@@ -8,7 +8,7 @@ use Rattle.exchange_model.specs.Prefix.{IsPrefixOf}
 use Rattle.exchange_model.specs.Rows.{emits_all}
 use Rattle.few_replies.specs.Calm.{IsCalm}
 use Rattle.few_replies.specs.Packets.{is_calm, is_fair}
-use Rattle.life_counts.specs.Seen.{service_seen, started_seen}
+use Rattle.run_work.specs.of_life_counts.Seen.{service_seen, started_seen}
 use Rattle.life_model.specs.Eras.{OpenEra, era_frames}
 use Rattle.life_model.specs.Lives.{Spot, Era, Life}
 use Rattle.life_model.proofs.Eras.{of_one, session_of}
@@ -39,9 +39,9 @@ use Rattle.slave_parts.specs.Parts.{Server, parts as real_parts}
 use Rattle.slave_served.specs.Served.{product_whole}
 use Rattle.state_exchange.specs.Families.{InState}
 use Rattle.state_exchange.specs.Stated.{Service, mails, service_valid}
-use Rattle.life_counts.specs.Epochs.{IsSeen, IsSpeaker, between, seeing, seeing_states}
-use Rattle.life_counts.proofs.Eras.{Knows, era_knows}
-use Rattle.life_counts.proofs.TaggedWhole.{seeing_lawful, seeing_stated}
+use Rattle.run_work.specs.of_life_counts.Epochs.{IsSeen, IsSpeaker, between, seeing, seeing_states}
+use Rattle.run_work.proofs.of_life_counts.Eras.{Knows, era_knows}
+use Rattle.run_work.proofs.of_life_counts.TaggedWhole.{seeing_lawful, seeing_stated}
 use Rattle.task_model.specs.Accounts.{Started}
 use Rattle.task_model.specs.Promise.{TasksPromised, services_in}
 use Rattle.task_model.proofs.Sessions.{tasks_promised}

@@ -13,8 +13,8 @@ use Rattle.life_runs.specs.Led.{Exchanged, Leads, gives_up_at}
 use Rattle.life_model.specs.Lives.{Spot}
 use Rattle.link_mails.specs.Body.{Body}
 use Rattle.master_hand.specs.Spoken.{is_followed, is_passed}
-use Rattle.master_node.specs.Serving.{run_lead, run_turn}
-use Rattle.master_node.proofs.Servings.{run_all}
+use Rattle.packets_heard.specs.of_master_node.Serving.{run_lead, run_turn}
+use Rattle.packets_heard.proofs.of_master_node.Servings.{run_all}
 use Rattle.packets_heard.specs.Heard.{IsJoined, Times, mails_by, times_behind, times_none, times_on}
 use Rattle.packets_heard.specs.Servings.{served_joined, served_times}
 use Rattle.plan_ring.specs.Lives.{IsKnown}
@@ -42,9 +42,9 @@ use Rattle.served_rings.specs.Rings.{AllServedAt, AreServedLived, counters_of, s
 use Rattle.served_runs.specs.Came.{HasServed}
 use Rattle.served_runs.specs.Served.{Keyed, Serves, ServedTurn, AllServedTurn, IsServedLed, all_serve, asked_at, served_behind, served_life}
 use Rattle.slave_model.specs.Profile.{Profile, IsProfile}
-use Rattle.slave_server.specs.Seen.{seen_in}
-use Rattle.slave_server.specs.Serving.{Serving}
-use Rattle.slave_server.specs.Spec.{profile_of, server_of}
+use Rattle.plan_ring.specs.of_slave_server.Seen.{seen_in}
+use Rattle.plan_ring.specs.of_slave_server.Serving.{Serving}
+use Rattle.plan_ring.specs.of_slave_server.Spec.{profile_of, server_of}
 use Rattle.slave_steps.specs.Node.{Node}
 
 -- ---- all mails that were asked are quiet: so they were before

@@ -21,8 +21,8 @@ use Rattle.served_runs.specs.Served.{Keyed, Serves}
 use Rattle.serving_model.specs.Tagged as Tagged
 use Rattle.slave_model.specs.Profile.{Profile}
 use Rattle.state_exchange.specs.Stated.{Service}
-use Rattle.life_counts.specs.Epochs.{AllFair, IsSpeaker}
-use Rattle.life_counts.specs.Spoken.{IsPassed}
+use Rattle.run_work.specs.of_life_counts.Epochs.{AllFair, IsSpeaker}
+use Rattle.run_work.specs.of_life_counts.Spoken.{IsPassed}
 use Rattle.task_model.specs.Accounts.{Started}
 use Rattle.task_model.specs.Promise.{services_in}
 

@@ -8,20 +8,20 @@ use Rattle.arrayvec.specs.ArrayVec.{ArrayVec}
 use Rattle.book_model.specs.Script.{life_started}
 use Rattle.eoe_switch.specs.Switch.{switched}
 use Rattle.eoe_switch.specs.declared.switching.SwitchEvent.{SwitchEvent}
-use Rattle.life_counts.specs.Begun.{begun_most}
+use Rattle.run_work.specs.of_life_counts.Begun.{begun_most}
 use Rattle.frame_view.specs.View.{Lens}
 use Rattle.life_runs.specs.First.{lens_of, script_for}
 use Rattle.life_runs.specs.Led.{Leads}
-use Rattle.master_node.specs.Forwards.{port_by}
-use Rattle.master_node.specs.Happened.{arrivals_at}
-use Rattle.master_node.specs.Ports.{IsAtPort, port_where, last_where, ports_behind, ports_of}
-use Rattle.master_node.specs.Serving.{run_lead}
+use Rattle.packets_heard.specs.of_master_node.Forwards.{port_by}
+use Rattle.packets_heard.specs.of_master_node.Happened.{arrivals_at}
+use Rattle.packets_heard.specs.of_master_node.Ports.{IsAtPort, port_where, last_where, ports_behind, ports_of}
+use Rattle.packets_heard.specs.of_master_node.Serving.{run_lead}
 use Rattle.run_work.specs.Flows.{slaves_work, entries_work, AllComeAt}
 use Rattle.run_work.specs.Packets.{cuts, waiting_work, queue_work}
 use Rattle.packets_heard.specs.Over.{forwarded_to}
 use Rattle.packets_heard.specs.Heard.{Joined}
-use Rattle.plan_counts.specs.Asked.{asked_most}
-use Rattle.plan_counts.specs.Split.{entering}
+use Rattle.run_work.specs.of_plan_counts.Asked.{asked_most}
+use Rattle.run_work.specs.of_plan_counts.Split.{entering}
 use Rattle.packets_heard.specs.Listed.{IsOwn, long_where, long_ones, packets_at}
 use Rattle.run_work.specs.Switched.{cuts_begun, host_cuts}
 use Rattle.run_work.specs.Together.{packets_begun}
@@ -34,7 +34,7 @@ use Rattle.served_runs.specs.Came.{HasServed}
 use Rattle.served_runs.specs.Served.{Serves}
 use Rattle.few_replies.specs.Shapes.{shape_of}
 use Rattle.sent_packets.specs.Sends.{all_most}
-use Rattle.slave_server.specs.Spec.{core_of, profile_of}
+use Rattle.plan_ring.specs.of_slave_server.Spec.{core_of, profile_of}
 use Rattle.sent_packets.proofs.Begun.{weights, started_at}
 use Rattle.sent_packets.proofs.Ports.{ports_sum, eoe_count, forwards_within, queue_append, entries_within, come_at, few_ports}
 use Rattle.sent_packets.proofs.Weighed.{Echoes, echoes, packets_weigh, all_send, served_send}

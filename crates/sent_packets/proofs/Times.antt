@@ -4,7 +4,7 @@ use Rattle.std.specs.Prelude.{sum_by, nat_lt}
 use Rattle.std.proofs.lemmas.Bool.{eqb-true, eqb-false}
 use Rattle.std.proofs.lemmas.List.Sums.{sum_by-append}
 use Rattle.book_model.specs.Script.{eras_started}
-use Rattle.life_counts.proofs.Turns.{heard_push}
+use Rattle.run_work.proofs.of_life_counts.Turns.{heard_push}
 use Rattle.life_model.specs.Eras.{era_frames}
 use Rattle.life_model.specs.Lives.{Spot, Era, Life, Opening, Stand, shows_clear, last_step, is_shown, opening_back, clears, opens, steps_on, reopening, gives_up}
 use Rattle.life_model.specs.Own.{own, own_frame, blank}

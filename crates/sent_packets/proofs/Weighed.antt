@@ -10,15 +10,15 @@ use Rattle.coe_client.specs.Talk.{service_view}
 use Rattle.coe_model.specs.Server.{emergency, packet, emission_of}
 use Rattle.eoe_model.specs.Client as EoeClient
 use Rattle.eoe_model.specs.Echo.{echo_of}
-use Rattle.life_counts.specs.Begun.{service_most, begun_most}
+use Rattle.run_work.specs.of_life_counts.Begun.{service_most, begun_most}
 use Rattle.life_runs.specs.Led.{Comes}
 use Rattle.master_hand.specs.Brings.{as_list}
 use Rattle.master_hand.specs.Spoken.{Asked, sdo, file, drive, net, passed}
 use Rattle.master_hand.specs.Talk.{asked_of}
 use Rattle.object_dictionary.specs.declared.service.SdoService.{SdoService}
 use Rattle.run_work.specs.Packets.{cuts, may_echo, waiting_work}
-use Rattle.plan_counts.specs.Asked.{asked_most}
-use Rattle.plan_counts.specs.Split.{sdo_cuts, entering}
+use Rattle.run_work.specs.of_plan_counts.Asked.{asked_most}
+use Rattle.run_work.specs.of_plan_counts.Split.{sdo_cuts, entering}
 use Rattle.script_runs.specs.Came.{handed_over, AreThose, is_packet}
 use Rattle.script_runs.proofs.Came.{listed}
 use Rattle.segment_plan.specs.declared.service.Service as Plan

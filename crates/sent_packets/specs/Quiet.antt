@@ -12,7 +12,7 @@ use Rattle.slave_model.specs.Profile.{Profile}
 use Rattle.slave_model.specs.Server.{Reply}
 use Rattle.slave_parts.specs.Parts.{Core, Server}
 use Rattle.state_exchange.specs.Families.{InState}
-use Rattle.life_counts.specs.Epochs.{Speaker}
+use Rattle.run_work.specs.of_life_counts.Epochs.{Speaker}
 
 -- a mail by which no packet goes
 abbrev pub is_quiet : Body → Bool

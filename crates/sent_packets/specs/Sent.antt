@@ -5,7 +5,7 @@ use Rattle.life_runs.specs.Led.{Leads}
 use Rattle.packets_heard.specs.Heard.{Joined}
 use Rattle.segment_plan.specs.declared.slave.SlaveSpec.{SlaveSpec}
 use Rattle.sent_packets.specs.Sends.{all_most}
-use Rattle.slave_server.specs.Spec.{profile_of}
+use Rattle.plan_ring.specs.of_slave_server.Spec.{profile_of}
 
 -- of each slave they weigh no more, whatever each weighs, than those that its services may make it send
 abbrev pub AllSend : (List ℕ → ℕ) → List SlaveSpec → List Leads → List Joined → Type 0

@@ -16,22 +16,22 @@ use Rattle.life_frames.specs.of_segment_model.Returned.{Returns}
 use Rattle.life_frames.specs.of_segment_model.Slaves.{Datagram, Found, grams}
 use Rattle.life_frames.specs.of_state_exchange.Stated.{Service}
 use Rattle.life_frames.specs.Frames.{FrameFor, Share}
-use Rattle.life_runs.specs.of_datagrams.Datagram as Raw
-use Rattle.life_runs.specs.of_datagrams.Frame.{IsFrame, chained}
-use Rattle.life_runs.specs.of_frame_view.Seen.{datagrams_seen, seen}
-use Rattle.life_runs.specs.of_frame_view.View.{Lens, datagram_seen}
-use Rattle.life_runs.specs.of_life_frames.Shares.{came_at, given_where}
-use Rattle.life_runs.specs.of_link_mails.Body.{Body}
-use Rattle.life_runs.specs.of_master_duty.Reply.{Reply}
-use Rattle.life_runs.specs.of_master_hand.Spoken.{Asked, acknowledged, emission, is_followed, is_passed, passed}
-use Rattle.life_runs.specs.of_master_side.Passing.{IsKept, news_back, news_lost, passing_behind}
-use Rattle.life_runs.specs.of_segment_plan.declared.service.Service as Plan
-use Rattle.life_runs.specs.of_segment_ring.declared.wire.Fate.{Fate}
-use Rattle.life_runs.specs.of_segment_ring.declared.wire.Fate.TheVariants.{Pass, Lost}
-use Rattle.life_runs.specs.Led.{Exchanged, speech_at}
+use Rattle.run_frames.specs.of_life_runs.of_datagrams.Datagram as Raw
+use Rattle.run_frames.specs.of_life_runs.of_datagrams.Frame.{IsFrame, chained}
+use Rattle.run_frames.specs.of_life_runs.of_frame_view.Seen.{datagrams_seen, seen}
+use Rattle.run_frames.specs.of_life_runs.of_frame_view.View.{Lens, datagram_seen}
+use Rattle.run_frames.specs.of_life_runs.of_life_frames.Shares.{came_at, given_where}
+use Rattle.run_frames.specs.of_life_runs.of_link_mails.Body.{Body}
+use Rattle.run_frames.specs.of_life_runs.of_master_duty.Reply.{Reply}
+use Rattle.run_frames.specs.of_life_runs.of_master_hand.Spoken.{Asked, acknowledged, emission, is_followed, is_passed, passed}
+use Rattle.run_frames.specs.of_life_runs.of_master_side.Passing.{IsKept, news_back, news_lost, passing_behind}
+use Rattle.run_frames.specs.of_life_runs.of_segment_plan.declared.service.Service as Plan
+use Rattle.run_frames.specs.of_life_runs.of_segment_ring.declared.wire.Fate.{Fate}
+use Rattle.run_frames.specs.of_life_runs.of_segment_ring.declared.wire.Fate.TheVariants.{Pass, Lost}
+use Rattle.run_frames.specs.of_life_runs.Led.{Exchanged, speech_at}
 use Rattle.life_frames.proofs.of_frame_view.Octets.{seen_chained, seen_is}
-use Rattle.master_tour.proofs.Backs.{seen_aims}
-use Rattle.master_tour.specs.Brings.{accepted_at}
+use Rattle.counters_kept.proofs.of_master_tour.Backs.{seen_aims}
+use Rattle.counters_kept.specs.of_master_tour.Brings.{accepted_at}
 use Rattle.serving_model.specs.Passing.{ends_told}
 use Rattle.served_runs.specs.Served.{Keyed, Serves, ServedTurn, ServedComes, IsServedTurn, accepted_by, gives_it, served_behind, served_life}
 use Rattle.served_runs.specs.Told.{Passed, replies_in, told_on}

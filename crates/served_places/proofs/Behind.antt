@@ -11,17 +11,17 @@ use Rattle.life_frames.specs.of_segment_model.Seats.{newest, rows_of}
 use Rattle.life_frames.specs.of_segment_model.Slaves.{Datagram, Found, grams}
 use Rattle.life_frames.specs.of_task_model.Accounts as Accounts
 use Rattle.life_frames.specs.of_task_model.Accounts.{Duty}
-use Rattle.life_runs.specs.of_frame_view.View.{Lens}
-use Rattle.life_runs.specs.of_frame_view.Seen.{seen}
-use Rattle.life_runs.specs.of_life_frames.Shares.{AllBoth, came_at, given_where}
-use Rattle.life_runs.specs.of_link_mails.Body.{Body}
-use Rattle.life_runs.specs.of_master_duty.Reply.{Reply}
-use Rattle.life_runs.specs.of_master_hand.Spoken.{Asked, acknowledged, is_followed, is_passed}
-use Rattle.life_runs.specs.of_master_side.Passing.{news_back, news_lost}
-use Rattle.life_runs.specs.of_segment_ring.declared.wire.Fate.{Fate}
-use Rattle.life_runs.specs.of_segment_ring.declared.wire.Fate.TheVariants.{Pass, Lost}
-use Rattle.life_runs.specs.Led.{Exchanged, speech_at}
-use Rattle.master_tour.proofs.Unpassed.{unpassed_back, unpassed_lost}
+use Rattle.run_frames.specs.of_life_runs.of_frame_view.View.{Lens}
+use Rattle.run_frames.specs.of_life_runs.of_frame_view.Seen.{seen}
+use Rattle.run_frames.specs.of_life_runs.of_life_frames.Shares.{AllBoth, came_at, given_where}
+use Rattle.run_frames.specs.of_life_runs.of_link_mails.Body.{Body}
+use Rattle.run_frames.specs.of_life_runs.of_master_duty.Reply.{Reply}
+use Rattle.run_frames.specs.of_life_runs.of_master_hand.Spoken.{Asked, acknowledged, is_followed, is_passed}
+use Rattle.run_frames.specs.of_life_runs.of_master_side.Passing.{news_back, news_lost}
+use Rattle.run_frames.specs.of_life_runs.of_segment_ring.declared.wire.Fate.{Fate}
+use Rattle.run_frames.specs.of_life_runs.of_segment_ring.declared.wire.Fate.TheVariants.{Pass, Lost}
+use Rattle.run_frames.specs.of_life_runs.Led.{Exchanged, speech_at}
+use Rattle.counters_kept.proofs.of_master_tour.Unpassed.{unpassed_back, unpassed_lost}
 use Rattle.served_runs.specs.Served.{ServedTurn, gives_it, served_behind, served_life}
 use Rattle.served_places.specs.Rows.{Stays, eras_rows, life_rows, passed_rows}
 use Rattle.served_places.proofs.Stay.{all_append, all_itself, all_same, eras_append, lives_stay, newest_heard}

@@ -2,9 +2,9 @@
 use Rattle.std.proofs.Common.{ℕ, zero, suc, Bool, List, [], ◌∷◌, ◌++◌, length, map}
 use Rattle.std.specs.Prelude.{All}
 use Rattle.std.proofs.lemmas.List.Elements.{All-nil, All-cons, All-head, All-tail}
-use Rattle.life_runs.specs.of_datagrams.Datagram as Raw
-use Rattle.life_runs.specs.of_frame_view.View.{Lens}
-use Rattle.life_runs.specs.Led.{Exchanged, gives_up_at}
+use Rattle.run_frames.specs.of_life_runs.of_datagrams.Datagram as Raw
+use Rattle.run_frames.specs.of_life_runs.of_frame_view.View.{Lens}
+use Rattle.run_frames.specs.of_life_runs.Led.{Exchanged, gives_up_at}
 use Rattle.served_runs.specs.Served.{Keyed, Serves, ServedTurn, IsServedTurn, AllServedTurn, IsServedLed, asked_at, served_behind}
 
 module _ (lens : ℕ → Lens) (recover retry : ℕ) (P : Serves → Type 0) (asks : (w : Serves) (k : Keyed) → P w → P (record w { asked = w.asked ++ k ∷ []; waits = w.waits ++ k ∷ [] }))

@@ -14,17 +14,17 @@ use Rattle.life_frames.specs.of_segment_model.Ends.{Passing}
 use Rattle.life_frames.specs.of_segment_model.Record.{News}
 use Rattle.life_frames.specs.of_segment_model.Seats.{newest}
 use Rattle.life_frames.specs.of_segment_model.Slaves.{Datagram, Found, grams}
-use Rattle.life_runs.specs.of_frame_view.Seen.{seen}
-use Rattle.life_runs.specs.of_frame_view.View.{Lens}
-use Rattle.life_runs.specs.of_life_frames.Shares.{AllBoth, came_at, given_where}
-use Rattle.life_runs.specs.of_link_mails.Body.{Body}
-use Rattle.life_runs.specs.of_master_duty.Reply.{Reply}
-use Rattle.life_runs.specs.of_master_hand.Spoken.{Asked, acknowledged, emission, is_followed, is_passed}
-use Rattle.life_runs.specs.of_master_side.Passing.{news_back, news_lost}
-use Rattle.life_runs.specs.of_segment_ring.declared.wire.Fate.{Fate}
-use Rattle.life_runs.specs.of_segment_ring.declared.wire.Fate.TheVariants.{Pass, Lost}
-use Rattle.life_runs.specs.Led.{Exchanged, speech_at}
-use Rattle.master_tour.specs.Brings.{accepted_at}
+use Rattle.run_frames.specs.of_life_runs.of_frame_view.Seen.{seen}
+use Rattle.run_frames.specs.of_life_runs.of_frame_view.View.{Lens}
+use Rattle.run_frames.specs.of_life_runs.of_life_frames.Shares.{AllBoth, came_at, given_where}
+use Rattle.run_frames.specs.of_life_runs.of_link_mails.Body.{Body}
+use Rattle.run_frames.specs.of_life_runs.of_master_duty.Reply.{Reply}
+use Rattle.run_frames.specs.of_life_runs.of_master_hand.Spoken.{Asked, acknowledged, emission, is_followed, is_passed}
+use Rattle.run_frames.specs.of_life_runs.of_master_side.Passing.{news_back, news_lost}
+use Rattle.run_frames.specs.of_life_runs.of_segment_ring.declared.wire.Fate.{Fate}
+use Rattle.run_frames.specs.of_life_runs.of_segment_ring.declared.wire.Fate.TheVariants.{Pass, Lost}
+use Rattle.run_frames.specs.of_life_runs.Led.{Exchanged, speech_at}
+use Rattle.counters_kept.specs.of_master_tour.Brings.{accepted_at}
 use Rattle.served_runs.specs.Served.{ServedTurn, accepted_by, served_behind, served_life}
 use Rattle.served_runs.specs.Told.{Passed, TellsOwn}
 use Rattle.served_places.specs.Rows.{HearsNoMore, eras_passings, eras_rows, is_passed_row, last_more, life_rows, now_passing, passed_rows, passings, replies_of, told_besides}

@@ -1,5 +1,6 @@
+pub use Rattle.passed_whole.proofs as of_passed_whole
 pub use Rattle.exchange_model.proofs as of_exchange_model
-pub use Rattle.life_runs.proofs as of_life_runs
+pub use Rattle.run_frames.proofs.of_life_runs as of_life_runs
 pub use Rattle.served_runs.proofs as of_served_runs
 pub mod All
 pub mod Behind

@@ -9,8 +9,8 @@ use Rattle.life_frames.specs.of_link_model.Mails.{LinkMail, is_repeat, news}
 use Rattle.life_frames.specs.of_link_model.Segment.{RingFate}
 use Rattle.life_frames.specs.of_segment_model.Record.{Kept, News, all_told, back_news, found_news, frame_news, gram_news, is_for, last_heard, mails_heard, without_empty}
 use Rattle.life_frames.specs.of_segment_model.Slaves.{Datagram, Found, grams}
-use Rattle.master_side.specs.Passing.{news_back}
-use Rattle.master_tour.proofs.Unders.{SameAim}
+use Rattle.run_frames.specs.of_master_side.Passing.{news_back}
+use Rattle.counters_kept.proofs.of_master_tour.Unders.{SameAim}
 use Rattle.passed_whole.proofs.Passings.{counted_same}
 
 abbrev Grams : Type 0

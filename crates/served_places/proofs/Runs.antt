@@ -3,8 +3,8 @@ use Rattle.std.proofs.Common.{◌≡◌, ℕ, Option, None, List, length, map, r
 use Rattle.std.specs.Prelude.{nat_lt}
 use Rattle.frame_view.specs.Seen.{seen, datagrams_seen}
 use Rattle.frame_view.specs.View.{Lens}
-use Rattle.life_runs.specs.Led.{Exchanged, speech_at, is_passed, gives_up_at}
-use Rattle.master_hand.specs.Spoken.{acknowledged, is_followed}
+use Rattle.run_frames.specs.of_life_runs.Led.{Exchanged, speech_at, is_passed, gives_up_at}
+use Rattle.run_frames.specs.of_master_hand.Spoken.{acknowledged, is_followed}
 use Rattle.run_frames.specs.Answers.{AllReturned}
 use Rattle.run_frames.specs.Begins.{AllNew}
 use Rattle.run_frames.specs.Goes.{AllUnder, AllClocked}

@@ -5,12 +5,12 @@ use Rattle.frame_view.specs.Seen.{seen, datagrams_seen}
 use Rattle.frame_view.specs.View.{Lens}
 use Rattle.life_frames.specs.Shares.{came_at}
 use Rattle.life_model.specs.Lives.{life_back, life_lost}
-use Rattle.life_runs.specs.First.{first_leads, leads_from}
-use Rattle.life_runs.specs.Led.{Exchanged, Leads, speech_at, is_passed}
+use Rattle.run_frames.specs.of_life_runs.First.{first_leads, leads_from}
+use Rattle.run_frames.specs.of_life_runs.Led.{Exchanged, Leads, speech_at, is_passed}
 use Rattle.link_mails.specs.Body.{Body}
 use Rattle.master_duty.specs.Reply.{Reply}
-use Rattle.master_hand.specs.Spoken.{Asked, acknowledged, is_followed}
-use Rattle.master_side.specs.Passing.{news_back, news_lost}
+use Rattle.run_frames.specs.of_master_hand.Spoken.{Asked, acknowledged, is_followed}
+use Rattle.run_frames.specs.of_master_side.Passing.{news_back, news_lost}
 use Rattle.run_frames.specs.Answers.{AllAsk, AllAnswer}
 use Rattle.run_frames.specs.Begins.{AllNew}
 use Rattle.run_frames.specs.Brings.{AllBring}

@@ -7,10 +7,10 @@ use Rattle.life_frames.specs.of_exchange_model.Rows.{Row, row_heard, row_told}
 use Rattle.life_frames.specs.of_life_model.Lives.{Era, Life}
 use Rattle.life_frames.specs.of_segment_model.Ends.{Passing}
 use Rattle.life_frames.specs.of_segment_model.Seats.{Side, newest, rows_of, side_holds}
-use Rattle.life_runs.specs.of_life_frames.Shares.{AllBoth}
-use Rattle.life_runs.specs.of_link_mails.Body.{Body}
-use Rattle.life_runs.specs.of_master_duty.Reply.{Reply}
-use Rattle.life_runs.specs.of_master_hand.Spoken.{Asked, emission, is_passed}
+use Rattle.run_frames.specs.of_life_runs.of_life_frames.Shares.{AllBoth}
+use Rattle.run_frames.specs.of_life_runs.of_link_mails.Body.{Body}
+use Rattle.run_frames.specs.of_life_runs.of_master_duty.Reply.{Reply}
+use Rattle.run_frames.specs.of_life_runs.of_master_hand.Spoken.{Asked, emission, is_passed}
 use Rattle.served_places.specs.Rows.{Stays, era_passings, eras_passings, eras_rows, is_passed_row, life_rows, now_passing, passed_rows, passings, replies_of}
 
 -- a list of rows

@@ -1,10 +1,10 @@
 -- The frames of a tour, with mails that are asked between them, are a serving.
 use Rattle.std.proofs.Common.{◌≡◌, ℕ, suc, Option, List, [], ◌∷◌, ◌++◌, length, length-append, refl, arith}
 use Rattle.frame_view.specs.View.{Lens}
-use Rattle.life_runs.specs.Led.{Exchanged}
+use Rattle.run_frames.specs.of_life_runs.Led.{Exchanged}
 use Rattle.link_mails.specs.Body.{Body}
 use Rattle.master_duty.specs.Reply.{Reply}
-use Rattle.master_hand.specs.Spoken.{Asked}
+use Rattle.run_frames.specs.of_master_hand.Spoken.{Asked}
 use Rattle.run_frames.specs.Clocks.{Clocked}
 use Rattle.run_frames.specs.Runs.{Progress}
 use Rattle.served_runs.specs.Served.{Serves, IsServedLed}

@@ -14,20 +14,20 @@ use Rattle.life_frames.specs.of_segment_model.Record.{Kept, News, all_told, fram
 use Rattle.life_frames.specs.of_link_model.Segment.{RingFate}
 use Rattle.life_frames.specs.of_segment_model.Returned.{Returns}
 use Rattle.life_frames.specs.of_segment_model.Slaves.{Datagram, grams}
-use Rattle.life_runs.specs.of_datagrams.Datagram as Raw
-use Rattle.life_runs.specs.of_datagrams.Frame.{IsFrame, chained}
-use Rattle.life_runs.specs.of_frame_view.Seen.{datagrams_seen, seen}
-use Rattle.life_runs.specs.of_frame_view.View.{Lens}
-use Rattle.life_runs.specs.of_life_frames.Shares.{came_at}
-use Rattle.life_runs.specs.of_link_mails.Body.{Body}
-use Rattle.life_runs.specs.of_master_duty.Reply.{Reply}
-use Rattle.life_runs.specs.of_master_hand.Spoken.{Asked, acknowledged, is_followed, is_passed}
-use Rattle.life_runs.specs.of_master_side.Passing.{news_back}
-use Rattle.life_runs.specs.of_segment_ring.declared.wire.Fate.TheVariants.{Pass}
-use Rattle.life_runs.specs.Led.{Exchanged, speech_at}
-use Rattle.master_tour.proofs.Backs.{seen_aims}
-use Rattle.master_tour.proofs.Unders.{SameAim}
-use Rattle.master_tour.specs.Brings.{accepted_at}
+use Rattle.run_frames.specs.of_life_runs.of_datagrams.Datagram as Raw
+use Rattle.run_frames.specs.of_life_runs.of_datagrams.Frame.{IsFrame, chained}
+use Rattle.run_frames.specs.of_life_runs.of_frame_view.Seen.{datagrams_seen, seen}
+use Rattle.run_frames.specs.of_life_runs.of_frame_view.View.{Lens}
+use Rattle.run_frames.specs.of_life_runs.of_life_frames.Shares.{came_at}
+use Rattle.run_frames.specs.of_life_runs.of_link_mails.Body.{Body}
+use Rattle.run_frames.specs.of_life_runs.of_master_duty.Reply.{Reply}
+use Rattle.run_frames.specs.of_life_runs.of_master_hand.Spoken.{Asked, acknowledged, is_followed, is_passed}
+use Rattle.run_frames.specs.of_life_runs.of_master_side.Passing.{news_back}
+use Rattle.run_frames.specs.of_life_runs.of_segment_ring.declared.wire.Fate.TheVariants.{Pass}
+use Rattle.run_frames.specs.of_life_runs.Led.{Exchanged, speech_at}
+use Rattle.counters_kept.proofs.of_master_tour.Backs.{seen_aims}
+use Rattle.counters_kept.proofs.of_master_tour.Unders.{SameAim}
+use Rattle.counters_kept.specs.of_master_tour.Brings.{accepted_at}
 use Rattle.served_runs.specs.Served.{Serves, ServedTurn, IsServedTurn, accepted_by, served_life}
 use Rattle.served_places.proofs.All.{same_many}
 use Rattle.served_places.proofs.Behind.{reopens_keeps}

@@ -6,11 +6,11 @@ use Rattle.life_frames.specs.of_life_model.Lives.{Era, Life, Stand}
 use Rattle.life_frames.specs.of_segment_model.Ends.{Passing}
 use Rattle.life_frames.specs.of_segment_model.Seats.{rows_of}
 use Rattle.life_frames.specs.of_state_exchange.Stated.{Service}
-use Rattle.life_runs.specs.of_frame_view.View.{Lens}
-use Rattle.life_runs.specs.of_link_mails.Body.{Body}
-use Rattle.life_runs.specs.Led.{Exchanged}
-use Rattle.life_runs.specs.of_master_duty.Reply.{Reply}
-use Rattle.life_runs.specs.of_master_hand.Spoken.{Asked, emission, is_followed, is_passed}
+use Rattle.run_frames.specs.of_life_runs.of_frame_view.View.{Lens}
+use Rattle.run_frames.specs.of_life_runs.of_link_mails.Body.{Body}
+use Rattle.run_frames.specs.of_life_runs.Led.{Exchanged}
+use Rattle.run_frames.specs.of_life_runs.of_master_duty.Reply.{Reply}
+use Rattle.run_frames.specs.of_life_runs.of_master_hand.Spoken.{Asked, emission, is_followed, is_passed}
 use Rattle.serving_model.specs.Passing.{ends_told}
 use Rattle.served_runs.specs.Served.{Serves, ServedTurn, accepted_by}
 use Rattle.served_runs.specs.Told.{Passed, replies_in}

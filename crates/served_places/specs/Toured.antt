@@ -3,11 +3,11 @@ use Rattle.std.specs.Prelude.{◌≡◌, ◌≤◌, ◌<◌, ℕ, suc, nat_lt, B
 use Rattle.frame_view.specs.Seen.{seen}
 use Rattle.frame_view.specs.View.{Lens}
 use Rattle.life_frames.specs.Shares.{came_at}
-use Rattle.life_runs.specs.Led.{Exchanged, speech_at, is_passed, gives_up_at, missed_behind}
+use Rattle.run_frames.specs.of_life_runs.Led.{Exchanged, speech_at, is_passed, gives_up_at, missed_behind}
 use Rattle.link_mails.specs.Body.{Body}
 use Rattle.master_duty.specs.Reply.{Reply}
-use Rattle.master_hand.specs.Spoken.{Asked, acknowledged, is_followed}
-use Rattle.master_side.specs.Passing.{news_back, news_lost}
+use Rattle.run_frames.specs.of_master_hand.Spoken.{Asked, acknowledged, is_followed}
+use Rattle.run_frames.specs.of_master_side.Passing.{news_back, news_lost}
 use Rattle.run_frames.specs.Clocks.{Clocked}
 use Rattle.run_frames.specs.Goes.{Under, all_lost, all_back}
 use Rattle.run_frames.specs.Orders.{opened_on, last_of}

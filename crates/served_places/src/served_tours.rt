@@ -2,11 +2,11 @@
 
 ghost use Rattle.std.specs.Prelude.{◌≡◌, ◌≤◌, ◌<◌, ◌+◌, ◌*◌, ℕ, Option, List, length, map};
 ghost use Rattle.frame_view.specs.View.{Lens};
-ghost use Rattle.life_runs.specs.First.{lens_of, first_leads};
-ghost use Rattle.life_runs.specs.Led.{Exchanged, speech_at, is_passed};
+ghost use Rattle.run_frames.specs.of_life_runs.First.{lens_of, first_leads};
+ghost use Rattle.run_frames.specs.of_life_runs.Led.{Exchanged, speech_at, is_passed};
 ghost use Rattle.link_mails.specs.Body.{Body};
 ghost use Rattle.master_duty.specs.Reply.{Reply};
-ghost use Rattle.master_hand.specs.Spoken.{Asked, acknowledged, is_followed};
+ghost use Rattle.run_frames.specs.of_master_hand.Spoken.{Asked, acknowledged, is_followed};
 ghost use Rattle.run_frames.specs.Answers.{AllReturned};
 ghost use Rattle.run_frames.specs.Clocks.{Clocked};
 ghost use Rattle.run_frames.specs.Fates.{gained_in};

@@ -9,10 +9,10 @@ use Rattle.served_rings.proofs.Stood as Stood
 use Rattle.served_rings.specs.StoodLives.{AllStoodMembers, IsFirst, StoodMember, others}
 use Rattle.served_rings.specs.LedRings.{Counters, AllTold, all_counters}
 use Rattle.life_model.specs.Lives.{gives_up}
-use Rattle.life_runs.specs.First.{lens_of}
-use Rattle.life_runs.specs.Led.{Exchanged}
+use Rattle.served_runs.specs.of_life_runs.First.{lens_of}
+use Rattle.served_runs.specs.of_life_runs.Led.{Exchanged}
 use Rattle.link_mails.specs.Body.{Body}
-use Rattle.master_hand.specs.Spoken.{Asked, is_followed, is_passed}
+use Rattle.run_work.specs.of_master_hand.Spoken.{Asked, is_followed, is_passed}
 use Rattle.plan_ring.specs.Plan.{FitsPlan, step}
 use Rattle.plan_ring.specs.Round.{WentRound}
 use Rattle.plan_ring.proofs.Known.{AllBoot, Boots}
@@ -26,12 +26,12 @@ use Rattle.segment_ring.specs.declared.wire.Fate.{Fate}
 use Rattle.segment_ring.specs.declared.wire.Fate.TheVariants.{Pass, Lost}
 use Rattle.plan_ring.specs.Real.{running_as}
 use Rattle.served_runs.specs.Served.{Serves, ServedTurn, AllServedTurn, served_behind}
-use Rattle.slave_lives.specs.Rings.{is_met_at, met, turned}
-use Rattle.slave_server.specs.Serving.{Serving}
-use Rattle.slave_server.specs.Spec.{profile_of}
+use Rattle.plan_ring.specs.of_slave_lives.Rings.{is_met_at, met, turned}
+use Rattle.plan_ring.specs.of_slave_server.Serving.{Serving}
+use Rattle.plan_ring.specs.of_slave_server.Spec.{profile_of}
 use Rattle.slave_steps.specs.Node.{Node}
-use Rattle.whole_ring.specs.Members.{AllLived}
-use Rattle.whole_ring.specs.Turning.{AllTurn, Turn, behind_frame, frame_at, given_up}
+use Rattle.plan_ring.specs.of_whole_ring.Members.{AllLived}
+use Rattle.plan_ring.specs.of_whole_ring.Turning.{AllTurn, Turn, behind_frame, frame_at, given_up}
 use Rattle.served_rings.specs.Rings.{AllServedAt, ServedMember, counters_of, served_members}
 use Rattle.served_rings.proofs.One as One
 use Rattle.served_rings.proofs.Reopened.{AllReopen}

@@ -13,7 +13,7 @@ use Rattle.life_model.proofs.Eras.{frames_push, of_one, session_of}
 use Rattle.life_model.specs.Eras.{EraIs, OpenEra, era_frames, planned}
 use Rattle.life_model.specs.Lives.{Spot, Era}
 use Rattle.life_model.specs.Own.{own_frame}
-use Rattle.passed_whole.specs.Led.{IsLed, frame_in, news_in, turn_next}
+use Rattle.served_places.specs.of_passed_whole.Led.{IsLed, frame_in, news_in, turn_next}
 use Rattle.segment_model.proofs.Answers.{Open, OpenNow, news_each-push}
 use Rattle.segment_model.proofs.News.{mails_heard-append}
 use Rattle.segment_model.specs.Ends.{Outcome}
@@ -33,7 +33,7 @@ use Rattle.task_model.proofs.Stately.{state_over}
 use Rattle.task_model.specs.Accounts.{Account, Started}
 use Rattle.task_model.specs.Promise.{mails_in, services_in}
 use Rattle.task_model.specs.Tasks.{IsTaskPlan}
-use Rattle.life_counts.proofs.Steps.{started_services}
+use Rattle.run_work.proofs.of_life_counts.Steps.{started_services}
 use Rattle.served_rings.proofs.Newest.{snoc_same}
 use Rattle.served_rings.proofs.Sessions.{led_later, led_session}
 use Rattle.served_rings.proofs.Turned.{NowGoes, accepted_of, by_mails, comes_split, goes_split, none_behind, none_front, turned}

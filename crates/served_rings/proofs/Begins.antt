@@ -6,9 +6,9 @@ use Rattle.slave_served.specs.FoeServed.{has_its_room}
 use Rattle.frame_view.specs.View.{Lens}
 use Rattle.served_rings.proofs.Stood as Stood
 use Rattle.served_rings.specs.StoodLives.{AllStoodMembers, IsFirst, StoodMember, others}
-use Rattle.life_runs.specs.First.{first_leads, leads_from, lens_of, script_for, spot_of}
-use Rattle.life_runs.specs.Led.{new_leads}
-use Rattle.master_hand.specs.Spoken.{Asked, sdo, file, drive, net, passed, is_followed, is_passed}
+use Rattle.served_runs.specs.of_life_runs.First.{first_leads, leads_from, lens_of, script_for, spot_of}
+use Rattle.served_runs.specs.of_life_runs.Led.{new_leads}
+use Rattle.run_work.specs.of_master_hand.Spoken.{Asked, sdo, file, drive, net, passed, is_followed, is_passed}
 use Rattle.plan_ring.specs.Lives.{IsKnown}
 use Rattle.plan_ring.specs.Plan.{AllMacs, FitsPlan, members_of, new_member, new_members, step}
 use Rattle.plan_ring.proofs.Asked.{alike}
@@ -22,17 +22,17 @@ use Rattle.segment_plan.specs.declared.slave.SlaveSpec.{SlaveSpec}
 use Rattle.served_rings.specs.Serves.{serves}
 use Rattle.served_runs.specs.Served.{Serves, all_serve, new_serves}
 use Rattle.plan_ring.specs.Rooms.{IsSound}
-use Rattle.slave_lives.specs.Lived.{IsBehind}
+use Rattle.plan_ring.specs.of_slave_lives.Lived.{IsBehind}
 use Rattle.slave_model.specs.Profile.{Profile, IsProfile}
 use Rattle.slave_model.specs.Application.{station_files, station_valid}
 use Rattle.slave_parts.specs.Parts.{parts}
-use Rattle.slave_server.specs.Serving.{Serving, cleared}
-use Rattle.slave_server.specs.Spec.{node_of, profile_of, server_of}
+use Rattle.plan_ring.specs.of_slave_server.Serving.{Serving, cleared}
+use Rattle.plan_ring.specs.of_slave_server.Spec.{node_of, profile_of, server_of}
 use Rattle.slave_steps.specs.Node.{Node}
 use Rattle.state_exchange.specs.Stated.{IsStated}
-use Rattle.whole_ring.specs.Whole.{IsWhole}
-use Rattle.whole_ring.proofs.WholeTurning as Turning
-use Rattle.whole_ring.specs.Members.{MemberIs, AllLived, AreDistinct, IsElsewhere, IsRing, first_ring}
+use Rattle.plan_ring.specs.of_whole_ring.Whole.{IsWhole}
+use Rattle.plan_ring.proofs.of_whole_ring.WholeTurning as Turning
+use Rattle.plan_ring.specs.of_whole_ring.Members.{MemberIs, AllLived, AreDistinct, IsElsewhere, IsRing, first_ring}
 use Rattle.served_rings.specs.Rings.{AllServedAt, AreStoodLived, ServedMember, counters_of, served_member, served_members}
 
 -- the laws that this stands on

@@ -4,14 +4,14 @@ use Rattle.std.proofs.lemmas.List.{map-append}
 use Rattle.exchange_model.specs.Exchange.{Exchange}
 use Rattle.life_model.specs.Eras.{WasOpen, planned}
 use Rattle.life_model.specs.Lives.{Spot, Era, Life, new_era}
-use Rattle.passed_whole.specs.Led.{IsLed}
+use Rattle.served_places.specs.of_passed_whole.Led.{IsLed}
 use Rattle.segment_model.specs.Record.{Frame}
 use Rattle.segment_model.specs.Slaves.{Registers, Processor, Slave}
 use Rattle.serving_model.specs.Tagged.{Tagged, Asked, Rowed, real, ideal}
 use Rattle.state_model.specs.States.{Table}
 use Rattle.task_model.specs.Tasks.{IsTaskPlan}
-use Rattle.life_counts.specs.Epochs.{Speaker, AllFair, IsSeen, between, seeing, seeing_states, era_named}
-use Rattle.life_counts.specs.Worked.{AllWorked, IsNewest}
+use Rattle.run_work.specs.of_life_counts.Epochs.{Speaker, AllFair, IsSeen, between, seeing, seeing_states, era_named}
+use Rattle.run_work.specs.of_life_counts.Worked.{AllWorked, IsNewest}
 use Rattle.served_rings.specs.SeenLed.{ErasFair, IsFairLife, IsSeenLife, WasLed, AllLed, IsNewestLed, IsLedLife}
 
 module _ {V M Q R C T A : Type 0} (w : Speaker V M Q R C T) (seer : Processor (Rowed V M Q)) (table : ℕ → Table) (spot : Spot) (u : Exchange V A M T (Option R)) (processor : Processor V) (clear : V → V) where

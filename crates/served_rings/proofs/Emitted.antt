@@ -2,17 +2,17 @@
 use Rattle.std.proofs.Common.{◌≡◌, ℕ, suc, Bool, true, false, not, cond, Option, List, [], ◌∷◌, ◌++◌, length, map, refl, ap, sym, ◌∙◌, Ok, Err, if◌then◌else◌}
 use Rattle.exchange_model.specs.Exchange.{Exchange, emitted}
 use Rattle.exchange_model.specs.Rows.{emits_all}
-use Rattle.life_counts.proofs.Eras.{era_knows}
-use Rattle.life_counts.proofs.Eras as Eras
-use Rattle.life_counts.proofs.TaggedWhole.{seeing_lawful, seeing_stated}
-use Rattle.life_counts.specs.Epochs.{IsSpeaker, IsSeen, between, seeing, seeing_states}
-use Rattle.life_counts.specs.Foreseen.{AllRight, IsRightAt}
-use Rattle.life_counts.specs.Seen.{service_seen}
+use Rattle.run_work.proofs.of_life_counts.Eras.{era_knows}
+use Rattle.run_work.proofs.of_life_counts.Eras as Eras
+use Rattle.run_work.proofs.of_life_counts.TaggedWhole.{seeing_lawful, seeing_stated}
+use Rattle.run_work.specs.of_life_counts.Epochs.{IsSpeaker, IsSeen, between, seeing, seeing_states}
+use Rattle.run_work.specs.of_life_counts.Foreseen.{AllRight, IsRightAt}
+use Rattle.run_work.specs.of_life_counts.Seen.{service_seen}
 use Rattle.life_model.specs.Eras.{era_frames}
 use Rattle.life_model.specs.Lives.{Spot, Era}
 use Rattle.link_mails.specs.Body.{Body}
 use Rattle.master_duty.specs.Reply.{Reply}
-use Rattle.master_hand.specs.Spoken.{Asked, emission}
+use Rattle.run_work.specs.of_master_hand.Spoken.{Asked, emission}
 use Rattle.run_work.specs.Sessions.{Meant, OwnService, Wanted, named_wanted}
 use Rattle.segment_model.specs.Ends.{Outcome}
 use Rattle.segment_model.specs.Record.{Frame, heard}

@@ -4,13 +4,13 @@ use Rattle.std.proofs.lemmas.List.{length-map, take-map}
 use Rattle.exchange_model.specs.Rows.{heard_all}
 use Rattle.frame_view.specs.View.{Lens}
 use Rattle.served_rings.specs.Led.{LedEra}
-use Rattle.life_counts.specs.Seen.{service_seen}
+use Rattle.run_work.specs.of_life_counts.Seen.{service_seen}
 use Rattle.life_model.specs.Eras.{era_frames}
 use Rattle.life_model.specs.Lives.{Spot, Era}
 use Rattle.link_mails.specs.Body.{Body}
 use Rattle.master_duty.specs.Reply.{Reply}
-use Rattle.master_hand.specs.Spoken.{Asked, is_followed, is_passed}
-use Rattle.passed_whole.specs.Clearing.{Forgets}
+use Rattle.run_work.specs.of_master_hand.Spoken.{Asked, is_followed, is_passed}
+use Rattle.served_places.specs.of_passed_whole.Clearing.{Forgets}
 use Rattle.served_rings.specs.Speakers.{cleared_whole, seer_of, speaker, table_of, whole_states}
 use Rattle.run_work.specs.Sessions.{named_wanted}
 use Rattle.segment_model.specs.Record.{Frame, heard}
@@ -18,15 +18,15 @@ use Rattle.segment_model.specs.Seats.{rows_of}
 use Rattle.segment_model.specs.Slaves.{Slave}
 use Rattle.served_rings.specs.Serves.{serves}
 use Rattle.serving_model.specs.Tagged.{ideal}
-use Rattle.slave_lives.specs.Lived as Lived
-use Rattle.slave_lives.specs.Lived.{IsBehind, node_seen}
+use Rattle.plan_ring.specs.of_slave_lives.Lived as Lived
+use Rattle.plan_ring.specs.of_slave_lives.Lived.{IsBehind, node_seen}
 use Rattle.slave_model.specs.Profile.{Profile}
 use Rattle.slave_parts.specs.Parts.{Server, parts}
 use Rattle.slave_served.specs.Served.{product_whole}
-use Rattle.slave_server.specs.Serving.{Serving}
+use Rattle.plan_ring.specs.of_slave_server.Serving.{Serving}
 use Rattle.slave_steps.specs.Node.{Node}
 use Rattle.state_exchange.specs.Families.{InState}
-use Rattle.life_counts.specs.Epochs.{IsSpeaker, IsSeen}
+use Rattle.run_work.specs.of_life_counts.Epochs.{IsSpeaker, IsSeen}
 use Rattle.task_model.specs.Promise.{services_in}
 use Rattle.served_rings.specs.Served.{IsServedEra, NothingLeft, RestsIf, WasServed, server_behind}
 use Rattle.served_rings.proofs.Mails.{AllNamed, behind_named, is_mail, mailer, mailer_speaks, named_take, services_named, start_named}

@@ -5,11 +5,11 @@ use Rattle.book_model.specs.Script.{eras_started, life_started}
 use Rattle.exchange_model.specs.Lifted.{EachOf}
 use Rattle.frame_view.specs.View.{Lens}
 use Rattle.life_model.specs.Lives.{Era}
-use Rattle.life_runs.specs.Led.{Comes}
+use Rattle.served_runs.specs.of_life_runs.Led.{Comes}
 use Rattle.link_mails.specs.Body.{Body}
 use Rattle.master_duty.specs.Reply.{Reply}
-use Rattle.master_hand.specs.Spoken.{Asked, passed, net, is_passed}
-use Rattle.master_hand.specs.of_eoe_model.Client as EoeClient
+use Rattle.run_work.specs.of_master_hand.Spoken.{Asked, passed, net, is_passed}
+use Rattle.run_work.specs.of_master_hand.of_eoe_model.Client as EoeClient
 use Rattle.served_rings.specs.SeenLed.{ErasFair, IsFairLife}
 use Rattle.segment_plan.specs.declared.service.Service as Plan
 use Rattle.run_work.specs.Fair.{AsksFair}
@@ -19,8 +19,8 @@ use Rattle.run_work.proofs.Counted.{passes, none_passes}
 use Rattle.few_replies.specs.Packets.{is_fair}
 use Rattle.slave_model.specs.Profile.{Profile}
 use Rattle.state_exchange.specs.Stated.{Service}
-use Rattle.life_counts.specs.Epochs.{AllFair}
-use Rattle.life_counts.specs.Spoken.{IsPassed}
+use Rattle.run_work.specs.of_life_counts.Epochs.{AllFair}
+use Rattle.run_work.specs.of_life_counts.Spoken.{IsPassed}
 use Rattle.task_model.specs.Accounts.{Started}
 use Rattle.task_model.specs.Promise.{services_in}
 use Rattle.served_rings.specs.Speakers.{naming_of, speaker}

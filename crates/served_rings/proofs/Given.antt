@@ -7,7 +7,7 @@ use Rattle.exchange_model.proofs.Lists.{append_none}
 use Rattle.life_model.specs.Lives.{Era, Life, Stand}
 use Rattle.link_mails.specs.Body.{Body}
 use Rattle.master_duty.specs.Reply.{Reply}
-use Rattle.master_hand.specs.Spoken.{Asked, drive, file, is_passed, net, passed, sdo}
+use Rattle.run_work.specs.of_master_hand.Spoken.{Asked, drive, file, is_passed, net, passed, sdo}
 use Rattle.segment_model.specs.Ends.{Passing}
 use Rattle.segment_model.specs.Seats.{newest, rows_of}
 use Rattle.served_places.specs.Rows.{era_passings, eras_passings, eras_rows, is_passed_row, now_passing, passed_rows, passings}
@@ -16,7 +16,7 @@ use Rattle.served_rings.specs.Served.{AllHeard, AreServedEras, IsHeardOne, IsSer
 use Rattle.served_rings.specs.Speakers.{spoken, table_of}
 use Rattle.slave_model.specs.Profile.{Profile}
 use Rattle.slave_parts.specs.Parts.{Server}
-use Rattle.slave_server.specs.Serving.{Serving}
+use Rattle.plan_ring.specs.of_slave_server.Serving.{Serving}
 use Rattle.slave_steps.specs.Node.{Node}
 use Rattle.state_exchange.specs.Families.{InState}
 use Rattle.state_exchange.specs.Stated.{Service}

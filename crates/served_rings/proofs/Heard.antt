@@ -8,7 +8,7 @@ use Rattle.exchange_model.specs.Rows.{Row, row_heard}
 use Rattle.exchange_model.proofs.Lists.{append_cancel}
 use Rattle.exchange_model.proofs.Words.{plain-append}
 use Rattle.frame_view.specs.View.{Lens}
-use Rattle.life_counts.specs.Seen.{service_seen}
+use Rattle.run_work.specs.of_life_counts.Seen.{service_seen}
 use Rattle.life_model.specs.Eras.{planned}
 use Rattle.life_model.specs.Lives.{Spot, Era, era_after, granted, passes, passing_begins}
 use Rattle.life_model.specs.Own.{own}
@@ -17,12 +17,12 @@ use Rattle.link_model.specs.Segment.{RingFate}
 use Rattle.link_mails.specs.Body.{Body}
 use Rattle.mailbox_mail.specs.declared.mail.Mail.{Mail}
 use Rattle.master_duty.specs.Reply.{Reply}
-use Rattle.master_hand.specs.Spoken as Spoken
-use Rattle.master_hand.specs.Spoken.{Asked, emission, is_followed, is_passed, passed}
-use Rattle.passed_whole.specs.Client.{ByContents}
-use Rattle.passed_whole.specs.Erased.{OfRow, PlanOne, row_seen}
-use Rattle.passed_whole.specs.Led.{IsLed, EraTurn, MayTurn, counts_behind, frame_in, news_in, turn_after, turn_next}
-use Rattle.passed_whole.proofs.Clients.{plain_untag}
+use Rattle.run_work.specs.of_master_hand.Spoken as Spoken
+use Rattle.run_work.specs.of_master_hand.Spoken.{Asked, emission, is_followed, is_passed, passed}
+use Rattle.served_places.specs.of_passed_whole.Client.{ByContents}
+use Rattle.served_places.specs.of_passed_whole.Erased.{OfRow, PlanOne, row_seen}
+use Rattle.served_places.specs.of_passed_whole.Led.{IsLed, EraTurn, MayTurn, counts_behind, frame_in, news_in, turn_after, turn_next}
+use Rattle.served_places.proofs.of_passed_whole.Clients.{plain_untag}
 use Rattle.served_rings.specs.Speakers.{naming_of, processor_of, seer_of, speaker, spoken, spoken_states, table_of, whole_states}
 use Rattle.run_work.specs.Sessions.{OwnService, Wanted, named_wanted}
 use Rattle.segment_model.specs.Ends.{Passing}
@@ -32,7 +32,7 @@ use Rattle.segment_model.specs.Slaves.{Registers, Slave, grams}
 use Rattle.served_rings.specs.Serves.{serves}
 use Rattle.serving_model.specs.Tagged as Tagged
 use Rattle.serving_model.specs.Tagged.{Tagged, untag}
-use Rattle.slave_lives.specs.Lived as Lived
+use Rattle.plan_ring.specs.of_slave_lives.Lived as Lived
 use Rattle.slave_model.specs.Profile.{Profile, Protocol}
 use Rattle.slave_model.specs.Server as SlaveReply
 use Rattle.slave_parts.specs.Parts.{Server, parts}
@@ -40,9 +40,9 @@ use Rattle.slave_served.specs.Served.{product_whole}
 use Rattle.state_exchange.specs.Families.{InState}
 use Rattle.state_exchange.specs.Stated.{Service}
 use Rattle.state_model.specs.Promises.{state_behind}
-use Rattle.life_counts.specs.Epochs.{IsSpeaker, IsSeen, seeing}
-use Rattle.life_counts.specs.Foreseen as Foreseen
-use Rattle.life_counts.proofs.TaggedWhole.{epoch_seen}
+use Rattle.run_work.specs.of_life_counts.Epochs.{IsSpeaker, IsSeen, seeing}
+use Rattle.run_work.specs.of_life_counts.Foreseen as Foreseen
+use Rattle.run_work.proofs.of_life_counts.TaggedWhole.{epoch_seen}
 use Rattle.task_model.proofs.Completed.{started_back}
 use Rattle.task_model.specs.Accounts.{Account, Pick, Started}
 use Rattle.task_model.specs.Promise.{mails_in, services_in}

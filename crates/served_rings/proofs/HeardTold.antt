@@ -4,7 +4,7 @@ use Rattle.exchange_model.proofs.Lists.{append_none}
 use Rattle.exchange_model.proofs.Settles.{heard_all_last}
 use Rattle.exchange_model.specs.Exchange.{Exchange, given}
 use Rattle.exchange_model.specs.Rows.{Row, begun, heard_all, row_heard, row_told}
-use Rattle.life_counts.proofs.Turns.{heard_push}
+use Rattle.run_work.proofs.of_life_counts.Turns.{heard_push}
 use Rattle.life_model.specs.Eras.{EraIs, era_frames, planned}
 use Rattle.life_model.specs.Lives.{Spot, Era}
 use Rattle.link_model.proofs.Law.{accepted_of_offered, new_agrees, taken_of_held}

@@ -5,15 +5,15 @@ use Rattle.served_rings.specs.Led.{LedEra}
 use Rattle.life_model.specs.Lives.{Spot, Era}
 use Rattle.link_mails.specs.Body.{Body}
 use Rattle.master_duty.specs.Reply.{Reply}
-use Rattle.master_hand.specs.Spoken.{Asked, is_followed, is_passed}
+use Rattle.run_work.specs.of_master_hand.Spoken.{Asked, is_followed, is_passed}
 use Rattle.served_rings.specs.Speakers.{speaker, spoken, spoken_states, table_of, processor_of, seer_of}
 use Rattle.served_rings.specs.SeenLed.{WasLed}
 use Rattle.segment_model.specs.Record.{Frame}
 use Rattle.few_replies.specs.Packets.{is_calm}
-use Rattle.slave_lives.specs.Lived.{node_seen}
+use Rattle.plan_ring.specs.of_slave_lives.Lived.{node_seen}
 use Rattle.slave_model.specs.Profile.{Profile}
 use Rattle.slave_parts.specs.Parts.{Server}
-use Rattle.slave_server.specs.Serving.{Serving}
+use Rattle.plan_ring.specs.of_slave_server.Serving.{Serving}
 use Rattle.slave_steps.specs.Node.{Node}
 use Rattle.state_exchange.specs.Families.{InState}
 use Rattle.served_rings.specs.Serves.{serves}

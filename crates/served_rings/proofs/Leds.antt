@@ -6,22 +6,22 @@ use Rattle.served_rings.specs.Lives.{LedKept, LedYet, LedLeft, AllLeds, IsLedLiv
 use Rattle.life_model.specs.Lives.{Spot, Era, Life, Opening, Stand}
 use Rattle.link_mails.specs.Body.{Body}
 use Rattle.master_duty.specs.Reply.{Reply}
-use Rattle.master_hand.specs.Spoken.{Asked, is_followed, is_passed}
+use Rattle.run_work.specs.of_master_hand.Spoken.{Asked, is_followed, is_passed}
 use Rattle.served_rings.specs.Speakers.{speaker, spoken, table_of, processor_of, seer_of, cleared_whole}
 use Rattle.served_rings.specs.SeenLed.{AllLed, IsNewestLed, IsLedLife}
 use Rattle.segment_model.specs.Record.{Frame, Kept}
 use Rattle.served_rings.specs.Serves.{serves}
 use Rattle.served_rings.proofs.Led.{was_led}
 use Rattle.few_replies.specs.Packets.{is_calm}
-use Rattle.slave_lives.specs.Lived.{Behind, node_seen}
-use Rattle.slave_lives.specs.Opening.{Plan}
-use Rattle.slave_lives.specs.Stands.{opening_again}
+use Rattle.plan_ring.specs.of_slave_lives.Lived.{Behind, node_seen}
+use Rattle.plan_ring.specs.of_slave_lives.Opening.{Plan}
+use Rattle.plan_ring.specs.of_slave_lives.Stands.{opening_again}
 use Rattle.slave_model.specs.Profile.{Profile}
 use Rattle.slave_parts.specs.Parts.{Server}
-use Rattle.slave_server.specs.Serving.{Serving}
+use Rattle.plan_ring.specs.of_slave_server.Serving.{Serving}
 use Rattle.slave_steps.specs.Node.{Node}
 use Rattle.state_exchange.specs.Families.{InState}
-use Rattle.whole_ring.specs.Whole.{OpensBy, StandsBy}
+use Rattle.plan_ring.specs.of_whole_ring.Whole.{OpensBy, StandsBy}
 use Rattle.served_rings.specs.Clearing.{serves_clearing, in_init}
 
 module _ (p : Profile) (boot : Bool) (lens : ℕ → Lens) (spot : Spot) where

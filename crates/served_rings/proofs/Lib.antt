@@ -1,3 +1,4 @@
+pub use Rattle.served_places.proofs as of_served_places
 pub mod All
 pub mod Any
 mod Before

@@ -7,15 +7,15 @@ use Rattle.link_mails.specs.Body.{Body}
 use Rattle.news_kept.specs.Counts.{counts_on, kept_on}
 use Rattle.segment_model.specs.Record.{Frame, Kept}
 use Rattle.segment_model.specs.Slaves.{Found}
-use Rattle.slave_lives.specs.Lived.{Behind, RingFrame, frame_of, node_behind}
-use Rattle.slave_lives.specs.Opening.{Plan}
-use Rattle.slave_lives.specs.Seats.{KnownAs}
+use Rattle.plan_ring.specs.of_slave_lives.Lived.{Behind, RingFrame, frame_of, node_behind}
+use Rattle.plan_ring.specs.of_slave_lives.Opening.{Plan}
+use Rattle.plan_ring.specs.of_slave_lives.Seats.{KnownAs}
 use Rattle.slave_steps.specs.Node.{Node, new_node}
 use Rattle.task_model.specs.Accounts.{Pick}
-use Rattle.whole_ring.specs.Turns.{FrameComes, TurnsAs, life_by, plan_at}
-use Rattle.whole_ring.specs.Whole.{IsWhole, Living, Leaving, Passing}
-use Rattle.whole_ring.proofs.Seated.{known_by}
-use Rattle.whole_ring.proofs.WholeTurning.{begins_by, given_by, turns_by}
+use Rattle.plan_ring.specs.of_whole_ring.Turns.{FrameComes, TurnsAs, life_by, plan_at}
+use Rattle.plan_ring.specs.of_whole_ring.Whole.{IsWhole, Living, Leaving, Passing}
+use Rattle.plan_ring.proofs.of_whole_ring.Seated.{known_by}
+use Rattle.plan_ring.proofs.of_whole_ring.WholeTurning.{begins_by, given_by, turns_by}
 use Rattle.served_rings.specs.Lives.{LedKept, LedYet, LedLeft, AllLeds, IsLedLived, news_as, recorded_as}
 use Rattle.served_rings.proofs.Kept.{keeps, session_of}
 

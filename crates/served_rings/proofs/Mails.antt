@@ -1,10 +1,10 @@
 -- A SLAVE AND ITS MASTER, of which it is seen what is meant by its mails, where any mail is passed on that is one; and their names for what came into hand.
 use Rattle.std.proofs.Common.{◌≡◌, ℕ, zero, suc, Bool, true, false, List, [], ◌∷◌, ◌++◌, map, take, refl, ap, sym, ◌∙◌, Ok, Err}
 use Rattle.few_replies.specs.Calm.{calm_tagged}
-use Rattle.life_counts.specs.Seen.{service_seen}
+use Rattle.run_work.specs.of_life_counts.Seen.{service_seen}
 use Rattle.link_mails.specs.Body.{Body}
 use Rattle.mailbox_mail.specs.declared.mail.Mail.{Mail}
-use Rattle.master_hand.specs.Spoken as Spoken
+use Rattle.run_work.specs.of_master_hand.Spoken as Spoken
 use Rattle.served_rings.specs.Speakers.{naming_of, processor_of, seer_of, speaker, spoken, table_of, whole_states}
 use Rattle.served_rings.proofs.Any.{any_lawful}
 use Rattle.run_work.specs.Sessions.{OwnService, Wanted, named_wanted}
@@ -17,9 +17,9 @@ use Rattle.state_exchange.specs.Families.{InState}
 use Rattle.state_exchange.specs.Stated.{Service, service_valid}
 use Rattle.state_model.specs.Promises.{state_behind}
 use Rattle.serving_model.specs.Tagged.{Asked, asked_exec}
-use Rattle.life_counts.specs.Epochs.{Speaker, IsSpeaker, IsRun, AllFair}
-use Rattle.life_counts.specs.Foreseen as Foreseen
-use Rattle.life_counts.specs.Spoken.{IsPassed}
+use Rattle.run_work.specs.of_life_counts.Epochs.{Speaker, IsSpeaker, IsRun, AllFair}
+use Rattle.run_work.specs.of_life_counts.Foreseen as Foreseen
+use Rattle.run_work.specs.of_life_counts.Spoken.{IsPassed}
 use Rattle.task_model.specs.Accounts.{Started}
 use Rattle.task_model.specs.Promise.{services_in}
 use Rattle.served_rings.specs.Served.{server_behind}

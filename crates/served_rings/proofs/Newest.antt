@@ -8,8 +8,8 @@ use Rattle.exchange_model.specs.Rows.{Row, Settled, told_all, services, exec_all
 use Rattle.exchange_model.proofs.Nows.{heard_begins}
 use Rattle.exchange_model.proofs.Settles.{settled_app, settled_ready}
 use Rattle.few_replies.specs.Calm.{calm_tagged}
-use Rattle.passed_whole.proofs.Clients.{plain_untag}
-use Rattle.passed_whole.specs.Silent.{IsForeseenRight}
+use Rattle.served_places.proofs.of_passed_whole.Clients.{plain_untag}
+use Rattle.served_places.specs.of_passed_whole.Silent.{IsForeseenRight}
 use Rattle.segment_model.specs.Ends.{Outcome}
 use Rattle.segment_model.specs.Laws.{as_outcome}
 use Rattle.segment_model.specs.Record.{Frame}
@@ -23,9 +23,9 @@ use Rattle.state_exchange.proofs.Acts.{all_acts, begin_acts, given_acts, plain_a
 use Rattle.state_exchange.proofs.StatedLaw.{stated_law}
 use Rattle.state_model.specs.Promises.{IsTable, state_behind}
 use Rattle.state_model.specs.States.{Table}
-use Rattle.life_counts.specs.Foreseen.{AllRight, server_behind}
-use Rattle.life_counts.proofs.Rights.{Between, IsRight, alike, rows_between, tells}
-use Rattle.life_counts.proofs.Steps.{started_services}
+use Rattle.run_work.specs.of_life_counts.Foreseen.{AllRight, server_behind}
+use Rattle.run_work.proofs.of_life_counts.Rights.{Between, IsRight, alike, rows_between, tells}
+use Rattle.run_work.proofs.of_life_counts.Steps.{started_services}
 use Rattle.task_model.specs.Accounts.{Account, Started}
 use Rattle.task_model.specs.Promise.{services_in}
 use Rattle.task_model.proofs.Ghosts as Ghosts

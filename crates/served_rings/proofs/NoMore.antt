@@ -9,17 +9,17 @@ use Rattle.exchange_model.specs.Exchange.{plain}
 use Rattle.exchange_model.specs.Rows.{Row}
 use Rattle.frame_view.specs.Seen.{seen}
 use Rattle.frame_view.specs.View.{Lens}
-use Rattle.life_counts.specs.Epochs.{IsSpeaker}
+use Rattle.run_work.specs.of_life_counts.Epochs.{IsSpeaker}
 use Rattle.life_model.specs.Eras.{Clearing}
 use Rattle.life_model.specs.Lives.{Spot, Era, Life, Stand, era_next, life_next}
 use Rattle.life_model.specs.Own.{own}
-use Rattle.life_runs.specs.First.{lens_of}
-use Rattle.life_runs.specs.Led.{Exchanged}
+use Rattle.served_runs.specs.of_life_runs.First.{lens_of}
+use Rattle.served_runs.specs.of_life_runs.Led.{Exchanged}
 use Rattle.link_mails.specs.Body.{Body}
 use Rattle.link_model.specs.Frames.{all_accepted}
 use Rattle.link_model.specs.Segment.{RingFate}
 use Rattle.master_duty.specs.Reply.{Reply}
-use Rattle.master_hand.specs.Spoken.{Asked, acknowledged, emission, is_followed, is_passed}
+use Rattle.run_work.specs.of_master_hand.Spoken.{Asked, acknowledged, emission, is_followed, is_passed}
 use Rattle.served_places.specs.of_counters_kept.of_master_tour.Brings.{accepted_in}
 use Rattle.plan_ring.proofs.Known.{AllBoot, all_boot, macs_in}
 use Rattle.plan_ring.specs.Lives.{IsKnown}
@@ -45,25 +45,25 @@ use Rattle.served_rings.specs.Lives.{AllLeds, LedKept, LedLeft, LedYet, news_as,
 use Rattle.served_rings.specs.Rings.{AllServedAt, AreServedLived, IsServedAt, ServedMember, counters_of, served_member, served_members}
 use Rattle.served_rings.specs.Speakers.{speaker}
 use Rattle.served_runs.specs.Served.{AllServedTurn, IsServedFrame, IsServedTurn, Serves, ServedTurn, accepted_by}
-use Rattle.slave_lives.proofs.AllSeats.{all_meet_first}
-use Rattle.slave_lives.specs.Lived.{Behind, RingFrame, frame_of, node_seen}
-use Rattle.slave_lives.specs.Opening.{Plan}
-use Rattle.slave_lives.specs.Rings.{fate_seen}
-use Rattle.slave_lives.specs.Seats.{AllMeet}
+use Rattle.run_work.proofs.of_slave_lives.AllSeats.{all_meet_first}
+use Rattle.plan_ring.specs.of_slave_lives.Lived.{Behind, RingFrame, frame_of, node_seen}
+use Rattle.plan_ring.specs.of_slave_lives.Opening.{Plan}
+use Rattle.plan_ring.specs.of_slave_lives.Rings.{fate_seen}
+use Rattle.plan_ring.specs.of_slave_lives.Seats.{AllMeet}
 use Rattle.slave_model.specs.Profile.{IsProfile, Profile}
-use Rattle.slave_server.specs.Serving.{Serving}
-use Rattle.slave_server.specs.Spec.{profile_of}
+use Rattle.plan_ring.specs.of_slave_server.Serving.{Serving}
+use Rattle.plan_ring.specs.of_slave_server.Spec.{profile_of}
 use Rattle.slave_steps.specs.Node.{Node}
 use Rattle.task_model.specs.Accounts.{Pick}
-use Rattle.whole_ring.proofs.Keeps.{Keeps}
-use Rattle.whole_ring.proofs.Members as Members
-use Rattle.whole_ring.proofs.Members.{all_come, joined, many, one_more, seat_of, seats_distinct, seats_known}
-use Rattle.whole_ring.proofs.Open.{open_on}
-use Rattle.whole_ring.proofs.Turning as Turning
-use Rattle.whole_ring.specs.Members.{AllLived, IsRing, Member, MemberIs}
-use Rattle.whole_ring.specs.Turning.{AllTurn, Turn, TurnsFor, frame_at, next_life}
-use Rattle.whole_ring.specs.Turns.{AsksFor, FrameComes, TurnsAs}
-use Rattle.whole_ring.specs.Whole.{IsWhole, Leaving, Living, Passing, LivesOpenBy, StandsBy}
+use Rattle.plan_ring.proofs.of_whole_ring.Keeps.{Keeps}
+use Rattle.plan_ring.proofs.of_whole_ring.Members as Members
+use Rattle.plan_ring.proofs.of_whole_ring.Members.{all_come, joined, many, one_more, seat_of, seats_distinct, seats_known}
+use Rattle.plan_ring.proofs.of_whole_ring.Open.{open_on}
+use Rattle.plan_ring.proofs.of_whole_ring.Turning as Turning
+use Rattle.plan_ring.specs.of_whole_ring.Members.{AllLived, IsRing, Member, MemberIs}
+use Rattle.plan_ring.specs.of_whole_ring.Turning.{AllTurn, Turn, TurnsFor, frame_at, next_life}
+use Rattle.plan_ring.specs.of_whole_ring.Turns.{AsksFor, FrameComes, TurnsAs}
+use Rattle.plan_ring.specs.of_whole_ring.Whole.{IsWhole, Leaving, Living, Passing, LivesOpenBy, StandsBy}
 
 -- WHAT IS TOLD OF A LED EPOCH and a frame of the ring is told of the life of an open slave
 module _ {S V A Q R : Type 0} (w : Behind S V A Q R) (c : Clearing V A) (p : Plan) (spot : Spot) (whole : IsWhole w c p spot) (more : Body → Bool) (passed : Q → Bool) (kept : Kept) (counts : Bool) (e : Era Body Q R) (fs : List (Frame Body)) (t : RingFrame S) (pick : Pick Q) (Told : Type 0)

@@ -9,7 +9,7 @@ use Rattle.coe_model.specs.Mails.{CoeMail, mail, unread, failed, fragment, other
 use Rattle.coe_model.specs.Octets.{AreSpelled, coe_mail_written}
 use Rattle.coe_model.specs.Server.{Transfer, idle, downloading, uploading, Outcome, ended, goes_on, silent, abort, download_answer, same, stored, takes_whole, begins, takes_first, takes_segment, is_expedited, opened, takes_upload_segment, parts_of, information_parts, answer_opcode, informed, unknown_command, takes_unread, coe_takes, coe_outcome, emergency}
 use Rattle.coe_model.specs.Tables.{Target, nowhere, Ask, list, object, entry, Tables}
-use Rattle.master_hand.specs.Spoken.{is_followed}
+use Rattle.run_work.specs.of_master_hand.Spoken.{is_followed}
 use Rattle.serving_model.specs.Passing.{ends_told}
 use Rattle.slave_model.specs.Product.{emission}
 use Rattle.slave_model.specs.Server.{told_by}

@@ -8,12 +8,12 @@ use Rattle.served_rings.specs.Lives.{news_by, news_of, recorded_by, recorded_of}
 use Rattle.served_rings.specs.LedRings.{counters_next}
 use Rattle.life_frames.specs.Shares.{Asked as AskedFor, came_at, given_where}
 use Rattle.life_model.specs.Lives.{Spot, Life, life_back, life_lost, life_next, gives_up}
-use Rattle.life_runs.specs.First.{lens_of, spot_of}
-use Rattle.life_runs.specs.Led.{Exchanged, speech_at}
+use Rattle.served_runs.specs.of_life_runs.First.{lens_of, spot_of}
+use Rattle.served_runs.specs.of_life_runs.Led.{Exchanged, speech_at}
 use Rattle.link_mails.specs.Body.{Body}
 use Rattle.link_model.specs.Segment.{RingFate}
 use Rattle.master_duty.specs.Reply.{Reply}
-use Rattle.master_hand.specs.Spoken.{Asked, acknowledged, hand_speech, is_followed, is_passed}
+use Rattle.run_work.specs.of_master_hand.Spoken.{Asked, acknowledged, hand_speech, is_followed, is_passed}
 use Rattle.master_side.specs.Passing.{news_back, news_lost}
 use Rattle.news_kept.specs.Counts.{counts_on, kept_on}
 use Rattle.plan_ring.specs.Round.{WentRound}
@@ -29,12 +29,12 @@ use Rattle.segment_ring.specs.declared.wire.Fate.{Fate}
 use Rattle.segment_ring.specs.declared.wire.Fate.TheVariants.{Pass, Lost}
 use Rattle.served_runs.specs.Served.{Keyed, Serves, ServedTurn, ServedComes, IsServedTurn, served_behind, served_life, recorded}
 use Rattle.served_runs.specs.Told.{Passed}
-use Rattle.slave_lives.specs.Rings.{fate_seen}
-use Rattle.slave_server.specs.Serving.{Serving}
+use Rattle.plan_ring.specs.of_slave_lives.Rings.{fate_seen}
+use Rattle.plan_ring.specs.of_slave_server.Serving.{Serving}
 use Rattle.slave_steps.specs.Node.{Node}
 use Rattle.state_exchange.specs.Stated.{Service}
-use Rattle.whole_ring.specs.Turning.{BeginBoots, Turn, TurnsFor, frame_at, life_by, next_life}
-use Rattle.whole_ring.proofs.Turning as Ring
+use Rattle.plan_ring.specs.of_whole_ring.Turning.{BeginBoots, Turn, TurnsFor, frame_at, life_by, next_life}
+use Rattle.plan_ring.proofs.of_whole_ring.Turning as Ring
 use Rattle.served_rings.specs.Rings.{IsServedAt, ServedMember, counters_of, served_member}
 
 -- what comes into hand asks for no state that the slave lacks

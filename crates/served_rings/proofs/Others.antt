@@ -21,7 +21,7 @@ use Rattle.eoe_model.specs.Mails as Eoe
 use Rattle.eoe_model.specs.Octets as EoeOctets
 use Rattle.eoe_model.specs.Server as EoeServer
 use Rattle.eoe_model.specs.Network.{Network, Station}
-use Rattle.master_hand.specs.Spoken.{is_followed}
+use Rattle.run_work.specs.of_master_hand.Spoken.{is_followed}
 use Rattle.serving_model.specs.Passing.{ends_told}
 use Rattle.slave_model.specs.Product.{emission}
 use Rattle.slave_model.specs.Server.{told_by}

@@ -9,12 +9,12 @@ use Rattle.frame_view.specs.View.{Lens}
 use Rattle.life_frames.specs.Shares.{came_at}
 use Rattle.life_model.specs.Lives.{Life, Opening, Stand, gives_up}
 use Rattle.master_duty.specs.Reply.{Reply}
-use Rattle.life_runs.proofs.Opened.{Leaves, Leaving, Now, Opened, back_so, given_so, later, lost_so, next_so, opened_first}
-use Rattle.life_runs.specs.Causes.{since}
-use Rattle.life_runs.specs.First.{leads_from}
+use Rattle.served_places.proofs.of_life_runs.Opened.{Leaves, Leaving, Now, Opened, back_so, given_so, later, lost_so, next_so, opened_first}
+use Rattle.served_runs.specs.of_life_runs.Causes.{since}
+use Rattle.served_runs.specs.of_life_runs.First.{leads_from}
 use Rattle.link_mails.specs.Body.{Body}
 use Rattle.link_model.specs.Segment.{RingFate}
-use Rattle.master_hand.specs.Spoken.{Asked, is_followed, is_passed}
+use Rattle.run_work.specs.of_master_hand.Spoken.{Asked, is_followed, is_passed}
 use Rattle.segment_model.specs.Record.{Frame}
 use Rattle.segment_plan.specs.declared.service.Service as Row
 use Rattle.segment_plan.specs.declared.slave.SlaveSpec.{SlaveSpec}
@@ -23,10 +23,10 @@ use Rattle.served_rings.specs.Rings.{ServedMember, served_member, served_members
 use Rattle.served_rings.specs.StoodLives.{LeftOpen}
 use Rattle.served_rings.proofs.Stood.{Reopens}
 use Rattle.served_runs.specs.Served.{Serves, all_serve}
-use Rattle.slave_server.specs.Serving.{Serving}
+use Rattle.plan_ring.specs.of_slave_server.Serving.{Serving}
 use Rattle.slave_steps.specs.Node.{Node}
-use Rattle.whole_ring.proofs.Turning.{next_stand}
-use Rattle.whole_ring.specs.Turning.{Turn, behind_frame, given_up, life_by, next_life}
+use Rattle.plan_ring.proofs.of_whole_ring.Turning.{next_stand}
+use Rattle.plan_ring.specs.of_whole_ring.Turning.{Turn, behind_frame, given_up, life_by, next_life}
 
 -- what holds of all holds of one among them
 all_at : (P : ℕ → Type 0) (front : List ℕ) (x : ℕ) (behind : List ℕ) → All P (front ++ x ∷ behind) → P x

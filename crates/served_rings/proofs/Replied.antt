@@ -5,14 +5,14 @@ use Rattle.std.proofs.lemmas.List.{take-map}
 use Rattle.exchange_model.specs.Exchange.{emitted}
 use Rattle.exchange_model.specs.Prefix.{IsPrefixOf}
 use Rattle.exchange_model.specs.Rows.{heard_all}
-use Rattle.life_counts.specs.Epochs.{IsSpeaker, IsSeen, era_named, seeing, seeing_states}
-use Rattle.life_counts.specs.Foreseen.{AllRight}
-use Rattle.life_counts.specs.Seen.{change_seen, outcome_seen, service_seen}
+use Rattle.run_work.specs.of_life_counts.Epochs.{IsSpeaker, IsSeen, era_named, seeing, seeing_states}
+use Rattle.run_work.specs.of_life_counts.Foreseen.{AllRight}
+use Rattle.run_work.specs.of_life_counts.Seen.{change_seen, outcome_seen, service_seen}
 use Rattle.life_model.specs.Eras.{era_frames}
 use Rattle.life_model.specs.Lives.{Spot, Era}
 use Rattle.link_mails.specs.Body.{Body}
 use Rattle.master_duty.specs.Reply.{Reply}
-use Rattle.master_hand.specs.Spoken.{Asked, emission}
+use Rattle.run_work.specs.of_master_hand.Spoken.{Asked, emission}
 use Rattle.run_work.specs.Sessions.{Wanted, named_wanted}
 use Rattle.segment_model.specs.Record.{Frame, heard}
 use Rattle.segment_model.specs.Seats.{rows_of}

@@ -6,11 +6,11 @@ use Rattle.book_model.specs.Script.{life_started}
 use Rattle.exchange_model.specs.Exchange.{Speech}
 use Rattle.frame_view.specs.View.{Lens}
 use Rattle.life_model.specs.Lives.{Era, Spot, Stand}
-use Rattle.life_runs.specs.First.{HaveLens, lens_of, script_for}
-use Rattle.life_runs.specs.Led.{speech_at}
+use Rattle.served_runs.specs.of_life_runs.First.{HaveLens, lens_of, script_for}
+use Rattle.served_runs.specs.of_life_runs.Led.{speech_at}
 use Rattle.link_mails.specs.Body.{Body}
 use Rattle.master_duty.specs.Reply.{Reply}
-use Rattle.master_hand.specs.Spoken.{Asked, hand_speech}
+use Rattle.run_work.specs.of_master_hand.Spoken.{Asked, hand_speech}
 use Rattle.segment_model.specs.Laws.{WantsNothing}
 use Rattle.segment_plan.specs.declared.plan.Scenario.{Scenario}
 use Rattle.segment_plan.specs.declared.service.Service as Plan
@@ -25,8 +25,8 @@ use Rattle.run_work.specs.Lives.{first_server}
 use Rattle.served_runs.specs.Came.{AreAmong, HasServed, ServedCame}
 use Rattle.served_runs.specs.Served.{Serves}
 use Rattle.slave_parts.specs.Parts.{Server}
-use Rattle.slave_server.specs.Serving.{Serving, next_mail}
-use Rattle.slave_server.specs.Spec.{profile_of}
+use Rattle.plan_ring.specs.of_slave_server.Serving.{Serving, next_mail}
+use Rattle.plan_ring.specs.of_slave_server.Spec.{profile_of}
 use Rattle.slave_steps.specs.Node.{Node, is_settled}
 use Rattle.state_exchange.specs.Families.{InState}
 

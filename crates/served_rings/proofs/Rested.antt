@@ -2,16 +2,16 @@
 use Rattle.std.proofs.Common.{◌≡◌, ◌&&◌, ℕ, suc, Bool, true, false, not, is_none, is_some, Option, None, Some, option_map, inl, inr, List, [], ◌∷◌, ◌++◌, length, map, refl, ap, ap₂, sym, ◌∙◌, subst, append-nil, Ok, Err, if◌then◌else◌}
 use Rattle.exchange_model.specs.Exchange.{emitted}
 use Rattle.exchange_model.specs.Rows.{Row, heard_all}
-use Rattle.life_counts.specs.Epochs.{IsSpeaker, IsSeen, era_named, seeing, seeing_states}
-use Rattle.life_counts.specs.Seen.{change_seen, outcome_seen, service_seen}
+use Rattle.run_work.specs.of_life_counts.Epochs.{IsSpeaker, IsSeen, era_named, seeing, seeing_states}
+use Rattle.run_work.specs.of_life_counts.Seen.{change_seen, outcome_seen, service_seen}
 use Rattle.life_model.specs.Eras.{era_frames}
 use Rattle.life_model.specs.Lives.{Spot, Era}
 use Rattle.link_mails.specs.Body.{Body}
 use Rattle.link_model.specs.Mails.{LinkMail}
 use Rattle.master_duty.specs.Reply.{Reply}
-use Rattle.master_hand.specs.Spoken.{Asked, emission}
-use Rattle.passed_whole.proofs.Naturals.{none_of}
-use Rattle.passed_whole.specs.Erased.{OfRow, PlanOne, row_seen, side_seen}
+use Rattle.run_work.specs.of_master_hand.Spoken.{Asked, emission}
+use Rattle.served_places.proofs.of_passed_whole.Naturals.{none_of}
+use Rattle.served_places.specs.of_passed_whole.Erased.{OfRow, PlanOne, row_seen, side_seen}
 use Rattle.run_work.specs.Sessions.{Meant, Wanted, named_wanted}
 use Rattle.segment_model.proofs.Overs.{over_parts}
 use Rattle.segment_model.specs.Laws.{IsSettled, NothingInHand, WantsNothing}

@@ -8,17 +8,17 @@ use Rattle.link_mails.specs.Body.{Body}
 use Rattle.news_kept.specs.Counts.{counts_on, kept_on}
 use Rattle.segment_model.specs.Record.{Frame, News}
 use Rattle.segment_ring.specs.Ring.{RingState}
-use Rattle.slave_lives.specs.Lived.{RingFrame, frame_of, node_behind}
-use Rattle.slave_lives.specs.Rings.{come_to, fate_seen, is_met_at, met, turned}
-use Rattle.slave_lives.specs.Seats.{AllMeet}
+use Rattle.plan_ring.specs.of_slave_lives.Lived.{RingFrame, frame_of, node_behind}
+use Rattle.plan_ring.specs.of_slave_lives.Rings.{come_to, fate_seen, is_met_at, met, turned}
+use Rattle.plan_ring.specs.of_slave_lives.Seats.{AllMeet}
 use Rattle.slave_steps.specs.Node.{Node}
-use Rattle.whole_ring.specs.Turns as Whole
-use Rattle.whole_ring.specs.Members.{Member, MemberIs, AllLived, IsRing, IsNew, AllNew}
-use Rattle.whole_ring.specs.Turning.{Turn, TurnsFor, AllTurn, frame_at, life_by, behind_frame}
-use Rattle.whole_ring.proofs.Members as Members
-use Rattle.whole_ring.proofs.Members.{node_in, fate_in, seat_of, joined, one_more, comes_past, many, seats_distinct, seats_known, all_come}
-use Rattle.whole_ring.proofs.Turning as One
-use Rattle.slave_lives.proofs.AllSeats.{all_meet_first}
+use Rattle.plan_ring.specs.of_whole_ring.Turns as Whole
+use Rattle.plan_ring.specs.of_whole_ring.Members.{Member, MemberIs, AllLived, IsRing, IsNew, AllNew}
+use Rattle.plan_ring.specs.of_whole_ring.Turning.{Turn, TurnsFor, AllTurn, frame_at, life_by, behind_frame}
+use Rattle.plan_ring.proofs.of_whole_ring.Members as Members
+use Rattle.plan_ring.proofs.of_whole_ring.Members.{node_in, fate_in, seat_of, joined, one_more, comes_past, many, seats_distinct, seats_known, all_come}
+use Rattle.plan_ring.proofs.of_whole_ring.Turning as One
+use Rattle.run_work.proofs.of_slave_lives.AllSeats.{all_meet_first}
 use Rattle.served_rings.specs.Lives.{news_of, recorded_of}
 use Rattle.served_rings.specs.StoodLives.{AllStoodMembers, IsFirst, IsStoodLived, StoodMember, others}
 use Rattle.served_rings.proofs.Stood as Stood

@@ -4,7 +4,7 @@ use Rattle.exchange_model.specs.Exchange.{plain}
 use Rattle.exchange_sum.specs.Refusing.{gated}
 use Rattle.mailbox_mail.specs.declared.mail.Kind.{Kind}
 use Rattle.mailbox_mail.specs.declared.mail.Mail.{Mail}
-use Rattle.master_hand.specs.Spoken.{emission, passed}
+use Rattle.run_work.specs.of_master_hand.Spoken.{emission, passed}
 use Rattle.slave_model.specs.Product.{protocol_of, refusal, serve_by, served}
 use Rattle.slave_model.specs.Profile.{Protocol, Profile, serves}
 use Rattle.slave_model.specs.Server.{failure, reseated, seat}

@@ -1,6 +1,6 @@
 -- OF AN EPOCH that is seen with what is meant by its mails: where nothing is left of it, and what its master has of it.
 use Rattle.std.proofs.Common.{ℕ, Bool, false, Option, List, length}
-use Rattle.life_counts.specs.Epochs.{Speaker, IsSpeaker, IsSeen, between, seeing, seeing_states}
+use Rattle.run_work.specs.of_life_counts.Epochs.{Speaker, IsSpeaker, IsSeen, between, seeing, seeing_states}
 use Rattle.life_model.specs.Eras.{OpenEra, era_frames, frames_of}
 use Rattle.life_model.specs.Lives.{Spot, Era}
 use Rattle.life_model.proofs.Eras.{session_of, of_one}

@@ -10,7 +10,7 @@ use Rattle.life_model.specs.Eras.{EraIs, OpenEra, era_frames}
 use Rattle.life_model.specs.Lives.{Spot, Era}
 use Rattle.life_model.proofs.Eras.{session_of, of_one}
 use Rattle.few_replies.specs.Calm.{calm_tagged}
-use Rattle.passed_whole.specs.Clearing.{InRowOf, InRow}
+use Rattle.served_places.specs.of_passed_whole.Clearing.{InRowOf, InRow}
 use Rattle.segment_model.specs.Ends.{Outcome}
 use Rattle.segment_model.specs.Record.{Frame}
 use Rattle.segment_model.specs.Seats.{Side, Seat}

@@ -2,13 +2,13 @@
 use Rattle.std.proofs.Common.{ℕ, Option, length, refl}
 use Rattle.exchange_model.specs.Exchange.{Exchange}
 use Rattle.life_model.specs.Lives.{Spot, Life}
-use Rattle.passed_whole.specs.Clearing.{Forgets}
-use Rattle.passed_whole.proofs.Clears.{clears}
+use Rattle.served_places.specs.of_passed_whole.Clearing.{Forgets}
+use Rattle.served_places.proofs.of_passed_whole.Clears.{clears}
 use Rattle.segment_model.specs.Slaves.{Processor}
 use Rattle.serving_model.specs.Tagged.{Rowed}
 use Rattle.state_model.specs.States.{Table}
-use Rattle.life_counts.specs.Epochs.{Speaker, IsSpeaker, IsRun, between}
-use Rattle.life_counts.proofs.TaggedWhole.{seeing_lawful, seeing_stated, epoch_seen}
+use Rattle.run_work.specs.of_life_counts.Epochs.{Speaker, IsSpeaker, IsRun, between}
+use Rattle.run_work.proofs.of_life_counts.TaggedWhole.{seeing_lawful, seeing_stated, epoch_seen}
 use Rattle.served_rings.specs.SeenLed.{IsFairLife, IsSeenLife, IsLedLife}
 use Rattle.served_rings.proofs.SeenRows.{era_in}
 use Rattle.served_rings.proofs.Chains.{Laws, lives}

@@ -6,23 +6,23 @@ use Rattle.served_rings.specs.Lives.{LedKept, LedYet, LedLeft, AllLeds}
 use Rattle.life_model.specs.Lives.{Spot, Era, Life, Opening, Stand, new_era}
 use Rattle.link_mails.specs.Body.{Body}
 use Rattle.master_duty.specs.Reply.{Reply}
-use Rattle.master_hand.specs.Spoken.{Asked, is_followed, is_passed}
-use Rattle.passed_whole.specs.Clearing.{Forgets}
+use Rattle.run_work.specs.of_master_hand.Spoken.{Asked, is_followed, is_passed}
+use Rattle.served_places.specs.of_passed_whole.Clearing.{Forgets}
 use Rattle.served_rings.specs.Speakers.{cleared_whole, speaker}
 use Rattle.segment_model.specs.Record.{Frame, Kept}
 use Rattle.segment_model.specs.Seats.{rows_of}
 use Rattle.served_rings.specs.Serves.{serves}
 use Rattle.served_rings.specs.Clearing.{serves_clearing}
-use Rattle.slave_lives.specs.Lived.{Behind, IsBehind}
-use Rattle.slave_lives.specs.Opening.{Plan}
-use Rattle.slave_lives.specs.Stands.{opening_again}
+use Rattle.plan_ring.specs.of_slave_lives.Lived.{Behind, IsBehind}
+use Rattle.plan_ring.specs.of_slave_lives.Opening.{Plan}
+use Rattle.plan_ring.specs.of_slave_lives.Stands.{opening_again}
 use Rattle.slave_model.specs.Profile.{Profile}
 use Rattle.slave_parts.specs.Parts.{Server}
-use Rattle.slave_server.specs.Serving.{Serving, fresh}
+use Rattle.plan_ring.specs.of_slave_server.Serving.{Serving, fresh}
 use Rattle.slave_steps.specs.Node.{Node}
 use Rattle.state_exchange.specs.Families.{InState}
-use Rattle.life_counts.specs.Epochs.{IsSpeaker}
-use Rattle.whole_ring.specs.Whole.{OpensBy, StandsBy}
+use Rattle.run_work.specs.of_life_counts.Epochs.{IsSpeaker}
+use Rattle.plan_ring.specs.of_whole_ring.Whole.{OpensBy, StandsBy}
 use Rattle.served_rings.specs.Served.{AreServedEras, Holds, IsServedEra, IsServedNewest, IsServedLife, NothingCame}
 use Rattle.served_rings.specs.Stood.{AllHeld, GoneOpen, HeldAt, StateStands}
 use Rattle.served_rings.specs.StoodLives.{AllBegin, BeginsAt, IsStoodLived, LeftOpen, StandsUp}

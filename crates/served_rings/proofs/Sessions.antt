@@ -4,7 +4,7 @@ use Rattle.exchange_model.specs.Exchange.{Exchange}
 use Rattle.life_model.specs.Eras.{EraIs, planned}
 use Rattle.life_model.specs.Lives.{Spot, Era}
 use Rattle.life_model.proofs.Eras as Eras
-use Rattle.passed_whole.specs.Led.{IsLed, frame_in, news_in, turn_after}
+use Rattle.served_places.specs.of_passed_whole.Led.{IsLed, frame_in, news_in, turn_after}
 use Rattle.segment_model.specs.Record.{Frame}
 use Rattle.segment_model.specs.Slaves.{Registers, Processor, Slave}
 use Rattle.state_exchange.specs.Stated.{Stated}

@@ -23,7 +23,7 @@ use Rattle.soe_model.specs.Server as SoeServer
 use Rattle.eoe_model.specs.Mails as Eoe
 use Rattle.eoe_model.specs.Octets as EoeOctets
 use Rattle.eoe_model.specs.Network.{Station}
-use Rattle.master_hand.specs.Spoken.{is_followed}
+use Rattle.run_work.specs.of_master_hand.Spoken.{is_followed}
 use Rattle.serving_model.specs.Passing.{LastTells}
 use Rattle.slave_served.specs.Served.{product_whole}
 use Rattle.slave_model.specs.Application.{Core, Parts, ArePartsLawful, station_valid, station_tables, station_files, station_elements, network}

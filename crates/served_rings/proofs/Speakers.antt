@@ -3,7 +3,7 @@ use Rattle.std.proofs.Common.{◌≡◌, Bool, true, false, List, [], ◌++◌, 
 use Rattle.std.specs.Prelude.{Some, option_map}
 use Rattle.exchange_model.specs.Exchange.{Exchange, AnswersLast, given, plain}
 use Rattle.exchange_sum.specs.Refusing.{Refusal}
-use Rattle.master_hand.specs.Spoken as Spoken
+use Rattle.run_work.specs.of_master_hand.Spoken as Spoken
 use Rattle.link_mails.specs.Body.{Body}
 use Rattle.serving_model.specs.Tagged.{untag, told}
 use Rattle.serving_model.specs.TaggedStates.{IsStatedServed}
@@ -18,7 +18,7 @@ use Rattle.slave_served.specs.Served.{product_whole, served_whole, side_whole}
 use Rattle.state_exchange.specs.Families.{InState}
 use Rattle.state_exchange.specs.Stated.{IsStated}
 use Rattle.run_work.specs.Sessions.{OwnService, named}
-use Rattle.life_counts.specs.Spoken.{IsScript, IsNamed, Speaks}
+use Rattle.run_work.specs.of_life_counts.Spoken.{IsScript, IsNamed, Speaks}
 use Rattle.served_rings.specs.Speakers.{naming_of, spoken, spoken_states, whole_states}
 
 -- a client is that of its protocol, served or not

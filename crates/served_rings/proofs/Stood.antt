@@ -8,23 +8,23 @@ use Rattle.frames_seen.specs.Ring.{AllApart}
 use Rattle.frames_seen.specs.Slaves.{registers_seen}
 use Rattle.life_model.specs.Eras.{Clearing}
 use Rattle.life_model.specs.Lives.{Spot, Era, Life, Opening, Stand, clears, gives_up, is_shown, last_step, new_era, new_life, opens, opens_state, reopening, reopens, reopens_at, returns_to_init, shows_clear, steps_on}
-use Rattle.life_runs.specs.Causes.{since}
+use Rattle.served_runs.specs.of_life_runs.Causes.{since}
 use Rattle.link_mails.specs.Body.{Body}
 use Rattle.link_model.specs.Segment.{RingFate}
 use Rattle.news_kept.specs.Counts.{counts_on, kept_on}
 use Rattle.segment_model.specs.Record.{Frame, Kept, News}
 use Rattle.segment_model.specs.Slaves.{Found}
-use Rattle.slave_lives.specs.Ends.{YetFrame}
-use Rattle.slave_lives.specs.Lived.{Behind, LivesEra, RingFrame, frame_of, node_behind}
-use Rattle.slave_lives.specs.Rings.{come_to, registers_of}
-use Rattle.slave_lives.specs.Opening.{Plan}
+use Rattle.plan_ring.specs.of_slave_lives.Ends.{YetFrame}
+use Rattle.plan_ring.specs.of_slave_lives.Lived.{Behind, LivesEra, RingFrame, frame_of, node_behind}
+use Rattle.plan_ring.specs.of_slave_lives.Rings.{come_to, registers_of}
+use Rattle.plan_ring.specs.of_slave_lives.Opening.{Plan}
 use Rattle.slave_steps.specs.Node.{Node, new_node}
 use Rattle.task_model.specs.Accounts.{Duty, Pick, Stage}
-use Rattle.whole_ring.specs.Turns.{FrameComes, TurnsAs, era_behind, life_by}
-use Rattle.whole_ring.specs.Whole.{IsLivedBy, IsWhole, Leaving, Living, LivesStillBy, OpensBy, Passing, StandsBy}
-use Rattle.whole_ring.proofs.Open.{steady_of}
-use Rattle.whole_ring.proofs.Still.{Nothing, own_not, still_on}
-use Rattle.whole_ring.proofs.WholeTurning.{begins_by, given_by, turns_by}
+use Rattle.plan_ring.specs.of_whole_ring.Turns.{FrameComes, TurnsAs, era_behind, life_by}
+use Rattle.plan_ring.specs.of_whole_ring.Whole.{IsLivedBy, IsWhole, Leaving, Living, LivesStillBy, OpensBy, Passing, StandsBy}
+use Rattle.plan_ring.proofs.of_whole_ring.Open.{steady_of}
+use Rattle.plan_ring.proofs.of_whole_ring.Still.{Nothing, own_not, still_on}
+use Rattle.plan_ring.proofs.of_whole_ring.WholeTurning.{begins_by, given_by, turns_by}
 use Rattle.served_rings.specs.Lives.{AllLeds, LedKept, LedLeft, LedYet, news_as, recorded_as}
 use Rattle.served_rings.specs.StoodLives.{BeginsAt, IsStoodLived, LeftOpen, StandsUp, Stood}
 use Rattle.served_rings.proofs.Kept.{keeps_by, session_of}

@@ -5,8 +5,8 @@ use Rattle.exchange_model.proofs.Lists.{append_cancel, append_none}
 use Rattle.exchange_model.proofs.Words.{plain-append}
 use Rattle.exchange_model.specs.Exchange.{Exchange, IsLawful, plain}
 use Rattle.exchange_model.specs.Rows.{Row, row_heard}
-use Rattle.life_counts.proofs.Marks.{newest_last, none_plain}
-use Rattle.life_counts.specs.Epochs.{newest_of}
+use Rattle.run_work.proofs.of_life_counts.Marks.{newest_last, none_plain}
+use Rattle.run_work.specs.of_life_counts.Epochs.{newest_of}
 use Rattle.life_model.proofs.Eras.{frames_length, frames_push, of_one, session_of}
 use Rattle.life_model.specs.Eras.{OpenEra, era_frames, planned}
 use Rattle.life_model.specs.Lives.{Spot, Era, era_after, granted, passes, passing_begins}
@@ -14,8 +14,8 @@ use Rattle.life_model.specs.Own as Own
 use Rattle.life_model.specs.Own.{own_fate, own_frame}
 use Rattle.link_model.specs.Frames.{all_accepted}
 use Rattle.link_model.specs.Segment.{RingFate}
-use Rattle.passed_whole.proofs.Founds.{AllFindNone, empty_was, late_tells, sees_empty, sees_late}
-use Rattle.passed_whole.specs.Led.{AreSingle, EraTurn, IsLed, MayTurn, frame_in, news_in, turn_after, turn_next}
+use Rattle.served_places.proofs.of_passed_whole.Founds.{AllFindNone, empty_was, late_tells, sees_empty, sees_late}
+use Rattle.served_places.specs.of_passed_whole.Led.{AreSingle, EraTurn, IsLed, MayTurn, frame_in, news_in, turn_after, turn_next}
 use Rattle.segment_model.proofs.Answers.{kept_of}
 use Rattle.segment_model.proofs.News.{heard_told, mails_heard-append}
 use Rattle.segment_model.proofs.Posts.{news-push}

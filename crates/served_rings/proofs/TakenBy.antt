@@ -7,9 +7,9 @@ use Rattle.exchange_model.specs.Exchange.{Exchange, IsLawful, Speech}
 use Rattle.life_model.specs.Lives.{passes}
 use Rattle.link_model.specs.Segment.{RingFate}
 use Rattle.link_model.specs.Slave.{node_look, node_takes}
-use Rattle.passed_whole.proofs.Founds.{AllFindNone, sees_empty, sees_late}
-use Rattle.passed_whole.proofs.Passings.{boxed, counted_same, counted_told, sends, sent, sent_boxed, skips, waiting}
-use Rattle.passed_whole.specs.Led.{counted_news}
+use Rattle.served_places.proofs.of_passed_whole.Founds.{AllFindNone, sees_empty, sees_late}
+use Rattle.served_places.proofs.of_passed_whole.Passings.{boxed, counted_same, counted_told, sends, sent, sent_boxed, skips, waiting}
+use Rattle.served_places.specs.of_passed_whole.Led.{counted_news}
 use Rattle.segment_model.proofs.Links.{served_server}
 use Rattle.segment_model.proofs.Written.{all_written-append, all_written-back, all_written-told, has_written, mails_told, mails_told-append, told_told}
 use Rattle.segment_model.specs.Ends.{Passing, all_written}

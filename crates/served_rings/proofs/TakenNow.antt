@@ -11,9 +11,9 @@ use Rattle.exchange_model.proofs.Words.{after-append}
 use Rattle.exchange_model.specs.Exchange.{Exchange, IsLawful, after, given, plain}
 use Rattle.exchange_model.specs.Prefix.{IsPrefixOf}
 use Rattle.exchange_model.specs.Rows.{Row, left, services, told_all}
-use Rattle.life_counts.proofs.Steps.{started_services}
-use Rattle.life_counts.specs.Epochs.{newest_of}
-use Rattle.life_counts.proofs.Marks.{newest_last}
+use Rattle.run_work.proofs.of_life_counts.Steps.{started_services}
+use Rattle.run_work.specs.of_life_counts.Epochs.{newest_of}
+use Rattle.run_work.proofs.of_life_counts.Marks.{newest_last}
 use Rattle.link_model.specs.Mails.{LinkMail}
 use Rattle.segment_model.proofs.Answers.{Open, OpenNow}
 use Rattle.segment_model.proofs.Handed.{Facts, NowFacts, PostNow}

@@ -5,20 +5,20 @@ use Rattle.std.proofs.lemmas.Bool.Decides.{leb_tells}
 use Rattle.eoe_model.specs.Client as EoeClient
 use Rattle.exchange_model.specs.Exchange.{plain}
 use Rattle.exchange_model.specs.Rows.{Row}
-use Rattle.life_counts.proofs.TaggedWhole.{seeing_lawful, seeing_stated}
-use Rattle.life_counts.specs.Epochs.{IsSpeaker, IsSeen, between, era_named, newest_of, seeing, seeing_states}
-use Rattle.life_counts.specs.Seen.{service_seen}
+use Rattle.run_work.proofs.of_life_counts.TaggedWhole.{seeing_lawful, seeing_stated}
+use Rattle.run_work.specs.of_life_counts.Epochs.{IsSpeaker, IsSeen, between, era_named, newest_of, seeing, seeing_states}
+use Rattle.run_work.specs.of_life_counts.Seen.{service_seen}
 use Rattle.life_model.specs.Lives.{Spot, Era}
 use Rattle.link_mails.specs.Body.{Body}
 use Rattle.mailbox_mail.specs.Mail.{error_of}
 use Rattle.mailbox_mail.specs.declared.mail.Mail.{Mail}
 use Rattle.master_duty.specs.Reply.{Reply}
-use Rattle.master_hand.specs.Spoken as Spoken
-use Rattle.master_hand.specs.Spoken.{Asked, emission, passed}
-use Rattle.passed_whole.proofs.Clients.{plain_untag}
-use Rattle.passed_whole.specs.Client.{ByContents}
-use Rattle.passed_whole.specs.Erased.{OfRow}
-use Rattle.passed_whole.specs.Silent.{is_passed}
+use Rattle.run_work.specs.of_master_hand.Spoken as Spoken
+use Rattle.run_work.specs.of_master_hand.Spoken.{Asked, emission, passed}
+use Rattle.served_places.proofs.of_passed_whole.Clients.{plain_untag}
+use Rattle.served_places.specs.of_passed_whole.Client.{ByContents}
+use Rattle.served_places.specs.of_passed_whole.Erased.{OfRow}
+use Rattle.served_places.specs.of_passed_whole.Silent.{is_passed}
 use Rattle.run_work.specs.Sessions.{Meant, Wanted, named_wanted}
 use Rattle.segment_model.proofs.Rising.{RisesNow}
 use Rattle.segment_model.specs.Ends.{Outcome, Passing}

@@ -9,7 +9,7 @@ use Rattle.life_model.specs.Lives.{Spot, Era}
 use Rattle.link_mails.specs.Body.{Body}
 use Rattle.link_model.specs.Segment.{RingFate}
 use Rattle.master_duty.specs.Reply.{Reply}
-use Rattle.master_hand.specs.Spoken.{Asked, is_followed}
+use Rattle.run_work.specs.of_master_hand.Spoken.{Asked, is_followed}
 use Rattle.plan_ring.specs.Asked.{asked}
 use Rattle.plan_ring.specs.Epochs.{IsTold}
 use Rattle.segment_model.specs.Laws.{EachSeat, AllAnswered}
@@ -22,11 +22,11 @@ use Rattle.served_rings.specs.Speakers.{spoken, spoken_states, processor_of, tab
 use Rattle.served_rings.specs.ToldEras.{unpassed_era, unpassed_side}
 use Rattle.served_rings.proofs.Unpassed as Unpassed
 use Rattle.served_rings.proofs.Unpassed.{AreBegun, silent, next_begun, back_begun, rows_keys}
-use Rattle.slave_lives.specs.Lived.{Behind}
+use Rattle.plan_ring.specs.of_slave_lives.Lived.{Behind}
 use Rattle.slave_model.specs.Profile.{Profile}
 use Rattle.slave_parts.specs.Parts.{Core, Server}
 use Rattle.slave_parts.specs.of_eoe_model.Network.{Station}
-use Rattle.slave_server.specs.Serving.{Serving}
+use Rattle.plan_ring.specs.of_slave_server.Serving.{Serving}
 use Rattle.state_exchange.specs.Families.{InState}
 use Rattle.state_exchange.specs.Stated.{Stated}
 use Rattle.state_model.specs.States.{Table}

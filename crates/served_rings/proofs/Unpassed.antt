@@ -10,7 +10,7 @@ use Rattle.link_model.specs.Frames.{all_accepted}
 use Rattle.link_model.specs.Mails.{LinkMail}
 use Rattle.link_model.specs.Master.{out_hold}
 use Rattle.master_duty.specs.Reply.{Reply}
-use Rattle.master_hand.specs.Spoken.{Asked, sdo, file, drive, net, passed, hand_speech, handed, valid}
+use Rattle.run_work.specs.of_master_hand.Spoken.{Asked, sdo, file, drive, net, passed, hand_speech, handed, valid}
 use Rattle.plan_ring.specs.Asked.{asked}
 use Rattle.segment_model.specs.Seats.{Side, Choice, is_none_left, is_over, newest, next_mail, rows_of, side_back, side_begins, side_holds, side_next}
 use Rattle.segment_model.specs.Slaves.{Datagram, grams}

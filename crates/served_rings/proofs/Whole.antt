@@ -5,10 +5,10 @@ use Rattle.std.proofs.lemmas.List.Elements.{All-head, All-tail}
 use Rattle.frame_view.specs.View.{Lens}
 use Rattle.served_rings.specs.LedRings.{AllLedMembers}
 use Rattle.life_model.specs.Lives.{Life, Spot}
-use Rattle.life_runs.specs.First.{lens_of, spot_of}
+use Rattle.served_runs.specs.of_life_runs.First.{lens_of, spot_of}
 use Rattle.link_mails.specs.Body.{Body}
 use Rattle.master_duty.specs.Reply.{Reply}
-use Rattle.master_hand.specs.Spoken.{Asked, is_followed, is_passed}
+use Rattle.run_work.specs.of_master_hand.Spoken.{Asked, is_followed, is_passed}
 use Rattle.plan_ring.specs.Plan.{AllMacs, plan_of}
 use Rattle.served_rings.specs.Speakers.{cleared_whole, processor_of, seer_of, speaker, spoken, table_of}
 use Rattle.served_rings.proofs.Fair.{life_fair}
@@ -24,8 +24,8 @@ use Rattle.served_runs.specs.Came.{HasServed}
 use Rattle.served_runs.specs.Served.{Serves}
 use Rattle.slave_model.specs.Profile.{Profile, IsProfile}
 use Rattle.slave_parts.specs.Parts.{Server}
-use Rattle.slave_server.specs.Serving.{Serving}
-use Rattle.slave_server.specs.Spec.{profile_of}
+use Rattle.plan_ring.specs.of_slave_server.Serving.{Serving}
+use Rattle.plan_ring.specs.of_slave_server.Spec.{profile_of}
 use Rattle.slave_steps.specs.Node.{Node}
 use Rattle.state_exchange.specs.Families.{InState}
 use Rattle.served_rings.specs.Rings.{AllServedAt, counters_of, served_members}

@@ -1,6 +1,6 @@
 -- What the lives of a serving have gained, and the frames that count as lost, against the frame bound.
 use Rattle.std.proofs.Common.{◌≡◌, ℕ, ◌+◌, ◌-◌, ◌*◌, ◌≤◌, List, [], ◌∷◌, arith}
-use Rattle.run_frames.specs.Fates.{gained_in}
+use Rattle.run_work.specs.of_run_frames.Fates.{gained_in}
 use Rattle.run_work.specs.ServedGained.{served_in, leads_of}
 use Rattle.served_runs.specs.Served.{Serves}
 

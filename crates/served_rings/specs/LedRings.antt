@@ -4,8 +4,8 @@ use Rattle.served_rings.specs.Lives.{IsLedLived, news_of, recorded_of}
 use Rattle.link_mails.specs.Body.{Body}
 use Rattle.news_kept.specs.Counts.{counts_on, kept_on}
 use Rattle.segment_model.specs.Record.{Frame, Kept}
-use Rattle.whole_ring.specs.Members.{Member}
-use Rattle.whole_ring.specs.Turning.{Turn}
+use Rattle.plan_ring.specs.of_whole_ring.Members.{Member}
+use Rattle.plan_ring.specs.of_whole_ring.Turning.{Turn}
 
 -- what a record keeps of a slave: the counters of the last mail told and heard, and whether an empty read counts
 pub record Counters : Type 0 where

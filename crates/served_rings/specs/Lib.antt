@@ -1,3 +1,6 @@
+pub use Rattle.served_runs.specs as of_served_runs
+pub use Rattle.few_replies.specs as of_few_replies
+pub use Rattle.served_places.specs as of_served_places
 pub mod Clearing
 pub mod Counters
 pub mod Given

@@ -11,10 +11,10 @@ use Rattle.link_model.specs.Segment.{RingFate}
 use Rattle.master_side.specs.Passing.{news_back, news_lost}
 use Rattle.segment_model.specs.Record.{Frame, News, Kept}
 use Rattle.segment_model.specs.Slaves.{Datagram}
-use Rattle.slave_lives.specs.Lived.{Behind, RingFrame, octets_back}
-use Rattle.slave_lives.specs.Opening.{Plan}
+use Rattle.plan_ring.specs.of_slave_lives.Lived.{Behind, RingFrame, octets_back}
+use Rattle.plan_ring.specs.of_slave_lives.Opening.{Plan}
 use Rattle.slave_steps.specs.Node.{Node}
-use Rattle.whole_ring.specs.Whole.{IsLivedBy}
+use Rattle.plan_ring.specs.of_whole_ring.Whole.{IsLivedBy}
 
 module _ {S V A Q R : Type 0} (w : Behind S V A Q R) (more : Body → Bool) (passed : Q → Bool) (spot : Spot) where
   -- an open slave's epoch, with those counters

@@ -4,11 +4,11 @@ use Rattle.book_model.specs.Script.{life_started}
 use Rattle.frame_view.specs.View.{Lens}
 use Rattle.frames_seen.specs.Slaves.{registers_seen}
 use Rattle.life_model.specs.Lives.{Era, Stand}
-use Rattle.life_runs.specs.First.{lens_of, script_for}
-use Rattle.life_runs.specs.Led.{speech_at}
+use Rattle.served_runs.specs.of_life_runs.First.{lens_of, script_for}
+use Rattle.served_runs.specs.of_life_runs.Led.{speech_at}
 use Rattle.link_mails.specs.Body.{Body}
 use Rattle.master_duty.specs.Reply.{Reply}
-use Rattle.master_hand.specs.Spoken.{Asked}
+use Rattle.run_work.specs.of_master_hand.Spoken.{Asked}
 use Rattle.run_work.specs.Lives.{first_server}
 use Rattle.segment_model.specs.Laws.{WantsNothing}
 use Rattle.segment_plan.specs.declared.plan.Scenario.{Scenario}
@@ -20,8 +20,8 @@ use Rattle.served_runs.specs.Came.{AreAmong, ServedCame}
 use Rattle.served_runs.specs.Served.{Keyed, Serves}
 use Rattle.slave_model.specs.Profile.{Profile}
 use Rattle.slave_parts.specs.Parts.{Server}
-use Rattle.slave_server.specs.Serving.{Serving, next_mail}
-use Rattle.slave_server.specs.Spec.{profile_of}
+use Rattle.plan_ring.specs.of_slave_server.Serving.{Serving, next_mail}
+use Rattle.plan_ring.specs.of_slave_server.Spec.{profile_of}
 use Rattle.slave_steps.specs.Node.{Node, is_settled}
 use Rattle.state_exchange.specs.Families.{InState}
 

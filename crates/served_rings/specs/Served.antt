@@ -9,7 +9,7 @@ use Rattle.life_model.specs.Lives.{Era, Life, Stand}
 use Rattle.link_mails.specs.Body.{Body}
 use Rattle.mailbox_mail.specs.declared.mail.Mail.{Mail}
 use Rattle.master_duty.specs.Reply.{Reply}
-use Rattle.master_hand.specs.Spoken.{Asked, emission, net, passed}
+use Rattle.run_work.specs.of_master_hand.Spoken.{Asked, emission, net, passed}
 use Rattle.served_rings.specs.Speakers.{cleared_whole, spoken, table_of}
 use Rattle.run_work.specs.Lives.{first_server}
 use Rattle.segment_model.specs.Ends.{Passing}
@@ -19,8 +19,8 @@ use Rattle.segment_plan.specs.declared.slave.SlaveSpec.{SlaveSpec}
 use Rattle.served_runs.specs.Served.{Serves}
 use Rattle.slave_model.specs.Profile.{Profile}
 use Rattle.slave_parts.specs.Parts.{Server}
-use Rattle.slave_server.specs.Serving.{Serving, next_mail}
-use Rattle.slave_server.specs.Spec.{profile_of}
+use Rattle.plan_ring.specs.of_slave_server.Serving.{Serving, next_mail}
+use Rattle.plan_ring.specs.of_slave_server.Spec.{profile_of}
 use Rattle.slave_steps.specs.Node.{Node, is_settled}
 use Rattle.state_exchange.specs.Families.{InState}
 use Rattle.state_exchange.specs.Stated.{Service}

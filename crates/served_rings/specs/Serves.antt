@@ -2,14 +2,14 @@
 use Rattle.std.specs.Prelude.{ℕ, Bool}
 use Rattle.frame_view.specs.View.{Lens}
 use Rattle.master_duty.specs.Reply.{Reply}
-use Rattle.master_hand.specs.Spoken.{Asked}
+use Rattle.run_work.specs.of_master_hand.Spoken.{Asked}
 use Rattle.served_rings.specs.Speakers.{spoken, spoken_states, processor_of}
 use Rattle.plan_ring.specs.Real.{running_as}
-use Rattle.slave_lives.specs.Lived.{Behind}
+use Rattle.plan_ring.specs.of_slave_lives.Lived.{Behind}
 use Rattle.slave_model.specs.Profile.{Profile}
 use Rattle.slave_parts.specs.Parts.{Server}
-use Rattle.slave_server.specs.Seen.{seen_in}
-use Rattle.slave_server.specs.Serving.{Serving}
+use Rattle.plan_ring.specs.of_slave_server.Seen.{seen_in}
+use Rattle.plan_ring.specs.of_slave_server.Serving.{Serving}
 use Rattle.state_exchange.specs.Families.{InState}
 
 -- in a session with that master

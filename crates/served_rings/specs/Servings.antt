@@ -1,14 +1,14 @@
 -- THE FRAMES OF A PLAN'S SERVING.
 use Rattle.std.specs.Prelude.{ℕ, ◌+◌, ◌*◌, ◌≤◌, Option, List, length}
-use Rattle.life_runs.specs.First.{lens_of, first_leads}
-use Rattle.life_runs.specs.Led.{Exchanged}
+use Rattle.served_runs.specs.of_life_runs.First.{lens_of, first_leads}
+use Rattle.served_runs.specs.of_life_runs.Led.{Exchanged}
 use Rattle.link_mails.specs.Body.{Body}
 use Rattle.master_duty.specs.Reply.{Reply}
-use Rattle.master_hand.specs.Spoken.{Asked}
+use Rattle.run_work.specs.of_master_hand.Spoken.{Asked}
 use Rattle.plan_ring.specs.Round.{ring_of, AllRound}
-use Rattle.run_frames.specs.Clocks.{Clocked}
-use Rattle.run_frames.specs.Fates.{lost_of}
-use Rattle.run_frames.specs.Runs.{Progress}
+use Rattle.run_work.specs.of_run_frames.Clocks.{Clocked}
+use Rattle.run_work.specs.of_run_frames.Fates.{lost_of}
+use Rattle.run_work.specs.of_run_frames.Runs.{Progress}
 use Rattle.run_work.specs.ServedGained.{asked_in}
 use Rattle.segment_plan.specs.Bound.{slowest}
 use Rattle.segment_plan.specs.declared.plan.Scenario.{Scenario}

@@ -3,7 +3,7 @@ use Rattle.std.specs.Prelude.{ℕ, Bool, true, Ok}
 use Rattle.exchange_model.specs.Exchange.{Exchange}
 use Rattle.link_mails.specs.Body.{Body}
 use Rattle.master_duty.specs.Reply as Master
-use Rattle.master_hand.specs.Spoken as Spoken
+use Rattle.run_work.specs.of_master_hand.Spoken as Spoken
 use Rattle.segment_model.specs.Slaves.{Processor}
 use Rattle.serving_model.specs.Tagged.{Asked, untag, asked_full, asked_exec, asked_reply, asked_emits}
 use Rattle.serving_model.specs.TaggedStates.{told_state}
@@ -14,14 +14,14 @@ use Rattle.slave_model.specs.Server.{Reply}
 use Rattle.slave_parts.specs.Parts.{Core, Server, parts}
 use Rattle.slave_parts.specs.of_eoe_model.Network.{Station}
 use Rattle.slave_served.specs.Served.{product_whole}
-use Rattle.slave_server.specs.Serving.{fresh}
+use Rattle.plan_ring.specs.of_slave_server.Serving.{fresh}
 use Rattle.state_exchange.specs.Families.{InState, states_of}
 use Rattle.state_exchange.specs.Stated.{Stated}
 use Rattle.state_law.specs.Shows.{slave_table}
 use Rattle.state_model.specs.States.{Table, carry}
 use Rattle.run_work.specs.Sessions.{OwnService, Wanted, InRow, named_wanted}
-use Rattle.life_counts.specs.Epochs.{Speaker}
-use Rattle.life_counts.specs.Spoken.{Naming}
+use Rattle.run_work.specs.of_life_counts.Epochs.{Speaker}
+use Rattle.run_work.specs.of_life_counts.Spoken.{Naming}
 
 -- the AL state of the whole server
 abbrev pub whole_states : Stated (InState Server) (InState Server) OwnService

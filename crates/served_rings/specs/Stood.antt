@@ -3,10 +3,10 @@
 use Rattle.std.specs.Prelude.{◌≡◌, ℕ, Bool, Option, Some, List, [], ◌∷◌, ◌++◌, ⊤}
 use Rattle.frames_seen.specs.Slaves.{registers_seen}
 use Rattle.life_model.specs.Lives.{Era, Life, Stand}
-use Rattle.life_runs.specs.Led.{Exchanged}
+use Rattle.served_runs.specs.of_life_runs.Led.{Exchanged}
 use Rattle.link_mails.specs.Body.{Body}
 use Rattle.master_duty.specs.Reply.{Reply}
-use Rattle.master_hand.specs.Spoken.{Asked}
+use Rattle.run_work.specs.of_master_hand.Spoken.{Asked}
 use Rattle.plan_ring.specs.Round.{ring_after, ring_of}
 use Rattle.run_work.specs.Lives.{first_server}
 use Rattle.segment_plan.specs.declared.plan.Scenario.{Scenario}
@@ -17,8 +17,8 @@ use Rattle.served_rings.specs.StoodLives.{IsFirst, LeftOpen, others}
 use Rattle.served_runs.specs.Served.{Serves}
 use Rattle.slave_model.specs.Profile.{Profile}
 use Rattle.slave_parts.specs.Parts.{Server}
-use Rattle.slave_server.specs.Serving.{Serving}
-use Rattle.slave_server.specs.Spec.{profile_of}
+use Rattle.plan_ring.specs.of_slave_server.Serving.{Serving}
+use Rattle.plan_ring.specs.of_slave_server.Spec.{profile_of}
 use Rattle.slave_steps.specs.Node.{Node}
 use Rattle.state_exchange.specs.Families.{InState}
 

@@ -2,7 +2,7 @@
 use Rattle.std.specs.Prelude.{◌≡◌, ◌⊎◌, true, List, []}
 use Rattle.exchange_model.specs.Exchange.{plain}
 use Rattle.link_mails.specs.Body.{Body}
-use Rattle.master_hand.specs.Spoken.{is_followed}
+use Rattle.run_work.specs.of_master_hand.Spoken.{is_followed}
 use Rattle.serving_model.specs.Passing.{ends_told}
 use Rattle.slave_model.specs.Product.{emission}
 

@@ -4,10 +4,10 @@ use Rattle.std.specs.Prelude.{◌≡◌, ◌≢◌, ℕ, suc, ◌<◌, ◌≤◌
 use Rattle.exchange_model.specs.Rows.{Row, heard_all}
 use Rattle.life_model.specs.Eras.{era_frames}
 use Rattle.life_model.specs.Lives.{Spot, Era, Life, Stand}
-use Rattle.life_runs.specs.First.{lens_of, spot_of}
+use Rattle.served_runs.specs.of_life_runs.First.{lens_of, spot_of}
 use Rattle.link_mails.specs.Body.{Body}
 use Rattle.master_duty.specs.Reply.{Reply}
-use Rattle.master_hand.specs.Spoken.{Asked, is_followed, is_passed}
+use Rattle.run_work.specs.of_master_hand.Spoken.{Asked, is_followed, is_passed}
 use Rattle.plan_ring.specs.Asked.{asked}
 use Rattle.plan_ring.specs.Epochs.{IsTold}
 use Rattle.segment_model.specs.Record.{Frame, heard}
@@ -15,8 +15,8 @@ use Rattle.segment_model.specs.Seats.{Side, rows_of}
 use Rattle.segment_plan.specs.declared.plan.Scenario.{Scenario}
 use Rattle.segment_plan.specs.declared.slave.SlaveSpec.{SlaveSpec}
 use Rattle.served_runs.specs.Served.{Serves}
-use Rattle.slave_lives.specs.Lived.{Behind}
-use Rattle.slave_server.specs.Spec.{profile_of}
+use Rattle.plan_ring.specs.of_slave_lives.Lived.{Behind}
+use Rattle.plan_ring.specs.of_slave_server.Spec.{profile_of}
 
 -- the answer of a row, but of none by which a mail is passed on
 abbrev pub unpassed_answer : Asked → Option (Reply × ℕ) → Option (Reply × ℕ)

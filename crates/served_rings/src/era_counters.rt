@@ -8,7 +8,7 @@ ghost use Rattle.link_mails.specs.Body.{Body};
 ghost use Rattle.link_model.specs.Segment.{RingFate};
 ghost use Rattle.master_side.specs.Passing.{news_back, news_lost};
 ghost use Rattle.news_kept.specs.Counts as Record;
-ghost use Rattle.passed_whole.specs.Led.{EraTurn, counts_behind, frame_in, has_step, news_in};
+ghost use Rattle.served_places.specs.of_passed_whole.Led.{EraTurn, counts_behind, frame_in, has_step, news_in};
 ghost use Rattle.segment_model.specs.Record.{Frame, Kept, kept_after, nothing_kept};
 ghost use Rattle.segment_model.specs.Slaves.{Slave, ring_back};
 ghost use Rattle.served_rings.specs.Counters.{IsCounted};

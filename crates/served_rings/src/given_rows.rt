@@ -6,14 +6,14 @@ ghost use Rattle.exchange_model.specs.Rows.{Row};
 ghost use Rattle.life_model.specs.Lives.{Life};
 ghost use Rattle.link_mails.specs.Body.{Body};
 ghost use Rattle.master_duty.specs.Reply.{Reply};
-ghost use Rattle.master_hand.specs.Spoken.{Asked};
+ghost use Rattle.run_work.specs.of_master_hand.Spoken.{Asked};
 ghost use Rattle.segment_model.specs.Ends.{Passing};
 ghost use Rattle.served_places.specs.Rows.{passed_rows, passings};
 ghost use Rattle.served_rings.specs.Given.{AllGiven, Given, IsGiven, given};
 ghost use Rattle.served_rings.specs.Served.{IsServedLife};
 ghost use Rattle.slave_model.specs.Profile.{Profile};
 ghost use Rattle.slave_parts.specs.Parts.{Server};
-ghost use Rattle.slave_server.specs.Serving.{Serving};
+ghost use Rattle.plan_ring.specs.of_slave_server.Serving.{Serving};
 ghost use Rattle.slave_steps.specs.Node.{Node};
 ghost use Rattle.state_exchange.specs.Families.{InState};
 

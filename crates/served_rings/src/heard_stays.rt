@@ -2,8 +2,8 @@
 //! nothing, and its contract states the law.
 
 ghost use Rattle.std.specs.Prelude.{◌∷◌, ◌++◌, ℕ, All, [], List, length};
-ghost use Rattle.life_runs.specs.First.{first_leads, lens_of};
-ghost use Rattle.life_runs.specs.Led.{Exchanged};
+ghost use Rattle.served_runs.specs.of_life_runs.First.{first_leads, lens_of};
+ghost use Rattle.served_runs.specs.of_life_runs.Led.{Exchanged};
 ghost use Rattle.plan_ring.specs.Lives.{IsKnown};
 ghost use Rattle.plan_ring.specs.Round.{AllRound, ring_of};
 ghost use Rattle.segment_plan.specs.Sound.{IsPlan};

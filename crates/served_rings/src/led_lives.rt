@@ -9,13 +9,13 @@ ghost use Rattle.link_mails.specs.Body.{Body};
 ghost use Rattle.news_kept.specs.Counts.{counts_on, kept_on};
 ghost use Rattle.segment_model.specs.Record.{Frame, Kept};
 ghost use Rattle.segment_model.specs.Slaves.{Found};
-ghost use Rattle.slave_lives.specs.Lived.{Behind, RingFrame, frame_of, node_behind};
-ghost use Rattle.slave_lives.specs.Opening.{Plan};
-ghost use Rattle.slave_lives.specs.Seats.{KnownAs};
+ghost use Rattle.plan_ring.specs.of_slave_lives.Lived.{Behind, RingFrame, frame_of, node_behind};
+ghost use Rattle.plan_ring.specs.of_slave_lives.Opening.{Plan};
+ghost use Rattle.plan_ring.specs.of_slave_lives.Seats.{KnownAs};
 ghost use Rattle.slave_steps.specs.Node.{Node, new_node};
 ghost use Rattle.task_model.specs.Accounts.{Pick};
-ghost use Rattle.whole_ring.specs.Turns.{FrameComes, TurnsAs, life_by, plan_at};
-ghost use Rattle.whole_ring.specs.Whole.{IsWhole};
+ghost use Rattle.plan_ring.specs.of_whole_ring.Turns.{FrameComes, TurnsAs, life_by, plan_at};
+ghost use Rattle.plan_ring.specs.of_whole_ring.Whole.{IsWhole};
 
 /// SO A LIFE IS LIVED from the moment the slave is switched on; by each frame that the ring exchanges, with the record's news of it and the record's counters
 /// behind it; and where the slave is given up, for good or not. What is known of its node is what the law of a ring's seats asks for.

@@ -13,8 +13,8 @@ ghost use Rattle.segment_model.specs.Record.{Frame};
 ghost use Rattle.segment_ring.specs.Ring.{RingState};
 ghost use Rattle.segment_ring.specs.Schedule.{fate_at};
 ghost use Rattle.slave_steps.specs.Node.{Node};
-ghost use Rattle.whole_ring.specs.Members.{AllNew, IsRing, Member, Passes};
-ghost use Rattle.whole_ring.specs.Turning.{AllTurn, Turn, behind_frame, frame_at};
+ghost use Rattle.plan_ring.specs.of_whole_ring.Members.{AllNew, IsRing, Member, Passes};
+ghost use Rattle.plan_ring.specs.of_whole_ring.Turning.{AllTurn, Turn, behind_frame, frame_at};
 
 /// THE LIVES OF A RING'S SLAVES ARE LED from the moment these are switched on; and by each exchange of a frame that the master made, where mails that are passed
 /// on go on by the news that the records say of it; and the records' counters are those that stand behind it. Each epoch begins with what its slave had, cleared,

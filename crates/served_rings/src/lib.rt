@@ -2,8 +2,8 @@
 //! a law, no running code: the function here does nothing, and its contract states the law.
 #![tactic(auto)]
 
-ghost use Rattle.life_runs.specs.First.{first_leads, lens_of};
-ghost use Rattle.life_runs.specs.Led.{Exchanged};
+ghost use Rattle.served_runs.specs.of_life_runs.First.{first_leads, lens_of};
+ghost use Rattle.served_runs.specs.of_life_runs.Led.{Exchanged};
 ghost use Rattle.plan_ring.specs.Lives.{IsKnown};
 ghost use Rattle.plan_ring.specs.Round.{AllRound, ring_of};
 ghost use Rattle.run_work.specs.Fair.{AsksFair};

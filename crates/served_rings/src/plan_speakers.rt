@@ -6,8 +6,8 @@ ghost use Rattle.frame_view.specs.View.{Lens};
 ghost use Rattle.life_model.specs.Lives.{Spot, Life};
 ghost use Rattle.link_mails.specs.Body.{Body};
 ghost use Rattle.master_duty.specs.Reply.{Reply};
-ghost use Rattle.master_hand.specs.Spoken.{Asked};
-ghost use Rattle.passed_whole.specs.Clearing.{Forgets};
+ghost use Rattle.run_work.specs.of_master_hand.Spoken.{Asked};
+ghost use Rattle.served_places.specs.of_passed_whole.Clearing.{Forgets};
 ghost use Rattle.served_rings.specs.SeenLed.{IsFairLife, IsLedLife};
 ghost use Rattle.run_work.specs.Fair.{AsksFair};
 ghost use Rattle.run_work.specs.Lives.{IsServedLife};
@@ -17,7 +17,7 @@ ghost use Rattle.slave_model.specs.Profile.{Profile, IsProfile};
 ghost use Rattle.slave_parts.specs.Parts.{Server};
 ghost use Rattle.state_exchange.specs.Families.{InState};
 ghost use Rattle.state_exchange.specs.Stated.{IsStated};
-ghost use Rattle.life_counts.specs.Epochs.{IsSpeaker, IsRun};
+ghost use Rattle.run_work.specs.of_life_counts.Epochs.{IsSpeaker, IsRun};
 ghost use Rattle.served_rings.specs.Speakers.{any_speaker, speaker, spoken, spoken_states, table_of, processor_of, seer_of, cleared_whole};
 
 /// A SLAVE OF A PLAN AND ITS MASTER keep the laws of both: the server owes those of its services and of its AL state in whatever state it is, with fair mails

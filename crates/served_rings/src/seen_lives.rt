@@ -5,12 +5,12 @@ ghost use Rattle.std.specs.Prelude.{ℕ, Option, List};
 ghost use Rattle.exchange_model.specs.Exchange.{Exchange};
 ghost use Rattle.life_model.specs.Eras.{EraIs};
 ghost use Rattle.life_model.specs.Lives.{Spot, Era, Life};
-ghost use Rattle.passed_whole.specs.Clearing.{InRow, Forgets};
+ghost use Rattle.served_places.specs.of_passed_whole.Clearing.{InRow, Forgets};
 ghost use Rattle.segment_model.specs.Record.{Frame};
 ghost use Rattle.segment_model.specs.Slaves.{Registers, Processor, Slave};
 ghost use Rattle.serving_model.specs.Tagged.{Tagged, Asked, Rowed};
 ghost use Rattle.state_model.specs.States.{Table};
-ghost use Rattle.life_counts.specs.Epochs.{Speaker, IsSpeaker, IsRun, between, seeing, seeing_states};
+ghost use Rattle.run_work.specs.of_life_counts.Epochs.{Speaker, IsSpeaker, IsRun, between, seeing, seeing_states};
 ghost use Rattle.served_rings.specs.SeenLed.{IsFairLife, IsSeenLife, IsLedLife};
 
 /// AT EACH MOMENT OF SUCH A SESSION its server is between rows or in one: the mails that it took of the row in hand are the first of its service's.

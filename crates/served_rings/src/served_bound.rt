@@ -1,13 +1,13 @@
 //! The frames of a serving of a plan are fewer than the frame bound. Definitions and a law, no running code: the function here does nothing, and its contract
 //! states the law.
 
-ghost use Rattle.life_runs.specs.Led.{Exchanged};
+ghost use Rattle.served_runs.specs.of_life_runs.Led.{Exchanged};
 ghost use Rattle.link_mails.specs.Body.{Body};
 ghost use Rattle.master_duty.specs.Reply.{Reply};
-ghost use Rattle.master_hand.specs.Spoken.{Asked};
+ghost use Rattle.run_work.specs.of_master_hand.Spoken.{Asked};
 ghost use Rattle.plan_ring.specs.Lives.{IsKnown};
-ghost use Rattle.run_frames.specs.Clocks.{Clocked};
-ghost use Rattle.run_frames.specs.Runs.{Progress};
+ghost use Rattle.run_work.specs.of_run_frames.Clocks.{Clocked};
+ghost use Rattle.run_work.specs.of_run_frames.Runs.{Progress};
 ghost use Rattle.run_work.specs.Fair.{AsksFair};
 ghost use Rattle.run_work.specs.ServedGained.{asked_in, leads_of};
 ghost use Rattle.run_work.specs.Switched.{AreSwitched};

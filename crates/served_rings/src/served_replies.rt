@@ -2,12 +2,12 @@
 //! running code: the function here does nothing, and its contract states the law.
 
 ghost use Rattle.std.specs.Prelude.{◌≡◌, ◌∷◌, ℕ, suc, Bool, false, [], List};
-ghost use Rattle.life_runs.specs.First.{first_leads, lens_of};
-ghost use Rattle.life_runs.specs.Led.{Exchanged};
+ghost use Rattle.served_runs.specs.of_life_runs.First.{first_leads, lens_of};
+ghost use Rattle.served_runs.specs.of_life_runs.Led.{Exchanged};
 ghost use Rattle.link_mails.specs.Body.{Body};
 ghost use Rattle.mailbox_mail.specs.declared.mail.Kind.{Kind};
 ghost use Rattle.mailbox_mail.specs.declared.mail.Mail.{Mail};
-ghost use Rattle.master_hand.specs.Spoken.{passed};
+ghost use Rattle.run_work.specs.of_master_hand.Spoken.{passed};
 ghost use Rattle.plan_ring.specs.Lives.{IsKnown};
 ghost use Rattle.plan_ring.specs.Round.{AllRound, ring_of};
 ghost use Rattle.segment_plan.specs.Sound.{IsPlan};

@@ -4,15 +4,15 @@ use Rattle.std.specs.Prelude.{◌&&◌, ◌==◌, if◌then◌else◌, All}
 use Rattle.std.proofs.lemmas.List.Elements.{All-nil, All-cons, All-head, All-tail}
 use Rattle.book_model.specs.Script.{eras_started, life_started}
 use Rattle.book_model.proofs.Scripts.{back_same, lost_same}
-use Rattle.life_frames.specs.of_exchange_model.Exchange.{Speech}
-use Rattle.life_frames.specs.of_life_model.Lives.{Spot, Life, Stand, Opening, granted, life_next, life_back, life_lost, era_back, opening_back, shows_clear, last_step, is_shown, clears, opens, steps_on, reopens, reopens_at, returns_to_init, reopening, opens_state}
-use Rattle.life_frames.specs.of_segment_model.Ends.{Passing}
-use Rattle.life_frames.specs.of_segment_model.Record.{News}
-use Rattle.life_frames.specs.of_segment_model.Slaves.{Datagram, Found}
-use Rattle.life_frames.specs.of_state_exchange.Stated.{Service}
-use Rattle.life_frames.specs.of_task_model.Accounts as Accounts
-use Rattle.life_frames.specs.of_task_model.Accounts.{Account, Duty, Pick, Started, account_begins}
-use Rattle.life_frames.specs.of_task_model.Promise.{services_in}
+use Rattle.life_runs.specs.of_life_frames.of_exchange_model.Exchange.{Speech}
+use Rattle.life_runs.specs.of_life_frames.of_life_model.Lives.{Spot, Life, Stand, Opening, granted, life_next, life_back, life_lost, era_back, opening_back, shows_clear, last_step, is_shown, clears, opens, steps_on, reopens, reopens_at, returns_to_init, reopening, opens_state}
+use Rattle.life_runs.specs.of_life_frames.of_segment_model.Ends.{Passing}
+use Rattle.life_runs.specs.of_life_frames.of_segment_model.Record.{News}
+use Rattle.life_runs.specs.of_life_frames.of_segment_model.Slaves.{Datagram, Found}
+use Rattle.life_runs.specs.of_life_frames.of_state_exchange.Stated.{Service}
+use Rattle.life_runs.specs.of_life_frames.of_task_model.Accounts as Accounts
+use Rattle.life_runs.specs.of_life_frames.of_task_model.Accounts.{Account, Duty, Pick, Started, account_begins}
+use Rattle.life_runs.specs.of_life_frames.of_task_model.Promise.{services_in}
 use Rattle.life_runs.specs.of_datagrams.Datagram as Raw
 use Rattle.life_runs.specs.of_frame_view.View.{Lens}
 use Rattle.life_runs.specs.of_frame_view.Seen.{seen}

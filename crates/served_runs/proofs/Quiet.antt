@@ -4,12 +4,12 @@ use Rattle.std.specs.Prelude.{◌&&◌, ◌%◌, nat_lt, if◌then◌else◌, Al
 use Rattle.std.proofs.lemmas.List.Elements.{All-head, All-tail}
 use Rattle.life_runs.specs.of_datagrams.Datagram as Raw
 use Rattle.life_runs.specs.of_eoe_model.Client as EoeClient
-use Rattle.life_frames.specs.of_exchange_model.Exchange.{Speech}
+use Rattle.life_runs.specs.of_life_frames.of_exchange_model.Exchange.{Speech}
 use Rattle.life_runs.specs.of_frame_view.View.{Lens}
 use Rattle.life_runs.specs.of_frame_view.Seen.{seen}
 use Rattle.life_runs.specs.of_life_frames.Shares.{Lived, AllBoth, given_where, came_at}
-use Rattle.life_frames.specs.of_life_model.Lives as Lives
-use Rattle.life_frames.specs.of_life_model.Lives.{Life, Spot, passes, era_back, life_back, life_lost, reopens}
+use Rattle.life_runs.specs.of_life_frames.of_life_model.Lives as Lives
+use Rattle.life_runs.specs.of_life_frames.of_life_model.Lives.{Life, Spot, passes, era_back, life_back, life_lost, reopens}
 use Rattle.life_runs.specs.of_link_mails.Body.{Body}
 use Rattle.life_runs.specs.of_master_duty.Reply.{Reply}
 use Rattle.life_runs.specs.of_master_hand.Spoken.{Asked, net, acknowledged, is_followed, is_passed}
@@ -18,10 +18,10 @@ use Rattle.life_runs.specs.of_segment_plan.declared.service.Service as Plan
 use Rattle.life_runs.specs.of_segment_ring.declared.wire.Fate.{Fate}
 use Rattle.life_runs.specs.of_segment_ring.declared.wire.Fate.TheVariants.{Pass, Lost}
 use Rattle.life_runs.specs.Led.{Comes, Exchanged, Leads, Turn, IsTurn, AllTurn, IsLed, gives_up_at, led_behind, life_behind, speech_at}
-use Rattle.life_frames.specs.of_segment_model.Record.{News}
-use Rattle.life_frames.specs.of_segment_model.Ends.{Passing}
-use Rattle.life_frames.specs.of_segment_model.Slaves.{Datagram, Found}
-use Rattle.life_frames.specs.of_state_exchange.Stated.{Service}
+use Rattle.life_runs.specs.of_life_frames.of_segment_model.Record.{News}
+use Rattle.life_runs.specs.of_life_frames.of_segment_model.Ends.{Passing}
+use Rattle.life_runs.specs.of_life_frames.of_segment_model.Slaves.{Datagram, Found}
+use Rattle.life_runs.specs.of_life_frames.of_state_exchange.Stated.{Service}
 use Rattle.master_tour.proofs.Unpassed.{unpassed_next, unpassed_back, unpassed_lost}
 use Rattle.served_runs.specs.Told.{Passed}
 use Rattle.served_runs.specs.Served.{Serves, ServedTurn, ServedComes, IsServedTurn, AllServedTurn, IsServedLed, IsQuiet, IsRunOf, all_serve, gives_it, served_behind, served_life}

@@ -4,9 +4,9 @@ use Rattle.life_runs.specs.of_link_mails.Body.{Body}
 use Rattle.life_runs.specs.of_master_hand.Spoken.{passed}
 use Rattle.life_runs.specs.of_segment_plan.declared.service.Service as Plan
 use Rattle.life_runs.specs.Led.{Leads}
-use Rattle.life_frames.specs.of_segment_model.Ends.{Passing}
-use Rattle.life_frames.specs.of_state_exchange.Stated.{Service}
-use Rattle.news_kept.specs.Counts.{counts_behind}
+use Rattle.life_runs.specs.of_life_frames.of_segment_model.Ends.{Passing}
+use Rattle.life_runs.specs.of_life_frames.of_state_exchange.Stated.{Service}
+use Rattle.master_tour.specs.of_news_kept.Counts.{counts_behind}
 use Rattle.served_runs.specs.Served.{Keyed, ServedComes, asked_at, new_serves}
 use Rattle.served_runs.specs.Told.{Passed, told_on}
 

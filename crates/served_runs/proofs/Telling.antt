@@ -2,8 +2,8 @@
 use Rattle.std.proofs.Common.{◌≡◌, ℕ, zero, suc, Bool, true, false, Option, Some, None, List, [], ◌∷◌, ◌++◌, map, length, refl, ap, sym, ◌∙◌, subst}
 use Rattle.std.specs.Prelude.{◌&&◌, if◌then◌else◌, All}
 use Rattle.std.proofs.lemmas.List.Elements.{All-nil, All-cons}
-use Rattle.life_frames.specs.of_life_model.Lives.{Life, life_lost, life_next}
-use Rattle.life_frames.specs.of_state_exchange.Stated.{Service}
+use Rattle.life_runs.specs.of_life_frames.of_life_model.Lives.{Life, life_lost, life_next}
+use Rattle.life_runs.specs.of_life_frames.of_state_exchange.Stated.{Service}
 use Rattle.life_runs.specs.of_datagrams.Datagram as Raw
 use Rattle.life_runs.specs.of_frame_view.View.{Lens}
 use Rattle.life_runs.specs.of_frame_view.Seen.{seen}

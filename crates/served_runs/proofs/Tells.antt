@@ -1,20 +1,20 @@
 -- What is told of a mail that is passed on are its own replies.
 use Rattle.std.proofs.Common.{◌≡◌, ℕ, Bool, true, false, Option, Some, None, List, [], ◌∷◌, ◌++◌, length, refl, ap, sym, ◌∙◌, subst, append_assoc, append-nil, length-append, arith, ◌+◌}
 use Rattle.std.specs.Prelude.{◌&&◌, is_some, option_map, if◌then◌else◌}
-use Rattle.life_frames.specs.of_exchange_model.Exchange.{Speech, plain}
-use Rattle.life_frames.specs.of_exchange_model.Rows.{Row, begun, row_told, row_heard}
+use Rattle.life_runs.specs.of_life_frames.of_exchange_model.Exchange.{Speech, plain}
+use Rattle.life_runs.specs.of_life_frames.of_exchange_model.Rows.{Row, begun, row_told, row_heard}
 use Rattle.exchange_model.proofs.Words.{plain-append}
-use Rattle.life_frames.specs.of_life_model.Lives as Lives
-use Rattle.life_frames.specs.of_life_model.Lives.{Life, Era, Spot, granted, passes, era_next, life_next, life_back, life_lost, reopens}
-use Rattle.life_frames.specs.of_life_model.Own as Own
-use Rattle.life_frames.specs.of_link_model.Frames.{all_accepted}
-use Rattle.life_frames.specs.of_segment_model.Ends.{Passing}
-use Rattle.life_frames.specs.of_segment_model.Record.{News}
-use Rattle.life_frames.specs.of_segment_model.Seats.{Side, side_begins, side_holds, side_next, next_mail, is_over}
-use Rattle.life_frames.specs.of_segment_model.Slaves.{Datagram, Found, grams}
-use Rattle.life_frames.specs.of_state_exchange.Stated.{Service}
-use Rattle.life_frames.specs.of_task_model.Accounts as Accounts
-use Rattle.life_frames.specs.of_task_model.Accounts.{Account, Pick, account_back, account_begins, account_next, is_free, starts}
+use Rattle.life_runs.specs.of_life_frames.of_life_model.Lives as Lives
+use Rattle.life_runs.specs.of_life_frames.of_life_model.Lives.{Life, Era, Spot, granted, passes, era_next, life_next, life_back, life_lost, reopens}
+use Rattle.life_runs.specs.of_life_frames.of_life_model.Own as Own
+use Rattle.life_runs.specs.of_life_frames.of_link_model.Frames.{all_accepted}
+use Rattle.life_runs.specs.of_life_frames.of_segment_model.Ends.{Passing}
+use Rattle.life_runs.specs.of_life_frames.of_segment_model.Record.{News}
+use Rattle.life_runs.specs.of_life_frames.of_segment_model.Seats.{Side, side_begins, side_holds, side_next, next_mail, is_over}
+use Rattle.life_runs.specs.of_life_frames.of_segment_model.Slaves.{Datagram, Found, grams}
+use Rattle.life_runs.specs.of_life_frames.of_state_exchange.Stated.{Service}
+use Rattle.life_runs.specs.of_life_frames.of_task_model.Accounts as Accounts
+use Rattle.life_runs.specs.of_life_frames.of_task_model.Accounts.{Account, Pick, account_back, account_begins, account_next, is_free, starts}
 use Rattle.life_runs.specs.of_link_mails.Body.{Body}
 use Rattle.life_runs.specs.of_mailbox_mail.declared.mail.Mail.{Mail}
 use Rattle.life_runs.specs.of_master_duty.Reply.{Reply}

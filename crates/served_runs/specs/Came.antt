@@ -1,7 +1,7 @@
 -- WHAT CAME INTO HAND OF A SLAVE OF A SERVING: the services of its script, packets, and the mails that were passed on to it.
 use Rattle.std.specs.Prelude.{◌≡◌, ℕ, Some, List, [], ◌∷◌, ◌++◌}
 use Rattle.book_model.specs.Script.{life_started}
-use Rattle.life_frames.specs.of_state_exchange.Stated.{Service}
+use Rattle.life_runs.specs.of_life_frames.of_state_exchange.Stated.{Service}
 use Rattle.life_runs.specs.of_frame_view.View.{Lens}
 use Rattle.life_runs.specs.of_master_hand.Spoken.{Asked, passed}
 use Rattle.life_runs.specs.of_segment_plan.declared.service.Service as Plan

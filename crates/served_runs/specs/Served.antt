@@ -18,11 +18,11 @@ use Rattle.life_runs.specs.of_segment_ring.declared.wire.Fate.{Fate}
 use Rattle.life_runs.specs.of_segment_ring.declared.wire.Fate.TheVariants.{Pass, Lost}
 use Rattle.life_runs.specs.First.{first_leads, lens_of}
 use Rattle.life_runs.specs.Led.{Comes, Exchanged, Leads, Took, Turn, gives_up_at, missed_behind, speech_at}
-use Rattle.life_frames.specs.of_link_model.Segment.{RingFate}
-use Rattle.life_frames.specs.of_segment_model.Record.{Frame, Kept, nothing_kept}
-use Rattle.life_frames.specs.of_state_exchange.Stated.{Service}
+use Rattle.life_runs.specs.of_life_frames.of_link_model.Segment.{RingFate}
+use Rattle.life_runs.specs.of_life_frames.of_segment_model.Record.{Frame, Kept, nothing_kept}
+use Rattle.life_runs.specs.of_life_frames.of_state_exchange.Stated.{Service}
 use Rattle.master_tour.specs.Brings.{accepted_in}
-use Rattle.news_kept.specs.Counts.{counts_on, kept_on}
+use Rattle.master_tour.specs.of_news_kept.Counts.{counts_on, kept_on}
 use Rattle.served_runs.specs.Told.{Passed, TellsOwn, told_on}
 
 -- a mail that waits to be passed on, and the key of its asker

@@ -1,8 +1,8 @@
 -- WHAT IS TOLD of a mail that is passed on: its replies, as frames bring them.
 use Rattle.std.specs.Prelude.{◌≡◌, ℕ, true, is_some, Option, Some, None, List, [], ◌++◌}
-use Rattle.life_frames.specs.of_exchange_model.Exchange.{plain}
-use Rattle.life_frames.specs.of_exchange_model.Rows.{Row}
-use Rattle.life_frames.specs.of_segment_model.Ends.{Passing}
+use Rattle.life_runs.specs.of_life_frames.of_exchange_model.Exchange.{plain}
+use Rattle.life_runs.specs.of_life_frames.of_exchange_model.Rows.{Row}
+use Rattle.life_runs.specs.of_life_frames.of_segment_model.Ends.{Passing}
 use Rattle.life_runs.specs.of_link_mails.Body.{Body}
 use Rattle.life_runs.specs.of_mailbox_mail.declared.mail.Mail.{Mail}
 use Rattle.life_runs.specs.of_master_duty.Reply.{Reply}

@@ -1,3 +1,4 @@
+pub use Rattle.soe_model.proofs as of_soe_model
 pub mod Stations
 pub mod CoeLast
 pub mod Sides

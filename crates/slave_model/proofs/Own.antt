@@ -2,9 +2,9 @@
 use Rattle.std.proofs.Common.{◌≡◌, ℕ, zero, suc, ◌+◌, ◌-◌, ◌&&◌, nat_le, nat_lt, Bool, true, false, List, [], ◌∷◌, ◌++◌, map, length, take, drop, Result, Ok, Err, refl, sym, ap, ◌∙◌, subst}
 use Rattle.std.specs.Prelude.{if◌then◌else◌}
 use Rattle.link_mails.specs.Body.{Body}
-use Rattle.eoe.specs.declared.message.Eoe.{Eoe}
-use Rattle.eoe.specs.declared.message.EoeFault.{EoeFault}
-use Rattle.eoe.specs.Message.{eoe_read, eoe_text}
+use Rattle.eoe_model.specs.of_eoe.declared.message.Eoe.{Eoe}
+use Rattle.eoe_model.specs.of_eoe.declared.message.EoeFault.{EoeFault}
+use Rattle.eoe_model.specs.of_eoe.Message.{eoe_read, eoe_text}
 use Rattle.exchange_model.specs.Exchange.{Exchange, given}
 use Rattle.exchange_model.specs.Lifted.{EachOf, ReadsBack, lifted}
 use Rattle.exchange_sum.specs.Refusing.{refused_serve, gated}
@@ -13,7 +13,7 @@ use Rattle.coe_model.specs.Octets as CoeOctets
 use Rattle.foe_model.specs.Mails as FoeMails
 use Rattle.std.specs.Prelude.{◌*◌, ◌/◌}
 use Rattle.std.proofs.lemmas.List.{map-append}
-use Rattle.eoe.specs.Cutting.{fragments_of}
+use Rattle.eoe_model.specs.of_eoe.Cutting.{fragments_of}
 use Rattle.exchange_model.proofs.Turns.{sent_each}
 use Rattle.coe_model.specs.Tables as Tables
 use Rattle.coe_model.specs.Tables.{Ask}

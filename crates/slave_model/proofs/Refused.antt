@@ -3,7 +3,7 @@ use Rattle.std.proofs.Common.{◌≡◌, ℕ, zero, suc, ◌+◌, ◌-◌, ◌*�
 use Rattle.std.specs.Prelude.{if◌then◌else◌}
 use Rattle.std.proofs.lemmas.Bool.{leb-false}
 use Rattle.link_mails.specs.Body.{Body}
-use Rattle.eoe.specs.Cutting.{fragment_at, fragments_from}
+use Rattle.eoe_model.specs.of_eoe.Cutting.{fragment_at, fragments_from}
 use Rattle.exchange_model.specs.Dialogue.{said}
 use Rattle.exchange_model.specs.Lifted.{EachOf, ReadsBack}
 use Rattle.exchange_sum.specs.Refusing.{Refusal, IsAsked, IsRefusal}

@@ -1,6 +1,6 @@
 -- Each protocol, served or refused, keeps the laws.
 use Rattle.std.proofs.Common.{ℕ, List, [], ◌∷◌}
-use Rattle.mailbox_mail.specs.declared.mail.Mail.{Mail}
+use Rattle.link_mails.specs.of_mailbox_mail.declared.mail.Mail.{Mail}
 use Rattle.exchange_model.specs.Areas.{AreMailboxes}
 use Rattle.exchange_model.specs.Exchange.{Exchange, IsLawful, given}
 use Rattle.exchange_model.specs.Lifted.{EachOf, ReadsBack, Spells}

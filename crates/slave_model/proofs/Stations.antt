@@ -1,10 +1,10 @@
 -- What each protocol sees of a station keeps its laws.
 use Rattle.std.proofs.Common.{◌≡◌, ℕ, zero, suc, ◌+◌, ◌-◌, ◌*◌, ◌/◌, ◌%◌, ◌≤◌, ◌==◌, ◌&&◌, nat_lt, Bool, true, false, List, [], ◌∷◌, ◌++◌, map, length, take, drop, Some, None, Result, Ok, Err, refl, sym, ap, ◌∙◌, subst, arith, lt-ltb, le-leb, leb-true, length-append, length-drop}
 use Rattle.std.specs.Prelude.{if◌then◌else◌}
-use Rattle.eoe.specs.declared.message.Eoe.TheVariants.{Fragment as Part}
-use Rattle.eoe.specs.declared.message.Fragment.{Fragment}
-use Rattle.eoe.specs.Message.{eoe_text}
-use Rattle.eoe.specs.Cutting.{fragments_of}
+use Rattle.eoe_model.specs.of_eoe.declared.message.Eoe.TheVariants.{Fragment as Part}
+use Rattle.eoe_model.specs.of_eoe.declared.message.Fragment.{Fragment}
+use Rattle.eoe_model.specs.of_eoe.Message.{eoe_text}
+use Rattle.eoe_model.specs.of_eoe.Cutting.{fragments_of}
 use Rattle.exchange_model.specs.Lifted.{EachOf}
 use Rattle.coe_model.specs.Tables as Tables
 use Rattle.coe_model.specs.Octets as CoeOctets

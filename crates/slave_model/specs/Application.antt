@@ -1,9 +1,9 @@
 -- The one application of a slave, and what each protocol sees of it.
 use Rattle.std.specs.Prelude.{◌≡◌, ℕ, ◌+◌, ◌*◌, ◌-◌, ◌/◌, ◌%◌, ◌&&◌, nat_lt, Bool, if◌then◌else◌, List, map, Some, None, Result, Ok, Err}
-use Rattle.eoe.specs.declared.message.Eoe.TheVariants.{Fragment as Part}
-use Rattle.eoe.specs.declared.message.Fragment.{Fragment}
-use Rattle.eoe.specs.Cutting.{fragments_of}
-use Rattle.eoe.specs.Message.{eoe_text}
+use Rattle.eoe_model.specs.of_eoe.declared.message.Eoe.TheVariants.{Fragment as Part}
+use Rattle.eoe_model.specs.of_eoe.declared.message.Fragment.{Fragment}
+use Rattle.eoe_model.specs.of_eoe.Cutting.{fragments_of}
+use Rattle.eoe_model.specs.of_eoe.Message.{eoe_text}
 use Rattle.coe_model.specs.Tables as Tables
 use Rattle.coe_model.specs.Octets.{AreSpelled}
 use Rattle.foe_model.specs.Files as Files

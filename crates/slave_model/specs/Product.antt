@@ -1,8 +1,8 @@
 -- THE PRODUCT: CoE, FoE, SoE and EoE of one slave over one application, at each AL state, as one exchange.
 use Rattle.std.specs.Prelude.{ℕ, suc, ◌&&◌, Bool, is_none, List, [], ◌∷◌, map, take, Option, Some, None, Ok, Err}
-use Rattle.mailbox_mail.specs.declared.mail.MailFault.TheVariants.{UnknownKind}
-use Rattle.mailbox_mail.specs.declared.mail.Kind.{Kind}
-use Rattle.mailbox_mail.specs.declared.outcome.ReplyKind.{ReplyKind}
+use Rattle.link_mails.specs.of_mailbox_mail.declared.mail.MailFault.TheVariants.{UnknownKind}
+use Rattle.link_mails.specs.of_mailbox_mail.declared.mail.Kind.{Kind}
+use Rattle.link_mails.specs.of_mailbox_mail.declared.outcome.ReplyKind.{ReplyKind}
 use Rattle.link_mails.specs.Body.{Body}
 use Rattle.exchange_model.specs.Exchange.{Exchange}
 use Rattle.exchange_model.specs.Lifted.{lifted}

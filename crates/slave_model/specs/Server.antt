@@ -1,11 +1,11 @@
 -- The server of a slave: its application, how many services were carried out, and the unfinished transfers.
 use Rattle.std.specs.Prelude.{ℕ, suc, not, Bool, true, false, if◌then◌else◌, List, [], ◌∷◌, Option, Ok, Err}
-use Rattle.mailbox_mail.specs.Mail.{error_of}
-use Rattle.mailbox_mail.specs.declared.mail.Mail.{Mail}
-use Rattle.mailbox_mail.specs.declared.mail.MailFault.TheVariants.{Short}
-use Rattle.mailbox_mail.specs.declared.outcome.ReplyKind.{ReplyKind}
+use Rattle.link_mails.specs.of_mailbox_mail.Mail.{error_of}
+use Rattle.link_mails.specs.of_mailbox_mail.declared.mail.Mail.{Mail}
+use Rattle.link_mails.specs.of_mailbox_mail.declared.mail.MailFault.TheVariants.{Short}
+use Rattle.link_mails.specs.of_mailbox_mail.declared.outcome.ReplyKind.{ReplyKind}
 use Rattle.link_mails.specs.Body.{Body}
-use Rattle.eoe.specs.declared.joining.Unfinished.{Unfinished}
+use Rattle.eoe_model.specs.of_eoe.declared.joining.Unfinished.{Unfinished}
 use Rattle.coe_model.specs.Server as Coe
 use Rattle.coe_model.specs.Meaning as CoeMeaning
 use Rattle.foe_model.specs.Server as Foe

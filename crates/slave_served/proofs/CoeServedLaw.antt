@@ -2,11 +2,11 @@
 use Rattle.std.proofs.Common.{◌≡◌, suc, Bool, true, length, refl, sym, ◌∙◌, ap, arith}
 use Rattle.exchange_model.specs.Areas.{Areas, AreMailboxes}
 use Rattle.exchange_model.specs.Exchange.{after}
-use Rattle.coe_model.specs.Tables.{Tables, AreLawful}
-use Rattle.coe_model.specs.Server.{Server, serve}
-use Rattle.coe_model.specs.Meaning.{Service, download, upload, information}
-use Rattle.coe_model.specs.Model.{turns, full, value_length, coe_exchange}
-use Rattle.coe_model.proofs.CoeLaw.{coe_law}
+use Rattle.slave_parts.specs.of_coe_model.Tables.{Tables, AreLawful}
+use Rattle.slave_parts.specs.of_coe_model.Server.{Server, serve}
+use Rattle.slave_parts.specs.of_coe_model.Meaning.{Service, download, upload, information}
+use Rattle.slave_parts.specs.of_coe_model.Model.{turns, full, value_length, coe_exchange}
+use Rattle.slave_parts.proofs.of_coe_model.CoeLaw.{coe_law}
 use Rattle.serving_model.specs.Tagged.{IsServed}
 use Rattle.slave_served.proofs.WholeLaw.{whole_served}
 use Rattle.slave_served.specs.CoeServed.{transfer_behind, server_behind, coe_served, tables_of}

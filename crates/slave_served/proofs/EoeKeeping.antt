@@ -6,9 +6,9 @@ use Rattle.eoe.specs.declared.joining.Joined.TheVariants.{More, Whole, Dropped}
 use Rattle.eoe.specs.declared.joining.Unfinished.{Unfinished}
 use Rattle.eoe.specs.Joining.{taken}
 use Rattle.eoe.specs.Address.{is_block}
-use Rattle.eoe_model.specs.Mails.{Eoe, Part, SetIp, SetIpAnswer, GetIp, GetIpAnswer, EoeFault, Short, WrongType, Offset, EoeMail, mail, unread, unsupported, failed, other}
-use Rattle.eoe_model.specs.Network.{Network, Station}
-use Rattle.eoe_model.specs.Server.{Server, Outcome, delivered, joined, addressed, set_answer, eoe_takes, takes_unread, eoe_outcome, serve}
+use Rattle.slave_parts.specs.of_eoe_model.Mails.{Eoe, Part, SetIp, SetIpAnswer, GetIp, GetIpAnswer, EoeFault, Short, WrongType, Offset, EoeMail, mail, unread, unsupported, failed, other}
+use Rattle.slave_parts.specs.of_eoe_model.Network.{Network, Station}
+use Rattle.slave_parts.specs.of_eoe_model.Server.{Server, Outcome, delivered, joined, addressed, set_answer, eoe_takes, takes_unread, eoe_outcome, serve}
 
 module _ {S : Type 0} (o : Network S) (room : ℕ) (P : Station S → Type 0) (sent : (station : Station S) (octets : List ℕ) → P station → P (delivered o room station octets).0)
     (set : (station : Station S) (app : S) (block : List ℕ) → P station → o.set_ip station.app block ≡ Some app → P (record station { app = app })) where

@@ -10,12 +10,12 @@ use Rattle.eoe.specs.Cutting.{fragments_of}
 use Rattle.eoe.proofs.Whole.{every_area_gives_the_packet}
 use Rattle.exchange_model.specs.Areas.{Areas, AreMailboxes}
 use Rattle.exchange_model.specs.Exchange.{after}
-use Rattle.eoe_model.specs.Mails.{EoeMail, part}
-use Rattle.eoe_model.specs.Network.{Network, IsSound, Station, is_ready}
-use Rattle.eoe_model.specs.Server.{Server, sends, joined, addressed, set_answer, serve}
-use Rattle.eoe_model.specs.Client.{Service, packet, set_ip, get_ip, is_service, mails_of, meaning_of}
-use Rattle.eoe_model.specs.Model.{eoe_exchange}
-use Rattle.eoe_model.proofs.EoeLaw.{eoe_law, both, both_are}
+use Rattle.slave_parts.specs.of_eoe_model.Mails.{EoeMail, part}
+use Rattle.slave_parts.specs.of_eoe_model.Network.{Network, IsSound, Station, is_ready}
+use Rattle.slave_parts.specs.of_eoe_model.Server.{Server, sends, joined, addressed, set_answer, serve}
+use Rattle.slave_parts.specs.of_eoe_model.Client.{Service, packet, set_ip, get_ip, is_service, mails_of, meaning_of}
+use Rattle.slave_parts.specs.of_eoe_model.Model.{eoe_exchange}
+use Rattle.slave_parts.proofs.of_eoe_model.EoeLaw.{eoe_law, both, both_are}
 use Rattle.serving_model.specs.Tagged.{IsServed}
 use Rattle.slave_served.proofs.WholeLaw.{whole_served}
 use Rattle.slave_served.specs.EoeServed.{unfinished_behind, server_behind, eoe_served, station_of}

@@ -2,11 +2,11 @@
 use Rattle.std.proofs.Common.{◌≡◌, suc, ◌+◌, true, false, length, refl, sym, ◌∙◌, ap, arith}
 use Rattle.exchange_model.specs.Areas.{Areas, AreMailboxes}
 use Rattle.exchange_model.specs.Exchange.{after}
-use Rattle.foe_model.specs.Files.{Files, AreLawful}
-use Rattle.foe_model.specs.Server.{Server, serve}
-use Rattle.foe_model.specs.Meaning.{Service, read, write, meaning_of}
-use Rattle.foe_model.specs.Model.{turns, full, read_length, foe_exchange}
-use Rattle.foe_model.proofs.FoeLaw.{foe_law}
+use Rattle.slave_parts.specs.of_foe_model.Files.{Files, AreLawful}
+use Rattle.slave_parts.specs.of_foe_model.Server.{Server, serve}
+use Rattle.slave_parts.specs.of_foe_model.Meaning.{Service, read, write, meaning_of}
+use Rattle.slave_parts.specs.of_foe_model.Model.{turns, full, read_length, foe_exchange}
+use Rattle.slave_parts.proofs.of_foe_model.FoeLaw.{foe_law}
 use Rattle.serving_model.specs.Tagged.{IsServed}
 use Rattle.slave_served.proofs.WholeLaw.{whole_served}
 use Rattle.slave_served.specs.FoeServed.{has_its_room, is_ready, server_behind, foe_served, files_of, StaysValid}

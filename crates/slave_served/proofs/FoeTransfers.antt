@@ -5,11 +5,11 @@ use Rattle.exchange_model.specs.Areas.{Areas}
 use Rattle.exchange_model.specs.Exchange.{after, plain}
 use Rattle.exchange_model.specs.Dialogue.{next, again, stop, sent, turn_at}
 use Rattle.exchange_model.proofs.Turns.{sent_none, sent_onward, sent_repeated, sent_over, sent_waits}
-use Rattle.foe_model.specs.Mails.{FoeMail, mail, Read, Write, Data, Ack, Busy, is_emission}
-use Rattle.foe_model.specs.Files.{Files}
-use Rattle.foe_model.specs.Server.{Transfer, idle, reading, writing, closing, Server, Outcome, foe_outcome, behind, serve, ended, goes_on, silent, refusal, ack, packet_room, packet_of, is_last, opened, begun, closes}
-use Rattle.foe_model.specs.Client.{decide, turn_behind, write_turn, acks, packets}
-use Rattle.foe_model.specs.Model.{read_length}
+use Rattle.slave_parts.specs.of_foe_model.Mails.{FoeMail, mail, Read, Write, Data, Ack, Busy, is_emission}
+use Rattle.slave_parts.specs.of_foe_model.Files.{Files}
+use Rattle.slave_parts.specs.of_foe_model.Server.{Transfer, idle, reading, writing, closing, Server, Outcome, foe_outcome, behind, serve, ended, goes_on, silent, refusal, ack, packet_room, packet_of, is_last, opened, begun, closes}
+use Rattle.slave_parts.specs.of_foe_model.Client.{decide, turn_behind, write_turn, acks, packets}
+use Rattle.slave_parts.specs.of_foe_model.Model.{read_length}
 
 -- all mails of an FoE server are replies
 all_plain : (ms : List FoeMail) → plain is_emission ms ≡ ms

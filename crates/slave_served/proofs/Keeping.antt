@@ -2,9 +2,9 @@
 use Rattle.std.proofs.Common.{◌≡◌, ℕ, ◌-◌, ◌==◌, ◌||◌, not, nat_lt, nat_le, Bool, true, false, List, ◌++◌, length, Option, None, Some, Result, Ok, Err, refl}
 use Rattle.std.specs.Prelude.{if◌then◌else◌}
 use Rattle.exchange_model.specs.Areas.{Areas}
-use Rattle.coe_model.specs.Mails.{Coe, CoeMail, mail, unread, failed, fragment, other, CoeFault, Short, Service, Command, Size, Emergency, Expedited, First, Upload, DownloadAnswer, ExpeditedAnswer, FirstAnswer, Segment, SegmentAnswer, UploadSegment, UploadSegmentAnswer, Abort, ListRequest, ObjectRequest, EntryRequest, Information, InformationError}
-use Rattle.coe_model.specs.Tables.{Target, Ask, list, object, entry, Tables}
-use Rattle.coe_model.specs.Server.{Transfer, idle, downloading, uploading, Server, Emission, emergency, packet, issued, Outcome, coe_outcome, coe_takes, serve, stored, begins, takes_first, takes_segment, takes_upload_segment, opened, informed, takes_unread, unknown_command, same, is_expedited}
+use Rattle.slave_parts.specs.of_coe_model.Mails.{Coe, CoeMail, mail, unread, failed, fragment, other, CoeFault, Short, Service, Command, Size, Emergency, Expedited, First, Upload, DownloadAnswer, ExpeditedAnswer, FirstAnswer, Segment, SegmentAnswer, UploadSegment, UploadSegmentAnswer, Abort, ListRequest, ObjectRequest, EntryRequest, Information, InformationError}
+use Rattle.slave_parts.specs.of_coe_model.Tables.{Target, Ask, list, object, entry, Tables}
+use Rattle.slave_parts.specs.of_coe_model.Server.{Transfer, idle, downloading, uploading, Server, Emission, emergency, packet, issued, Outcome, coe_outcome, coe_takes, serve, stored, begins, takes_first, takes_segment, takes_upload_segment, opened, informed, takes_unread, unknown_command, same, is_expedited}
 
 either : {X : Type 0} (P : X → Type 0) (b : Bool) (x y : X) → P x → P y → P (if b then x else y)
 either P true x y p q = p

@@ -9,9 +9,9 @@ use Rattle.serving_model.specs.Tagged.{IsServed}
 use Rattle.slave_served.specs.Whole.{refusing_whole, gated_whole, IsRefusedWhole}
 use Rattle.slave_served.specs.Sides.{IsWholeSide, joined_whole}
 use Rattle.slave_served.proofs.JoinedLaw.{plain_whole, mine_full, mine_part, told_full, told_part}
-use Rattle.soe_model.specs.Elements.{Elements, AreLawful}
-use Rattle.soe_model.specs.Mails.{is_emission}
-use Rattle.soe_model.specs.Client.{ends}
+use Rattle.slave_parts.specs.of_soe_model.Elements.{Elements, AreLawful}
+use Rattle.slave_parts.specs.of_soe_model.Mails.{is_emission}
+use Rattle.slave_parts.specs.of_soe_model.Client.{ends}
 use Rattle.slave_served.specs.SoeServed.{soe_served}
 use Rattle.slave_served.proofs.ServedLaw.{kept, soe_is_served}
 

@@ -2,9 +2,9 @@
 use Rattle.std.proofs.Common.{◌≡◌, ℕ, ◌+◌, ◌==◌, ◌&&◌, nat_lt, Bool, true, false, List, ◌++◌, length, Option, None, Some, refl}
 use Rattle.std.specs.Prelude.{if◌then◌else◌}
 use Rattle.exchange_model.specs.Areas.{Areas}
-use Rattle.foe_model.specs.Mails.{Foe, Read, Write, Data, Ack, Error, Busy, FoeFault, Short, Opcode, Name, FoeMail, mail, unread, failed, other}
-use Rattle.foe_model.specs.Files.{Files}
-use Rattle.foe_model.specs.Server.{Transfer, idle, reading, writing, closing, Server, Outcome, foe_outcome, foe_takes, serve, opened, begun, closes, stores, takes_data, takes_ack, takes_unread, packet_room, is_last}
+use Rattle.slave_parts.specs.of_foe_model.Mails.{Foe, Read, Write, Data, Ack, Error, Busy, FoeFault, Short, Opcode, Name, FoeMail, mail, unread, failed, other}
+use Rattle.slave_parts.specs.of_foe_model.Files.{Files}
+use Rattle.slave_parts.specs.of_foe_model.Server.{Transfer, idle, reading, writing, closing, Server, Outcome, foe_outcome, foe_takes, serve, opened, begun, closes, stores, takes_data, takes_ack, takes_unread, packet_room, is_last}
 use Rattle.slave_served.specs.FoeServed.{has_its_room, is_ready, StaysValid}
 
 either : {X : Type 0} (P : X → Type 0) (b : Bool) (x y : X) → P x → P y → P (if b then x else y)

@@ -4,28 +4,28 @@ use Rattle.std.specs.Prelude.{if◌then◌else◌}
 use Rattle.mailbox_mail.specs.declared.mail.Kind.{Kind}
 use Rattle.mailbox_mail.specs.declared.mail.MailFault.TheVariants.{Short, LengthPastArea, UnknownKind}
 use Rattle.link_mails.specs.Body.{Body}
-use Rattle.coe_model.specs.Mails as CoeMails
-use Rattle.coe_model.specs.Octets as CoeOctets
-use Rattle.foe_model.specs.Mails as FoeMails
-use Rattle.foe_model.specs.Octets as FoeOctets
-use Rattle.foe_model.specs.Server.{Transfer, idle, reading, writing, closing}
-use Rattle.soe_model.specs.Mails as SoeMails
-use Rattle.soe_model.specs.Octets as SoeOctets
-use Rattle.eoe_model.specs.Mails as EoeMails
-use Rattle.eoe_model.specs.Octets as EoeOctets
-use Rattle.eoe_model.specs.Network.{Station}
-use Rattle.eoe_model.specs.Server.{sends}
-use Rattle.eoe_model.specs.Echo.{echo_of}
+use Rattle.slave_parts.specs.of_coe_model.Mails as CoeMails
+use Rattle.slave_parts.specs.of_coe_model.Octets as CoeOctets
+use Rattle.slave_parts.specs.of_foe_model.Mails as FoeMails
+use Rattle.slave_parts.specs.of_foe_model.Octets as FoeOctets
+use Rattle.slave_parts.specs.of_foe_model.Server.{Transfer, idle, reading, writing, closing}
+use Rattle.slave_parts.specs.of_soe_model.Mails as SoeMails
+use Rattle.slave_parts.specs.of_soe_model.Octets as SoeOctets
+use Rattle.slave_parts.specs.of_eoe_model.Mails as EoeMails
+use Rattle.slave_parts.specs.of_eoe_model.Octets as EoeOctets
+use Rattle.slave_parts.specs.of_eoe_model.Network.{Station}
+use Rattle.slave_parts.specs.of_eoe_model.Server.{sends}
+use Rattle.slave_parts.specs.of_eoe_model.Echo.{echo_of}
 use Rattle.slave_served.proofs.Keeping as Coe
 use Rattle.slave_served.proofs.EoeKeeping as Eoe
 use Rattle.slave_served.specs.FoeServed.{has_its_room}
 use Rattle.slave_served.proofs.Passes as Foe
 use Rattle.exchange_sum.specs.Refusing.{gated}
-use Rattle.slave_model.specs.Profile.{Protocol, Profile, IsProfile, serves, areas_of}
-use Rattle.slave_model.specs.Application.{Core, Parts, ArePartsLawful, core_valid, station_valid, with_objects, stored, station_tables, station_files, written, station_elements, network}
-use Rattle.slave_model.specs.Server.{Server, Seat, seat, reseated, heard_by, refused_counts}
-use Rattle.slave_model.specs.Product.{served, refusal, serve, serve_by, serve_other, protocol_of}
-use Rattle.slave_model.proofs.Stations.{both, left_of, right_of, tables_law, elements_law}
+use Rattle.slave_parts.specs.of_slave_model.Profile.{Protocol, Profile, IsProfile, serves, areas_of}
+use Rattle.slave_parts.specs.of_slave_model.Application.{Core, Parts, ArePartsLawful, core_valid, station_valid, with_objects, stored, station_tables, station_files, written, station_elements, network}
+use Rattle.slave_parts.specs.of_slave_model.Server.{Server, Seat, seat, reseated, heard_by, refused_counts}
+use Rattle.slave_parts.specs.of_slave_model.Product.{served, refusal, serve, serve_by, serve_other, protocol_of}
+use Rattle.slave_parts.proofs.of_slave_model.Stations.{both, left_of, right_of, tables_law, elements_law}
 use Rattle.slave_served.specs.Served.{is_fine, AreFilesServed}
 use Rattle.slave_served.proofs.SoeKeeping as Soe
 use Rattle.slave_served.proofs.Protocols.{files_stay}

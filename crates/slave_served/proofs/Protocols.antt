@@ -5,14 +5,14 @@ use Rattle.serving_model.specs.Tagged.{IsServed}
 use Rattle.slave_served.specs.Whole.{IsRefusedWhole}
 use Rattle.slave_served.proofs.SpelledLaw.{spelled_served}
 use Rattle.slave_served.proofs.RefusedLaw.{gated_served}
-use Rattle.coe_model.specs.Mails as CoeMails
-use Rattle.coe_model.specs.Octets as CoeOctets
-use Rattle.foe_model.specs.Mails as FoeMails
-use Rattle.foe_model.specs.Octets as FoeOctets
-use Rattle.soe_model.specs.Mails as SoeMails
-use Rattle.soe_model.specs.Octets as SoeOctets
-use Rattle.eoe_model.specs.Mails as EoeMails
-use Rattle.eoe_model.specs.Octets as EoeOctets
+use Rattle.slave_parts.specs.of_coe_model.Mails as CoeMails
+use Rattle.slave_parts.specs.of_coe_model.Octets as CoeOctets
+use Rattle.slave_parts.specs.of_foe_model.Mails as FoeMails
+use Rattle.slave_parts.specs.of_foe_model.Octets as FoeOctets
+use Rattle.slave_parts.specs.of_soe_model.Mails as SoeMails
+use Rattle.slave_parts.specs.of_soe_model.Octets as SoeOctets
+use Rattle.slave_parts.specs.of_eoe_model.Mails as EoeMails
+use Rattle.slave_parts.specs.of_eoe_model.Octets as EoeOctets
 use Rattle.slave_served.specs.CoeServed as Coe
 use Rattle.slave_served.proofs.CoeServedLaw.{coe_is_served}
 use Rattle.slave_served.specs.FoeServed as Foe
@@ -21,13 +21,13 @@ use Rattle.slave_served.specs.SoeServed as Soe
 use Rattle.slave_served.proofs.ServedLaw.{soe_is_served}
 use Rattle.slave_served.specs.EoeServed as Eoe
 use Rattle.slave_served.proofs.EoeServedLaw.{eoe_is_served}
-use Rattle.slave_model.specs.Profile.{Protocol, Profile, IsProfile, serves, areas_of}
-use Rattle.slave_model.specs.Application.{Parts, ArePartsLawful, core_valid, station_valid, station_tables, station_files, station_elements, network}
-use Rattle.slave_model.specs.Server.{heard_by, told_by}
-use Rattle.slave_model.specs.Product.{refusal}
-use Rattle.slave_model.proofs.Stations.{both, left_of, right_of, tables_law, files_law, elements_law, network_sound}
-use Rattle.slave_model.proofs.Sides.{told_spells, sized, coe_spelled, foe_spelled, eoe_spelled}
-use Rattle.slave_model.proofs.ProductLaw.{refusals}
+use Rattle.slave_parts.specs.of_slave_model.Profile.{Protocol, Profile, IsProfile, serves, areas_of}
+use Rattle.slave_parts.specs.of_slave_model.Application.{Parts, ArePartsLawful, core_valid, station_valid, station_tables, station_files, station_elements, network}
+use Rattle.slave_parts.specs.of_slave_model.Server.{heard_by, told_by}
+use Rattle.slave_parts.specs.of_slave_model.Product.{refusal}
+use Rattle.slave_parts.proofs.of_slave_model.Stations.{both, left_of, right_of, tables_law, files_law, elements_law, network_sound}
+use Rattle.slave_parts.proofs.of_slave_model.Sides.{told_spells, sized, coe_spelled, foe_spelled, eoe_spelled}
+use Rattle.slave_parts.proofs.of_slave_model.ProductLaw.{refusals}
 use Rattle.slave_served.specs.Served.{core_of, served_whole, side_whole, AreFilesServed}
 use Rattle.slave_served.proofs.SoeSpelled.{served_spells}
 

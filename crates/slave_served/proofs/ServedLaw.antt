@@ -5,12 +5,12 @@ use Rattle.std.proofs.lemmas.List.{take-append-drop, append_assoc}
 use Rattle.exchange_model.specs.Areas.{Areas, AreMailboxes}
 use Rattle.exchange_model.specs.Exchange.{after, given, plain, emitted}
 use Rattle.exchange_model.proofs.Lists.{prefix_refl}
-use Rattle.soe_model.specs.Elements.{Target, Elements, AreLawful}
-use Rattle.soe_model.specs.Mails.{SoeMail, mail, unread, failed, other, SoeFault, Short, Opcode, Incomplete, message, is_emission, parts_of, fragments}
-use Rattle.soe_model.specs.Server.{Join, Server, serve, soe_outcome, ahead, gathered, asked, written, answered, silent, joined, target_of, takes_whole, takes_unread, behind, most}
-use Rattle.soe_model.specs.Client.{Service, read, write, mails_of, meaning_of, ends}
-use Rattle.soe_model.proofs.Carries.{Carried, Idle, Came, came_more, carried_one, waiting, carried_more, left_by, answer_to}
-use Rattle.soe_model.proofs.SoeLaw.{none_emitted, all_plain, closed, ends_none, answer_to_read, read_carried, read_app, write_app, value_replied, write_replied, write_ready, grows}
+use Rattle.slave_parts.specs.of_soe_model.Elements.{Target, Elements, AreLawful}
+use Rattle.slave_parts.specs.of_soe_model.Mails.{SoeMail, mail, unread, failed, other, SoeFault, Short, Opcode, Incomplete, message, is_emission, parts_of, fragments}
+use Rattle.slave_parts.specs.of_soe_model.Server.{Join, Server, serve, soe_outcome, ahead, gathered, asked, written, answered, silent, joined, target_of, takes_whole, takes_unread, behind, most}
+use Rattle.slave_parts.specs.of_soe_model.Client.{Service, read, write, mails_of, meaning_of, ends}
+use Rattle.slave_parts.proofs.of_soe_model.Carries.{Carried, Idle, Came, came_more, carried_one, waiting, carried_more, left_by, answer_to}
+use Rattle.slave_parts.proofs.of_soe_model.SoeLaw.{none_emitted, all_plain, closed, ends_none, answer_to_read, read_carried, read_app, write_app, value_replied, write_replied, write_ready, grows}
 use Rattle.serving_model.specs.Tagged.{IsServed, Untouched, Touched}
 use Rattle.slave_served.specs.SoeServed.{ahead_of, met, soe_served, table_of}
 

@@ -2,8 +2,8 @@
 use Rattle.std.proofs.Common.{◌≡◌, ◌⊎◌, inl, inr, ℕ, true, List, ◌++◌, sym, ap, ◌∙◌, subst}
 use Rattle.exchange_model.specs.Prefix.{IsPrefixOf}
 use Rattle.exchange_model.specs.Exchange.{Exchange, given, plain, emitted}
-use Rattle.state_exchange.specs.Families.{InState, AreOneClient, in_states}
-use Rattle.state_exchange.proofs.FamilyLaw.{after_in, plain_given_in, emitted_given_in}
+use Rattle.slave_parts.specs.of_state_exchange.Families.{InState, AreOneClient, in_states}
+use Rattle.serving_model.proofs.of_state_exchange.FamilyLaw.{after_in, plain_given_in, emitted_given_in}
 use Rattle.serving_model.specs.Tagged.{IsServed, Untouched, Touched}
 
 module _ {V M Q R C : Type 0} (x : ℕ → Exchange V V M Q R) (core : V → C) (one : AreOneClient x) where

@@ -7,15 +7,15 @@ use Rattle.exchange_model.specs.Lifted.{EachOf}
 use Rattle.exchange_sum.specs.Refusing.{Refusal, refused_serve, gated}
 use Rattle.slave_served.specs.Whole.{gated_whole}
 use Rattle.slave_served.specs.Sides.{IsWholeSide}
-use Rattle.slave_model.specs.Profile.{Protocol, Profile, IsProfile, serves}
-use Rattle.slave_model.specs.Application.{Parts, ArePartsLawful, station_valid, station_files}
-use Rattle.slave_model.specs.Server.{Server, Seat, seat, reseated, ServiceOf}
-use Rattle.slave_model.specs.Product.{served, refusal, side, serve, serve_by, protocol_of, emission}
-use Rattle.slave_model.specs.Owning.{same_protocol, is_of, mine}
-use Rattle.slave_model.proofs.Stations.{both, left_of, right_of}
-use Rattle.slave_model.proofs.Own.{are_own, soe_gives}
+use Rattle.slave_parts.specs.of_slave_model.Profile.{Protocol, Profile, IsProfile, serves}
+use Rattle.slave_parts.specs.of_slave_model.Application.{Parts, ArePartsLawful, station_valid, station_files}
+use Rattle.slave_parts.specs.of_slave_model.Server.{Server, Seat, seat, reseated, ServiceOf}
+use Rattle.slave_parts.specs.of_slave_model.Product.{served, refusal, side, serve, serve_by, protocol_of, emission}
+use Rattle.slave_parts.specs.of_slave_model.Owning.{same_protocol, is_of, mine}
+use Rattle.slave_parts.proofs.of_slave_model.Stations.{both, left_of, right_of}
+use Rattle.slave_parts.proofs.of_slave_model.Own.{are_own, soe_gives}
 use Rattle.slave_served.specs.FoeServed.{has_its_room}
-use Rattle.foe_model.specs.Server.{Transfer, idle, reading, writing, closing}
+use Rattle.slave_parts.specs.of_foe_model.Server.{Transfer, idle, reading, writing, closing}
 use Rattle.slave_served.specs.Served.{core_of, served_whole, side_whole, slave_whole, is_fine, AreFilesServed}
 
 are_same : (i k : Protocol) → same_protocol i k ≡ true → i ≡ k

@@ -1,13 +1,13 @@
 -- The services of one slave from whatever server, at each AL state.
 use Rattle.std.proofs.Common.{ℕ, refl, sym, ap, ◌∙◌}
-use Rattle.state_exchange.specs.Families.{InState, AreOneClient}
+use Rattle.slave_parts.specs.of_state_exchange.Families.{InState, AreOneClient}
 use Rattle.serving_model.specs.Tagged.{IsServed}
 use Rattle.slave_served.proofs.JoinedLaw.{joined_served}
 use Rattle.slave_served.proofs.ServingStatesLaw.{family_served}
-use Rattle.slave_model.specs.Profile.{Profile, IsProfile}
-use Rattle.slave_model.specs.Application.{Parts, ArePartsLawful}
-use Rattle.slave_model.specs.Server.{Server, seat, reseated}
-use Rattle.slave_model.proofs.ProductLaw.{all_protocols, one_client}
+use Rattle.slave_parts.specs.of_slave_model.Profile.{Profile, IsProfile}
+use Rattle.slave_parts.specs.of_slave_model.Application.{Parts, ArePartsLawful}
+use Rattle.slave_parts.specs.of_slave_model.Server.{Server, seat, reseated}
+use Rattle.slave_parts.proofs.of_slave_model.ProductLaw.{all_protocols, one_client}
 use Rattle.slave_served.specs.Served.{core_of, side_whole, slave_whole, protocols_whole, product_whole, AreFilesServed}
 use Rattle.slave_served.proofs.Protocols.{sides_served}
 use Rattle.slave_served.proofs.Sides.{side_of, side_speech}

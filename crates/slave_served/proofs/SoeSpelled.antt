@@ -4,14 +4,14 @@ use Rattle.std.proofs.lemmas.List.{take_all}
 use Rattle.exchange_model.specs.Areas.{Areas, AreMailboxes}
 use Rattle.exchange_model.specs.Exchange.{given}
 use Rattle.exchange_model.specs.Lifted.{EachOf, ReadsBack, Spells}
-use Rattle.soe_model.specs.Elements.{Elements, AreLawful}
-use Rattle.soe_model.specs.Server.{Server, serve, most}
-use Rattle.soe_model.specs.Client.{Service, read, write, is_service, is_target, mails_of}
-use Rattle.soe_model.specs.Model.{is_ready}
-use Rattle.soe_model.specs.Octets.{soe_mail_heard, soe_mail_written}
-use Rattle.soe_model.proofs.Carries.{answer_to}
-use Rattle.soe_model.proofs.SoeLaw.{both_are}
-use Rattle.soe_model.proofs.Spelled.{soe_spells}
+use Rattle.slave_parts.specs.of_soe_model.Elements.{Elements, AreLawful}
+use Rattle.slave_parts.specs.of_soe_model.Server.{Server, serve, most}
+use Rattle.slave_parts.specs.of_soe_model.Client.{Service, read, write, is_service, is_target, mails_of}
+use Rattle.slave_parts.specs.of_soe_model.Model.{is_ready}
+use Rattle.slave_parts.specs.of_soe_model.Octets.{soe_mail_heard, soe_mail_written}
+use Rattle.slave_parts.proofs.of_soe_model.Carries.{answer_to}
+use Rattle.slave_parts.proofs.of_soe_model.SoeLaw.{both_are}
+use Rattle.slave_parts.proofs.of_soe_model.Spelled.{soe_spells}
 use Rattle.slave_served.specs.SoeServed.{ahead_of, soe_served}
 use Rattle.slave_served.proofs.ServedLaw.{gives, kept}
 

@@ -2,27 +2,27 @@
 use Rattle.std.proofs.Common.{ℕ, [], refl, sym, ◌∙◌}
 use Rattle.exchange_model.specs.Exchange.{AnswersLast}
 use Rattle.exchange_model.proofs.Lasts.{lifted_last}
-use Rattle.state_exchange.specs.Families.{states_of}
-use Rattle.state_exchange.proofs.FamilyLaw.{plain_given_in}
+use Rattle.slave_parts.specs.of_state_exchange.Families.{states_of}
+use Rattle.serving_model.proofs.of_state_exchange.FamilyLaw.{plain_given_in}
 use Rattle.serving_model.specs.TaggedStates.{IsStatedServed}
-use Rattle.coe_model.specs.Mails as CoeMails
-use Rattle.coe_model.specs.Octets as CoeOctets
-use Rattle.foe_model.specs.Mails as FoeMails
-use Rattle.foe_model.specs.Octets as FoeOctets
-use Rattle.soe_model.specs.Mails as SoeMails
-use Rattle.soe_model.specs.Octets as SoeOctets
-use Rattle.eoe_model.specs.Mails as EoeMails
-use Rattle.eoe_model.specs.Octets as EoeOctets
-use Rattle.slave_model.specs.Acknowledged.{acknowledges, acknowledged}
-use Rattle.slave_model.specs.Profile.{Protocol, Profile, IsProfile, serves, areas_of}
-use Rattle.slave_model.specs.Application.{Parts, ArePartsLawful, station_valid, station_tables, station_files, station_elements, network}
-use Rattle.slave_model.specs.Server.{Server, seat, reseated, heard_by, told_by}
-use Rattle.slave_model.specs.Product.{refusal}
-use Rattle.slave_model.proofs.CoeLast.{coe_last}
-use Rattle.foe_model.proofs.Lasts.{foe_last}
-use Rattle.slave_model.proofs.EoeLast.{eoe_last}
-use Rattle.slave_model.proofs.Stations.{left_of, tables_law, files_law, elements_law, network_sound}
-use Rattle.slave_model.proofs.Sides.{told_spells, sized}
+use Rattle.slave_parts.specs.of_coe_model.Mails as CoeMails
+use Rattle.slave_parts.specs.of_coe_model.Octets as CoeOctets
+use Rattle.slave_parts.specs.of_foe_model.Mails as FoeMails
+use Rattle.slave_parts.specs.of_foe_model.Octets as FoeOctets
+use Rattle.slave_parts.specs.of_soe_model.Mails as SoeMails
+use Rattle.slave_parts.specs.of_soe_model.Octets as SoeOctets
+use Rattle.slave_parts.specs.of_eoe_model.Mails as EoeMails
+use Rattle.slave_parts.specs.of_eoe_model.Octets as EoeOctets
+use Rattle.slave_parts.specs.of_slave_model.Acknowledged.{acknowledges, acknowledged}
+use Rattle.slave_parts.specs.of_slave_model.Profile.{Protocol, Profile, IsProfile, serves, areas_of}
+use Rattle.slave_parts.specs.of_slave_model.Application.{Parts, ArePartsLawful, station_valid, station_tables, station_files, station_elements, network}
+use Rattle.slave_parts.specs.of_slave_model.Server.{Server, seat, reseated, heard_by, told_by}
+use Rattle.slave_parts.specs.of_slave_model.Product.{refusal}
+use Rattle.slave_parts.proofs.of_slave_model.CoeLast.{coe_last}
+use Rattle.slave_parts.proofs.of_foe_model.Lasts.{foe_last}
+use Rattle.slave_parts.proofs.of_slave_model.EoeLast.{eoe_last}
+use Rattle.slave_parts.proofs.of_slave_model.Stations.{left_of, tables_law, files_law, elements_law, network_sound}
+use Rattle.slave_parts.proofs.of_slave_model.Sides.{told_spells, sized}
 use Rattle.slave_served.specs.FoeServed.{foe_served}
 use Rattle.slave_served.specs.Served.{core_of, served_whole, side_whole, slave_whole, protocols_whole, product_whole, AreFilesServed}
 use Rattle.slave_served.proofs.Protocols.{coe_fine, foe_fine, eoe_fine, each_served, each_refused}

@@ -6,13 +6,13 @@ use Rattle.exchange_model.specs.Areas.{Areas}
 use Rattle.exchange_model.specs.Exchange.{after}
 use Rattle.exchange_model.specs.Dialogue.{next, stop}
 use Rattle.exchange_model.proofs.Turns.{sent_none, sent_last}
-use Rattle.coe_model.specs.Mails.{CoeMail, mail, is_emission, Upload, UploadSegment, UploadSegmentAnswer, FirstAnswer, ExpeditedAnswer, Segment, SegmentAnswer, First, Expedited}
-use Rattle.coe_model.specs.Tables.{Target, nowhere, Ask, list, object, entry, Tables}
-use Rattle.coe_model.specs.Server.{Transfer, idle, downloading, uploading, Server, Outcome, coe_outcome, behind, serve, ended, goes_on, stored, takes_first, takes_segment, begins, download_answer, abort, opened, informed, same, is_expedited}
-use Rattle.coe_model.specs.Client.{decide, segments, requests, download_mails, behind_first, information_mail}
-use Rattle.coe_model.specs.Model.{value_length}
-use Rattle.coe_model.proofs.Speaks.{never}
-use Rattle.coe_model.proofs.Carries.{talk, talk_onward, talk_over}
+use Rattle.slave_parts.specs.of_coe_model.Mails.{CoeMail, mail, is_emission, Upload, UploadSegment, UploadSegmentAnswer, FirstAnswer, ExpeditedAnswer, Segment, SegmentAnswer, First, Expedited}
+use Rattle.slave_parts.specs.of_coe_model.Tables.{Target, nowhere, Ask, list, object, entry, Tables}
+use Rattle.slave_parts.specs.of_coe_model.Server.{Transfer, idle, downloading, uploading, Server, Outcome, coe_outcome, behind, serve, ended, goes_on, stored, takes_first, takes_segment, begins, download_answer, abort, opened, informed, same, is_expedited}
+use Rattle.slave_parts.specs.of_coe_model.Client.{decide, segments, requests, download_mails, behind_first, information_mail}
+use Rattle.slave_parts.specs.of_coe_model.Model.{value_length}
+use Rattle.slave_parts.proofs.of_coe_model.Speaks.{never}
+use Rattle.slave_parts.proofs.of_coe_model.Carries.{talk, talk_onward, talk_over}
 
 -- a choice of two that are the same
 either : {X : Type 0} (P : X → Type 0) (b : Bool) (x y : X) → P x → P y → P (if b then x else y)

@@ -3,11 +3,11 @@ use Rattle.std.specs.Prelude.{suc, Bool}
 use Rattle.exchange_model.specs.Areas.{Areas}
 use Rattle.exchange_model.specs.Exchange.{Exchange}
 use Rattle.slave_served.specs.Whole.{whole_server}
-use Rattle.coe_model.specs.Mails.{CoeMail}
-use Rattle.coe_model.specs.Tables.{Tables}
-use Rattle.coe_model.specs.Server.{Transfer, idle, Server}
-use Rattle.coe_model.specs.Meaning.{Service, download, upload, information, Reply, meaning_of}
-use Rattle.coe_model.specs.Model.{coe_exchange}
+use Rattle.slave_parts.specs.of_coe_model.Mails.{CoeMail}
+use Rattle.slave_parts.specs.of_coe_model.Tables.{Tables}
+use Rattle.slave_parts.specs.of_coe_model.Server.{Transfer, idle, Server}
+use Rattle.slave_parts.specs.of_coe_model.Meaning.{Service, download, upload, information, Reply, meaning_of}
+use Rattle.slave_parts.specs.of_coe_model.Model.{coe_exchange}
 
 -- the transfer that a service leaves
 abbrev pub transfer_behind : Transfer → Service → Transfer

@@ -4,11 +4,11 @@ use Rattle.eoe.specs.declared.joining.Unfinished.{Unfinished}
 use Rattle.exchange_model.specs.Areas.{Areas}
 use Rattle.exchange_model.specs.Exchange.{Exchange}
 use Rattle.slave_served.specs.Whole.{whole_server}
-use Rattle.eoe_model.specs.Mails.{EoeMail}
-use Rattle.eoe_model.specs.Network.{Network, Station, is_ready}
-use Rattle.eoe_model.specs.Server.{Server}
-use Rattle.eoe_model.specs.Client.{Service, packet, set_ip, get_ip, Reply, meaning_of}
-use Rattle.eoe_model.specs.Model.{eoe_exchange}
+use Rattle.slave_parts.specs.of_eoe_model.Mails.{EoeMail}
+use Rattle.slave_parts.specs.of_eoe_model.Network.{Network, Station, is_ready}
+use Rattle.slave_parts.specs.of_eoe_model.Server.{Server}
+use Rattle.slave_parts.specs.of_eoe_model.Client.{Service, packet, set_ip, get_ip, Reply, meaning_of}
+use Rattle.slave_parts.specs.of_eoe_model.Model.{eoe_exchange}
 
 -- what is unfinished behind a service
 abbrev pub unfinished_behind : Option Unfinished → Service → Option Unfinished

@@ -3,11 +3,11 @@ use Rattle.std.specs.Prelude.{◌≡◌, ℕ, suc, ◌&&◌, Bool, true, List, l
 use Rattle.exchange_model.specs.Areas.{Areas}
 use Rattle.exchange_model.specs.Exchange.{Exchange}
 use Rattle.slave_served.specs.Whole.{whole_server}
-use Rattle.foe_model.specs.Mails.{FoeMail}
-use Rattle.foe_model.specs.Files.{Files}
-use Rattle.foe_model.specs.Server.{Transfer, idle, reading, writing, closing, Server}
-use Rattle.foe_model.specs.Meaning.{Service, Reply, meaning_of}
-use Rattle.foe_model.specs.Model.{foe_exchange}
+use Rattle.slave_parts.specs.of_foe_model.Mails.{FoeMail}
+use Rattle.slave_parts.specs.of_foe_model.Files.{Files}
+use Rattle.slave_parts.specs.of_foe_model.Server.{Transfer, idle, reading, writing, closing, Server}
+use Rattle.slave_parts.specs.of_foe_model.Meaning.{Service, Reply, meaning_of}
+use Rattle.slave_parts.specs.of_foe_model.Model.{foe_exchange}
 
 -- a new version that is whole, and is kept back while the file is busy, has room
 abbrev pub has_its_room : {S : Type 0} → Files S → S → Transfer → Bool

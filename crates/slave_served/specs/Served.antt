@@ -4,26 +4,26 @@ use Rattle.link_mails.specs.Body.{Body}
 use Rattle.exchange_model.specs.Exchange.{Exchange}
 use Rattle.exchange_model.specs.Lifted.{lifted}
 use Rattle.exchange_sum.specs.Sides.{Slave}
-use Rattle.state_exchange.specs.Families.{InState, in_states}
+use Rattle.slave_parts.specs.of_state_exchange.Families.{InState, in_states}
 use Rattle.slave_served.specs.Whole.{gated_whole}
 use Rattle.slave_served.specs.Sides.{joined_whole}
-use Rattle.coe_model.specs.Mails as CoeMails
-use Rattle.coe_model.specs.Octets as CoeOctets
-use Rattle.foe_model.specs.Mails as FoeMails
-use Rattle.foe_model.specs.Octets as FoeOctets
-use Rattle.soe_model.specs.Mails as SoeMails
-use Rattle.soe_model.specs.Octets as SoeOctets
-use Rattle.eoe_model.specs.Mails as EoeMails
-use Rattle.eoe_model.specs.Octets as EoeOctets
-use Rattle.eoe_model.specs.Network.{Station}
+use Rattle.slave_parts.specs.of_coe_model.Mails as CoeMails
+use Rattle.slave_parts.specs.of_coe_model.Octets as CoeOctets
+use Rattle.slave_parts.specs.of_foe_model.Mails as FoeMails
+use Rattle.slave_parts.specs.of_foe_model.Octets as FoeOctets
+use Rattle.slave_parts.specs.of_soe_model.Mails as SoeMails
+use Rattle.slave_parts.specs.of_soe_model.Octets as SoeOctets
+use Rattle.slave_parts.specs.of_eoe_model.Mails as EoeMails
+use Rattle.slave_parts.specs.of_eoe_model.Octets as EoeOctets
+use Rattle.slave_parts.specs.of_eoe_model.Network.{Station}
 use Rattle.slave_served.specs.CoeServed.{coe_served}
 use Rattle.slave_served.specs.FoeServed.{foe_served, has_its_room}
 use Rattle.slave_served.specs.SoeServed.{soe_served}
 use Rattle.slave_served.specs.EoeServed.{eoe_served}
-use Rattle.slave_model.specs.Profile.{Protocol, Profile, serves, areas_of}
-use Rattle.slave_model.specs.Application.{Core, Parts, station_valid, station_tables, station_files, station_elements, network}
-use Rattle.slave_model.specs.Server.{Server, Seat, seat, reseated, ServiceOf, Reply, heard_by, told_by}
-use Rattle.slave_model.specs.Product.{refusal, emission, serve}
+use Rattle.slave_parts.specs.of_slave_model.Profile.{Protocol, Profile, serves, areas_of}
+use Rattle.slave_parts.specs.of_slave_model.Application.{Core, Parts, station_valid, station_tables, station_files, station_elements, network}
+use Rattle.slave_parts.specs.of_slave_model.Server.{Server, Seat, seat, reseated, ServiceOf, Reply, heard_by, told_by}
+use Rattle.slave_parts.specs.of_slave_model.Product.{refusal, emission, serve}
 
 -- what is seen of a protocol's server in the middle of a service: the station
 abbrev pub core_of : (T F I : Type 0) → (i : Protocol) → Seat T F I i → Station (Core T F I)

@@ -2,11 +2,11 @@
 use Rattle.std.specs.Prelude.{ℕ, suc, false, Option, None, List, [], ◌++◌, take}
 use Rattle.exchange_model.specs.Areas.{Areas}
 use Rattle.exchange_model.specs.Exchange.{Exchange}
-use Rattle.soe_model.specs.Elements.{Target, Elements}
-use Rattle.soe_model.specs.Mails.{SoeMail, message}
-use Rattle.soe_model.specs.Server.{Join, Server, serve, ahead, most}
-use Rattle.soe_model.specs.Client.{Service, read, write, mails_of, Reply, meaning_of}
-use Rattle.soe_model.specs.Model.{soe_speech}
+use Rattle.slave_parts.specs.of_soe_model.Elements.{Target, Elements}
+use Rattle.slave_parts.specs.of_soe_model.Mails.{SoeMail, message}
+use Rattle.slave_parts.specs.of_soe_model.Server.{Join, Server, serve, ahead, most}
+use Rattle.slave_parts.specs.of_soe_model.Client.{Service, read, write, mails_of, Reply, meaning_of}
+use Rattle.slave_parts.specs.of_soe_model.Model.{soe_speech}
 
 -- the octets that an unfinished join puts ahead of a write
 abbrev pub ahead_of : Option Join → Target → List ℕ

@@ -2,7 +2,7 @@
 
 ghost use Rattle.std.specs.Prelude.{Bool};
 ghost use Rattle.exchange_model.specs.Areas.{Areas, AreMailboxes};
-ghost use Rattle.coe_model.specs.Tables.{Tables, AreLawful};
+ghost use Rattle.slave_parts.specs.of_coe_model.Tables.{Tables, AreLawful};
 ghost use Rattle.serving_model.specs.Tagged.{IsServed};
 ghost use Rattle.slave_served.specs.CoeServed.{coe_served, tables_of};
 

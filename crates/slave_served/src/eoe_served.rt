@@ -1,7 +1,7 @@
 //! EoE from whatever server. Definitions and laws, no running code.
 
 ghost use Rattle.exchange_model.specs.Areas.{Areas, AreMailboxes};
-ghost use Rattle.eoe_model.specs.Network.{Network, IsSound};
+ghost use Rattle.slave_parts.specs.of_eoe_model.Network.{Network, IsSound};
 ghost use Rattle.serving_model.specs.Tagged.{IsServed};
 ghost use Rattle.slave_served.specs.EoeServed.{eoe_served, station_of};
 

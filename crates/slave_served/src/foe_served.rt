@@ -1,7 +1,7 @@
 //! FoE from whatever server. Definitions and laws, no running code.
 
 ghost use Rattle.exchange_model.specs.Areas.{Areas, AreMailboxes};
-ghost use Rattle.foe_model.specs.Files.{Files, AreLawful};
+ghost use Rattle.slave_parts.specs.of_foe_model.Files.{Files, AreLawful};
 ghost use Rattle.serving_model.specs.Tagged.{IsServed};
 ghost use Rattle.slave_served.specs.FoeServed.{foe_served, files_of, StaysValid};
 

@@ -4,13 +4,13 @@
 
 ghost use Rattle.serving_model.specs.Tagged.{IsServed};
 ghost use Rattle.serving_model.specs.TaggedStates.{IsStatedServed};
-ghost use Rattle.slave_model.specs.Acknowledged.{acknowledged};
-ghost use Rattle.slave_model.specs.Application.{Parts, ArePartsLawful};
-ghost use Rattle.slave_model.specs.Product.{product};
-ghost use Rattle.slave_model.specs.Profile.{Profile, IsProfile};
-ghost use Rattle.slave_model.specs.Server.{Server};
+ghost use Rattle.slave_parts.specs.of_slave_model.Acknowledged.{acknowledged};
+ghost use Rattle.slave_parts.specs.of_slave_model.Application.{Parts, ArePartsLawful};
+ghost use Rattle.slave_parts.specs.of_slave_model.Product.{product};
+ghost use Rattle.slave_parts.specs.of_slave_model.Profile.{Profile, IsProfile};
+ghost use Rattle.slave_parts.specs.of_slave_model.Server.{Server};
 ghost use Rattle.slave_served.specs.Served.{product_whole, AreFilesServed};
-ghost use Rattle.state_exchange.specs.Families.{InState, states_of};
+ghost use Rattle.slave_parts.specs.of_state_exchange.Families.{InState, states_of};
 ghost use Rattle.std.specs.Prelude.{◌≡◌};
 
 pub mod coe_served;

@@ -2,9 +2,9 @@
 
 ghost use Rattle.serving_model.specs.Tagged.{IsServed};
 ghost use Rattle.serving_model.specs.TaggedStates.{IsStatedServed};
-ghost use Rattle.state_exchange.specs.Families.{InState, states_of};
-ghost use Rattle.slave_model.specs.Acknowledged.{acknowledged};
-ghost use Rattle.slave_model.specs.Profile.{Profile, IsProfile};
+ghost use Rattle.slave_parts.specs.of_state_exchange.Families.{InState, states_of};
+ghost use Rattle.slave_parts.specs.of_slave_model.Acknowledged.{acknowledged};
+ghost use Rattle.slave_parts.specs.of_slave_model.Profile.{Profile, IsProfile};
 ghost use Rattle.slave_parts.specs.Parts.{Server, parts};
 ghost use Rattle.slave_served.specs.Served.{product_whole, AreFilesServed};
 

@@ -7,7 +7,7 @@ ghost use Rattle.exchange_model.specs.Lifted.{Spells, lifted};
 ghost use Rattle.exchange_sum.specs.Refusing.{Refusal};
 ghost use Rattle.exchange_sum.specs.Sides.{Slave};
 ghost use Rattle.serving_model.specs.Tagged.{IsServed};
-ghost use Rattle.state_exchange.specs.Families.{InState, AreOneClient, in_states};
+ghost use Rattle.slave_parts.specs.of_state_exchange.Families.{InState, AreOneClient, in_states};
 ghost use Rattle.slave_served.specs.Whole.{whole_server, IsWhole, gated_whole, IsRefusedWhole};
 ghost use Rattle.slave_served.specs.Sides.{IsWholeSide, joined_whole};
 

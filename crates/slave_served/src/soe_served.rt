@@ -1,6 +1,6 @@
 //! SoE from whatever server. Definitions and laws, no running code.
 
-ghost use Rattle.soe_model.specs.Elements.{Elements, AreLawful};
+ghost use Rattle.slave_parts.specs.of_soe_model.Elements.{Elements, AreLawful};
 ghost use Rattle.exchange_model.specs.Areas.{Areas, AreMailboxes};
 ghost use Rattle.serving_model.specs.Tagged.{IsServed};
 ghost use Rattle.slave_served.specs.SoeServed.{soe_served, table_of};

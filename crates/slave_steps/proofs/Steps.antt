@@ -1,10 +1,10 @@
 -- A step in which mails are taken and offered.
 use Rattle.std.proofs.Common.{◌≡◌, ℕ, Bool, false, Option, sym, ap, ap₂, ◌∙◌}
 use Rattle.std.specs.Prelude.{if◌then◌else◌}
-use Rattle.mailbox_mail.specs.declared.mail.Mail.{Mail}
+use Rattle.mailbox_slave.specs.of_mailbox_mail.declared.mail.Mail.{Mail}
 use Rattle.al_state.specs.declared.machine.Al.{Al}
 use Rattle.esc_registers.specs.declared.registers.Registers.{Registers}
-use Rattle.link_mails.specs.Body.{Body}
+use Rattle.mailbox_slave.specs.of_link_mails.Body.{Body}
 use Rattle.mailbox_slave.specs.Kept.{Kept}
 use Rattle.mailbox_slave.specs.Exact.{Boxes, Slave, slave_served}
 use Rattle.slave_steps.specs.Node.{Node, is_init}

@@ -1,6 +1,6 @@
 -- One slave, octet by octet, whatever services it has behind its mailboxes.
 use Rattle.std.specs.Prelude.{◌≡◌, ℕ, ◌==◌, ◌&&◌, not, is_none, Bool, true, false, List, Option, None}
-use Rattle.mailbox_mail.specs.declared.mail.Mail.{Mail}
+use Rattle.mailbox_slave.specs.of_mailbox_mail.declared.mail.Mail.{Mail}
 use Rattle.al_state.specs.declared.machine.Al.{Al}
 use Rattle.esc_registers.specs.declared.registers.Registers.{Registers}
 use Rattle.esc_registers.specs.Registers.{first_registers}

@@ -1,9 +1,9 @@
 -- The step of a slave's processor, octet by octet.
 use Rattle.std.specs.Prelude.{ℕ, ◌+◌, ◌==◌, if◌then◌else◌, Bool, false, Option}
-use Rattle.mailbox_mail.specs.declared.mail.Mail.{Mail}
+use Rattle.mailbox_slave.specs.of_mailbox_mail.declared.mail.Mail.{Mail}
 use Rattle.al_state.specs.declared.machine.Al.{Al}
 use Rattle.al_state.specs.Request.{request_of}
-use Rattle.link_mails.specs.Body.{Body}
+use Rattle.mailbox_slave.specs.of_link_mails.Body.{Body}
 use Rattle.esc_registers.specs.declared.registers.Registers.{Registers}
 use Rattle.esc_registers.specs.Registers.{are_areas_right}
 use Rattle.mailbox_slave.specs.Kept.{Kept}

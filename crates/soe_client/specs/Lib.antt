@@ -1,3 +1,3 @@
-pub use Rattle.soe_model.specs as of_soe_model
+pub use Rattle.soe_parts.specs.of_soe_model as of_soe_model
 pub mod Talk
 pub mod Hear

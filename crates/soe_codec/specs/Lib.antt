@@ -1,2 +1,3 @@
+pub use Rattle.ec_fields.specs as of_ec_fields
 pub mod Message
 pub mod View

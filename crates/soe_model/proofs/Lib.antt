@@ -1,3 +1,4 @@
+pub use Rattle.exchange_model.proofs as of_exchange_model
 pub mod Carries
 pub mod SoeLaw
 pub mod Spelled

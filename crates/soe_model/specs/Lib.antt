@@ -1,3 +1,4 @@
+pub use Rattle.exchange_model.specs as of_exchange_model
 pub mod Mails
 pub mod Elements
 pub mod Server

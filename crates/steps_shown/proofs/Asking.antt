@@ -1,6 +1,6 @@
 -- A step acknowledges the repeat request that stands, in whatever state the slave is.
 use Rattle.std.proofs.Common.{◌≡◌, ◌==◌, Bool, true, false, Option, Some, None, refl, ap, ◌∙◌, if◌then◌else◌}
-use Rattle.frames_seen.specs.Slaves.{registers_seen}
+use Rattle.slave_lives.specs.of_frames_seen.Slaves.{registers_seen}
 use Rattle.link_mails.specs.Body.{Body}
 use Rattle.link_model.specs.Mails.{LinkMail, differs, first_of}
 use Rattle.link_model.specs.Slave as Model
@@ -11,7 +11,7 @@ use Rattle.slave_lives.specs.Nodes.{IsRunning, IsRoomy, stepped}
 use Rattle.slave_lives.specs.Returning.{Clears}
 use Rattle.slave_lives.specs.Steps.{Running, node_steps, word_carried}
 use Rattle.slave_lives.proofs.NodeSteps as Stepped
-use Rattle.slave_steps.specs.Node.{Node}
+use Rattle.slave_lives.specs.of_slave_steps.Node.{Node}
 
 -- a side of mailbox 1 behind another: the same request, which is acknowledged
 record Answers (s t : InSide Body) : Type 0 where

@@ -18,7 +18,7 @@ use Rattle.slave_lives.specs.Stands.{turn_of, bring_turn, IsClosed, MayStep}
 use Rattle.slave_lives.specs.Steps.{Running}
 use Rattle.slave_lives.proofs.Brought as Brought
 use Rattle.slave_lives.proofs.Closing as Closed
-use Rattle.slave_steps.specs.Node.{Node}
+use Rattle.slave_lives.specs.of_slave_steps.Node.{Node}
 use Rattle.steps_shown.specs.Shown.{Shows, Waits, StandsFor}
 use Rattle.steps_shown.proofs.Reading.{word_waits}
 use Rattle.steps_shown.proofs.Standing.{Awaits, awaits_of, steps_stand, frame_stands, watch_stands}

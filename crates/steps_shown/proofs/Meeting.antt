@@ -4,9 +4,9 @@ use Rattle.datagrams.specs.Datagram as Raw
 use Rattle.esc_registers.specs.declared.registers.Registers as Esc
 use Rattle.frame_pass.specs.Passing.{registers_after, datagrams_after}
 use Rattle.frame_view.specs.View.{Lens}
-use Rattle.frames_seen.specs.Ring.{all_after, IsRingMet}
-use Rattle.frames_seen.specs.Own.{own_seen}
-use Rattle.frames_seen.specs.Slaves.{slave_of}
+use Rattle.slave_lives.specs.of_frames_seen.Ring.{all_after, IsRingMet}
+use Rattle.slave_lives.specs.of_frames_seen.Own.{own_seen}
+use Rattle.slave_lives.specs.of_frames_seen.Slaves.{slave_of}
 use Rattle.link_mails.specs.Body.{Body}
 use Rattle.link_model.specs.Frames.{Ask, in_ask, gram_meets, node_meets}
 use Rattle.link_model.specs.Master.{InState}

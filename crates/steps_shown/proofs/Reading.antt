@@ -6,8 +6,8 @@ use Rattle.ec_fields.specs.Fields.{number_at}
 use Rattle.esc_registers.specs.declared.registers.Registers as Esc
 use Rattle.frame_pass.specs.Passing.{passed, registers_after}
 use Rattle.frame_view.specs.View.{Lens}
-use Rattle.frames_seen.specs.Slaves.{registers_seen}
-use Rattle.frames_seen.proofs.Owns.{unmoved}
+use Rattle.slave_lives.specs.of_frames_seen.Slaves.{registers_seen}
+use Rattle.slave_lives.proofs.of_frames_seen.Owns.{unmoved}
 use Rattle.slave_lives.specs.Opening.{Plan, IsPlan, IsAccess, AtMostOne, JustOne}
 use Rattle.slave_lives.proofs.Brings.{with_body}
 use Rattle.slave_lives.proofs.Openings.{the_access, none_moves}

@@ -11,8 +11,8 @@ use Rattle.esc_registers.specs.declared.registers.Registers as Esc
 use Rattle.frame_pass.specs.Passing.{passed, datagram_after}
 use Rattle.frame_pass.proofs.Parts.{head_kept}
 use Rattle.frame_view.specs.View.{Lens, datagram_seen, station_of, access_of, read_access, found_of, state_found, register_counter}
-use Rattle.frames_seen.proofs.Numbers.{word_back}
-use Rattle.frames_seen.proofs.Rows.{access_len}
+use Rattle.slave_lives.proofs.of_frames_seen.Numbers.{word_back}
+use Rattle.slave_lives.proofs.of_frames_seen.Rows.{access_len}
 use Rattle.life_model.specs.Lives.{is_shown}
 use Rattle.segment_model.specs.Slaves.{Access, Found}
 use Rattle.slave_lives.specs.Opening.{Plan, aim, IsAccess}

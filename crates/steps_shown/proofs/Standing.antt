@@ -6,7 +6,7 @@ use Rattle.esc_registers.specs.declared.registers.Registers as Esc
 use Rattle.esc_registers.specs.Registers.{are_areas_right}
 use Rattle.frame_pass.specs.Passing.{registers_after}
 use Rattle.frame_view.specs.View.{Lens}
-use Rattle.frames_seen.specs.Slaves.{registers_seen}
+use Rattle.slave_lives.specs.of_frames_seen.Slaves.{registers_seen}
 use Rattle.life_measure.specs.Repairs.{awaits_at, awaited}
 use Rattle.life_model.specs.Lives.{Opening, shows_clear, is_shown}
 use Rattle.mailbox_slave.specs.Kept.{Kept}
@@ -22,7 +22,7 @@ use Rattle.slave_lives.proofs.Closing as Closed
 use Rattle.slave_lives.proofs.NodeSteps as Stepped
 use Rattle.slave_lives.proofs.Openings.{allowed}
 use Rattle.slave_lives.proofs.Turning as Turning
-use Rattle.slave_steps.specs.Node.{Node}
+use Rattle.slave_lives.specs.of_slave_steps.Node.{Node}
 use Rattle.state_law.specs.Shows.{slave_table}
 use Rattle.state_model.specs.States as States
 use Rattle.steps_shown.specs.Shown.{Shows, Waits, StandsFor}

@@ -4,8 +4,8 @@ use Rattle.datagrams.specs.Datagram as Raw
 use Rattle.esc_registers.specs.declared.registers.Registers as Esc
 use Rattle.frame_pass.specs.Passing.{datagrams_after}
 use Rattle.frame_view.specs.View.{Lens}
-use Rattle.frames_seen.specs.Own.{own_seen}
-use Rattle.frames_seen.specs.Ring.{all_after}
+use Rattle.slave_lives.specs.of_frames_seen.Own.{own_seen}
+use Rattle.slave_lives.specs.of_frames_seen.Ring.{all_after}
 use Rattle.link_mails.specs.Body.{Body}
 use Rattle.link_model.specs.Frames.{Ask}
 use Rattle.mailbox_slave.specs.Registers.{request_of, acknowledge_of}

@@ -1,7 +1,7 @@
 -- WHAT A SLAVE THAT IS OPENED SHOWS, while an access of its opening is in hand that awaits a step.
 use Rattle.std.specs.Prelude.{◌≡◌, ◌⊎◌, ℕ, Bool, true, Some, None}
 use Rattle.esc_registers.specs.declared.registers.Registers as Esc
-use Rattle.frames_seen.specs.Slaves.{registers_seen}
+use Rattle.slave_lives.specs.of_frames_seen.Slaves.{registers_seen}
 use Rattle.life_measure.specs.Repairs.{awaits_at, awaited}
 use Rattle.life_model.specs.Lives.{Opening, shows_clear}
 

@@ -1,7 +1,7 @@
 use Rattle.std.proofs.lemmas.Bool.{le-leb}
 use Rattle.counters_kept.proofs.Lives.{next_life, back_life, lost_life, given_life, stands_kept}
 use Rattle.master_tour.proofs.Backs.{seen_aims}
-use Rattle.news_kept.proofs.Kepts.{new_kept}
+use Rattle.master_tour.proofs.of_news_kept.Kepts.{new_kept}
 use Rattle.counters_kept.proofs.counters_law.Goals as goal
 
 pub returns-clause-begins : goal.returns-clause-begins

@@ -1,5 +1,5 @@
 use Rattle.std.proofs.Common.{refl}
-use Rattle.life_runs.specs.of_master_hand.Spoken.{hand_speech, acknowledged}
+use Rattle.run_frames.specs.of_life_runs.of_master_hand.Spoken.{hand_speech, acknowledged}
 use Rattle.slave_parts.specs.of_slave_model.Acknowledged as Slave
 use Rattle.slave_parts.specs.of_slave_model.Product.{product}
 use Rattle.slave_parts.specs.of_slave_model.Profile.{areas_of}

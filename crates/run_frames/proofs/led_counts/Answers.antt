@@ -4,9 +4,9 @@ use Rattle.life_measure.specs.Tally.{Counted, new_tally}
 use Rattle.life_runs.specs.First.{lens_of, first_leads}
 use Rattle.life_runs.specs.Led.{speech_at, is_passed}
 use Rattle.link_mails.specs.Body.{Body}
-use Rattle.master_duty.specs.Reply.{Reply}
-use Rattle.master_hand.specs.Spoken.{Asked, acknowledged, is_followed}
-use Rattle.segment_plan.specs.Bound.{slowest}
+use Rattle.life_runs.specs.of_master_duty.Reply.{Reply}
+use Rattle.life_runs.specs.of_master_hand.Spoken.{Asked, acknowledged, is_followed}
+use Rattle.life_runs.specs.of_segment_plan.Bound.{slowest}
 use Rattle.run_frames.specs.Clocks.{tally_of}
 use Rattle.run_frames.specs.Led.{first_clocked}
 use Rattle.run_frames.proofs.Fated.{few_lost}

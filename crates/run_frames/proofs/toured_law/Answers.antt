@@ -1,5 +1,5 @@
 use Rattle.life_runs.specs.First.{lens_of, first_leads}
-use Rattle.segment_plan.specs.Bound.{slowest}
+use Rattle.life_runs.specs.of_segment_plan.Bound.{slowest}
 use Rattle.run_frames.proofs.Tallying.{first_of_plan}
 use Rattle.run_frames.proofs.Toured.{toured}
 use Rattle.run_frames.proofs.toured_law.Goals as goal

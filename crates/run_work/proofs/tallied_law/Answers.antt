@@ -1,4 +1,4 @@
-use Rattle.life_runs.specs.First.{lens_of, first_leads}
+use Rattle.run_frames.specs.of_life_runs.First.{lens_of, first_leads}
 use Rattle.plan_ring.specs.Round.{ring_of}
 use Rattle.ring_returns.proofs.Returned as Returned
 use Rattle.segment_plan.specs.Bound.{slowest}

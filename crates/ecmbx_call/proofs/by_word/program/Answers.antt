@@ -1,6 +1,6 @@
 use Rattle.std.proofs.Common.{◌≡◌, true, rules}
 use Rattle.ec_outside.specs.Faults.{Rose}
-use Rattle.gateway_run.specs.Serving.{told}
+use Rattle.promised_run.specs.of_gateway_run.Serving.{told}
 use Rattle.ecmbx_call.specs.Course.{words_of}
 use Rattle.ecmbx_call.proofs.Calls.{calls_of}
 use Rattle.ecmbx_call.specs.First.{is_stream}

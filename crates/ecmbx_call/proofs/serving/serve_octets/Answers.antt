@@ -1,5 +1,5 @@
 use Rattle.run_report.specs.Report.{report_lines}
-use Rattle.gateway_run.specs.Serving.{told}
+use Rattle.promised_run.specs.of_gateway_run.Serving.{told}
 use Rattle.ecmbx_words.specs.Ends.{text_of}
 use Rattle.ecmbx_call.specs.Course.{status_of}
 use Rattle.ecmbx_call.specs.Serving.{ServeCourse}

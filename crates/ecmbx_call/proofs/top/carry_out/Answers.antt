@@ -1,6 +1,6 @@
 use Rattle.std.proofs.Common.{sym, ◌∙◌, []}
 use Rattle.ec_outside.specs.Faults.{Rose}
-use Rattle.gateway_run.specs.Serving.{told}
+use Rattle.promised_run.specs.of_gateway_run.Serving.{told}
 use Rattle.scenario_made.specs.Made.{text_of}
 use Rattle.ecmbx_words.specs.declared.status.Status.TheVariants as statuses
 use Rattle.ecmbx_words.specs.Texts.{usage_line}

@@ -1,5 +1,5 @@
 use Rattle.ec_outside.specs.Faults.{Rose}
-use Rattle.gateway_run.specs.Serving.{told}
+use Rattle.promised_run.specs.of_gateway_run.Serving.{told}
 use Rattle.ecmbx_call.specs.Course.{words_of}
 use Rattle.ecmbx_call.proofs.Causes.{usage_cause, absent_cause, long_cause, refused_cause, broken_cause, given_up_cause, spent_cause, file_fault_cause, port_cause, ending_is, runs_to, saves_to, serves_to, shows_to, audits_to, makes_to}
 use Rattle.ecmbx_call.proofs.Complete.{completes_serving, completes_to}

@@ -1,6 +1,6 @@
 use Rattle.ec_outside.specs.Faults.{Rose}
 use Rattle.run_book.specs.Book.{IsNew}
-use Rattle.gateway_run.specs.Serving.{told}
+use Rattle.promised_run.specs.of_gateway_run.Serving.{told}
 use Rattle.ecmbx_call.specs.Serving.{ServeCourse}
 use Rattle.ecmbx_words.proofs.Loads.{loaded, unloaded}
 use Rattle.ecmbx_call.specs.Files.{limit}

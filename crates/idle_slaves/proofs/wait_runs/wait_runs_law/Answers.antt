@@ -1,4 +1,4 @@
-use Rattle.run_frames.proofs.Tallying.{first_of_plan}
+use Rattle.plan_ring.proofs.of_run_frames.Tallying.{first_of_plan}
 use Rattle.segment_plan.specs.Bound.{slowest}
 use Rattle.idle_slaves.proofs.Ready.{never_all}
 use Rattle.idle_slaves.proofs.Walk.{Laws, walks, first_paces}

@@ -1,4 +1,4 @@
-use Rattle.exchange_model.proofs.Lifting.{lifted_law}
+use Rattle.soe_model.proofs.of_exchange_model.Lifting.{lifted_law}
 use Rattle.soe_model.specs.Model.{soe_exchange}
 use Rattle.soe_model.specs.Octets.{soe_mail_heard, soe_mail_written}
 use Rattle.soe_model.proofs.SoeLaw.{soe_law}

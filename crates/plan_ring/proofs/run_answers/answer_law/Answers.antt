@@ -1,8 +1,8 @@
 use Rattle.std.proofs.Common.{[]}
-use Rattle.life_runs.specs.First.{first_leads}
-use Rattle.life_runs.specs.Led.{IsLed}
+use Rattle.run_frames.specs.of_life_runs.First.{first_leads}
+use Rattle.run_frames.specs.of_life_runs.Led.{IsLed}
 use Rattle.run_frames.proofs.Tallying.{first_of_plan}
-use Rattle.segment_plan.specs.Bound.{slowest}
+use Rattle.scenario.specs.of_segment_plan.Bound.{slowest}
 use Rattle.plan_ring.proofs.Runs.{answered}
 use Rattle.plan_ring.proofs.run_answers.answer_law.Goals as goal
 

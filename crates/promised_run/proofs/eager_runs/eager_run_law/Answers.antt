@@ -5,8 +5,8 @@ use Rattle.segment_plan.specs.Bound.{slowest}
 use Rattle.run_frames.proofs.Tallying.{first_of_plan}
 use Rattle.promised_run.proofs.News.{all_news}
 use Rattle.promised_run.proofs.Tours.{bridged}
-use Rattle.master_node.specs.Happened.{arrivals_at}
-use Rattle.packets_heard.specs.Recalled.{IsFirst}
+use Rattle.run_book.specs.of_master_node.Happened.{arrivals_at}
+use Rattle.run_record.specs.of_packets_heard.Recalled.{IsFirst}
 use Rattle.std.specs.Prelude.{[], length, ◌≡◌, ◌+◌}
 use Rattle.promised_run.specs.Runs.{remembered}
 use Rattle.promised_run.proofs.First.{first_unpassed}

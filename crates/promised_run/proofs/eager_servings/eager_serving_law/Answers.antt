@@ -8,15 +8,15 @@ use Rattle.promised_run.proofs.EagerWalk.{Holds, Known, Laws, Step, Ask, frames,
 use Rattle.life_runs.specs.First.{first_leads, leads_from, lens_of}
 use Rattle.life_runs.specs.Led.{Leads}
 use Rattle.life_runs.proofs.First.{apart_from}
-use Rattle.master_node.specs.Happened.{arrivals_at}
-use Rattle.master_node.specs.Shows.{is_opening_lead}
-use Rattle.master_node.specs.of_master_tour.Goes.{holds_at}
-use Rattle.packets_heard.specs.Recalled.{IsFirst}
+use Rattle.run_book.specs.of_master_node.Happened.{arrivals_at}
+use Rattle.run_book.specs.of_master_node.Shows.{is_opening_lead}
+use Rattle.run_book.specs.of_master_node.of_master_tour.Goes.{holds_at}
+use Rattle.run_record.specs.of_packets_heard.Recalled.{IsFirst}
 use Rattle.plan_ring.proofs.Known.{macs_in}
 use Rattle.segment_plan.specs.Bound.{slowest}
 use Rattle.segment_plan.specs.declared.service.Service as Plan
 use Rattle.segment_plan.specs.declared.slave.SlaveSpec.{SlaveSpec}
-use Rattle.served_places.proofs.Slaves.{begins_so, first_leads_in}
+use Rattle.run_record.proofs.of_served_places.Slaves.{begins_so, first_leads_in}
 use Rattle.served_runs.specs.Served.{all_serve}
 use Rattle.promised_run.proofs.TouredTours.{bridged}
 use Rattle.promised_run.proofs.eager_servings.eager_serving_law.Goals as goal

@@ -1,5 +1,5 @@
 use Rattle.std.proofs.Common.{map}
-use Rattle.master_node.specs.Toured.{tour_of}
+use Rattle.run_book.specs.of_master_node.Toured.{tour_of}
 use Rattle.run_record.specs.Led.{exchanged}
 use Rattle.promised_run.proofs.served_books.tour_law.Goals as goal
 

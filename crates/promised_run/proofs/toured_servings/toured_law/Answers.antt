@@ -2,10 +2,10 @@ use Rattle.std.specs.Prelude.{⊤}
 use Rattle.std.proofs.Common.{ℕ, List, length, true, ◌≡◌, ◌<◌, sym, subst}
 use Rattle.life_runs.specs.First.{lens_of, first_leads}
 use Rattle.life_runs.specs.Led.{Leads}
-use Rattle.master_node.specs.Shows.{is_opening_lead}
-use Rattle.master_node.specs.of_master_tour.Goes.{holds_at}
+use Rattle.run_book.specs.of_master_node.Shows.{is_opening_lead}
+use Rattle.run_book.specs.of_master_node.of_master_tour.Goes.{holds_at}
 use Rattle.segment_plan.specs.Bound.{slowest}
-use Rattle.served_places.proofs.Slaves.{begins_so, first_leads_in}
+use Rattle.run_record.proofs.of_served_places.Slaves.{begins_so, first_leads_in}
 use Rattle.served_runs.specs.Served.{all_serve}
 use Rattle.promised_run.proofs.News.{all_news}
 use Rattle.promised_run.proofs.TouredTours.{asks_none, bridged, frames_none, knows_none, stays_none, steps_none}

@@ -7,7 +7,7 @@ use Rattle.master_node.specs.Serving.{ServedShows}
 use Rattle.master_node.specs.Toured.{tour_of}
 use Rattle.segment_ring.specs.declared.wire.Fate.{Fate}
 use Rattle.segment_ring.specs.declared.wire.Fate.TheVariants as Fates
-use Rattle.served_runs.specs.Served.{served_behind}
+use Rattle.master_node.specs.of_served_runs.Served.{served_behind}
 use Rattle.packets_heard.specs.Toured.{tour_behind}
 use Rattle.packets_heard.specs.Served.{serves_behind}
 use Rattle.master_node.specs.Serving.{run_lead, run_turn}

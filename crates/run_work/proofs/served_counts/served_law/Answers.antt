@@ -1,4 +1,4 @@
-use Rattle.life_runs.specs.First.{lens_of}
+use Rattle.run_frames.specs.of_life_runs.First.{lens_of}
 use Rattle.serving_model.proofs.StatesLaw.{tagged_stated}
 use Rattle.slave_model.specs.Acknowledged.{acknowledged}
 use Rattle.slave_model.specs.Profile.{Profile, IsProfile}

@@ -1,6 +1,6 @@
 use Rattle.life_runs.specs.First.{lens_of}
 use Rattle.segment_plan.specs.Bound.{slowest}
-use Rattle.served_places.proofs.Slaves.{begins_so}
+use Rattle.served_rings.proofs.of_served_places.Slaves.{begins_so}
 use Rattle.seen_slaves.proofs.Answered.{answered}
 use Rattle.seen_slaves.proofs.Clocks.{first_stand}
 use Rattle.seen_slaves.proofs.Walk.{first_clocks, first_of}

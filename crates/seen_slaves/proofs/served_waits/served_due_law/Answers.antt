@@ -4,17 +4,17 @@ use Rattle.datagrams.specs.Frame.{chained}
 use Rattle.frame_view.specs.Seen.{seen}
 use Rattle.frame_view.proofs.Octets.{seen_chained}
 use Rattle.life_runs.specs.First.{lens_of}
-use Rattle.plan_ring.specs.PlanMet.{AllMet}
-use Rattle.plan_ring.specs.Round.{all_seen, frame_seen, ring_after, ring_of}
-use Rattle.plan_ring.proofs.Known.{macs_in}
-use Rattle.plan_ring.proofs.Lives.{front_round, last_round}
-use Rattle.served_runs.specs.Served.{AllServedTurn}
+use Rattle.idle_slaves.specs.of_plan_ring.PlanMet.{AllMet}
+use Rattle.idle_slaves.specs.of_plan_ring.Round.{all_seen, frame_seen, ring_after, ring_of}
+use Rattle.idle_slaves.proofs.of_plan_ring.Known.{macs_in}
+use Rattle.idle_slaves.proofs.of_plan_ring.Lives.{front_round, last_round}
+use Rattle.served_rings.specs.of_served_runs.Served.{AllServedTurn}
 use Rattle.seen_slaves.specs.Eager.{leads_of}
 use Rattle.seen_slaves.proofs.Dues.{all_due}
 use Rattle.seen_slaves.proofs.Meets.{served_met}
 use Rattle.seen_slaves.proofs.Seats.{Laws, nodes_are}
 use Rattle.seen_slaves.proofs.served_waits.served_due_law.Goals as goal
-use Rattle.slave_server.specs.Serving.{Serving}
+use Rattle.idle_slaves.specs.of_slave_server.Serving.{Serving}
 use Rattle.slave_steps.specs.Node.{Node}
 
 pub returns : goal.returns

@@ -1,9 +1,9 @@
 use Rattle.std.proofs.Common.{subst, sym, ◌∙◌}
 use Rattle.idle_slaves.proofs.Fits.{AllSeated}
 use Rattle.life_runs.specs.First.{first_leads, lens_of}
-use Rattle.plan_ring.specs.Round.{all_seen, ring_of}
-use Rattle.plan_ring.proofs.Known.{macs_in}
-use Rattle.plan_ring.proofs.Lives.{front_round, last_round}
+use Rattle.idle_slaves.specs.of_plan_ring.Round.{all_seen, ring_of}
+use Rattle.idle_slaves.proofs.of_plan_ring.Known.{macs_in}
+use Rattle.idle_slaves.proofs.of_plan_ring.Lives.{front_round, last_round}
 use Rattle.seen_slaves.proofs.Rows.{serves_pass}
 use Rattle.seen_slaves.proofs.Turns.{serves_told}
 use Rattle.seen_slaves.specs.Eager.{leads_of}

@@ -1,6 +1,6 @@
 use Rattle.std.proofs.Common.{◌≡◌, ◌+◌, ◌-◌, ◌*◌, ◌≤◌, suc, length, subst, arith}
 use Rattle.life_runs.specs.First.{lens_of, first_leads}
-use Rattle.master_node.specs.Ports.{ports_behind, ports_of}
+use Rattle.packets_heard.specs.of_master_node.Ports.{ports_behind, ports_of}
 use Rattle.packets_heard.specs.Heard.{joined_in}
 use Rattle.packets_heard.specs.Over as Over
 use Rattle.run_work.specs.Packets.{waiting_work}

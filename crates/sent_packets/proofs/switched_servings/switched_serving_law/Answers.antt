@@ -1,7 +1,7 @@
 use Rattle.std.proofs.Common.{◌≡◌, ◌+◌, ◌-◌, ◌*◌, ◌≤◌, suc, length, map, subst, arith}
 use Rattle.life_runs.specs.First.{lens_of, first_leads}
-use Rattle.master_node.specs.Ports.{ports_behind, ports_of}
-use Rattle.master_node.specs.Serving.{run_lead}
+use Rattle.packets_heard.specs.of_master_node.Ports.{ports_behind, ports_of}
+use Rattle.packets_heard.specs.of_master_node.Serving.{run_lead}
 use Rattle.packets_heard.specs.Servings.{served_joined, served_packets}
 use Rattle.run_work.specs.Packets.{waiting_work}
 use Rattle.run_work.specs.Together.{packets_begun}

@@ -1,5 +1,5 @@
 use Rattle.std.proofs.Common.{◌<◌, ◌+◌, ◌*◌, length, subst}
-use Rattle.life_runs.specs.First.{lens_of, first_leads}
+use Rattle.run_frames.specs.of_life_runs.First.{lens_of, first_leads}
 use Rattle.segment_plan.specs.Bound.{slowest}
 use Rattle.served_runs.specs.Served.{all_serve}
 use Rattle.served_places.specs.Toured.{first_served}

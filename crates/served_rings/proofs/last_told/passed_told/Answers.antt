@@ -1,4 +1,4 @@
-use Rattle.master_hand.specs.Spoken.{is_followed}
+use Rattle.run_work.specs.of_master_hand.Spoken.{is_followed}
 use Rattle.slave_served.specs.Served.{product_whole}
 use Rattle.served_rings.proofs.Slaves.{slave_tells}
 use Rattle.served_rings.proofs.Passed as Passed

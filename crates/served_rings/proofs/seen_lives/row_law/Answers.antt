@@ -1,6 +1,6 @@
 use Rattle.std.proofs.Common.{refl}
-use Rattle.life_counts.proofs.TaggedWhole.{seeing_lawful, seeing_stated}
-use Rattle.life_counts.specs.Epochs.{between}
+use Rattle.run_work.proofs.of_life_counts.TaggedWhole.{seeing_lawful, seeing_stated}
+use Rattle.run_work.specs.of_life_counts.Epochs.{between}
 use Rattle.served_rings.proofs.SeenRows.{era_in}
 use Rattle.served_rings.proofs.seen_lives.row_law.Goals as goal
 

@@ -1,7 +1,7 @@
 -- What the read gave is the news of the mail that it brought.
 use Rattle.std.proofs.Common.{◌∙◌, refl}
 use Rattle.mailbox_mail.specs.Mail.{mail_read}
-use Rattle.link_model.specs.Master.{InState}
+use Rattle.link_mails.specs.of_link_model.Master.{InState}
 use Rattle.mailbox_master.specs.Halves.{in_half}
 use Rattle.link_mails.specs.Body.{mail_brought}
 use Rattle.mailbox_master.specs.Next.{accepted_by}

@@ -5,7 +5,7 @@ use Rattle.master_tour.proofs.Walks.{steps_both, steps_set}
 use Rattle.master_node.specs.Appends.{AppendsMail}
 use Rattle.master_node.proofs.Places.{waiting_here}
 use Rattle.std.proofs.Common.{subst}
-use Rattle.life_runs.specs.of_life_frames.Shares.{AreDistinct}
+use Rattle.served_runs.specs.of_life_runs.of_life_frames.Shares.{AreDistinct}
 use Rattle.master_node.specs.Shows.{GoesOn, lived_of}
 use Rattle.master_node.proofs.Servings.{asked_so, leads_same}
 use Rattle.master_node.proofs.Numbereds.{numbers_asked}

@@ -2,9 +2,9 @@ use Rattle.std.proofs.Common.{◌≡◌, ◌≤◌, ◌+◌, ℕ, List, length, 
 use Rattle.std.specs.Prelude.{map}
 use Rattle.datagrams.specs.Datagram as Raw
 use Rattle.datagrams.specs.Frame.{IsBegun}
-use Rattle.life_runs.specs.of_frame_view.View.{Lens}
-use Rattle.life_runs.specs.of_life_frames.Shares.{AreDistinct}
-use Rattle.life_runs.specs.Led.{Leads}
+use Rattle.served_runs.specs.of_life_runs.of_frame_view.View.{Lens}
+use Rattle.served_runs.specs.of_life_runs.of_life_frames.Shares.{AreDistinct}
+use Rattle.served_runs.specs.of_life_runs.Led.{Leads}
 use Rattle.master_node.specs.Filling.{IsEmpty}
 use Rattle.master_node.specs.Happened.{Happens}
 use Rattle.master_node.specs.Kept.{TourOn}

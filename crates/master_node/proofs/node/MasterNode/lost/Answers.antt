@@ -1,6 +1,6 @@
 use Rattle.std.proofs.Common.{◌≡◌, ◌≤◌, ◌+◌, Bool, [], refl, sym, ap, ◌∙◌, arith, length}
 use Rattle.std.specs.Prelude.{map, not, nat_lt, if◌then◌else◌}
-use Rattle.life_runs.specs.Led.{speech_at, gives_up_at, led_behind}
+use Rattle.served_runs.specs.of_life_runs.Led.{speech_at, gives_up_at, led_behind}
 use Rattle.master_tour.specs.Orders.{last_behind}
 use Rattle.master_node.specs.Shows.{is_opening_lead}
 use Rattle.master_node.proofs.Toureds.{lost_same}
@@ -12,8 +12,8 @@ use Rattle.master_node.proofs.Lists.{both_map, each_length}
 use Rattle.master_node.proofs.Behinds.{life_lost_is, lead_behind, all_led, goes_lost, behind_shows, missed_is}
 use Rattle.std.proofs.Common.{subst, None}
 use Rattle.std.specs.Prelude.{◌&&◌}
-use Rattle.life_runs.specs.of_frame_view.Seen.{seen}
-use Rattle.life_runs.specs.of_life_frames.Shares.{Lived}
+use Rattle.served_runs.specs.of_life_runs.of_frame_view.Seen.{seen}
+use Rattle.served_runs.specs.of_life_runs.of_life_frames.Shares.{Lived}
 use Rattle.master_duty.specs.Reply.{Reply}
 use Rattle.master_hand.specs.Joins.{unfinished_behind}
 use Rattle.master_tour.specs.Joins.{join_at}
@@ -37,7 +37,7 @@ use Rattle.master_node.proofs.Recalled.{recalls_lost, recalls_run}
 use Rattle.master_node.specs.Eager.{recalls}
 use Rattle.std.proofs.Common.{suc}
 use Rattle.counters_kept.proofs.Lives.{stands_kept}
-use Rattle.life_runs.specs.of_life_frames.Shares.{AllThree}
+use Rattle.served_runs.specs.of_life_runs.of_life_frames.Shares.{AllThree}
 use Rattle.master_tour.specs.Stands.{StandShows}
 use Rattle.served_runs.specs.Served.{served_behind}
 use Rattle.master_node.specs.Serving.{IsServed, IsServedUnder, mails_in, run_lead, run_turn}

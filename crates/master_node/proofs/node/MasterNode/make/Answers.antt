@@ -1,7 +1,7 @@
 use Rattle.std.proofs.Common.{◌≡◌, ◌∙◌, ◌%◌, ℕ, Option, None, true, false, refl, sym, ap, subst, length}
 use Rattle.std.specs.Prelude.{map, is_some}
-use Rattle.life_runs.specs.of_frame_view.Seen.{seen}
-use Rattle.life_runs.specs.Led.{speech_at}
+use Rattle.served_runs.specs.of_life_runs.of_frame_view.Seen.{seen}
+use Rattle.served_runs.specs.of_life_runs.Led.{speech_at}
 use Rattle.master_hand.specs.Spoken.{Asked, is_followed, is_passed}
 use Rattle.master_tour.specs.Goes.{is_live, holds_at}
 use Rattle.master_tour.specs.Made.{FrameMade, is_in}
@@ -31,10 +31,10 @@ use Rattle.std.proofs.Common.{[]}
 use Rattle.master_node.specs.Begins.{begun_for}
 use Rattle.master_node.specs.Starts.{HasStarted}
 use Rattle.master_node.proofs.Starts.{all_start, from_both, serves_start}
-use Rattle.life_runs.specs.of_life_frames.Shares.{AreDistinct}
+use Rattle.served_runs.specs.of_life_runs.of_life_frames.Shares.{AreDistinct}
 use Rattle.master_hand.specs.Shown.{awaits_reply}
 use Rattle.master_node.specs.Serving.{IsServed, IsServedUnder, run_lead, run_turn}
-use Rattle.life_runs.specs.of_life_frames.Shares.{AllFrom, AllThree}
+use Rattle.served_runs.specs.of_life_runs.of_life_frames.Shares.{AllFrom, AllThree}
 use Rattle.master_hand.specs.Laying.{scripted}
 use Rattle.master_node.specs.Shows.{IsLived, IsUnder}
 use Rattle.master_node.proofs.Serveds.{long_served, three_both}

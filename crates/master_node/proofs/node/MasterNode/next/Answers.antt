@@ -2,7 +2,7 @@ use Rattle.std.proofs.Common.{◌≡◌, ◌≤◌, ◌∙◌, true, [], refl, s
 use Rattle.master_node.proofs.Begins.{has_none}
 use Rattle.master_node.specs.Origins.{forwards_at}
 use Rattle.master_node.proofs.Listing.{before_of_list, listed_whole, services_made, unlisted}
-use Rattle.life_runs.specs.of_frame_view.Seen.{seen}
+use Rattle.served_runs.specs.of_life_runs.of_frame_view.Seen.{seen}
 use Rattle.std.specs.List.{list_any}
 use Rattle.master_tour.specs.Goes.{is_live, holds_at}
 use Rattle.master_node.proofs.Sents.{shows_same}

@@ -1,7 +1,7 @@
 use Rattle.std.proofs.Common.{[], refl, ap, ◌∙◌, arith, length}
 use Rattle.std.specs.Prelude.{map}
-use Rattle.life_runs.specs.of_frame_view.Seen.{seen}
-use Rattle.life_runs.specs.Led.{speech_at, gives_up_at, led_behind}
+use Rattle.served_runs.specs.of_life_runs.of_frame_view.Seen.{seen}
+use Rattle.served_runs.specs.of_life_runs.Led.{speech_at, gives_up_at, led_behind}
 use Rattle.master_tour.specs.Orders.{last_behind}
 use Rattle.master_node.specs.Shows.{is_opening_lead}
 use Rattle.master_node.proofs.Toureds.{goes_same}
@@ -14,7 +14,7 @@ use Rattle.master_node.proofs.Broughts.{brought_kept}
 use Rattle.master_node.proofs.Lists.{both_each, both_map, each_length}
 use Rattle.master_node.proofs.Behinds.{life_back_is, lead_behind, all_led, goes_behind, behind_shows}
 use Rattle.std.proofs.Common.{subst, None}
-use Rattle.life_runs.specs.of_life_frames.Shares.{Lived}
+use Rattle.served_runs.specs.of_life_runs.of_life_frames.Shares.{Lived}
 use Rattle.master_duty.specs.Reply.{Reply}
 use Rattle.master_hand.specs.Joins.{unfinished_behind}
 use Rattle.master_tour.specs.Joins.{join_at}
@@ -38,7 +38,7 @@ use Rattle.master_node.proofs.ServedPasses.{all_pass}
 use Rattle.master_node.proofs.Visitings.{visit_asks}
 use Rattle.std.proofs.Common.{◌+◌, ◌-◌, ◌%◌, ◌^◌, suc}
 use Rattle.counters_kept.proofs.Lives.{stands_kept}
-use Rattle.life_runs.specs.of_life_frames.Shares.{AllThree}
+use Rattle.served_runs.specs.of_life_runs.of_life_frames.Shares.{AllThree}
 use Rattle.master_hand.specs.Shown.{awaits_reply}
 use Rattle.master_side.specs.Passing.{counts_at, news_back}
 use Rattle.master_tour.specs.Counting.{CountsOn}

@@ -9,7 +9,7 @@ use Rattle.master_hand.specs.contracts.hand.InHandHand.TheImpl as Impl
 use Rattle.master_hand.specs.declared.hand.InHand.{InHand}
 use Rattle.master_tour.specs.declared.stop.Stop.{Stop}
 use Rattle.master_side.specs.Shown.{wish_begun}
-use Rattle.life_runs.specs.Led.{speech_at}
+use Rattle.served_runs.specs.of_life_runs.Led.{speech_at}
 use Rattle.master_hand.specs.Spoken.{is_followed, is_passed}
 use Rattle.master_tour.specs.Goes.{is_live}
 use Rattle.master_tour.specs.Made.{FrameMade, ComesAt}
@@ -71,7 +71,7 @@ use Rattle.master_node.proofs.ServedStarts.{all_without, leaves_all, serves_star
 use Rattle.master_node.proofs.Threes.{three_each}
 use Rattle.master_node.proofs.FreeKept as Frees
 use Rattle.std.proofs.Common.{length}
-use Rattle.life_runs.specs.of_life_frames.Shares.{AreDistinct}
+use Rattle.served_runs.specs.of_life_runs.of_life_frames.Shares.{AreDistinct}
 use Rattle.master_node.specs.Events.{served_tells}
 use Rattle.master_node.specs.Numbered.{IsNumbered, StaysNumbered}
 use Rattle.master_node.proofs.Lists.{both_each}

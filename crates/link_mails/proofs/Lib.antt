@@ -1,0 +1,1 @@
+pub use Rattle.link_model.proofs as of_link_model
