@@ -6,6 +6,6 @@ use Rattle.run_book.specs.declared.book.Ending.{Ending}
 use Rattle.run_record.specs.Written.{WereServedDue}
 use Rattle.segment_plan.specs.declared.plan.Scenario.{Scenario}
 
--- by each account of its book: it replies to nothing, or no service of the epoch came into hand before, or it is of the reply that the newest one still awaits
+-- by each account of its book: it replies to nothing, or no service by mails of the epoch came into hand before, or it is of the reply that the newest one still awaits
 abbrev pub IsServedDue : Scenario → ℕ → Book → Type 0
 IsServedDue plan count book = (ending : Ending) (a : HasAccount plan count book ending) → WereServedDue a.answers.serving.leading.lives

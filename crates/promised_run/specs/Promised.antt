@@ -41,13 +41,13 @@ pub record IsPromised (plan : Scenario) (book : Book) : Type 0 where
   pub kept : Keeps plan (map exchanged book.frames) led.leads
   pub slaves : slaves_behind plan (map exchanged book.frames) ≡ (ring_after (first_ring plan) book.frames).nodes
   pub over : LeavesNothing plan book led.leads book.ending
-  -- and each has the number of services (`handled`) of those that it carried out, epoch by epoch, as in a serving to which no mail is asked
+  -- and each counts just the services by mails that it carried out, epoch by epoch (`handled`): a run is a serving to which no mail is asked
   pub served : ServesAlone plan book led.leads
   -- of the script just the services stand there that began, each reported with just what the frames give for it, the reply of this application, or in doubt
   pub reported : book.ending ≢ endings.NoMemory → AllReported plan (map exchanged book.frames) 0 plan.slaves led.leads (slaves_behind plan (map exchanged book.frames)) book.slaves
   -- and of each script just the rest, behind the services that began, is reported as not sent
   pub unsent : book.ending ≢ endings.NoMemory → AllUnsent plan 0 led.leads book.slaves
-  -- and the epochs of the book are those of the lives, each with its cause, and with the AL state that it opens
+  -- and the epochs of the book are those of the lives, in which each has its cause, and opens the AL state that follows of it
   pub epochs : book.ending ≢ endings.NoMemory → AllCaused led.leads book.slaves
   -- and of each slave just the emergencies among the mails that its life accepted over these frames are reported, each with the frame that brought it
   pub emergencies : book.ending ≢ endings.NoMemory → AllHaveEmergencies (heard_in led.lives) book.slaves

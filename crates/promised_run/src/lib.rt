@@ -32,8 +32,9 @@ use served_runs::run_served_law;
 use std::alloc::Global;
 
 /// Runs a plan that was read, as `run_record` does. Whatever frames are lost, each slave begins just the first services of its script, each once and
-/// in order; it has carried out in each epoch just the first of these, and each reply is its application's. A budget of as many frames as the bound never cuts
-/// it off; and where no more in a row are lost than the retry limit, all is done.
+/// in order; it has carried out in each epoch just the first of these and counts just those by mails, and each reply is its application's. Each epoch
+/// opens the AL state that its cause says, and each frame is addressed to the slaves of its visit. A budget of as many frames as the bound never cuts
+/// it off, and where a budget was spent something was left to do; where no more in a row are lost than the retry limit, all is done.
 pub fn run(alloc: Global, plan: &Scenario, book: &mut Book) -> Ending
     requires plan { IsPlan plan.now }
     requires told { IsTold plan.now }
