@@ -150,7 +150,7 @@ module _ (plan : Scenario) (is : IsPlan plan) (known : IsKnown plan) (returned :
   abbrev RowsOf : SlaveSpec → List (List Body) → List (Era Body Asked Reply) → Type 0
   RowsOf s = Rows
 
-  rows_of : (s : SlaveSpec) → IsTally (RowsOf s)
+  abbrev rows_of : (s : SlaveSpec) → IsTally (RowsOf s)
   rows_of s = row_tally
 
   abbrev AllLiveHere : List (Frame Body) → List SlaveSpec → List Serves → Type 0
