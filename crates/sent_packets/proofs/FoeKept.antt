@@ -1,5 +1,5 @@
 -- What new versions of files keep of a state, any mail of FoE keeps.
-use Rattle.std.proofs.Common.{◌≡◌, ℕ, ◌+◌, ◌==◌, not, nat_lt, Bool, true, false, List, ◌++◌, length, Option, None, Some, if◌then◌else◌}
+use Rattle.std.proofs.Common.{ℕ, ◌+◌, ◌==◌, not, nat_lt, Bool, true, false, List, ◌++◌, length, Option, None, Some, if◌then◌else◌}
 use Rattle.foe_model.specs.Files.{Files}
 use Rattle.foe_model.specs.Mails.{Foe, Read, Write, Data, Ack, Error, Busy, FoeFault, Short, Opcode, Name, FoeMail, mail, unread, failed, other}
 use Rattle.foe_model.specs.Server.{Transfer, idle, reading, writing, closing, Server, Outcome, foe_takes, serve, opened, begun, closes, stores, takes_data, takes_ack, takes_unread, is_last, packet_room}

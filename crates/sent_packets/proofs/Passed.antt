@@ -1,5 +1,5 @@
 -- What a slave sends by a mail that is passed on: no packet, by a fair mail of CoE, FoE or SoE.
-use Rattle.std.proofs.Common.{◌≡◌, ℕ, ◌-◌, ◌==◌, ◌&&◌, ◌||◌, not, Bool, true, false, List, [], ◌∷◌, ◌++◌, map, Option, Some, None, Ok, Err, refl, ap, ◌∙◌, if◌then◌else◌}
+use Rattle.std.proofs.Common.{◌≡◌, ℕ, ◌==◌, ◌&&◌, ◌||◌, not, Bool, true, false, List, [], ◌∷◌, ◌++◌, map, Option, Some, None, Ok, Err, refl, ap, ◌∙◌, if◌then◌else◌}
 use Rattle.coe_model.specs.Mails as Coe
 use Rattle.coe_model.specs.Mails.{CoeMail, mail, unread, failed, other}
 use Rattle.coe_model.specs.Octets as CoeOctets

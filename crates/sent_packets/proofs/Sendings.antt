@@ -1,5 +1,5 @@
 -- EACH EPOCH OF A LIFE sends whole packets, whatever mails are passed on in it.
-use Rattle.std.proofs.Common.{◌≡◌, ℕ, ◌≤◌, Bool, true, false, None, All, List, [], ◌∷◌, ◌++◌, length, map, take, Ok, refl, sym, ap, ◌∙◌, subst, arith}
+use Rattle.std.proofs.Common.{◌≡◌, ℕ, Bool, true, false, None, All, List, [], ◌∷◌, ◌++◌, length, map, take, Ok, refl, sym, ap, ◌∙◌, subst, arith}
 use Rattle.std.specs.Prelude.{sum_by}
 use Rattle.std.proofs.lemmas.List.Elements.{All-head, All-tail}
 use Rattle.exchange_model.specs.Exchange.{Exchange, emitted}
@@ -74,13 +74,15 @@ module _ (p : Profile) (is : IsProfile p) where
   passed_sends v m may =
       let gives = (x.serve v (Ok m)).1 in
       let some = (serve_leaves p is v.state v.inner (Ok m) may).0 in
-      let s = some.1 in
-      (some.0, record {
-        packets = s.packets;
-        cut = ap (parts fragment_in) (untag_own OwnService (emitted emission gives)) ∙ sym (heard_own emission fragment_in own_fragment gives) ∙ s.cut;
-        are = s.are;
-        few = s.few;
-      })
+      let s = some.1 in (
+        some.0,
+        record {
+          packets = s.packets;
+          cut = ap (parts fragment_in) (untag_own OwnService (emitted emission gives)) ∙ sym (heard_own emission fragment_in own_fragment gives) ∙ s.cut;
+          are = s.are;
+          few = s.few;
+        },
+      )
 
   -- ---- BOTH, by the master's names
   pub asked_sends : (v : InState Server) (q : Asked) → MaySend v.inner.app → SendsSome p.back ((spoken p).emits v q)

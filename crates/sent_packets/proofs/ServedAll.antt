@@ -1,5 +1,5 @@
 -- ALL SLAVES OF A SERVING, frame by frame: the mails that its master accepts of each are those that its epochs hear.
-use Rattle.std.proofs.Common.{◌≡◌, ℕ, zero, suc, Bool, true, All, List, [], ◌∷◌, ◌++◌, map, length, refl, sym, ◌∙◌, subst, Ok}
+use Rattle.std.proofs.Common.{◌≡◌, ℕ, zero, suc, Bool, true, All, List, [], ◌∷◌, ◌++◌, map, length, refl, sym, subst, Ok}
 use Rattle.std.proofs.lemmas.List.Elements.{All-cons, All-head, All-nil, All-tail}
 use Rattle.datagrams.specs.Datagram as Raw
 use Rattle.frame_view.specs.View.{Lens}
