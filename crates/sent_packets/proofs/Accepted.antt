@@ -1,16 +1,16 @@
 -- THE MAILS ACCEPTED EACH TIME that a slave was open are those that were heard in the rows of its epochs, whatever mails are passed on.
-use Rattle.std.proofs.Common.{◌≡◌, ◌&&◌, ℕ, suc, Bool, true, All, Some, List, [], ◌∷◌, ◌++◌, map, length, refl, sym, ap, ◌∙◌, subst, append-nil, append_assoc}
-use Rattle.std.proofs.lemmas.List.Elements.{All-head, All-tail}
+use Rattle.std.proofs.Common.{◌≡◌, ◌&&◌, ℕ, suc, Bool, true, All, None, Some, List, [], ◌∷◌, ◌++◌, map, length, refl, sym, ap, ◌∙◌, subst, ap₂, append-nil, append_assoc}
+use Rattle.std.proofs.lemmas.List.Elements.{All-cons, All-head, All-nil, All-tail}
 use Rattle.exchange_model.specs.Rows.{heard_all}
 use Rattle.frame_view.specs.View.{Lens}
 use Rattle.life_model.specs.Eras.{era_frames}
 use Rattle.life_model.specs.Lives.{Spot, Era, Life, Stand}
-use Rattle.life_runs.specs.First.{first_leads, lens_of, spot_of}
-use Rattle.life_runs.specs.Led.{Exchanged}
+use Rattle.life_runs.specs.First.{first_leads, leads_from, lens_of, spot_of}
+use Rattle.life_runs.specs.Led.{Exchanged, IsLed, Leads}
 use Rattle.link_mails.specs.Body.{Body}
 use Rattle.master_duty.specs.Reply.{Reply}
 use Rattle.master_hand.specs.Spoken.{Asked, is_followed, is_passed}
-use Rattle.packets_heard.specs.Heard.{Times, ended}
+use Rattle.packets_heard.specs.Heard.{Times, ended, times_in}
 use Rattle.packets_heard.specs.Servings.{served_times}
 use Rattle.packets_heard.specs.of_master_node.Serving.{run_lead}
 use Rattle.plan_ring.specs.Lives.{IsKnown}
@@ -26,12 +26,13 @@ use Rattle.run_work.specs.of_life_counts.Epochs.{IsSeen, IsSpeaker, between}
 use Rattle.segment_model.specs.Record.{Frame, Kept, kept_all, nothing_kept}
 use Rattle.segment_plan.specs.Sound.{IsPlan, IsSlave}
 use Rattle.segment_plan.specs.declared.plan.Scenario.{Scenario}
+use Rattle.segment_plan.specs.declared.service.Service as Plan
 use Rattle.segment_plan.specs.declared.slave.SlaveSpec.{SlaveSpec}
 use Rattle.sent_packets.specs.Whole.{AllAreHeard, heard_in, heard_over}
 use Rattle.sent_packets.proofs.Live.{IsLive, IsNew, IsTally}
 use Rattle.sent_packets.proofs.Seen.{kept_as}
 use Rattle.sent_packets.proofs.Times.{TracksAs, TracksShut, shut_now}
-use Rattle.sent_packets.proofs.Tracked.{AllLive, AllTrack, ReturnsLaw, served_tracks}
+use Rattle.sent_packets.proofs.Tracked.{AllLive, AllTrack, ReturnsLaw, run_tracks, served_tracks}
 use Rattle.served_rings.proofs.Mails.{all_mails, is_mail, mailer, mailer_runs, mailer_speaks}
 use Rattle.served_rings.specs.Clearing.{serves_clearing}
 use Rattle.served_rings.specs.Led.{LedEra}
@@ -41,9 +42,9 @@ use Rattle.served_rings.specs.Rings.{AllServedAt, AreServedLived, counters_of, s
 use Rattle.served_rings.specs.Serves.{serves}
 use Rattle.served_rings.specs.Speakers.{naming_of, processor_of, seer_of, speaker, spoken, table_of, whole_states}
 use Rattle.served_rings.specs.ToldEras.{AllToldLives, IsToldEra, IsToldLife, IsToldNewest}
-use Rattle.served_runs.specs.Served.{IsServedLed, Serves, all_serve}
+use Rattle.served_runs.specs.Served.{IsRunOf, IsServedLed, Serves, all_serve}
 use Rattle.slave_lives.specs.Lived.{Behind, node_seen}
-use Rattle.slave_lives.specs.Opening.{Plan}
+use Rattle.slave_lives.specs.Opening as Opening
 use Rattle.slave_model.specs.Profile.{IsProfile, Profile}
 use Rattle.slave_parts.specs.Parts.{Server, parts}
 use Rattle.slave_served.specs.Served.{product_whole}
@@ -132,13 +133,25 @@ module _ (p : Profile) (speaks : IsSpeaker (speaker p)) (boot : Bool) (lens : �
   told_open u fs e _ (IsToldNewest.over stand shut until t) open_ = absurd (shut open_)
 
   -- THE LIFE, while the slave is open
-  life_live : (plan : Plan) (kept : Kept) (counts : Bool) (first : InState Server) (l : Life Body Asked Reply) (fs : List (Frame Body)) (n : Node Serving) → IsLedLived w is_followed is_passed spot serves_clearing.cleared plan kept counts first l fs n →
+  life_live : (plan : Opening.Plan) (kept : Kept) (counts : Bool) (first : InState Server) (l : Life Body Asked Reply) (fs : List (Frame Body)) (n : Node Serving) → IsLedLived w is_followed is_passed spot serves_clearing.cleared plan kept counts first l fs n →
       {S V A : Type 0} (u : Behind S V A Asked Reply) → IsToldLife u spot fs l → l.stand ≡ Stand.Open → IsLive Rows spot fs l
   life_live plan kept counts first l fs n i u told stand =
       of (subst (λ (z : Stand). StandsBy w (λ a d gs m. LedKept w is_followed is_passed spot kept counts a d gs m) (λ a d gs m. LedYet w is_followed is_passed spot a d gs m) (λ a d gs s. LedLeft w is_followed is_passed spot a d s) plan spot i.from l.era fs z n) stand i.now)
     where
       of : LivesOpenBy w i.from l.era (λ a d gs m. LedKept w is_followed is_passed spot kept counts a d gs m) fs n → IsLive Rows spot fs l
       of now = let x = now.lives.epoch in era_live i.from x.led l.era fs n x.era l.past l.stand l.gave u (told_open u fs l.era l.stand told.newest stand)
+
+-- ---- a run's lives, as a serving has them
+pub leads_are : (ws : List Serves) (as' : List Leads) → IsRunOf ws as' → map run_lead ws ≡ as'
+leads_are [] [] alone = refl
+leads_are [] (a ∷ as') alone = absurd alone
+leads_are (w ∷ ws) [] alone = absurd alone
+leads_are (w ∷ ws) (a ∷ as') alone = ap₂ (λ (b : Leads) (bs : List Leads). b ∷ bs) alone.0.lead (leads_are ws as' alone.1)
+
+-- before the first frame no mail is passed on
+pub all_unpassed : (rows : List (ℕ × Plan.Service)) (place : ℕ) (ss : List SlaveSpec) → All (λ (a : Leads). a.lived.life.era.passing ≡ None) (leads_from rows place ss)
+all_unpassed rows place [] = All-nil (λ (a : Leads). a.lived.life.era.passing ≡ None)
+all_unpassed rows place (s ∷ ss) = All-cons (λ (a : Leads). a.lived.life.era.passing ≡ None) _ (leads_from rows (suc place) ss) refl (all_unpassed rows (suc place) ss)
 
 -- ---- ALL SLAVES
 module _ (plan : Scenario) (is : IsPlan plan) (known : IsKnown plan) (returned : ReturnsLaw) (speaks : (p : Profile) → IsProfile p → IsSpeaker (speaker p))
@@ -196,3 +209,18 @@ module _ (plan : Scenario) (is : IsPlan plan) (known : IsKnown plan) (returned :
       all_heard (all_seen lens fs) plan.slaves ws (served_times led)
       (served_tracks plan RowsOf rows_of returned (λ ws. Unit) (λ place k ws h. tt) (λ gives made f ds ws vs y h. tt) (λ fs missed ws led round h. live_at fs missed ws led round) fs missed ws led round tt)
       (live_at fs missed ws led round)
+
+  -- ---- OF A RUN, which is a serving to which no mail is asked
+  module _ (runs : (fs : List Exchanged) (missed : ℕ) (as' : List Leads) → IsLed (lens_of plan.slaves) plan.recover plan.retry (first_leads plan) fs missed as' →
+      (ws : List Serves) × IsServedLed (lens_of plan.slaves) plan.recover plan.retry (all_serve plan.paces (first_leads plan)) fs missed ws × IsRunOf ws as') where
+    run_live_at : (fs : List Exchanged) (missed : ℕ) (as' : List Leads) → IsLed (lens_of plan.slaves) plan.recover plan.retry (first_leads plan) fs missed as' → AllRound (ring_of plan) fs → AllLive plan RowsOf rows_of returned (all_seen lens fs) plan.slaves as'
+    run_live_at fs missed as' led round =
+        let r = runs fs missed as' led in
+        subst (λ (bs : List Leads). AllLive plan RowsOf rows_of returned (all_seen lens fs) plan.slaves bs) (leads_are r.0 as' r.2) (live_at fs missed r.0 r.1 round)
+
+    pub run_are_heard : (fs : List Exchanged) (missed : ℕ) (as' : List Leads) (led : IsLed (lens_of plan.slaves) plan.recover plan.retry (first_leads plan) fs missed as') → AllRound (ring_of plan) fs → (ws : List Serves) → IsRunOf ws as' → AllAreHeard ws (times_in led)
+    run_are_heard fs missed as' led round ws alone =
+        let same = sym (leads_are ws as' alone) in
+        all_heard (all_seen lens fs) plan.slaves ws (times_in led)
+        (subst (λ (bs : List Leads). AllTrack plan RowsOf rows_of returned (all_seen lens fs) plan.slaves bs (times_in led)) same (run_tracks plan RowsOf rows_of returned (λ fs missed as' led round. run_live_at fs missed as' led round) fs missed as' led round))
+        (subst (λ (bs : List Leads). AllLive plan RowsOf rows_of returned (all_seen lens fs) plan.slaves bs) same (run_live_at fs missed as' led round))

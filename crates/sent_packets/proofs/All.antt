@@ -1,25 +1,23 @@
 -- ALL SLAVES OF A PLAN, frame by frame.
-use Rattle.std.proofs.Common.{◌≡◌, ℕ, suc, ◌≤◌, nat_lt, ltb-true, Bool, true, All, List, [], ◌∷◌, ◌++◌, map, length, refl, sym, ap, ◌∙◌, subst, arith}
+use Rattle.std.proofs.Common.{◌≡◌, ℕ, suc, ◌≤◌, nat_lt, ltb-true, Bool, true, All, List, [], ◌∷◌, ◌++◌, length, refl, sym, ap, ◌∙◌, subst, arith}
 use Rattle.std.specs.Prelude.{sum_by}
-use Rattle.std.proofs.lemmas.List.{length-map, map-append}
 use Rattle.std.proofs.lemmas.List.Elements.{All-head, All-tail}
 use Rattle.std.proofs.lemmas.List.Sums.{sum_by-append}
 use Rattle.book_model.specs.Script.{eras_started, life_started}
 use Rattle.frame_view.specs.View.{Lens}
-use Rattle.frame_view.proofs.Octets.{seen_is, seen_chained}
 use Rattle.life_frames.specs.Shares.{AllBoth}
 use Rattle.life_model.specs.Lives.{Spot, Era, Life, Stand}
 use Rattle.life_runs.specs.First.{lens_of, first_leads}
-use Rattle.life_runs.specs.Led.{Exchanged, Leads, AllTurn, IsLed, led_behind, gives_up_at}
+use Rattle.life_runs.specs.Led.{Exchanged, Leads, IsLed}
 use Rattle.link_mails.specs.Body.{Body}
 use Rattle.master_duty.specs.Reply.{Reply}
 use Rattle.master_hand.specs.Spoken.{Asked, sdo, file, drive, net, passed}
-use Rattle.packets_heard.specs.Heard.{Joined, Times, IsJoined, joined_in, times_on, times_in}
+use Rattle.packets_heard.specs.Heard.{Joined, Times, IsJoined, joined_in, times_in}
 use Rattle.plan_ring.specs.Asked.{asked, service_of}
 use Rattle.plan_ring.specs.Lives.{IsKnown, IsShown, AllShown, AreLived}
 use Rattle.plan_ring.specs.Master as Master
 use Rattle.plan_ring.specs.Plan.{PlanMember, FitsPlan, step}
-use Rattle.plan_ring.specs.Round.{AllRound, ring_of, ring_after, frame_seen, all_seen}
+use Rattle.plan_ring.specs.Round.{AllRound, ring_of, all_seen}
 use Rattle.segment_model.specs.Record.{Frame}
 use Rattle.segment_plan.specs.Sound.{IsPlan, IsSlave}
 use Rattle.segment_plan.specs.declared.plan.Scenario.{Scenario}
@@ -42,7 +40,7 @@ use Rattle.sent_packets.proofs.Epochs.{Emit, SendSo, Joins, live}
 use Rattle.sent_packets.proofs.Live.{IsLive, IsTally}
 use Rattle.sent_packets.proofs.Owns.{own_fragment}
 use Rattle.sent_packets.proofs.Times.{TracksShut, TracksAs, Weighs, past_more, shut_now, weighs}
-use Rattle.sent_packets.proofs.Tracked.{AllLive, AllTrack, LiveSo, ReturnsLaw, all_turn, first_track, front_round, last_round, none_back, one_returned}
+use Rattle.sent_packets.proofs.Tracked.{AllLive, AllTrack, LiveSo, ReturnsLaw, run_tracks}
 
 -- ---- the services of a plan's slave send so
 pub valid_sends : (s : Station Core) → station_valid parts s ≡ true → MaySend s
@@ -143,19 +141,5 @@ module _ (weigh : List ℕ → ℕ) (plan : Scenario) (laws : Laws weigh) where
         let x = lives fs missed as' led round in
         all_live (all_seen lens fs) 0 plan.slaves x.members as' is.laid.slaves known.macs x.shown x.lives.each x.led
 
-    tracks : (fs : List Exchanged) (missed : ℕ) (as' : List Leads) (led : IsLed lens plan.recover plan.retry (first_leads plan) fs missed as') → AllRound (ring_of plan) fs → AllTrackOf (all_seen lens fs) plan.slaves as' (times_in led)
-    tracks _ _ _ IsLed.start round = first_track plan WeighsOf weighs_of laws.returns 0 plan.slaves
-    tracks _ _ _ (IsLed.on fs missed as' f us led frame) round =
-        let before = front_round plan WeighsOf weighs_of laws.returns (ring_of plan) fs f round in
-        let went = last_round plan WeighsOf weighs_of laws.returns (ring_of plan) fs f round in
-        let gs = all_seen lens fs in
-        let long : length gs ≡ length fs = length-map fs (frame_seen lens) in
-        let seen_so = seen_is lens f.sent _ frame.frame ∙ seen_chained lens frame.datagrams in
-        let turns : AllTurn lens (length gs) frame.datagrams as' us = subst (λ n. AllTurn lens n frame.datagrams as' us) (sym long) frame.each in
-        let all = all_turn plan WeighsOf weighs_of laws.returns (gives_up_at lens plan.recover plan.retry missed) gs f frame.datagrams seen_so (one_returned plan WeighsOf weighs_of laws.returns (ring_after (ring_of plan) fs) f frame.datagrams frame.frame went) (λ after lost. none_back plan WeighsOf weighs_of laws.returns (ring_after (ring_of plan) fs) f after went lost)
-        plan.slaves as' us (times_in led) turns (live_at fs missed as' led before) (tracks fs missed as' led before) in
-        subst (λ hs. AllTrackOf hs plan.slaves (map (led_behind lens plan.recover plan.retry (gives_up_at lens plan.recover plan.retry missed) (length fs) f) us) (times_on lens f (times_in led) us)) (sym (map-append (frame_seen lens) fs (f ∷ [])))
-        (subst (λ n. AllTrackOf (gs ++ frame_seen lens f ∷ []) plan.slaves (map (led_behind lens plan.recover plan.retry (gives_up_at lens plan.recover plan.retry missed) n f) us) (times_on lens f (times_in led) us)) long all)
-
     pub sent : (fs : List Exchanged) (missed : ℕ) (as' : List Leads) (led : IsLed lens plan.recover plan.retry (first_leads plan) fs missed as') → AllRound (ring_of plan) fs → AllBoth IsJoined (times_in led) (joined_in led) → AllSend weigh plan.slaves as' (joined_in led)
-    sent fs missed as' led round joined = all_sent (all_seen lens fs) plan.slaves as' (times_in led) (joined_in led) (tracks fs missed as' led round) (live_at fs missed as' led round) joined
+    sent fs missed as' led round joined = all_sent (all_seen lens fs) plan.slaves as' (times_in led) (joined_in led) (run_tracks plan WeighsOf weighs_of laws.returns (λ fs missed as' led round. live_at fs missed as' led round) fs missed as' led round) (live_at fs missed as' led round) joined

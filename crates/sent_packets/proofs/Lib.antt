@@ -1,4 +1,4 @@
-mod Accepted
+pub mod Accepted
 pub mod All
 pub mod Begun
 mod Calm

@@ -10,12 +10,12 @@ use Rattle.frame_view.specs.View.{Lens}
 use Rattle.life_frames.specs.Shares.{AllBoth}
 use Rattle.life_model.specs.Lives.{Spot, Era, Stand}
 use Rattle.life_runs.specs.First.{lens_of, first_leads, leads_from}
-use Rattle.life_runs.specs.Led.{Exchanged, Leads, Turn, AllTurn, led_behind, life_behind, gives_up_at}
+use Rattle.life_runs.specs.Led.{Exchanged, Leads, Turn, AllTurn, IsLed, led_behind, life_behind, gives_up_at}
 use Rattle.link_mails.specs.Body.{Body}
 use Rattle.master_duty.specs.Reply.{Reply}
 use Rattle.master_hand.specs.Spoken.{Asked}
 use Rattle.packets_heard.proofs.of_master_node.Servings.{run_all}
-use Rattle.packets_heard.specs.Heard.{Times, mails_by, times_behind, times_on, times_none}
+use Rattle.packets_heard.specs.Heard.{Times, mails_by, times_behind, times_in, times_on, times_none}
 use Rattle.packets_heard.specs.Servings.{served_times}
 use Rattle.packets_heard.specs.of_master_node.Serving.{run_lead, run_turn}
 use Rattle.plan_ring.specs.Round.{AllRound, WentRound, behind, ring_of, ring_after, frame_seen, all_seen}
@@ -149,3 +149,19 @@ module _ (plan : Scenario) (R : SlaveSpec → List (List Body) → List (Era Bod
         plan.slaves ws vs (served_times led) turns (live_at fs missed ws led before still) (served_tracks fs missed ws led before still) in
         subst (λ hs. AllTrack hs plan.slaves (map run_lead (map (served_behind lens plan.recover plan.retry gives (length fs) f) vs)) (times_on lens f (served_times led) (map run_turn vs))) (sym (map-append (frame_seen lens) fs (f ∷ [])))
         (subst (λ n. AllTrack (gs ++ frame_seen lens f ∷ []) plan.slaves (map run_lead (map (served_behind lens plan.recover plan.retry gives n f) vs)) (times_on lens f (served_times led) (map run_turn vs))) long all)
+
+  -- ---- OF A RUN
+  module _ (live_at : (fs : List Exchanged) (missed : ℕ) (as' : List Leads) → IsLed lens plan.recover plan.retry (first_leads plan) fs missed as' → AllRound (ring_of plan) fs → AllLive (all_seen lens fs) plan.slaves as') where
+    pub run_tracks : (fs : List Exchanged) (missed : ℕ) (as' : List Leads) (led : IsLed lens plan.recover plan.retry (first_leads plan) fs missed as') → AllRound (ring_of plan) fs → AllTrack (all_seen lens fs) plan.slaves as' (times_in led)
+    run_tracks _ _ _ IsLed.start round = first_track 0 plan.slaves
+    run_tracks _ _ _ (IsLed.on fs missed as' f us led frame) round =
+        let before = front_round (ring_of plan) fs f round in
+        let went = last_round (ring_of plan) fs f round in
+        let gs = all_seen lens fs in
+        let long : length gs ≡ length fs = length-map fs (frame_seen lens) in
+        let seen_so = seen_is lens f.sent _ frame.frame ∙ seen_chained lens frame.datagrams in
+        let turns : AllTurn lens (length gs) frame.datagrams as' us = subst (λ n. AllTurn lens n frame.datagrams as' us) (sym long) frame.each in
+        let all = all_turn (gives_up_at lens plan.recover plan.retry missed) gs f frame.datagrams seen_so (one_returned (ring_after (ring_of plan) fs) f frame.datagrams frame.frame went) (λ after lost. none_back (ring_after (ring_of plan) fs) f after went lost)
+        plan.slaves as' us (times_in led) turns (live_at fs missed as' led before) (run_tracks fs missed as' led before) in
+        subst (λ hs. AllTrack hs plan.slaves (map (led_behind lens plan.recover plan.retry (gives_up_at lens plan.recover plan.retry missed) (length fs) f) us) (times_on lens f (times_in led) us)) (sym (map-append (frame_seen lens) fs (f ∷ [])))
+        (subst (λ n. AllTrack (gs ++ frame_seen lens f ∷ []) plan.slaves (map (led_behind lens plan.recover plan.retry (gives_up_at lens plan.recover plan.retry missed) n f) us) (times_on lens f (times_in led) us)) long all)
