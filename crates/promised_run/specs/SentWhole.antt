@@ -1,4 +1,4 @@
--- WHAT CAME IN AT THE PORT OF A SLAVE over a serving is, epoch by epoch, the first of the packets that its carried out rows emit, each whole as it was sent.
+-- WHAT CAME IN AT THE PORT OF A SLAVE over a run or a serving is, epoch by epoch, the first of the packets that its carried out rows emit, each whole as it was sent.
 use Rattle.std.specs.Prelude.{◌≡◌, ◌≢◌, ℕ, zero, suc, Some, List, [], ◌∷◌, ◌++◌, slice_get}
 use Rattle.gateway_run.specs.Served.{HasAccount}
 use Rattle.promised_run.specs.Ports.{accepted_at}
@@ -35,11 +35,12 @@ pub record SendWhole (plan : Scenario) (frames : List SentFrame) (ws : List Serv
 abbrev pub AllArrive : Scenario → List Serves → Book → Type 0
 AllArrive plan ws book = (k port : ℕ) → port_by (slice_get (ports_behind 0 plan.slaves) k) ≡ Some port → arrivals_at port book.switch ≡ long_ones (packets_of (heard_at ws k))
 
--- by the account of a book
-pub record HasSentWhole (plan : Scenario) (count : ℕ) (book : Book) (a : HasAccount plan count book book.ending) : Type 0 where
-  pub sends : SendWhole plan book.frames a.answers.serving.leading.serves (served_times a.answers.serving.leading.lives)
-  pub arrive : book.ending ≢ endings.NoMemory → AllArrive plan a.answers.serving.leading.serves book
+-- OF A BOOK, with the lives that its frames lead and the mails that these accepted
+pub record HasSentWhole (plan : Scenario) (book : Book) (ws : List Serves) (times : List Times) : Type 0 where
+  pub sends : SendWhole plan book.frames ws times
+  pub arrive : book.ending ≢ endings.NoMemory → AllArrive plan ws book
 
--- by each account of it
+-- of a serving, by each account of its book
 abbrev pub IsServedSentWhole : Scenario → ℕ → Book → Type 0
-IsServedSentWhole plan count book = (a : HasAccount plan count book book.ending) → HasSentWhole plan count book a
+IsServedSentWhole plan count book =
+    (a : HasAccount plan count book book.ending) → HasSentWhole plan book a.answers.serving.leading.serves (served_times a.answers.serving.leading.lives)
