@@ -1,5 +1,5 @@
 -- A RUN AS A SERVING to which no mail is asked.
-use Rattle.std.proofs.Common.{◌≡◌, ℕ, None, List, ◌∷◌, map}
+use Rattle.std.proofs.Common.{◌≡◌, ℕ, None, List, map}
 use Rattle.std.specs.List.{All}
 use Rattle.life_runs.specs.First.{first_leads, lens_of}
 use Rattle.life_runs.specs.Led.{Exchanged, Leads}
