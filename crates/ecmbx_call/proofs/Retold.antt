@@ -62,7 +62,7 @@ module _ (first last first' last' : Told) (h : Retold first last first' last') (
   served_retold plan endings.Unfinished served = absurd served.0
 
   pub has_retold : (plan : Scenario) → HasServed plan count first last book → HasServed plan count first' last' book
-  has_retold plan did = record { frames = did.frames; served = served_retold plan book.ending did.served; through = did.through; whole = did.whole; ports = did.ports; visits = did.visits; booked = did.booked; due = did.due; written = did.written; given = did.given; replied = did.replied; rests = did.rests; left = did.left; bounded = did.bounded }
+  has_retold plan did = record { frames = did.frames; served = served_retold plan book.ending did.served; through = did.through; whole = did.whole; ports = did.ports; sends = did.sends; visits = did.visits; booked = did.booked; due = did.due; written = did.written; given = did.given; replied = did.replied; rests = did.rests; left = did.left; bounded = did.bounded }
 
   course_retold : (octets : List ℕ) (planned : Status) (text : List ℕ) → ServeCourse count first last book octets planned text → ServeCourse count first' last' book octets planned text
   course_retold octets _ _ (ServeCourse.refused e is fresh) = ServeCourse.refused e is fresh

@@ -14,6 +14,7 @@ use Rattle.promised_run.specs.Given.{IsServedGiven}
 use Rattle.promised_run.specs.Left.{IsServedLeft}
 use Rattle.promised_run.specs.Ran.{HasSent}
 use Rattle.promised_run.specs.Rested.{IsServedRested}
+use Rattle.promised_run.specs.SentWhole.{IsServedSentWhole}
 use Rattle.promised_run.specs.ServedBooks.{IsServedBooked}
 use Rattle.promised_run.specs.ServedBounded.{IsServedBounded}
 use Rattle.promised_run.specs.ServedPorts.{IsServedAtPorts}
@@ -39,8 +40,8 @@ serve_unread count first last book octets old new status fresh (inl memory) = in
 serve_unread count first last book octets old new status fresh (inr (e, is, ended)) = inr (statuses.Refused, refused_line e, ServeCourse.refused e is fresh, ended)
 
 -- what a serving left
-pub has_served : (plan : Scenario) (count : ℕ) (first last : Told) (book : Book) (ending : Ending) → HasSent plan count book → IsServed plan count first last book ending → IsServedThrough plan book → IsServedWhole plan book → IsServedAtPorts plan count book → IsServedVisited plan count book → IsServedBooked plan count book → IsServedDue plan count book → IsServedWritten plan count book → IsServedGiven plan count book → IsServedReported plan count book → IsServedRested plan count book → IsServedLeft plan count book → IsServedBounded plan count book → book.ending ≡ ending → HasServed plan count first last book
-has_served plan count first last book ending frames served through whole ports visits booked due written given replied rests left bounded is = record { frames = frames; served = subst (λ e. IsServed plan count first last book e) (sym is) served; through = through; whole = whole; ports = ports; visits = visits; booked = booked; due = due; written = written; given = given; replied = replied; rests = rests; left = left; bounded = bounded }
+pub has_served : (plan : Scenario) (count : ℕ) (first last : Told) (book : Book) (ending : Ending) → HasSent plan count book → IsServed plan count first last book ending → IsServedThrough plan book → IsServedWhole plan book → IsServedAtPorts plan count book → IsServedSentWhole plan count book → IsServedVisited plan count book → IsServedBooked plan count book → IsServedDue plan count book → IsServedWritten plan count book → IsServedGiven plan count book → IsServedReported plan count book → IsServedRested plan count book → IsServedLeft plan count book → IsServedBounded plan count book → book.ending ≡ ending → HasServed plan count first last book
+has_served plan count first last book ending frames served through whole ports sends visits booked due written given replied rests left bounded is = record { frames = frames; served = subst (λ e. IsServed plan count first last book e) (sym is) served; through = through; whole = whole; ports = ports; sends = sends; visits = visits; booked = booked; due = due; written = written; given = given; replied = replied; rests = rests; left = left; bounded = bounded }
 
 -- a serving that ended has a row for each slave
 rows_of : (plan : Scenario) (count : ℕ) (first last : Told) (book : Book) (ending : Ending) → ending ≢ endings.NoMemory → IsServed plan count first last book ending → length book.slaves ≡ length plan.slaves

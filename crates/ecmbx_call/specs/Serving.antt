@@ -12,6 +12,7 @@ use Rattle.promised_run.specs.Given.{IsServedGiven}
 use Rattle.promised_run.specs.Left.{IsServedLeft}
 use Rattle.promised_run.specs.Ran.{HasSent}
 use Rattle.promised_run.specs.Rested.{IsServedRested}
+use Rattle.promised_run.specs.SentWhole.{IsServedSentWhole}
 use Rattle.promised_run.specs.ServedBooks.{IsServedBooked}
 use Rattle.promised_run.specs.ServedBounded.{IsServedBounded}
 use Rattle.promised_run.specs.ServedPorts.{IsServedAtPorts}
@@ -43,6 +44,8 @@ pub record HasServed (plan : Scenario) (count : ℕ) (first last : Told) (book :
   pub whole : IsServedWhole plan book
   -- what happened at the port of each slave, with its number
   pub ports : IsServedAtPorts plan count book
+  -- epoch by epoch the packets that came in there are the first of those that the slave's carried out rows emit, each whole as it was sent
+  pub sends : IsServedSentWhole plan count book
   -- its frames are the visits of one tour: each is addressed to the first slaves of its visit, in order, and to no other
   pub visits : IsServedVisited plan count book
   -- of each script just the rest wasn't sent, and each epoch has its cause

@@ -1,8 +1,7 @@
 -- A RUN AS A SERVING to which no mail is asked.
-use Rattle.std.proofs.Common.{◌≡◌, ℕ, suc, None, List, [], ◌∷◌, map, refl}
+use Rattle.std.proofs.Common.{◌≡◌, ℕ, None, List, map}
 use Rattle.std.specs.List.{All}
-use Rattle.std.proofs.lemmas.List.Elements.{All-cons, All-nil}
-use Rattle.life_runs.specs.First.{first_leads, leads_from, lens_of}
+use Rattle.life_runs.specs.First.{first_leads, lens_of}
 use Rattle.life_runs.specs.Led.{Exchanged, Leads}
 use Rattle.plan_ring.specs.Lives.{IsKnown}
 use Rattle.promised_run.proofs.Rounds.{all_round}
@@ -14,14 +13,8 @@ use Rattle.run_record.specs.Ran.{HasFrames}
 use Rattle.run_record.specs.Replay.{first_ring}
 use Rattle.segment_plan.specs.Sound.{IsPlan}
 use Rattle.segment_plan.specs.declared.plan.Scenario.{Scenario}
-use Rattle.segment_plan.specs.declared.service.Service as Plan
-use Rattle.segment_plan.specs.declared.slave.SlaveSpec.{SlaveSpec}
+use Rattle.sent_packets.proofs.Accepted.{all_unpassed}
 use Rattle.served_runs.specs.Served.{IsRunOf, IsServedLed, Serves, all_serve}
-
--- before the first frame no mail is passed on
-all_unpassed : (rows : List (ℕ × Plan.Service)) (place : ℕ) (ss : List SlaveSpec) → All (λ (a : Leads). a.lived.life.era.passing ≡ None) (leads_from rows place ss)
-all_unpassed rows place [] = All-nil (λ (a : Leads). a.lived.life.era.passing ≡ None)
-all_unpassed rows place (s ∷ ss) = All-cons (λ (a : Leads). a.lived.life.era.passing ≡ None) _ (leads_from rows (suc place) ss) refl (all_unpassed rows (suc place) ss)
 
 -- each run of a plan is a serving
 abbrev pub RunsServe : Scenario → Type 0

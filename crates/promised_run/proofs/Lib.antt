@@ -34,6 +34,7 @@ pub mod Rests
 pub mod Rounds
 mod Rows
 pub mod Scripts
+mod SentWhole
 mod ServedBooks
 pub mod ServedBounded
 mod ServedPorts

@@ -17,6 +17,7 @@ pub mod Promised
 pub mod Reported
 pub mod Rested
 pub mod Runs
+pub mod SentWhole
 pub mod ServedBooks
 pub mod ServedBounded
 pub mod ServedPorts

@@ -13,6 +13,7 @@ use Rattle.promised_run.specs.Numbers.{AllHaveNumbers}
 use Rattle.promised_run.specs.Packets.{AllHavePackets}
 use Rattle.promised_run.specs.Ports.{AllHavePorts}
 use Rattle.promised_run.specs.Reported.{AllReported}
+use Rattle.promised_run.specs.SentWhole.{HasSentWhole}
 use Rattle.promised_run.specs.Unsent.{AllUnsent}
 use Rattle.promised_run.specs.Visits.{AllVisit}
 use Rattle.promised_run.specs.Written.{AllWritten}
@@ -21,6 +22,7 @@ use Rattle.run_book.specs.declared.book.Ending.{Ending}
 use Rattle.run_book.specs.declared.book.Ending.TheVariants as endings
 use Rattle.run_record.specs.Led.{LedBook, exchanged}
 use Rattle.run_record.specs.Replay.{first_ring, ring_after}
+use Rattle.run_record.specs.of_packets_heard.Heard.{times_in}
 use Rattle.run_record.specs.of_run_notes.Switched.{HasPackets}
 use Rattle.segment_plan.specs.declared.plan.Scenario.{Scenario}
 
@@ -57,6 +59,8 @@ pub record IsPromised (plan : Scenario) (book : Book) : Type 0 where
   -- once where the slave was given up for good, and never else; as many packets began there as came into hand of the slave, the first of those that the events
   -- forward there, in order, and none behind its going down
   pub ports : book.ending ≢ endings.NoMemory → AllHavePorts plan led.lives book
+  -- and what came in there is, epoch by epoch, the first of the packets that the rows emit which its slave carried out, each whole as it was sent
+  pub sends : HasSentWhole plan book served.serves (times_in led.lives)
   -- and the frames are the visits of one tour: each is addressed to the first slaves of its visit, in order, and to no other
   pub visits : AllVisit plan led.toured
   -- and where no more frames in a row are lost than the retry limit no slave is given up: where nothing is left to do all is done

@@ -27,6 +27,8 @@ use run_book::{Book, Ending};
 use run_promises::{read_promise_law, rest_promise_law};
 use script_runs::script_run_law;
 use segment_plan::Scenario;
+use sent_packets::accepted_mails::accepted_law;
+use sent_packets::whole_packets::whole_packets_law;
 use served_rings::served_replies::served_replies_law;
 use served_runs::run_served_law;
 use std::alloc::Global;
@@ -57,5 +59,7 @@ pub fn run(alloc: Global, plan: &Scenario, book: &mut Book) -> Ending
     uncut_law();
     run_served_law();
     served_replies_law();
+    whole_packets_law();
+    accepted_law();
     run_record::run(alloc, plan, book)
 }

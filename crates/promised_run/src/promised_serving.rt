@@ -14,6 +14,7 @@ ghost use Rattle.promised_run.specs.Due.{IsServedDue};
 ghost use Rattle.promised_run.specs.Given.{IsServedGiven};
 ghost use Rattle.promised_run.specs.Left.{IsServedLeft};
 ghost use Rattle.promised_run.specs.Rested.{IsServedRested};
+ghost use Rattle.promised_run.specs.SentWhole.{IsServedSentWhole};
 ghost use Rattle.promised_run.specs.ServedReported.{IsServedReported};
 ghost use Rattle.promised_run.specs.Through.{IsServedThrough, IsServedWhole};
 ghost use Rattle.promised_run.specs.Visits.{IsServedVisited};
@@ -25,6 +26,8 @@ use plan_ring::plan_rooms::room_law;
 use run_book::{Book, Ending};
 use seen_slaves::served_waits::served_due_law;
 use segment_plan::Scenario;
+use sent_packets::accepted_mails::accepted_law;
+use sent_packets::whole_packets::whole_packets_law;
 use served_rings::given_rows::given_law;
 use served_rings::heard_stays::heard_stays;
 use served_rings::served_replies::served_replies_law;
@@ -51,6 +54,10 @@ use std::alloc::Global;
 /// else; as many packets began there as came into hand of the slave, the first of those that were forwarded there, in order, and none behind its going down.
 /// Each of these has its exact number, and no packet waits there behind the events numbered up to the frame of a row of the script or of a mail that was passed
 /// on.
+///
+/// What the rows carried out in an epoch emit are, but for emergencies, all fragments of packets of 14 to 1,514 octets, in order, also where a mail that was
+/// passed on makes the slave send one. The packets that came in at its port are, epoch by epoch, the first of these, each whole as it was sent; no fragment is
+/// dropped.
 ///
 /// Where nothing was left to do, each slave that wasn't given up for good wasn't given up since its newest epoch began; of it the whole script came into hand,
 /// with mails that were asked, in order, all of them where it was never given up; all rows of its newest epoch are carried out, its own services each answered,
@@ -80,6 +87,7 @@ pub fn serve<P: Port>(
     ensures through { IsServedThrough plan.now book.new }
     ensures whole { IsServedWhole plan.now book.new }
     ensures ports { IsServedAtPorts plan.now count book.new }
+    ensures sends { IsServedSentWhole plan.now count book.new }
     ensures visits { IsServedVisited plan.now count book.new }
     ensures given { IsServedGiven plan.now count book.new }
     ensures booked { IsServedBooked plan.now count book.new }
@@ -96,6 +104,8 @@ pub fn serve<P: Port>(
     heard_stays();
     given_law();
     told_eras_law();
+    whole_packets_law();
+    accepted_law();
     asked_law();
     told_law();
     opened_law();

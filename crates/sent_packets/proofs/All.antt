@@ -1,37 +1,27 @@
 -- ALL SLAVES OF A PLAN, frame by frame.
-use Rattle.std.proofs.Common.{◌≡◌, inr, ℕ, suc, ◌≤◌, nat_lt, ltb-true, Bool, true, All, List, [], ◌∷◌, ◌++◌, map, length, refl, sym, ap, ◌∙◌, subst, arith}
-use Rattle.std.specs.Prelude.{sum_by, ⊤}
-use Rattle.std.proofs.lemmas.List.{length-map, map-append}
+use Rattle.std.proofs.Common.{◌≡◌, ℕ, suc, ◌≤◌, nat_lt, ltb-true, Bool, true, All, List, [], ◌∷◌, ◌++◌, length, refl, sym, ap, ◌∙◌, subst, arith}
+use Rattle.std.specs.Prelude.{sum_by}
 use Rattle.std.proofs.lemmas.List.Elements.{All-head, All-tail}
 use Rattle.std.proofs.lemmas.List.Sums.{sum_by-append}
 use Rattle.book_model.specs.Script.{eras_started, life_started}
-use Rattle.datagrams.specs.Datagram as Raw
-use Rattle.datagrams.specs.Frame.{IsFrame, chained}
-use Rattle.frame_view.specs.Seen.{seen, datagrams_seen}
 use Rattle.frame_view.specs.View.{Lens}
-use Rattle.frame_view.proofs.Octets.{seen_is, seen_chained}
 use Rattle.life_frames.specs.Shares.{AllBoth}
-use Rattle.life_model.specs.Lives.{Spot, Life, Stand}
-use Rattle.life_runs.specs.First.{lens_of, first_leads, leads_from}
-use Rattle.life_runs.specs.Led.{Exchanged, Leads, Turn, AllTurn, IsLed, led_behind, life_behind, gives_up_at}
+use Rattle.life_model.specs.Lives.{Spot, Era, Life, Stand}
+use Rattle.life_runs.specs.First.{lens_of, first_leads}
+use Rattle.life_runs.specs.Led.{Exchanged, Leads, IsLed}
 use Rattle.link_mails.specs.Body.{Body}
 use Rattle.master_duty.specs.Reply.{Reply}
 use Rattle.master_hand.specs.Spoken.{Asked, sdo, file, drive, net, passed}
-use Rattle.packets_heard.specs.Heard.{Joined, Times, IsJoined, joined_in, mails_by, times_behind, times_on, times_none, times_in}
+use Rattle.packets_heard.specs.Heard.{Joined, Times, IsJoined, joined_in, times_in}
 use Rattle.plan_ring.specs.Asked.{asked, service_of}
 use Rattle.plan_ring.specs.Lives.{IsKnown, IsShown, AllShown, AreLived}
 use Rattle.plan_ring.specs.Master as Master
 use Rattle.plan_ring.specs.Plan.{PlanMember, FitsPlan, step}
-use Rattle.plan_ring.specs.Round.{AllRound, WentRound, behind, ring_of, ring_after, frame_seen, all_seen}
+use Rattle.plan_ring.specs.Round.{AllRound, ring_of, all_seen}
 use Rattle.segment_model.specs.Record.{Frame}
-use Rattle.segment_model.specs.Returned.{Returns}
 use Rattle.segment_plan.specs.Sound.{IsPlan, IsSlave}
 use Rattle.segment_plan.specs.declared.plan.Scenario.{Scenario}
 use Rattle.segment_plan.specs.declared.slave.SlaveSpec.{SlaveSpec}
-use Rattle.segment_ring.specs.Ring.{RingState, ring_returned, frame_met}
-use Rattle.segment_ring.specs.Schedule.{fate_at}
-use Rattle.segment_ring.specs.declared.wire.Fate.{Fate}
-use Rattle.segment_ring.specs.declared.wire.Fate.TheVariants.{Pass, Lost}
 use Rattle.coe_model.specs.Meaning as CoeMeaning
 use Rattle.coe_model.specs.Tables.{nowhere}
 use Rattle.eoe_model.specs.Network.{Station}
@@ -40,19 +30,17 @@ use Rattle.slave_model.specs.Profile.{Protocol, Profile, IsProfile}
 use Rattle.slave_model.proofs.Stations.{left_of, right_of}
 use Rattle.slave_parts.specs.Parts.{Core, parts}
 use Rattle.sent_packets.specs.Sends.{MaySend, Sends, asked_sends, sends_most, all_most}
-use Rattle.plan_ring.specs.of_slave_server.Serving.{Serving}
 use Rattle.plan_ring.specs.of_slave_server.Spec.{profile_of}
-use Rattle.slave_steps.specs.Node.{Node, node_passed}
 use Rattle.state_exchange.specs.Families.{InState}
 use Rattle.state_exchange.specs.Stated.{Service}
 use Rattle.task_model.specs.Promise.{services_in}
 use Rattle.whole_ring.specs.Members.{MemberIs, AllLived}
 use Rattle.sent_packets.specs.Sent.{AllSend}
 use Rattle.sent_packets.proofs.Epochs.{Emit, SendSo, Joins, live}
-use Rattle.sent_packets.proofs.Live.{IsLive}
+use Rattle.sent_packets.proofs.Live.{IsLive, IsTally}
 use Rattle.sent_packets.proofs.Owns.{own_fragment}
-use Rattle.sent_packets.proofs.Times.{TracksShut, TracksAs, Tracks, ended_weigh, shut_now}
-use Rattle.sent_packets.proofs.Turns.{turn_tracks}
+use Rattle.sent_packets.proofs.Times.{TracksShut, TracksAs, Weighs, past_more, shut_now, weighs}
+use Rattle.sent_packets.proofs.Tracked.{AllLive, AllTrack, LiveSo, ReturnsLaw, run_tracks}
 
 -- ---- the services of a plan's slave send so
 pub valid_sends : (s : Station Core) → station_valid parts s ≡ true → MaySend s
@@ -80,32 +68,41 @@ sends_so weigh p boot lens law = record {
 pub record Laws (weigh : List ℕ → ℕ) : Type 0 where
   pub emit : (p : Profile) → IsProfile p → Emit weigh p
   pub joins : Joins
-  pub returns : (lens : ℕ → Lens) (ring : RingState (Node Serving)) (octets : List ℕ) (ds : List Raw.Datagram) → IsFrame octets ds → fate_at ring.lose ring.number ≡ Pass → Returns (seen lens octets) (seen lens (ring_returned node_passed ring octets))
+  pub returns : ReturnsLaw
 
 module _ (weigh : List ℕ → ℕ) (plan : Scenario) (laws : Laws weigh) where
-  abbrev pub lens : ℕ → Lens
+  abbrev lens : ℕ → Lens
   lens = lens_of plan.slaves
 
   abbrev pub most_of : SlaveSpec → Service Asked → ℕ
   most_of s = sends_most weigh (profile_of s)
 
-  -- ---- each open slave, by its ring
-  abbrev pub LiveSo : List (Frame Body) → SlaveSpec → Leads → Type 0
-  LiveSo gs s a = a.lived.life.stand ≡ Stand.Open → IsLive weigh (most_of s) a.lived.spot gs a.lived.life
+  -- ---- each slave, by what its packets weigh
+  abbrev pub WeighsOf : SlaveSpec → List (List Body) → List (Era Body Asked Reply) → Type 0
+  WeighsOf s = Weighs weigh (most_of s)
 
-  one_live : (gs : List (Frame Body)) (place : ℕ) (s : SlaveSpec) (m : PlanMember) (a : Leads) → IsSlave s → length s.mac ≡ 6 → IsShown plan place s m a → MemberIs lens step (FitsPlan plan.slaves) gs place m → Master.IsLed m → LiveSo gs s a
+  pub weighs_of : (s : SlaveSpec) → IsTally (WeighsOf s)
+  weighs_of s = weighs weigh (most_of s)
+
+  abbrev pub LiveOf : List (Frame Body) → SlaveSpec → Leads → Type 0
+  LiveOf gs s a = LiveSo plan WeighsOf weighs_of laws.returns gs s a
+
+  abbrev pub AllLiveOf : List (Frame Body) → List SlaveSpec → List Leads → Type 0
+  AllLiveOf gs ss as' = AllLive plan WeighsOf weighs_of laws.returns gs ss as'
+
+  abbrev pub AllTrackOf : List (Frame Body) → List SlaveSpec → List Leads → List Times → Type 0
+  AllTrackOf gs ss as' ts = AllTrack plan WeighsOf weighs_of laws.returns gs ss as' ts
+
+  one_live : (gs : List (Frame Body)) (place : ℕ) (s : SlaveSpec) (m : PlanMember) (a : Leads) → IsSlave s → length s.mac ≡ 6 → IsShown plan place s m a → MemberIs lens step (FitsPlan plan.slaves) gs place m → Master.IsLed m → LiveOf gs s a
   one_live gs place s m a slave mac shown i led open_ =
       let profile : IsProfile (profile_of s) = record { out_least = slave.out_least; out_most = slave.out_most; back_least = slave.in_least; back_most = slave.in_most; mac = mac } in
       let so : SendSo weigh (profile_of s) m.services = subst (λ w. SendSo weigh (profile_of s) w) (sym shown.is.services) (sends_so weigh (profile_of s) s.boot lens (laws.emit (profile_of s) profile)) in
       let life : m.life ≡ a.lived.life = ap (λ x. x.life) shown.lived in
       let spot : m.spot ≡ a.lived.spot = ap (λ x. x.spot) shown.lived in
       let here = live weigh (profile_of s) slave.in_least laws.joins m.services so m.clearing m.plan m.spot m.first m.life gs m.node (Master.owed m i.whole led) i.lived (ap (λ (l : Life Body Asked Reply). l.stand) life ∙ open_) in
-      subst (λ (p : Spot). IsLive weigh (most_of s) p gs a.lived.life) spot (subst (λ (l : Life Body Asked Reply). IsLive weigh (most_of s) m.spot gs l) life here)
+      subst (λ (p : Spot). IsLive (WeighsOf s) p gs a.lived.life) spot (subst (λ (l : Life Body Asked Reply). IsLive (WeighsOf s) m.spot gs l) life here)
 
-  abbrev pub AllLive : List (Frame Body) → List SlaveSpec → List Leads → Type 0
-  AllLive gs ss as' = AllBoth (λ s a. LiveSo gs s a) ss as'
-
-  all_live : (gs : List (Frame Body)) (place : ℕ) (ss : List SlaveSpec) (ms : List PlanMember) (as' : List Leads) → All (λ (s : SlaveSpec). IsSlave s) ss → All (λ (s : SlaveSpec). length s.mac ≡ 6) ss → AllShown plan place ss ms as' → AllLived lens step (FitsPlan plan.slaves) gs place ms → Master.AllLed ms → AllLive gs ss as'
+  all_live : (gs : List (Frame Body)) (place : ℕ) (ss : List SlaveSpec) (ms : List PlanMember) (as' : List Leads) → All (λ (s : SlaveSpec). IsSlave s) ss → All (λ (s : SlaveSpec). length s.mac ≡ 6) ss → AllShown plan place ss ms as' → AllLived lens step (FitsPlan plan.slaves) gs place ms → Master.AllLed ms → AllLiveOf gs ss as'
   all_live gs place [] [] [] slaves macs shown i led = tt
   all_live gs place [] [] (a ∷ as') slaves macs shown i led = absurd shown
   all_live gs place [] (m ∷ ms) as' slaves macs shown i led = absurd shown
@@ -116,68 +113,18 @@ module _ (weigh : List ℕ → ℕ) (plan : Scenario) (laws : Laws weigh) where
     all_live gs (suc place) ss ms as' (All-tail (λ (s : SlaveSpec). IsSlave s) s ss slaves) (All-tail (λ (s : SlaveSpec). length s.mac ≡ 6) s ss macs) shown.1 i.1 led.1,
   )
 
-  -- ---- each slave's times
-  abbrev pub AllTrack : List (Frame Body) → List SlaveSpec → List Leads → List Times → Type 0
-  AllTrack gs [] [] [] = ⊤
-  AllTrack gs (s ∷ ss) (a ∷ as') (t ∷ ts) = Tracks weigh (most_of s) a.lived.spot gs a.lived.life t × AllTrack gs ss as' ts
-  AllTrack gs _ _ _ = ⊥
-
-  pub first_track : (place : ℕ) (ss : List SlaveSpec) → AllTrack [] ss (leads_from plan.services place ss) (times_none (leads_from plan.services place ss))
-  first_track place [] = tt
-  first_track place (s ∷ ss) = ((record { all = omega arith }, inr (refl, refl)), first_track (suc place) ss)
-
-  module _ (gives : Bool) (gs : List (Frame Body)) (f : Exchanged) (ds : List Raw.Datagram) (seen_so : seen lens f.sent ≡ datagrams_seen lens ds) (returns : f.fate ≡ Pass → Returns (seen lens f.sent) (seen lens f.back)) (nothing : (after : ℕ) → f.fate ≡ Lost after → seen lens f.back ≡ []) where
-    spots : (u : Turn) → (led_behind lens plan.recover plan.retry gives (length gs) f u).lived.spot ≡ u.lived.spot
-    spots u = by f.fate
-      where
-        by : (fate : Fate) → (life_behind lens plan.recover plan.retry gives (length gs) f fate u.lived u.share).spot ≡ u.lived.spot
-        by Pass = refl
-        by (Lost after) = refl
-
-    all_turn : (ss : List SlaveSpec) (as' : List Leads) (us : List Turn) (ts : List Times) → AllTurn lens (length gs) ds as' us → AllLive gs ss as' → AllTrack gs ss as' ts →
-        AllTrack (gs ++ frame_seen lens f ∷ []) ss (map (led_behind lens plan.recover plan.retry gives (length gs) f) us) (times_on lens f ts us)
-    all_turn [] [] [] [] y l k = tt
-    all_turn [] [] [] (t ∷ ts) y l k = absurd k
-    all_turn [] [] (u ∷ us) ts y l k = absurd y
-    all_turn [] (a ∷ as') us ts y l k = absurd k
-    all_turn (s ∷ ss) [] us ts y l k = absurd k
-    all_turn (s ∷ ss) (a ∷ as') [] ts y l k = absurd y
-    all_turn (s ∷ ss) (a ∷ as') (u ∷ us) [] y l k = absurd k
-    all_turn (s ∷ ss) (a ∷ as') (u ∷ us) (t ∷ ts) y l k =
-        let here = turn_tracks weigh (most_of s) lens plan.recover plan.retry gives gs f ds seen_so returns nothing a u t y.0 k.0 l.0 in
-        let spot = sym (y.0.next.spot) ∙ sym (spots u) in (
-          subst (λ (p : Spot). Tracks weigh (most_of s) p (gs ++ frame_seen lens f ∷ []) (led_behind lens plan.recover plan.retry gives (length gs) f u).lived.life (times_behind u.lived.life.stand (mails_by lens f f.fate u) t)) spot here,
-          all_turn ss as' us ts y.1 l.1 k.1,
-        )
-
-  -- ---- the frames went round
-  pub front_round : (ring : RingState (Node Serving)) (fs : List Exchanged) (f : Exchanged) → AllRound ring (fs ++ f ∷ []) → AllRound ring fs
-  front_round ring [] f r = tt
-  front_round ring (e ∷ fs) f r = (r.0, front_round (behind ring e.sent) fs f r.1)
-
-  pub last_round : (ring : RingState (Node Serving)) (fs : List Exchanged) (f : Exchanged) → AllRound ring (fs ++ f ∷ []) → WentRound (ring_after ring fs) f
-  last_round ring [] f r = r.0
-  last_round ring (e ∷ fs) f r = last_round (behind ring e.sent) fs f r.1
-
-  pub one_returned : (ring : RingState (Node Serving)) (f : Exchanged) (ds : List Raw.Datagram) → IsFrame f.sent (chained ds) → WentRound ring f → f.fate ≡ Pass → Returns (seen lens f.sent) (seen lens f.back)
-  one_returned ring f ds frame went pass = subst (λ back. Returns (seen lens f.sent) (seen lens back)) (sym went.back) (laws.returns lens ring f.sent (chained ds) frame (sym went.fate ∙ pass))
-
-  pub none_back : (ring : RingState (Node Serving)) (f : Exchanged) (after : ℕ) → WentRound ring f → f.fate ≡ Lost after → seen lens f.back ≡ []
-  none_back ring f after went lost =
-      ap (seen lens) (went.back ∙ ap (λ (fate : Fate). (frame_met node_passed ring.nodes f.sent fate).1) (sym went.fate ∙ lost))
-
   -- ---- BEHIND ALL FRAMES
-  one_sent : (gs : List (Frame Body)) (s : SlaveSpec) (a : Leads) (t : Times) (j : Joined) (z : Stand) → a.lived.life.stand ≡ z → TracksAs weigh (most_of s) a.lived.spot gs a.lived.life t z → LiveSo gs s a → IsJoined t j → sum_by weigh j.packets ≤ all_most weigh (profile_of s) (life_started a.lived.life)
+  one_sent : (gs : List (Frame Body)) (s : SlaveSpec) (a : Leads) (t : Times) (j : Joined) (z : Stand) → a.lived.life.stand ≡ z → TracksAs (WeighsOf s) (weighs_of s) a.lived.spot gs a.lived.life t z → LiveOf gs s a → IsJoined t j → sum_by weigh j.packets ≤ all_most weigh (profile_of s) (life_started a.lived.life)
   one_sent gs s a t j z e k l joined =
       let shut = by z e k in
-      omega (arith, shut.all, ended_weigh weigh t.past t.now, ap (sum_by weigh) joined.packets, sum_by-append (most_of s) (eras_started a.lived.life.past) (services_in a.lived.life.era.account.started))
+      omega (arith, shut.all, past_more weigh (most_of s) a.lived.life.past a.lived.life.era, ap (sum_by weigh) joined.packets, sum_by-append (most_of s) (eras_started a.lived.life.past) (services_in a.lived.life.era.account.started))
     where
-      by : (z : Stand) → a.lived.life.stand ≡ z → TracksAs weigh (most_of s) a.lived.spot gs a.lived.life t z → TracksShut weigh (most_of s) a.lived.spot a.lived.life t
+      by : (z : Stand) → a.lived.life.stand ≡ z → TracksAs (WeighsOf s) (weighs_of s) a.lived.spot gs a.lived.life t z → TracksShut (WeighsOf s) (weighs_of s) a.lived.spot a.lived.life t
       by (Stand.Opens o) e k = k.0
-      by Stand.Open e k = shut_now weigh (most_of s) a.lived.spot gs a.lived.life t k (l e)
+      by Stand.Open e k = shut_now (WeighsOf s) (weighs_of s) a.lived.spot gs a.lived.life t k (l e)
       by Stand.Gone e k = k
 
-  pub all_sent : (gs : List (Frame Body)) (ss : List SlaveSpec) (as' : List Leads) (ts : List Times) (js : List Joined) → AllTrack gs ss as' ts → AllLive gs ss as' → AllBoth IsJoined ts js → AllSend weigh ss as' js
+  pub all_sent : (gs : List (Frame Body)) (ss : List SlaveSpec) (as' : List Leads) (ts : List Times) (js : List Joined) → AllTrackOf gs ss as' ts → AllLiveOf gs ss as' → AllBoth IsJoined ts js → AllSend weigh ss as' js
   all_sent gs [] [] [] [] k l b = tt
   all_sent gs [] [] [] (j ∷ js) k l b = absurd b
   all_sent gs [] [] (t ∷ ts) js k l b = absurd k
@@ -189,24 +136,10 @@ module _ (weigh : List ℕ → ℕ) (plan : Scenario) (laws : Laws weigh) where
 
   -- ---- OVER A RUN
   module _ (is : IsPlan plan) (known : IsKnown plan) (lives : (fs : List Exchanged) (missed : ℕ) (leads : List Leads) → IsLed (lens_of plan.slaves) plan.recover plan.retry (first_leads plan) fs missed leads → AllRound (ring_of plan) fs → AreLived plan fs leads) where
-    live_at : (fs : List Exchanged) (missed : ℕ) (as' : List Leads) → IsLed lens plan.recover plan.retry (first_leads plan) fs missed as' → AllRound (ring_of plan) fs → AllLive (all_seen lens fs) plan.slaves as'
+    live_at : (fs : List Exchanged) (missed : ℕ) (as' : List Leads) → IsLed lens plan.recover plan.retry (first_leads plan) fs missed as' → AllRound (ring_of plan) fs → AllLiveOf (all_seen lens fs) plan.slaves as'
     live_at fs missed as' led round =
         let x = lives fs missed as' led round in
         all_live (all_seen lens fs) 0 plan.slaves x.members as' is.laid.slaves known.macs x.shown x.lives.each x.led
 
-    tracks : (fs : List Exchanged) (missed : ℕ) (as' : List Leads) (led : IsLed lens plan.recover plan.retry (first_leads plan) fs missed as') → AllRound (ring_of plan) fs → AllTrack (all_seen lens fs) plan.slaves as' (times_in led)
-    tracks _ _ _ IsLed.start round = first_track 0 plan.slaves
-    tracks _ _ _ (IsLed.on fs missed as' f us led frame) round =
-        let before = front_round (ring_of plan) fs f round in
-        let went = last_round (ring_of plan) fs f round in
-        let gs = all_seen lens fs in
-        let long : length gs ≡ length fs = length-map fs (frame_seen lens) in
-        let seen_so = seen_is lens f.sent _ frame.frame ∙ seen_chained lens frame.datagrams in
-        let turns : AllTurn lens (length gs) frame.datagrams as' us = subst (λ n. AllTurn lens n frame.datagrams as' us) (sym long) frame.each in
-        let all = all_turn (gives_up_at lens plan.recover plan.retry missed) gs f frame.datagrams seen_so (one_returned (ring_after (ring_of plan) fs) f frame.datagrams frame.frame went) (λ after lost. none_back (ring_after (ring_of plan) fs) f after went lost)
-        plan.slaves as' us (times_in led) turns (live_at fs missed as' led before) (tracks fs missed as' led before) in
-        subst (λ hs. AllTrack hs plan.slaves (map (led_behind lens plan.recover plan.retry (gives_up_at lens plan.recover plan.retry missed) (length fs) f) us) (times_on lens f (times_in led) us)) (sym (map-append (frame_seen lens) fs (f ∷ [])))
-        (subst (λ n. AllTrack (gs ++ frame_seen lens f ∷ []) plan.slaves (map (led_behind lens plan.recover plan.retry (gives_up_at lens plan.recover plan.retry missed) n f) us) (times_on lens f (times_in led) us)) long all)
-
     pub sent : (fs : List Exchanged) (missed : ℕ) (as' : List Leads) (led : IsLed lens plan.recover plan.retry (first_leads plan) fs missed as') → AllRound (ring_of plan) fs → AllBoth IsJoined (times_in led) (joined_in led) → AllSend weigh plan.slaves as' (joined_in led)
-    sent fs missed as' led round joined = all_sent (all_seen lens fs) plan.slaves as' (times_in led) (joined_in led) (tracks fs missed as' led round) (live_at fs missed as' led round) joined
+    sent fs missed as' led round joined = all_sent (all_seen lens fs) plan.slaves as' (times_in led) (joined_in led) (run_tracks plan WeighsOf weighs_of laws.returns (λ fs missed as' led round. live_at fs missed as' led round) fs missed as' led round) (live_at fs missed as' led round) joined

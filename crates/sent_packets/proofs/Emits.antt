@@ -47,7 +47,7 @@ module _ (weigh : List ℕ → ℕ) (p : Profile) (is : IsProfile p) where
       record { packets = s.packets; cut = s.cut; are = s.are; few = omega (arith, s.few, sum_by-cons weigh octets []) }
 
   -- ---- CoE
-  issued_emits : (al : ℕ) (s : Station Core) (e : Option Emission) → s.frame < 16 → ((octets : List ℕ) → e ≡ Some (packet octets) → (14 ≤ length octets) × (length octets ≤ 1514)) →
+  pub issued_emits : (al : ℕ) (s : Station Core) (e : Option Emission) → s.frame < 16 → ((octets : List ℕ) → e ≡ Some (packet octets) → (14 ≤ length octets) × (length octets ≤ 1514)) →
       Sends weigh p.back (map (told_by CoeOctets.coe_mail_written) (issued (station_tables parts p.back al) s e).1) (sum_by weigh (of_emission e))
   issued_emits al s None low fits = sends_none weigh p.back [] 0 refl
   issued_emits al s (Some (emergency octets)) low fits = sends_none weigh p.back _ 0 refl
@@ -74,7 +74,7 @@ module _ (weigh : List ℕ → ℕ) (p : Profile) (is : IsProfile p) where
       by (Err code) = sends_none weigh p.back [] 0 refl
 
   -- ---- EoE
-  echo_fits : (octets echo : List ℕ) → echo_of p.mac octets ≡ Some echo → (14 ≤ length echo) × (length echo ≤ 1514)
+  pub echo_fits : (octets echo : List ℕ) → echo_of p.mac octets ≡ Some echo → (14 ≤ length echo) × (length echo ≤ 1514)
   echo_fits octets echo e = by (is_echo p.mac octets) refl e
     where
       first_of : (a b : Bool) → (a && b) ≡ true → (a ≡ true) × (b ≡ true)
@@ -98,7 +98,7 @@ module _ (weigh : List ℕ → ℕ) (p : Profile) (is : IsProfile p) where
               let source = length-take-le 6 (drop 6 octets) (omega (arith, long, length-drop 6 octets)) in
               omega (arith, long, is.mac, source, length-append (take 6 (drop 6 octets)) (p.mac ++ 0x88 ∷ 0xB6 ∷ drop 14 octets), length-append p.mac (0x88 ∷ 0xB6 ∷ drop 14 octets), length-drop 14 octets)
 
-  sent_emits : (s : Station Core) (sent : Option (List ℕ)) → s.frame < 16 → ((echo : List ℕ) → sent ≡ Some echo → (14 ≤ length echo) × (length echo ≤ 1514)) →
+  pub sent_emits : (s : Station Core) (sent : Option (List ℕ)) → s.frame < 16 → ((echo : List ℕ) → sent ≡ Some echo → (14 ≤ length echo) × (length echo ≤ 1514)) →
       Sends weigh p.back (map (told_by EoeOctets.eoe_mail_written) (sends p.back s.frame (s.app, sent)).1) (sum_by weigh (as_list sent))
   sent_emits s None low fits = sends_none weigh p.back [] 0 refl
   sent_emits s (Some octets) low fits = one s.frame octets low (fits octets refl)

@@ -34,6 +34,7 @@ use Rattle.task_model.specs.Promise.{services_in}
 use Rattle.whole_ring.specs.Whole.{OwesLaws, IsLived}
 use Rattle.whole_ring.proofs.Promised.{promised}
 use Rattle.sent_packets.proofs.Live.{IsLive}
+use Rattle.sent_packets.proofs.Times.{Weighs, weighs_on}
 
 abbrev pub Real : Type 0
 Real = Behind Serving (InState Server) (InState (Station Core)) Asked Reply
@@ -95,7 +96,7 @@ module _ (weigh : List ℕ → ℕ) (p : Profile) (wide : 64 ≤ p.back) (joins 
 
   -- AN OPEN SLAVE
   pub live : (c : Clearing (InState Server) (InState (Station Core))) (plan : Plan) (spot : Spot) (first : InState (Station Core)) (l : Life Body Asked Reply) (gs : List (Frame Body)) (n : Node Serving) → OwesLaws w c plan spot → IsLived w c plan spot first l gs n → l.stand ≡ Stand.Open →
-      IsLive weigh most spot gs l
+      IsLive (Weighs weigh most) spot gs l
   live c plan spot first l gs n owes lived stand =
       let x = promised w c plan spot first l gs n owes lived stand in
       let k = x.epoch in
@@ -109,5 +110,5 @@ module _ (weigh : List ℕ → ℕ) (p : Profile) (wide : 64 ≤ p.back) (joins 
         opened_at = k.is.opened_at;
         before = k.before;
         last = x.counters.heard;
-        few = omega (arith, few, first_sum most t.count (services_in l.era.account.started));
+        told = λ past told. weighs_on weigh most past (heard spot.station (era_frames spot k.opened (length gs) gs)) l.past l.era (let first = first_sum most t.count (services_in l.era.account.started) in omega (arith, few, first)) told;
       }

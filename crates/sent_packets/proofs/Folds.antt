@@ -41,13 +41,27 @@ not_false : (b : Bool) → not b ≡ true → b ≡ false
 not_false true e = absurd (cc)
 not_false false e = refl
 
-untag_own : {M : Type 0} (Q : Type 0) (ms : List M) → untag {Q = Q} (map (λ g. own_gift g) ms) ≡ ms
+pub untag_own : {M : Type 0} (Q : Type 0) (ms : List M) → untag {Q = Q} (map (λ g. own_gift g) ms) ≡ ms
 untag_own Q [] = refl
 untag_own Q (m ∷ ms) = ap (λ l. m ∷ l) (untag_own Q ms)
 
 pub untag_append : {M Q : Type 0} (xs ys : List (Tagged M Q)) → untag (xs ++ ys) ≡ untag xs ++ untag ys
 untag_append [] ys = refl
 untag_append (x ∷ xs) ys = ap (λ l. x.mail ∷ l) (untag_append xs ys)
+
+-- a protocol over the whole server emits as it does over the station
+pub same_emits : (p : Profile) (al : ℕ) (j : Server) (i : Protocol) (q : ServiceOf i) → (side_whole real_parts p al i).emits (seat i j) q ≡ (side real_parts p al i).emits j.app q
+same_emits p al j i q = go i q (serves p al i)
+  where
+    go : (i : Protocol) (q : ServiceOf i) (on : Bool) → (gated_whole on (served_whole real_parts p al i) (refusal real_parts p al i)).emits (seat i j) q ≡ (gated on (served real_parts p al i) (refusal real_parts p al i)).emits j.app q
+    go Protocol.CoE q true = refl
+    go Protocol.FoE q true = refl
+    go Protocol.SoE q true = refl
+    go Protocol.EoE q true = refl
+    go Protocol.CoE q false = refl
+    go Protocol.FoE q false = refl
+    go Protocol.SoE q false = refl
+    go Protocol.EoE q false = refl
 
 -- what is asked for by a protocol's service
 sends_named : (p : Profile) (i : Protocol) (q : ServiceOf i) → asked_sends p (named i q) ≡ may_send p i q
@@ -74,20 +88,6 @@ abbrev pub PassedNone : Profile → Type 0
 PassedNone p = (v : InState Server) (m : Body) → is_calm v ≡ true → is_fair m ≡ true → is_network m ≡ false → parts fragment_in ((product_whole real_parts p).serve v m).1 ≡ []
 
 module _ (weigh : List ℕ → ℕ) (p : Profile) (emit : Emit weigh p) (passed : PassedNone p) (law : IsServed (product_whole real_parts p) (λ (v : InState Server). v.inner.app)) (most : ℕ) (calm : IsCalm (product_whole real_parts p) is_calm is_fair most) where
-  -- a protocol over the whole server emits as it does over the station
-  same_emits : (al : ℕ) (j : Server) (i : Protocol) (q : ServiceOf i) → (side_whole real_parts p al i).emits (seat i j) q ≡ (side real_parts p al i).emits j.app q
-  same_emits al j i q = go i q (serves p al i)
-    where
-      go : (i : Protocol) (q : ServiceOf i) (on : Bool) → (gated_whole on (served_whole real_parts p al i) (refusal real_parts p al i)).emits (seat i j) q ≡ (gated on (served real_parts p al i) (refusal real_parts p al i)).emits j.app q
-      go Protocol.CoE q true = refl
-      go Protocol.FoE q true = refl
-      go Protocol.SoE q true = refl
-      go Protocol.EoE q true = refl
-      go Protocol.CoE q false = refl
-      go Protocol.FoE q false = refl
-      go Protocol.SoE q false = refl
-      go Protocol.EoE q false = refl
-
   abbrev most_of : Service Wanted → ℕ
   most_of = wants_most weigh p
 
@@ -98,7 +98,7 @@ module _ (weigh : List ℕ → ℕ) (p : Profile) (emit : Emit weigh p) (passed 
   script_sends : (v : InState Server) (i : Protocol) (q : ServiceOf i) → x.ready v ≡ true → Sends weigh p.back (untag (asked_emits x v (Asked.Script (i, q)))) (most_of (Service.Mails (Asked.Script (i, q))))
   script_sends v i q ready =
       let may = valid_sends v.inner.app (left_of (station_valid real_parts v.inner.app) _ ready) in
-      let same : (side real_parts p v.state i).emits v.inner.app q ≡ untag (asked_emits x v (Asked.Script (i, q))) = sym (same_emits v.state v.inner i q) ∙ sym (untag_own OwnService (x.emits v (i, q))) in
+      let same : (side real_parts p v.state i).emits v.inner.app q ≡ untag (asked_emits x v (Asked.Script (i, q))) = sym (same_emits p v.state v.inner i q) ∙ sym (untag_own OwnService (x.emits v (i, q))) in
       subst (λ ms. Sends weigh p.back ms (most_of (Service.Mails (Asked.Script (i, q))))) same
       (subst (λ ps. Sends weigh p.back ((side real_parts p v.state i).emits v.inner.app q) (sum_by weigh ps)) (sym (sends_named p i q)) (emit.emits v.state v.inner.app i q may))
 

@@ -15,6 +15,7 @@ use Rattle.sent_packets.proofs.Live.{IsLive}
 use Rattle.served_rings.specs.Serves.{serves}
 use Rattle.served_rings.specs.Clearing.{serves_clearing}
 use Rattle.sent_packets.specs.Quiet.{quiet_speaker}
+use Rattle.sent_packets.proofs.Times.{Weighs}
 use Rattle.sent_packets.proofs.Seen.{Quiets, seen_live}
 use Rattle.slave_lives.specs.Lived.{Behind, node_seen}
 use Rattle.slave_lives.specs.Opening.{Plan}
@@ -54,11 +55,11 @@ module _ (weigh : List ℕ → ℕ) (p : Profile) (laws : Quiets weigh p) (boot 
 
   -- THE LIFE, while the slave is open
   pub led_live : (plan : Plan) (kept : Kept) (counts : Bool) (first : InState Server) (l : Life Body Asked Reply) (fs : List (Frame Body)) (n : Node Serving) → is_calm first ≡ true → IsLedLived w is_followed is_passed spot serves_clearing.cleared plan kept counts first l fs n →
-      AllFair (quiet_speaker p) l.era.account.started → l.stand ≡ Stand.Open → IsLive weigh (sends_most weigh p) spot fs l
+      AllFair (quiet_speaker p) l.era.account.started → l.stand ≡ Stand.Open → IsLive (Weighs weigh (sends_most weigh p)) spot fs l
   led_live plan kept counts first l fs n calm i quiet stand =
       of (subst (λ (z : Stand). StandsBy w (λ a d gs m. LedKept w is_followed is_passed spot kept counts a d gs m) (λ a d gs m. LedYet w is_followed is_passed spot a d gs m) (λ a d gs s. LedLeft w is_followed is_passed spot a d s) plan spot i.from l.era fs z n) stand i.now)
     where
-      of : LivesOpenBy w i.from l.era (λ a d gs m. LedKept w is_followed is_passed spot kept counts a d gs m) fs n → IsLive weigh (sends_most weigh p) spot fs l
+      of : LivesOpenBy w i.from l.era (λ a d gs m. LedKept w is_followed is_passed spot kept counts a d gs m) fs n → IsLive (Weighs weigh (sends_most weigh p)) spot fs l
       of now =
           let x = now.lives.epoch in
           let y = x.era in

@@ -1,5 +1,5 @@
 -- OF AN EPOCH THAT IS SEEN as a session the packets that were heard are of the services that came into hand in it.
-use Rattle.std.proofs.Common.{◌≡◌, ℕ, zero, suc, ◌+◌, ◌≤◌, ◌<◌, Bool, true, false, Option, None, List, [], ◌∷◌, ◌++◌, map, take, length, refl, sym, ap, ◌∙◌, arith}
+use Rattle.std.proofs.Common.{◌≡◌, ℕ, zero, suc, ◌≤◌, ◌<◌, Bool, true, false, Option, None, List, [], ◌∷◌, ◌++◌, map, take, length, refl, sym, ap, ◌∙◌, arith}
 use Rattle.std.specs.Prelude.{sum_by}
 use Rattle.std.proofs.lemmas.List.Sums.{sum_by-cons}
 use Rattle.exchange_model.specs.Exchange.{emitted}
@@ -26,6 +26,7 @@ use Rattle.segment_model.specs.Slaves.{Registers, Slave}
 use Rattle.sent_packets.specs.Sends.{sends_most}
 use Rattle.sent_packets.proofs.Epochs.{Emit, Joins, few_heard, first_sum}
 use Rattle.sent_packets.proofs.Live.{IsLive}
+use Rattle.sent_packets.proofs.Times.{Weighs, weighs_on}
 use Rattle.sent_packets.proofs.Owns.{own_fragment}
 use Rattle.sent_packets.specs.Quiet.{is_quiet, quiet_speaker}
 use Rattle.sent_packets.proofs.Folds.{untag_append, PassedNone, all_send, both, wants_most}
@@ -156,12 +157,12 @@ module _ (weigh : List ℕ → ℕ) (p : Profile) (laws : Quiets weigh p) (boot 
       omega (arith, heard_few, first_sum (wants_most weigh p) promised.count services, sum_named (sends_most weigh p) services, ap (sum_by (sends_most weigh p)) named)
 
   -- SO OF ITS LIFE
-  pub seen_live : opened < length fs → IsLive weigh (sends_most weigh p) spot fs l
+  pub seen_live : opened < length fs → IsLive (Weighs weigh (sends_most weigh p)) spot fs l
   seen_live before = record {
     opened = opened;
     opened_at = ap (λ (d : Era Body Spoken.Asked Master.Reply). d.opened) (sym i.named) ∙ i.is.opened_at;
     before = before;
     last = ap (λ (d : Era Body Spoken.Asked Master.Reply). d.side.halves.inn.last) (sym i.named) ∙ knows.kept
         ∙ ap (λ (c : Kept). c.heard) (sym (kept_as (λ (t : Meant). t.mail) spot.station nothing_kept seen_frames) ∙ ap (kept_all spot.station nothing_kept) i.same);
-    few = few;
+    told = λ past told. weighs_on weigh (sends_most weigh p) past (heard spot.station real_frames) l.past l.era few told;
   }

@@ -1,46 +1,38 @@
 -- ALL SLAVES OF A SERVING, frame by frame: the mails that its master accepts of each are those that its epochs hear.
-use Rattle.std.proofs.Common.{◌≡◌, ℕ, zero, suc, Bool, true, All, List, [], ◌∷◌, ◌++◌, map, length, refl, sym, ◌∙◌, subst, Ok}
-use Rattle.std.proofs.lemmas.List.{length-map, map-append}
+use Rattle.std.proofs.Common.{◌≡◌, ℕ, zero, suc, Bool, true, All, List, [], ◌∷◌, ◌++◌, map, length, refl, sym, subst, Ok}
 use Rattle.std.proofs.lemmas.List.Elements.{All-cons, All-head, All-nil, All-tail}
 use Rattle.datagrams.specs.Datagram as Raw
-use Rattle.frame_view.specs.Seen.{seen, datagrams_seen}
 use Rattle.frame_view.specs.View.{Lens}
-use Rattle.frame_view.proofs.Octets.{seen_is, seen_chained}
 use Rattle.served_rings.specs.LedRings.{AllLedMembers}
 use Rattle.life_frames.specs.Shares.{AllBoth}
 use Rattle.life_runs.specs.First.{lens_of, first_leads, spot_of}
-use Rattle.life_runs.specs.Led.{Exchanged, Leads, gives_up_at}
+use Rattle.life_runs.specs.Led.{Exchanged, Leads}
 use Rattle.life_model.specs.Lives.{Spot}
 use Rattle.link_mails.specs.Body.{Body}
 use Rattle.master_hand.specs.Spoken.{is_followed, is_passed}
-use Rattle.packets_heard.specs.of_master_node.Serving.{run_lead, run_turn}
-use Rattle.packets_heard.proofs.of_master_node.Servings.{run_all}
-use Rattle.packets_heard.specs.Heard.{IsJoined, Times, mails_by, times_behind, times_none, times_on}
+use Rattle.packets_heard.specs.of_master_node.Serving.{run_lead}
+use Rattle.packets_heard.specs.Heard.{IsJoined}
 use Rattle.packets_heard.specs.Servings.{served_joined, served_times}
 use Rattle.plan_ring.specs.Lives.{IsKnown}
 use Rattle.plan_ring.specs.Plan.{plan_of}
-use Rattle.plan_ring.specs.Round.{AllRound, ring_of, ring_after, frame_seen, all_seen}
+use Rattle.plan_ring.specs.Round.{AllRound, ring_of, all_seen}
 use Rattle.segment_model.specs.Record.{Frame}
-use Rattle.segment_model.specs.Returned.{Returns}
 use Rattle.segment_plan.specs.Sound.{IsPlan, IsSlave}
 use Rattle.segment_plan.specs.declared.plan.Scenario.{Scenario}
 use Rattle.segment_plan.specs.declared.slave.SlaveSpec.{SlaveSpec}
-use Rattle.segment_ring.specs.declared.wire.Fate.{Fate}
-use Rattle.segment_ring.specs.declared.wire.Fate.TheVariants.{Pass, Lost}
 use Rattle.sent_packets.specs.Sends.{sends_most}
 use Rattle.sent_packets.specs.Sent.{AllSend}
-use Rattle.sent_packets.proofs.All.{AllLive, AllTrack, Laws, all_sent, first_track, front_round, last_round, none_back, one_returned}
-use Rattle.sent_packets.proofs.Begun.{leads_asked}
+use Rattle.sent_packets.proofs.All.{AllLiveOf, Laws, WeighsOf, all_sent, weighs_of}
 use Rattle.sent_packets.proofs.Live.{IsLive}
-use Rattle.sent_packets.proofs.Times.{Tracks}
-use Rattle.sent_packets.proofs.Turns.{serve_tracks}
+use Rattle.sent_packets.proofs.Times.{Weighs}
+use Rattle.sent_packets.proofs.Tracked.{served_tracks}
 use Rattle.sent_packets.specs.Quiet.{AsksQuiet, is_quiet}
 use Rattle.sent_packets.proofs.Lives.{led_live}
 use Rattle.sent_packets.proofs.Seen.{Quiets}
 use Rattle.sent_packets.proofs.Speaks.{now_quiet}
 use Rattle.served_rings.specs.Rings.{AllServedAt, AreServedLived, counters_of, served_members}
 use Rattle.served_runs.specs.Came.{HasServed}
-use Rattle.served_runs.specs.Served.{Keyed, Serves, ServedTurn, AllServedTurn, IsServedLed, all_serve, asked_at, served_behind, served_life}
+use Rattle.served_runs.specs.Served.{Keyed, Serves, ServedTurn, AllServedTurn, IsServedLed, all_serve, asked_at, served_behind}
 use Rattle.slave_model.specs.Profile.{Profile, IsProfile}
 use Rattle.plan_ring.specs.of_slave_server.Seen.{seen_in}
 use Rattle.plan_ring.specs.of_slave_server.Serving.{Serving}
@@ -84,10 +76,7 @@ module _ (weigh : List ℕ → ℕ) (plan : Scenario) (laws : Laws weigh) (is : 
   IsLedHere fs missed ws = IsServedLed (lens_of plan.slaves) plan.recover plan.retry (all_serve plan.paces (first_leads plan)) fs missed ws
 
   abbrev AllLiveHere : List (Frame Body) → List SlaveSpec → List Leads → Type 0
-  AllLiveHere gs ss as' = AllLive weigh plan laws gs ss as'
-
-  abbrev AllTrackHere : List (Frame Body) → List SlaveSpec → List Leads → List Times → Type 0
-  AllTrackHere gs ss as' ts = AllTrack weigh plan laws gs ss as' ts
+  AllLiveHere gs ss as' = AllLiveOf weigh plan laws gs ss as'
 
   -- ---- each open slave, by the life that its node lives
   all_live : (gs : List (Frame Body)) (place : ℕ) (ss : List SlaveSpec) (ws : List Serves) (ns : List (Node Serving)) → All IsSlave ss → All (λ (s : SlaveSpec). length s.mac ≡ 6) ss → AllLedMembers is_followed is_passed gs (served_members lens place ss ws ns) (map counters_of ws) →
@@ -101,7 +90,7 @@ module _ (weigh : List ℕ → ℕ) (plan : Scenario) (laws : Laws weigh) (is : 
       let here = All-head IsSlave s ss slaves in
       let p = profile_of s in
       let profile : IsProfile (profile_of s) = record { out_least = here.out_least; out_most = here.out_most; back_least = here.in_least; back_most = here.in_most; mac = All-head (λ (s : SlaveSpec). length s.mac ≡ 6) s ss macs } in (
-        (λ open_. subst (λ (spot : Spot). IsLive weigh (sends_most weigh (profile_of s)) spot gs w.lead.lived.life) (sym at.0.spot)
+        (λ open_. subst (λ (spot : Spot). IsLive (Weighs weigh (sends_most weigh (profile_of s))) spot gs w.lead.lived.life) (sym at.0.spot)
             (led_live weigh p (quiets p profile) s.boot lens (spot_of place s) (plan_of s) w.kept w.counts (seen_in 1 (server_of s)).server w.lead.lived.life gs n refl led.0
             (now_quiet p lens w (All-head (HasServed lens) w ws has) (All-head AsksQuiet w ws quiet)) open_)),
         all_live gs (suc place) ss ws ns (All-tail IsSlave s ss slaves) (All-tail (λ (s : SlaveSpec). length s.mac ≡ 6) s ss macs) led.1 at.1 (All-tail (HasServed lens) w ws has) (All-tail AsksQuiet w ws quiet),
@@ -112,52 +101,8 @@ module _ (weigh : List ℕ → ℕ) (plan : Scenario) (laws : Laws weigh) (is : 
       let x = lives fs missed ws led round in
       all_live (all_seen lens fs) 0 plan.slaves ws x.nodes is.laid.slaves known.macs x.led x.at (came fs missed ws led) quiet
 
-  -- ---- each slave's times, by one frame
-  module _ (gives : Bool) (gs : List (Frame Body)) (f : Exchanged) (ds : List Raw.Datagram) (seen_so : seen lens f.sent ≡ datagrams_seen lens ds) (returns : f.fate ≡ Pass → Returns (seen lens f.sent) (seen lens f.back)) (nothing : (after : ℕ) → f.fate ≡ Lost after → seen lens f.back ≡ []) where
-    spots : (v : ServedTurn) → (served_behind lens plan.recover plan.retry gives (length gs) f v).lead.lived.spot ≡ v.turn.lived.spot
-    spots v = by f.fate
-      where
-        by : (fate : Fate) → (served_life lens plan.recover plan.retry gives (length gs) f fate v).spot ≡ v.turn.lived.spot
-        by Pass = refl
-        by (Lost after) = refl
-
-    all_serve_turn : (ss : List SlaveSpec) (ws : List Serves) (vs : List ServedTurn) (ts : List Times) → AllServedTurn lens (length gs) ds ws vs → AllLiveHere gs ss (map run_lead ws) → AllTrackHere gs ss (map run_lead ws) ts →
-        AllTrackHere (gs ++ frame_seen lens f ∷ []) ss (map run_lead (map (served_behind lens plan.recover plan.retry gives (length gs) f) vs)) (times_on lens f ts (map run_turn vs))
-    all_serve_turn [] [] [] [] y l k = tt
-    all_serve_turn [] [] [] (t ∷ ts) y l k = absurd k
-    all_serve_turn [] [] (v ∷ vs) ts y l k = absurd y
-    all_serve_turn [] (w ∷ ws) vs ts y l k = absurd k
-    all_serve_turn (s ∷ ss) [] vs ts y l k = absurd k
-    all_serve_turn (s ∷ ss) (w ∷ ws) [] ts y l k = absurd y
-    all_serve_turn (s ∷ ss) (w ∷ ws) (v ∷ vs) [] y l k = absurd k
-    all_serve_turn (s ∷ ss) (w ∷ ws) (v ∷ vs) (t ∷ ts) y l k =
-        let here = serve_tracks weigh (sends_most weigh (profile_of s)) lens plan.recover plan.retry gives gs f ds seen_so returns nothing w v t y.0 k.0 l.0 in
-        let spot = sym (y.0.next.spot) ∙ sym (spots v) in (
-          subst (λ (p : Spot). Tracks weigh (sends_most weigh (profile_of s)) p (gs ++ frame_seen lens f ∷ []) (served_behind lens plan.recover plan.retry gives (length gs) f v).lead.lived.life (times_behind v.turn.lived.life.stand (mails_by lens f f.fate v.turn) t)) spot here,
-          all_serve_turn ss ws vs ts y.1 l.1 k.1,
-        )
-
-  -- ---- OVER ALL FRAMES
-  tracks : (fs : List Exchanged) (missed : ℕ) (ws : List Serves) (led : IsLedHere fs missed ws) → AllRound (ring_of plan) fs → All AsksQuiet ws → AllTrackHere (all_seen lens fs) plan.slaves (map run_lead ws) (served_times led)
-  tracks _ _ _ IsServedLed.start round quiet =
-      subst (λ (as' : List Leads). AllTrackHere [] plan.slaves as' (times_none as')) (sym (run_all plan.paces (first_leads plan))) (first_track weigh plan laws 0 plan.slaves)
-  tracks _ _ _ (IsServedLed.asks fs missed ws place key led may) round quiet =
-      subst (λ (as' : List Leads). AllTrackHere (all_seen lens fs) plan.slaves as' (served_times led)) (sym (leads_asked place key ws)) (tracks fs missed ws led round (asked_before place key ws quiet))
-  tracks _ _ _ (IsServedLed.on fs missed ws f vs led frame) round quiet =
-      let gives = gives_up_at lens plan.recover plan.retry missed in
-      let before = front_round weigh plan laws (ring_of plan) fs f round in
-      let went = last_round weigh plan laws (ring_of plan) fs f round in
-      let gs = all_seen lens fs in
-      let long : length gs ≡ length fs = length-map fs (frame_seen lens) in
-      let seen_so = seen_is lens f.sent _ frame.frame ∙ seen_chained lens frame.datagrams in
-      let turns : AllServedTurn lens (length gs) frame.datagrams ws vs = subst (λ n. AllServedTurn lens n frame.datagrams ws vs) (sym long) frame.each in
-      let still = frame_before lens plan.recover plan.retry gives (length fs) f frame.datagrams ws vs frame.each quiet in
-      let all = all_serve_turn gives gs f frame.datagrams seen_so (one_returned weigh plan laws (ring_after (ring_of plan) fs) f frame.datagrams frame.frame went) (λ after lost. none_back weigh plan laws (ring_after (ring_of plan) fs) f after went lost)
-      plan.slaves ws vs (served_times led) turns (live_at fs missed ws led before still) (tracks fs missed ws led before still) in
-      subst (λ hs. AllTrackHere hs plan.slaves (map run_lead (map (served_behind lens plan.recover plan.retry gives (length fs) f) vs)) (times_on lens f (served_times led) (map run_turn vs))) (sym (map-append (frame_seen lens) fs (f ∷ [])))
-      (subst (λ n. AllTrackHere (gs ++ frame_seen lens f ∷ []) plan.slaves (map run_lead (map (served_behind lens plan.recover plan.retry gives n f) vs)) (times_on lens f (served_times led) (map run_turn vs))) long all)
-
   -- BEHIND THEM
   pub sent : (fs : List Exchanged) (missed : ℕ) (ws : List Serves) (led : IsLedHere fs missed ws) → AllRound (ring_of plan) fs → All AsksQuiet ws → AllBoth IsJoined (served_times led) (served_joined led) → AllSend weigh plan.slaves (map run_lead ws) (served_joined led)
   sent fs missed ws led round quiet joined =
-      all_sent weigh plan laws (all_seen lens fs) plan.slaves (map run_lead ws) (served_times led) (served_joined led) (tracks fs missed ws led round quiet) (live_at fs missed ws led round quiet) joined
+      all_sent weigh plan laws (all_seen lens fs) plan.slaves (map run_lead ws) (served_times led) (served_joined led) (served_tracks plan (WeighsOf weigh plan laws) (weighs_of weigh plan laws) laws.returns (All AsksQuiet) (λ place k ws h. asked_before place k ws h) (λ gives made f ds ws vs y h. frame_before lens plan.recover plan.retry gives made f ds ws vs y h)
+      (λ fs missed ws led round quiet. live_at fs missed ws led round quiet) fs missed ws led round quiet) (live_at fs missed ws led round quiet) joined

@@ -13,7 +13,6 @@ use Rattle.served_rings.specs.Speakers.{naming_of, speaker}
 use Rattle.served_rings.proofs.Any.{fewer_lawful}
 use Rattle.served_rings.proofs.Fair.{each_append, each_behind, each_front, never_passed}
 use Rattle.run_work.specs.Sessions.{OwnService}
-use Rattle.run_work.proofs.Counted.{passes}
 use Rattle.segment_plan.specs.declared.service.Service as Plan
 use Rattle.sent_packets.specs.Quiet.{is_quiet, AsksQuiet, quiet_speaker}
 use Rattle.served_runs.specs.Came.{ServedCame, AreAmong, HasServed}

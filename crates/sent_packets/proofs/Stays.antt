@@ -73,7 +73,7 @@ emitted_sized al table new t bytes octets eoe sound done is = by t.all (t.sub ==
     by false true false false p pi done is = absurd (cc)
 
 -- ---- each protocol
-issued_stays : (room al : ℕ) (s : Station Core) (e : Option Emission) → MaySend s → MaySend (issued (station_tables parts room al) s e).0
+pub issued_stays : (room al : ℕ) (s : Station Core) (e : Option Emission) → MaySend s → MaySend (issued (station_tables parts room al) s e).0
 issued_stays room al s None may = may
 issued_stays room al s (Some (emergency octets)) may = may
 issued_stays room al s (Some (packet octets)) may = record { table = may.table; frame = omega arith }
@@ -81,7 +81,7 @@ issued_stays room al s (Some (packet octets)) may = record { table = may.table; 
 pub stored_table : (al : ℕ) (table new : Table) (t : Tables.Target) (bytes : List ℕ) → is_table table ≡ true → stores al table t bytes ≡ Ok new → is_table new ≡ true
 stored_table al table new t bytes sound done = (lawful (λ octets. []) al).stays table new t bytes sound done
 
-coe_stays : (p : Profile) (al : ℕ) (s : Station Core) (q : CoeMeaning.Service) → MaySend s → MaySend (CoeMeaning.meaning_of (station_tables parts p.back al) p.has_eoe s q).app
+pub coe_stays : (p : Profile) (al : ℕ) (s : Station Core) (q : CoeMeaning.Service) → MaySend s → MaySend (CoeMeaning.meaning_of (station_tables parts p.back al) p.has_eoe s q).app
 coe_stays p al s (CoeMeaning.download t bytes) may = by (stores al s.app.objects t bytes) refl
   where
     by : (r : Result Table ℕ) → stores al s.app.objects t bytes ≡ r → MaySend (CoeMeaning.download_means (station_tables parts p.back al) p.has_eoe s t bytes (stored s r)).app
@@ -99,7 +99,7 @@ coe_stays p al s (CoeMeaning.information a) may = by ((station_tables parts p.ba
     by (Ok bytes) = may
     by (Err code) = may
 
-foe_stays : (al : ℕ) (s : Station Core) (q : FoeMeaning.Service) → MaySend s → MaySend (FoeMeaning.meaning_of (station_files parts al) s q).app
+pub foe_stays : (al : ℕ) (s : Station Core) (q : FoeMeaning.Service) → MaySend s → MaySend (FoeMeaning.meaning_of (station_files parts al) s q).app
 foe_stays al s (FoeMeaning.read name pass) may = by ((station_files parts al).allowed s name pass false)
   where
     by : (found : Option ℕ) → MaySend (FoeMeaning.read_means (station_files parts al) s name found).app
@@ -115,7 +115,7 @@ foe_stays al s (FoeMeaning.write name pass bytes) may = by ((station_files parts
     by None = room ((station_files parts al).has_room s (length bytes))
     by (Some code) = may
 
-soe_stays : (s : Station Core) (q : SoeClient.Service) → MaySend s → MaySend (SoeClient.meaning_of (station_elements parts) s q).app
+pub soe_stays : (s : Station Core) (q : SoeClient.Service) → MaySend s → MaySend (SoeClient.meaning_of (station_elements parts) s q).app
 soe_stays s (SoeClient.read t) may = by ((station_elements parts).read s t)
   where
     by : (r : Result (List ℕ) ℕ) → MaySend (SoeClient.read_means s r).app
@@ -127,7 +127,7 @@ soe_stays s (SoeClient.write t bytes) may = by (Idns.write_at s.app.idns t bytes
     by (Ok idns) = record { table = may.table; frame = may.frame }
     by (Err code) = may
 
-eoe_stays : (p : Profile) (s : Station Core) (q : EoeClient.Service) → MaySend s → MaySend (EoeClient.meaning_of (network parts p) p.back s q).station
+pub eoe_stays : (p : Profile) (s : Station Core) (q : EoeClient.Service) → MaySend s → MaySend (EoeClient.meaning_of (network parts p) p.back s q).station
 eoe_stays p s (EoeClient.packet octets frame) may = by (echo_of p.mac octets)
   where
     by : (sent : Option (List ℕ)) → MaySend (sends p.back s.frame (s.app, sent)).0

@@ -17,14 +17,14 @@ use Rattle.master_hand.specs.Joins.{packets_in}
 use Rattle.master_hand.specs.Spoken.{Asked}
 use Rattle.packets_heard.specs.Heard.{Times, ended, packets_of}
 use Rattle.segment_model.specs.Record.{Frame, heard, kept_all, nothing_kept}
-use Rattle.segment_model.specs.Seats.{IsOpening}
+use Rattle.segment_model.specs.Seats.{IsOpening, rows_of}
 use Rattle.segment_model.specs.Slaves.{Found, grams}
 use Rattle.segment_model.proofs.News.{heard_frame}
 use Rattle.segment_model.proofs.Openings.{opening_heard}
 use Rattle.state_exchange.specs.Stated.{Service}
 use Rattle.task_model.specs.Promise.{services_in}
 use Rattle.sent_packets.proofs.Calm.{IsCalm, IsEarly}
-use Rattle.sent_packets.proofs.Live.{IsLive}
+use Rattle.sent_packets.proofs.Live.{IsLive, IsTally}
 
 -- ---- the mails heard behind one more frame
 pub heard_more : (spot : Spot) (opened : ℕ) (gs : List (Frame Body)) (g : Frame Body) (h : Halves Body) → opened < length gs → h.inn.last ≡ (kept_all spot.station nothing_kept (era_frames spot opened (length gs) gs)).heard →
@@ -66,134 +66,140 @@ module _ (weigh : List ℕ → ℕ) where
   ended_weigh past [] = omega arith
   ended_weigh past (m ∷ ms) = more_weigh past (m ∷ ms)
 
-  module _ (most : Service Asked → ℕ) (spot : Spot) where
-    abbrev pub past_most : Life Body Asked Reply → ℕ
-    past_most l = sum_by most (eras_started l.past)
+  module _ (most : Service Asked → ℕ) where
+    pub past_more : (es : List (Era Body Asked Reply)) (e : Era Body Asked Reply) → sum_by most (eras_started (es ++ e ∷ [])) ≡ sum_by most (eras_started es) + sum_by most (services_in e.account.started)
+    past_more [] e = omega (arith, ap (sum_by most) (append-nil (services_in e.account.started)))
+    past_more (d ∷ es) e = omega (arith, sum_by-append most (services_in d.account.started) (eras_started (es ++ e ∷ [])), sum_by-append most (services_in d.account.started) (eras_started es), past_more es e)
 
-    abbrev pub now_most : Life Body Asked Reply → ℕ
-    now_most l = sum_by most (services_in l.era.account.started)
+    -- THE PACKETS that their mails join to weigh no more than the services of the epochs
+    abbrev pub Weighs : List (List Body) → List (Era Body Asked Reply) → Type 0
+    Weighs ts es = times_weigh ts ≤ sum_by most (eras_started es)
 
-    -- WHILE IT IS OPEN, behind these frames, and while it isn't
-    pub record TracksOpen (gs : List (Frame Body)) (l : Life Body Asked Reply) (t : Times) : Type 0 where
-      pub past : times_weigh t.past ≤ past_most l
-      pub now : (opened : ℕ) → l.era.opened ≡ Some opened → t.now ≡ heard spot.station (era_frames spot opened (length gs) gs)
-      pub calm : IsCalm l.era.account.hand
-
-    pub record TracksShut (l : Life Body Asked Reply) (t : Times) : Type 0 where
-      pub all : times_weigh t.past + mails_weigh t.now ≤ past_most l + now_most l
-
-    abbrev pub TracksAs : List (Frame Body) → Life Body Asked Reply → Times → Stand → Type 0
-    TracksAs gs l t (Stand.Opens o) = TracksShut l t × IsEarly o l.era.account
-    TracksAs gs l t Stand.Open = TracksOpen gs l t
-    TracksAs gs l t Stand.Gone = TracksShut l t
-
-    abbrev pub Tracks : List (Frame Body) → Life Body Asked Reply → Times → Type 0
-    Tracks gs l t = TracksAs gs l t l.stand
-
-    -- an open slave's time so far is within its epoch
-    pub shut_now : (gs : List (Frame Body)) (l : Life Body Asked Reply) (t : Times) → TracksOpen gs l t → IsLive weigh most spot gs l → TracksShut l t
-    shut_now gs l t open_ live =
-        let same = ap mails_weigh (open_.now live.opened live.opened_at) in
-        record { all = omega (arith, open_.past, same, live.few) }
-
-    -- the time is over
-    abbrev pub over : Times → Times
-    over t = record { past = ended t.past t.now; now = [] }
-
-    over_shut : (l : Life Body Asked Reply) (t : Times) → TracksShut l t → TracksShut l (over t)
-    over_shut l t shut = record { all = omega (arith, shut.all, ended_weigh t.past t.now) }
-
-    -- a give-up
-    pub gives_tracks : (recover frame : ℕ) (gs : List (Frame Body)) (l : Life Body Asked Reply) (t : Times) → TracksShut l t → Tracks gs (gives_up recover spot frame l) t
-    gives_tracks recover frame gs l t shut = go (nat_lt (length l.gave) recover)
-      where
-        go : (b : Bool) → TracksAs gs (gives_up recover spot frame l) t (if b then reopening spot.start false else Stand.Gone)
-        go true = (record { all = shut.all }, inl (refl, omega arith))
-        go false = record { all = shut.all }
-
-    -- ---- AN ACCESS OF AN OPENING came back
-    module _ (gs : List (Frame Body)) (g : Frame Body) (l : Life Body Asked Reply) (t : Times) (o : Opening) (stand : l.stand ≡ Stand.Opens o) (shut : TracksShut l t) (early : IsEarly o l.era.account) where
-      abbrev Ends : Life Body Asked Reply → Type 0
-      Ends m = Tracks (gs ++ g ∷ []) m (over t)
-
-      stays : Ends l
-      stays = subst (λ (z : Stand). TracksAs (gs ++ g ∷ []) l (over t) z) (sym stand) (over_shut l t shut, early)
-
-      cleared : (frame : ℕ) → Ends (clears frame l o)
-      cleared frame =
-          let shut_ = over_shut l t shut in
-          let past : past_most (clears frame l o) ≡ past_most l + now_most l = sums l.past l.era in
-          (record { all = omega (arith, shut_.all, past) }, inr (refl, refl))
-        where
-          sums : (es : List (Era Body Asked Reply)) (e : Era Body Asked Reply) → sum_by most (eras_started (es ++ e ∷ [])) ≡ sum_by most (eras_started es) + sum_by most (services_in e.account.started)
-          sums [] e = omega (arith, ap (sum_by most) (append-nil (services_in e.account.started)))
-          sums (d ∷ es) e = omega (arith, sum_by-append most (services_in d.account.started) (eras_started (es ++ e ∷ [])), sum_by-append most (services_in d.account.started) (eras_started es), sums es e)
-
-      -- the last access comes behind Init, or is that of a first bring-up
-      late : (o.step == last_step o) ≡ true → IsEarly o l.era.account → (l.era.account.started ≡ []) × (l.era.account.hand ≡ None)
-      late e (inr fresh) = fresh
-      late e (inl again) = absurd (omega (arith, again.1, eqb-true o.step 9 (ap (λ (b : Bool). o.step == (if b then 9 else 5)) (sym again.0) ∙ e)))
-
-      opened : (o.step == last_step o) ≡ true → Ends (opens (length gs) l)
-      opened e =
-          let fresh = late e early in
-          let none : now_most l ≡ 0 = ap (λ ss. sum_by most (services_in ss)) fresh.0 in
-          record {
-            past = omega (arith, shut.all, ended_weigh t.past t.now, none);
-            now = λ opened is.
-                let same : length gs ≡ opened = cc in
-                sym (subst (λ (n : ℕ). heard spot.station (era_frames spot n (length (gs ++ g ∷ [])) (gs ++ g ∷ [])) ≡ []) same
-                (ap (λ n. heard spot.station (era_frames spot (length gs) n (gs ++ g ∷ []))) (one_longer gs g) ∙ nothing_heard spot (length gs) (gs ++ g ∷ [])));
-            calm = λ duty is returns. absurd (let bad : None ≡ Some duty = sym fresh.1 ∙ is in cc);
-          }
-
-      goes_on : shows_clear o ≡ false → Ends (steps_on l o)
-      goes_on e = (record { all = (over_shut l t shut).all }, on early)
-        where
-          below : (again : Bool) (step : ℕ) → again ≡ true → step ≤ 2 → (again && step == 2) ≡ false → suc step ≤ 2
-          below again step is few not_ = few_on (step == 2) refl
-            where
-              few_on : (b : Bool) → (step == 2) ≡ b → suc step ≤ 2
-              few_on true f = absurd (let bad : true ≡ false = sym (ap (λ (z : Bool). z && step == 2) is ∙ f) ∙ not_ in cc)
-              few_on false f = let other = eqb-false step 2 f in below_two step few other
-                where
-                  below_two : (n : ℕ) → n ≤ 2 → (n ≡ 2 → ⊥) → suc n ≤ 2
-                  below_two n few other = omega (arith, few, other)
-
-          on : IsEarly o l.era.account → IsEarly (record o { step = suc o.step }) l.era.account
-          on (inl again) = inl (again.0, below o.again o.step again.0 again.1 e)
-          on (inr fresh) = inr fresh
-
-      pub opening_tracks : (done : Bool) (found : Option Found) → Ends (opening_back (length gs) l o done found)
-      opening_tracks done found = by (shows_clear o) (done && is_shown 1 found) (o.step == last_step o) (done && is_shown o.state found) refl refl
-        where
-          by : (a b c d : Bool) → shows_clear o ≡ a → (o.step == last_step o) ≡ c → Ends (if a then (if b then clears (length gs) l o else l) else if c then (if d then opens (length gs) l else l) else steps_on l o)
-          by true true c d f h = cleared (length gs)
-          by true false c d f h = stays
-          by false b true true f h = opened h
-          by false b true false f h = stays
-          by false b false d f h = goes_on f
-
-      pub shut_stays : Ends l
-      shut_stays = stays
-
-    -- of one that is gone for good
-    pub gone_tracks : (gs : List (Frame Body)) (g : Frame Body) (l : Life Body Asked Reply) (t : Times) → l.stand ≡ Stand.Gone → TracksShut l t → Tracks (gs ++ g ∷ []) l (over t)
-    gone_tracks gs g l t stand shut = subst (λ (z : Stand). TracksAs (gs ++ g ∷ []) l (over t) z) (sym stand) (over_shut l t shut)
-
-    pub over_shuts : (l : Life Body Asked Reply) (t : Times) → TracksShut l t → TracksShut l (over t)
-    over_shuts l t shut = over_shut l t shut
-
-    -- ---- AN OPEN SLAVE goes on
-    pub open_tracks : (gs : List (Frame Body)) (g : Frame Body) (l m : Life Body Asked Reply) (t : Times) (ms : List Body) → IsLive weigh most spot gs l → m.past ≡ l.past → m.era.opened ≡ l.era.opened → IsCalm m.era.account.hand → TracksOpen gs l t →
-        ms ≡ all_accepted spot.station l.era.side.halves (grams (own spot.station g.back)) → TracksOpen (gs ++ g ∷ []) m (record { past = t.past; now = t.now ++ ms })
-    open_tracks gs g l m t ms live past opened calm open_ is = record {
-      past = omega (arith, open_.past, ap (λ es. sum_by most (eras_started es)) past);
-      now = λ k at.
-          let was : l.era.opened ≡ Some k = sym opened ∙ at in
-          let same : live.opened ≡ k = (let e : Some live.opened ≡ Some k = sym live.opened_at ∙ was in cc) in
-          let before : k < length gs = subst (λ n. n < length gs) same live.before in
-          let last = subst (λ n. l.era.side.halves.inn.last ≡ (kept_all spot.station nothing_kept (era_frames spot n (length gs) gs)).heard) same live.last in
-          (λ i. open_.now k was i ++ is i) ∙ sym (heard_more spot k gs g l.era.side.halves before last) ∙ ap (λ n. heard spot.station (era_frames spot k n (gs ++ g ∷ []))) (sym (one_longer gs g));
-      calm = calm;
+    pub weighs : IsTally Weighs
+    weighs = record {
+      empty = omega arith;
+      fresh = λ ts es e new told. omega (arith, told, past_more es e);
+      none = λ ts es e new told. omega (arith, told, past_more es e, ap (λ ss. sum_by most (services_in ss)) new.0);
+      grows = λ ts es d e g told. omega (arith, told, past_more es d, past_more es e, ap (sum_by most) g.services.1, sum_by-append most (services_in d.account.started) g.services.0);
     }
+
+    -- mails that weigh no more than the services of an epoch go on with them
+    pub weighs_on : (past : List (List Body)) (ms : List Body) (es : List (Era Body Asked Reply)) (e : Era Body Asked Reply) → mails_weigh ms ≤ sum_by most (services_in e.account.started) → Weighs past es → Weighs (ended past ms) (es ++ e ∷ [])
+    weighs_on past ms es e few told = omega (arith, few, told, past_more es e, ended_weigh past ms)
+
+-- BY WHAT IS TOLD of times against epochs
+module _ (R : List (List Body) → List (Era Body Asked Reply) → Type 0) (tally : IsTally R) (spot : Spot) where
+  -- WHILE IT IS OPEN, behind these frames, and while it isn't
+  pub record TracksOpen (gs : List (Frame Body)) (l : Life Body Asked Reply) (t : Times) : Type 0 where
+    pub past : R t.past l.past
+    pub now : (opened : ℕ) → l.era.opened ≡ Some opened → t.now ≡ heard spot.station (era_frames spot opened (length gs) gs)
+    pub calm : IsCalm l.era.account.hand
+
+  pub record TracksShut (l : Life Body Asked Reply) (t : Times) : Type 0 where
+    pub all : R (ended t.past t.now) (l.past ++ l.era ∷ [])
+
+  abbrev pub TracksAs : List (Frame Body) → Life Body Asked Reply → Times → Stand → Type 0
+  TracksAs gs l t (Stand.Opens o) = TracksShut l t × IsEarly o l.era
+  TracksAs gs l t Stand.Open = TracksOpen gs l t
+  TracksAs gs l t Stand.Gone = TracksShut l t
+
+  abbrev pub Tracks : List (Frame Body) → Life Body Asked Reply → Times → Type 0
+  Tracks gs l t = TracksAs gs l t l.stand
+
+  -- an open slave's time so far is within its epoch
+  pub shut_now : (gs : List (Frame Body)) (l : Life Body Asked Reply) (t : Times) → TracksOpen gs l t → IsLive R spot gs l → TracksShut l t
+  shut_now gs l t open_ live = record { all = subst (λ ms. R (ended t.past ms) (l.past ++ l.era ∷ [])) (sym (open_.now live.opened live.opened_at)) (live.told t.past open_.past) }
+
+  -- the time is over
+  abbrev pub over : Times → Times
+  over t = record { past = ended t.past t.now; now = [] }
+
+  over_shut : (l : Life Body Asked Reply) (t : Times) → TracksShut l t → TracksShut l (over t)
+  over_shut l t shut = record { all = shut.all }
+
+  -- a give-up
+  pub gives_tracks : (recover frame : ℕ) (gs : List (Frame Body)) (l : Life Body Asked Reply) (t : Times) → TracksShut l t → Tracks gs (gives_up recover spot frame l) t
+  gives_tracks recover frame gs l t shut = go (nat_lt (length l.gave) recover)
+    where
+      go : (b : Bool) → TracksAs gs (gives_up recover spot frame l) t (if b then reopening spot.start false else Stand.Gone)
+      go true = (record { all = shut.all }, inl (refl, omega arith))
+      go false = record { all = shut.all }
+
+  -- ---- AN ACCESS OF AN OPENING came back
+  module _ (gs : List (Frame Body)) (g : Frame Body) (l : Life Body Asked Reply) (t : Times) (o : Opening) (stand : l.stand ≡ Stand.Opens o) (shut : TracksShut l t) (early : IsEarly o l.era) where
+    abbrev Ends : Life Body Asked Reply → Type 0
+    Ends m = Tracks (gs ++ g ∷ []) m (over t)
+
+    stays : Ends l
+    stays = subst (λ (z : Stand). TracksAs (gs ++ g ∷ []) l (over t) z) (sym stand) (over_shut l t shut, early)
+
+    cleared : (frame : ℕ) → Ends (clears frame l o)
+    cleared frame = (record { all = tally.fresh (ended t.past t.now) (l.past ++ l.era ∷ []) (clears frame l o).era (refl, refl) shut.all }, inr (refl, refl, refl))
+
+    -- the last access comes behind Init, or is that of a first bring-up
+    late : (o.step == last_step o) ≡ true → IsEarly o l.era → (l.era.account.started ≡ []) × (l.era.account.hand ≡ None) × (rows_of l.era.side ≡ [])
+    late e (inr fresh) = fresh
+    late e (inl again) = absurd (omega (arith, again.1, eqb-true o.step 9 (ap (λ (b : Bool). o.step == (if b then 9 else 5)) (sym again.0) ∙ e)))
+
+    opened : (o.step == last_step o) ≡ true → Ends (opens (length gs) l)
+    opened e =
+        let fresh = late e early in
+        record {
+          past = tally.none (ended t.past t.now) l.past l.era (fresh.0, fresh.2) shut.all;
+          now = λ opened is.
+              let same : length gs ≡ opened = cc in
+              sym (subst (λ (n : ℕ). heard spot.station (era_frames spot n (length (gs ++ g ∷ [])) (gs ++ g ∷ [])) ≡ []) same
+              (ap (λ n. heard spot.station (era_frames spot (length gs) n (gs ++ g ∷ []))) (one_longer gs g) ∙ nothing_heard spot (length gs) (gs ++ g ∷ [])));
+          calm = λ duty is returns. absurd (let bad : None ≡ Some duty = sym fresh.1 ∙ is in cc);
+        }
+
+    goes_on : shows_clear o ≡ false → Ends (steps_on l o)
+    goes_on e = (record { all = (over_shut l t shut).all }, on early)
+      where
+        below : (again : Bool) (step : ℕ) → again ≡ true → step ≤ 2 → (again && step == 2) ≡ false → suc step ≤ 2
+        below again step is few not_ = few_on (step == 2) refl
+          where
+            few_on : (b : Bool) → (step == 2) ≡ b → suc step ≤ 2
+            few_on true f = absurd (let bad : true ≡ false = sym (ap (λ (z : Bool). z && step == 2) is ∙ f) ∙ not_ in cc)
+            few_on false f = let other = eqb-false step 2 f in below_two step few other
+              where
+                below_two : (n : ℕ) → n ≤ 2 → (n ≡ 2 → ⊥) → suc n ≤ 2
+                below_two n few other = omega (arith, few, other)
+
+        on : IsEarly o l.era → IsEarly (record o { step = suc o.step }) l.era
+        on (inl again) = inl (again.0, below o.again o.step again.0 again.1 e)
+        on (inr fresh) = inr fresh
+
+    pub opening_tracks : (done : Bool) (found : Option Found) → Ends (opening_back (length gs) l o done found)
+    opening_tracks done found = by (shows_clear o) (done && is_shown 1 found) (o.step == last_step o) (done && is_shown o.state found) refl refl
+      where
+        by : (a b c d : Bool) → shows_clear o ≡ a → (o.step == last_step o) ≡ c → Ends (if a then (if b then clears (length gs) l o else l) else if c then (if d then opens (length gs) l else l) else steps_on l o)
+        by true true c d f h = cleared (length gs)
+        by true false c d f h = stays
+        by false b true true f h = opened h
+        by false b true false f h = stays
+        by false b false d f h = goes_on f
+
+    pub shut_stays : Ends l
+    shut_stays = stays
+
+  -- of one that is gone for good
+  pub gone_tracks : (gs : List (Frame Body)) (g : Frame Body) (l : Life Body Asked Reply) (t : Times) → l.stand ≡ Stand.Gone → TracksShut l t → Tracks (gs ++ g ∷ []) l (over t)
+  gone_tracks gs g l t stand shut = subst (λ (z : Stand). TracksAs (gs ++ g ∷ []) l (over t) z) (sym stand) (over_shut l t shut)
+
+  pub over_shuts : (l : Life Body Asked Reply) (t : Times) → TracksShut l t → TracksShut l (over t)
+  over_shuts l t shut = over_shut l t shut
+
+  -- ---- AN OPEN SLAVE goes on
+  pub open_tracks : (gs : List (Frame Body)) (g : Frame Body) (l m : Life Body Asked Reply) (t : Times) (ms : List Body) → IsLive R spot gs l → m.past ≡ l.past → m.era.opened ≡ l.era.opened → IsCalm m.era.account.hand → TracksOpen gs l t →
+      ms ≡ all_accepted spot.station l.era.side.halves (grams (own spot.station g.back)) → TracksOpen (gs ++ g ∷ []) m (record { past = t.past; now = t.now ++ ms })
+  open_tracks gs g l m t ms live past opened calm open_ is = record {
+    past = subst (λ es. R t.past es) (sym past) open_.past;
+    now = λ k at.
+        let was : l.era.opened ≡ Some k = sym opened ∙ at in
+        let same : live.opened ≡ k = (let e : Some live.opened ≡ Some k = sym live.opened_at ∙ was in cc) in
+        let before : k < length gs = subst (λ n. n < length gs) same live.before in
+        let last = subst (λ n. l.era.side.halves.inn.last ≡ (kept_all spot.station nothing_kept (era_frames spot n (length gs) gs)).heard) same live.last in
+        (λ i. open_.now k was i ++ is i) ∙ sym (heard_more spot k gs g l.era.side.halves before last) ∙ ap (λ n. heard spot.station (era_frames spot k n (gs ++ g ∷ []))) (sym (one_longer gs g));
+    calm = calm;
+  }

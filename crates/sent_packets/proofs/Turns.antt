@@ -1,8 +1,6 @@
 -- ONE SLAVE BY A FRAME: the mails that its master accepts of it are those that its epoch hears.
 use Rattle.std.proofs.Common.{◌≡◌, ◌⊎◌, inl, inr, ℕ, ◌==◌, ◌&&◌, Bool, true, false, not, Option, Some, None, List, [], ◌∷◌, ◌++◌, length, refl, sym, ap, ◌∙◌, subst, arith, append-nil, if◌then◌else◌}
-use Rattle.std.specs.Prelude.{sum_by}
 use Rattle.std.proofs.lemmas.Bool.{eqb-true, eq-eqb}
-use Rattle.book_model.specs.Script.{eras_started}
 use Rattle.datagrams.specs.Datagram as Raw
 use Rattle.datagrams.specs.declared.command.Command.TheVariants.{Fprd, Fpwr}
 use Rattle.exchange_model.specs.Exchange.{Speech}
@@ -11,6 +9,7 @@ use Rattle.frame_view.specs.View.{Lens, ask_of, access_of, read_ask, read_access
 use Rattle.life_frames.specs.Frames.{FrameFor, IsOpenGram, Share}
 use Rattle.life_frames.specs.Shares.{Lived, IsNext, came_at, given_where, lived_back, lived_lost}
 use Rattle.life_frames.proofs.Frames.{own_none, own_one}
+use Rattle.life_model.specs.Eras.{era_frames}
 use Rattle.life_model.specs.Lives.{Spot, Era, Life, Stand, era_back, granted, life_next, life_back, life_lost, reopens, reopens_at, reopening, opens_state, returns_to_init}
 use Rattle.life_model.specs.Own.{own}
 use Rattle.life_runs.specs.Led.{Exchanged, Leads, Turn, IsTurn, is_passed, speech_at, life_behind}
@@ -21,8 +20,8 @@ use Rattle.master_duty.specs.Reply.{Reply}
 use Rattle.master_hand.specs.Spoken.{Asked, acknowledged, is_followed}
 use Rattle.master_side.specs.Passing.{news_back, news_lost}
 use Rattle.master_tour.specs.Brings.{accepted_at}
-use Rattle.packets_heard.specs.Heard.{Times, mails_by, times_behind}
-use Rattle.segment_model.specs.Record.{Frame, News, is_for}
+use Rattle.packets_heard.specs.Heard.{Times, ended, mails_by, times_behind}
+use Rattle.segment_model.specs.Record.{Frame, News, heard, is_for}
 use Rattle.segment_model.specs.Returned.{Returns}
 use Rattle.segment_model.specs.Slaves.{Access, Datagram, grams}
 use Rattle.segment_ring.specs.declared.wire.Fate.{Fate}
@@ -32,9 +31,9 @@ use Rattle.state_exchange.specs.Stated.{Service}
 use Rattle.task_model.specs.Accounts.{Account, Duty, Stage, account_back, account_met, account_by, access_done}
 use Rattle.task_model.specs.Promise.{services_in}
 use Rattle.slave_lives.specs.Rings.{fate_seen}
-use Rattle.sent_packets.proofs.Calm.{IsCalm, begins_more, begins_calm, next_inn}
-use Rattle.sent_packets.proofs.Live.{IsLive}
-use Rattle.sent_packets.proofs.Times.{TracksOpen, TracksShut, TracksAs, Tracks, mails_weigh, shut_now, gives_tracks, opening_tracks, shut_stays, gone_tracks, over_shuts, open_tracks}
+use Rattle.sent_packets.proofs.Calm.{IsCalm, back_heard, begins_more, begins_calm, next_heard, next_inn}
+use Rattle.sent_packets.proofs.Live.{Grows, IsLive, IsTally}
+use Rattle.sent_packets.proofs.Times.{TracksOpen, TracksShut, TracksAs, Tracks, shut_now, gives_tracks, opening_tracks, shut_stays, gone_tracks, over_shuts, open_tracks}
 
 -- ---- a datagram that reads mailbox 1 accesses nothing else
 abbrev else_asks : Bool → Bool → Ask Body
@@ -189,7 +188,7 @@ started_same {R = R} station made a (d ∷ ds) = started_same station made (acco
         either false = refl
 
 -- ---- BEHIND THE FRAME, with what it tells of a mail that is passed on
-module _ (weigh : List ℕ → ℕ) (most : Service Asked → ℕ) (spot : Spot) (x : Speech Body Asked Reply) (recover : ℕ) (news : List (News Body)) (gs : List (Frame Body)) (g : Frame Body) (n : Life Body Asked Reply) (t : Times) where
+module _ (R : List (List Body) → List (Era Body Asked Reply) → Type 0) (tally : IsTally R) (spot : Spot) (x : Speech Body Asked Reply) (recover : ℕ) (news : List (News Body)) (gs : List (Frame Body)) (g : Frame Body) (n : Life Body Asked Reply) (t : Times) where
   abbrev back : List (Datagram Body)
   back = g.back
 
@@ -200,12 +199,12 @@ module _ (weigh : List ℕ → ℕ) (most : Service Asked → ℕ) (spot : Spot)
   gs' = gs ++ g ∷ []
 
   abbrev BackSo : Option (Bool × Option Rattle.segment_model.specs.Slaves.Found) → Stand → Type 0
-  BackSo came z = Tracks weigh most spot gs' (life_back x acknowledged is_followed is_passed (length gs) spot news back came n z) (times_behind z (accepted_at spot.station halves back z) t)
+  BackSo came z = Tracks R tally spot gs' (life_back x acknowledged is_followed is_passed (length gs) spot news back came n z) (times_behind z (accepted_at spot.station halves back z) t)
 
   abbrev LostSo : Bool → List (Datagram Body) → Stand → Type 0
-  LostSo gives sent z = Tracks weigh most spot gs' (given_where gives recover spot (length gs) (life_lost x acknowledged is_followed is_passed spot news sent n z)) (times_behind z [] t)
+  LostSo gives sent z = Tracks R tally spot gs' (given_where gives recover spot (length gs) (life_lost x acknowledged is_followed is_passed spot news sent n z)) (times_behind z [] t)
 
-  module _ (open_ : TracksOpen weigh most spot gs n t) (live : IsLive weigh most spot gs n) (stand : n.stand ≡ Stand.Open) where
+  module _ (open_ : TracksOpen R tally spot gs n t) (live : IsLive R spot gs n) (stand : n.stand ≡ Stand.Open) where
     abbrev ms : List Body
     ms = all_accepted spot.station halves (grams (own spot.station back))
 
@@ -218,15 +217,23 @@ module _ (weigh : List ℕ → ℕ) (most : Service Asked → ℕ) (spot : Spot)
     abbrev more : Times
     more = record { past = t.past; now = t.now ++ ms }
 
-    open_still : IsCalm behind.account.hand → Tracks weigh most spot gs' now more
-    open_still calm = subst (λ (z : Stand). TracksAs weigh most spot gs' now more z) (sym stand) (open_tracks weigh most spot gs g n now t ms live refl refl calm open_ refl)
+    open_still : IsCalm behind.account.hand → Tracks R tally spot gs' now more
+    open_still calm = subst (λ (z : Stand). TracksAs R tally spot gs' now more z) (sym stand) (open_tracks R tally spot gs g n now t ms live refl refl calm open_ refl)
 
-    shut_by : (m : Life Body Asked Reply) (ns : List Body) → ns ≡ [] → eras_started m.past ≡ eras_started n.past → services_in m.era.account.started ≡ services_in n.era.account.started → TracksShut weigh most spot m (record { past = t.past; now = t.now ++ ns })
-    shut_by m ns none past started =
-        let was = shut_now weigh most spot gs n t open_ live in
-        record { all = omega (arith, was.all, ap (λ l. mails_weigh weigh (t.now ++ l)) none, ap (mails_weigh weigh) (append-nil t.now), ap (sum_by most) past, ap (sum_by most) started) }
+    shut_by : (m : Life Body Asked Reply) (ns : List Body) → ns ≡ [] → m.past ≡ n.past → Grows n.era m.era → TracksShut R tally spot m (record { past = t.past; now = t.now ++ ns })
+    shut_by m ns none past grown =
+        let was = shut_now R tally spot gs n t open_ live in
+        let same : t.now ≡ t.now ++ ns = sym (append-nil t.now) ∙ ap (λ l. t.now ++ l) (sym none) in
+        record { all = subst (λ ms. R (ended t.past ms) (m.past ++ m.era ∷ [])) same (subst (λ es. R (ended t.past t.now) (es ++ m.era ∷ [])) (sym past) (tally.grows (ended t.past t.now) n.past n.era m.era grown was.all)) }
 
-    open_back : IsOne spot.station back → Tracks weigh most spot gs' (reopens now behind.account.hand) more
+    -- behind a frame that brought no mail
+    grown_back : ms ≡ [] → Grows n.era behind
+    grown_back none = record {
+      services = ([], append-nil (services_in n.era.account.started) ∙ ap services_in (sym (started_same spot.station (length gs) n.era.account (own spot.station back))));
+      heard = sym (back_heard x acknowledged (length gs) n.era.side.past ms n.era.side.now none);
+    }
+
+    open_back : IsOne spot.station back → Tracks R tally spot gs' (reopens now behind.account.hand) more
     open_back one = go behind.account.hand refl
       where
         same_calm : (duty : Duty) → behind.account.hand ≡ Some duty → (returns_to_init duty.target ≡ true → duty.stage ≡ Stage.Drains) → IsCalm behind.account.hand
@@ -235,48 +242,50 @@ module _ (weigh : List ℕ → ℕ) (most : Service Asked → ℕ) (spot : Spot)
             subst (λ (d : Duty). returns_to_init d.target ≡ true → d.stage ≡ Stage.Drains) same h returns
 
         goes : (duty : Duty) → behind.account.hand ≡ Some duty → (phase : Rattle.state_model.specs.States.Phase) → duty.stage ≡ Stage.Goes phase → (b : Bool) → returns_to_init duty.target ≡ b →
-            Tracks weigh most spot gs' (if b then record now { stand = reopening (opens_state duty.target) true } else now) more
+            Tracks R tally spot gs' (if b then record now { stand = reopening (opens_state duty.target) true } else now) more
         goes duty e phase at false f = open_still (same_calm duty e (λ returns. absurd (let bad : true ≡ false = sym returns ∙ f in cc)))
-        goes duty e phase at true f = (shut_by (record now { stand = reopening (opens_state duty.target) true }) ms (none (brings spot.station (length gs) halves n.era.account back open_.calm one duty e f)) refl (ap services_in (started_same spot.station (length gs) n.era.account (own spot.station back))), inl (refl, omega arith))
+        goes duty e phase at true f =
+            let nothing = none (brings spot.station (length gs) halves n.era.account back open_.calm one duty e f) in
+            (shut_by (record now { stand = reopening (opens_state duty.target) true }) ms nothing refl (grown_back nothing), inl (refl, omega arith))
           where
             none : (duty.stage ≡ Stage.Drains) ⊎ (ms ≡ []) → ms ≡ []
             none (inr k) = k
             none (inl k) = absurd (let bad : Stage.Drains ≡ Stage.Goes phase = sym k ∙ at in cc)
 
-        at_stage : (duty : Duty) → behind.account.hand ≡ Some duty → (stage : Stage) → duty.stage ≡ stage → Tracks weigh most spot gs' (reopens_at now duty.target stage) more
+        at_stage : (duty : Duty) → behind.account.hand ≡ Some duty → (stage : Stage) → duty.stage ≡ stage → Tracks R tally spot gs' (reopens_at now duty.target stage) more
         at_stage duty e Stage.Drains at = open_still (same_calm duty e (λ returns. at))
         at_stage duty e (Stage.Goes phase) at = goes duty e phase at (returns_to_init duty.target) refl
 
-        go : (hand : Option Duty) → behind.account.hand ≡ hand → Tracks weigh most spot gs' (reopens now hand) more
+        go : (hand : Option Duty) → behind.account.hand ≡ hand → Tracks R tally spot gs' (reopens now hand) more
         go None e = open_still (λ duty f returns. absurd (let bad : None ≡ Some duty = sym e ∙ f in cc))
         go (Some duty) e = at_stage duty e duty.stage refl
 
     open_lost : (gives : Bool) (sent : List (Datagram Body)) → back ≡ [] → LostSo gives sent Stand.Open
     open_lost false sent none =
         let m = life_lost x acknowledged is_followed is_passed spot news sent n Stand.Open in
-        subst (λ (z : Stand). TracksAs weigh most spot gs' m (record { past = t.past; now = t.now ++ [] }) z) (sym stand)
-        (open_tracks weigh most spot gs g n m t [] live refl refl open_.calm open_ (sym (ap (λ l. all_accepted spot.station halves (grams (own spot.station l))) none)))
+        subst (λ (z : Stand). TracksAs R tally spot gs' m (record { past = t.past; now = t.now ++ [] }) z) (sym stand)
+        (open_tracks R tally spot gs g n m t [] live refl refl open_.calm open_ (sym (ap (λ l. all_accepted spot.station halves (grams (own spot.station l))) none)))
     open_lost true sent none =
         let m = life_lost x acknowledged is_followed is_passed spot news sent n Stand.Open in
-        gives_tracks weigh most spot recover (length gs) gs' m (record { past = t.past; now = t.now ++ [] }) (shut_by m [] refl refl refl)
+        gives_tracks R tally spot recover (length gs) gs' m (record { past = t.past; now = t.now ++ [] }) (shut_by m [] refl refl (record { services = ([], append-nil (services_in n.era.account.started)); heard = refl }))
 
   -- WHERE IT CAME BACK
-  pub back_tracks : (came : Option (Bool × Option Rattle.segment_model.specs.Slaves.Found)) (z : Stand) → n.stand ≡ z → TracksAs weigh most spot gs n t z → (z ≡ Stand.Open → IsLive weigh most spot gs n) → (z ≡ Stand.Open → IsOne spot.station back) → BackSo came z
-  back_tracks None (Stand.Opens o) e k live one = shut_stays weigh most spot gs g n t o e k.0 k.1
-  back_tracks (Some came) (Stand.Opens o) e k live one = opening_tracks weigh most spot gs g n t o e k.0 k.1 came.0 came.1
+  pub back_tracks : (came : Option (Bool × Option Rattle.segment_model.specs.Slaves.Found)) (z : Stand) → n.stand ≡ z → TracksAs R tally spot gs n t z → (z ≡ Stand.Open → IsLive R spot gs n) → (z ≡ Stand.Open → IsOne spot.station back) → BackSo came z
+  back_tracks None (Stand.Opens o) e k live one = shut_stays R tally spot gs g n t o e k.0 k.1
+  back_tracks (Some came) (Stand.Opens o) e k live one = opening_tracks R tally spot gs g n t o e k.0 k.1 came.0 came.1
   back_tracks came Stand.Open e k live one = open_back k (live refl) e (one refl)
-  back_tracks came Stand.Gone e k live one = gone_tracks weigh most spot gs g n t e k
+  back_tracks came Stand.Gone e k live one = gone_tracks R tally spot gs g n t e k
 
   -- AND WHERE IT WAS LOST
-  pub lost_tracks : (gives : Bool) (sent : List (Datagram Body)) → back ≡ [] → (z : Stand) → n.stand ≡ z → TracksAs weigh most spot gs n t z → (z ≡ Stand.Open → IsLive weigh most spot gs n) → LostSo gives sent z
-  lost_tracks false sent none (Stand.Opens o) e k live = shut_stays weigh most spot gs g n t o e k.0 k.1
-  lost_tracks true sent none (Stand.Opens o) e k live = gives_tracks weigh most spot recover (length gs) gs' n _ (over_shuts weigh most spot n t k.0)
+  pub lost_tracks : (gives : Bool) (sent : List (Datagram Body)) → back ≡ [] → (z : Stand) → n.stand ≡ z → TracksAs R tally spot gs n t z → (z ≡ Stand.Open → IsLive R spot gs n) → LostSo gives sent z
+  lost_tracks false sent none (Stand.Opens o) e k live = shut_stays R tally spot gs g n t o e k.0 k.1
+  lost_tracks true sent none (Stand.Opens o) e k live = gives_tracks R tally spot recover (length gs) gs' n _ (over_shuts R tally spot n t k.0)
   lost_tracks gives sent none Stand.Open e k live = open_lost k (live refl) e gives sent none
-  lost_tracks false sent none Stand.Gone e k live = gone_tracks weigh most spot gs g n t e k
-  lost_tracks true sent none Stand.Gone e k live = gives_tracks weigh most spot recover (length gs) gs' n _ (over_shuts weigh most spot n t k)
+  lost_tracks false sent none Stand.Gone e k live = gone_tracks R tally spot gs g n t e k
+  lost_tracks true sent none Stand.Gone e k live = gives_tracks R tally spot recover (length gs) gs' n _ (over_shuts R tally spot n t k)
 
 -- ---- BEFORE IT: what comes into hand
-module _ (weigh : List ℕ → ℕ) (most : Service Asked → ℕ) (spot : Spot) (x : Speech Body Asked Reply) (gs : List (Frame Body)) (l : Life Body Asked Reply) (t : Times) (pick : Rattle.task_model.specs.Accounts.Pick Asked) where
+module _ (R : List (List Body) → List (Era Body Asked Reply) → Type 0) (tally : IsTally R) (spot : Spot) (x : Speech Body Asked Reply) (gs : List (Frame Body)) (l : Life Body Asked Reply) (t : Times) (pick : Rattle.task_model.specs.Accounts.Pick Asked) where
   abbrev next : Stand → Life Body Asked Reply
   next z = life_next x acknowledged is_followed is_passed (length gs) l z pick
 
@@ -291,22 +300,26 @@ module _ (weigh : List ℕ → ℕ) (most : Service Asked → ℕ) (spot : Spot)
   abbrev wish : Option (Service Asked)
   wish = (granted l.era.passing pick).begin
 
-  pub next_tracks : (z : Stand) → TracksAs weigh most spot gs l t z → TracksAs weigh most spot gs (next z) t z
+  pub next_tracks : (z : Stand) → TracksAs R tally spot gs l t z → TracksAs R tally spot gs (next z) t z
   next_tracks (Stand.Opens o) k = k
   next_tracks Stand.Open k = record { past = k.past; now = k.now; calm = begins_calm x acknowledged (length gs) l.era.side l.era.account l.era.account.hand wish k.calm }
   next_tracks Stand.Gone k = k
 
-  pub next_live : IsLive weigh most spot gs l → IsLive weigh most spot gs (next Stand.Open)
+  pub next_live : IsLive R spot gs l → IsLive R spot gs (next Stand.Open)
   next_live live = record {
     opened = live.opened;
     opened_at = live.opened_at;
     before = live.before;
     last = ap (λ (i : Rattle.link_model.specs.Master.InHalf). i.last) (next_inn x acknowledged (length gs) l.era.side (Rattle.task_model.specs.Accounts.mails_choice l.era.account (granted l.era.passing pick))) ∙ live.last;
-    few = omega (arith, live.few, begins_more x acknowledged (length gs) most l.era.side l.era.account l.era.account.hand wish);
+    told = λ past told. tally.grows (ended past (heard spot.station (era_frames spot live.opened (length gs) gs))) l.past l.era (next Stand.Open).era
+        (record {
+          services = begins_more x acknowledged (length gs) l.era.side l.era.account l.era.account.hand wish;
+          heard = sym (next_heard x acknowledged (length gs) l.era.side (Rattle.task_model.specs.Accounts.mails_choice l.era.account (granted l.era.passing pick)));
+        }) (live.told past told);
   }
 
 -- ---- ONE SLAVE
-module _ (weigh : List ℕ → ℕ) (most : Service Asked → ℕ) (lens : ℕ → Lens) (recover retry : ℕ) (gives : Bool) (gs : List (Frame Body)) (f : Exchanged) (ds : List Raw.Datagram)
+module _ (R : List (List Body) → List (Era Body Asked Reply) → Type 0) (tally : IsTally R) (lens : ℕ → Lens) (recover retry : ℕ) (gives : Bool) (gs : List (Frame Body)) (f : Exchanged) (ds : List Raw.Datagram)
     (is : seen lens f.sent ≡ datagrams_seen lens ds) (returns : f.fate ≡ Pass → Returns (seen lens f.sent) (seen lens f.back)) (nothing : (after : ℕ) → f.fate ≡ Lost after → seen lens f.back ≡ []) where
   abbrev g : Frame Body
   g = record { sent = seen lens f.sent; fate = fate_seen f.fate; back = seen lens f.back }
@@ -317,11 +330,11 @@ module _ (weigh : List ℕ → ℕ) (most : Service Asked → ℕ) (lens : ℕ �
   behind_by told lost (Lost after) l share = (lived_lost (speech_at lens l.spot) acknowledged is_followed is_passed gives recover (length gs) (seen lens f.sent) l share lost).life
 
   frame_tracks : (a : Lived Asked Reply) (u : Turn) (t : Times) (told lost : List (News Body)) → IsNext (speech_at lens a.spot) acknowledged is_followed is_passed (length gs) a u.lived → FrameFor lens u.lived.spot u.lived.life.stand u.share ds →
-      Tracks weigh most a.spot gs a.life t → (a.life.stand ≡ Stand.Open → IsLive weigh most a.spot gs a.life) → Tracks weigh most a.spot (gs ++ g ∷ []) (behind_by told lost f.fate u.lived u.share) (times_behind u.lived.life.stand (mails_by lens f f.fate u) t)
+      Tracks R tally a.spot gs a.life t → (a.life.stand ≡ Stand.Open → IsLive R a.spot gs a.life) → Tracks R tally a.spot (gs ++ g ∷ []) (behind_by told lost f.fate u.lived u.share) (times_behind u.lived.life.stand (mails_by lens f f.fate u) t)
   frame_tracks a u t told lost y has k live = subst (λ (spot : Spot). Ends spot) y.spot (go a.life.stand refl)
     where
       Ends : Spot → Type 0
-      Ends spot = Tracks weigh most spot (gs ++ g ∷ []) (behind_by told lost f.fate u.lived u.share) (times_behind u.lived.life.stand (mails_by lens f f.fate u) t)
+      Ends spot = Tracks R tally spot (gs ++ g ∷ []) (behind_by told lost f.fate u.lived u.share) (times_behind u.lived.life.stand (mails_by lens f f.fate u) t)
 
       go : (z : Stand) → a.life.stand ≡ z → Ends u.lived.spot
       go z e = by f.fate refl
@@ -333,32 +346,32 @@ module _ (weigh : List ℕ → ℕ) (most : Service Asked → ℕ) (lens : ℕ �
           life = y.life ∙ ap (λ (s : Stand). life_next x acknowledged is_followed is_passed (length gs) a.life s y.pick) e
 
           stand : u.lived.life.stand ≡ z
-          stand = ap (λ (l : Life Body Asked Reply). l.stand) life ∙ next_stands weigh most a.spot x gs a.life t y.pick z e
+          stand = ap (λ (l : Life Body Asked Reply). l.stand) life ∙ next_stands R tally a.spot x gs a.life t y.pick z e
 
-          tracks : TracksAs weigh most u.lived.spot gs u.lived.life t z
-          tracks = subst (λ (spot : Spot). TracksAs weigh most spot gs u.lived.life t z) (sym y.spot)
-              (subst (λ (l : Life Body Asked Reply). TracksAs weigh most a.spot gs l t z) (sym life)
-              (next_tracks weigh most a.spot x gs a.life t y.pick z (subst (λ (s : Stand). TracksAs weigh most a.spot gs a.life t s) e k)))
+          tracks : TracksAs R tally u.lived.spot gs u.lived.life t z
+          tracks = subst (λ (spot : Spot). TracksAs R tally spot gs u.lived.life t z) (sym y.spot)
+              (subst (λ (l : Life Body Asked Reply). TracksAs R tally a.spot gs l t z) (sym life)
+              (next_tracks R tally a.spot x gs a.life t y.pick z (subst (λ (s : Stand). TracksAs R tally a.spot gs a.life t s) e k)))
 
-          alive : z ≡ Stand.Open → IsLive weigh most u.lived.spot gs u.lived.life
-          alive open_ = subst (λ (spot : Spot). IsLive weigh most spot gs u.lived.life) (sym y.spot)
-              (subst (λ (l : Life Body Asked Reply). IsLive weigh most a.spot gs l) (sym (life ∙ ap (λ (s : Stand). life_next x acknowledged is_followed is_passed (length gs) a.life s y.pick) open_))
-              (next_live weigh most a.spot x gs a.life t y.pick (live (e ∙ open_))))
+          alive : z ≡ Stand.Open → IsLive R u.lived.spot gs u.lived.life
+          alive open_ = subst (λ (spot : Spot). IsLive R spot gs u.lived.life) (sym y.spot)
+              (subst (λ (l : Life Body Asked Reply). IsLive R a.spot gs l) (sym (life ∙ ap (λ (s : Stand). life_next x acknowledged is_followed is_passed (length gs) a.life s y.pick) open_))
+              (next_live R tally a.spot x gs a.life t y.pick (live (e ∙ open_))))
 
           one : f.fate ≡ Pass → z ≡ Stand.Open → IsOne u.lived.spot.station (seen lens f.back)
           one pass open_ = one_back lens (seen lens f.sent) (seen lens f.back) ds is (returns pass) u.lived.spot u.share (subst (λ (s : Stand). FrameFor lens u.lived.spot s u.share ds) (stand ∙ open_) has)
 
-          by : (fate : Fate) → f.fate ≡ fate → Tracks weigh most u.lived.spot (gs ++ g ∷ []) (behind_by told lost fate u.lived u.share) (times_behind u.lived.life.stand (mails_by lens f fate u) t)
-          by Pass p = subst (λ (s : Stand). BackSo weigh most u.lived.spot (speech_at lens u.lived.spot) recover told gs g u.lived.life t (came_at u.share.under u.share.at (seen lens f.back)) s) (sym stand)
-              (back_tracks weigh most u.lived.spot (speech_at lens u.lived.spot) recover told gs g u.lived.life t (came_at u.share.under u.share.at (seen lens f.back)) z stand tracks alive (one p))
-          by (Lost after) p = subst (λ (s : Stand). LostSo weigh most u.lived.spot (speech_at lens u.lived.spot) recover lost gs g u.lived.life t (gives && u.share.under) (seen lens f.sent) s) (sym stand)
-              (lost_tracks weigh most u.lived.spot (speech_at lens u.lived.spot) recover lost gs g u.lived.life t (gives && u.share.under) (seen lens f.sent) (nothing after p) z stand tracks alive)
+          by : (fate : Fate) → f.fate ≡ fate → Tracks R tally u.lived.spot (gs ++ g ∷ []) (behind_by told lost fate u.lived u.share) (times_behind u.lived.life.stand (mails_by lens f fate u) t)
+          by Pass p = subst (λ (s : Stand). BackSo R tally u.lived.spot (speech_at lens u.lived.spot) recover told gs g u.lived.life t (came_at u.share.under u.share.at (seen lens f.back)) s) (sym stand)
+              (back_tracks R tally u.lived.spot (speech_at lens u.lived.spot) recover told gs g u.lived.life t (came_at u.share.under u.share.at (seen lens f.back)) z stand tracks alive (one p))
+          by (Lost after) p = subst (λ (s : Stand). LostSo R tally u.lived.spot (speech_at lens u.lived.spot) recover lost gs g u.lived.life t (gives && u.share.under) (seen lens f.sent) s) (sym stand)
+              (lost_tracks R tally u.lived.spot (speech_at lens u.lived.spot) recover lost gs g u.lived.life t (gives && u.share.under) (seen lens f.sent) (nothing after p) z stand tracks alive)
 
   -- of a run
-  pub turn_tracks : (a : Leads) (u : Turn) (t : Times) → IsTurn lens (length gs) ds a u → Tracks weigh most a.lived.spot gs a.lived.life t → (a.lived.life.stand ≡ Stand.Open → IsLive weigh most a.lived.spot gs a.lived.life) →
-      Tracks weigh most a.lived.spot (gs ++ g ∷ []) (life_behind lens recover retry gives (length gs) f f.fate u.lived u.share).life (times_behind u.lived.life.stand (mails_by lens f f.fate u) t)
+  pub turn_tracks : (a : Leads) (u : Turn) (t : Times) → IsTurn lens (length gs) ds a u → Tracks R tally a.lived.spot gs a.lived.life t → (a.lived.life.stand ≡ Stand.Open → IsLive R a.lived.spot gs a.lived.life) →
+      Tracks R tally a.lived.spot (gs ++ g ∷ []) (life_behind lens recover retry gives (length gs) f f.fate u.lived u.share).life (times_behind u.lived.life.stand (mails_by lens f f.fate u) t)
   turn_tracks a u t y k live =
-      subst (λ (l : Life Body Asked Reply). Tracks weigh most a.lived.spot (gs ++ g ∷ []) l (times_behind u.lived.life.stand (mails_by lens f f.fate u) t)) (same f.fate)
+      subst (λ (l : Life Body Asked Reply). Tracks R tally a.lived.spot (gs ++ g ∷ []) l (times_behind u.lived.life.stand (mails_by lens f f.fate u) t)) (same f.fate)
       (frame_tracks a.lived u t [] [] y.next y.asked.has k live)
     where
       same : (fate : Fate) → behind_by [] [] fate u.lived u.share ≡ (life_behind lens recover retry gives (length gs) f fate u.lived u.share).life
@@ -366,10 +379,10 @@ module _ (weigh : List ℕ → ℕ) (most : Service Asked → ℕ) (lens : ℕ �
       same (Lost after) = refl
 
   -- and of a serving
-  pub serve_tracks : (w : Serves) (v : ServedTurn) (t : Times) → IsServedTurn lens (length gs) ds w v → Tracks weigh most w.lead.lived.spot gs w.lead.lived.life t → (w.lead.lived.life.stand ≡ Stand.Open → IsLive weigh most w.lead.lived.spot gs w.lead.lived.life) →
-      Tracks weigh most w.lead.lived.spot (gs ++ g ∷ []) (served_life lens recover retry gives (length gs) f f.fate v).life (times_behind v.turn.lived.life.stand (mails_by lens f f.fate v.turn) t)
+  pub serve_tracks : (w : Serves) (v : ServedTurn) (t : Times) → IsServedTurn lens (length gs) ds w v → Tracks R tally w.lead.lived.spot gs w.lead.lived.life t → (w.lead.lived.life.stand ≡ Stand.Open → IsLive R w.lead.lived.spot gs w.lead.lived.life) →
+      Tracks R tally w.lead.lived.spot (gs ++ g ∷ []) (served_life lens recover retry gives (length gs) f f.fate v).life (times_behind v.turn.lived.life.stand (mails_by lens f f.fate v.turn) t)
   serve_tracks w v t y k live =
-      subst (λ (l : Life Body Asked Reply). Tracks weigh most w.lead.lived.spot (gs ++ g ∷ []) l (times_behind v.turn.lived.life.stand (mails_by lens f f.fate v.turn) t)) (same f.fate)
+      subst (λ (l : Life Body Asked Reply). Tracks R tally w.lead.lived.spot (gs ++ g ∷ []) l (times_behind v.turn.lived.life.stand (mails_by lens f f.fate v.turn) t)) (same f.fate)
       (frame_tracks w.lead.lived v.turn t told lost y.next y.asked.has k live)
     where
       told : List (News Body)

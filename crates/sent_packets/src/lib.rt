@@ -12,10 +12,12 @@ ghost use Rattle.segment_plan.specs.declared.plan.Scenario.{Scenario};
 ghost use Rattle.sent_packets.specs.Sent.{AllSend};
 ghost use Rattle.std.specs.Prelude.{ℕ, List};
 
+pub mod accepted_mails;
 pub mod served_packets;
 pub mod slave_sends;
 pub mod switched_runs;
 pub mod switched_servings;
+pub mod whole_packets;
 
 /// WHAT A MASTER JOINED OF A SLAVE'S PACKETS over a run weighs no more, whatever each packet weighs, than what the services that came into hand of it may
 /// make it send: each service makes it send its packet once at most, in whatever epoch, whatever frames are lost and whoever is given up.

@@ -17,4 +17,4 @@ returns-clause-course g c =
     let put = rw c.in-Ok.ensures.quiet at c.tell.ensures.put in
     said (ServeCourse c.args.count (told g.P.Port.heard g.P.Port.sent g.P.Port.over g.P.Port.port_faults c.args.port.now) (told g.P.Port.heard g.P.Port.sent g.P.Port.over g.P.Port.port_faults c.serve.new.port) c.serve.new.book c.args.octets) (status_of c.serve.new.book.ending) (text_of (report_lines c.in-Ok.plan c.serve.new.book))
     (g.O.Sink.written c.args.out.now) (g.O.Sink.written c.tell.new.out) c.tell.result
-    (served c.in-Ok.plan c.in-Ok.ensures.found (has_served c.in-Ok.plan c.args.count (told g.P.Port.heard g.P.Port.sent g.P.Port.over g.P.Port.port_faults c.args.port.now) (told g.P.Port.heard g.P.Port.sent g.P.Port.over g.P.Port.port_faults c.serve.new.port) c.serve.new.book c.serve.result c.serve.ensures.frames c.serve.ensures.served c.serve.ensures.through c.serve.ensures.whole c.serve.ensures.ports c.serve.ensures.visits c.serve.ensures.booked c.serve.ensures.due c.serve.ensures.written c.serve.ensures.given c.serve.ensures.replied c.serve.ensures.rests c.serve.ensures.left c.serve.ensures.bounded c.serve.ensures.ending)) put
+    (served c.in-Ok.plan c.in-Ok.ensures.found (has_served c.in-Ok.plan c.args.count (told g.P.Port.heard g.P.Port.sent g.P.Port.over g.P.Port.port_faults c.args.port.now) (told g.P.Port.heard g.P.Port.sent g.P.Port.over g.P.Port.port_faults c.serve.new.port) c.serve.new.book c.serve.result c.serve.ensures.frames c.serve.ensures.served c.serve.ensures.through c.serve.ensures.whole c.serve.ensures.ports c.serve.ensures.sends c.serve.ensures.visits c.serve.ensures.booked c.serve.ensures.due c.serve.ensures.written c.serve.ensures.given c.serve.ensures.replied c.serve.ensures.rests c.serve.ensures.left c.serve.ensures.bounded c.serve.ensures.ending)) put

@@ -3,6 +3,7 @@ use Rattle.gateway_run.specs.Serving.{told}
 use Rattle.life_runs.specs.First.{first_leads, lens_of}
 use Rattle.promised_run.proofs.Given.{all_given}
 use Rattle.promised_run.proofs.Rested.{rested}
+use Rattle.promised_run.proofs.SentWhole.{all_send}
 use Rattle.promised_run.proofs.ServedBooks.{booked}
 use Rattle.promised_run.proofs.ServedBounded.{bounded}
 use Rattle.promised_run.proofs.ServedPorts.{at_ports}
@@ -41,6 +42,10 @@ pub returns-clause-ports : goal.returns-clause-ports
 returns-clause-ports g c =
     at_ports c.args.plan.now c.args.count c.serve.new.book (told g.P.Port.heard g.P.Port.sent g.P.Port.over g.P.Port.port_faults c.args.port.now) (told g.P.Port.heard g.P.Port.sent g.P.Port.over g.P.Port.port_faults c.serve.new.port)
     c.serve.result c.serve.ensures.served c.serve.ensures.ending
+
+pub returns-clause-sends : goal.returns-clause-sends
+returns-clause-sends g c =
+    all_send c.args.plan.now c.requires.plan (known c.args.plan.now c.requires.told) c.whole_packets_law.ensures c.served_replies_law.ensures c.accepted_law.ensures.servings c.args.count c.serve.new.book c.serve.ensures.frames (returns-clause-ports g c)
 
 pub returns-clause-given : goal.returns-clause-given
 returns-clause-given g c =

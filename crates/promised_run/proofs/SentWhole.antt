@@ -1,0 +1,84 @@
+-- EACH EPOCH OF A RUN OR A SERVING sends whole packets, of which the first came in at the port of its slave.
+use Rattle.std.proofs.Common.{◌≡◌, ◌≢◌, ℕ, zero, suc, Some, List, [], ◌∷◌, map, refl, ap, ◌∙◌}
+use Rattle.std.specs.Prelude.{slice_get}
+use Rattle.life_runs.specs.First.{first_leads, lens_of}
+use Rattle.life_runs.specs.Led.{Exchanged, IsLed, Leads}
+use Rattle.plan_ring.specs.Lives.{IsKnown}
+use Rattle.plan_ring.specs.Round.{AllRound, ring_of}
+use Rattle.promised_run.proofs.Rounds.{all_round}
+use Rattle.promised_run.proofs.Through.{RepliesLaw, stood_behind}
+use Rattle.promised_run.specs.Alone.{ServesAlone}
+use Rattle.promised_run.specs.Ports.{AllHavePorts, accepted_at}
+use Rattle.promised_run.specs.SentWhole.{HasSentWhole, IsServedSentWhole, SendWhole, heard_at}
+use Rattle.promised_run.specs.ServedPorts.{IsServedAtPorts}
+use Rattle.promised_run.specs.Stood.{StoodBehind}
+use Rattle.run_book.specs.declared.book.Book.{Book}
+use Rattle.run_book.specs.declared.book.Ending.TheVariants as endings
+use Rattle.run_book.specs.declared.book.SentFrame.{SentFrame}
+use Rattle.run_book.specs.of_master_node.Forwards.{port_by}
+use Rattle.run_book.specs.of_master_node.Happened.{arrivals_at}
+use Rattle.run_book.specs.of_master_node.Ports.{ports_behind}
+use Rattle.run_record.specs.Led.{LeadTo, exchanged}
+use Rattle.run_record.specs.Ran.{HasSent}
+use Rattle.run_record.specs.Replay.{first_ring}
+use Rattle.run_record.specs.of_packets_heard.Heard.{Times, packets_of, times_in}
+use Rattle.run_record.specs.of_packets_heard.Listed.{long_ones}
+use Rattle.run_record.specs.of_packets_heard.Servings.{served_times}
+use Rattle.segment_plan.specs.Sound.{IsPlan}
+use Rattle.segment_plan.specs.declared.plan.Scenario.{Scenario}
+use Rattle.sent_packets.specs.Whole.{AllAreHeard, AllSendWhole}
+use Rattle.served_rings.specs.Served.{AllServeSo}
+use Rattle.served_runs.specs.Served.{IsRunOf, IsServedLed, Serves, all_serve}
+use Rattle.slave_server.specs.Serving.{Serving}
+use Rattle.slave_steps.specs.Node.{Node}
+
+-- the laws
+abbrev pub WholeLaw : Type 0
+WholeLaw = (plan : Scenario) → IsPlan plan → IsKnown plan → (ws : List Serves) (ns : List (Node Serving)) → (d : AllServeSo plan.slaves ws ns) → AllSendWhole plan.slaves ws ns d
+
+abbrev pub AcceptedLaw : Type 0
+AcceptedLaw =
+    (plan : Scenario) → IsPlan plan → IsKnown plan → (fs : List Exchanged) (missed : ℕ) (ws : List Serves) → (led : IsServedLed (lens_of plan.slaves) plan.recover plan.retry (all_serve plan.paces (first_leads plan)) fs missed ws) →
+    AllRound (ring_of plan) fs → AllAreHeard ws (served_times led)
+
+abbrev pub RunAcceptedLaw : Type 0
+RunAcceptedLaw =
+    (plan : Scenario) → IsPlan plan → IsKnown plan → (fs : List Exchanged) (missed : ℕ) (leads : List Leads) → (led : IsLed (lens_of plan.slaves) plan.recover plan.retry (first_leads plan) fs missed leads) →
+    AllRound (ring_of plan) fs → (ws : List Serves) → IsRunOf ws leads → AllAreHeard ws (times_in led)
+
+-- the mails at a place
+at_place : (ws : List Serves) (ts : List Times) → AllAreHeard ws ts → (k : ℕ) → accepted_at ts k ≡ heard_at ws k
+at_place [] [] all k = refl
+at_place [] (t ∷ ts) all k = absurd all
+at_place (w ∷ ws) [] all k = absurd all
+at_place (w ∷ ws) (t ∷ ts) all zero = all.0
+at_place (w ∷ ws) (t ∷ ts) all (suc k) = at_place ws ts all.1 k
+
+module _ (plan : Scenario) (is : IsPlan plan) (knows : IsKnown plan) (whole : WholeLaw) where
+  -- BY WHAT THE SLAVES SERVED
+  send_whole : (frames : List SentFrame) (ws : List Serves) (times : List Times) → StoodBehind plan frames ws → AllAreHeard ws times → SendWhole plan frames ws times
+  send_whole frames ws times stood all = record { served = stood; whole = whole plan is knows ws _ stood.each; heard = at_place ws times all }
+
+  -- AND WHAT CAME IN at their ports
+  abbrev ArriveBy : Book → List Times → Type 0
+  ArriveBy book times = (k port : ℕ) → port_by (slice_get (ports_behind 0 plan.slaves) k) ≡ Some port → arrivals_at port book.switch ≡ long_ones (packets_of (accepted_at times k))
+
+  has_sent : (book : Book) (ws : List Serves) (times : List Times) → SendWhole plan book.frames ws times → (book.ending ≢ endings.NoMemory → ArriveBy book times) → HasSentWhole plan book ws times
+  has_sent book ws times sends come = record { sends = sends; arrive = λ memory k port at. come memory k port at ∙ ap (λ mss. long_ones (packets_of mss)) (sends.heard k) }
+
+  -- OF A SERVING, by each account of its book
+  pub all_send : RepliesLaw → AcceptedLaw → (count : ℕ) (book : Book) → HasSent plan count book → IsServedAtPorts plan count book → IsServedSentWhole plan count book
+  all_send replies accepted count book sent ports = λ a.
+      let l = a.answers.serving.leading in
+      let fs : List Exchanged = map exchanged book.frames in
+      let round = all_round (first_ring plan) book.frames sent.recorded in
+      let stood = stood_behind plan book.frames l.serves (replies plan is knows fs l.missed l.serves l.lives round) in
+      has_sent book l.serves (served_times l.lives) (send_whole book.frames l.serves (served_times l.lives) stood (accepted plan is knows fs l.missed l.serves l.lives round))
+      (λ memory k port at. ((ports memory a).ports k port at).arrived)
+
+  -- OF A RUN
+  pub run_sends : RunAcceptedLaw → (book : Book) (missed : ℕ) (leads : List Leads) (led : LeadTo plan (map exchanged book.frames) missed leads) → AllRound (ring_of plan) (map exchanged book.frames) → (served : ServesAlone plan book leads) →
+      (book.ending ≢ endings.NoMemory → AllHavePorts plan led book) → HasSentWhole plan book served.serves (times_in led)
+  run_sends accepted book missed leads led round served ports =
+      has_sent book served.serves (times_in led) (send_whole book.frames served.serves (times_in led) served.slaves (accepted plan is knows (map exchanged book.frames) missed leads led round served.serves served.alone))
+      (λ memory k port at. (ports memory k port at).arrived)
