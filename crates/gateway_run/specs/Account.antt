@@ -215,6 +215,18 @@ Waited plan count _ _ _ _ _ (Course.begins s first serves) over = Unit {0}
 Waited plan count _ _ _ _ _ (Course.hears s s' fs gs g rs rs' os more c at few judges) over = Waited plan count s fs gs rs os c false
 Waited plan count _ _ _ _ _ (Course.steps s s' fs f gs rs os c m) over = MayGo over count (length fs) gs rs × Waited plan count s fs gs rs os c over
 
+-- WHAT THE DATAGRAMS HEARD SINCE THE LAST FRAME made owed
+abbrev pub heard_since : (plan : Scenario) (count : ℕ) (s : SessionState) (fs : List SentFrame) (gs : List GramIn) (rs : List Request) (os : List Owing) → Course plan count s fs gs rs os → List Owing
+heard_since plan count _ _ _ _ _ (Course.begins s first serves) = []
+heard_since plan count _ _ _ _ _ (Course.hears s s' fs gs g rs rs' os more c at few judges) = heard_since plan count s fs gs rs os c ++ more
+heard_since plan count _ _ _ _ _ (Course.steps s s' fs f gs rs os c m) = []
+
+-- WHAT THE LAST TURN made owed: the datagrams heard since the last frame, and where none was, that frame with the datagrams heard since the one before
+abbrev pub recent : (plan : Scenario) (count : ℕ) (s : SessionState) (fs : List SentFrame) (gs : List GramIn) (rs : List Request) (os : List Owing) → Course plan count s fs gs rs os → List Owing
+recent plan count _ _ _ _ _ (Course.begins s first serves) = []
+recent plan count _ _ _ _ _ (Course.hears s s' fs gs g rs rs' os more c at few judges) = heard_since plan count s fs gs rs os c ++ more
+recent plan count _ _ _ _ _ (Course.steps s s' fs f gs rs os c m) = heard_since plan count s fs gs rs os c ++ owed_by_all (events_of s'.master) rs
+
 -- A MAIL AS IT IS SENT: to the peer of the datagram that it answers, with that datagram's station and counter
 pub record Spells (heard : List HeardGram) (o : Owing) (r : GramOut) : Type 0 where
   pub gram : HeardGram
