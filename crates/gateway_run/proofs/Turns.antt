@@ -134,7 +134,7 @@ left_kept v v' b b' session counts over grams =
     ∙ ap (λ (n : ℕ). left_of v.session (length b.grams) n v'.over) counts ∙ ap (λ (o : Bool). left_of v.session (length b.grams) v.count o) over
 
 -- a course over which just these events came at the switch, with these numbers, and which waited before each frame; so much was made owed by what was heard since the
--- last, and by the last turn
+-- last, and so much came last
 abbrev pub CourseTo : Scenario → ℕ → SessionState → List SentFrame → List GramIn → List Request → List Owing → List SwitchEvent → List ℕ → Bool → ℕ → ℕ → Type 0
 CourseTo plan count s fs gs rs os es ns over since last =
     (c : Course plan count s fs gs rs os) × (happened_in plan count s fs gs rs os c ≡ es) × (numbers_in plan count s fs gs rs os c ≡ ns) × Waited plan count s fs gs rs os c over × (length (heard_since plan count s fs gs rs os c) ≡ since)
@@ -176,7 +176,7 @@ fresh_so : (out out' since since' : ℕ) → out' ≡ out → since' ≡ since �
 fresh_so out out' since since' same owed fresh = omega (arith, same, owed, fresh)
 
 module _ (plan : Scenario) (count : ℕ) (first : Told) where
-  -- as much was made owed since the last frame, and by the last turn
+  -- as much was made owed by what was heard since the last frame, and as much came last
   abbrev OwesAlike : {v v' : Serving} {b b' : Book} → IsOn plan count v b → IsOn plan count v' b' → Type 0
   OwesAlike h h' = (length (since_of h') ≡ length (since_of h)) × (length (recent_of h') ≡ length (recent_of h))
 
@@ -206,8 +206,7 @@ module _ (plan : Scenario) (count : ℕ) (first : Told) where
           answered = subst (λ (l : List GramIn). All (IsOwed (map heard_as l)) b'.replies) (sym grams) (subst (All (IsOwed (map heard_as b.grams))) (sym sent) answered);
           judged = subst (All (IsRightly (map home_of plan.slaves))) (sym grams) h.judged;
         },
-        c.4,
-        c.5,
+        (c.4, c.5),
       )
 
   -- one of the same parts
@@ -222,7 +221,7 @@ module _ (plan : Scenario) (count : ℕ) (first : Told) where
       v'.desk.requests.items ≡ v.desk.requests.items → (h' : IsServing plan count first now v' b) × OwesAlike h.on h'.on
   still now v v' b h session counts over outbox gateway requests =
       let o = on_same v v' b h.on session counts outbox gateway requests (λ e. sym over ∙ e) in
-      (record { on = o.0; heard = h.heard; sent = h.sent; over = λ e. h.over (sym over ∙ e); later = h.later }, o.1, o.2)
+      (record { on = o.0; heard = h.heard; sent = h.sent; over = λ e. h.over (sym over ∙ e); later = h.later }, o.1)
 
   pub same_desk : (now : Told) (v v' : Serving) (b : Book) → IsServing plan count first now v b → v'.session ≡ v.session → v'.count ≡ v.count → v'.over ≡ v.over → v'.desk.outbox.items ≡ v.desk.outbox.items → v'.desk.gateway ≡ v.desk.gateway →
       v'.desk.requests.items ≡ v.desk.requests.items → IsServing plan count first now v' b
@@ -233,7 +232,7 @@ module _ (plan : Scenario) (count : ℕ) (first : Told) where
   same_gram now v v' b session desk counts over h =
       let outbox = ap (λ (d : Desk). d.outbox.items) desk in
       let s = still now v v' b h.serving session counts over outbox (ap (λ (d : Desk). d.gateway) desk) (ap (λ (d : Desk). d.requests.items) desk) in
-      record { serving = s.0; fresh = fresh_so (length v.desk.outbox.items) (length v'.desk.outbox.items) (length (since_of h.serving.on)) (length (since_of s.0.on)) (ap length outbox) s.1 h.fresh }
+      record { serving = s.0; fresh = fresh_so (length v.desk.outbox.items) (length v'.desk.outbox.items) (length (since_of h.serving.on)) (length (since_of s.0.on)) (ap length outbox) s.1.0 h.fresh }
 
   -- a turn begins with nothing that is still to be sent
   pub hears_first : (now : Told) (v : Serving) (b : Book) → v.desk.outbox.items ≡ [] → IsServing plan count first now v b → IsHearing plan count first now v b
@@ -332,7 +331,7 @@ module _ (plan : Scenario) (count : ℕ) (first : Told) where
           over = λ e. l.over;
           later = let a = h.later in let b = l.later in omega (arith, a, b);
         };
-        fresh = fresh_so (length v.desk.outbox.items) (length v'.desk.outbox.items) (length (since_of h.on)) (length (since_of o.0)) (ap length outbox) o.1 before.fresh;
+        fresh = fresh_so (length v.desk.outbox.items) (length v'.desk.outbox.items) (length (since_of h.on)) (length (since_of o.0)) (ap length outbox) o.1.0 before.fresh;
       }
 
   -- the port failed at listening
@@ -426,7 +425,7 @@ module _ (plan : Scenario) (count : ℕ) (first : Told) where
     pub not_handed : FailedOne r now next b b' → IsFaulted plan count first next v' b'
     not_handed s = let o = handed_on v v' b b' r h.on session counts outbox gateway requests over' s.puts in record {
       on = o.0;
-      prompt = inr (fewer_left (length v.desk.outbox.items) (length v'.desk.outbox.items) (length (recent_of h.on)) (length (recent_of o.0)) (ap length outbox) o.2 h.on.prompt);
+      prompt = inr (fewer_left (length v.desk.outbox.items) (length v'.desk.outbox.items) (length (recent_of h.on)) (length (recent_of o.0)) (ap length outbox) o.1.1 h.on.prompt);
       heard = subst (AreHeard first.heard next.heard) (sym (ap (λ (x : Book). x.grams) s.puts)) (heard_kept first.heard now.heard next.heard b.grams h.heard s.heard);
       sent = subst (AreSentBut first.sent next.sent) (sym (ap (λ (x : Book). x.replies) s.puts)) (sent_but first.sent now.sent next.sent b.replies r h.sent s.sent);
       over = λ e. s.over ∙ h.over (sym over' ∙ e);
@@ -448,10 +447,10 @@ module _ (plan : Scenario) (count : ℕ) (first : Told) where
   pub frames_of : (now : Told) (v : Serving) (b b' : Book) → IsServing plan count first now v b → b'.frames ≡ b.frames → b'.switch ≡ b.switch → HasSent plan count b'
   frames_of now v b b' h frames switch = has_frames plan count v.session b b' h.on.underway frames switch
 
-  pub goes_without : {S T : Type 0} (now : Told) (v : Serving) (b : Book) (r : Result T Stop) → r ≡ Err stops.NoMemory → HasSent plan count b → GoesTo S plan count first now v b r
-  goes_without {S} now v b r is sent = subst (GoesTo S plan count first now v b) (sym is) sent
+  pub goes_without : (S : Type 0) {T : Type 0} (now : Told) (v : Serving) (b : Book) (r : Result T Stop) → r ≡ Err stops.NoMemory → HasSent plan count b → GoesTo S plan count first now v b r
+  goes_without S now v b r is sent = subst (GoesTo S plan count first now v b) (sym is) sent
 
   -- an error is passed on
-  pub goes_so : {S S' T T' : Type 0} (now : Told) (v : Serving) (b : Book) (e : Stop) (r : Result T Stop) (r' : Result T' Stop) → r ≡ Err e → r' ≡ Err e → GoesTo S plan count first now v b r → GoesTo S' plan count first now v b r'
-  goes_so {S} {S'} now v b stops.PortFault r r' is is' g = subst (GoesTo S' plan count first now v b) (sym is') (subst (GoesTo S plan count first now v b) is g)
-  goes_so {S} {S'} now v b stops.NoMemory r r' is is' g = subst (GoesTo S' plan count first now v b) (sym is') (subst (GoesTo S plan count first now v b) is g)
+  pub goes_so : (S S' : Type 0) {T T' : Type 0} (now : Told) (v : Serving) (b : Book) (e : Stop) (r : Result T Stop) (r' : Result T' Stop) → r ≡ Err e → r' ≡ Err e → GoesTo S plan count first now v b r → GoesTo S' plan count first now v b r'
+  goes_so S S' now v b stops.PortFault r r' is is' g = subst (GoesTo S' plan count first now v b) (sym is') (subst (GoesTo S plan count first now v b) is g)
+  goes_so S S' now v b stops.NoMemory r r' is is' g = subst (GoesTo S' plan count first now v b) (sym is') (subst (GoesTo S plan count first now v b) is g)

@@ -221,7 +221,7 @@ heard_since plan count _ _ _ _ _ (Course.begins s first serves) = []
 heard_since plan count _ _ _ _ _ (Course.hears s s' fs gs g rs rs' os more c at few judges) = heard_since plan count s fs gs rs os c ++ more
 heard_since plan count _ _ _ _ _ (Course.steps s s' fs f gs rs os c m) = []
 
--- WHAT THE LAST TURN made owed: the datagrams heard since the last frame, and where none was, that frame with the datagrams heard since the one before
+-- WHAT CAME LAST: what the datagrams heard since the last frame made owed; where none was, what that frame did, with the datagrams heard since the one before
 abbrev pub recent : (plan : Scenario) (count : ℕ) (s : SessionState) (fs : List SentFrame) (gs : List GramIn) (rs : List Request) (os : List Owing) → Course plan count s fs gs rs os → List Owing
 recent plan count _ _ _ _ _ (Course.begins s first serves) = []
 recent plan count _ _ _ _ _ (Course.hears s s' fs gs g rs rs' os more c at few judges) = heard_since plan count s fs gs rs os c ++ more

@@ -31,10 +31,10 @@ abbrev pub AreSentBut : Option (List SentGram) → Option (List SentGram) → Li
 AreSentBut old new replies =
     AreSent old new replies ⊎ ((earlier : List GramOut) × (last : GramOut) × (replies ≡ earlier ++ last ∷ []) × AreSent old new earlier)
 
--- ONLY WHAT CAME LAST MAY LACK: all of them were sent, and what is owed besides is no more than came of what was heard last; or with the last of them, which was sent
--- or not, it is no more than came of the last turn
+-- ONLY WHAT CAME LAST MAY LACK: all of them were sent, and no more is owed besides than came of what was heard since the last frame; or, with the last of them, which was
+-- sent or not, no more than came last
 abbrev pub LacksLast : Option (List SentGram) → Option (List SentGram) → List GramOut → ℕ → ℕ → ℕ → Type 0
-LacksLast old new replies besides heard turned = (AreSent old new replies × (besides ≤ heard)) ⊎ (besides < turned)
+LacksLast old new replies besides heard latest = (AreSent old new replies × (besides ≤ heard)) ⊎ (besides < latest)
 
 -- A REPLY GOES TO ITS OWN ASKER: to the peer of the datagram that it answers, as a mail with that datagram's station and counter
 pub record IsOwed (heard : List HeardGram) (r : GramOut) : Type 0 where

@@ -107,8 +107,8 @@ pub record HasAccount (plan : Scenario) (count : ℕ) (book : Book) (ending : En
 abbrev pub HasWaited : {plan : Scenario} {count : ℕ} {book : Book} {ending : Ending} → Told → HasAccount plan count book ending → Type 0
 HasWaited {plan} {count} {book} last a = Waited plan count a.session book.frames book.grams a.requests a.owed a.course last.over
 
--- ONLY WHAT CAME LAST MAY LACK: what is still owed is no more than the datagrams heard since the last frame made so; or with the last datagram of the book, which was
--- sent or not, no more than the last turn made so
+-- ONLY WHAT CAME LAST MAY LACK: all that the book has was sent, and no more is still owed than the datagrams heard since the last frame made so; or, with the last
+-- datagram of the book, which was sent or not, no more than came last
 abbrev pub IsPrompt : {plan : Scenario} {count : ℕ} {book : Book} {ending : Ending} → Told → Told → HasAccount plan count book ending → Type 0
 IsPrompt {plan} {count} {book} {ending} first last a =
     LacksLast first.sent last.sent book.replies (length a.later) (length (heard_since plan count a.session book.frames book.grams a.requests a.owed a.course)) (length (recent plan count a.session book.frames book.grams a.requests a.owed a.course))

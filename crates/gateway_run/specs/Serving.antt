@@ -44,7 +44,7 @@ EmptyWhere settled v = OnTrue settled (v.desk.requests.items ≡ [])
 
 -- a serving of a sound plan and its book: the session is under way, each reply goes to its own asker, what was passed on was rightly so, what was
 -- sent and is still to be sent is what was owed, and just what happened at the switch stands in the book, with its numbers; it waited before each frame, and no
--- more is still to be sent than the last turn made owed
+-- more is still to be sent than came last
 pub record IsOn (plan : Scenario) (count : ℕ) (v : Serving) (b : Book) : Type 0 where
   pub is_plan : IsPlan plan
   pub underway : IsUnderway plan count v.session b
@@ -67,7 +67,7 @@ pub record IsOn (plan : Scenario) (count : ℕ) (v : Serving) (b : Book) : Type 
 abbrev pub since_of : {plan : Scenario} {count : ℕ} {v : Serving} {b : Book} → IsOn plan count v b → List Owing
 since_of {plan} {count} {v} {b} on = heard_since plan count v.session b.frames b.grams v.desk.requests.items on.owed on.course
 
--- what the last turn made owed, by that course
+-- what came last, by that course
 abbrev pub recent_of : {plan : Scenario} {count : ℕ} {v : Serving} {b : Book} → IsOn plan count v b → List Owing
 recent_of {plan} {count} {v} {b} on = recent plan count v.session b.frames b.grams v.desk.requests.items on.owed on.course
 

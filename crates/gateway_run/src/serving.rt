@@ -90,8 +90,8 @@ fn serve_through<P: Port>(
 /// `Done` and `GivenUp` come only where so many datagrams were heard or the port ended, and nothing was left to do; `BudgetSpent` where as
 /// many frames were sent as the budget allows and something was left to do; `PortFault` only where the port's count of faults rose. Then the last datagram of the book
 /// was sent or not, and those that were not yet sent stand nowhere. These are no more than the datagrams heard since the last frame made owed; or, with that
-/// last one, no more than the last turn did: the datagrams heard since the last frame, or where there are none that frame and the datagrams heard since the
-/// one before.
+/// last one, no more than came last: what the datagrams heard since the last frame made owed, or where there are none what that frame did, with the datagrams
+/// heard since the one before.
 pub fn serve<P: Port>(
     alloc: Global,
     plan: &Scenario,

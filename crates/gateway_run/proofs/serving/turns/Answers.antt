@@ -43,7 +43,7 @@ returns-in_err-turn-clause-goes g c = λ plan count first h.
     let same : c.from_residual.result ≡ Err c.in_err-turn.field-0.0 = cc in
     let now = told g.P.Port.heard g.P.Port.sent g.P.Port.over g.P.Port.port_faults c.loop-settled.port in
     let on : IsServing plan count first now c.loop-settled.serving c.loop-settled.book = c.loop-settled.invariant.goes plan count first h in
-    goes_so plan count first _ c.turn.new.self c.turn.new.book c.in_err-turn.field-0.0 c.turn.result c.from_residual.result c.in_err-turn.was same
+    goes_so plan count first _ _ _ c.turn.new.self c.turn.new.book c.in_err-turn.field-0.0 c.turn.result c.from_residual.result c.in_err-turn.was same
     (c.turn.ensures.goes plan count first (
       lives_on plan count c.loop-settled.serving c.loop-settled.book on.on c.loop-settled.settled c.loop-settled.settled refl c.loop-settled.invariant.lives c.loop-settled.invariant.done,
       empty_on plan count c.loop-settled.serving c.loop-settled.book on.on c.loop-settled.settled c.loop-settled.invariant.rests,

@@ -16,11 +16,11 @@ returns-clause-goes c = λ plan count first now may h.
 pub returns-in_err-step-clause-goes : goal.returns-in_err-step-clause-goes
 returns-in_err-step-clause-goes c = λ plan count first now may h.
     let p = err_from_is_err_and c.from_residual.result c.from_residual.ensures.1 in
-    goes_without plan count first now _ c.step.new.book c.from_residual.result (p.1 ∙ ap Err p.2)
+    goes_without plan count first _ now _ c.step.new.book c.from_residual.result (p.1 ∙ ap Err p.2)
     (frames_cut plan count first now c.args.self.now c.args.book.now c.step.new.book h.serving c.if-spent.ensures.left c.in_err-step.ensures.err)
 
 pub returns-in_err-note_all-clause-goes : goal.returns-in_err-note_all-clause-goes
 returns-in_err-note_all-clause-goes c = λ plan count first now may h.
     let p = err_from_is_err_and c.from_residual-in_err-note_all.result c.from_residual-in_err-note_all.ensures.1 in
-    goes_without plan count first now _ c.step.new.book c.from_residual-in_err-note_all.result (p.1 ∙ ap Err p.2)
+    goes_without plan count first _ now _ c.step.new.book c.from_residual-in_err-note_all.result (p.1 ∙ ap Err p.2)
     (frames_stepped plan count first now c.args.self.now c.step.new.self c.args.book.now c.step.new.book c.in_ok-step.ensures.ok.0 h.serving c.if-spent.ensures.left c.in_ok-step.ensures.ok.1)

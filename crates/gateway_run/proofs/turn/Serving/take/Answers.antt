@@ -23,7 +23,7 @@ returns-in_ok-take-in-From-clause-goes c = λ plan count first now next free h l
 pub returns-in_err-take-in-From-clause-goes : goal.returns-in_err-take-in-From-clause-goes
 returns-in_err-take-in-From-clause-goes c = λ plan count first now next free h l.
     let p = err_from_is_err_and c.from_residual.result c.from_residual.ensures.1 in
-    goes_without plan count first next _ c.take.new.book c.from_residual.result (p.1 ∙ ap Err p.2)
+    goes_without plan count first _ next _ c.take.new.book c.from_residual.result (p.1 ∙ ap Err p.2)
     (frames_of plan count first now c.args.self.now c.args.book.now c.take.new.book h.serving (ap (λ (b : Book). b.frames) c.take.ensures.book) (ap (λ (b : Book). b.switch) c.take.ensures.book))
 
 pub returns-in-Ended-clause-goes : goal.returns-in-Ended-clause-goes
