@@ -38,7 +38,7 @@ use Rattle.run_record.specs.of_run_notes.Switched.{SameSwitch}
 use Rattle.run_record.specs.of_run_notes.Unsent.{IsSpent}
 use Rattle.run_record.specs.Ran.{HasSent, EndsSo, StopsSo, StopsAs}
 use Rattle.gateway_run.proofs.Room.{small_budget}
-use Rattle.run_record.proofs.Underway.{begun, has_frames, ended, many as many_sent}
+use Rattle.run_record.proofs.Underway.{begun, ended, many as many_sent}
 use Rattle.run_record.proofs.MailNotes.{rows_forwarded, rows_handed}
 use Rattle.run_record.proofs.of_run_notes.Heard.{heard_of_rows}
 use Rattle.run_record.proofs.of_run_notes.Packets.{begun_of_rows}
@@ -119,9 +119,6 @@ lacks_same old new replies besides heard heard' turned turned' since last (inr l
 
 module _ (plan : Scenario) (count : ℕ) (first now : Told) (v : Serving) (b b' : Book) (some : 0 < count) (on : IsOn plan count v b) (heard : AreHeard first.heard now.heard b.grams) (stays : v.over ≡ true → now.over ≡ true)
     (frames : b'.frames ≡ b.frames) (kept : SameSwitch b b') (grams : b'.grams ≡ b.grams) (replies : b'.replies ≡ b.replies) (serving : b'.serving ≡ v.session.serving) (many : length v.session.notes ≡ length v.session.ring.nodes) where
-  pub sent_frames : HasSent plan count b'
-  sent_frames = has_frames plan count v.session b b' on.underway frames kept.switch
-
   has_grams : HasGrams plan count first now b'
   has_grams = record {
     serving = serving ∙ on.underway.serves ∙ lt-ltb 0 count some;

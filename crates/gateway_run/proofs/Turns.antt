@@ -268,8 +268,8 @@ module _ (plan : Scenario) (count : ℕ) (first : Told) where
         ) in
         let told : heard_as g ≡ record { from = peer; bytes = octets } = ap (λ (p : Peer). record { from = p; bytes = g.bytes }) t.from_peer ∙ ap (λ (o : List ℕ). record { from = peer; bytes = o }) t.with_octets in
         let fresh : length v'.desk.outbox.items ≤ length (since_of h.on ++ so.taken.more) =
-            fresh_more (length v.desk.outbox.items) (length v'.desk.outbox.items) (length (since_of h.on)) (length so.taken.more) (length (since_of h.on ++ so.taken.more)) (owes_length (map heard_as b'.grams) so.taken.more v.desk.outbox.items v'.desk.outbox.items so.taken.owes)
-            (length-append (since_of h.on) so.taken.more) before.fresh in
+        fresh_more (length v.desk.outbox.items) (length v'.desk.outbox.items) (length (since_of h.on)) (length so.taken.more) (length (since_of h.on ++ so.taken.more)) (owes_length (map heard_as b'.grams) so.taken.more v.desk.outbox.items v'.desk.outbox.items so.taken.owes)
+        (length-append (since_of h.on) so.taken.more) before.fresh in
         record {
           serving = record {
             on = record {

@@ -205,7 +205,7 @@ numbers_in plan count _ _ _ _ _ (Course.steps s s' fs f gs rs os c m) = numbers_
 abbrev pub WasHeardAt : ℕ → List GramIn → Type 0
 WasHeardAt frames gs = Any (λ (g : GramIn). g.frame ≡ frames) gs
 
--- A FRAME MAY GO: where no request is unfinished and more can be heard, a datagram was heard since the frame before
+-- A FRAME MAY GO: where the port isn't over, no request is unfinished and more can be heard, a datagram was heard since the frame before
 abbrev pub MayGo : Bool → ℕ → ℕ → List GramIn → List Request → Type 0
 MayGo over count frames gs rs = over ≡ false → rs ≡ [] → (count ≤ length gs) ⊎ WasHeardAt frames gs
 

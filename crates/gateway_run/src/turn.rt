@@ -148,7 +148,7 @@ impl Serving {
         self.poll(alloc, port, book)
     }
 
-    // Sends a frame, unless the segment rests; `false` where it doesn't and the budget of frames is spent.
+    // Sends a frame, unless the segment rests; else `false` where the budget of frames is spent.
     fn frame(&mut self, alloc: Global, rests: bool, book: &mut Book) -> Result<bool, Stop>
         ensures goes { StepsIf (MayStep rests self.old book.old) self.old self.new book.old book.new result }
         ensures less { IfOk result (λ on. OnTrue on (OnFalse rests (left self.new book.new < left self.old book.old))) }
@@ -181,8 +181,8 @@ impl Serving {
     }
 
     /// One turn: it waits for a datagram where no request is unfinished, takes those that are there, sends one frame unless the segment is
-    /// settled, and sends what is owed. `false` where the budget of frames is spent and something is left to do. `settled` says that the segment was settled before; then
-    /// more can be heard.
+    /// settled, and sends what is owed. `false` where the budget of frames is spent and something is left to do. `settled` says that the
+    /// segment was settled before; then more can be heard.
     pub fn turn<P: Port>(
         &mut self,
         alloc: Global,

@@ -5,7 +5,7 @@ use Rattle.gateway_run.specs.Desk.{Takes}
 use Rattle.std.specs.Prelude.{Err}
 use Rattle.std.proofs.lemmas.Result.{err_from_is_err_and}
 use Rattle.run_book.specs.declared.book.Book.{Book}
-use Rattle.gateway_run.proofs.Turns.{took, frames_of, goes_without, over}
+use Rattle.gateway_run.proofs.Turns.{took, frames_of, goes_without, over, quiet}
 use Rattle.gateway_run.proofs.Room.{not_over, room}
 use Rattle.gateway_run.proofs.turn.Serving.take.Goals as goal
 
@@ -29,3 +29,7 @@ returns-in_err-take-in-From-clause-goes c = λ plan count first now next free h 
 pub returns-in-Ended-clause-goes : goal.returns-in-Ended-clause-goes
 returns-in-Ended-clause-goes c = λ plan count first now next free h l.
     over plan count first now next c.args.self.now _ c.args.book.now c.args.self.now.gram.items refl refl refl refl h (subst (λ (x : Heard). Listens now next x c.args.self.now.gram.items) c.in-Ended.is l)
+
+pub returns-in-Quiet-clause-goes : goal.returns-in-Quiet-clause-goes
+returns-in-Quiet-clause-goes c = λ plan count first now next free h l.
+    quiet plan count first now next c.args.self.now c.args.book.now c.args.self.now.gram.items h (subst (λ (x : Heard). Listens now next x c.args.self.now.gram.items) c.in-Quiet.is l)
