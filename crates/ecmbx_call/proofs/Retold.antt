@@ -14,7 +14,7 @@ use Rattle.run_book.specs.declared.book.GramIn.{GramIn}
 use Rattle.run_book.specs.declared.book.GramOut.{GramOut}
 use Rattle.run_book.specs.Book.{IsNew}
 use Rattle.promised_run.specs.of_gateway_run.Heard.{heard_as as as_heard, sent_as as as_sent, AreHeard, AreSent, AreSentBut}
-use Rattle.promised_run.specs.of_gateway_run.Served.{HasAccount, HasGrams, HasWaited, IsThrough, IsBroken, IsServed}
+use Rattle.promised_run.specs.of_gateway_run.Served.{HasAccount, HasGrams, HasWaited, IsThrough, IsBroken, IsPrompt, IsServed}
 use Rattle.promised_run.specs.of_gateway_run.Serving.{Told}
 use Rattle.promised_run.proofs.of_gateway_run.Waits.{over_later, waited_still}
 use Rattle.gateway_stream.specs.Cutting.{behind_of}
@@ -53,11 +53,15 @@ module _ (first last first' last' : Told) (h : Retold first last first' last') (
   waited_retold : {plan : Scenario} {ending : Ending} → AreHeard first.heard last.heard book.grams → (account : HasAccount plan count book ending) → HasWaited last account → HasWaited last' account
   waited_retold {plan} heard a waited = waited_still plan count a.session book.frames book.grams a.requests a.owed a.course last.over last'.over (over_later last.over last'.over (h.over book.grams heard)) waited
 
+  prompt_retold : {plan : Scenario} {ending : Ending} → (account : HasAccount plan count book ending) → IsPrompt first last account → IsPrompt first' last' account
+  prompt_retold a (inl few) = inl (h.sent book.replies few.0, few.1)
+  prompt_retold a (inr less) = inr less
+
   pub served_retold : (plan : Scenario) (ending : Ending) → IsServed plan count first last book ending → IsServed plan count first' last' book ending
-  served_retold plan endings.Done (stops, grams, goes, account, waited) = (stops, grams_retold plan grams, over_retold grams.heard goes, account, waited_retold grams.heard account waited)
-  served_retold plan endings.GivenUp (stops, grams, goes, account, waited) = (stops, grams_retold plan grams, over_retold grams.heard goes, account, waited_retold grams.heard account waited)
-  served_retold plan endings.BudgetSpent (stops, grams, goes, account, waited) = (stops, grams_retold plan grams, h.sent book.replies goes, account, waited_retold grams.heard account waited)
-  served_retold plan endings.PortFault (stops, grams, goes, account, waited) = (stops, grams_retold plan grams, broken_retold goes, account, waited_retold grams.heard account waited)
+  served_retold plan endings.Done (stops, grams, goes, account, waited, prompt) = (stops, grams_retold plan grams, over_retold grams.heard goes, account, waited_retold grams.heard account waited, prompt_retold account prompt)
+  served_retold plan endings.GivenUp (stops, grams, goes, account, waited, prompt) = (stops, grams_retold plan grams, over_retold grams.heard goes, account, waited_retold grams.heard account waited, prompt_retold account prompt)
+  served_retold plan endings.BudgetSpent (stops, grams, goes, account, waited, prompt) = (stops, grams_retold plan grams, h.sent book.replies goes, account, waited_retold grams.heard account waited, prompt_retold account prompt)
+  served_retold plan endings.PortFault (stops, grams, goes, account, waited, prompt) = (stops, grams_retold plan grams, broken_retold goes, account, waited_retold grams.heard account waited, prompt_retold account prompt)
   served_retold plan endings.NoMemory done = tt
   served_retold plan endings.Unfinished served = absurd served.0
 

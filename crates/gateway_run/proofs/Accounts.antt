@@ -1,5 +1,5 @@
 -- What is owed, and which requests are left.
-use Rattle.std.proofs.Common.{◌≡◌, ℕ, zero, suc, ◌<◌, ◌≤◌, List, [], ◌∷◌, ◌++◌, length, map, drop, ◌+◌, Bool, true, false, refl, sym, ap, ◌∙◌, subst, append_assoc, append-nil, eq-eqb, eqb-true, arith}
+use Rattle.std.proofs.Common.{◌≡◌, ℕ, zero, suc, ◌<◌, ◌≤◌, List, [], ◌∷◌, ◌++◌, length, map, drop, ◌+◌, Bool, true, false, refl, sym, ap, ◌∙◌, subst, append_assoc, append-nil, length-append, eq-eqb, eqb-true, arith}
 use Rattle.std.specs.Prelude.{◌≢◌, ◌==◌, ◌&&◌, not, cond, filter, find, IfSome, Contains, slice_get, slice_set, slice_index_or, Option, Some, None, All}
 use Rattle.std.proofs.lemmas.List.Elements.{All-nil, All-head, All-tail, All-push, All-filter, All-cons, filter-append}
 use Rattle.slab.specs.Slab.{Slab, get}
@@ -44,6 +44,17 @@ spelled_more heard more [] [] a = tt
 spelled_more heard more [] (r ∷ rs) a = absurd a
 spelled_more heard more (o ∷ os) [] a = absurd a
 spelled_more heard more (o ∷ os) (r ∷ rs) a = (spells_more heard more o r a.0, spelled_more heard more os rs a.1)
+
+-- a datagram is there for each that is owed
+spelled_length : (heard : List HeardGram) (os : List Owing) (rs : List GramOut) → AreSpelled heard os rs → length rs ≡ length os
+spelled_length heard [] [] a = refl
+spelled_length heard [] (r ∷ rs) a = absurd a
+spelled_length heard (o ∷ os) [] a = absurd a
+spelled_length heard (o ∷ os) (r ∷ rs) a = ap suc (spelled_length heard os rs a.1)
+
+-- and so many are to be sent besides
+pub owes_length : (heard : List HeardGram) (os : List Owing) (out out' : List GramOut) → Owes heard os out out' → length out' ≡ length out + length os
+owes_length heard os out out' o = ap length o.1 ∙ length-append out o.0 ∙ ap (λ n. length out + n) (spelled_length heard os o.0 o.2)
 
 -- nothing more is owed
 pub owes_none : (heard : List HeardGram) (out out' : List GramOut) → out' ≡ out → Owes heard [] out out'

@@ -1,10 +1,11 @@
 -- A serving at its end.
 use Rattle.std.proofs.Common.{◌≡◌, ℕ, ◌<◌, ◌≤◌, ◌⊎◌, [], ◌++◌, List, length, map, Bool, true, false, not, ◌&&◌, nat_lt, refl, sym, ap, ◌∙◌, subst, inl, inr, ltb-false, lt-ltb, arith}
-use Rattle.std.specs.Prelude.{◌≢◌, All, Result, Err, count_by, is_some}
+use Rattle.std.specs.Prelude.{◌≢◌, All, Option, Result, Err, count_by, is_some}
 use Rattle.slab.specs.Slab.{slab_len}
 use Rattle.gateway_run.specs.declared.stop.Stop.{Stop}
 use Rattle.gateway_run.specs.declared.stop.Stop.TheVariants as stops
 use Rattle.std.proofs.lemmas.List.Elements.{All-nil}
+use Rattle.ec_outside.specs.declared.port.SentGram.{SentGram}
 use Rattle.master_node.specs.Happened.{HasHappened, events_of}
 use Rattle.master_node.specs.Ports.{ports_behind, ports_of}
 use Rattle.master_node.specs.Serving.{run_lead}
@@ -37,19 +38,19 @@ use Rattle.run_record.specs.of_run_notes.Switched.{SameSwitch}
 use Rattle.run_record.specs.of_run_notes.Unsent.{IsSpent}
 use Rattle.run_record.specs.Ran.{HasSent, EndsSo, StopsSo, StopsAs}
 use Rattle.gateway_run.proofs.Room.{small_budget}
-use Rattle.run_record.proofs.Underway.{begun, has_frames, ended, many as many_sent}
+use Rattle.run_record.proofs.Underway.{begun, ended, many as many_sent}
 use Rattle.run_record.proofs.MailNotes.{rows_forwarded, rows_handed}
 use Rattle.run_record.proofs.of_run_notes.Heard.{heard_of_rows}
 use Rattle.run_record.proofs.of_run_notes.Packets.{begun_of_rows}
 use Rattle.run_record.proofs.of_run_notes.Reporting.{all_booked, all_epochs, all_spent}
 use Rattle.run_record.proofs.of_run_notes.Switched.{has_packets}
-use Rattle.gateway_run.specs.Heard.{heard_as, AreHeard, AreSent, AreSentBut, IsOwed, IsRightly}
+use Rattle.gateway_run.specs.Heard.{heard_as, AreHeard, AreSent, AreSentBut, IsOwed, IsRightly, LacksLast}
 use Rattle.gateway_run.specs.Account.{Course, Course.begins}
 use Rattle.gateway_run.specs.Desk.{HasNone, IsOpen, AreApart}
 use Rattle.gateway_run.specs.Mails.{HasMails}
 use Rattle.gateway_run.specs.Replies.{Answers, dones_of}
-use Rattle.gateway_run.specs.Serving.{Told, IsOn, IsServing, IsFaulted, Goes, LivesOn, can_hear}
-use Rattle.gateway_run.specs.Served.{HasGrams, HasAccount, HasWaited, IsBroken, IsServed}
+use Rattle.gateway_run.specs.Serving.{Told, IsOn, IsServing, IsFaulted, Goes, LivesOn, can_hear, recent_of, since_of}
+use Rattle.gateway_run.specs.Served.{HasGrams, HasAccount, HasWaited, IsBroken, IsPrompt, IsServed}
 use Rattle.gateway_run.specs.declared.turn.Serving.{Serving}
 use Rattle.gateway_run.proofs.Answering.{course_rowed}
 use Rattle.gateway_run.proofs.Dones.{all_done, none_unfinished}
@@ -63,7 +64,7 @@ use Rattle.gateway_run.proofs.Turns.{heard_none, sent_none, course_same, spelled
 pub first_serving : (plan : Scenario) (count : ℕ) (now : Told) (v : Serving) (b : Book) → v.session ≡ first_session plan count v.session.master → ServingBegins plan v.session → HasHappened (ports_of plan.slaves) plan.host [] v.session.master.lan → HasNone v.desk → v.desk.outbox.items ≡ [] → v.count ≡ count → v.over ≡ false → IsNew b → count < 4294967296 → IsPlan plan →
     IsServing plan count now now v b
 first_serving plan count now v b session serves switch none outbox counts over new fits sound = let requests = none.0 in
-    let c = course_same plan count v.session v.session [] b.frames [] b.grams [] v.desk.requests.items [] [] b.switch [] b.switched v.over v.over refl new.frames new.grams requests new.switch new.switched (λ e. e) (begins v.session session serves, refl, refl, tt) in record {
+    let c = course_same plan count v.session v.session [] b.frames [] b.grams [] v.desk.requests.items [] [] b.switch [] b.switched v.over v.over 0 0 refl new.frames new.grams requests new.switch new.switched (λ e. e) (begins v.session session serves, refl, refl, tt, refl, refl) in record {
       on = record {
         underway = begun plan count v.session b session new switch;
         counts = counts;
@@ -84,6 +85,7 @@ first_serving plan count now v b session serves switch none outbox counts over n
         switch = c.1;
         switched = c.2;
         waited = c.3;
+        prompt = let n = ap length outbox in omega (arith, n);
         spelled = spelled_same (map heard_as b.grams) (map heard_as b.grams) [] [] (b.replies ++ v.desk.outbox.items) refl (ap (λ (l : List GramOut). l ++ v.desk.outbox.items) new.replies ∙ outbox) tt;
       };
       heard = subst (AreHeard now.heard now.heard) (sym new.grams) (heard_none now.heard);
@@ -110,11 +112,13 @@ spent_some : LeavesNone endings.BudgetSpent → ⊥
 spent_some (inl e) = cc
 spent_some (inr e) = cc
 
+-- the same by a course that made as much owed
+lacks_same : (old new : Option (List SentGram)) (replies : List GramOut) (besides heard heard' turned turned' : ℕ) → heard' ≡ heard → turned' ≡ turned → LacksLast old new replies besides heard turned → LacksLast old new replies besides heard' turned'
+lacks_same old new replies besides heard heard' turned turned' since last (inl few) = inl (few.0, let least = few.1 in omega (arith, since, least))
+lacks_same old new replies besides heard heard' turned turned' since last (inr less) = inr (omega (arith, last, less))
+
 module _ (plan : Scenario) (count : ℕ) (first now : Told) (v : Serving) (b b' : Book) (some : 0 < count) (on : IsOn plan count v b) (heard : AreHeard first.heard now.heard b.grams) (stays : v.over ≡ true → now.over ≡ true)
     (frames : b'.frames ≡ b.frames) (kept : SameSwitch b b') (grams : b'.grams ≡ b.grams) (replies : b'.replies ≡ b.replies) (serving : b'.serving ≡ v.session.serving) (many : length v.session.notes ≡ length v.session.ring.nodes) where
-  pub sent_frames : HasSent plan count b'
-  sent_frames = has_frames plan count v.session b b' on.underway frames kept.switch
-
   has_grams : HasGrams plan count first now b'
   has_grams = record {
     serving = serving ∙ on.underway.serves ∙ lt-ltb 0 count some;
@@ -127,9 +131,10 @@ module _ (plan : Scenario) (count : ℕ) (first now : Told) (v : Serving) (b b' 
   stops_as : (ending : Ending) → b'.slaves ≡ session_rows v.session → StopsSo v.session ending → StopsAs plan count b' ending
   stops_as ending rows so = ended plan count v.session b b' on.underway frames kept rows many ending so
 
-  has_account : (ending : Ending) → b'.slaves ≡ session_rows v.session → (ending ≢ endings.PortFault → v.desk.outbox.items ≡ []) → (LeavesNone ending → ServingRests v.session × (are_at_rest (session_rows v.session) ≡ true)) → (ending ≡ endings.BudgetSpent → LivesOn v.session) → (account : HasAccount plan count b' ending) × HasWaited now account
-  has_account ending rows all rests lives =
-      let same = course_same plan count v.session v.session b.frames b'.frames b.grams b'.grams v.desk.requests.items v.desk.requests.items on.owed b.switch b'.switch b.switched b'.switched v.over now.over refl frames grams refl kept.switch kept.switched (over_later v.over now.over stays) (on.course, on.switch, on.switched, on.waited) in
+  has_account : (ending : Ending) → b'.slaves ≡ session_rows v.session → (ending ≢ endings.PortFault → v.desk.outbox.items ≡ []) → (LeavesNone ending → ServingRests v.session × (are_at_rest (session_rows v.session) ≡ true)) → (ending ≡ endings.BudgetSpent → LivesOn v.session) →
+      LacksLast first.sent now.sent b'.replies (length v.desk.outbox.items) (length (since_of on)) (length (recent_of on)) → (account : HasAccount plan count b' ending) × HasWaited now account × IsPrompt first now account
+  has_account ending rows all rests lives prompt =
+      let same = course_same plan count v.session v.session b.frames b'.frames b.grams b'.grams v.desk.requests.items v.desk.requests.items on.owed b.switch b'.switch b.switched b'.switched v.over now.over (length (since_of on)) (length (recent_of on)) refl frames grams refl kept.switch kept.switched (over_later v.over now.over stays) (on.course, on.switch, on.switched, on.waited, refl, refl) in
       let course' : Course plan count v.session b'.frames b'.grams v.desk.requests.items on.owed = same.0 in
       let rowed = course_rowed plan count on.is_plan v.session b'.frames b'.grams v.desk.requests.items on.owed course' in
       let answers' : Answers plan v.session (map exchanged b'.frames) b'.grams v.desk.requests.items on.owed (dones_of plan count v.session b'.frames b'.grams v.desk.requests.items on.owed course') = rowed.0 in
@@ -178,15 +183,17 @@ module _ (plan : Scenario) (count : ℕ) (first now : Told) (v : Serving) (b b' 
           all = all;
         },
         same.3,
+        lacks_same first.sent now.sent b'.replies (length v.desk.outbox.items) (length (since_of on)) _ (length (recent_of on)) _ same.4 same.5 prompt,
       )
 
   -- a serving whose port failed
-  faulted_so : (result : Ending) → (result ≢ endings.NoMemory → b'.slaves ≡ session_rows v.session) → (result ≡ endings.PortFault) ⊎ (result ≡ endings.NoMemory) → IsBroken first now b' → IsServed plan count first now b' result
-  faulted_so result rows (inl is) broken =
+  faulted_so : (result : Ending) → (result ≢ endings.NoMemory → b'.slaves ≡ session_rows v.session) → (result ≡ endings.PortFault) ⊎ (result ≡ endings.NoMemory) → IsBroken first now b' →
+      LacksLast first.sent now.sent b'.replies (length v.desk.outbox.items) (length (since_of on)) (length (recent_of on)) → IsServed plan count first now b' result
+  faulted_so result rows (inl is) broken prompt =
       let apart : result ≢ endings.NoMemory = λ e. absurd (cc) in
-      let a = has_account endings.PortFault (rows apart) (λ other. absurd (other refl)) (λ none. absurd (leaves_some none)) (λ spent. absurd (cc)) in
-      subst (IsServed plan count first now b') (sym is) (stops_as endings.PortFault (rows apart) tt, has_grams, broken, a.0, a.1)
-  faulted_so result rows (inr is) broken = subst (IsServed plan count first now b') (sym is) tt
+      let a = has_account endings.PortFault (rows apart) (λ other. absurd (other refl)) (λ none. absurd (leaves_some none)) (λ spent. absurd (cc)) prompt in
+      subst (IsServed plan count first now b') (sym is) (stops_as endings.PortFault (rows apart) tt, has_grams, broken, a.0, a.1, a.2)
+  faulted_so result rows (inr is) broken prompt = subst (IsServed plan count first now b') (sym is) tt
 
   -- a serving that came to its end
   through_so : (ending result : Ending) → (result ≢ endings.NoMemory → b'.slaves ≡ session_rows v.session) → (result ≡ ending) ⊎ (result ≡ endings.NoMemory) → EndsSo v.session ending → (ending ≢ endings.BudgetSpent → (length b'.grams ≡ count) ⊎ (now.over ≡ true)) →
@@ -194,16 +201,16 @@ module _ (plan : Scenario) (count : ℕ) (first now : Told) (v : Serving) (b b' 
   through_so ending result rows (inr is) so over rests lives empty sent = subst (IsServed plan count first now b') (sym is) tt
   through_so endings.Done result rows (inl is) so over rests lives empty sent =
       let apart : result ≢ endings.NoMemory = λ e. absurd (cc) in
-      let a = has_account endings.Done (rows apart) (λ other. empty) (λ none. (rests (λ e. absurd (cc)), so.0)) (λ spent. absurd (cc)) in
-      subst (IsServed plan count first now b') (sym is) (stops_as endings.Done (rows apart) so, has_grams, record { over = over (λ e. absurd (cc)); sent = sent }, a.0, a.1)
+      let a = has_account endings.Done (rows apart) (λ other. empty) (λ none. (rests (λ e. absurd (cc)), so.0)) (λ spent. absurd (cc)) (inl (sent, let n = ap length empty in omega (arith, n))) in
+      subst (IsServed plan count first now b') (sym is) (stops_as endings.Done (rows apart) so, has_grams, record { over = over (λ e. absurd (cc)); sent = sent }, a.0, a.1, a.2)
   through_so endings.GivenUp result rows (inl is) so over rests lives empty sent =
       let apart : result ≢ endings.NoMemory = λ e. absurd (cc) in
-      let a = has_account endings.GivenUp (rows apart) (λ other. empty) (λ none. (rests (λ e. absurd (cc)), so.0)) (λ spent. absurd (cc)) in
-      subst (IsServed plan count first now b') (sym is) (stops_as endings.GivenUp (rows apart) so, has_grams, record { over = over (λ e. absurd (cc)); sent = sent }, a.0, a.1)
+      let a = has_account endings.GivenUp (rows apart) (λ other. empty) (λ none. (rests (λ e. absurd (cc)), so.0)) (λ spent. absurd (cc)) (inl (sent, let n = ap length empty in omega (arith, n))) in
+      subst (IsServed plan count first now b') (sym is) (stops_as endings.GivenUp (rows apart) so, has_grams, record { over = over (λ e. absurd (cc)); sent = sent }, a.0, a.1, a.2)
   through_so endings.BudgetSpent result rows (inl is) so over rests lives empty sent =
       let apart : result ≢ endings.NoMemory = λ e. absurd (cc) in
-      let a = has_account endings.BudgetSpent (rows apart) (λ other. empty) (λ none. absurd (spent_some none)) lives in
-      subst (IsServed plan count first now b') (sym is) (stops_as endings.BudgetSpent (rows apart) so, has_grams, sent, a.0, a.1)
+      let a = has_account endings.BudgetSpent (rows apart) (λ other. empty) (λ none. absurd (spent_some none)) lives (inl (sent, let n = ap length empty in omega (arith, n))) in
+      subst (IsServed plan count first now b') (sym is) (stops_as endings.BudgetSpent (rows apart) so, has_grams, sent, a.0, a.1, a.2)
   through_so endings.PortFault result rows (inl is) so over rests lives empty sent = absurd so
   through_so endings.NoMemory result rows (inl is) so over rests lives empty sent = absurd so
   through_so endings.Unfinished result rows (inl is) so over rests lives empty sent = absurd so
@@ -231,6 +238,7 @@ pub faulted : (plan : Scenario) (count : ℕ) (first now : Told) (v : Serving) (
 faulted plan count first now v b b' result some h frames kept grams replies serving many rows is =
     faulted_so plan count first now v b b' some h.on h.heard h.over frames kept grams replies serving many result rows is
     (record { rose = h.rose; sent = subst (AreSentBut first.sent now.sent) (sym replies) h.sent })
+    (elim h.prompt [ inl few ↦ inl (subst (AreSent first.sent now.sent) (sym replies) few.0, few.1) | inr less ↦ inr less ])
 
 -- the port failed, or memory ran out
 pub fault_of : (plan : Scenario) (count : ℕ) (first now : Told) (v : Serving) (b : Book) (r : Result Ending Stop) → r ≡ Err stops.PortFault → Goes plan count first now v b r → IsFaulted plan count first now v b

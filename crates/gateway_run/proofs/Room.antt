@@ -1,10 +1,10 @@
 -- Whether more can be heard, and how many frames can be sent.
-use Rattle.std.proofs.Common.{◌≡◌, ◌<◌, ◌≤◌, ℕ, ◌&&◌, Bool, true, false, not, nat_lt, ◌↔◌, if◌then◌else◌, length, refl, ap, ltb-true, arith}
-use Rattle.std.proofs.lemmas.Bool.{OnTrue_at, leb-true, leb-false}
+use Rattle.std.proofs.Common.{◌≡◌, ◌<◌, ◌≤◌, ℕ, ◌&&◌, Bool, true, false, not, nat_lt, ◌↔◌, if◌then◌else◌, length, refl, ltb-true, arith}
+use Rattle.std.proofs.lemmas.Bool.{leb-true, leb-false}
 use Rattle.std.specs.Prelude.{Option, Some, None, IfSome, IsTrue, nat_le, vec_len}
 use Rattle.run_record.specs.Session.{budget_or}
 use Rattle.run_book.specs.declared.book.Book.{Book}
-use Rattle.gateway_run.specs.Serving.{EmptyWhere, can_hear}
+use Rattle.gateway_run.specs.Serving.{can_hear}
 use Rattle.gateway_run.specs.declared.desk.Desk.{Desk}
 use Rattle.gateway_run.specs.declared.turn.Serving.{Serving}
 
@@ -39,11 +39,3 @@ not_full d full says is = least (nat_le 64 (vec_len d.requests)) refl
     least : (b : Bool) → nat_le 64 (vec_len d.requests) ≡ b → length d.requests.items < 64
     least true e = absurd (let bad = says.1 (leb-true 64 (vec_len d.requests) e) in cc)
     least false e = let less = leb-false 64 (vec_len d.requests) e in let n = d.requests.ok.0 in omega (arith, less, n)
-
--- or none is, where the segment is settled
-pub few_settled : (v : Serving) (settled : Bool) → settled ≡ true → EmptyWhere settled v → length v.desk.requests.items < 64
-few_settled v settled is none = let n = ap length (OnTrue_at is none) in omega (arith, n)
-
--- or the desk is empty
-pub few_empty : (d : Desk) (empty : Bool) → (IsTrue empty ↔ (vec_len d.requests ≡ 0)) → empty ≡ true → length d.requests.items < 64
-few_empty d empty says is = let none = says.0 is in let n = d.requests.ok.0 in omega (arith, none, n)

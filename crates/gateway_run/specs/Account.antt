@@ -205,7 +205,7 @@ numbers_in plan count _ _ _ _ _ (Course.steps s s' fs f gs rs os c m) = numbers_
 abbrev pub WasHeardAt : ℕ → List GramIn → Type 0
 WasHeardAt frames gs = Any (λ (g : GramIn). g.frame ≡ frames) gs
 
--- A FRAME MAY GO: where no request is unfinished and more can be heard, a datagram was heard since the frame before
+-- A FRAME MAY GO: where the port isn't over, no request is unfinished and more can be heard, a datagram was heard since the frame before
 abbrev pub MayGo : Bool → ℕ → ℕ → List GramIn → List Request → Type 0
 MayGo over count frames gs rs = over ≡ false → rs ≡ [] → (count ≤ length gs) ⊎ WasHeardAt frames gs
 
@@ -214,6 +214,18 @@ abbrev pub Waited : (plan : Scenario) (count : ℕ) (s : SessionState) (fs : Lis
 Waited plan count _ _ _ _ _ (Course.begins s first serves) over = Unit {0}
 Waited plan count _ _ _ _ _ (Course.hears s s' fs gs g rs rs' os more c at few judges) over = Waited plan count s fs gs rs os c false
 Waited plan count _ _ _ _ _ (Course.steps s s' fs f gs rs os c m) over = MayGo over count (length fs) gs rs × Waited plan count s fs gs rs os c over
+
+-- WHAT THE DATAGRAMS HEARD SINCE THE LAST FRAME made owed
+abbrev pub heard_since : (plan : Scenario) (count : ℕ) (s : SessionState) (fs : List SentFrame) (gs : List GramIn) (rs : List Request) (os : List Owing) → Course plan count s fs gs rs os → List Owing
+heard_since plan count _ _ _ _ _ (Course.begins s first serves) = []
+heard_since plan count _ _ _ _ _ (Course.hears s s' fs gs g rs rs' os more c at few judges) = heard_since plan count s fs gs rs os c ++ more
+heard_since plan count _ _ _ _ _ (Course.steps s s' fs f gs rs os c m) = []
+
+-- WHAT CAME LAST: what the datagrams heard since the last frame made owed; where none was, what that frame did, with the datagrams heard since the one before
+abbrev pub recent : (plan : Scenario) (count : ℕ) (s : SessionState) (fs : List SentFrame) (gs : List GramIn) (rs : List Request) (os : List Owing) → Course plan count s fs gs rs os → List Owing
+recent plan count _ _ _ _ _ (Course.begins s first serves) = []
+recent plan count _ _ _ _ _ (Course.hears s s' fs gs g rs rs' os more c at few judges) = heard_since plan count s fs gs rs os c ++ more
+recent plan count _ _ _ _ _ (Course.steps s s' fs f gs rs os c m) = heard_since plan count s fs gs rs os c ++ owed_by_all (events_of s'.master) rs
 
 -- A MAIL AS IT IS SENT: to the peer of the datagram that it answers, with that datagram's station and counter
 pub record Spells (heard : List HeardGram) (o : Owing) (r : GramOut) : Type 0 where

@@ -149,6 +149,6 @@ pub record TakesSo (s s' : SessionState) (d d' : Desk) (b b' : Book) : Type 0 wh
 abbrev pub TakesSoundly : SessionState → SessionState → Desk → Desk → Book → Book → Type 0
 TakesSoundly s s' d d' b b' = length b.grams < 4294967296 → IsSound (map heard_as b.grams) d → TakesSo s s' d d' b b'
 
--- a datagram stands there that was heard when as many frames had been sent as the book has
+-- where the frames can be counted, a datagram stands there that was heard when as many frames had been sent as the book has
 abbrev pub HearsNow : Book → Book → Type 0
 HearsNow b b' = length b.frames < 4294967296 → WasHeardAt (length b.frames) b'.grams

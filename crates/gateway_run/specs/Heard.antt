@@ -1,5 +1,5 @@
 -- The datagrams of a serving, heard and sent.
-use Rattle.std.specs.Prelude.{◌≡◌, ℕ, ◌⊎◌, ◌+◌, ◌≤◌, true, List, [], ◌∷◌, ◌++◌, length, map, slice_get, Option, Some, None, Ok}
+use Rattle.std.specs.Prelude.{◌≡◌, ℕ, ◌⊎◌, ◌+◌, ◌<◌, ◌≤◌, true, List, [], ◌∷◌, ◌++◌, length, map, slice_get, Option, Some, None, Ok}
 use Rattle.ec_outside.specs.Port.{HeardGram}
 use Rattle.ec_outside.specs.declared.port.SentGram.{SentGram}
 use Rattle.mailbox_mail.specs.declared.mail.Mail.{Mail}
@@ -30,6 +30,11 @@ AreSent (Some old) new replies = new ≡ Some (old ++ map sent_as replies)
 abbrev pub AreSentBut : Option (List SentGram) → Option (List SentGram) → List GramOut → Type 0
 AreSentBut old new replies =
     AreSent old new replies ⊎ ((earlier : List GramOut) × (last : GramOut) × (replies ≡ earlier ++ last ∷ []) × AreSent old new earlier)
+
+-- ONLY WHAT CAME LAST MAY LACK: all of them were sent, and no more is owed besides than came of what was heard since the last frame; or, with the last of them, which was
+-- sent or not, no more than came last
+abbrev pub LacksLast : Option (List SentGram) → Option (List SentGram) → List GramOut → ℕ → ℕ → ℕ → Type 0
+LacksLast old new replies besides heard latest = (AreSent old new replies × (besides ≤ heard)) ⊎ (besides < latest)
 
 -- A REPLY GOES TO ITS OWN ASKER: to the peer of the datagram that it answers, as a mail with that datagram's station and counter
 pub record IsOwed (heard : List HeardGram) (r : GramOut) : Type 0 where

@@ -30,9 +30,9 @@ use Rattle.run_record.specs.of_run_notes.Switched.{HasPackets}
 use Rattle.run_record.specs.of_run_notes.Unsent.{IsSpent}
 use Rattle.run_record.specs.Ran.{StopsAs}
 use Rattle.gateway_run.specs.declared.desk.Request.{Request}
-use Rattle.gateway_run.specs.Account.{Owing, Course, AreSpelled, Waited}
+use Rattle.gateway_run.specs.Account.{Owing, Course, AreSpelled, Waited, heard_since, recent}
 use Rattle.gateway_run.specs.Done.{AllDone, ServedRestAll, ServedRestsSo}
-use Rattle.gateway_run.specs.Heard.{heard_as, AreHeard, AreSent, AreSentBut, IsOwed, IsRightly}
+use Rattle.gateway_run.specs.Heard.{heard_as, AreHeard, AreSent, AreSentBut, IsOwed, IsRightly, LacksLast}
 use Rattle.gateway_run.specs.Mails.{AreLate, HasMails}
 use Rattle.gateway_run.specs.Replies.{Answers, dones_of}
 use Rattle.gateway_run.specs.Serving.{Told, told}
@@ -102,9 +102,16 @@ pub record HasAccount (plan : Scenario) (count : ℕ) (book : Book) (ending : En
   pub stray : (n : ℕ) (g : GramIn) → slice_get book.grams n ≡ Some g → IsStray (map home_of plan.slaves) book.slaves owed n g
   pub all : ending ≢ endings.PortFault → later ≡ []
 
--- IT WAITED before each frame at which no request was unfinished and more could be heard: a datagram was heard since the frame before, unless the port had ended
+-- IT WAITED before each frame at which no request was unfinished and more could be heard: a datagram was heard since the frame before, but where the port has ended
+-- behind the serving and no datagram was heard behind that frame
 abbrev pub HasWaited : {plan : Scenario} {count : ℕ} {book : Book} {ending : Ending} → Told → HasAccount plan count book ending → Type 0
 HasWaited {plan} {count} {book} last a = Waited plan count a.session book.frames book.grams a.requests a.owed a.course last.over
+
+-- ONLY WHAT CAME LAST MAY LACK: all that the book has was sent, and no more is still owed than the datagrams heard since the last frame made so; or, with the last
+-- datagram of the book, which was sent or not, no more than came last
+abbrev pub IsPrompt : {plan : Scenario} {count : ℕ} {book : Book} {ending : Ending} → Told → Told → HasAccount plan count book ending → Type 0
+IsPrompt {plan} {count} {book} {ending} first last a =
+    LacksLast first.sent last.sent book.replies (length a.later) (length (heard_since plan count a.session book.frames book.grams a.requests a.owed a.course)) (length (recent plan count a.session book.frames book.grams a.requests a.owed a.course))
 
 -- what goes with an ending
 abbrev pub GoesWith : ℕ → Told → Told → Book → Ending → Type 0
@@ -115,11 +122,11 @@ GoesWith count first last book endings.PortFault = IsBroken first last book
 GoesWith count first last book endings.NoMemory = Unit {0}
 GoesWith count first last book endings.Unfinished = ⊥
 
--- A SERVING: how it ended, and unless memory ran out, what it heard and sent, and that it waited as its turns say
+-- A SERVING: how it ended, and unless memory ran out, what it heard and sent, that it waited as its turns say, and that only what came last may lack
 abbrev pub IsServed : Scenario → ℕ → Told → Told → Book → Ending → Type 0
 IsServed plan count first last book endings.NoMemory = Unit {0}
 IsServed plan count first last book ending =
-    StopsAs plan count book ending × HasGrams plan count first last book × GoesWith count first last book ending × (account : HasAccount plan count book ending) × HasWaited last account
+    StopsAs plan count book ending × HasGrams plan count first last book × GoesWith count first last book ending × (account : HasAccount plan count book ending) × HasWaited last account × IsPrompt first last account
 
 -- the same by what this port told before and tells behind
 abbrev pub IsServedOver : {Q : Type 0} → (Q → Option (List HeardGram)) → (Q → Option (List SentGram)) → (Q → Bool) → (Q → ℕ) → Scenario → ℕ → Q → Q → Book → Ending → Type 0

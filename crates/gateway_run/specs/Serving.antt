@@ -12,8 +12,8 @@ use Rattle.run_book.specs.declared.book.Book.{Book}
 use Rattle.run_record.specs.Session.{SessionState, IsDone, budget_of, has_live}
 use Rattle.run_record.specs.of_run_notes.Slaves.{home_of}
 use Rattle.run_record.specs.Ran.{HasSent, IsUnderway}
-use Rattle.gateway_run.specs.Heard.{heard_as, AreHeard, AreSent, AreSentBut, IsOwed, IsRightly}
-use Rattle.gateway_run.specs.Account.{Owing, Course, AreSpelled, Waited, happened_in, numbers_in}
+use Rattle.gateway_run.specs.Heard.{heard_as, AreHeard, AreSent, AreSentBut, IsOwed, IsRightly, LacksLast}
+use Rattle.gateway_run.specs.Account.{Owing, Course, AreSpelled, Waited, happened_in, heard_since, numbers_in, recent}
 use Rattle.gateway_run.specs.Desk.{IsSound}
 use Rattle.gateway_run.specs.declared.stop.Stop.{Stop}
 use Rattle.gateway_run.specs.declared.stop.Stop.TheVariants as stops
@@ -43,7 +43,8 @@ abbrev pub EmptyWhere : Bool → Serving → Type 0
 EmptyWhere settled v = OnTrue settled (v.desk.requests.items ≡ [])
 
 -- a serving of a sound plan and its book: the session is under way, each reply goes to its own asker, what was passed on was rightly so, what was
--- sent and is still to be sent is what was owed, and just what happened at the switch stands in the book, with its numbers; and it waited before each frame
+-- sent and is still to be sent is what was owed, and just what happened at the switch stands in the book, with its numbers; it waited before each frame, and no
+-- more is still to be sent than came last
 pub record IsOn (plan : Scenario) (count : ℕ) (v : Serving) (b : Book) : Type 0 where
   pub is_plan : IsPlan plan
   pub underway : IsUnderway plan count v.session b
@@ -60,6 +61,15 @@ pub record IsOn (plan : Scenario) (count : ℕ) (v : Serving) (b : Book) : Type 
   pub switched : numbers_in plan count v.session b.frames b.grams v.desk.requests.items owed course ≡ b.switched
   pub spelled : AreSpelled (map heard_as b.grams) owed (b.replies ++ v.desk.outbox.items)
   pub waited : Waited plan count v.session b.frames b.grams v.desk.requests.items owed course v.over
+  pub prompt : length v.desk.outbox.items ≤ length (recent plan count v.session b.frames b.grams v.desk.requests.items owed course)
+
+-- what the datagrams heard since the last frame made owed, by a serving's course
+abbrev pub since_of : {plan : Scenario} {count : ℕ} {v : Serving} {b : Book} → IsOn plan count v b → List Owing
+since_of {plan} {count} {v} {b} on = heard_since plan count v.session b.frames b.grams v.desk.requests.items on.owed on.course
+
+-- what came last, by that course
+abbrev pub recent_of : {plan : Scenario} {count : ℕ} {v : Serving} {b : Book} → IsOn plan count v b → List Owing
+recent_of {plan} {count} {v} {b} on = recent plan count v.session b.frames b.grams v.desk.requests.items on.owed on.course
 
 -- a serving and its port, by what the port told first: the book has what was heard and sent since
 pub record IsServing (plan : Scenario) (count : ℕ) (first now : Told) (v : Serving) (b : Book) : Type 0 where
@@ -69,11 +79,17 @@ pub record IsServing (plan : Scenario) (count : ℕ) (first now : Told) (v : Ser
   pub over : v.over ≡ true → now.over ≡ true
   pub later : first.faults ≤ now.faults
 
--- a serving whose port failed: the last datagram of the book was sent or not
+-- a serving at the beginning of a turn, until its frame: no more is still to be sent than the datagrams heard since the last frame made owed
+pub record IsHearing (plan : Scenario) (count : ℕ) (first now : Told) (v : Serving) (b : Book) : Type 0 where
+  pub serving : IsServing plan count first now v b
+  pub fresh : length v.desk.outbox.items ≤ length (since_of serving.on)
+
+-- a serving whose port failed: at hearing, or at sending the last datagram of the book, which was sent or not
 pub record IsFaulted (plan : Scenario) (count : ℕ) (first now : Told) (v : Serving) (b : Book) : Type 0 where
   pub on : IsOn plan count v b
   pub heard : AreHeard first.heard now.heard b.grams
   pub sent : AreSentBut first.sent now.sent b.replies
+  pub prompt : LacksLast first.sent now.sent b.replies (length v.desk.outbox.items) (length (since_of on)) (length (recent_of on))
   pub over : v.over ≡ true → now.over ≡ true
   pub rose : Rose first.faults now.faults
 
@@ -111,11 +127,19 @@ SendsOne reply now next b b' (Ok done) = SentOne reply now next b b'
 SendsOne reply now next b b' (Err stops.PortFault) = FailedOne reply now next b b'
 SendsOne reply now next b b' (Err stops.NoMemory) = b' ≡ record b { replies = b'.replies }
 
--- a serving behind a step of it; where memory ran out, the frames of the book alone are told
+-- a serving behind a step of it, which stands so where it goes on; where memory ran out, the frames of the book alone are told
+abbrev pub GoesTo : {T : Type 0} → Type 0 → Scenario → ℕ → Told → Told → Serving → Book → Result T Stop → Type 0
+GoesTo stands plan count first now v b (Ok value) = stands
+GoesTo stands plan count first now v b (Err stops.PortFault) = IsFaulted plan count first now v b
+GoesTo stands plan count first now v b (Err stops.NoMemory) = HasSent plan count b
+
+-- the same of one that goes on anyhow
 abbrev pub Goes : {T : Type 0} → Scenario → ℕ → Told → Told → Serving → Book → Result T Stop → Type 0
-Goes plan count first now v b (Ok value) = IsServing plan count first now v b
-Goes plan count first now v b (Err stops.PortFault) = IsFaulted plan count first now v b
-Goes plan count first now v b (Err stops.NoMemory) = HasSent plan count b
+Goes plan count first now v b r = GoesTo (IsServing plan count first now v b) plan count first now v b r
+
+-- and of one that hears
+abbrev pub GoesHearing : {T : Type 0} → Scenario → ℕ → Told → Told → Serving → Book → Result T Stop → Type 0
+GoesHearing plan count first now v b r = GoesTo (IsHearing plan count first now v b) plan count first now v b r
 
 -- more can be heard
 abbrev pub can_hear : Serving → Book → Bool

@@ -79,17 +79,19 @@ fn serve_through<P: Port>(
 }
 
 /// Serves a plan: brings its segment up, hears datagrams until so many came or the port ended, passes their mails on to the slaves and sends
-/// the replies to who asked. Before each frame at which no request is unfinished and more can be heard it waits for a datagram, so nothing is
-/// sent until one was heard or the port ended. The book then has the frames, what became of each slave, and the datagrams heard and sent; after `NoMemory` the
-/// frames until then.
+/// the replies to who asked. Before each frame at which no request is unfinished and more can be heard it waits for a datagram: where one is heard
+/// no frame is sent before the first, and where none is, none unless the port has ended behind the call. The book then has the frames, what
+/// became of each slave, and the datagrams heard and sent; after `NoMemory` the frames until then.
 ///
 /// What it has of the slaves and of the switch is just what the lives of the slaves have that its frames lead: of each the services of its script that
 /// came into hand, with what they came to, and those that weren't sent, its epochs, emergencies and packets; and the events of the switch, each with
 /// its number.
 ///
 /// `Done` and `GivenUp` come only where so many datagrams were heard or the port ended, and nothing was left to do; `BudgetSpent` where as
-/// many frames were sent as the budget allows and something was left to do; `PortFault` only where the port's count of faults rose. Then the last datagram of the book
-/// was sent or not, and those that were not yet sent stand nowhere.
+/// many frames were sent as the budget allows and something was left to do; `PortFault` only where the port's count of faults rose. Then the last
+/// datagram of the book was sent or not, and those that were not yet sent stand nowhere. These are no more than the datagrams heard since the last
+/// frame made owed; or, with that last one, no more than came last: what the datagrams heard since the last frame made owed, or where there are none
+/// what that frame did, with the datagrams heard since the one before.
 pub fn serve<P: Port>(
     alloc: Global,
     plan: &Scenario,

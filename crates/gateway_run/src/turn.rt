@@ -7,8 +7,8 @@ ghost use Rattle.segment_plan.specs.Sound.{IsPlan};
 ghost use Rattle.run_record.specs.Served.{ServingBegins};
 ghost use Rattle.run_record.specs.Session.{first_session};
 ghost use Rattle.gateway_run.specs.Desk.{HasNone, SameLive, StaysBusy};
-ghost use Rattle.gateway_run.specs.Goes.{GoesIf, GoesOn, GoesOnIf, HasRoom, LeavesIf, MaySend, MayStep, MayTurn, TakesHeard};
-ghost use Rattle.gateway_run.specs.Serving.{Told, told, SendsOne, LivesUnless, EmptyWhere, left, can_hear};
+ghost use Rattle.gateway_run.specs.Goes.{GoesOn, GoesOnIf, HasRoom, HearsOn, HearsOnIf, LeavesIf, MaySend, MayStep, MayTurn, StepsIf, TakesHeard};
+ghost use Rattle.gateway_run.specs.Serving.{told, SendsOne, LivesUnless, EmptyWhere, left, can_hear};
 
 use crate::desk::Desk;
 use crate::stop::Stop;
@@ -98,7 +98,7 @@ impl Serving {
     // Waits for a datagram.
     fn wait<P: Port>(&mut self, alloc: Global, port: &mut P, book: &mut Book) -> Result<(), Stop>
         requires { can_hear self.old book.old ≡ true }
-        ensures goes { GoesOnIf (HasRoom self.old) P.heard P.sent P.over P.port_faults port.old port.new self.old self.new book.old book.new result }
+        ensures goes { HearsOnIf (HasRoom self.old) P.heard P.sent P.over P.port_faults port.old port.new self.old self.new book.old book.new result }
         ensures live { SameLive self.old.session self.new.session }
         ensures busy { StaysBusy self.old.session self.new.session }
         ensures less { OnOk result (left self.new book.new < left self.old book.old) }
@@ -111,7 +111,7 @@ impl Serving {
 
     // Takes the datagrams that are there, while more can be heard and one more request may be unfinished.
     fn poll<P: Port>(&mut self, alloc: Global, port: &mut P, book: &mut Book) -> Result<(), Stop>
-        ensures goes { GoesOn P.heard P.sent P.over P.port_faults port.old port.new self.old self.new book.old book.new result }
+        ensures goes { HearsOn P.heard P.sent P.over P.port_faults port.old port.new self.old self.new book.old book.new result }
         ensures live { SameLive self.old.session self.new.session }
         ensures busy { StaysBusy self.old.session self.new.session }
         ensures most { OnOk result (left self.new book.new ≤ left self.old book.old) }
@@ -135,7 +135,7 @@ impl Serving {
         book: &mut Book,
     ) -> Result<(), Stop>
         requires { OnTrue settled (can_hear self.old book.old ≡ true) }
-        ensures goes { GoesOnIf (EmptyWhere settled self.old) P.heard P.sent P.over P.port_faults port.old port.new self.old self.new book.old book.new result }
+        ensures goes { HearsOnIf (EmptyWhere settled self.old) P.heard P.sent P.over P.port_faults port.old port.new self.old self.new book.old book.new result }
         ensures live { SameLive self.old.session self.new.session }
         ensures busy { StaysBusy self.old.session self.new.session }
         ensures less { OnOk result (OnTrue settled (left self.new book.new < left self.old book.old)) }
@@ -148,9 +148,9 @@ impl Serving {
         self.poll(alloc, port, book)
     }
 
-    // Sends a frame, unless the segment rests; `false` where it doesn't and the budget of frames is spent.
+    // Sends a frame, unless the segment rests; else `false` where the budget of frames is spent.
     fn frame(&mut self, alloc: Global, rests: bool, book: &mut Book) -> Result<bool, Stop>
-        ensures goes { (now : Told) → GoesIf (MayStep rests self.old book.old) now now self.old self.new book.old book.new result }
+        ensures goes { StepsIf (MayStep rests self.old book.old) self.old self.new book.old book.new result }
         ensures less { IfOk result (λ on. OnTrue on (OnFalse rests (left self.new book.new < left self.old book.old))) }
         ensures most { OnOk result (left self.new book.new ≤ left self.old book.old) }
         ensures spent { IfOk result (λ on. OnFalse on (self.new.session.ring.number ≡ self.new.session.budget)) }
@@ -181,8 +181,8 @@ impl Serving {
     }
 
     /// One turn: it waits for a datagram where no request is unfinished, takes those that are there, sends one frame unless the segment is
-    /// settled, and sends what is owed. `false` where the budget of frames is spent and something is left to do. `settled` says that the segment was settled before; then
-    /// more can be heard.
+    /// settled, and sends what is owed. `false` where the budget of frames is spent and something is left to do. `settled` says that the
+    /// segment was settled before; then more can be heard.
     pub fn turn<P: Port>(
         &mut self,
         alloc: Global,

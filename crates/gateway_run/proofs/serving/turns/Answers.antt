@@ -15,6 +15,7 @@ returns-then-not-branch-clause-goes g c = λ plan count first h.
     c.in_ok-turn.ensures.goes plan count first (
       lives_on plan count c.loop-settled.serving c.loop-settled.book on.on c.loop-settled.settled c.loop-settled.settled refl c.loop-settled.invariant.lives c.loop-settled.invariant.done,
       empty_on plan count c.loop-settled.serving c.loop-settled.book on.on c.loop-settled.settled c.loop-settled.invariant.rests,
+      c.loop-settled.invariant.empty,
     ) on
 
 pub loop-settled-preserved : goal.loop-settled-preserved
@@ -25,6 +26,7 @@ loop-settled-preserved g c = record {
       c.in_ok-turn.ensures.goes plan count first (
         lives_on plan count c.loop-settled.serving c.loop-settled.book on.on c.loop-settled.settled c.loop-settled.settled refl c.loop-settled.invariant.lives c.loop-settled.invariant.done,
         empty_on plan count c.loop-settled.serving c.loop-settled.book on.on c.loop-settled.settled c.loop-settled.invariant.rests,
+        c.loop-settled.invariant.empty,
       ) on;
   empty = c.in_ok-turn.ensures.empty;
   at_rest = c.settled-settled-in-loop-settled.ensures.rest;
@@ -41,10 +43,11 @@ returns-in_err-turn-clause-goes g c = λ plan count first h.
     let same : c.from_residual.result ≡ Err c.in_err-turn.field-0.0 = cc in
     let now = told g.P.Port.heard g.P.Port.sent g.P.Port.over g.P.Port.port_faults c.loop-settled.port in
     let on : IsServing plan count first now c.loop-settled.serving c.loop-settled.book = c.loop-settled.invariant.goes plan count first h in
-    goes_so plan count first _ c.turn.new.self c.turn.new.book c.in_err-turn.field-0.0 c.turn.result c.from_residual.result c.in_err-turn.was same
+    goes_so plan count first _ _ _ c.turn.new.self c.turn.new.book c.in_err-turn.field-0.0 c.turn.result c.from_residual.result c.in_err-turn.was same
     (c.turn.ensures.goes plan count first (
       lives_on plan count c.loop-settled.serving c.loop-settled.book on.on c.loop-settled.settled c.loop-settled.settled refl c.loop-settled.invariant.lives c.loop-settled.invariant.done,
       empty_on plan count c.loop-settled.serving c.loop-settled.book on.on c.loop-settled.settled c.loop-settled.invariant.rests,
+      c.loop-settled.invariant.empty,
     ) on)
 
 pub returns-then-not-branch-clause-left : goal.returns-then-not-branch-clause-left
@@ -55,6 +58,7 @@ returns-then-not-branch-clause-left g c = λ plan count first h spent.
     OnFalse_at no (c.in_ok-turn.ensures.left plan count first (
       lives_on plan count c.loop-settled.serving c.loop-settled.book on.on c.loop-settled.settled c.loop-settled.settled refl c.loop-settled.invariant.lives c.loop-settled.invariant.done,
       empty_on plan count c.loop-settled.serving c.loop-settled.book on.on c.loop-settled.settled c.loop-settled.invariant.rests,
+      c.loop-settled.invariant.empty,
     ) on)
 
 pub returns-clause-left : goal.returns-clause-left

@@ -19,7 +19,7 @@ returns-in_err-take-clause-goes g c = λ plan count first h.
     let e = p.1 in
     let e2 = p.2 in
     let same : c.from_residual-in_err-take.result ≡ Err c.in_err-take.field-0.0 = cc in
-    goes_so plan count first _ c.take.new.self c.take.new.book c.in_err-take.field-0.0 c.take.result c.from_residual-in_err-take.result c.in_err-take.was same
+    goes_so plan count first _ _ _ c.take.new.self c.take.new.book c.in_err-take.field-0.0 c.take.result c.from_residual-in_err-take.result c.in_err-take.was same
     (c.take.ensures.goes plan count first _ _ (not_full c.loop-self.self.desk c.is_full.result c.is_full.ensures c.if-not-is_full.true) (same_gram plan count first _ c.loop-self.self _ c.loop-self.book refl refl refl refl (c.loop-self.invariant.goes plan count first h))
     (record { hears = c.in_ok-heard.ensures.hears; sent = c.in_ok-heard.ensures.sends; over = c.in_ok-heard.ensures.ended; later = c.in_ok-heard.ensures.later }))
 

@@ -2,12 +2,12 @@ use Rattle.std.proofs.Common.{◌≤◌, ℕ}
 use Rattle.segment_plan.specs.declared.plan.Scenario.{Scenario}
 use Rattle.gateway_run.specs.Desk.{SameLive, StaysBusy}
 use Rattle.gateway_run.specs.Goes.{MaySend}
-use Rattle.gateway_run.specs.Serving.{Told, told, IsServing, left}
+use Rattle.gateway_run.specs.Serving.{Told, told, IsHearing, left}
 use Rattle.gateway_run.proofs.turn.Serving.poll.Given as goal
 
 abbrev pub invariant-loop-self : goal.invariant-loop-self
 invariant-loop-self g l = record {
-  goes : (plan : Scenario) (count : ℕ) (first : Told) → IsServing plan count first (told g.P.Port.heard g.P.Port.sent g.P.Port.over g.P.Port.port_faults l.fn.port) l.fn.self l.fn.book → IsServing plan count first (told g.P.Port.heard g.P.Port.sent g.P.Port.over g.P.Port.port_faults l.port) l.self l.book;
+  goes : (plan : Scenario) (count : ℕ) (first : Told) → IsHearing plan count first (told g.P.Port.heard g.P.Port.sent g.P.Port.over g.P.Port.port_faults l.fn.port) l.fn.self l.fn.book → IsHearing plan count first (told g.P.Port.heard g.P.Port.sent g.P.Port.over g.P.Port.port_faults l.port) l.self l.book;
   live : SameLive l.fn.self.session l.self.session;
   busy : StaysBusy l.fn.self.session l.self.session;
   most : left l.self l.book ≤ left l.fn.self l.fn.book;

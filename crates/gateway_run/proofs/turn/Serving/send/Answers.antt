@@ -21,7 +21,7 @@ returns-in_err-send_one-clause-goes g c = λ plan count first h.
     let e = p.1 in
     let e2 = p.2 in
     let same : c.from_residual.result ≡ Err c.in_err-send_one.field-0.0 = cc in
-    goes_so plan count first _ _ c.send_one.new.book c.in_err-send_one.field-0.0 c.send_one.result c.from_residual.result c.in_err-send_one.was same
+    goes_so plan count first _ _ _ _ c.send_one.new.book c.in_err-send_one.field-0.0 c.send_one.result c.from_residual.result c.in_err-send_one.was same
     (all_handed plan count first _ _ c.loop-reply.self _ c.loop-reply.book c.send_one.new.book c.in-Some.reply (c.loop-reply.invariant.goes plan count first h) refl refl refl c.in-Some.ensures.first c.next_out.ensures.gateway c.next_out.ensures.requests c.send_one.result c.send_one.ensures)
 
 pub returns-clause-goes : goal.returns-clause-goes

@@ -16,7 +16,7 @@ returns-in_err-take-clause-goes g c = λ plan count first free h.
     let e = p.1 in
     let e2 = p.2 in
     let same : c.from_residual-in_err-take.result ≡ Err c.in_err-take.field-0.0 = cc in
-    goes_so plan count first _ c.take.new.self c.take.new.book c.in_err-take.field-0.0 c.take.result c.from_residual-in_err-take.result c.in_err-take.was same
+    goes_so plan count first _ _ _ c.take.new.self c.take.new.book c.in_err-take.field-0.0 c.take.result c.from_residual-in_err-take.result c.in_err-take.was same
     (c.take.ensures.goes plan count first _ _ free (same_gram plan count first _ c.args.self.now _ c.args.book.now refl refl refl refl h)
     (record { hears = c.in_ok-heard.ensures.hears; sent = c.in_ok-heard.ensures.sends; over = c.in_ok-heard.ensures.ended; later = c.in_ok-heard.ensures.later }))
 
