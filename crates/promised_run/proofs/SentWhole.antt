@@ -1,5 +1,5 @@
 -- EACH EPOCH OF A RUN OR A SERVING sends whole packets, of which the first came in at the port of its slave.
-use Rattle.std.proofs.Common.{◌≡◌, ◌≢◌, ℕ, zero, suc, Some, List, [], ◌∷◌, map, refl, ap, ◌∙◌}
+use Rattle.std.proofs.Common.{◌≡◌, ◌≢◌, ℕ, zero, suc, Some, List, [], ◌∷◌, ◌++◌, map, length, le-ltb, refl, ap, ◌∙◌}
 use Rattle.std.specs.Prelude.{slice_get}
 use Rattle.life_runs.specs.First.{first_leads, lens_of}
 use Rattle.life_runs.specs.Led.{Exchanged, IsLed, Leads}
@@ -9,7 +9,7 @@ use Rattle.promised_run.proofs.Rounds.{all_round}
 use Rattle.promised_run.proofs.Through.{RepliesLaw, stood_behind}
 use Rattle.promised_run.specs.Alone.{ServesAlone}
 use Rattle.promised_run.specs.Ports.{AllHavePorts, accepted_at}
-use Rattle.promised_run.specs.SentWhole.{HasSentWhole, IsServedSentWhole, SendWhole, heard_at}
+use Rattle.promised_run.specs.SentWhole.{HasSentWhole, IsServedSentWhole, SendWhole, packet_of}
 use Rattle.promised_run.specs.ServedPorts.{IsServedAtPorts}
 use Rattle.promised_run.specs.Stood.{StoodBehind}
 use Rattle.run_book.specs.declared.book.Book.{Book}
@@ -22,11 +22,12 @@ use Rattle.run_record.specs.Led.{LeadTo, exchanged}
 use Rattle.run_record.specs.Ran.{HasSent}
 use Rattle.run_record.specs.Replay.{first_ring}
 use Rattle.run_record.specs.of_packets_heard.Heard.{Times, packets_of, times_in}
-use Rattle.run_record.specs.of_packets_heard.Listed.{long_ones}
+use Rattle.run_record.specs.of_packets_heard.Listed.{long_ones, long_where}
 use Rattle.run_record.specs.of_packets_heard.Servings.{served_times}
 use Rattle.segment_plan.specs.Sound.{IsPlan}
 use Rattle.segment_plan.specs.declared.plan.Scenario.{Scenario}
-use Rattle.sent_packets.specs.Whole.{AllAreHeard, AllSendWhole}
+use Rattle.segment_plan.specs.declared.slave.SlaveSpec.{SlaveSpec}
+use Rattle.sent_packets.specs.Whole.{AllAreHeard, AllSendWhole, AreLong, heard_at}
 use Rattle.served_rings.specs.Served.{AllServeSo}
 use Rattle.served_runs.specs.Served.{IsRunOf, IsServedLed, Serves, all_serve}
 use Rattle.slave_server.specs.Serving.{Serving}
@@ -46,6 +47,14 @@ RunAcceptedLaw =
     (plan : Scenario) → IsPlan plan → IsKnown plan → (fs : List Exchanged) (missed : ℕ) (leads : List Leads) → (led : IsLed (lens_of plan.slaves) plan.recover plan.retry (first_leads plan) fs missed leads) →
     AllRound (ring_of plan) fs → (ws : List Serves) → IsRunOf ws leads → AllAreHeard ws (times_in led)
 
+abbrev pub LongLaw : Type 0
+LongLaw = (ss : List SlaveSpec) (ws : List Serves) (ns : List (Node Serving)) (d : AllServeSo ss ws ns) → AllSendWhole ss ws ns d → (k : ℕ) → AreLong (packets_of (heard_at ws k))
+
+-- packets of at least 14 octets all come in
+long_all : (ps : List (List ℕ)) → AreLong ps → long_ones ps ≡ map packet_of ps
+long_all [] long = refl
+long_all (p ∷ ps) long = λ i. long_where (le-ltb (length p) 14 long.0 i) p ++ long_all ps long.1 i
+
 -- the mails at a place
 at_place : (ws : List Serves) (ts : List Times) → AllAreHeard ws ts → (k : ℕ) → accepted_at ts k ≡ heard_at ws k
 at_place [] [] all k = refl
@@ -54,7 +63,7 @@ at_place (w ∷ ws) [] all k = absurd all
 at_place (w ∷ ws) (t ∷ ts) all zero = all.0
 at_place (w ∷ ws) (t ∷ ts) all (suc k) = at_place ws ts all.1 k
 
-module _ (plan : Scenario) (is : IsPlan plan) (knows : IsKnown plan) (whole : WholeLaw) where
+module _ (plan : Scenario) (is : IsPlan plan) (knows : IsKnown plan) (whole : WholeLaw) (long : LongLaw) where
   -- BY WHAT THE SLAVES SERVED
   send_whole : (frames : List SentFrame) (ws : List Serves) (times : List Times) → StoodBehind plan frames ws → AllAreHeard ws times → SendWhole plan frames ws times
   send_whole frames ws times stood all = record { served = stood; whole = whole plan is knows ws _ stood.each; heard = at_place ws times all }
@@ -64,7 +73,7 @@ module _ (plan : Scenario) (is : IsPlan plan) (knows : IsKnown plan) (whole : Wh
   ArriveBy book times = (k port : ℕ) → port_by (slice_get (ports_behind 0 plan.slaves) k) ≡ Some port → arrivals_at port book.switch ≡ long_ones (packets_of (accepted_at times k))
 
   has_sent : (book : Book) (ws : List Serves) (times : List Times) → SendWhole plan book.frames ws times → (book.ending ≢ endings.NoMemory → ArriveBy book times) → HasSentWhole plan book ws times
-  has_sent book ws times sends come = record { sends = sends; arrive = λ memory k port at. come memory k port at ∙ ap (λ mss. long_ones (packets_of mss)) (sends.heard k) }
+  has_sent book ws times sends come = record { sends = sends; arrive = λ memory k port at. come memory k port at ∙ ap (λ mss. long_ones (packets_of mss)) (sends.heard k) ∙ long_all (packets_of (heard_at ws k)) (long plan.slaves ws _ sends.served.each sends.whole k) }
 
   -- OF A SERVING, by each account of its book
   pub all_send : RepliesLaw → AcceptedLaw → (count : ℕ) (book : Book) → HasSent plan count book → IsServedAtPorts plan count book → IsServedSentWhole plan count book

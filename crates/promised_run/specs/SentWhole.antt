@@ -1,28 +1,21 @@
 -- WHAT CAME IN AT THE PORT OF A SLAVE over a run or a serving is, epoch by epoch, the first of the packets that its carried out rows emit, each whole as it was sent.
-use Rattle.std.specs.Prelude.{◌≡◌, ◌≢◌, ℕ, zero, suc, Some, List, [], ◌∷◌, ◌++◌, slice_get}
+use Rattle.std.specs.Prelude.{◌≡◌, ◌≢◌, ℕ, Some, List, map, slice_get}
 use Rattle.gateway_run.specs.Served.{HasAccount}
 use Rattle.promised_run.specs.Ports.{accepted_at}
 use Rattle.promised_run.specs.Stood.{StoodBehind}
 use Rattle.run_book.specs.declared.book.Book.{Book}
 use Rattle.run_book.specs.declared.book.Ending.TheVariants as endings
 use Rattle.run_book.specs.declared.book.SentFrame.{SentFrame}
-use Rattle.run_book.specs.of_link_mails.Body.{Body}
 use Rattle.run_book.specs.of_master_node.Forwards.{port_by}
 use Rattle.run_book.specs.of_master_node.Happened.{arrivals_at}
 use Rattle.run_book.specs.of_master_node.Ports.{ports_behind}
 use Rattle.run_record.specs.Replay.{first_ring, ring_after}
+use Rattle.run_record.specs.of_arrayvec.ArrayVec.{ArrayVec}
 use Rattle.run_record.specs.of_packets_heard.Heard.{Times, packets_of}
-use Rattle.run_record.specs.of_packets_heard.Listed.{long_ones}
 use Rattle.run_record.specs.of_packets_heard.Servings.{served_times}
 use Rattle.segment_plan.specs.declared.plan.Scenario.{Scenario}
-use Rattle.sent_packets.specs.Whole.{AllSendWhole, heard_over}
+use Rattle.sent_packets.specs.Whole.{AllSendWhole, heard_at}
 use Rattle.served_runs.specs.Served.{Serves}
-
--- the mails that were heard in the rows of each epoch of the slave at a place, of each that heard one
-abbrev pub heard_at : List Serves → ℕ → List (List Body)
-heard_at [] k = []
-heard_at (w ∷ ws) zero = heard_over (w.lead.lived.life.past ++ w.lead.lived.life.era ∷ [])
-heard_at (w ∷ ws) (suc k) = heard_at ws k
 
 -- BEHIND THESE FRAMES each epoch of each slave sent whole packets, by what the slave carried out of it: of these the first came in of the mails that were heard in
 -- its rows, each whole, and no fragment was dropped; and the mails accepted each time that the slave was open are those of its epochs, in order
@@ -31,9 +24,14 @@ pub record SendWhole (plan : Scenario) (frames : List SentFrame) (ws : List Serv
   pub whole : AllSendWhole plan.slaves ws (ring_after (first_ring plan) frames).nodes served.each
   pub heard : (k : ℕ) → accepted_at times k ≡ heard_at ws k
 
--- SO AT ITS PORT, unless memory ran out, just the packets came in that those mails complete, in order
+-- a packet of these octets
+abbrev pub packet_of : List ℕ → ArrayVec ℕ
+packet_of octets = record { items = octets }
+
+-- SO AT ITS PORT, unless memory ran out, just the packets came in that those mails complete, in order, none left out
 abbrev pub AllArrive : Scenario → List Serves → Book → Type 0
-AllArrive plan ws book = (k port : ℕ) → port_by (slice_get (ports_behind 0 plan.slaves) k) ≡ Some port → arrivals_at port book.switch ≡ long_ones (packets_of (heard_at ws k))
+AllArrive plan ws book =
+    (k port : ℕ) → port_by (slice_get (ports_behind 0 plan.slaves) k) ≡ Some port → arrivals_at port book.switch ≡ map packet_of (packets_of (heard_at ws k))
 
 -- OF A BOOK, with the lives that its frames lead and the mails that these accepted
 pub record HasSentWhole (plan : Scenario) (book : Book) (ws : List Serves) (times : List Times) : Type 0 where

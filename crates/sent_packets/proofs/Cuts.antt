@@ -39,13 +39,12 @@ octets_append (p ∷ ps) qs = ap (λ l. p.octets ∷ l) (octets_append ps qs)
 
 module _ (weigh : List ℕ → ℕ) (room : ℕ) where
   pub sends_none : (mails : List Body) (most : ℕ) → parts fragment_in mails ≡ [] → Sends weigh room mails most
-  sends_none mails most e = record { packets = []; cut = e; are = tt; few = omega arith }
+  sends_none mails most e = record { packets = []; whole = record { cut = e; are = tt }; few = omega arith }
 
   pub sends_both : (xs ys : List Body) (a b : ℕ) → Sends weigh room xs a → Sends weigh room ys b → Sends weigh room (xs ++ ys) (a + b)
   sends_both xs ys a b s t = record {
     packets = s.packets ++ t.packets;
-    cut = parts_append xs ys ∙ (λ i. s.cut i ++ t.cut i) ∙ sym (fragments_append room s.packets t.packets);
-    are = are_append s.packets t.packets s.are t.are;
+    whole = record { cut = parts_append xs ys ∙ (λ i. s.whole.cut i ++ t.whole.cut i) ∙ sym (fragments_append room s.packets t.packets); are = are_append s.packets t.packets s.whole.are t.whole.are };
     few = omega (arith, s.few, t.few, ap (sum_by weigh) (octets_append s.packets t.packets), sum_by-append weigh (octets_of s.packets) (octets_of t.packets));
   }
 
@@ -69,7 +68,6 @@ sends_packet weigh room frame octets least most long short low =
     let fs = fragments_of octets (32 * ((room - 10) / 32)) frame in
     record {
       packets = record { octets = octets; frame = frame } ∷ [];
-      cut = parts_back fs (read_back room frame octets least most long short low) ∙ sym (append-nil fs);
-      are = ((long, short), tt);
+      whole = record { cut = parts_back fs (read_back room frame octets least most long short low) ∙ sym (append-nil fs); are = ((long, short), tt) };
       few = omega (arith, sum_by-cons weigh octets []);
     }

@@ -44,7 +44,7 @@ module _ (weigh : List ℕ → ℕ) (p : Profile) (is : IsProfile p) where
   one : (frame : ℕ) (octets : List ℕ) → frame < 16 → (14 ≤ length octets) × (length octets ≤ 1514) → Sends weigh p.back (map (told_by EoeOctets.eoe_mail_written) (packet_mails p.back octets frame)) (sum_by weigh (octets ∷ []))
   one frame octets low fits =
       let s = sends_packet weigh p.back frame octets is.back_least is.back_most fits.0 fits.1 low in
-      record { packets = s.packets; cut = s.cut; are = s.are; few = omega (arith, s.few, sum_by-cons weigh octets []) }
+      record { packets = s.packets; whole = s.whole; few = omega (arith, s.few, sum_by-cons weigh octets []) }
 
   -- ---- CoE
   pub issued_emits : (al : ℕ) (s : Station Core) (e : Option Emission) → s.frame < 16 → ((octets : List ℕ) → e ≡ Some (packet octets) → (14 ≤ length octets) × (length octets ≤ 1514)) →

@@ -64,13 +64,17 @@ prefix_sum f xs ys p = omega (arith, ap (sum_by f) p.1, sum_by-append f xs p.0)
 abbrev pub Joins : Type 0
 Joins = (room : ℕ) (ps : List Emitted) (ms : List Body) (rest : List Fragment) → 64 ≤ room → ArePackets ps → parts fragment_in ms ++ rest ≡ all_fragments room ps → IsPrefixOf (packets_in None ms) (octets_of ps)
 
--- mails of which the emissions are the first of those
+-- of mails of which the emissions are the first of those that have these fragments
+pub heard_cut : (room : ℕ) (emission : Body → Bool) → IsOwn emission fragment_in → (hs ms : List Body) (packets : List Emitted) → parts fragment_in ms ≡ all_fragments room packets → (first : IsPrefixOf (emitted emission hs) ms) →
+    parts fragment_in hs ++ parts fragment_in first.0 ≡ all_fragments room packets
+heard_cut room emission is_own hs ms packets cut first =
+    ap (λ l. l ++ parts fragment_in first.0) (heard_own emission fragment_in is_own hs) ∙ sym (parts_append (emitted emission hs) first.0) ∙ ap (parts fragment_in) first.1 ∙ cut
+
+-- they join to no more packets
 pub few_heard : (weigh : List ℕ → ℕ) (room : ℕ) → 64 ≤ room → Joins → (emission : Body → Bool) → IsOwn emission fragment_in → (hs ms : List Body) (n : ℕ) → Sends weigh room ms n → IsPrefixOf (emitted emission hs) ms → sum_by weigh (packets_in None hs) ≤ n
 few_heard weigh room wide joins emission is_own hs ms n s first =
-    let own : parts fragment_in hs ≡ parts fragment_in (emitted emission hs) = heard_own emission fragment_in is_own hs in
-    let all : parts fragment_in hs ++ parts fragment_in first.0 ≡ all_fragments room s.packets =
-    ap (λ l. l ++ parts fragment_in first.0) own ∙ sym (parts_append (emitted emission hs) first.0) ∙ ap (parts fragment_in) first.1 ∙ s.cut in
-    let joined = prefix_sum weigh (packets_in None hs) (octets_of s.packets) (joins room s.packets hs (parts fragment_in first.0) wide s.are all) in
+    let all = heard_cut room emission is_own hs ms s.packets s.whole.cut first in
+    let joined = prefix_sum weigh (packets_in None hs) (octets_of s.packets) (joins room s.packets hs (parts fragment_in first.0) wide s.whole.are all) in
     omega (arith, joined, s.few)
 
 module _ (weigh : List ℕ → ℕ) (p : Profile) (wide : 64 ≤ p.back) (joins : Joins) (w : Real) (so : SendSo weigh p w) where

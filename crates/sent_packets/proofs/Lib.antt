@@ -9,6 +9,7 @@ mod FoeKept
 mod Folds
 pub mod Live
 mod Lives
+mod Long
 mod Outcomes
 pub mod Owns
 mod Passed

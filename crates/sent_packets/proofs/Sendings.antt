@@ -3,7 +3,6 @@ use Rattle.std.proofs.Common.{◌≡◌, ℕ, Bool, true, false, None, All, List
 use Rattle.std.specs.Prelude.{sum_by}
 use Rattle.std.proofs.lemmas.List.Elements.{All-head, All-tail}
 use Rattle.exchange_model.specs.Exchange.{Exchange, emitted}
-use Rattle.exchange_model.specs.Prefix.{IsPrefixOf}
 use Rattle.exchange_model.specs.Rows.{heard_all}
 use Rattle.life_model.specs.Lives.{Era, Life, Stand}
 use Rattle.link_mails.specs.Body.{Body}
@@ -11,7 +10,7 @@ use Rattle.mailbox_mail.specs.declared.mail.Mail.{Mail}
 use Rattle.master_duty.specs.Reply.{Reply}
 use Rattle.master_hand.specs.Joins.{fragment_in}
 use Rattle.master_hand.specs.Spoken.{Asked, sdo, file, drive, net, passed}
-use Rattle.packet_model.specs.Packets.{all_fragments, parts}
+use Rattle.packet_model.specs.Packets.{parts}
 use Rattle.packet_model.proofs.Parts.{heard_own, joined_first}
 use Rattle.packets_heard.proofs.Parts.{packets_whole}
 use Rattle.plan_ring.proofs.Valid.{core_is_valid}
@@ -24,8 +23,9 @@ use Rattle.segment_plan.specs.declared.slave.SlaveSpec.{SlaveSpec}
 use Rattle.sent_packets.specs.Sends.{MaySend, Sends, may_send}
 use Rattle.sent_packets.specs.Whole.{AllSendWhole, EraSends, LifeSends, NewestSends, PastSends, heard_in}
 use Rattle.sent_packets.proofs.All.{valid_sends}
-use Rattle.sent_packets.proofs.Cuts.{parts_append, sends_both}
+use Rattle.sent_packets.proofs.Cuts.{sends_both}
 use Rattle.sent_packets.proofs.Emits.{side_emits}
+use Rattle.sent_packets.proofs.Epochs.{heard_cut}
 use Rattle.sent_packets.proofs.Folds.{same_emits, untag_own}
 use Rattle.sent_packets.proofs.Owns.{own_fragment}
 use Rattle.sent_packets.proofs.Stays.{coe_stays, eoe_stays, foe_stays, soe_stays}
@@ -78,8 +78,7 @@ module _ (p : Profile) (is : IsProfile p) where
         some.0,
         record {
           packets = s.packets;
-          cut = ap (parts fragment_in) (untag_own OwnService (emitted emission gives)) ∙ sym (heard_own emission fragment_in own_fragment gives) ∙ s.cut;
-          are = s.are;
+          whole = record { cut = ap (parts fragment_in) (untag_own OwnService (emitted emission gives)) ∙ sym (heard_own emission fragment_in own_fragment gives) ∙ s.whole.cut; are = s.whole.are };
           few = s.few;
         },
       )
@@ -123,14 +122,11 @@ module _ (p : Profile) (is : IsProfile p) where
         let rows = emitted_behind p boot station from (take i.count (services_in e.account.started)) in
         let s = (rows_send from (take i.count (services_in e.account.started)) may).1 in
         let heard = heard_in e in
-        let own : parts fragment_in heard ≡ parts fragment_in (emitted emission heard) = heard_own emission fragment_in own_fragment heard in
-        let first : IsPrefixOf (emitted emission heard) rows = i.emissions in
-        let all : parts fragment_in heard ++ parts fragment_in first.0 ≡ all_fragments p.back s.packets =
-        ap (λ l. l ++ parts fragment_in first.0) own ∙ sym (parts_append (emitted emission heard) first.0) ∙ ap (parts fragment_in) first.1 ∙ s.cut in
+        let all = heard_cut p.back emission own_fragment heard rows s.packets s.whole.cut i.emissions in
         record {
           packets = s.packets;
-          whole = record { cut = s.cut; are = s.are };
-          arrived = joined_first p.back is.back_least s.packets s.are (parts fragment_in heard) (parts fragment_in first.0) all;
+          whole = s.whole;
+          arrived = joined_first p.back is.back_least s.packets s.whole.are (parts fragment_in heard) (parts fragment_in i.emissions.0) all;
           joined = packets_whole None heard;
         }
 

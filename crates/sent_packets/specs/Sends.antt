@@ -50,11 +50,15 @@ pub record MaySend (s : Station Core) : Type 0 where
   pub table : is_table s.app.objects ≡ true
   pub frame : s.frame < 16
 
--- MAILS THAT A SLAVE SENDS OF ITSELF are, but for emergencies, the fragments of packets of 14 to 1,514 octets, which weigh no more than this
+-- MAILS THAT A SLAVE SENDS OF ITSELF, through a mailbox of this length, have just all fragments of these packets, in order; each packet has 14 to 1,514 octets
+pub record AreWhole (room : ℕ) (sent : List Body) (packets : List Emitted) : Type 0 where
+  pub cut : parts fragment_in sent ≡ all_fragments room packets
+  pub are : ArePackets packets
+
+-- THERE ARE SUCH PACKETS, and they weigh no more than this
 pub record Sends (weigh : List ℕ → ℕ) (room : ℕ) (mails : List Body) (most : ℕ) : Type 0 where
   pub packets : List Emitted
-  pub cut : parts fragment_in mails ≡ all_fragments room packets
-  pub are : ArePackets packets
+  pub whole : AreWhole room mails packets
   pub few : sum_by weigh (octets_of packets) ≤ most
 
 -- a mail of EoE, by which a packet may come to a slave

@@ -1,5 +1,5 @@
 -- EACH EPOCH OF A SLAVE SENDS WHOLE PACKETS: what its carried out rows emit are, but for emergencies, all fragments of packets, and of these the first came in.
-use Rattle.std.specs.Prelude.{◌≡◌, ℕ, Bool, None, List, [], ◌∷◌, ◌++◌, take, ⊤}
+use Rattle.std.specs.Prelude.{◌≡◌, ◌≤◌, ℕ, zero, suc, Bool, None, List, [], ◌∷◌, ◌++◌, length, take, ⊤}
 use Rattle.eoe.specs.Joining.{joins}
 use Rattle.exchange_model.specs.Rows.{heard_all}
 use Rattle.life_model.specs.Lives.{Era, Life, Stand}
@@ -7,13 +7,14 @@ use Rattle.link_mails.specs.Body.{Body}
 use Rattle.master_duty.specs.Reply.{Reply}
 use Rattle.master_hand.specs.Joins.{fragment_in, packets_in}
 use Rattle.master_hand.specs.Spoken.{Asked}
-use Rattle.packet_model.specs.Packets.{ArePackets, Emitted, HasArrived, all_fragments, parts, wholes}
+use Rattle.packet_model.specs.Packets.{Emitted, HasArrived, parts, wholes}
 use Rattle.packets_heard.specs.Heard.{Times, ended}
 use Rattle.plan_ring.specs.of_slave_server.Serving.{Serving}
 use Rattle.plan_ring.specs.of_slave_server.Spec.{profile_of}
 use Rattle.run_work.specs.Lives.{first_server}
 use Rattle.segment_model.specs.Seats.{rows_of}
 use Rattle.segment_plan.specs.declared.slave.SlaveSpec.{SlaveSpec}
+use Rattle.sent_packets.specs.Sends.{AreWhole}
 use Rattle.served_rings.specs.Served.{AllServeSo, AreServedEras, IsServedEra, IsServedLife, IsServedNewest, emitted_behind}
 use Rattle.served_runs.specs.Served.{Serves}
 use Rattle.slave_model.specs.Profile.{Profile}
@@ -22,12 +23,7 @@ use Rattle.slave_steps.specs.Node.{Node}
 use Rattle.state_exchange.specs.Families.{InState}
 use Rattle.task_model.specs.Promise.{services_in}
 
--- MAILS THAT A SLAVE SENDS OF ITSELF, through a mailbox of this length, have just all fragments of these packets, in order; each packet has 14 to 1,514 octets
-pub record AreWhole (room : ℕ) (sent : List Body) (packets : List Emitted) : Type 0 where
-  pub cut : parts fragment_in sent ≡ all_fragments room packets
-  pub are : ArePackets packets
-
--- THERE ARE SUCH PACKETS, and of the mails that were heard the first of them are joined, each whole as it was sent, and no fragment is dropped: just the packets that
+-- THERE ARE PACKETS OF WHICH THESE MAILS HAVE JUST ALL FRAGMENTS, and of the mails that were heard the first of them are joined, each whole as it was sent, and no fragment is dropped: just the packets that
 -- these mails complete for their master
 pub record ArriveWhole (room : ℕ) (sent heard : List Body) : Type 0 where
   pub packets : List Emitted
@@ -81,3 +77,14 @@ abbrev pub AllAreHeard : List Serves → List Times → Type 0
 AllAreHeard [] [] = ⊤
 AllAreHeard (w ∷ ws) (t ∷ ts) = AreHeard w.lead.lived.life t × AllAreHeard ws ts
 AllAreHeard _ _ = ⊥
+
+-- the mails that were heard in the rows of the epochs of the slave at a place, of each epoch that heard one
+abbrev pub heard_at : List Serves → ℕ → List (List Body)
+heard_at [] k = []
+heard_at (w ∷ ws) zero = heard_over (w.lead.lived.life.past ++ w.lead.lived.life.era ∷ [])
+heard_at (w ∷ ws) (suc k) = heard_at ws k
+
+-- packets of at least 14 octets, as each that is sent has
+abbrev pub AreLong : List (List ℕ) → Type 0
+AreLong [] = ⊤
+AreLong (p ∷ ps) = (14 ≤ length p) × AreLong ps

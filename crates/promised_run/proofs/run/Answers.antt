@@ -8,7 +8,7 @@ pub returns-clause-promise : goal.returns-clause-promise
 returns-clause-promise c =
     let plan = c.args.plan.now in
     promised plan c.run.new.book c.run.result c.requires.plan (known plan c.requires.told) c.served_replies_law.ensures
-    (c.run_served_law.ensures (lens_of plan.slaves) plan.recover plan.retry plan.paces (first_leads plan)) c.whole_packets_law.ensures c.accepted_law.ensures.runs (c.plan_due_law.ensures plan c.requires.plan (known plan c.requires.told)) (c.read_promise_law.ensures plan c.requires.plan c.requires.told) (c.script_run_law.ensures plan) (c.epochs_law.ensures.states (lens_of plan.slaves) plan plan.retry) (c.rest_promise_law.ensures.rests plan) (c.rest_promise_law.ensures.done plan) c.run.ensures.frames c.run.ensures.ends c.run.ensures.ending c.run.ensures.led
+    (c.run_served_law.ensures (lens_of plan.slaves) plan.recover plan.retry plan.paces (first_leads plan)) c.whole_packets_law.ensures.whole c.whole_packets_law.ensures.long c.accepted_law.ensures.runs (c.plan_due_law.ensures plan c.requires.plan (known plan c.requires.told)) (c.read_promise_law.ensures plan c.requires.plan c.requires.told) (c.script_run_law.ensures plan) (c.epochs_law.ensures.states (lens_of plan.slaves) plan plan.retry) (c.rest_promise_law.ensures.rests plan) (c.rest_promise_law.ensures.done plan) c.run.ensures.frames c.run.ensures.ends c.run.ensures.ending c.run.ensures.led
 
 pub returns-clause-bounded : goal.returns-clause-bounded
 returns-clause-bounded c =

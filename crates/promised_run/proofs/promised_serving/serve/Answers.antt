@@ -45,7 +45,7 @@ returns-clause-ports g c =
 
 pub returns-clause-sends : goal.returns-clause-sends
 returns-clause-sends g c =
-    all_send c.args.plan.now c.requires.plan (known c.args.plan.now c.requires.told) c.whole_packets_law.ensures c.served_replies_law.ensures c.accepted_law.ensures.servings c.args.count c.serve.new.book c.serve.ensures.frames (returns-clause-ports g c)
+    all_send c.args.plan.now c.requires.plan (known c.args.plan.now c.requires.told) c.whole_packets_law.ensures.whole c.whole_packets_law.ensures.long c.served_replies_law.ensures c.accepted_law.ensures.servings c.args.count c.serve.new.book c.serve.ensures.frames (returns-clause-ports g c)
 
 pub returns-clause-given : goal.returns-clause-given
 returns-clause-given g c =
