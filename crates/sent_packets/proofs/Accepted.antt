@@ -1,5 +1,5 @@
 -- THE MAILS ACCEPTED EACH TIME that a slave was open are those that were heard in the rows of its epochs, whatever mails are passed on.
-use Rattle.std.proofs.Common.{◌≡◌, ◌&&◌, ℕ, suc, Bool, true, All, None, Some, List, [], ◌∷◌, ◌++◌, map, length, refl, sym, ap, ◌∙◌, subst, ap₂, append-nil, append_assoc}
+use Rattle.std.proofs.Common.{◌≡◌, ℕ, suc, Bool, All, None, Some, List, [], ◌∷◌, ◌++◌, map, length, refl, sym, ap, ◌∙◌, subst, ap₂, append-nil, append_assoc}
 use Rattle.std.proofs.lemmas.List.Elements.{All-cons, All-head, All-nil, All-tail}
 use Rattle.exchange_model.specs.Rows.{heard_all}
 use Rattle.frame_view.specs.View.{Lens}
@@ -19,10 +19,8 @@ use Rattle.plan_ring.specs.Round.{AllRound, all_seen, ring_of}
 use Rattle.plan_ring.specs.of_slave_server.Seen.{seen_in}
 use Rattle.plan_ring.specs.of_slave_server.Serving.{Serving}
 use Rattle.plan_ring.specs.of_slave_server.Spec.{profile_of, server_of}
-use Rattle.run_work.proofs.of_life_counts.Eras.{Knows, era_knows}
-use Rattle.run_work.proofs.of_life_counts.TaggedWhole.{epoch_seen, seeing_lawful, seeing_stated}
 use Rattle.run_work.specs.Sessions.{Meant}
-use Rattle.run_work.specs.of_life_counts.Epochs.{IsSeen, IsSpeaker, between}
+use Rattle.run_work.specs.of_life_counts.Epochs.{IsSeen, IsSpeaker}
 use Rattle.segment_model.specs.Record.{Frame, Kept, kept_all, nothing_kept}
 use Rattle.segment_plan.specs.Sound.{IsPlan, IsSlave}
 use Rattle.segment_plan.specs.declared.plan.Scenario.{Scenario}
@@ -33,21 +31,22 @@ use Rattle.sent_packets.proofs.Live.{IsLive, IsNew, IsTally}
 use Rattle.sent_packets.proofs.Seen.{kept_as}
 use Rattle.sent_packets.proofs.Times.{TracksAs, TracksShut, shut_now}
 use Rattle.sent_packets.proofs.Tracked.{AllLive, AllTrack, ReturnsLaw, run_tracks, served_tracks}
-use Rattle.served_rings.proofs.Mails.{all_mails, is_mail, mailer, mailer_runs, mailer_speaks}
+use Rattle.served_rings.proofs.Emitted.{knows}
+use Rattle.served_rings.proofs.Heard.{seen_so}
+use Rattle.served_rings.proofs.Mails.{mailer, mailer_speaks}
 use Rattle.served_rings.specs.Clearing.{serves_clearing}
 use Rattle.served_rings.specs.Led.{LedEra}
 use Rattle.served_rings.specs.LedRings.{AllLedMembers}
 use Rattle.served_rings.specs.Lives.{IsLedLived, LedKept, LedLeft, LedYet}
 use Rattle.served_rings.specs.Rings.{AllServedAt, AreServedLived, counters_of, served_members}
 use Rattle.served_rings.specs.Serves.{serves}
-use Rattle.served_rings.specs.Speakers.{naming_of, processor_of, seer_of, speaker, spoken, table_of, whole_states}
+use Rattle.served_rings.specs.Speakers.{seer_of, speaker, table_of}
 use Rattle.served_rings.specs.ToldEras.{AllToldLives, IsToldEra, IsToldLife, IsToldNewest}
 use Rattle.served_runs.specs.Served.{IsRunOf, IsServedLed, Serves, all_serve}
 use Rattle.slave_lives.specs.Lived.{Behind, node_seen}
 use Rattle.slave_lives.specs.Opening as Opening
 use Rattle.slave_model.specs.Profile.{IsProfile, Profile}
-use Rattle.slave_parts.specs.Parts.{Server, parts}
-use Rattle.slave_served.specs.Served.{product_whole}
+use Rattle.slave_parts.specs.Parts.{Server}
 use Rattle.slave_steps.specs.Node.{Node}
 use Rattle.state_exchange.specs.Families.{InState}
 use Rattle.whole_ring.specs.Whole.{LivesOpenBy, StandsBy}
@@ -87,29 +86,16 @@ module _ (p : Profile) (speaks : IsSpeaker (speaker p)) (boot : Bool) (lens : �
   k = mailer_speaks p speaks
 
   module _ (from : InState Server) (counts : Bool) (e : Era Body Asked Reply) (fs : List (Frame Body)) (n : Node Serving) (l : LedEra (serves p boot lens) is_followed is_passed spot from counts e fs n) where
-    seen_so : IsSeen (mailer p) (seer_of p boot) (table_of boot) spot l.opened l.server l.registers fs counts e (node_seen (serves p boot lens) n)
-    seen_so =
-        let plan = l.plan in
-        epoch_seen (mailer p) k (spoken p) (processor_of boot) (seer_of p boot) (table_of boot) spot (mailer_runs p boot spot.station) l.opened l.server l.registers
-        (record {
-          plan = record { stations = plan.plan.stations; ready = (ap (λ (a : Bool). a && true) plan.plan.ready.0, tt) };
-          apart = plan.apart;
-          tells = λ state v. refl;
-          brought = ((plan.brought.0.0, λ answers. let b = plan.brought.0.1 answers in record { control = b.control; refused = b.refused; sits = b.sits; state = b.state }), tt);
-        }) l.answers fs counts e (node_seen (serves p boot lens) n) l.led (all_mails p e.account.started)
+    seen : IsSeen (mailer p) (seer_of p boot) (table_of boot) spot l.opened l.server l.registers fs counts e (node_seen (serves p boot lens) n)
+    seen = seen_so p speaks boot lens spot l.opened l.server l.registers l.plan l.answers fs counts e (node_seen (serves p boot lens) n) l.led
 
     module _ (i : IsSeen (mailer p) (seer_of p boot) (table_of boot) spot l.opened l.server l.registers fs counts e (node_seen (serves p boot lens) n)) where
       abbrev seen_frames : List (Frame Meant)
       seen_frames = era_frames spot l.opened (length i.frames) i.frames
 
-      knows : Knows (product_whole parts p) (λ (a : InState Server). true) is_mail whole_states (naming_of p).more k.last seen_frames spot.station i.era.side i.era.account
-      knows =
-          era_knows (product_whole parts p) (mailer p).core k.served (λ a. true) is_mail whole_states k.stated (seeing_lawful (mailer p) k) (seeing_stated (mailer p) k) (seer_of p boot) (table_of boot) spot i.era l.opened (length i.frames) i.frames (between l.server) l.registers i.slave i.is
-          refl i.right (naming_of p).more k.last
-
       last_is : e.side.halves.inn.last ≡ (kept_all spot.station nothing_kept (era_frames spot l.opened (length fs) fs)).heard
       last_is =
-          ap (λ (d : Era Body Asked Reply). d.side.halves.inn.last) (sym i.named) ∙ knows.kept
+          ap (λ (d : Era Body Asked Reply). d.side.halves.inn.last) (sym i.named) ∙ (knows p k boot spot l.opened l.server l.registers fs counts e (node_seen (serves p boot lens) n) i).kept
           ∙ ap (λ (c : Kept). c.heard) (sym (kept_as (λ (t : Meant). t.mail) spot.station nothing_kept seen_frames) ∙ ap (kept_all spot.station nothing_kept) i.same)
 
       opened_is : e.opened ≡ Some l.opened
@@ -118,12 +104,12 @@ module _ (p : Profile) (speaks : IsSpeaker (speaker p)) (boot : Bool) (lens : �
     -- and of what it heard its rows have all
     era_live : (past : List (Era Body Asked Reply)) (stand : Stand) (gave : List ℕ) {S V A : Type 0} (u : Behind S V A Asked Reply) → IsToldEra u spot fs e (length fs) → IsLive Rows spot fs (record { past = past; era = e; stand = stand; gave = gave })
     era_live past stand gave u t =
-        let same : l.opened ≡ t.opened = (let both : Some l.opened ≡ Some t.opened = sym (opened_is seen_so) ∙ t.opened_at in cc) in
+        let same : l.opened ≡ t.opened = (let both : Some l.opened ≡ Some t.opened = sym (opened_is seen) ∙ t.opened_at in cc) in
         record {
           opened = t.opened;
           opened_at = t.opened_at;
           before = t.before;
-          last = subst (λ o. e.side.halves.inn.last ≡ (kept_all spot.station nothing_kept (era_frames spot o (length fs) fs)).heard) same (last_is seen_so);
+          last = subst (λ o. e.side.halves.inn.last ≡ (kept_all spot.station nothing_kept (era_frames spot o (length fs) fs)).heard) same (last_is seen);
           told = λ before told. rows_on before _ past e t.in_rows told;
         }
 

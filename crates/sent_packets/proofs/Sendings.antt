@@ -1,5 +1,5 @@
 -- EACH EPOCH OF A LIFE sends whole packets, whatever mails are passed on in it.
-use Rattle.std.proofs.Common.{◌≡◌, ℕ, Bool, true, false, None, All, List, [], ◌∷◌, ◌++◌, length, map, take, Ok, refl, sym, ap, ◌∙◌, subst, arith}
+use Rattle.std.proofs.Common.{◌≡◌, ℕ, Bool, true, false, None, All, List, [], ◌∷◌, length, map, take, Ok, refl, sym, ap, ◌∙◌, subst, arith}
 use Rattle.std.specs.Prelude.{sum_by}
 use Rattle.std.proofs.lemmas.List.Elements.{All-head, All-tail}
 use Rattle.exchange_model.specs.Exchange.{Exchange, emitted}

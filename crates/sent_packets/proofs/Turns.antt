@@ -26,12 +26,13 @@ use Rattle.segment_model.specs.Returned.{Returns}
 use Rattle.segment_model.specs.Slaves.{Access, Datagram, grams}
 use Rattle.segment_ring.specs.declared.wire.Fate.{Fate}
 use Rattle.segment_ring.specs.declared.wire.Fate.TheVariants.{Pass, Lost}
+use Rattle.served_rings.proofs.SideHeard.{next_heard, next_inn}
 use Rattle.served_runs.specs.Served.{Serves, ServedTurn, IsServedTurn, served_life}
 use Rattle.state_exchange.specs.Stated.{Service}
 use Rattle.task_model.specs.Accounts.{Account, Duty, Stage, account_back, account_met, account_by, access_done}
 use Rattle.task_model.specs.Promise.{services_in}
 use Rattle.slave_lives.specs.Rings.{fate_seen}
-use Rattle.sent_packets.proofs.Calm.{IsCalm, back_heard, begins_more, begins_calm, next_heard, next_inn}
+use Rattle.sent_packets.proofs.Calm.{IsCalm, back_heard, begins_more, begins_calm}
 use Rattle.sent_packets.proofs.Live.{Grows, IsLive, IsTally}
 use Rattle.sent_packets.proofs.Times.{TracksOpen, TracksShut, TracksAs, Tracks, shut_now, gives_tracks, opening_tracks, shut_stays, gone_tracks, over_shuts, open_tracks}
 
@@ -310,11 +311,11 @@ module _ (R : List (List Body) → List (Era Body Asked Reply) → Type 0) (tall
     opened = live.opened;
     opened_at = live.opened_at;
     before = live.before;
-    last = ap (λ (i : Rattle.link_model.specs.Master.InHalf). i.last) (next_inn x acknowledged (length gs) l.era.side (Rattle.task_model.specs.Accounts.mails_choice l.era.account (granted l.era.passing pick))) ∙ live.last;
+    last = ap (λ (i : Rattle.link_model.specs.Master.InHalf). i.last) (next_inn x (length gs) l.era.side (Rattle.task_model.specs.Accounts.mails_choice l.era.account (granted l.era.passing pick))) ∙ live.last;
     told = λ past told. tally.grows (ended past (heard spot.station (era_frames spot live.opened (length gs) gs))) l.past l.era (next Stand.Open).era
         (record {
           services = begins_more x acknowledged (length gs) l.era.side l.era.account l.era.account.hand wish;
-          heard = sym (next_heard x acknowledged (length gs) l.era.side (Rattle.task_model.specs.Accounts.mails_choice l.era.account (granted l.era.passing pick)));
+          heard = sym (next_heard x (length gs) l.era.side (Rattle.task_model.specs.Accounts.mails_choice l.era.account (granted l.era.passing pick)));
         }) (live.told past told);
   }
 

@@ -17,46 +17,20 @@ use Rattle.segment_model.proofs.Answers.{kept_all-push, kept_of}
 use Rattle.segment_model.proofs.Links.{served_gives}
 use Rattle.segment_model.proofs.News.{heard_frame, kept_back}
 use Rattle.segment_model.proofs.Openings.{opening_heard, opening_kept}
-use Rattle.segment_model.proofs.Sounds.{SeatAgrees, began_halves, frame_agrees, next_agrees, step_agrees}
+use Rattle.segment_model.proofs.Sounds.{SeatAgrees, frame_agrees, next_agrees, step_agrees}
 use Rattle.segment_model.specs.Record.{Frame, heard, heard_behind, nothing_kept}
 use Rattle.segment_model.specs.Seats.{Choice, IsFrame, IsOpening, Planned, Seat, Side, is_over, link_of, new_seats, newest, next_mail, ring_of, rows_of, seat_back, seat_next, seat_steps, seat_steps_at, seats_after, seats_next, seats_step, side_back, side_begins, side_holds, side_lost, side_next, side_takes_up, sides_of}
 use Rattle.segment_model.specs.Slaves.{Datagram, Processor, Registers, Slave, grams, ring_back, serving, slave_after, slave_steps, state_told}
+use Rattle.served_rings.proofs.SideHeard.{next_heard, next_inn}
 use Rattle.state_exchange.specs.Stated.{Stated}
 use Rattle.state_model.specs.States.{Table}
 use Rattle.task_model.proofs.Moves.{server_after}
 use Rattle.task_model.specs.Tasks.{MayRun, TaskSession, TaskTurn, happens, mails_choices, new_tasks, run}
 
--- ---- a side: what comes into hand heard nothing yet, and a mail that is taken up lets nothing be heard
+-- ---- what is heard in the rows of a side
 module _ {V A M Q R : Type 0} (x : Exchange V A M Q R) where
   abbrev heard_in : Side M Q R → List M
   heard_in d = heard_all (rows_of d)
-
-  begins_heard : (frame : ℕ) (d : Side M Q R) (now : Option (Row M Q R)) → d.now ≡ now → (begin : Option Q) → heard_in (side_begins x.speech frame d now begin) ≡ heard_in d
-  begins_heard frame d None is None = refl
-  begins_heard frame d (Some r) is None = refl
-  begins_heard frame d None is (Some q) = go (x.speech.valid q)
-    where
-      go : (b : Bool) → heard_in (if b then record d { now = Some (begun q frame) } else d) ≡ heard_in d
-      go true = heard_all_last d.past (begun q frame) ∙ append-nil (heard_all d.past) ∙ sym (ap heard_all (ap (λ n. d.past ++ newest n) is ∙ append-nil d.past))
-      go false = refl
-  begins_heard frame d (Some r) is (Some q) = go (x.speech.valid q && is_over x.speech d.halves.out.holding d.fresh r)
-    where
-      go : (b : Bool) → heard_in (if b then record d { past = d.past ++ r ∷ []; now = Some (begun q frame) } else d) ≡ heard_in d
-      go true = heard_all_last (d.past ++ r ∷ []) (begun q frame) ∙ append-nil (heard_all (d.past ++ r ∷ [])) ∙ sym (ap (λ n. heard_all (d.past ++ newest n)) is)
-      go false = refl
-
-  holds_heard : (d : Side M Q R) (ms : List M) → heard_in (side_holds d ms) ≡ heard_in d
-  holds_heard d [] = refl
-  holds_heard d (m ∷ ms) = go d.now
-    where
-      go : (now : Option (Row M Q R)) → heard_all (d.past ++ newest (option_map (λ r. row_told m r) now)) ≡ heard_all (d.past ++ newest now)
-      go None = refl
-      go (Some r) = heard_all_last d.past (row_told m r) ∙ sym (heard_all_last d.past r)
-
-  next_heard : (frame : ℕ) (d : Side M Q R) (c : Choice Q) → heard_in (side_next x.speech frame d c) ≡ heard_in d
-  next_heard frame d c =
-      let e = side_begins x.speech frame d d.now c.begin in
-      holds_heard e (next_mail x.speech e.now e.halves.out.holding c.hold) ∙ begins_heard frame d d.now refl c.begin
 
   -- what is accepted is heard in the newest row
   back_heard : (frame station : ℕ) (back : List (Datagram M)) (d : Side M Q R) (r : Row M Q R) → d.now ≡ Some r → heard_in (side_back x.speech frame station back d) ≡ heard_in d ++ all_accepted station d.halves (grams back)
@@ -64,16 +38,6 @@ module _ {V A M Q R : Type 0} (x : Exchange V A M Q R) where
       let ms = all_accepted station d.halves (grams back) in
       ap (λ n. heard_all (d.past ++ newest (option_map (λ k. row_heard x.speech frame ms k) n))) is ∙ heard_all_last d.past (row_heard x.speech frame ms r) ∙ sym (append_assoc (heard_all d.past) r.heard ms)
       ∙ ap (λ l. l ++ ms) (sym (ap (λ n. heard_all (d.past ++ newest n)) is ∙ heard_all_last d.past r))
-
-  -- the inward half stays by a choice
-  holds_inn : (d : Side M Q R) (ms : List M) → (side_holds d ms).halves.inn ≡ d.halves.inn
-  holds_inn d [] = refl
-  holds_inn d (m ∷ ms) = refl
-
-  next_inn : (frame : ℕ) (d : Side M Q R) (c : Choice Q) → (side_next x.speech frame d c).halves.inn ≡ d.halves.inn
-  next_inn frame d c =
-      let e = side_begins x.speech frame d d.now c.begin in
-      holds_inn e (next_mail x.speech e.now e.halves.out.holding c.hold) ∙ ap (λ h. h.inn) (began_halves x frame d d.now c.begin)
 
 -- a lost frame leaves the counter of the last mail heard
 lost_last : {M : Type 0} (h : Halves M) (ask : Ask M) → (halves_lost h ask).inn.last ≡ h.inn.last
@@ -133,8 +97,8 @@ module _ {V A M Q R : Type 0} (x : Exchange V A M Q R) (acknowledged : Q → Boo
   next_kept : (fs : List (Frame M)) (s : Seat V M Q R) (c : Choice Q) → Kept fs s → Kept fs (seat_next x (length fs) s c)
   next_kept fs s c k = record {
     agrees = next_agrees x (length fs) s c k.agrees;
-    last = ap (λ h. h.last) (next_inn x (length fs) s.side c) ∙ k.last;
-    rows = k.rows ∙ sym (next_heard x (length fs) s.side c);
+    last = ap (λ h. h.last) (next_inn x.speech (length fs) s.side c) ∙ k.last;
+    rows = k.rows ∙ sym (next_heard x.speech (length fs) s.side c);
     none = λ gone. (let h = next_none (length fs) s.side c gone in λ j. k.none h.0 j ++ h.1 j);
     quiet = k.quiet;
   }

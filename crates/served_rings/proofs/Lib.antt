@@ -7,7 +7,7 @@ mod Calms
 mod Carried
 pub mod Chains
 pub mod Counted
-mod Emitted
+pub mod Emitted
 mod Ended
 pub mod Ends
 pub mod Epochs
@@ -15,7 +15,7 @@ pub mod Fair
 pub mod Frames
 pub mod Gifts
 mod Given
-mod Heard
+pub mod Heard
 pub mod HeardSeen
 mod HeardTold
 pub mod Kept
@@ -47,6 +47,7 @@ pub mod SeenWhole
 pub mod ServedAll
 pub mod ServedLives
 pub mod Sessions
+pub mod SideHeard
 pub mod Singles
 pub mod Slaves
 pub mod Speakers
