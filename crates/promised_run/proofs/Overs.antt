@@ -19,7 +19,8 @@ use Rattle.promised_run.proofs.Numbers.{all_numbers, all_packets}
 use Rattle.promised_run.proofs.Ports.{all_ports}
 use Rattle.promised_run.proofs.Reported.{all_reported}
 use Rattle.promised_run.proofs.Rounds.{all_round, same_ring}
-use Rattle.promised_run.proofs.SentWhole.{LongLaw, RunAcceptedLaw, WholeLaw, run_sends}
+use Rattle.promised_run.proofs.SentWhole.{run_sends}
+use Rattle.sent_packets.specs.Laws.{PacketsAreLong, RunsHear, SlavesSendWhole}
 use Rattle.promised_run.proofs.Through.{RepliesLaw}
 use Rattle.promised_run.proofs.Unopened.{all_opened}
 use Rattle.promised_run.proofs.Unsent.{all_unsent, come_of}
@@ -101,7 +102,7 @@ module _ (plan : Scenario) (book : Book) where
   leaves_nothing law done leads kept endings.Unfinished ends rest = tt
 
   -- the promise, by the ending that the book has
-  promised_by : IsPlan plan → IsKnown plan → RepliesLaw → RunsServe plan → WholeLaw → LongLaw → RunAcceptedLaw → MailsAreDue plan → Promises plan → Comes plan → Opens plan → Rests plan → Finishes plan → HasFrames plan book → EndsAs plan book book.ending → LedBook plan book book.ending → IsPromised plan book
+  promised_by : IsPlan plan → IsKnown plan → RepliesLaw → RunsServe plan → SlavesSendWhole → PacketsAreLong → RunsHear → MailsAreDue plan → Promises plan → Comes plan → Opens plan → Rests plan → Finishes plan → HasFrames plan book → EndsAs plan book book.ending → LedBook plan book book.ending → IsPromised plan book
   promised_by sound known replies runs whole long accepted due law comes opens rests done frames ends led =
       let fs : List Exchanged = map exchanged book.frames in
       let round : AllRound (ring_of plan) fs = all_round (first_ring plan) book.frames frames.recorded in
@@ -111,6 +112,6 @@ module _ (plan : Scenario) (book : Book) where
       record { led = led; kept = kept; slaves = same_slaves; over = leaves_nothing rests done led.leads kept book.ending ends led.rests; served = served; reported = λ ok. all_reported plan fs 0 plan.slaves led.leads (slaves_behind plan fs) book.slaves kept.each (all_opened (lens_of plan.slaves) plan plan.retry fs led.missed led.leads led.lives) (led.answers ok); unsent = λ ok. all_unsent plan 0 led.leads book.slaves (come_of plan 0 plan.slaves led.leads (comes fs led.missed led.leads led.lives)) (led.unsent ok); epochs = λ ok. all_caused led.leads book.slaves (led.epochs ok) (led.gave ok) (opens fs led.missed led.leads led.lives); emergencies = λ ok. all_emergencies (heard_in led.lives) book.slaves (led.heard ok); packets = led.packets; ports = ports; sends = run_sends plan sound known whole long accepted book led.missed led.leads led.lives round served ports; visits = all_visit plan sound comes fs led.tour led.leads led.toured; outlived = outlived plan book frames ends led; numbers = λ ok. all_numbers plan led.lives book (led.listed ok) (led.numbered ok) (led.answers ok) (led.gave ok) ends ok; forwards = λ ok. all_packets plan led.lives book (led.forwards ok); written = all_written plan due book frames led; left = some_left plan due book frames led }
 
 -- THE PROMISE, by the laws for a plan that was read
-pub promised : (plan : Scenario) (book : Book) (ending : Ending) → IsPlan plan → IsKnown plan → RepliesLaw → RunsServe plan → WholeLaw → LongLaw → RunAcceptedLaw → MailsAreDue plan → Promises plan → Comes plan → Opens plan → Rests plan → Finishes plan → HasFrames plan book → EndsAs plan book ending → book.ending ≡ ending → LedBook plan book ending → IsPromised plan book
+pub promised : (plan : Scenario) (book : Book) (ending : Ending) → IsPlan plan → IsKnown plan → RepliesLaw → RunsServe plan → SlavesSendWhole → PacketsAreLong → RunsHear → MailsAreDue plan → Promises plan → Comes plan → Opens plan → Rests plan → Finishes plan → HasFrames plan book → EndsAs plan book ending → book.ending ≡ ending → LedBook plan book ending → IsPromised plan book
 promised plan book ending sound known replies runs whole long accepted due law comes opens rests done frames ends is led =
     promised_by plan book sound known replies runs whole long accepted due law comes opens rests done frames (subst (λ (e : Ending). EndsAs plan book e) (sym is) ends) (subst (λ (e : Ending). LedBook plan book e) (sym is) led)

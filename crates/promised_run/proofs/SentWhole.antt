@@ -1,8 +1,7 @@
 -- EACH EPOCH OF A RUN OR A SERVING sends whole packets, of which the first came in at the port of its slave.
 use Rattle.std.proofs.Common.{◌≡◌, ◌≢◌, ℕ, zero, suc, Some, List, [], ◌∷◌, ◌++◌, map, length, le-ltb, refl, ap, ◌∙◌}
 use Rattle.std.specs.Prelude.{slice_get}
-use Rattle.life_runs.specs.First.{first_leads, lens_of}
-use Rattle.life_runs.specs.Led.{Exchanged, IsLed, Leads}
+use Rattle.life_runs.specs.Led.{Exchanged, Leads}
 use Rattle.plan_ring.specs.Lives.{IsKnown}
 use Rattle.plan_ring.specs.Round.{AllRound, ring_of}
 use Rattle.promised_run.proofs.Rounds.{all_round}
@@ -26,29 +25,9 @@ use Rattle.run_record.specs.of_packets_heard.Listed.{long_ones, long_where}
 use Rattle.run_record.specs.of_packets_heard.Servings.{served_times}
 use Rattle.segment_plan.specs.Sound.{IsPlan}
 use Rattle.segment_plan.specs.declared.plan.Scenario.{Scenario}
-use Rattle.segment_plan.specs.declared.slave.SlaveSpec.{SlaveSpec}
-use Rattle.sent_packets.specs.Whole.{AllAreHeard, AllSendWhole, AreLong, heard_at}
-use Rattle.served_rings.specs.Served.{AllServeSo}
-use Rattle.served_runs.specs.Served.{IsRunOf, IsServedLed, Serves, all_serve}
-use Rattle.slave_server.specs.Serving.{Serving}
-use Rattle.slave_steps.specs.Node.{Node}
-
--- the laws
-abbrev pub WholeLaw : Type 0
-WholeLaw = (plan : Scenario) → IsPlan plan → IsKnown plan → (ws : List Serves) (ns : List (Node Serving)) → (d : AllServeSo plan.slaves ws ns) → AllSendWhole plan.slaves ws ns d
-
-abbrev pub AcceptedLaw : Type 0
-AcceptedLaw =
-    (plan : Scenario) → IsPlan plan → IsKnown plan → (fs : List Exchanged) (missed : ℕ) (ws : List Serves) → (led : IsServedLed (lens_of plan.slaves) plan.recover plan.retry (all_serve plan.paces (first_leads plan)) fs missed ws) →
-    AllRound (ring_of plan) fs → AllAreHeard ws (served_times led)
-
-abbrev pub RunAcceptedLaw : Type 0
-RunAcceptedLaw =
-    (plan : Scenario) → IsPlan plan → IsKnown plan → (fs : List Exchanged) (missed : ℕ) (leads : List Leads) → (led : IsLed (lens_of plan.slaves) plan.recover plan.retry (first_leads plan) fs missed leads) →
-    AllRound (ring_of plan) fs → (ws : List Serves) → IsRunOf ws leads → AllAreHeard ws (times_in led)
-
-abbrev pub LongLaw : Type 0
-LongLaw = (ss : List SlaveSpec) (ws : List Serves) (ns : List (Node Serving)) (d : AllServeSo ss ws ns) → AllSendWhole ss ws ns d → (k : ℕ) → AreLong (packets_of (heard_at ws k))
+use Rattle.sent_packets.specs.Laws.{PacketsAreLong, RunsHear, ServingsHear, SlavesSendWhole}
+use Rattle.sent_packets.specs.Whole.{AllAreHeard, AreLong, heard_at}
+use Rattle.served_runs.specs.Served.{Serves}
 
 -- packets of at least 14 octets all come in
 long_all : (ps : List (List ℕ)) → AreLong ps → long_ones ps ≡ map packet_of ps
@@ -63,7 +42,7 @@ at_place (w ∷ ws) [] all k = absurd all
 at_place (w ∷ ws) (t ∷ ts) all zero = all.0
 at_place (w ∷ ws) (t ∷ ts) all (suc k) = at_place ws ts all.1 k
 
-module _ (plan : Scenario) (is : IsPlan plan) (knows : IsKnown plan) (whole : WholeLaw) (long : LongLaw) where
+module _ (plan : Scenario) (is : IsPlan plan) (knows : IsKnown plan) (whole : SlavesSendWhole) (long : PacketsAreLong) where
   -- BY WHAT THE SLAVES SERVED
   send_whole : (frames : List SentFrame) (ws : List Serves) (times : List Times) → StoodBehind plan frames ws → AllAreHeard ws times → SendWhole plan frames ws times
   send_whole frames ws times stood all = record { served = stood; whole = whole plan is knows ws _ stood.each; heard = at_place ws times all }
@@ -76,7 +55,7 @@ module _ (plan : Scenario) (is : IsPlan plan) (knows : IsKnown plan) (whole : Wh
   has_sent book ws times sends come = record { sends = sends; arrive = λ memory k port at. come memory k port at ∙ ap (λ mss. long_ones (packets_of mss)) (sends.heard k) ∙ long_all (packets_of (heard_at ws k)) (long plan.slaves ws _ sends.served.each sends.whole k) }
 
   -- OF A SERVING, by each account of its book
-  pub all_send : RepliesLaw → AcceptedLaw → (count : ℕ) (book : Book) → HasSent plan count book → IsServedAtPorts plan count book → IsServedSentWhole plan count book
+  pub all_send : RepliesLaw → ServingsHear → (count : ℕ) (book : Book) → HasSent plan count book → IsServedAtPorts plan count book → IsServedSentWhole plan count book
   all_send replies accepted count book sent ports = λ a.
       let l = a.answers.serving.leading in
       let fs : List Exchanged = map exchanged book.frames in
@@ -86,7 +65,7 @@ module _ (plan : Scenario) (is : IsPlan plan) (knows : IsKnown plan) (whole : Wh
       (λ memory k port at. ((ports memory a).ports k port at).arrived)
 
   -- OF A RUN
-  pub run_sends : RunAcceptedLaw → (book : Book) (missed : ℕ) (leads : List Leads) (led : LeadTo plan (map exchanged book.frames) missed leads) → AllRound (ring_of plan) (map exchanged book.frames) → (served : ServesAlone plan book leads) →
+  pub run_sends : RunsHear → (book : Book) (missed : ℕ) (leads : List Leads) (led : LeadTo plan (map exchanged book.frames) missed leads) → AllRound (ring_of plan) (map exchanged book.frames) → (served : ServesAlone plan book leads) →
       (book.ending ≢ endings.NoMemory → AllHavePorts plan led book) → HasSentWhole plan book served.serves (times_in led)
   run_sends accepted book missed leads led round served ports =
       has_sent book served.serves (times_in led) (send_whole book.frames served.serves (times_in led) served.slaves (accepted plan is knows (map exchanged book.frames) missed leads led round served.serves served.alone))

@@ -4,7 +4,6 @@
 ghost use Rattle.std.specs.Prelude.{◌≡◌, ◌++◌, ℕ, List, All};
 ghost use Rattle.arrayvec.specs.ArrayVec.{ArrayVec};
 ghost use Rattle.eoe_switch.specs.declared.switching.SwitchEvent.{SwitchEvent};
-ghost use Rattle.life_runs.specs.First.{first_leads, lens_of};
 ghost use Rattle.life_runs.specs.Led.{Exchanged};
 ghost use Rattle.packets_heard.specs.of_master_node.Happened.{arrivals_at};
 ghost use Rattle.packets_heard.specs.of_master_node.Ports.{IsAtPort, ports_behind, ports_of};
@@ -16,12 +15,12 @@ ghost use Rattle.run_work.specs.Switched.{AreSwitched};
 ghost use Rattle.segment_plan.specs.Sound.{IsPlan};
 ghost use Rattle.segment_plan.specs.declared.plan.Scenario.{Scenario};
 ghost use Rattle.sent_packets.specs.Quiet.{AsksQuiet};
-ghost use Rattle.served_runs.specs.Served.{IsServedLed, Serves, all_serve};
+ghost use Rattle.served_runs.specs.Served.{ServeTo, Serves};
 
 /// THE PACKETS OF A SERVING ARE THOSE OF ONE SWITCH, where its events are just those that the frames list, at the ports of the plan, as over a run: whatever mails
 /// are asked between the frames, if they are fair and none of EoE.
 pub fn switched_serving_law()
-    ensures { (plan : Scenario) → IsPlan plan → IsKnown plan → (fs : List Exchanged) (missed : ℕ) (ws : List Serves) → (led : IsServedLed (lens_of plan.slaves) plan.recover plan.retry (all_serve plan.paces (first_leads plan)) fs missed ws) → AllRound (ring_of plan) fs → All AsksQuiet ws →
+    ensures { (plan : Scenario) → IsPlan plan → IsKnown plan → (fs : List Exchanged) (missed : ℕ) (ws : List Serves) → (led : ServeTo plan fs missed ws) → AllRound (ring_of plan) fs → All AsksQuiet ws →
         (es : List SwitchEvent) (rest : List (ArrayVec ℕ)) → All (IsAtPort (ports_of plan.slaves)) es → arrivals_at 0 es ++ rest ≡ plan.host →
         ServedListed (ports_behind 0 plan.slaves) led es → AreServedBegun (ports_behind 0 plan.slaves) (ports_of plan.slaves) led es → AreSwitched plan (leads_of ws) }
 {

@@ -22,7 +22,6 @@ pub mod Kept
 pub mod Led
 pub mod LedLives
 pub mod Leds
-pub mod Lived
 pub mod Lives
 pub mod Mails
 pub mod Newest

@@ -18,7 +18,8 @@ ghost use Rattle.plan_ring.specs.of_whole_ring.Turning.{AllTurn, Turn, behind_fr
 
 /// THE LIVES OF A RING'S SLAVES ARE LED from the moment these are switched on; and by each exchange of a frame that the master made, where mails that are passed
 /// on go on by the news that the records say of it; and the records' counters are those that stand behind it. Each epoch begins with what its slave had, cleared,
-/// behind the frame that showed the return to Init before it.
+/// behind the frame that showed the return to Init before it, and a slave that is given up for good while it is open stays up and lives its epoch on. Lives that
+/// are so are lives that are led.
 pub fn led_ring_law<S, V, A, Q, R>()
     ensures begins { (lens : ℕ → Lens) (step : Node S → Node S) (test : Spot → S → Bool) (more : Body → Bool) (passed : Q → Bool) (nodes : ℕ → List (Node S)) (ms : List (Member S V A Q R)) (ks : List Counters) → length ks ≡ length ms → AllNew lens step (Passes test) 0 ms →
         AllStoodMembers more passed nodes [] ms ks }

@@ -2,7 +2,6 @@
 //! a law, no running code: the function here does nothing, and its contract states the law.
 #![tactic(auto)]
 
-ghost use Rattle.served_runs.specs.of_life_runs.First.{first_leads, lens_of};
 ghost use Rattle.served_runs.specs.of_life_runs.Led.{Exchanged};
 ghost use Rattle.plan_ring.specs.Lives.{IsKnown};
 ghost use Rattle.plan_ring.specs.Round.{AllRound, ring_of};
@@ -11,7 +10,7 @@ ghost use Rattle.run_work.specs.Lives.{AllServedLives};
 ghost use Rattle.segment_plan.specs.Sound.{IsPlan};
 ghost use Rattle.segment_plan.specs.declared.plan.Scenario.{Scenario};
 ghost use Rattle.served_rings.specs.Rings.{AreServedLived};
-ghost use Rattle.served_runs.specs.Served.{IsServedLed, Serves, all_serve};
+ghost use Rattle.served_runs.specs.Served.{ServeTo, Serves};
 ghost use Rattle.std.specs.Prelude.{ℕ, All, List};
 
 pub mod era_counters;
@@ -19,7 +18,6 @@ pub mod given_rows;
 pub mod heard_stays;
 pub mod last_told;
 pub mod led_eras;
-pub mod led_lives;
 pub mod led_rings;
 pub mod plan_speakers;
 pub mod replies_first;
@@ -36,14 +34,14 @@ pub mod told_eras;
 /// as they are led: whatever frames are lost, and where slaves are given up, taken up again or returned to Init.
 pub fn served_ring_law()
     ensures { (plan : Scenario) → IsPlan plan → IsKnown plan → (fs : List Exchanged) (missed : ℕ) (ws : List Serves) →
-        IsServedLed (lens_of plan.slaves) plan.recover plan.retry (all_serve plan.paces (first_leads plan)) fs missed ws → AllRound (ring_of plan) fs → AreServedLived plan fs ws }
+        ServeTo plan fs missed ws → AllRound (ring_of plan) fs → AreServedLived plan fs ws }
 {
     crate::stood_rings::stood_ring_law();
 }
 
 /// SO WITH FAIR MAILS ALONE each of these lives is worked by its slave in sessions of services and fair mails, from its parts as it was switched on.
 pub fn served_lives_law()
-    ensures { (plan : Scenario) → IsPlan plan → IsKnown plan → (fs : List Exchanged) (missed : ℕ) (ws : List Serves) → IsServedLed (lens_of plan.slaves) plan.recover plan.retry (all_serve plan.paces (first_leads plan)) fs missed ws → AllRound (ring_of plan) fs →
+    ensures { (plan : Scenario) → IsPlan plan → IsKnown plan → (fs : List Exchanged) (missed : ℕ) (ws : List Serves) → ServeTo plan fs missed ws → AllRound (ring_of plan) fs →
         All AsksFair ws → AllServedLives plan.slaves ws }
 {
     served_ring_law();

@@ -2,7 +2,6 @@
 //! running code: the function here does nothing, and its contract states the law.
 
 ghost use Rattle.std.specs.Prelude.{◌≡◌, ◌∷◌, ℕ, suc, Bool, false, [], List};
-ghost use Rattle.served_runs.specs.of_life_runs.First.{first_leads, lens_of};
 ghost use Rattle.served_runs.specs.of_life_runs.Led.{Exchanged};
 ghost use Rattle.link_mails.specs.Body.{Body};
 ghost use Rattle.mailbox_mail.specs.declared.mail.Kind.{Kind};
@@ -14,7 +13,7 @@ ghost use Rattle.segment_plan.specs.Sound.{IsPlan};
 ghost use Rattle.segment_plan.specs.declared.plan.Scenario.{Scenario};
 ghost use Rattle.served_rings.specs.Served.{replies_to, server_behind};
 ghost use Rattle.served_rings.specs.Stood.{ServeSo};
-ghost use Rattle.served_runs.specs.Served.{Serves, IsServedLed, all_serve};
+ghost use Rattle.served_runs.specs.Served.{ServeTo, Serves};
 ghost use Rattle.slave_model.specs.Profile.{Profile};
 ghost use Rattle.slave_model.specs.Server.{failure};
 ghost use Rattle.slave_parts.specs.Parts.{Server};
@@ -27,7 +26,7 @@ ghost use Rattle.state_exchange.specs.Stated.{Service};
 /// the older is a packet. Where it is open and rests, nothing is left of its newest epoch. And as each epoch ended, by the frame that showed its return to Init, the
 /// slave's node held what was carried out of it; and one that was given up for good while it was open has the AL state of what was carried out.
 pub fn served_replies_law()
-    ensures { (plan : Scenario) → IsPlan plan → IsKnown plan → (fs : List Exchanged) (missed : ℕ) (ws : List Serves) → IsServedLed (lens_of plan.slaves) plan.recover plan.retry (all_serve plan.paces (first_leads plan)) fs missed ws → AllRound (ring_of plan) fs → ServeSo plan fs ws }
+    ensures { (plan : Scenario) → IsPlan plan → IsKnown plan → (fs : List Exchanged) (missed : ℕ) (ws : List Serves) → ServeTo plan fs missed ws → AllRound (ring_of plan) fs → ServeSo plan fs ws }
 {
     crate::stood_rings::stood_ring_law();
     crate::served_eras::behind_law();
