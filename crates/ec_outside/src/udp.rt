@@ -8,6 +8,9 @@ use std::io;
 use std::net::{Ipv4Addr, Net, SocketAddr, SocketAddrV4, UdpSocket};
 
 /// A port on a UDP socket of the system. What it hears and sends isn't told, and it never ends.
+///
+/// A datagram that its peer can't be sent, or refuses, is lost as any datagram may be: that is no
+/// fault of the port. Only what the socket itself fails at counts.
 #[derive(Drop)]
 pub struct UdpPort<'a, R: Net> {
     net: &'a R,
@@ -56,10 +59,7 @@ impl<'a, R: Net> UdpPort<'a, R> {
     {
         self.open()?;
         match &self.socket {
-            Some(socket) => {
-                socket.send_to(bytes, (Ipv4Addr::from(to.ip), to.port))?;
-                Ok(())
-            }
+            Some(socket) => send_or_lose(socket, to, bytes),
             None => Err(io::Error::from(io::ErrorKind::NotConnected)),
         }
     }
@@ -92,7 +92,40 @@ fn peer_at(address: SocketAddr) -> io::Result<Peer> {
     }
 }
 
-// A longer datagram is cut by the system to the room that there is.
+// A peer, or a router before it, says that a datagram sent before didn't arrive.
+fn is_undelivered(error: &io::Error) -> bool {
+    matches!(
+        error.kind(),
+        io::ErrorKind::ConnectionRefused
+            | io::ErrorKind::ConnectionReset
+            | io::ErrorKind::HostUnreachable
+            | io::ErrorKind::NetworkUnreachable
+    )
+}
+
+// No datagram goes to this address, as port 0, a broadcast or one behind an interface that is down.
+fn is_unsendable(error: &io::Error) -> bool {
+    matches!(
+        error.kind(),
+        io::ErrorKind::InvalidInput
+            | io::ErrorKind::AddrNotAvailable
+            | io::ErrorKind::PermissionDenied
+            | io::ErrorKind::NetworkDown
+    )
+}
+
+// Where the system has no room for the datagram, this waits for it.
+fn send_or_lose(socket: &UdpSocket, to: Peer, bytes: &[u8]) -> io::Result<()> {
+    socket.set_nonblocking(false)?;
+    match socket.send_to(bytes, (Ipv4Addr::from(to.ip), to.port)) {
+        Ok(_) => Ok(()),
+        Err(error) if is_undelivered(&error) || is_unsendable(&error) => Ok(()),
+        Err(error) => Err(error),
+    }
+}
+
+// A longer datagram is cut by the system to the room that there is. Word of a datagram that was
+// lost is passed over: the next one is still to come.
 fn hear(socket: &UdpSocket, into: &mut Gram, waits: bool) -> io::Result<Heard>
     requires { into.old.items ≡ [] }
     ensures heard { IfOk result (λ heard. IsListened waits heard into.new.items) }
@@ -100,15 +133,21 @@ fn hear(socket: &UdpSocket, into: &mut Gram, waits: bool) -> io::Result<Heard>
 {
     let mut octets = [0u8; 2048];
     socket.set_nonblocking(!waits)?;
-    match socket.recv_from(&mut octets) {
-        Ok((count, from)) => {
-            let peer = peer_at(from)?;
-            fill(into, &octets[..count]);
-            Ok(Heard::From(peer))
+    for _ in 0..u64::MAX {
+        match socket.recv_from(&mut octets) {
+            Ok((count, from)) => {
+                let peer = peer_at(from)?;
+                fill(into, &octets[..count]);
+                return Ok(Heard::From(peer));
+            }
+            Err(error) if !waits && error.kind() == io::ErrorKind::WouldBlock => {
+                return Ok(Heard::Quiet);
+            }
+            Err(error) if is_undelivered(&error) => {}
+            Err(error) => return Err(error),
         }
-        Err(error) if !waits && error.kind() == io::ErrorKind::WouldBlock => Ok(Heard::Quiet),
-        Err(error) => Err(error),
     }
+    Err(io::Error::from(io::ErrorKind::TimedOut))
 }
 
 impl<'a, R: Net> Port for UdpPort<'a, R> {

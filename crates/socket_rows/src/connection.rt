@@ -49,3 +49,33 @@ fn a_port_hears_and_sends_datagrams(rt: HostRuntime) -> Result<(), Fail> {
     assert_eq!(rt; reply, [1u8, 2, 3, 0, 0, 0, 0, 0, 0]);
     Ok(())
 }
+
+/// A datagram that no peer can be sent, to port 0 or to a broadcast address, is lost, and the port goes on.
+#[test]
+fn a_datagram_that_goes_nowhere_is_no_fault(rt: HostRuntime) -> Result<(), Fail> {
+    let mut port = UdpPort::new(&rt, 0x7F00_0001, 34_982);
+    let nowhere = Peer {
+        ip: 0x7F00_0001,
+        port: 0,
+    };
+    let broadcast = Peer {
+        ip: 0xFFFF_FFFF,
+        port: 34_983,
+    };
+    assert_eq!(rt; port.send(nowhere, &[1]), Ok(()));
+    assert_eq!(rt; port.send(broadcast, &[1]), Ok(()));
+    let peer = UdpSocket::bind(&rt, "127.0.0.1:34983")?;
+    let to = Peer {
+        ip: 0x7F00_0001,
+        port: 34_983,
+    };
+    assert_eq!(rt; port.send(to, &[7, 8]), Ok(()));
+    let mut heard = [0u8; 9];
+    let (count, _) = peer.recv_from(&mut heard)?;
+    assert_eq!(rt; count, 2);
+    peer.send_to(&[9], "127.0.0.1:34982")?;
+    let mut into = Gram::new();
+    assert_eq!(rt; port.wait(&mut into), Ok(Heard::From(to)));
+    assert_eq!(rt; into.as_slice(), [9u8].as_slice());
+    Ok(())
+}
