@@ -51,7 +51,7 @@ fn reply_of(
     ensures value { IfOk result (λ reply. kind ≡ ReplyKind.Handed → reply.value ≡ []) }
 {
     let mut value = Octets::new(alloc);
-    if kind == ReplyKind::Value {
+    if matches!(kind, ReplyKind::Value) {
         master.value(slave, &mut value)?;
     }
     Ok(Reply { kind, value })
