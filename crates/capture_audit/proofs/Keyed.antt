@@ -1,12 +1,13 @@
--- Rows that are found by a key.
+-- Rows that are found by a key, and the list of their keys.
 use Rattle.std.proofs.Common.{◌≡◌, ℕ, zero, suc, ◌+◌, ◌==◌, ◌<◌, Bool, true, false, List, [], ◌∷◌, ◌++◌, length, get_or, set, cond, refl, sym, ap, ◌∙◌, arith, length-append, Option, Some, None}
-use Rattle.std.specs.Prelude.{position}
+use Rattle.std.specs.Prelude.{map, position, slice_set, slice_index_or}
 use Rattle.std.specs.List.{position_from}
 use Rattle.std.proofs.lemmas.List.Quantifiers.{position-Some}
 use Rattle.std.proofs.lemmas.Iterator.Adapters.{position_from-zero}
-use Rattle.std.proofs.Math.Seq.{set-append_seam, get_or-append_seam}
+use Rattle.std.proofs.Math.Seq.{map-set_same, set-append_seam, get_or-append_seam}
+use Rattle.std.proofs.lemmas.List.{map-append}
 use Rattle.capture_audit.specs.Audit.{row_of, changed_at}
-use Rattle.capture_audit.specs.Judged.{HasRow}
+use Rattle.capture_audit.specs.Judged.{ArePlaces, HasRow}
 
 module _ {A : Type 0} (key : A → ℕ) (fresh : A) (k : ℕ) where
   row_first : (x : A) (xs : List A) (b : Bool) → (key x == k) ≡ b → b ≡ true → row_of key fresh k (x ∷ xs) ≡ x
@@ -88,3 +89,22 @@ module _ {A : Type 0} (key : A → ℕ) (fresh : A) (k : ℕ) where
         same = absent_changed (λ x. x) 0 xs none;
         changed = λ f. ap (λ r. set (xs ++ fresh ∷ []) at (f r)) own ∙ ap (λ n. set (xs ++ fresh ∷ []) n (f fresh)) last ∙ set-append_seam xs fresh [] (f fresh) ∙ absent_changed f 0 xs none;
       }
+
+  mapped_from : (i : ℕ) (xs : List A) → position_from (λ s. s == k) i (map key xs) ≡ position_from (λ x. key x == k) i xs
+  mapped_from i [] = refl
+  mapped_from i (x ∷ xs) = ap (λ rest. cond (key x == k) (Some i) rest) (mapped_from (i + 1) xs)
+
+  -- a key stands among the keys where its row stands among the rows
+  pub place_is : (ks : List ℕ) (xs : List A) → ArePlaces key ks xs → position (λ x. key x == k) xs ≡ position (λ s. s == k) ks
+  place_is ks xs are =
+      position_from-zero (λ x. key x == k) xs ∙ sym (mapped_from 0 xs) ∙ sym (position_from-zero (λ s. s == k) (map key xs)) ∙ ap (position (λ s. s == k)) (sym are)
+
+  -- a row of a new key is put behind the others, and its key behind theirs
+  pub places_added : (ks : List ℕ) (xs : List A) → ArePlaces key ks xs → key fresh ≡ k → ArePlaces key (ks ++ k ∷ []) (xs ++ fresh ∷ [])
+  places_added ks xs are own =
+      (λ i. are i ++ sym own i ∷ []) ∙ sym (map-append key xs (fresh ∷ []))
+
+-- rows whose keys stay keep their places
+pub places_kept : {A : Type 0} (key : A → ℕ) (ks : List ℕ) (xs : List A) (at : ℕ) (row new : A) → ArePlaces key ks xs → row ≡ slice_index_or xs at row → key new ≡ key row → ArePlaces key ks (slice_set xs at new)
+places_kept key ks xs at row new are is same =
+    are ∙ sym (map-set_same key xs at new row (same ∙ ap key is))

@@ -1,5 +1,5 @@
 -- What a datagram, and those of a frame, come to.
-use Rattle.std.specs.Prelude.{◌≡◌, ◌<◌, ℕ, List, length, slice_set, slice_index_or, Option, Some, None, Ok, Err}
+use Rattle.std.specs.Prelude.{◌≡◌, ◌<◌, ℕ, List, map, length, slice_set, slice_index_or, Option, Some, None, Ok, Err}
 use Rattle.capture_audit.specs.declared.access.MailAccess.{MailAccess}
 use Rattle.capture_audit.specs.declared.known.Known.{Known}
 use Rattle.capture_audit.specs.declared.rule.Rule.{Rule}
@@ -14,6 +14,10 @@ pub record HasRow {A : Type 0} (key : A → ℕ) (fresh : A) (k : ℕ) (old new 
   pub row : (none : A) → slice_index_or new at none ≡ row_of key fresh k old
   pub same : new ≡ changed_at key fresh (λ x. x) k old
   pub changed : (f : A → A) → slice_set new at (f (row_of key fresh k old)) ≡ changed_at key fresh f k old
+
+-- the keys of rows, in their order
+abbrev pub ArePlaces : {A : Type 0} → (A → ℕ) → List ℕ → List A → Type 0
+ArePlaces key places rows = places ≡ map key rows
 
 -- a station has a seat at this place
 abbrev pub HasSeat : List Seat → List Seat → ℕ → ℕ → Type 0

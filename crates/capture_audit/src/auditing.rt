@@ -9,7 +9,7 @@ ghost use Rattle.capture_audit.specs.Causes.{YesCause, NoCause};
 ghost use Rattle.capture_audit.specs.Judged.{JudgesAll};
 
 use crate::exchange::{FrameView, datagram_of, returned};
-use crate::known::Known;
+use crate::known::Ledger;
 use crate::rule::Rule;
 use crate::verdict::Verdict;
 use capture_view::octets_of;
@@ -27,7 +27,7 @@ struct Heard {
 
 // The datagrams of a frame, up to the first that breaks a rule.
 fn follow(
-    known: &mut Known,
+    known: &mut Ledger,
     alloc: Global,
     sent: FrameView<'_>,
     back: Option<FrameView<'_>>,
@@ -47,7 +47,7 @@ fn follow(
 
 // The same of a frame with these datagrams, by whether the octets behind it are its return.
 fn follow_frame(
-    known: &mut Known,
+    known: &mut Ledger,
     alloc: Global,
     octets: &[u8],
     parts: &[Part],
@@ -72,7 +72,7 @@ fn follow_frame(
 
 // A packet with these octets that isn't used up, before those of the packet behind it.
 fn exchange(
-    known: &mut Known,
+    known: &mut Ledger,
     alloc: Global,
     octets: &[u8],
     behind: &[u8],
@@ -106,7 +106,7 @@ fn audit_packets(alloc: Global, file: &[u8], packets: &[PacketAt]) -> Result<Ver
     requires few { length packets.now < 2 ^ 32 }
     ensures { IfOk result (λ verdict. verdict ≡ judged_all first_known (exchanges file.now false 0 packets.now)) }
 {
-    let mut known = Known::new(alloc);
+    let mut known = Ledger::new(alloc);
     let mut used = false;
     for (number, packet) in packets.iter().enumerate() {
         if used {
@@ -123,7 +123,7 @@ fn audit_packets(alloc: Global, file: &[u8], packets: &[PacketAt]) -> Result<Ver
         }
         used = heard.used;
     }
-    Ok(Verdict::Yes(known.stations))
+    Ok(Verdict::Yes(known.into_stations()))
 }
 
 /// Audits a capture in one pass over its packets: whether the traffic of a master to each station obeys the rules of

@@ -7,6 +7,7 @@ mod auditing;
 mod exchange;
 mod known;
 mod link;
+mod places;
 mod rule;
 mod station;
 mod verdict;

@@ -57,7 +57,8 @@ impl StationAudit {
 
     /// A mail that was moved stands behind those before it.
     pub fn note(&mut self, moved: Moved) -> Result<(), NoMemory>
-        ensures { IfOk result (λ done. self.new ≡ with_mails (sent_by moved) (accepted_by moved) self.old) }
+        ensures moved { IfOk result (λ done. self.new ≡ with_mails (sent_by moved) (accepted_by moved) self.old) }
+        ensures station { self.new.station ≡ self.old.station }
     {
         match moved {
             Moved::Nothing => Ok(()),
@@ -128,7 +129,8 @@ impl Seat {
 
     /// A mailbox is accessed.
     pub fn access(&mut self, access: MailAccess, datagram: &Datagram<'_>) -> Result<Step, NoMemory>
-        ensures { IfOk result (Steps self.old self.new access (datagram_seen datagram.now)) }
+        ensures steps { IfOk result (Steps self.old self.new access (datagram_seen datagram.now)) }
+        ensures station { self.new.station ≡ self.old.station }
     {
         let Some(link) = &mut self.link else {
             return Ok(Step::Breaks(Rule::NotOpen));
