@@ -1,7 +1,7 @@
 -- Where each mail of a service brings a reply at last, so does what it is written as.
-use Rattle.std.proofs.Common.{◌≡◌, Bool, not, List, [], ◌∷◌, ◌++◌, map, refl, sym, ap, ◌∙◌, subst}
-use Rattle.std.proofs.lemmas.List.{map-append}
-use Rattle.exchange_model.specs.Exchange.{Exchange, AnswersLast, given, plain}
+use Rattle.std.proofs.Common.{◌≡◌, ◌&&◌, Bool, not, List, [], ◌∷◌, ◌++◌, map, length, nat_lt, refl, sym, ap, ap₂, ◌∙◌, subst}
+use Rattle.std.proofs.lemmas.List.{map-append, length-map}
+use Rattle.exchange_model.specs.Exchange.{Exchange, AnswersLast, given, outnumbers, plain}
 use Rattle.exchange_model.specs.Lifted.{EachOf, ReadsBack, Spells, lifted, lifted_serve}
 use Rattle.exchange_model.proofs.Lists.{filter_mapped}
 use Rattle.exchange_model.proofs.Lifting.{all_back}
@@ -43,4 +43,6 @@ module _ {V A M N Q R : Type 0} (x : Exchange V A M Q R) (read : N → M) (write
         let whole : map read (plain (λ n. x.speech.emission (read n)) (given (lifted_serve x.serve read write) v (map write full))) ≡ plain x.speech.emission (given x.serve v full) =
         replies_read v (map write full) (subst (λ l. EachOf (ReadsBack read write) (given x.serve v l)) (sym known) all_read) ∙ ap (λ l. plain x.speech.emission (given x.serve v l)) known in
         let equal : plain x.speech.emission (given x.serve v (map read ps)) ≡ plain x.speech.emission (given x.serve v full) = sym (replies_read v ps part_read) ∙ ap (map read) same ∙ whole in
-        none_mapped read rs (last v q ready valid answers quiet (map read ps) (map read rs) cut equal)
+        let unheard : outnumbers (map write full) (plain (λ n. x.speech.emission (read n)) (given (lifted_serve x.serve read write) v (map write full))) ≡ outnumbers full (plain x.speech.emission (given x.serve v full)) =
+        ap₂ nat_lt (sym (length-map _ read) ∙ ap length whole) (length-map full write) in
+        none_mapped read rs (last v q ready valid answers (ap (λ b. acknowledged q && b) (sym unheard) ∙ quiet) (map read ps) (map read rs) cut equal)

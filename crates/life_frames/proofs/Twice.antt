@@ -56,7 +56,7 @@ module _ {Q R : Type 0} (x : Speech Body Q R) where
       go hand None = refl
       go (Some duty) (Some w) = refl
       go None (Some (Service.Mails q)) = never (x.valid q) (is_free x e e.now) (record a { started = starts a (Service.Mails q) made }) a free
-      go None (Some (Service.State target)) = ap (λ z. if z && is_acknowledged acknowledged e e.now then state_begins a target made else a) free
+      go None (Some (Service.State target)) = ap (λ z. if z && is_acknowledged x acknowledged e e.now then state_begins a target made else a) free
 
   taken : (now : Option (Row Body Q R)) (holding : Option (LinkMail Body)) (h : Bool) (m : Body) (ms : List Body) → next_mail x now holding h ≡ m ∷ ms → (r : Row Body Q R) × (now ≡ Some r)
   taken now holding false m ms k = absurd (cc)

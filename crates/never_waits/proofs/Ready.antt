@@ -51,10 +51,10 @@ module _ {M Q R : Type 0} (x : Speech M Q R) (acknowledged : Q → Bool) where
 
   -- ---- NOTHING BEGAN
   free_at : (d : Side M Q R) (now : Option (Row M Q R)) → d.now ≡ now → ((r : Row M Q R) → now ≡ Some r → is_over x d.halves.out.holding d.fresh r ≡ true × acknowledged r.service ≡ false) → IsFree x acknowledged d
-  free_at d None e k = record { free = ap (is_free x d) e; done = ap (is_acknowledged acknowledged d) e }
+  free_at d None e k = record { free = ap (is_free x d) e; done = ap (is_acknowledged x acknowledged d) e }
   free_at d (Some r) e k =
       let both = k r refl in
-      record { free = ap (is_free x d) e ∙ both.0; done = ap (is_acknowledged acknowledged d) e ∙ ap (λ b. if b then is_none d.halves.out.holding else true) both.1 }
+      record { free = ap (is_free x d) e ∙ both.0; done = ap (is_acknowledged x acknowledged d) e ∙ ap (λ b. if b then is_none d.halves.out.holding else true) both.1 }
 
   over_again : (d : Side M Q R) (r : Row M Q R) → left x r ≡ [] → x.handed r.service ≡ false → (answer : R × ℕ) → r.answer ≡ Some answer → d.fresh ≡ false → is_over x d.halves.out.holding d.fresh r ≡ true
   over_again d r none waits answer is sent =
@@ -79,7 +79,7 @@ module _ {M Q R : Type 0} (x : Speech M Q R) (acknowledged : Q → Bool) where
         let z : k.now ≡ Some (row_heard x frame [] t) = ap (λ ms. option_map (λ r. row_heard x frame ms r) u.now) h.nothing ∙ ap (option_map (λ r. row_heard x frame [] r)) next in
         let stays : (n : ℕ) → answer_after n t.answer (x.ends t.service (plain x.emission t.heard)) ≡ t.answer =
         λ n. (λ i. answer_after n (answer i) (x.ends (service i) (plain x.emission (words i)))) ∙ answered r now n ∙ sym answer in
-        let over = held_over k.halves.out.holding k.fresh (row_heard x frame [] t) h.held (sym (ap (is_free x k) z) ∙ free.free) (sym (ap (is_acknowledged acknowledged k) z) ∙ free.done) in
+        let over = held_over k.halves.out.holding k.fresh (row_heard x frame [] t) h.held (sym (ap (is_free x k) z) ∙ free.free) (sym (ap (is_acknowledged x acknowledged k) z) ∙ free.done) in
         was_over r now (row_heard x frame [] t) service (heard_none frame t stays ∙ answer) k.fresh over
 
     told_by : (frame station : ℕ) (back : List (Datagram M)) (r : Row M Q R) → d.now ≡ Some r → (ms : List M) →
@@ -147,5 +147,5 @@ module _ {M Q R : Type 0} (x : Speech M Q R) (acknowledged : Q → Bool) (frame 
   pub state_free : (hand : Option Duty) → (account_begins x acknowledged frame d a hand (Some (Service.State target))).started ≡ starts a (Service.State target) frame → (hand ≡ None) × IsFree x acknowledged d
   state_free (Some duty) took = absurd (same_not took)
   state_free None took =
-      let both = and_parts (is_free x d d.now) (is_acknowledged acknowledged d d.now) (took_state (is_free x d d.now && is_acknowledged acknowledged d d.now) took) in
+      let both = and_parts (is_free x d d.now) (is_acknowledged x acknowledged d d.now) (took_state (is_free x d d.now && is_acknowledged x acknowledged d d.now) took) in
       (refl, record { free = both.0; done = both.1 })

@@ -190,7 +190,7 @@ module _ {V A M Q R : Type 0} (x : Exchange V A M Q R) (law : IsLawful x) (s : S
     free_by None e k = refl
     free_by (Some r) e k = row_over r e (k r e).0 (k r e).1
 
-    done_by : (now : Option (Row M Q R)) → is_acknowledged s.acknowledged seat.side now ≡ true
+    done_by : (now : Option (Row M Q R)) → is_acknowledged x.speech s.acknowledged seat.side now ≡ true
     done_by None = refl
     done_by (Some r) = go (s.acknowledged r.service)
       where
@@ -198,5 +198,5 @@ module _ {V A M Q R : Type 0} (x : Exchange V A M Q R) (law : IsLawful x) (s : S
         go true = ap is_none idles
         go false = refl
 
-    pub free : NoneLeft → (is_free x.speech seat.side seat.side.now ≡ true) × (is_acknowledged s.acknowledged seat.side seat.side.now ≡ true)
+    pub free : NoneLeft → (is_free x.speech seat.side seat.side.now ≡ true) × (is_acknowledged x.speech s.acknowledged seat.side seat.side.now ≡ true)
     free k = (free_by seat.side.now refl k, done_by seat.side.now)

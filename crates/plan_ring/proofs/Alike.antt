@@ -93,7 +93,7 @@ module _ {M P T : Type 0} (is : P → Bool) (y z : Speech M P T) (same : Alike i
   account_same acknowledged frame d a None (Some (Service.Mails q)) row w =
       ap₂ (λ (v f : Bool). if v && f then record a { started = starts a (Service.Mails q) frame } else a) (same.valid q w) (free_same d d.now row)
   account_same acknowledged frame d a None (Some (Service.State target)) row w =
-      ap (λ (f : Bool). if f && is_acknowledged acknowledged d d.now then state_begins a target frame else a) (free_same d d.now row)
+      ap (λ (f : Bool). if f && is_acknowledged x acknowledged d d.now then state_begins a target frame else a) (free_same d d.now row)
 
   module _ (acknowledged : P → Bool) (more : M → Bool) (passed : P → Bool) where
     granted_is : (passing : Option Passing) (pick : Pick P) → WishIs is pick.begin → WishIs is (granted passing pick).begin

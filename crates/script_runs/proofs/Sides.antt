@@ -132,7 +132,7 @@ module _ (x : Speech Body Asked Reply) (ack : Asked → Bool) (frame : ℕ) (d :
   over_begins hand None = refl
   over_begins (Some duty) (Some wish) = refl
   over_begins None (Some (Service.Mails q)) = either (x.valid q && is_free x d d.now) (record a { started = starts a (Service.Mails q) frame }) refl
-  over_begins None (Some (Service.State target)) = either (is_free x d d.now && is_acknowledged ack d d.now) (state_begins a target frame) refl
+  over_begins None (Some (Service.State target)) = either (is_free x d d.now && is_acknowledged x ack d d.now) (state_begins a target frame) refl
 
   same_account : (hand : Option Duty) → account_begins x ack frame d a hand None ≡ a
   same_account None = refl
@@ -205,7 +205,7 @@ module _ (x : Speech Body Asked Reply) (ack : Asked → Bool) (frame : ℕ) (d :
   may_state : (target : ℕ) (hand : Option Duty) → (account_begins x ack frame d a hand (Some (Service.State target))).started ≡ starts a (Service.State target) frame →
       ((account_begins x ack frame d a hand (Some (Service.State target))).hand ≡ Some (record { target = target; frame = frame; stage = Stage.Drains })) × (is_free x d d.now ≡ true) × (hand ≡ None)
   may_state target (Some duty) e = absurd (longer a.started _ e)
-  may_state target None e = let g = go (is_free x d d.now) (is_acknowledged ack d d.now) e in (g.0, g.1, refl)
+  may_state target None e = let g = go (is_free x d d.now) (is_acknowledged x ack d d.now) e in (g.0, g.1, refl)
     where
       go : (f g : Bool) → (if f && g then state_begins a target frame else a).started ≡ starts a (Service.State target) frame →
           ((if f && g then state_begins a target frame else a).hand ≡ Some (record { target = target; frame = frame; stage = Stage.Drains })) × (f ≡ true)
