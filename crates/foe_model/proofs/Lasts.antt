@@ -42,12 +42,17 @@ module _ {S : Type 0} (o : Files S) (law : AreLawful o) (areas : Areas) (sized :
       absurd (let one = one_reply o areas w h here in let wrong : one.0 ∷ [] ≡ [] = sym one.1 ∙ first in cc)
 
   -- a refused read has its request alone
-  read_asked : (v : Server S) (name : List ℕ) (pass code : ℕ) → o.allowed v.app name pass false ≡ Some code → AllAsked (full o areas v (read name pass))
-  read_asked v name pass code is =
+  read_alone : (v : Server S) (name : List ℕ) (pass code : ℕ) → o.allowed v.app name pass false ≡ Some code → full o areas v (read name pass) ≡ mail (Read pass (record { items = name })) ∷ []
+  read_alone v name pass code is =
       let turned : turns o v.app (read name pass) ≡ suc (suc (suc 0)) = ap (λ found. suc (suc (suc (read_length found (o.get v.app name))))) is in
       let m = mail (Read pass (record { items = name })) in
-      subst AllAsked (sym (ap (λ n. talk o areas n v (mails_of areas.out (read name pass) n)) turned
-          ∙ talk_over o areas 2 v m (refusal code) (ended v.app idle (refusal code)) (acks 3 1) (ap (opened areas.back v.app (o.get v.app name)) is) refl refl)) (refl, tt)
+      ap (λ n. talk o areas n v (mails_of areas.out (read name pass) n)) turned
+      ∙ talk_over o areas 2 v m (refusal code) (ended v.app idle (refusal code)) (acks 3 1) (ap (opened areas.back v.app (o.get v.app name)) is) refl refl
+
+  -- so with its reply it is there
+  alone_there : (m : FoeMail) (ms p r : List FoeMail) → ms ≡ m ∷ [] → ms ≡ p ++ r → (p ≡ [] → ⊥) → r ≡ []
+  alone_there m ms [] r one e some = absurd (some refl)
+  alone_there m ms (k ∷ p) r one e some = (append_none p r (let rest : [] ≡ p ++ r = (let both : m ∷ [] ≡ k ∷ (p ++ r) = sym one ∙ e in cc) in sym rest)).1
 
   pub foe_last : AnswersLast (foe_exchange o areas) is_file_read
   foe_last v (read name pass) ready valid answers quiet p r e same = by (o.allowed v.app name pass false) refl
@@ -56,7 +61,10 @@ module _ {S : Type 0} (o : Files S) (law : AreLawful o) (areas : Areas) (sized :
       of ms = plain is_emission (given (serve o areas.out areas.back) v ms)
 
       by : (found : Option ℕ) → o.allowed v.app name pass false ≡ found → r ≡ []
-      by (Some code) is = all_there v (read name pass) (read_asked v name pass code is) p r e same
+      by (Some code) is = alone_there (mail (Read pass (record { items = name }))) (full o areas v (read name pass)) p r (read_alone v name pass code is) e (λ none.
+          (let l = foe_law o law areas sized in
+          let no : None ≡ Some ((foe_exchange o areas).reply v.app (read name pass)) = ap (λ ms. ends areas (read name pass) (of ms)) (sym none) ∙ ap (ends areas (read name pass)) same ∙ l.replied v (read name pass) ready valid refl in
+          absurd (cc)))
       by None is =
           let l = foe_law o law areas sized in
           let hs = plain is_emission (given (serve o areas.out areas.back) v (full o areas v (read name pass))) in

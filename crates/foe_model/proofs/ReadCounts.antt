@@ -40,7 +40,8 @@ module _ (out back : ℕ) where
   counted m reads fuel n k number got [] kind value few enough e = absurd (let no : None ≡ Some (kind, value) = e in cc)
   counted m reads zero n k number got (h ∷ hs) kind value few enough e = absurd (omega arith)
   counted m reads (suc fuel) zero k number got (h ∷ hs) kind value few enough e = absurd (omega arith)
-  counted m reads (suc fuel) (suc n) k number got (h ∷ hs) kind value few enough e = ap length (said_is (suc fuel) m h (acks (suc n) k) hs (reads h)) ∙ by h e
+  counted m reads (suc fuel) (suc n) k number got (h ∷ hs) kind value few enough e = ap length (said_is (suc fuel) m h (acks (suc n) k) hs (reads h))
+      ∙ by (λ octets f. counted (mail (Ack k)) (λ h. refl) fuel n (k + 1) (number + 1) octets hs kind value (omega arith) (omega arith) f) h e
     where
       last : (octets : List ℕ) → at_end hs (ReplyKind.Value, octets) ≡ Some (kind, value) → length (said (decide out) (suc fuel) (acks (suc n) k) hs) ≡ acks_behind kind + length hs
       last octets f =
@@ -48,32 +49,34 @@ module _ (out back : ℕ) where
           ap (λ l. length (said (decide out) (suc fuel) (acks (suc n) k) l)) both.0
           ∙ sym (ap₂ (λ (r : ReplyKind × List ℕ) (l : List FoeMail). acks_behind r.0 + length l) (sym both.1) both.0)
 
-      data_is : (octets : List ℕ) (same long whole : Bool) →
+      data_is : ((octets : List ℕ) → packets_end back (number + 1) octets hs ≡ Some (kind, value) → length (said (decide out) (suc fuel) (acks (suc n) k) hs) ≡ acks_behind kind + length hs) →
+          (octets : List ℕ) (same long whole : Bool) →
           (if same then (if long then None else if whole then at_end hs (ReplyKind.Value, octets) else packets_end back (number + 1) octets hs) else None) ≡ Some (kind, value) →
           length (said (decide out) (suc fuel) (acks (suc n) k) hs) ≡ acks_behind kind + length hs
-      data_is octets false long whole f = absurd (let no : None ≡ Some (kind, value) = f in cc)
-      data_is octets true true whole f = absurd (let no : None ≡ Some (kind, value) = f in cc)
-      data_is octets true false true f = last octets f
-      data_is octets true false false f = counted (mail (Ack k)) (λ h. refl) fuel n (k + 1) (number + 1) octets hs kind value (omega arith) (omega arith) f
+      data_is onward octets false long whole f = absurd (let no : None ≡ Some (kind, value) = f in cc)
+      data_is onward octets true true whole f = absurd (let no : None ≡ Some (kind, value) = f in cc)
+      data_is onward octets true false true f = last octets f
+      data_is onward octets true false false f = onward octets f
 
       refused : (r : ReplyKind × List ℕ) → acks_behind r.0 ≡ 0 → at_end hs r ≡ Some (kind, value) → 1 ≡ acks_behind kind + suc (length hs)
       refused r none f =
           let both = at_end_is hs r (kind, value) f in
           sym (ap₂ (λ (s : ReplyKind × List ℕ) (l : List FoeMail). acks_behind s.0 + suc (length l)) (sym both.1) both.0 ∙ ap (λ a. a + 1) none)
 
-      by : (h : FoeMail) → packets_end back number got (h ∷ hs) ≡ Some (kind, value) →
+      by : ((octets : List ℕ) → packets_end back (number + 1) octets hs ≡ Some (kind, value) → length (said (decide out) (suc fuel) (acks (suc n) k) hs) ≡ acks_behind kind + length hs) →
+          (h : FoeMail) → packets_end back number got (h ∷ hs) ≡ Some (kind, value) →
           length (m ∷ chosen (Some (read_turn h)) (said (decide out) (suc fuel) (acks (suc n) k) hs) (said (decide out) (suc fuel) (m ∷ acks (suc n) k) hs) []) ≡ acks_behind kind + suc (length hs)
-      by (mail (Data packet bytes)) f =
-          let rest = data_is (got ++ bytes.items) (packet == number) (nat_lt most (length (got ++ bytes.items))) (is_last back bytes.items) f in
+      by onward (mail (Data packet bytes)) f =
+          let rest = data_is onward (got ++ bytes.items) (packet == number) (nat_lt most (length (got ++ bytes.items))) (is_last back bytes.items) f in
           omega (arith, rest)
-      by (mail (Error code)) f = refused (ReplyKind.FoeError code, []) refl f
-      by (failed detail) f = refused (ReplyKind.MailboxError detail, []) refl f
-      by (mail (Read pass name)) f = absurd (let no : None ≡ Some (kind, value) = f in cc)
-      by (mail (Write pass name)) f = absurd (let no : None ≡ Some (kind, value) = f in cc)
-      by (mail (Ack packet)) f = absurd (let no : None ≡ Some (kind, value) = f in cc)
-      by (mail (Busy done entire)) f = absurd (let no : None ≡ Some (kind, value) = f in cc)
-      by (unread fault) f = absurd (let no : None ≡ Some (kind, value) = f in cc)
-      by (other body) f = absurd (let no : None ≡ Some (kind, value) = f in cc)
+      by onward (mail (Error code)) f = refused (ReplyKind.FoeError code, []) refl f
+      by onward (failed detail) f = refused (ReplyKind.MailboxError detail, []) refl f
+      by onward (mail (Read pass name)) f = absurd (let no : None ≡ Some (kind, value) = f in cc)
+      by onward (mail (Write pass name)) f = absurd (let no : None ≡ Some (kind, value) = f in cc)
+      by onward (mail (Ack packet)) f = absurd (let no : None ≡ Some (kind, value) = f in cc)
+      by onward (mail (Busy done entire)) f = absurd (let no : None ≡ Some (kind, value) = f in cc)
+      by onward (unread fault) f = absurd (let no : None ≡ Some (kind, value) = f in cc)
+      by onward (other body) f = absurd (let no : None ≡ Some (kind, value) = f in cc)
 
 -- THE MAILS OF A READ, by what its client heard
 pub read_counts : (areas : Areas) (name : List ℕ) (pass : ℕ) (hs : List FoeMail) (kind : ReplyKind) (value : List ℕ) → ends areas (read name pass) hs ≡ Some (kind, value) →

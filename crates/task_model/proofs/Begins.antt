@@ -1,10 +1,11 @@
 -- The ghost rows before a frame: a service comes into hand, and a mail is taken up.
-use Rattle.std.proofs.Common.{◌≡◌, ◌⊎◌, inl, inr, ℕ, ◌+◌, ◌≤◌, ◌&&◌, ◌||◌, Bool, true, false, is_none, if◌then◌else◌, Option, None, Some, option_map, List, [], ◌∷◌, ◌++◌, length, refl, sym, ap, ap₂, ◌∙◌, subst, append_assoc, append-nil, arith, length-append}
+use Rattle.std.proofs.Common.{◌≡◌, ◌⊎◌, inl, inr, ℕ, ◌+◌, ◌≤◌, ◌&&◌, Bool, true, false, is_none, if◌then◌else◌, Option, None, Some, option_map, List, [], ◌∷◌, ◌++◌, length, refl, sym, ap, ap₂, ◌∙◌, subst, append_assoc, append-nil, arith, length-append}
 use Rattle.std.proofs.lemmas.Bool.{and_parts}
 use Rattle.state_exchange.specs.of_exchange_model.Prefix.{IsPrefixOf}
 use Rattle.state_exchange.specs.of_exchange_model.Exchange.{Exchange, IsLawful, after, given, plain, outnumbers}
 use Rattle.state_exchange.specs.of_exchange_model.Rows.{Row, Settled, ends_unheard, begun, row_told, left, told_all, heard_all, services}
 use Rattle.state_exchange.specs.of_exchange_model.Laws.{Moment}
+use Rattle.state_exchange.proofs.of_exchange_model.Lasts.{answered_unheard}
 use Rattle.state_exchange.proofs.of_exchange_model.Lists.{append_none, prefix_nil}
 use Rattle.state_exchange.proofs.of_exchange_model.Moments
 use Rattle.state_exchange.specs.of_link_model.Mails
@@ -185,8 +186,7 @@ module _ {V A M Q R : Type 0} (x : Exchange V A M Q R) (law : IsLawful x) (s : S
 
       unheard : (b : R × ℕ) → m.row.answer ≡ Some b → ends_unheard x.speech s.acknowledged m.row ≡ false →
           (s.acknowledged m.row.service && outnumbers (x.speech.planned m.row.service (plain x.speech.emission m.row.heard)) (plain x.speech.emission m.row.heard)) ≡ false
-      unheard b is e =
-          sym (ap (λ (o : Option (R × ℕ)). s.acknowledged m.row.service && (is_none o || outnumbers (x.speech.planned m.row.service (plain x.speech.emission m.row.heard)) (plain x.speech.emission m.row.heard))) is) ∙ e
+      unheard b is e = sym (answered_unheard x.speech s.acknowledged m.row b is) ∙ e
 
       drained : ((x.speech.handed m.row.service ≡ true) × (seat.side.halves.out.holding ≡ None)) ⊎ (((a : R × ℕ) × (m.row.answer ≡ Some a)) × (seat.side.fresh ≡ false)) → (acknowledged : Bool) → ends_unheard x.speech s.acknowledged m.row ≡ acknowledged →
           (if acknowledged then is_none seat.side.halves.out.holding else true) ≡ true → (seat.side.halves.out.holding ≡ None) ⊎ (c.rest ≡ [])
