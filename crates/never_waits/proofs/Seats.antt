@@ -1,7 +1,7 @@
 -- The newest row of a slave with no state service in hand.
-use Rattle.std.proofs.Common.{◌≡◌, inl, inr, ℕ, ◌&&◌, Bool, true, false, not, is_none, is_some, Option, Some, None, option_map, List, [], ◌∷◌, ◌++◌, length, refl, sym, ap, ◌∙◌, subst, append-nil, arith, if◌then◌else◌}
+use Rattle.std.proofs.Common.{◌≡◌, inl, inr, ℕ, ◌&&◌, ◌||◌, Bool, true, false, not, is_none, is_some, Option, Some, None, option_map, List, [], ◌∷◌, ◌++◌, length, nat_lt, refl, sym, ap, ◌∙◌, subst, append-nil, arith, if◌then◌else◌}
 use Rattle.exchange_model.specs.Exchange.{Exchange, IsLawful, given, plain}
-use Rattle.exchange_model.specs.Rows.{Row, answer_after, left}
+use Rattle.exchange_model.specs.Rows.{Row, answer_after, ends_unheard, left}
 use Rattle.exchange_model.proofs.Lists.{append_cancel, append_none}
 use Rattle.link_model.specs.Mails.{news, seen}
 use Rattle.link_model.specs.Master.{InState}
@@ -12,8 +12,8 @@ use Rattle.segment_model.specs.Laws.{IsSettled, as_outcome}
 use Rattle.segment_model.specs.Record.{Frame}
 use Rattle.segment_model.specs.Seats.{Seat, is_over, is_none_left, link_of}
 use Rattle.segment_model.proofs.Rests.{all_taken, all_offered}
-use Rattle.state_exchange.specs.Stated.{Stated, IsStated, Act, Service, Counting, acts, all_mails, ends_by, with_states, service_handed}
-use Rattle.state_exchange.proofs.Acts.{acts_same, all_acts, left_mails, plain_acts, plain_given_acts}
+use Rattle.state_exchange.specs.Stated.{Stated, IsStated, Act, Service, Counting, acts, all_mails, ends_by, planned_by, with_states, service_handed}
+use Rattle.state_exchange.proofs.Acts.{acts_length, acts_same, all_acts, left_mails, plain_acts, plain_given_acts}
 use Rattle.state_exchange.proofs.StatedLaw.{stated_law}
 use Rattle.state_model.specs.Promises.{IsTable}
 use Rattle.state_model.specs.States.{Table}

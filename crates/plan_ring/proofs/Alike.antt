@@ -20,7 +20,7 @@ module _ {M P T : Type 0} (is : P → Bool) (y z : Speech M P T) (same : Alike i
   left_same r k = ap (λ (l : List M). drop (length r.told) l) (ap (λ (e : M → Bool). y.planned r.service (plain e r.heard)) same.emission ∙ same.planned r.service (plain z.emission r.heard) k)
 
   pub over_same : (holding : Option (LinkMail M)) (fresh : Bool) (r : Row M P T) → is r.service ≡ true → is_over y holding fresh r ≡ is_over z holding fresh r
-  over_same holding fresh r k = ap₂ (λ (l : List M) (h : Bool). is_none_left l && (if h then is_none holding else is_some r.answer && not fresh)) (left_same r k) (same.handed r.service k)
+  over_same holding fresh r k = ap₂ (λ (l : List M) (h : Bool). is_none_left l && (if h && is_none r.answer then is_none holding else is_some r.answer && not fresh)) (left_same r k) (same.handed r.service k)
 
   heard_same : (frame : ℕ) (ms : List M) (r : Row M P T) → is r.service ≡ true → row_heard y frame ms r ≡ row_heard z frame ms r
   heard_same frame ms r k =

@@ -241,7 +241,7 @@ module _ (x : Speech Body Asked Reply) (ack : Asked → Bool) (frame : ℕ) (d :
   pub not_free : (r : Held) → d.now ≡ Some r → x.handed r.service ≡ false → r.answer ≡ None → is_free x d d.now ≡ false
   not_free r e h n = ap (is_free x d) e ∙ go (is_none_left (left x r)) (x.handed r.service) h (is_none d.halves.out.holding) (not d.fresh)
     where
-      go : (p h : Bool) → h ≡ false → (k f : Bool) → (p && (if h then k else is_some r.answer && f)) ≡ false
+      go : (p h : Bool) → h ≡ false → (k f : Bool) → (p && (if h && is_none r.answer then k else is_some r.answer && f)) ≡ false
       go p true e k f = absurd (let bad : true ≡ false = e in cc)
       go true false e k f = ap (λ (z : Answer). is_some z && f) n
       go false false e k f = refl
