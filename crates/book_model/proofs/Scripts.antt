@@ -67,7 +67,7 @@ grows x acknowledged frame d a None (Some (Service.Mails q)) = go (x.valid q && 
     go : (c : Bool) → (let b = if c then record a { started = starts a (Service.Mails q) frame } else a in (b.started ≡ a.started) ⊎ Grew a b frame (Some (Service.Mails q)))
     go true = inr (record { service = Service.Mails q; wish = refl; started = refl })
     go false = inl refl
-grows x acknowledged frame d a None (Some (Service.State target)) = go (is_free x d d.now && is_acknowledged acknowledged d d.now)
+grows x acknowledged frame d a None (Some (Service.State target)) = go (is_free x d d.now && is_acknowledged x acknowledged d d.now)
   where
     go : (c : Bool) → (let b = if c then state_begins a target frame else a in (b.started ≡ a.started) ⊎ Grew a b frame (Some (Service.State target)))
     go true = inr (record { service = Service.State target; wish = refl; started = refl })

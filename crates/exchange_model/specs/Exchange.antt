@@ -1,5 +1,5 @@
 -- One mailbox server against the services of one client, over mails alone: no mailbox, no counter and no frame stands between.
-use Rattle.std.specs.Prelude.{◌≡◌, ◌≢◌, ◌⊎◌, ℕ, suc, ◌≤◌, Bool, true, false, not, List, [], ◌∷◌, ◌++◌, filter, Option, None, Some}
+use Rattle.std.specs.Prelude.{◌≡◌, ◌≢◌, ◌⊎◌, ◌&&◌, ℕ, suc, ◌≤◌, nat_lt, Bool, true, false, not, List, [], ◌∷◌, ◌++◌, filter, length, Option, None, Some}
 use Rattle.exchange_model.specs.Prefix.{IsPrefixOf}
 
 -- THE CLIENT'S PART: what a master speaks by, which knows of no server. M: a mail; Q: a service; R: a reply
@@ -98,8 +98,13 @@ pub record IsLawful {V A M Q R : Type 0} (x : Exchange V A M Q R) : Type 0 where
   -- no mail takes a service back
   pub grows : (v : V) (m : M) → x.handled v ≤ x.handled (x.serve v m).0
 
--- each mail of a service brings a reply at last, but for an acknowledgement: with all replies all mails were taken
+-- more mails than replies: the last of them brought none
+abbrev pub outnumbers : {M : Type 0} → List M → List M → Bool
+outnumbers ms hs = nat_lt (length hs) (length ms)
+
+-- each mail of a service brings a reply at last, but for an acknowledgement, which brings none: with all replies all mails were taken
 abbrev pub AnswersLast : {V A M Q R : Type 0} → Exchange V A M Q R → (Q → Bool) → Type 0
 AnswersLast {V} {M = M} {Q = Q} x acknowledged =
-    (v : V) (q : Q) → x.ready v ≡ true → x.speech.valid q ≡ true → x.speech.handed q ≡ false → acknowledged q ≡ false → (p r : List M) → x.full v q ≡ p ++ r →
+    (v : V) (q : Q) → x.ready v ≡ true → x.speech.valid q ≡ true → x.speech.handed q ≡ false →
+    (acknowledged q && outnumbers (x.full v q) (plain x.speech.emission (given x.serve v (x.full v q)))) ≡ false → (p r : List M) → x.full v q ≡ p ++ r →
     plain x.speech.emission (given x.serve v p) ≡ plain x.speech.emission (given x.serve v (x.full v q)) → r ≡ []

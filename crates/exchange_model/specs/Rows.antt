@@ -1,8 +1,8 @@
 -- The rows of a session with one slave: services in the order in which they came into hand, with the mails that each sent and heard.
 -- Held are the mails that the client's side took up, taken those that the server took, accepted those that the client's side heard.
-use Rattle.std.specs.Prelude.{◌≡◌, ℕ, suc, ◌+◌, ◌<◌, ◌≤◌, true, false, List, [], ◌∷◌, ◌++◌, map, take, drop, length, Option, None, Some}
+use Rattle.std.specs.Prelude.{◌≡◌, ◌&&◌, ◌||◌, ℕ, suc, ◌+◌, ◌<◌, ◌≤◌, Bool, true, false, is_none, List, [], ◌∷◌, ◌++◌, map, take, drop, length, Option, None, Some}
 use Rattle.exchange_model.specs.Prefix.{IsPrefixOf}
-use Rattle.exchange_model.specs.Exchange.{Exchange, Speech, after, given, plain, emitted}
+use Rattle.exchange_model.specs.Exchange.{Exchange, Speech, after, given, plain, emitted, outnumbers}
 
 -- a service that came into hand: the frame at which it did, the mails held for it, the mails heard since, and the reply with its frame
 pub record Row (M Q R : Type 0) : Type 0 where
@@ -36,6 +36,12 @@ row_told m r = record r { told = r.told ++ m ∷ [] }
 -- the mails that the client of a row has left to send, as far as it has heard
 abbrev pub left : {M Q R : Type 0} → Speech M Q R → Row M Q R → List M
 left x r = drop (length r.told) (x.planned r.service (plain x.emission r.heard))
+
+-- the last mail of a row brings no reply: its service may end with an acknowledgement, and it has no answer yet, or sends more mails than it heard
+-- replies, as a read that delivered its file does and one that was refused doesn't
+abbrev pub ends_unheard : {M Q R : Type 0} → Speech M Q R → (Q → Bool) → Row M Q R → Bool
+ends_unheard x acknowledged r =
+    acknowledged r.service && (is_none r.answer || outnumbers (x.planned r.service (plain x.emission r.heard)) (plain x.emission r.heard))
 
 -- all mails held for these rows, in order
 abbrev pub told_all : {M Q R : Type 0} → List (Row M Q R) → List M

@@ -7,4 +7,5 @@ mod Closing
 pub mod FoeLaw
 pub mod Spelled
 mod WorkedRows
+pub mod ReadCounts
 pub mod Lasts

@@ -82,10 +82,10 @@ choose {M} {Q} {R} x acknowledged frame d a None (Some (Service.Mails q)) hold e
     go : (b : Bool) → Chooses x frame d a (record { begin = Some (Service.Mails q); hold = hold }) (if b then record a { started = starts a (Service.Mails q) frame } else a)
     go true = inl refl
     go false = inl refl
-choose {M} {Q} {R} x acknowledged frame d a None (Some (Service.State target)) hold e = go (is_free x d d.now && is_acknowledged acknowledged d d.now) refl
+choose {M} {Q} {R} x acknowledged frame d a None (Some (Service.State target)) hold e = go (is_free x d d.now && is_acknowledged x acknowledged d d.now) refl
   where
-    go : (b : Bool) → (is_free x d d.now && is_acknowledged acknowledged d d.now) ≡ b → Chooses x frame d a (record { begin = Some (Service.State target); hold = hold }) (if b then state_begins a target frame else a)
-    go true f = inr (target, e, refl, refl, no_state x frame d a target hold e (and_first (is_free x d d.now) (is_acknowledged acknowledged d d.now) f))
+    go : (b : Bool) → (is_free x d d.now && is_acknowledged x acknowledged d d.now) ≡ b → Chooses x frame d a (record { begin = Some (Service.State target); hold = hold }) (if b then state_begins a target frame else a)
+    go true f = inr (target, e, refl, refl, no_state x frame d a target hold e (and_first (is_free x d d.now) (is_acknowledged x acknowledged d d.now) f))
     go false f = inl refl
 
 -- ---- THE LINK

@@ -41,7 +41,7 @@ next_come {M} {Q} {R} table first r x acknowledged frame d a pick c = go a.hand 
     go (Some duty) None e = c
     go (Some duty) (Some wish) e = c
     go None (Some (Service.Mails q)) e = mails (x.speech.valid q && is_free x.speech d d.now) q
-    go None (Some (Service.State target)) e = state target (is_free x.speech d d.now && is_acknowledged acknowledged d d.now) e
+    go None (Some (Service.State target)) e = state target (is_free x.speech d d.now && is_acknowledged x.speech acknowledged d d.now) e
 
 -- by a frame that came back
 back_come : {M Q R : Type 0} (table : Table) (first r n : Registers) (box : Option (LinkMail M)) (frame : ℕ) (a b : Account Q R) (ss : List (News M)) → Served r n box frame a b ss → ComesTo M R table first r a.hand → ComesTo M R table first n b.hand

@@ -33,7 +33,7 @@ module _ {M Q R : Type 0} (x : Speech M Q R) (acknowledged : Q → Bool) (frame 
 
   state_hand : (hand : Option Duty) → (account_begins x acknowledged frame d a hand (Some (Service.State target))).started ≡ starts a (Service.State target) frame → (account_begins x acknowledged frame d a hand (Some (Service.State target))).hand ≡ None → ⊥
   state_hand (Some duty) took none = same_not took
-  state_hand None took none = some_hand (is_free x d d.now && is_acknowledged acknowledged d d.now) took none
+  state_hand None took none = some_hand (is_free x d d.now && is_acknowledged x acknowledged d d.now) took none
 
 -- OF A SERVICE THAT HAS ITS ANSWER it is known that it was told whole
 module _ {M Q R : Type 0} (y : Speech M Q R) (acknowledged : Q → Bool) (e : Era M Q R) (said : NowAnswered y e.side)

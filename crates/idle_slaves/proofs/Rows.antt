@@ -48,9 +48,13 @@ module _ {V A M Q R : Type 0} (x : Exchange V A M Q R) (law : IsLawful x) (never
   some_answer None (Some r) reply e f = absurd (let no : Some (r, 0) ≡ None = f in cc)
   some_answer None None reply e f = absurd (cc)
 
-  over_by : (b : Bool) → x.speech.handed now.service ≡ b → ((frame : ℕ) → answer_after frame now.answer (x.speech.ends now.service (plainly now.heard)) ≡ now.answer) → (if b then is_none no_mail else is_some now.answer && not false) ≡ true
-  over_by true e f = refl
+  over_by : (b : Bool) → x.speech.handed now.service ≡ b → ((frame : ℕ) → answer_after frame now.answer (x.speech.ends now.service (plainly now.heard)) ≡ now.answer) → (if b && is_none now.answer then is_none no_mail else is_some now.answer && not false) ≡ true
+  over_by true e f = answered_or now.answer
+    where
+      answered_or : (o : Option (R × ℕ)) → (if is_none o then is_none no_mail else is_some o && not false) ≡ true
+      answered_or None = refl
+      answered_or (Some a) = refl
   over_by false e f = ap (λ z. z && true) (some_answer now.answer (x.speech.ends now.service (plainly now.heard)) (x.reply (x.app before) now.service) (ends e) (f 0))
 
   pub over : ((frame : ℕ) → answer_after frame now.answer (x.speech.ends now.service (plainly now.heard)) ≡ now.answer) → is_over x.speech None false now ≡ true
-  over f = ap (λ l. is_none_left l && (if x.speech.handed now.service then is_none no_mail else is_some now.answer && not false)) none ∙ over_by (x.speech.handed now.service) refl f
+  over f = ap (λ l. is_none_left l && (if x.speech.handed now.service && is_none now.answer then is_none no_mail else is_some now.answer && not false)) none ∙ over_by (x.speech.handed now.service) refl f

@@ -38,7 +38,7 @@ module _ {M Q R : Type 0} (x : Speech M Q R) (acknowledged : Q → Bool) (frame 
 
   pub state_took : {X : Type 0} (hand : Option Duty) (target : ℕ) → (let b = account_begins x acknowledged frame d a hand (Some (Service.State target)) in b.started ≡ starts a (Service.State target) frame → b.hand ≡ None → X)
   state_took (Some duty) target took none = not_longer (Service.State target) took
-  state_took {X} None target took none = go (is_free x d d.now && is_acknowledged acknowledged d d.now) took none
+  state_took {X} None target took none = go (is_free x d d.now && is_acknowledged x acknowledged d d.now) took none
     where
       go : (b : Bool) → (let k = (if b then state_begins a target frame else a) in k.started ≡ starts a (Service.State target) frame → k.hand ≡ None → X)
       go true took none = absurd (let never : Some _ ≡ None = none in cc)

@@ -61,7 +61,7 @@ NoneLeft x l = (r : Row Body Asked Reply) → l.era.side.now ≡ Some r → left
 -- a service may begin: none is in hand, nor a mail that is passed on, and the write of the last one's acknowledgement is done
 pub record MayBegin (x : Speech Body Asked Reply) (l : Life Body Asked Reply) : Type 0 where
   pub free : is_free x l.era.side l.era.side.now ≡ true
-  pub done : is_acknowledged acknowledged l.era.side l.era.side.now ≡ true
+  pub done : is_acknowledged x acknowledged l.era.side l.era.side.now ≡ true
   pub hand : l.era.account.hand ≡ None
   pub passing : l.era.passing ≡ None
 

@@ -82,10 +82,10 @@ module _ {V M Q R : Type 0} (x : Exchange V V M Q R) (calm : V → Bool) (fair :
         go : (b : Bool) → (y.valid q && is_free y d d.now) ≡ b → StateLast (if b then record a { started = starts a (Service.Mails q) frame } else a).started → AllAnswered (side_begins y frame d d.now (Some q)).now
         go true e l = absurd (let no : Some (Service.Mails q) ≡ Some (Service.State l.0) = sym (newest_last a.started (record { service = Service.Mails q; frame = frame })) ∙ l.1 in cc)
         go false e l = not_begun q e (base l)
-    rests_by None (Some (Service.State target)) base l = go (is_free y d d.now && is_acknowledged acknowledged d d.now) refl l
+    rests_by None (Some (Service.State target)) base l = go (is_free y d d.now && is_acknowledged y acknowledged d d.now) refl l
       where
-        go : (b : Bool) → (is_free y d d.now && is_acknowledged acknowledged d d.now) ≡ b → StateLast (if b then state_begins a target frame else a).started → AllAnswered (side_begins y frame d d.now None).now
-        go true e l = no_side (free_answers d d.now (both_of (is_free y d d.now) (is_acknowledged acknowledged d d.now) e).0)
+        go : (b : Bool) → (is_free y d d.now && is_acknowledged y acknowledged d d.now) ≡ b → StateLast (if b then state_begins a target frame else a).started → AllAnswered (side_begins y frame d d.now None).now
+        go true e l = no_side (free_answers d d.now (both_of (is_free y d d.now) (is_acknowledged x acknowledged d d.now) e).0)
         go false e l = no_side (base l)
 
     -- WHERE NO MAIL IS PASSED ON that isn't over

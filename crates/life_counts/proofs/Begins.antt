@@ -106,7 +106,7 @@ module _ {V M Q R T : Type 0} (x : Exchange V V M Q R) (calm : V → Bool) (fair
   none_box None = refl
   none_box (Some m) = refl
 
-  last_seen : (d : SideHere) (now : Option (Row (Tagged M Q) (Asked M Q) (Option R))) → NowKnown now → is_acknowledged n.acknowledged (sees d) (option_map (λ r. row_seen mail n.name same r) now) ≡ is_acknowledged (asked_acknowledged s.acknowledged) d now
+  last_seen : (d : SideHere) (now : Option (Row (Tagged M Q) (Asked M Q) (Option R))) → NowKnown now → is_acknowledged n.speech n.acknowledged (sees d) (option_map (λ r. row_seen mail n.name same r) now) ≡ is_acknowledged (asked_acknowledged s.acknowledged) d now
   last_seen d None k = refl
   last_seen d (Some r) k = ap₂ (λ (a b : Bool). if a then b else true) (last_named r.service k.known) (none_box d.halves.out.holding)
 
@@ -217,12 +217,12 @@ module _ {V M Q R T : Type 0} (x : Exchange V V M Q R) (calm : V → Bool) (fair
           }
 
       -- a state service does
-      state_began : (target : ℕ) → (is_free n.speech (sees d) (sees d).now && is_acknowledged n.acknowledged (sees d) (sees d).now) ≡ true → account_begun None (Some (Service.State target)) ≡ state_begins a target frame
+      state_began : (target : ℕ) → (is_free n.speech (sees d) (sees d).now && is_acknowledged n.speech n.acknowledged (sees d) (sees d).now) ≡ true → account_begun None (Some (Service.State target)) ≡ state_begins a target frame
       state_began target may =
-          let parts = both_of (is_free n.speech (sees d) (sees d).now) (is_acknowledged n.acknowledged (sees d) (sees d).now) may in
+          let parts = both_of (is_free n.speech (sees d) (sees d).now) (is_acknowledged n.speech n.acknowledged (sees d) (sees d).now) may in
           ap₂ (λ (b c : Bool). if b && c then state_begins a target frame else a) (free_seen d d.now known ended parts.0) (sym (last_seen d d.now known) ∙ parts.1)
 
-      state_begun : (target : ℕ) → (is_free n.speech (sees d) (sees d).now && is_acknowledged n.acknowledged (sees d) (sees d).now) ≡ true → Begun None (Some (Service.State target)) (Some (Service.State target))
+      state_begun : (target : ℕ) → (is_free n.speech (sees d) (sees d).now && is_acknowledged n.speech n.acknowledged (sees d) (sees d).now) ≡ true → Begun None (Some (Service.State target)) (Some (Service.State target))
       state_begun target may =
           let began = state_began target may in
           let began_other : account_other None (Some (Service.State target)) ≡ state_begins (counts a) target frame = ap (λ (b : Bool). if b then state_begins (counts a) target frame else counts a) may in
@@ -292,9 +292,9 @@ module _ {V M Q R T : Type 0} (x : Exchange V V M Q R) (calm : V → Bool) (fair
                 let still : account_other None (Some (Service.Mails t)) ≡ counts a = ap (λ (b : Bool). if b then record (counts a) { started = starts (counts a) (Service.Mails t) frame } else counts a) may in
                 none_chosen None (Some (Service.Mails t)) (nothing None (Some (Service.Mails t)) (may_not n.speech frame (sees d) (sees d).now t may) still
                 (ap (λ (z : Account T (Option R)). if n.passed t && nat_lt (length (counts a).started) (length z.started) then Some Passing.Waiting else None) still ∙ lengths_none (n.passed t) (length (counts a).started)))
-        choose None (Some (Service.State target)) fairly = go (is_free n.speech (sees d) (sees d).now && is_acknowledged n.acknowledged (sees d) (sees d).now) refl
+        choose None (Some (Service.State target)) fairly = go (is_free n.speech (sees d) (sees d).now && is_acknowledged n.speech n.acknowledged (sees d) (sees d).now) refl
           where
-            go : (b : Bool) → (is_free n.speech (sees d) (sees d).now && is_acknowledged n.acknowledged (sees d) (sees d).now) ≡ b → Chosen table v None (Some (Service.State target))
+            go : (b : Bool) → (is_free n.speech (sees d) (sees d).now && is_acknowledged n.speech n.acknowledged (sees d) (sees d).now) ≡ b → Chosen table v None (Some (Service.State target))
             go true may = record {
               mine = Some (Service.State target);
               begun = state_begun target may;

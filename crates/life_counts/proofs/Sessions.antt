@@ -68,7 +68,7 @@ module _ {V M Q R C T A : Type 0} (w : Speaker V M Q R C T) (k : IsSpeaker w) (l
         go None (Some (Service.Mails q)) all =
             by (u.speech.valid q && is_free u.speech e.side e.side.now) (Service.Mails q) (record e.account { started = starts e.account (Service.Mails q) (length fs) }) refl all
         go None (Some (Service.State target)) all =
-            by (is_free u.speech e.side e.side.now && is_acknowledged w.naming.acknowledged e.side e.side.now) (Service.State target) (state_begins e.account target (length fs)) refl all
+            by (is_free u.speech e.side e.side.now && is_acknowledged u.speech w.naming.acknowledged e.side e.side.now) (Service.State target) (state_begins e.account target (length fs)) refl all
 
   module _ (plan : IsTaskPlan (seeing w) (seeing_states w) seer tables (planned spot (between v) r ∷ [])) (answers : r.station ≡ spot.station)
       (heard : (gs : List (Frame (Tagged M Q))) (counts : Bool) (d : Era (Tagged M Q) (Asked M Q) (Option R)) (m : Slave (Rowed V M Q) (Tagged M Q)) → LedHere gs counts d m → NoneUnheard (seeing w) is_passed d)

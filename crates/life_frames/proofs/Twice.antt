@@ -1,7 +1,7 @@
 -- The next mail is taken up, or isn't, and then a choice is made: before one frame both are one choice.
 use Rattle.std.proofs.Common.{◌≡◌, ◌++◌, ℕ, Bool, true, false, List, [], ◌∷◌, Option, Some, None, refl, sym, ap, ◌∙◌, length, arith}
 use Rattle.std.proofs.lemmas.Bool.{le-ltb}
-use Rattle.std.specs.Prelude.{◌&&◌, is_some, nat_lt, if◌then◌else◌, option_map}
+use Rattle.std.specs.Prelude.{◌&&◌, is_none, is_some, nat_lt, if◌then◌else◌, option_map}
 use Rattle.life_model.specs.of_exchange_model.Exchange.{Speech}
 use Rattle.life_model.specs.of_exchange_model.Rows.{Row, begun, left, row_told}
 use Rattle.frame_view.specs.of_link_mails.Body.{Body}
@@ -16,7 +16,7 @@ use Rattle.life_model.specs.of_task_model.Accounts.{Account, Duty, Pick, mails_c
 module _ {Q R : Type 0} (x : Speech Body Q R) where
   -- while a mail is held that was not yet sent, no service is over
   held_over : (m : LinkMail Body) (r : Row Body Q R) → is_over x (Some m) true r ≡ false
-  held_over m r = go (is_none_left (left x r)) (x.handed r.service) (is_some r.answer)
+  held_over m r = go (is_none_left (left x r)) (x.handed r.service && is_none r.answer) (is_some r.answer)
     where
       go : (a h s : Bool) → (a && (if h then false else s && false)) ≡ false
       go false h s = refl
@@ -56,7 +56,7 @@ module _ {Q R : Type 0} (x : Speech Body Q R) where
       go hand None = refl
       go (Some duty) (Some w) = refl
       go None (Some (Service.Mails q)) = never (x.valid q) (is_free x e e.now) (record a { started = starts a (Service.Mails q) made }) a free
-      go None (Some (Service.State target)) = ap (λ z. if z && is_acknowledged acknowledged e e.now then state_begins a target made else a) free
+      go None (Some (Service.State target)) = ap (λ z. if z && is_acknowledged x acknowledged e e.now then state_begins a target made else a) free
 
   taken : (now : Option (Row Body Q R)) (holding : Option (LinkMail Body)) (h : Bool) (m : Body) (ms : List Body) → next_mail x now holding h ≡ m ∷ ms → (r : Row Body Q R) × (now ≡ Some r)
   taken now holding false m ms k = absurd (cc)

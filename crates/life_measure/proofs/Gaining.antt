@@ -71,7 +71,7 @@ account_same x acknowledged frame d a None (Some (Service.Mails q)) e = go (x.va
     go : (b : Bool) → account_gains (if b then record a { started = starts a (Service.Mails q) frame } else a) ≡ account_gains a
     go true = refl
     go false = refl
-account_same x acknowledged frame d a None (Some (Service.State target)) e = go (is_free x d d.now && is_acknowledged acknowledged d d.now)
+account_same x acknowledged frame d a None (Some (Service.State target)) e = go (is_free x d d.now && is_acknowledged x acknowledged d d.now)
   where
     go : (b : Bool) → account_gains (if b then state_begins a target frame else a) ≡ account_gains a
     go true = omega (arith, ap duty_gains e)

@@ -7,7 +7,7 @@ use crate::found::{Brought, Found};
 use crate::laying::Laying;
 use crate::passed::Content;
 use ec_fields::{NoMemory, Rows};
-use mailbox_mail::{Kind, MailView, Took};
+use mailbox_mail::{Kind, MailView, ReplyKind, Took};
 use master_side::{Hand, Heard};
 use segment_plan::Service;
 use std::alloc::Global;
@@ -122,13 +122,23 @@ impl InHand {
         if self.clients.has_next(self.which) {
             return false;
         }
-        match self.which {
-            Which::Packet | Which::Passed => idle,
-            Which::Coe | Which::ReadFile | Which::WriteFile | Which::Soe | Which::Address => {
-                answered && !fresh
-            }
+        if is_handed(self.which) && !answered {
+            idle
+        } else {
+            answered && !fresh
         }
     }
+
+    // Whether the newest service, which has its answer, ends with an acknowledgement: a read that delivered its file does.
+    fn is_delivered(&self) -> bool {
+        self.which == Which::ReadFile
+            && matches!(self.clients.reply(self.which), Some(ReplyKind::Value))
+    }
+}
+
+// Whether a service that has no answer ends with its last write.
+fn is_handed(which: Which) -> bool {
+    matches!(which, Which::Packet | Which::Passed)
 }
 
 // How far the newest service has come behind a mail that replies, by whether mails of its own were left.
@@ -268,7 +278,8 @@ impl Hand for InHand {
     fn is_acknowledged(&self, idle: bool) -> bool {
         match self.course {
             Course::Nothing => true,
-            Course::Goes | Course::Answered => self.which != Which::ReadFile || idle,
+            Course::Goes => self.which != Which::ReadFile || idle,
+            Course::Answered => !self.is_delivered() || idle,
             Course::Mute | Course::Closed | Course::Astray => idle,
         }
     }

@@ -78,14 +78,14 @@ still_on l k n a b = record { stand = b.stand ∙ a.stand; side = b.side ∙ a.s
 pub record MightBegin (x : Speech Body Asked Reply) (l : Life Body Asked Reply) : Type 0 where
   pub stands : l.stand ≡ Lives.Stand.Open
   pub free : is_free x l.era.side l.era.side.now ≡ true
-  pub done : is_acknowledged acknowledged l.era.side l.era.side.now ≡ true
+  pub done : is_acknowledged x acknowledged l.era.side l.era.side.now ≡ true
   pub hand : l.era.account.hand ≡ None
 
 pub might_still : (x : Speech Body Asked Reply) (l k : Life Body Asked Reply) → StillLife l k → MightBegin x l → MightBegin x k
 might_still x l k s m = record {
   stands = s.stand ∙ m.stands;
   free = subst (λ (z : Seats.Side Body Asked Reply). is_free x z z.now ≡ true) (sym s.side) m.free;
-  done = subst (λ (z : Seats.Side Body Asked Reply). is_acknowledged acknowledged z z.now ≡ true) (sym s.side) m.done;
+  done = subst (λ (z : Seats.Side Body Asked Reply). is_acknowledged x acknowledged z z.now ≡ true) (sym s.side) m.done;
   hand = ap (λ (z : Account Asked Reply). z.hand) s.account ∙ m.hand;
 }
 

@@ -177,7 +177,7 @@ module _ (areas : Areas) where
     state_by : (target : ℕ) (hand : Option Duty) → l.era.account.hand ≡ hand → (account_begins x acknowledged made l.era.side l.era.account hand (Some (Service.State target))).started ≡ starts l.era.account (Service.State target) made →
         StateBegan (account_begins x acknowledged made l.era.side l.era.account hand (Some (Service.State target)))
     state_by target (Some duty) e c = absurd (no_more l.era.account.started _ c)
-    state_by target None e c = by (is_free x l.era.side l.era.side.now) (is_acknowledged acknowledged l.era.side l.era.side.now) refl c
+    state_by target None e c = by (is_free x l.era.side l.era.side.now) (is_acknowledged x acknowledged l.era.side l.era.side.now) refl c
       where
         by : (free done : Bool) → is_free x l.era.side l.era.side.now ≡ free → (if free && done then state_begins l.era.account target made else l.era.account).started ≡ starts l.era.account (Service.State target) made →
             StateBegan (if free && done then state_begins l.era.account target made else l.era.account)

@@ -27,7 +27,7 @@ use Rattle.master_node.specs.declared.lan.Lan.{Lan}
 pub record MayBegin (lens : ℕ → Lens) (a : Leads) : Type 0 where
   pub stands : a.lived.life.stand ≡ Stand.Open
   pub free : is_free (speech_at lens a.lived.spot) a.lived.life.era.side a.lived.life.era.side.now ≡ true
-  pub done : is_acknowledged acknowledged a.lived.life.era.side a.lived.life.era.side.now ≡ true
+  pub done : is_acknowledged (speech_at lens a.lived.spot) acknowledged a.lived.life.era.side a.lived.life.era.side.now ≡ true
   pub hand : a.lived.life.era.account.hand ≡ None
 
 -- THE MASTER WANTS NOTHING of a slave, by its life: it was given up for good; or it is open, no service is in hand and none is left of its script, both
@@ -60,7 +60,7 @@ pub record SideRests {G : Ghosts InHand} (s : Side InHand G) : Type 0 where
   pub hand : in_hand s.duty ≡ None
   pub unpassed : s.passing ≡ None
   pub free : is_free speech side side.now ≡ true
-  pub done : is_acknowledged acknowledged side side.now ≡ true
+  pub done : is_acknowledged speech acknowledged side side.now ≡ true
   pub out : s.out.state ≡ None
   pub inn : (in_half_of s.inn).state ≡ InState.Clear
   pub script : slice_get s.hand.laying.script s.hand.laying.number ≡ None

@@ -74,7 +74,7 @@ pub record SideFrees {G : Ghosts InHand} (s : Side InHand G) : Type 0 where
   pub hand : in_hand s.duty ≡ None
   pub unpassed : s.passing ≡ None
   pub free : is_free speech side side.now ≡ true
-  pub done : is_acknowledged acknowledged side side.now ≡ true
+  pub done : is_acknowledged speech acknowledged side side.now ≡ true
 
 -- a service by mails
 abbrev pub IsByMails : Option Service → Type 0

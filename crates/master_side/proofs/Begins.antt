@@ -93,7 +93,7 @@ module _ {Q : Type 0} (x : Speech Body Q Reply) (acknowledged : Q → Bool) wher
 
   -- a state service
   pub begins_state : (made : ℕ) (d : Side Body Q Reply) (a : Account Q Reply) (shows : Rows → Type 0) (out : OutLink (Option Mail)) (inn : InwardHalf) (fresh : Bool) (duty : Option Met) (new : Duty) (target : ℕ) →
-      SideShows shows out inn fresh duty d a → in_hand duty ≡ None → is_free x d d.now ≡ true → is_acknowledged acknowledged d d.now ≡ true → new.target ≡ target → new.stage ≡ Stage.Drain →
+      SideShows shows out inn fresh duty d a → in_hand duty ≡ None → is_free x d d.now ≡ true → is_acknowledged x acknowledged d d.now ≡ true → new.target ≡ target → new.stage ≡ Stage.Drain →
       Begins x acknowledged made d a (Some (Service.State target)) (λ e b. SideShows shows out inn fresh (Some (Met.On new)) e b)
   begins_state made d a shows out inn fresh duty new target s n free known to stage = record {
     shown = subst (λ (h : Option Accounts.Duty). SideShows shows out inn fresh (Some (Met.On new)) (Seats.side_begins x made d d.now (mails_begin h (Some (Service.State target)))) (account_begins x acknowledged made d a h (Some (Service.State target))))

@@ -56,11 +56,11 @@ module _ {H : Type 0} {G : Ghosts H} where
   -- WHERE IT IS FREE the newest service is over and acknowledged, and no state service is in hand
   abbrev pub FreeSays : Side H G → Bool → Type 0
   FreeSays s free = (x : SpeechOf G.Asked) (d : HalfOf G.Asked) (a : AccountOf G.Asked) → ShowsOf s x d a → free ≡ true →
-      (is_free x d d.now ≡ true) × (is_acknowledged G.acknowledged d d.now ≡ true) × (in_hand s.duty ≡ None)
+      (is_free x d d.now ≡ true) × (is_acknowledged x G.acknowledged d d.now ≡ true) × (in_hand s.duty ≡ None)
 
   -- A SERVICE MAY BEGIN by the model: nothing is in hand, and the newest service is over and acknowledged
   abbrev pub MayBegin : Side H G → SpeechOf G.Asked → HalfOf G.Asked → Type 0 → Type 0
-  MayBegin s x d P = in_hand s.duty ≡ None → s.passing ≡ None → is_free x d d.now ≡ true → is_acknowledged G.acknowledged d d.now ≡ true → P
+  MayBegin s x d P = in_hand s.duty ≡ None → s.passing ≡ None → is_free x d d.now ≡ true → is_acknowledged x G.acknowledged d d.now ≡ true → P
 
   -- and where that is so it is free, if its hand knows its mails
   abbrev pub FreeWhere : Side H G → Bool → Type 0
@@ -85,7 +85,7 @@ module _ {H : Type 0} {G : Ghosts H} where
   -- or a change of state
   abbrev pub StateBegins : Side H G → Side H G → ℕ → Type 0
   StateBegins s t target = (x : SpeechOf G.Asked) (made : ℕ) (d : HalfOf G.Asked) (a : AccountOf G.Asked) → ShowsOf s x d a → is_free x d d.now ≡ true →
-      is_acknowledged G.acknowledged d d.now ≡ true → in_hand s.duty ≡ None →
+      is_acknowledged x G.acknowledged d d.now ≡ true → in_hand s.duty ≡ None →
       Begins x G.acknowledged made d a (Some (Service.State target)) (λ e b. ShowsOf t x e b)
 
   -- THIS COMES INTO HAND, AND THE NEXT MAIL IS TAKEN UP, or none is

@@ -145,8 +145,8 @@ pub trait Hand {
 
     /// Whether the write of its last mail is done, where that mail is an acknowledgement.
     fn is_acknowledged(&self, idle: bool) -> bool
-        ensures done { (x : Speech Body Asked Reply) (d : Side Body Asked Reply) → result ≡ true → (idle ≡ true → d.halves.out.holding ≡ None) → shows self.now x d.now → is_acknowledged acknowledged d d.now ≡ true }
-        ensures sure { (x : Speech Body Asked Reply) (d : Side Body Asked Reply) → knows self.now ≡ true → (d.halves.out.holding ≡ None → idle ≡ true) → shows self.now x d.now → is_acknowledged acknowledged d d.now ≡ true → result ≡ true }
+        ensures done { (x : Speech Body Asked Reply) (d : Side Body Asked Reply) → result ≡ true → (idle ≡ true → d.halves.out.holding ≡ None) → shows self.now x d.now → is_acknowledged x acknowledged d d.now ≡ true }
+        ensures sure { (x : Speech Body Asked Reply) (d : Side Body Asked Reply) → knows self.now ≡ true → (d.halves.out.holding ≡ None → idle ≡ true) → shows self.now x d.now → is_acknowledged x acknowledged d d.now ≡ true → result ≡ true }
         ensures is { result ≡ done self.now idle };
 
     /// The newest service is forgotten, and the one that was laid ready: the slave is opened anew.

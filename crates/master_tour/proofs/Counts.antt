@@ -36,7 +36,7 @@ module _ {Q : Type 0} (x : Speech Body Q Reply) (acknowledged : Q → Bool) (mor
       go : (b : Bool) → ((if b then record a { started = starts a (Service.Mails q) made } else a).started ≡ a.started ++ started_by made (Some (Service.Mails q))) ⊎ ((if b then record a { started = starts a (Service.Mails q) made } else a).started ≡ a.started ++ [])
       go true = inl refl
       go false = inr (sym (append-nil a.started))
-  counts d a None (Some (Service.State target)) = go (is_free x d d.now && is_acknowledged acknowledged d d.now)
+  counts d a None (Some (Service.State target)) = go (is_free x d d.now && is_acknowledged x acknowledged d d.now)
     where
       go : (b : Bool) → ((if b then state_begins a target made else a).started ≡ a.started ++ started_by made (Some (Service.State target))) ⊎ ((if b then state_begins a target made else a).started ≡ a.started ++ [])
       go true = inl refl

@@ -20,4 +20,4 @@ TakesUp {Q} stand held knows shows = stand ≡ Stand.Open → held ≡ None → 
 -- where nothing came into hand by it though something might, this wish was for none
 abbrev pub BeginsAll : {Q : Type 0} → Stand → Bool → Bool → Option Met → Option Passing → (Q → Bool) → (Speech Body Q Reply → Side Body Q Reply → Account Q Reply → Type 0) → Option Wish → Option Q → Type 0
 BeginsAll {Q} stand began knows duty passing acknowledged shows wish ready = stand ≡ Stand.Open → began ≡ false → knows ≡ true → in_hand duty ≡ None → passing ≡ None → (x : Speech Body Q Reply) (d : Side Body Q Reply) (a : Account Q Reply) → shows x d a →
-    is_free x d d.now ≡ true → is_acknowledged acknowledged d d.now ≡ true → BeginsNone wish ready
+    is_free x d d.now ≡ true → is_acknowledged x acknowledged d d.now ≡ true → BeginsNone wish ready

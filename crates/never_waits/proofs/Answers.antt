@@ -1,16 +1,17 @@
 -- A row that is answered, and whose service has no acknowledgement, was told and taken whole.
-use Rattle.std.proofs.Common.{◌≡◌, inl, inr, ℕ, Bool, true, false, Some, None, List, [], ◌++◌, length, sym, ap, ◌∙◌, subst, append-nil, append_assoc}
+use Rattle.std.proofs.Common.{◌≡◌, ◌&&◌, nat_lt, inl, inr, ℕ, Bool, true, false, Some, None, List, [], ◌++◌, length, sym, ap, ap₂, ◌∙◌, subst, append-nil, append_assoc}
 use Rattle.std.specs.Prelude.{drop}
-use Rattle.exchange_model.specs.Exchange.{Exchange, IsLawful, AnswersLast, after, given, plain}
+use Rattle.exchange_model.specs.Exchange.{Exchange, IsLawful, AnswersLast, after, given, outnumbers, plain}
 use Rattle.exchange_model.specs.Prefix.{IsPrefixOf}
-use Rattle.exchange_model.specs.Rows.{Row, left, told_all, heard_all}
+use Rattle.exchange_model.specs.Rows.{Row, ends_unheard, left, told_all, heard_all}
 use Rattle.exchange_model.specs.Laws.{Moment}
+use Rattle.exchange_model.proofs.Lasts.{answered_unheard}
 use Rattle.exchange_model.proofs.Lists.{append_none, append_cancel, both_ways, drop_behind, filter_both}
 use Rattle.exchange_model.proofs.Nows.{complete, reached_or_waits}
 use Rattle.exchange_model.proofs.Settles.{settled_heard, settled_ready}
 use Rattle.exchange_model.proofs.Words.{given_part, plain-append, plain_given-append}
 use Rattle.state_exchange.specs.Stated.{Stated, IsStated, Service, acts, mails, with_states}
-use Rattle.state_exchange.proofs.Acts.{acts_same, cut_mails, front_acts, rest_acts, plain_given_acts}
+use Rattle.state_exchange.proofs.Acts.{acts_length, acts_same, cut_mails, front_acts, rest_acts, plain_given_acts}
 use Rattle.state_model.specs.States.{Table}
 use Rattle.never_waits.specs.Waits.{NeverWaits}
 
@@ -32,7 +33,7 @@ module _ {V A M Q R : Type 0} (x : Exchange V A M Q R) (law : IsLawful x) (v : V
   on = settled_ready x law v past ready at.fits.settled
 
   -- ALL WAS TOLD AND TAKEN, and nothing is left
-  pub answered_all : (acknowledged : Q → Bool) → AnswersLast x acknowledged → (answer : R × ℕ) → now.answer ≡ Some answer → acknowledged now.service ≡ false → (taken ≡ held) × (left x.speech now ≡ [])
+  pub answered_all : (acknowledged : Q → Bool) → AnswersLast x acknowledged → (answer : R × ℕ) → now.answer ≡ Some answer → ends_unheard x.speech acknowledged now ≡ false → (taken ≡ held) × (left x.speech now ≡ [])
   answered_all acknowledged lasts answer is quiet =
       let known = at.fits.answered answer is in
       elim (reached_or_waits x law v past now held taken accepted at.fits.settled at.fits.all_held at.fits.all_accepted at.order at.hears) [
@@ -43,7 +44,10 @@ module _ {V A M Q R : Type 0} (x : Exchange V A M Q R) (law : IsLawful x) (v : V
             let same : plainly (given x.serve before here.own) ≡ plainly (given x.serve before all) =
             both_ways (plainly (given x.serve before here.own)) (plainly (given x.serve before all)) (filter_both _ _ _ (given_part x.serve before here.own all (rest, sym whole)))
             (subst (λ l. IsPrefixOf l (plainly (given x.serve before here.own))) done.all_heard here.hears) in
-            let none = append_none at.order.0 at.fits.mine.0 (lasts before now.service on at.fits.valid known.0 quiet here.own rest whole same) in
+            let unheard : (acknowledged now.service && outnumbers all (plainly (given x.serve before all))) ≡ false =
+            ap₂ (λ (ms hs : List M). acknowledged now.service && outnumbers ms hs) (sym (ap (x.speech.planned now.service) done.all_heard ∙ law.all_planned before now.service on at.fits.valid)) (sym done.all_heard)
+            ∙ sym (answered_unheard x.speech acknowledged now answer is) ∙ quiet in
+            let none = append_none at.order.0 at.fits.mine.0 (lasts before now.service on at.fits.valid known.0 unheard here.own rest whole same) in
             let told : now.told ≡ all = sym (append-nil now.told) ∙ ap (λ l. now.told ++ l) (sym none.1) ∙ at.fits.mine.1 in
             let planned : x.speech.planned now.service (plainly now.heard) ≡ now.told ++ [] =
             ap (x.speech.planned now.service) done.all_heard ∙ law.all_planned before now.service on at.fits.valid ∙ sym told ∙ sym (append-nil now.told) in (
@@ -86,5 +90,8 @@ module _ {V A M Q R : Type 0} (x : Exchange V A M Q R) (s : Stated V A Q) (table
       let front : acts (mails p) ≡ p = front_acts full p r e in
       let equal : acts (plain x.speech.emission (given x.serve c.server (mails p))) ≡ acts (plain x.speech.emission (given x.serve c.server full)) =
       sym (plain_given_acts x s table c (mails p)) ∙ ap (λ l. plain (with_states x s table).speech.emission (given (with_states x s table).serve c l)) front ∙ same ∙ plain_given_acts x s table c full in
-      sym (rest_acts full p r e) ∙ ap acts (stated.last c.server q ready valid replies quiet (mails p) (mails r) (cut_mails full p r e) (acts_same _ _ equal))
+      let unheard : outnumbers full (plain x.speech.emission (given x.serve c.server full))
+          ≡ outnumbers (acts full) (plain (with_states x s table).speech.emission (given (with_states x s table).serve c (acts full))) =
+      ap₂ nat_lt (sym (acts_length (plain x.speech.emission (given x.serve c.server full))) ∙ ap length (sym (plain_given_acts x s table c full))) (sym (acts_length full)) in
+      sym (rest_acts full p r e) ∙ ap acts (stated.last c.server q ready valid replies (ap (λ b. s.acknowledged q && b) unheard ∙ quiet) (mails p) (mails r) (cut_mails full p r e) (acts_same _ _ equal))
   states_last c (Service.State target) ready valid replies quiet p r e same = absurd (let no : true ≡ false = replies in cc)

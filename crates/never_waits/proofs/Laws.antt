@@ -1,7 +1,7 @@
 -- The laws at the life of a slave.
 use Rattle.std.proofs.Common.{◌≡◌, ℕ, false, Bool, Option, Some, None, List, [], refl, sym, ap, ◌∙◌, subst}
 use Rattle.exchange_model.specs.Exchange.{Exchange, Speech, IsLawful}
-use Rattle.exchange_model.specs.Rows.{Row, left}
+use Rattle.exchange_model.specs.Rows.{Row, ends_unheard, left}
 use Rattle.life_model.specs.Eras.{EraIs}
 use Rattle.life_model.specs.Lives.{Spot, Era, era_next, granted}
 use Rattle.never_waits.specs.Waits.{NeverWaits}
@@ -21,7 +21,7 @@ use Rattle.never_waits.proofs.Seats.{answered_known, free, heard_whole}
 module _ {V A M Q R : Type 0} (x : Exchange V A M Q R) (s : Stated V A Q) (processor : Processor V) (table : ℕ → Table) (spot : Spot) (e : Era M Q R) (opened last : ℕ) (fs : List (Frame M)) (v : V) (r : Registers) (slave : Slave V M)
     (law : IsLawful x) (stated : IsStated x s) (is : EraIs x s processor table spot e opened last fs v r slave) where
   abbrev Answered : Side M Q R → Account Q R → Type 0
-  Answered d a = a.hand ≡ None → (row : Row M Q R) → d.now ≡ Some row → (answer : R × ℕ) → row.answer ≡ Some answer → s.acknowledged row.service ≡ false → (left x.speech row ≡ []) × (d.fresh ≡ false)
+  Answered d a = a.hand ≡ None → (row : Row M Q R) → d.now ≡ Some row → (answer : R × ℕ) → row.answer ≡ Some answer → ends_unheard x.speech s.acknowledged row ≡ false → (left x.speech row ≡ []) × (d.fresh ≡ false)
 
   pub answered : Answered e.side e.account
   answered = of_era x law s stated processor table (λ d a n. Answered d a)

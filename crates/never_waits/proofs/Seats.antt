@@ -1,7 +1,7 @@
 -- The newest row of a slave with no state service in hand.
-use Rattle.std.proofs.Common.{◌≡◌, inl, inr, ℕ, ◌&&◌, Bool, true, false, not, is_none, is_some, Option, Some, None, option_map, List, [], ◌∷◌, ◌++◌, length, refl, sym, ap, ◌∙◌, subst, append-nil, arith, if◌then◌else◌}
+use Rattle.std.proofs.Common.{◌≡◌, inl, inr, ℕ, ◌&&◌, ◌||◌, Bool, true, false, not, is_none, is_some, Option, Some, None, option_map, List, [], ◌∷◌, ◌++◌, length, nat_lt, refl, sym, ap, ◌∙◌, subst, append-nil, arith, if◌then◌else◌}
 use Rattle.exchange_model.specs.Exchange.{Exchange, IsLawful, given, plain}
-use Rattle.exchange_model.specs.Rows.{Row, answer_after, left}
+use Rattle.exchange_model.specs.Rows.{Row, answer_after, ends_unheard, left}
 use Rattle.exchange_model.proofs.Lists.{append_cancel, append_none}
 use Rattle.link_model.specs.Mails.{news, seen}
 use Rattle.link_model.specs.Master.{InState}
@@ -12,8 +12,8 @@ use Rattle.segment_model.specs.Laws.{IsSettled, as_outcome}
 use Rattle.segment_model.specs.Record.{Frame}
 use Rattle.segment_model.specs.Seats.{Seat, is_over, is_none_left, link_of}
 use Rattle.segment_model.proofs.Rests.{all_taken, all_offered}
-use Rattle.state_exchange.specs.Stated.{Stated, IsStated, Act, Service, Counting, acts, all_mails, ends_by, with_states, service_handed}
-use Rattle.state_exchange.proofs.Acts.{acts_same, all_acts, left_mails, plain_acts, plain_given_acts}
+use Rattle.state_exchange.specs.Stated.{Stated, IsStated, Act, Service, Counting, acts, all_mails, ends_by, planned_by, with_states, service_handed}
+use Rattle.state_exchange.proofs.Acts.{acts_length, acts_same, all_acts, left_mails, plain_acts, plain_given_acts}
 use Rattle.state_exchange.proofs.StatedLaw.{stated_law}
 use Rattle.state_model.specs.Promises.{IsTable}
 use Rattle.state_model.specs.States.{Table}
@@ -65,19 +65,34 @@ module _ {V A M Q R : Type 0} (x : Exchange V A M Q R) (law : IsLawful x) (s : S
     pub left : left x.speech r ≡ []
     pub sent : seat.side.fresh ≡ false
 
-  by_mails : (g : Rows) → MailsNow seat.side a.hand (g.front ++ g.last) g.now → (r : Row M Q R) → seat.side.now ≡ Some r → (answer : R × ℕ) → r.answer ≡ Some answer → s.acknowledged r.service ≡ false → Known r
+  -- a row by mails ends unheard as it does without states
+  same_unheard : (g : Rows) (r : Row M Q R) → g.now.service ≡ Service.Mails r.service → g.now.heard ≡ acts r.heard → g.now.answer ≡ as_outcome r.answer →
+      ends_unheard both.speech (acknowledges s.acknowledged) g.now ≡ ends_unheard x.speech s.acknowledged r
+  same_unheard g r service heard answer =
+      let replies : plain both.speech.emission g.now.heard ≡ acts (plain x.speech.emission r.heard) = ap (plain both.speech.emission) heard ∙ plain_acts x.speech.emission r.heard in
+      let sends : both.speech.planned g.now.service (plain both.speech.emission g.now.heard) ≡ acts (x.speech.planned r.service (plain x.speech.emission r.heard)) =
+      ap (λ (q : Service Q). both.speech.planned q (plain both.speech.emission g.now.heard)) service ∙ ap (λ l. planned_by x.speech r.service (all_mails l)) replies
+      ∙ ap (planned_by x.speech r.service) (all_acts (plain x.speech.emission r.heard)) in
+      (λ i. acknowledges s.acknowledged (service i) && (is_none (answer i) || nat_lt (length (replies i)) (length (sends i))))
+      ∙ (λ i. s.acknowledged r.service && (is_none_as r.answer i || nat_lt (acts_length (plain x.speech.emission r.heard) i) (acts_length (x.speech.planned r.service (plain x.speech.emission r.heard)) i)))
+    where
+      is_none_as : (o : Option (R × ℕ)) → is_none (as_outcome o) ≡ is_none o
+      is_none_as None = refl
+      is_none_as (Some a) = refl
+
+  by_mails : (g : Rows) → MailsNow seat.side a.hand (g.front ++ g.last) g.now → (r : Row M Q R) → seat.side.now ≡ Some r → (answer : R × ℕ) → r.answer ≡ Some answer → ends_unheard x.speech s.acknowledged r ≡ false → Known r
   by_mails g m r now answer said quiet =
       let same : m.row ≡ r = (let some : Some m.row ≡ Some r = sym m.is ∙ now in cc) in
       let shows = subst (λ z. g.now.service ≡ Service.Mails z.service) same m.shows.service in
       let told = ap (λ (z : Row M Q R). z.told) same in
       let all = answered_all both (stated_law x s table stated law) (counting seat.start) h.ready g.front g.last g.now held h.carried.taken (acts seat.accepted) g.moment (acknowledges s.acknowledged) (states_last x s table stated)
-      (Outcome.Replied answer.0, answer.1) (m.shows.answer ∙ ap (λ (z : Row M Q R). as_outcome z.answer) same ∙ ap as_outcome said) (ap (acknowledges s.acknowledged) shows ∙ quiet) in
+      (Outcome.Replied answer.0, answer.1) (m.shows.answer ∙ ap (λ (z : Row M Q R). as_outcome z.answer) same ∙ ap as_outcome said) (same_unheard g r shows (m.shows.heard ∙ ap (λ (z : Row M Q R). acts z.heard) same) (m.shows.answer ∙ ap (λ (z : Row M Q R). as_outcome z.answer) same) ∙ quiet) in
       let rest : h.carried.rest ≡ [] = acts_none h.carried.rest (sym (append_cancel h.carried.taken [] (acts h.carried.rest) (append-nil h.carried.taken ∙ all.0))) in
       let mine : left both.speech g.now ≡ acts (left x.speech r) =
       left_mails x s table g.now r shows (m.shows.told ∙ ap acts told) (m.shows.heard ∙ ap (λ (z : Row M Q R). acts z.heard) same) in
       record { left = acts_none (left x.speech r) (sym mine ∙ all.1); sent = sent_by seat.side.fresh refl rest }
 
-  pub answered_known : (r : Row M Q R) → seat.side.now ≡ Some r → (answer : R × ℕ) → r.answer ≡ Some answer → s.acknowledged r.service ≡ false → Known r
+  pub answered_known : (r : Row M Q R) → seat.side.now ≡ Some r → (answer : R × ℕ) → r.answer ≡ Some answer → ends_unheard x.speech s.acknowledged r ≡ false → Known r
   answered_known r now answer said quiet = elim h.carried.rows [
     | inl u ↦ absurd (let no : Some r ≡ None = sym now ∙ u.now in cc)
     | inr g ↦ elim g.place [
@@ -110,11 +125,12 @@ module _ {V A M Q R : Type 0} (x : Exchange V A M Q R) (law : IsLawful x) (s : S
 
     over_by : (r : Row M Q R) → left x.speech r ≡ [] → (x.speech.handed r.service ≡ false → is_some r.answer ≡ true) → is_over x.speech seat.side.halves.out.holding seat.side.fresh r ≡ true
     over_by r none answered =
-        ap (λ l. is_none_left l && (if x.speech.handed r.service then is_none seat.side.halves.out.holding else is_some r.answer && not seat.side.fresh)) none ∙ go (x.speech.handed r.service) refl
+        ap (λ l. is_none_left l && (if x.speech.handed r.service && is_none r.answer then is_none seat.side.halves.out.holding else is_some r.answer && not seat.side.fresh)) none ∙ go (x.speech.handed r.service) r.answer refl refl
       where
-        go : (b : Bool) → x.speech.handed r.service ≡ b → (if b then is_none seat.side.halves.out.holding else is_some r.answer && not seat.side.fresh) ≡ true
-        go true e = ap is_none idles
-        go false e = ap (λ b. b && not seat.side.fresh) (answered e) ∙ ap not sent
+        go : (b : Bool) (o : Option (R × ℕ)) → x.speech.handed r.service ≡ b → r.answer ≡ o → (if b && is_none o then is_none seat.side.halves.out.holding else is_some o && not seat.side.fresh) ≡ true
+        go true None e a = ap is_none idles
+        go true (Some k) e a = ap not sent
+        go false o e a = ap (λ b. b && not seat.side.fresh) (ap is_some (sym a) ∙ answered e) ∙ ap not sent
 
     mails_answered : (g : Rows) → MailsNow seat.side a.hand (g.front ++ g.last) g.now → (r : Row M Q R) → seat.side.now ≡ Some r → left x.speech r ≡ [] →
         ((frame : ℕ) → answer_after frame r.answer (x.speech.ends r.service (plain x.speech.emission r.heard)) ≡ r.answer) → x.speech.handed r.service ≡ false → is_some r.answer ≡ true
@@ -190,13 +206,13 @@ module _ {V A M Q R : Type 0} (x : Exchange V A M Q R) (law : IsLawful x) (s : S
     free_by None e k = refl
     free_by (Some r) e k = row_over r e (k r e).0 (k r e).1
 
-    done_by : (now : Option (Row M Q R)) → is_acknowledged s.acknowledged seat.side now ≡ true
+    done_by : (now : Option (Row M Q R)) → is_acknowledged x.speech s.acknowledged seat.side now ≡ true
     done_by None = refl
-    done_by (Some r) = go (s.acknowledged r.service)
+    done_by (Some r) = go (ends_unheard x.speech s.acknowledged r)
       where
         go : (b : Bool) → (if b then is_none seat.side.halves.out.holding else true) ≡ true
         go true = ap is_none idles
         go false = refl
 
-    pub free : NoneLeft → (is_free x.speech seat.side seat.side.now ≡ true) × (is_acknowledged s.acknowledged seat.side seat.side.now ≡ true)
+    pub free : NoneLeft → (is_free x.speech seat.side seat.side.now ≡ true) × (is_acknowledged x.speech s.acknowledged seat.side seat.side.now ≡ true)
     free k = (free_by seat.side.now refl k, done_by seat.side.now)

@@ -1,7 +1,7 @@
 -- What the laws say of the newest service of an open slave.
 use Rattle.std.specs.Prelude.{◌≡◌, ℕ, false, Bool, Some, None, List, []}
 use Rattle.exchange_model.specs.Exchange.{Exchange, Speech, IsLawful}
-use Rattle.exchange_model.specs.Rows.{Row, left}
+use Rattle.exchange_model.specs.Rows.{Row, ends_unheard, left}
 use Rattle.life_model.specs.Eras.{EraIs}
 use Rattle.life_model.specs.Lives.{Spot, Era, era_next}
 use Rattle.never_waits.specs.Waits.{NeverWaits}
@@ -17,7 +17,7 @@ use Rattle.never_waits.specs.Moments.{IsFree, IsMailsLast, HasNothing, HeldStill
 abbrev pub ToldWhole : {V A M Q R : Type 0} → Exchange V A M Q R → Stated V A Q → Era M Q R → Type 0
 ToldWhole {V} {A} {M} {Q} {R} x s e =
     e.account.hand ≡ None → (row : Row M Q R) → e.side.now ≡ Some row → (answer : R × ℕ) → row.answer ≡ Some answer →
-    s.acknowledged row.service ≡ false → (left x.speech row ≡ []) × (e.side.fresh ≡ false)
+    ends_unheard x.speech s.acknowledged row ≡ false → (left x.speech row ≡ []) × (e.side.fresh ≡ false)
 
 -- of every epoch of a slave, behind any frames: what has its answer was told whole
 abbrev pub AnsweredIsTold : (V A M Q R : Type 0) → Type 0

@@ -22,7 +22,7 @@ NoneLeft {M} {Q} {R} x d = (r : Row M Q R) → d.now ≡ Some r → left x r ≡
 -- it is over, and the write of its acknowledgement is done: a state service may begin, where none is in hand
 pub record IsFree {M Q R : Type 0} (x : Speech M Q R) (acknowledged : Q → Bool) (d : Side M Q R) : Type 0 where
   pub free : is_free x d d.now ≡ true
-  pub done : is_acknowledged acknowledged d d.now ≡ true
+  pub done : is_acknowledged x acknowledged d d.now ≡ true
 
 -- NOTHING IS LEFT of the slave, and nothing is held of it, in hand or in doubt
 pub record HasNothing {V M Q R : Type 0} (x : Speech M Q R) (e : Era M Q R) (n : Slave V M) : Type 0 where

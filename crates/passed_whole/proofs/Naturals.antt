@@ -180,6 +180,10 @@ module _ {N M : Type 0} (f : N → M) where
     answer_is None = refl
     answer_is (Some a) = refl
 
+    none_is : (a : Option (S × ℕ)) → is_none a ≡ is_none (answer_of a)
+    none_is None = refl
+    none_is (Some a) = refl
+
     -- nothing is left of a row for one where nothing is for the other
     pub none_of : (r : Row N P S) → PlanOne f g h y x r.service r.heard → is_none_left (left y r) ≡ is_none_left (left x (row_of r))
     none_of r plan = none_left_of (left y r) ∙ ap is_none_left (left_of r plan)
@@ -187,8 +191,7 @@ module _ {N M : Type 0} (f : N → M) where
     over_of : AreOne f g h y x → (holding : Option (LinkMail N)) (fresh : Bool) (r : Row N P S) → PlanOne f g h y x r.service r.heard → is_over y holding fresh r ≡ is_over x (box_as f holding) fresh (row_of r)
     over_of one holding fresh r plan =
         ap₂ (λ (a b : Bool). a && b) (none_of r plan)
-        (ap₂ (λ (k n : Bool). if k then n else is_some r.answer && not fresh) (one.handed r.service) (holding_of holding)
-        ∙ ap (λ b. if x.handed (g r.service) then is_none (box_as f holding) else b && not fresh) (answer_is r.answer))
+        (λ i. if one.handed r.service i && none_is r.answer i then holding_of holding i else answer_is r.answer i && not fresh)
 
     past_of : (rs : List (Row N P S)) (r : Row N P S) → map row_of (rs ++ r ∷ []) ≡ map row_of rs ++ row_of r ∷ []
     past_of [] r = refl

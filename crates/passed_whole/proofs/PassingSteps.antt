@@ -127,7 +127,7 @@ module _ {M Q R : Type 0} (x : Speech M Q R) (acknowledged : Q → Bool) (more :
     begins_keep (Some duty) (Some (Service.Mails q)) = kept_mails q
     begins_keep (Some duty) (Some (Service.State target)) = record { steps = refl; under = λ u. u }
     begins_keep None (Some (Service.Mails q)) = mails_keep q (x.valid q && is_free x d d.now)
-    begins_keep None (Some (Service.State target)) = state_keep target (is_free x d d.now && is_acknowledged acknowledged d d.now)
+    begins_keep None (Some (Service.State target)) = state_keep target (is_free x d d.now && is_acknowledged x acknowledged d d.now)
 
     next_keeps : (passing : Option Passing) (pick : Pick Q) → Keeps passing (account_next x acknowledged frame d a (granted passing pick)) (passing_begins x acknowledged more passed passing a (account_next x acknowledged frame d a (granted passing pick)) (granted passing pick).begin)
     next_keeps None pick = begins_keep a.hand pick.begin

@@ -71,7 +71,7 @@ module _ {V A M Q R : Type 0} (x : Exchange V A M Q R) (law : IsLawful x) (proce
 
     idle : (now : Option (Row M Q R)) → d.now ≡ now → is_free x.speech d now ≡ true → d.fresh ≡ false
     idle None e free = subst (λ n. NewOf n d.fresh) e new
-    idle (Some r) e free = go (x.speech.handed r.service) (both_true (is_none_left (left x.speech r)) _ free).1
+    idle (Some r) e free = go (x.speech.handed r.service && is_none r.answer) (both_true (is_none_left (left x.speech r)) _ free).1
       where
         fresh_holds : (fresh : Bool) (holding : Option (LinkMail M)) (last : ℕ) → is_none holding ≡ true → KeptOut fresh holding last kept → fresh ≡ false
         fresh_holds false holding last f z = refl

@@ -20,7 +20,7 @@ module _ {M P T : Type 0} (is : P → Bool) (y z : Speech M P T) (same : Alike i
   left_same r k = ap (λ (l : List M). drop (length r.told) l) (ap (λ (e : M → Bool). y.planned r.service (plain e r.heard)) same.emission ∙ same.planned r.service (plain z.emission r.heard) k)
 
   pub over_same : (holding : Option (LinkMail M)) (fresh : Bool) (r : Row M P T) → is r.service ≡ true → is_over y holding fresh r ≡ is_over z holding fresh r
-  over_same holding fresh r k = ap₂ (λ (l : List M) (h : Bool). is_none_left l && (if h then is_none holding else is_some r.answer && not fresh)) (left_same r k) (same.handed r.service k)
+  over_same holding fresh r k = ap₂ (λ (l : List M) (h : Bool). is_none_left l && (if h && is_none r.answer then is_none holding else is_some r.answer && not fresh)) (left_same r k) (same.handed r.service k)
 
   heard_same : (frame : ℕ) (ms : List M) (r : Row M P T) → is r.service ≡ true → row_heard y frame ms r ≡ row_heard z frame ms r
   heard_same frame ms r k =
@@ -93,7 +93,7 @@ module _ {M P T : Type 0} (is : P → Bool) (y z : Speech M P T) (same : Alike i
   account_same acknowledged frame d a None (Some (Service.Mails q)) row w =
       ap₂ (λ (v f : Bool). if v && f then record a { started = starts a (Service.Mails q) frame } else a) (same.valid q w) (free_same d d.now row)
   account_same acknowledged frame d a None (Some (Service.State target)) row w =
-      ap (λ (f : Bool). if f && is_acknowledged acknowledged d d.now then state_begins a target frame else a) (free_same d d.now row)
+      ap (λ (f : Bool). if f && is_acknowledged x acknowledged d d.now then state_begins a target frame else a) (free_same d d.now row)
 
   module _ (acknowledged : P → Bool) (more : M → Bool) (passed : P → Bool) where
     granted_is : (passing : Option Passing) (pick : Pick P) → WishIs is pick.begin → WishIs is (granted passing pick).begin

@@ -23,7 +23,7 @@ module _ {M Q R : Type 0} (x : Speech M Q R) (acknowledged : Q → Bool) (more :
       go : (b : Bool) → duty_reopens (if b then record l.era.account { started = starts l.era.account (Service.Mails q) frame } else l.era.account).hand ≡ 0
       go true = k
       go false = k
-  begins l None (Some (Service.State target)) e k = go (is_free x l.era.side l.era.side.now && is_acknowledged acknowledged l.era.side l.era.side.now)
+  begins l None (Some (Service.State target)) e k = go (is_free x l.era.side l.era.side.now && is_acknowledged x acknowledged l.era.side l.era.side.now)
     where
       go : (b : Bool) → duty_reopens (if b then state_begins l.era.account target frame else l.era.account).hand ≡ 0
       go true = refl

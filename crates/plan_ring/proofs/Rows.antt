@@ -55,7 +55,7 @@ grows {Q = Q} x acknowledged frame d a None (Some (Service.Mails q)) quiet k w =
     go : (b : Bool) → Grown frame a (if b then record a { started = starts a (Service.Mails q) frame } else a)
     go true = record { quiet = quiet_more a.started (record { service = Service.Mails q; frame = frame }) quiet tt; hand = k; begins = λ opened less all. begins_more opened a.started (record { service = Service.Mails q; frame = frame }) less all }
     go false = same_account frame a quiet k
-grows {Q = Q} x acknowledged frame d a None (Some (Service.State target)) quiet k w = go (is_free x d d.now && is_acknowledged acknowledged d d.now)
+grows {Q = Q} x acknowledged frame d a None (Some (Service.State target)) quiet k w = go (is_free x d d.now && is_acknowledged x acknowledged d d.now)
   where
     go : (b : Bool) → Grown frame a (if b then state_begins a target frame else a)
     go true = record {

@@ -23,7 +23,7 @@ begins_hand x acknowledged frame d a None (Some (Service.Mails q)) e = go (x.val
     go : (b : Bool) → duty_reopens (if b then record a { started = starts a (Service.Mails q) frame } else a).hand ≡ duty_reopens a.hand
     go true = refl
     go false = refl
-begins_hand x acknowledged frame d a None (Some (Service.State target)) e = go (is_free x d d.now && is_acknowledged acknowledged d d.now)
+begins_hand x acknowledged frame d a None (Some (Service.State target)) e = go (is_free x d d.now && is_acknowledged x acknowledged d d.now)
   where
     go : (b : Bool) → duty_reopens (if b then state_begins a target frame else a).hand ≡ duty_reopens a.hand
     go true = sym (ap duty_reopens e)

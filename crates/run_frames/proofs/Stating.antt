@@ -77,7 +77,7 @@ begins_came {M} {Q} {R} x acknowledged frame d a None (Some (Service.Mails q)) c
     go : (b : Bool) → (let e : Account Q R = if b then record a { started = starts a (Service.Mails q) frame } else a in Came e)
     go true = record { came = more }
     go false = c
-begins_came {M} {Q} {R} x acknowledged frame d a None (Some (Service.State target)) c = go (is_free x d d.now && is_acknowledged acknowledged d d.now)
+begins_came {M} {Q} {R} x acknowledged frame d a None (Some (Service.State target)) c = go (is_free x d d.now && is_acknowledged x acknowledged d d.now)
   where
     more : 1 ≤ states_in (starts a (Service.State target) frame)
     more = omega (arith, states_more a.started (record { service = Service.State target; frame = frame }))

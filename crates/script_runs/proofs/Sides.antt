@@ -132,7 +132,7 @@ module _ (x : Speech Body Asked Reply) (ack : Asked → Bool) (frame : ℕ) (d :
   over_begins hand None = refl
   over_begins (Some duty) (Some wish) = refl
   over_begins None (Some (Service.Mails q)) = either (x.valid q && is_free x d d.now) (record a { started = starts a (Service.Mails q) frame }) refl
-  over_begins None (Some (Service.State target)) = either (is_free x d d.now && is_acknowledged ack d d.now) (state_begins a target frame) refl
+  over_begins None (Some (Service.State target)) = either (is_free x d d.now && is_acknowledged x ack d d.now) (state_begins a target frame) refl
 
   same_account : (hand : Option Duty) → account_begins x ack frame d a hand None ≡ a
   same_account None = refl
@@ -205,7 +205,7 @@ module _ (x : Speech Body Asked Reply) (ack : Asked → Bool) (frame : ℕ) (d :
   may_state : (target : ℕ) (hand : Option Duty) → (account_begins x ack frame d a hand (Some (Service.State target))).started ≡ starts a (Service.State target) frame →
       ((account_begins x ack frame d a hand (Some (Service.State target))).hand ≡ Some (record { target = target; frame = frame; stage = Stage.Drains })) × (is_free x d d.now ≡ true) × (hand ≡ None)
   may_state target (Some duty) e = absurd (longer a.started _ e)
-  may_state target None e = let g = go (is_free x d d.now) (is_acknowledged ack d d.now) e in (g.0, g.1, refl)
+  may_state target None e = let g = go (is_free x d d.now) (is_acknowledged x ack d d.now) e in (g.0, g.1, refl)
     where
       go : (f g : Bool) → (if f && g then state_begins a target frame else a).started ≡ starts a (Service.State target) frame →
           ((if f && g then state_begins a target frame else a).hand ≡ Some (record { target = target; frame = frame; stage = Stage.Drains })) × (f ≡ true)
@@ -241,7 +241,7 @@ module _ (x : Speech Body Asked Reply) (ack : Asked → Bool) (frame : ℕ) (d :
   pub not_free : (r : Held) → d.now ≡ Some r → x.handed r.service ≡ false → r.answer ≡ None → is_free x d d.now ≡ false
   not_free r e h n = ap (is_free x d) e ∙ go (is_none_left (left x r)) (x.handed r.service) h (is_none d.halves.out.holding) (not d.fresh)
     where
-      go : (p h : Bool) → h ≡ false → (k f : Bool) → (p && (if h then k else is_some r.answer && f)) ≡ false
+      go : (p h : Bool) → h ≡ false → (k f : Bool) → (p && (if h && is_none r.answer then k else is_some r.answer && f)) ≡ false
       go p true e k f = absurd (let bad : true ≡ false = e in cc)
       go true false e k f = ap (λ (z : Answer). is_some z && f) n
       go false false e k f = refl

@@ -196,43 +196,51 @@ module _ {V A M Q R : Type 0} (x : Exchange V A M Q R) (law : IsLawful x) where
       idle None quiet = ap (answer_after (length fs) None) (quiet refl)
       idle (Some a) quiet = refl
 
-  -- what a choice makes of a side: rows begin with the number of the frame, and only behind a row that is over
+  fresh_row : (station : ℕ) (fs : List (Frame M)) (q : Q) → Open station fs (begun q (length fs))
+  fresh_row station fs q = record {
+    begun = omega arith;
+    same = sym (ap (first_end (reply_end q) (length fs) []) (news_from-none station fs));
+    hears = sym (ap (λ l. mails_heard (joined l)) (news_from-none station fs));
+    quiet = λ none. law.none q;
+  }
+
+  past_and : (station : ℕ) (fs : List (Frame M)) (rs : List (Row M Q R)) (r : Row M Q R) → AllClosed station fs rs → Closed station fs r → AllClosed station fs (rs ++ r ∷ [])
+  past_and station fs [] r c k = (k, tt)
+  past_and station fs (p ∷ rs) r c k = (c.0, past_and station fs rs r c.1 k)
+
+  -- the first row, with the number of the frame
+  pub first_listens : (station : ℕ) (fs : List (Frame M)) (d : Side M Q R) (q : Q) → Listens station fs d → Listens station fs (record d { now = Some (begun q (length fs)) })
+  first_listens station fs d q l = record { kept = l.kept; past = l.past; now = fresh_row station fs q }
+
+  -- and one behind a row that has its answer, or ends with its last write
+  pub more_listens : (station : ℕ) (fs : List (Frame M)) (d : Side M Q R) (r : Row M Q R) (q : Q) → d.now ≡ Some r → ((answer : R × ℕ) × (r.answer ≡ Some answer)) ⊎ (x.speech.handed r.service ≡ true) →
+      Listens station fs d → Listens station fs (record d { past = d.past ++ r ∷ []; now = Some (begun q (length fs)) })
+  more_listens station fs d r q e over l =
+      let open_row : Open station fs r = subst (OpenNow station fs) e l.now in
+      record { kept = l.kept; past = past_and station fs d.past r l.past (record { begun = open_row.begun; same = open_row.same; over = over }); now = fresh_row station fs q }
+
+  -- what a choice makes of a side: rows begin only behind a row that is over
   began_listens : (station : ℕ) (fs : List (Frame M)) (d : Side M Q R) (now : Option (Row M Q R)) (begin : Option Q) → d.now ≡ now → Listens station fs d → Listens station fs (side_begins x.speech (length fs) d now begin)
   began_listens station fs d now begin e l = go now begin e
     where
-      fresh : (q : Q) → Open station fs (begun q (length fs))
-      fresh q = record {
-        begun = omega arith;
-        same = sym (ap (first_end (reply_end q) (length fs) []) (news_from-none station fs));
-        hears = sym (ap (λ l. mails_heard (joined l)) (news_from-none station fs));
-        quiet = λ none. law.none q;
-      }
-
-      past_and : (rs : List (Row M Q R)) (r : Row M Q R) → AllClosed station fs rs → Closed station fs r → AllClosed station fs (rs ++ r ∷ [])
-      past_and [] r c k = (k, tt)
-      past_and (p ∷ rs) r c k = (c.0, past_and rs r c.1 k)
-
       over : (r : Row M Q R) → is_over x.speech d.halves.out.holding d.fresh r ≡ true → ((answer : R × ℕ) × (r.answer ≡ Some answer)) ⊎ (x.speech.handed r.service ≡ true)
       over r o = elim (over_parts x d.halves.out.holding d.fresh r o).1 [ inl h ↦ inr h.0 | inr a ↦ inl a.0 ]
 
       next : (q : Q) (r : Row M Q R) → d.now ≡ Some r → (valid over_now : Bool) → is_over x.speech d.halves.out.holding d.fresh r ≡ over_now → Listens station fs (if valid && over_now then record d { past = d.past ++ r ∷ []; now = Some (begun q (length fs)) } else d)
       next q r e false over_now o = l
       next q r e true false o = l
-      next q r e true true o =
-          let open_row : Open station fs r = subst (OpenNow station fs) e l.now in
-          let closed : Closed station fs r = record { begun = open_row.begun; same = open_row.same; over = over r o } in
-          record { kept = l.kept; past = past_and d.past r l.past closed; now = fresh q }
+      next q r e true true o = more_listens station fs d r q e (over r o) l
 
       first : (q : Q) (valid : Bool) → Listens station fs (if valid then record d { now = Some (begun q (length fs)) } else d)
       first q false = l
-      first q true = record { kept = l.kept; past = l.past; now = fresh q }
+      first q true = first_listens station fs d q l
 
       go : (now : Option (Row M Q R)) (begin : Option Q) → d.now ≡ now → Listens station fs (side_begins x.speech (length fs) d now begin)
       go now None e = l
       go None (Some q) e = first q (x.speech.valid q)
       go (Some r) (Some q) e = next q r e (x.speech.valid q) (is_over x.speech d.halves.out.holding d.fresh r) refl
 
-  held_listens : (station : ℕ) (fs : List (Frame M)) (d : Side M Q R) (ms : List M) → Listens station fs d → Listens station fs (side_holds d ms)
+  pub held_listens : (station : ℕ) (fs : List (Frame M)) (d : Side M Q R) (ms : List M) → Listens station fs d → Listens station fs (side_holds d ms)
   held_listens station fs d [] l = l
   held_listens station fs d (m ∷ ms) l = record { kept = l.kept; past = l.past; now = go d.now l.now }
     where

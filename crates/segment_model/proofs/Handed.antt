@@ -54,6 +54,7 @@ module _ {V A M Q R : Type 0} (x : Exchange V A M Q R) (law : IsLawful x) where
     pub silent : plain x.speech.emission r.heard ≡ []
     pub mine : IsPrefixOf r.told (x.speech.planned r.service [])
     pub some : x.speech.planned r.service [] ≢ []
+    pub unanswered : r.answer ≡ None
 
   abbrev pub NowFacts : List (Row M Q R) → Option (Row M Q R) → Type 0
   NowFacts past None = past ≡ []
@@ -73,7 +74,12 @@ module _ {V A M Q R : Type 0} (x : Exchange V A M Q R) (law : IsLawful x) where
         silent = prefix_nil (plain x.speech.emission r.heard) (subst (IsPrefixOf (plain x.speech.emission r.heard)) all begins);
         mine = subst (IsPrefixOf r.told) (sym full) f.mine;
         some = λ none. law.some w r.service on f.valid posts (sym full ∙ none);
+        unanswered = none_answered posts f.answered r.answer refl;
       }
+    where
+      none_answered : x.speech.handed r.service ≡ true → ((answer : R × ℕ) → r.answer ≡ Some answer → (x.speech.handed r.service ≡ false) × (x.speech.ends r.service (plain x.speech.emission r.heard) ≡ Some answer.0)) → (o : Option (R × ℕ)) → r.answer ≡ o → r.answer ≡ None
+      none_answered posts answered None e = e
+      none_answered posts answered (Some a) e = absurd (let no : true ≡ false = sym posts ∙ (answered a e).0 in cc)
 
   abbrev pub count : Row M Q R → ℕ
   count r = length (x.speech.planned r.service [])
@@ -194,8 +200,10 @@ module _ {V A M Q R : Type 0} (x : Exchange V A M Q R) (law : IsLawful x) where
   nothing_unsent : (fresh : Bool) (holding : Option (LinkMail M)) → fresh ≡ false → unsent fresh holding ≡ []
   nothing_unsent fresh holding e = ap (λ b. unsent b holding) e
 
-  over_handed : (holding : Option (LinkMail M)) (fresh : Bool) (r : Row M Q R) → x.speech.handed r.service ≡ true → is_over x.speech holding fresh r ≡ is_none_left (left x.speech r) && is_none holding
-  over_handed holding fresh r h = ap (λ b. is_none_left (left x.speech r) && (if b then is_none holding else is_some r.answer && not fresh)) h
+  over_handed : (holding : Option (LinkMail M)) (fresh : Bool) (r : Row M Q R) → x.speech.handed r.service ≡ true → r.answer ≡ None → is_over x.speech holding fresh r ≡ is_none_left (left x.speech r) && is_none holding
+  over_handed holding fresh r h a =
+      ap (λ b. is_none_left (left x.speech r) && (if b && is_none r.answer then is_none holding else is_some r.answer && not fresh)) h
+      ∙ ap (λ (o : Option (R × ℕ)). is_none_left (left x.speech r) && (if is_none o then is_none holding else is_some o && not fresh)) a
 
   both : (a b : Bool) → a && b ≡ true → (a ≡ true) × (b ≡ true)
   both true b e = (refl, e)
@@ -217,7 +225,7 @@ module _ {V A M Q R : Type 0} (x : Exchange V A M Q R) (law : IsLawful x) where
   closes station fs d r p e facts o = λ posts.
       let f = facts posts in
       let opened : PostOpen station r.frame (count r) fs d.fresh d.halves.out.holding r.told = subst (PostNow station fs d.fresh d.halves.out.holding) e p.now posts in
-      let parts = both (is_none_left (left x.speech r)) (is_none d.halves.out.holding) (sym (over_handed d.halves.out.holding d.fresh r posts) ∙ o) in
+      let parts = both (is_none_left (left x.speech r)) (is_none d.halves.out.holding) (sym (over_handed d.halves.out.holding d.fresh r posts f.unanswered) ∙ o) in
       let holding = idle d.halves.out.holding parts.1 in
       let known = idle_known d.fresh d.halves.out.holding d.halves.out.last (kept_of station fs).told holding p.out in
       let all : r.told ≡ x.speech.planned r.service [] = none_left r.told (x.speech.planned r.service []) f.mine (sym (left_is r f) ∙ none_of (left x.speech r) parts.0) in
@@ -431,7 +439,7 @@ module _ {V A M Q R : Type 0} (x : Exchange V A M Q R) (law : IsLawful x) where
       let most = length-append r.told f.mine.0 in
       let whole = ap length f.mine.1 in
       let less : length (mails_told (joined (news_from station r.frame fs))) < count r = omega (arith, told, most, whole) in
-      p.few less ∙ sym (over_handed holding true r posts ∙ ap (λ h. is_none_left (left x.speech r) && is_none h) fresh.holds ∙ no (is_none_left (left x.speech r)))
+      p.few less ∙ sym (over_handed holding true r posts f.unanswered ∙ ap (λ h. is_none_left (left x.speech r) && is_none h) fresh.holds ∙ no (is_none_left (left x.speech r)))
     where
       no : (b : Bool) → b && false ≡ false
       no true = refl
@@ -439,7 +447,7 @@ module _ {V A M Q R : Type 0} (x : Exchange V A M Q R) (law : IsLawful x) where
   now_over station fs r false holding last kept posts f k p =
       let told : r.told ≡ mails_told (joined (news_from station r.frame fs)) = p.told_is ∙ append-nil _ in
       let same = ap length told in
-      let over = over_handed holding false r posts ∙ ap (λ l. is_none_left l && is_none holding) (left_is r f) in
+      let over = over_handed holding false r posts f.unanswered ∙ ap (λ l. is_none_left l && is_none holding) (left_is r f) in
       elim (leb_tells (count r) (length (mails_told (joined (news_from station r.frame fs))))) [
         | inl c ↦ let enough = c.1 in p.all enough ∙ sym (over ∙ ap (λ b. b && is_none holding) (left_none (length r.told) (x.speech.planned r.service []) (omega (arith, enough, same))))
         | inr c ↦ let few = c.1 in p.few few ∙ sym (over ∙ ap (λ b. b && is_none holding) (left_some (length r.told) (x.speech.planned r.service []) (omega (arith, few, same))))

@@ -21,11 +21,13 @@ both (Some a) false e = ((a, refl), refl)
 -- nothing is left of a row that is over, and it ends with its last write, which is done, or it has its answer
 pub over_parts : {V A M Q R : Type 0} (x : Exchange V A M Q R) (holding : Option (LinkMail M)) (fresh : Bool) (r : Row M Q R) → is_over x.speech holding fresh r ≡ true →
     (left x.speech r ≡ []) × (((x.speech.handed r.service ≡ true) × (holding ≡ None)) ⊎ (((a : R × ℕ) × (r.answer ≡ Some a)) × (fresh ≡ false)))
-over_parts {R = R} x holding fresh r e = (parts.0, go (x.speech.handed r.service) refl parts.1)
+over_parts {R = R} x holding fresh r e = (parts.0, go (x.speech.handed r.service) (is_none r.answer) refl parts.1)
   where
-    parts : (left x.speech r ≡ []) × ((if x.speech.handed r.service then is_none holding else is_some r.answer && not fresh) ≡ true)
-    parts = empty (left x.speech r) (if x.speech.handed r.service then is_none holding else is_some r.answer && not fresh) e
+    parts : (left x.speech r ≡ []) × ((if x.speech.handed r.service && is_none r.answer then is_none holding else is_some r.answer && not fresh) ≡ true)
+    parts = empty (left x.speech r) (if x.speech.handed r.service && is_none r.answer then is_none holding else is_some r.answer && not fresh) e
 
-    go : (handed : Bool) → x.speech.handed r.service ≡ handed → (if handed then is_none holding else is_some r.answer && not fresh) ≡ true → ((x.speech.handed r.service ≡ true) × (holding ≡ None)) ⊎ (((a : R × ℕ) × (r.answer ≡ Some a)) × (fresh ≡ false))
-    go true h f = inl (h, idle holding f)
-    go false h f = inr (both r.answer fresh f)
+    go : (handed unanswered : Bool) → x.speech.handed r.service ≡ handed → (if handed && unanswered then is_none holding else is_some r.answer && not fresh) ≡ true →
+        ((x.speech.handed r.service ≡ true) × (holding ≡ None)) ⊎ (((a : R × ℕ) × (r.answer ≡ Some a)) × (fresh ≡ false))
+    go true true h f = inl (h, idle holding f)
+    go true false h f = inr (both r.answer fresh f)
+    go false unanswered h f = inr (both r.answer fresh f)

@@ -62,10 +62,10 @@ abbrev pub is_none_left : {M : Type 0} → List M → Bool
 is_none_left [] = true
 is_none_left (m ∷ ms) = false
 
--- a row is over: nothing is left to tell, and it has its answer and its last mail was sent, or, where it ends with its last write, that
--- write is done
+-- a row is over: nothing is left to tell, and it has its answer and its last mail was sent, or, where it has none and ends with its last
+-- write, that write is done
 abbrev pub is_over : {M Q R : Type 0} → Speech M Q R → Option (LinkMail M) → Bool → Row M Q R → Bool
-is_over x holding fresh r = is_none_left (left x r) && (if x.handed r.service then is_none holding else is_some r.answer && not fresh)
+is_over x holding fresh r = is_none_left (left x r) && (if x.handed r.service && is_none r.answer then is_none holding else is_some r.answer && not fresh)
 
 -- a service comes into hand, where it is one of those that the laws speak of and the newest row is over
 abbrev pub side_begins : {M Q R : Type 0} → Speech M Q R → ℕ → Side M Q R → Option (Row M Q R) → Option Q → Side M Q R

@@ -39,7 +39,7 @@ module _ {M Q R : Type 0} (x : Speech M Q R) (ack : Q → Bool) (made : ℕ) whe
       go : (b : Bool) → IsPrefixOf (services_in a.started) (services_in (if b then record a { started = starts a (Service.Mails q) made } else a).started)
       go true = started_more a (Service.Mails q)
       go false = same_services a
-  begins_more d a None (Some (Service.State target)) = go (is_free x d d.now && is_acknowledged ack d d.now)
+  begins_more d a None (Some (Service.State target)) = go (is_free x d d.now && is_acknowledged x ack d d.now)
     where
       go : (b : Bool) → IsPrefixOf (services_in a.started) (services_in (if b then state_begins a target made else a).started)
       go true = started_more a (Service.State target)
@@ -54,7 +54,7 @@ module _ {M Q R : Type 0} (x : Speech M Q R) (ack : Q → Bool) (made : ℕ) whe
       go : (b : Bool) → IsCalm (if b then record a { started = starts a (Service.Mails q) made } else a).hand
       go true = calm
       go false = calm
-  begins_calm d a None (Some (Service.State target)) calm = go (is_free x d d.now && is_acknowledged ack d d.now)
+  begins_calm d a None (Some (Service.State target)) calm = go (is_free x d d.now && is_acknowledged x ack d d.now)
     where
       drains : IsCalm (Some (record { target = target; frame = made; stage = Stage.Drains }))
       drains duty e returns = let same : record { target = target; frame = made; stage = Stage.Drains } ≡ duty = cc in ap (λ (d : Duty). d.stage) (sym same)

@@ -1,7 +1,7 @@
 -- A MASTER SPEAKS of each service as the client of its protocol does, and of a mail that is passed on by that mail alone.
-use Rattle.std.proofs.Common.{◌≡◌, Bool, true, false, List, [], ◌++◌, inl, inr, refl, ap, sym, ◌∙◌, Ok}
+use Rattle.std.proofs.Common.{◌≡◌, ◌&&◌, Bool, true, false, List, [], ◌++◌, inl, inr, refl, ap, ap₂, sym, ◌∙◌, Ok}
 use Rattle.std.specs.Prelude.{Some, option_map}
-use Rattle.exchange_model.specs.Exchange.{Exchange, AnswersLast, given, plain}
+use Rattle.exchange_model.specs.Exchange.{Exchange, AnswersLast, given, outnumbers, plain}
 use Rattle.exchange_sum.specs.Refusing.{Refusal}
 use Rattle.run_work.specs.of_master_hand.Spoken as Spoken
 use Rattle.link_mails.specs.Body.{Body}
@@ -80,14 +80,16 @@ module _ (p : Profile) where
 
   -- THE AL STATE is a part of what its node runs
   module _ (is : IsStatedServed (product_whole parts p) whole_states) where
-    script_last : (i : Protocol) (q : ServiceOf i) (v : InState Server) → (product_whole parts p).ready v ≡ true → (Spoken.hand_speech (areas_of p)).valid (named i q) ≡ true → (Spoken.hand_speech (areas_of p)).handed (named i q) ≡ false → Spoken.acknowledged (named i q) ≡ false →
+    script_last : (i : Protocol) (q : ServiceOf i) (v : InState Server) → (product_whole parts p).ready v ≡ true → (Spoken.hand_speech (areas_of p)).valid (named i q) ≡ true → (Spoken.hand_speech (areas_of p)).handed (named i q) ≡ false →
+        (let ms = untag (told {M = Body} {Q = OwnService} (i, q) ((product_whole parts p).full v (i, q))) in
+        (Spoken.acknowledged (named i q) && outnumbers ms (plain (product_whole parts p).speech.emission (given (product_whole parts p).serve v ms))) ≡ false) →
         (a b : List Body) → untag (told {M = Body} {Q = OwnService} (i, q) ((product_whole parts p).full v (i, q))) ≡ a ++ b →
         plain (product_whole parts p).speech.emission (given (product_whole parts p).serve v a) ≡ plain (product_whole parts p).speech.emission (given (product_whole parts p).serve v (untag (told {M = Body} {Q = OwnService} (i, q) ((product_whole parts p).full v (i, q))))) → b ≡ []
     script_last i q v ready valid handed ack a b e same =
         let k = script i q in
         let x = product_whole parts p in
         let all = untag-told {M = Body} {Q = OwnService} (i, q) (x.full v (i, q)) in
-        is.last v (i, q) ready (sym k.valid ∙ valid) (sym k.handed ∙ handed) (sym k.last ∙ ack) a b (sym all ∙ e) (same ∙ ap (λ l. plain x.speech.emission (given x.serve v l)) all)
+        is.last v (i, q) ready (sym k.valid ∙ valid) (sym k.handed ∙ handed) (ap₂ (λ (c : Bool) (l : List Body). c && outnumbers l (plain x.speech.emission (given x.serve v l))) (sym k.last) (sym all) ∙ ack) a b (sym all ∙ e) (same ∙ ap (λ l. plain x.speech.emission (given x.serve v l)) all)
 
     last : AnswersLast (spoken p) Spoken.acknowledged
     last v (Spoken.sdo q) ready valid handed ack a b e same = script_last Protocol.CoE q v ready valid handed ack a b e same

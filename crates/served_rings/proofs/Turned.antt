@@ -181,7 +181,7 @@ module _ {M Q R : Type 0} where
     begins (Some duty) None = quiet None None
     begins (Some duty) (Some wish) = quiet None (Some wish)
     begins None (Some (Service.Mails q)) = mails_come q d.now refl
-    begins None (Some (Service.State target)) = by_state target (is_free x d d.now && is_acknowledged acknowledged d d.now)
+    begins None (Some (Service.State target)) = by_state target (is_free x d d.now && is_acknowledged x acknowledged d d.now)
 
     none_begins : (p : Passing) (hand : Option Duty) → Turned [] (Some p) None a.started d (account_begins x acknowledged frame d a hand None).started (side_begins x frame d d.now (mails_begin {Q = Q} hand None))
     none_begins p None = quiet (Some p) None

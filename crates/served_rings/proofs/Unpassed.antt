@@ -196,7 +196,7 @@ module _ (x : Speech Body Asked Reply) (acknowledged : Asked → Bool) (frame : 
   begins_begun (Some duty) None = begun_so
   begins_begun (Some duty) (Some wish) = begun_so
   begins_begun None (Some (Service.Mails q)) = begins_mails q d.now refl
-  begins_begun None (Some (Service.State target)) = go (is_free x d d.now && is_acknowledged acknowledged d d.now)
+  begins_begun None (Some (Service.State target)) = go (is_free x d d.now && is_acknowledged x acknowledged d d.now)
     where
       go : (b : Bool) → mails_started (if b then state_begins a target frame else a).started ≡ rows_started (rows_of d)
       go true = state_push a.started target frame ∙ begun_so

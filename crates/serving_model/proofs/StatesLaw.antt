@@ -1,8 +1,9 @@
 -- Its AL state is a part of the server behind whole rows.
-use Rattle.std.proofs.Common.{◌≡◌, ℕ, ◌+◌, ◌-◌, ◌==◌, Bool, true, false, Option, None, Some, List, [], ◌∷◌, ◌++◌, inl, inr, append-nil, refl, sym, ap, ◌∙◌, arith, if◌then◌else◌, eqb-true}
-use Rattle.exchange_model.specs.Exchange.{Exchange, AnswersLast, given, plain}
+use Rattle.std.proofs.Common.{◌≡◌, ℕ, suc, ◌+◌, ◌-◌, ◌==◌, ◌&&◌, nat_lt, length, Bool, true, false, Option, None, Some, List, [], ◌∷◌, ◌++◌, inl, inr, append-nil, refl, sym, ap, ap₂, ◌∙◌, arith, if◌then◌else◌, eqb-true}
+use Rattle.std.proofs.lemmas.List.{length-map}
+use Rattle.exchange_model.specs.Exchange.{Exchange, AnswersLast, given, outnumbers, plain}
 use Rattle.state_exchange.specs.Stated.{Stated, IsStated}
-use Rattle.serving_model.specs.Tagged.{IsServed, Meant, Tagged, Asked, told, untag, answer_gifts, ends_marked, Rowed, ideal, ideal_in, real, rows_done, serve_tagged, tagged}
+use Rattle.serving_model.specs.Tagged.{IsServed, Meant, Tagged, Asked, more_of, told, untag, answer_gifts, ends_marked, Rowed, ideal, ideal_in, real, rows_done, serve_tagged, tagged}
 use Rattle.serving_model.specs.TaggedStates.{told_state, tagged_states, IsStatedServed}
 use Rattle.serving_model.proofs.TaggedLaw.{told-plain, CutTold, cut_told, same-is, cut_alone, marked-answer}
 
@@ -37,6 +38,14 @@ module _ {V M Q R C : Type 0} (x : Exchange V V M Q R) (core : V → C) (law : I
   last_of : AnswersLast (tagged x) (tagged_states x s).acknowledged
   last_of w (Asked.Script q) ready valid nay sure p r e same = go p r e same (cut_told q (x.full (ideal x w) q) p r e)
     where
+      told_length : (ms : List M) → length (told q ms) ≡ length ms
+      told_length [] = refl
+      told_length (m ∷ ms) = ap suc (length-map ms (λ k. more_of k))
+
+      unheard : outnumbers (x.full (ideal x w) q) (plain x.speech.emission (given x.serve (ideal x w) (x.full (ideal x w) q)))
+          ≡ outnumbers (told q (x.full (ideal x w) q)) (plain (tagged x).speech.emission (given (tagged x).serve w (told q (x.full (ideal x w) q))))
+      unheard = ap₂ nat_lt (ap length (sym (told-plain x core law w q (x.full (ideal x w) q))) ∙ length-map _ (λ t. t.mail)) (sym (told_length (x.full (ideal x w) q)))
+
       rest : (ms : List M) (r : List (Tagged M Q)) (more : List M) → told q (x.full (ideal x w) q) ≡ told q ms ++ r → x.full (ideal x w) q ≡ ms ++ more → more ≡ [] → r ≡ []
       rest ms r more e is none = nothing (told q ms) r (sym (ap (told q) (is ∙ (ap (λ l. ms ++ l) none ∙ append_nil ms))) ∙ e)
         where
@@ -54,7 +63,7 @@ module _ {V M Q R C : Type 0} (x : Exchange V V M Q R) (core : V → C) (law : I
           let reply = ap (x.speech.ends q) untold ∙ law.replied (ideal x w) q ready valid nay in let nothing = law.none q in cc)
       go p r e same (CutTold.some m front more is told_is) =
           rest (m ∷ front) r more (e ∙ ap (λ l. l ++ r) told_is) is
-          (owes.last (ideal x w) q ready valid nay sure (m ∷ front) more is
+          (owes.last (ideal x w) q ready valid nay (ap (λ b. s.acknowledged q && b) unheard ∙ sure) (m ∷ front) more is
           (sym (told-plain x core law w q (m ∷ front)) ∙ ap (λ l. untag (plain (tagged x).speech.emission (given (tagged x).serve w l))) (sym told_is) ∙ ap untag same ∙ told-plain x core law w q (x.full (ideal x w) q)))
   last_of w (Asked.Passed m false) ready valid nay sure p r e same = absurd (cc)
   last_of w (Asked.Passed m true) ready valid nay sure p r e same = elim (cut_alone x core law _ p r e) [

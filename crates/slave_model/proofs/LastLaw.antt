@@ -1,6 +1,6 @@
 -- But for an acknowledgement of a file read no mail is left behind the last reply.
-use Rattle.std.proofs.Common.{◌≡◌, Bool, true, false, sym, ◌∙◌, subst}
-use Rattle.exchange_model.specs.Exchange.{Exchange, IsLawful, plain}
+use Rattle.std.proofs.Common.{◌≡◌, ◌&&◌, Bool, true, false, sym, ap, ◌∙◌, subst}
+use Rattle.exchange_model.specs.Exchange.{Exchange, IsLawful, outnumbers, plain}
 use Rattle.exchange_model.specs.Lifted.{EachOf}
 use Rattle.exchange_sum.specs.Sides.{Slave, joined}
 use Rattle.exchange_sum.specs.Refusing.{Refusal, IsRefusal, refusing, gated}
@@ -27,5 +27,6 @@ module _ {I J A M R : Type 0} {V Q : I → Type 0} (s : Slave J A M) (x : (i : I
       let d = side i in
       let mails = d.sends (seat i j) q.1 (d.ready j ready) valid in
       let mine = each_left (λ m. d.mine m ≡ true) p rest (subst (EachOf (λ m. d.mine m ≡ true)) e mails) in
-      last i (seat i j) q.1 (d.ready j ready) valid answers quiet p rest e
-      (sym (plain_same s (x i) (seat i) d j p mine (told_part s x seat side j q ready valid p rest e)) ∙ same ∙ plain_same s (x i) (seat i) d j ((x i).full (seat i j) q.1) mails (told_full s x seat side j q ready valid))
+      let whole = plain_same s (x i) (seat i) d j ((x i).full (seat i j) q.1) mails (told_full s x seat side j q ready valid) in
+      last i (seat i j) q.1 (d.ready j ready) valid answers (ap (λ l. acknowledged i q.1 && outnumbers ((x i).full (seat i j) q.1) l) (sym whole) ∙ quiet) p rest e
+      (sym (plain_same s (x i) (seat i) d j p mine (told_part s x seat side j q ready valid p rest e)) ∙ same ∙ whole)

@@ -1,7 +1,7 @@
 -- Each mail of a service brings a reply at last, but for the acknowledgement of a file that is read, whatever server it meets.
-use Rattle.std.proofs.Common.{Bool, true, false, [], ◌∷◌, refl, sym, ap, ◌∙◌}
+use Rattle.std.proofs.Common.{◌&&◌, Bool, true, false, [], ◌∷◌, refl, sym, ap, ◌∙◌}
 use Rattle.exchange_model.specs.Areas.{Areas, AreMailboxes}
-use Rattle.exchange_model.specs.Exchange.{Exchange, AnswersLast, given, plain}
+use Rattle.exchange_model.specs.Exchange.{Exchange, AnswersLast, given, outnumbers, plain}
 use Rattle.exchange_sum.specs.Refusing.{Refusal}
 use Rattle.exchange_sum.specs.Sides.{Slave}
 use Rattle.exchange_sum.proofs.Refusals.{all_taken}
@@ -43,5 +43,6 @@ module _ {I J C M R : Type 0} {V Q : I → Type 0} (s : Slave J C M) (x : (i : I
       let part = told_part s (x i) (core i) (seat i) (reseat i) (side i) j q.1 ready valid p rest e in
       let mails = mine_full s (x i) (core i) (seat i) (reseat i) (side i) j q.1 ready valid in
       let all = told_full s (x i) (core i) (seat i) (reseat i) (side i) j q.1 ready valid in
-      last i (seat i j) q.1 ((side i).ready j ready) valid answers quiet p rest e
-      (sym (plain_whole s (x i) (core i) (seat i) (reseat i) (side i) j p mine part) ∙ same ∙ plain_whole s (x i) (core i) (seat i) (reseat i) (side i) j ((x i).full (seat i j) q.1) mails all)
+      let whole = plain_whole s (x i) (core i) (seat i) (reseat i) (side i) j ((x i).full (seat i j) q.1) mails all in
+      last i (seat i j) q.1 ((side i).ready j ready) valid answers (ap (λ l. acknowledged i q.1 && outnumbers ((x i).full (seat i j) q.1) l) (sym whole) ∙ quiet) p rest e
+      (sym (plain_whole s (x i) (core i) (seat i) (reseat i) (side i) j p mine part) ∙ same ∙ whole)

@@ -1,6 +1,6 @@
 -- The AL state of one slave, from whatever server.
 use Rattle.std.proofs.Common.{ℕ, [], refl, sym, ◌∙◌}
-use Rattle.exchange_model.specs.Exchange.{AnswersLast}
+use Rattle.exchange_model.specs.Exchange.{AnswersLast, outnumbers}
 use Rattle.exchange_model.proofs.Lasts.{lifted_last}
 use Rattle.slave_parts.specs.of_state_exchange.Families.{states_of}
 use Rattle.serving_model.proofs.of_state_exchange.FamilyLaw.{plain_given_in}
@@ -53,8 +53,10 @@ module _ {T F I : Type 0} (o : Parts T F I) (law : ArePartsLawful o) (files : Ar
   product_last : AnswersLast (product_whole o p) acknowledged
   product_last v q ready valid answers quiet first rest e same =
       let one = client o law files p is in
-      protocols_last o law files p is v.state v.inner q ready (one.valid v.state q ∙ valid) (one.handed v.state q ∙ answers) quiet first rest e
-      (sym (plain_given_in (protocols_whole o p) one v first) ∙ same ∙ plain_given_in (protocols_whole o p) one v ((product_whole o p).full v q))
+      let whole = plain_given_in (protocols_whole o p) one v ((product_whole o p).full v q) in
+      protocols_last o law files p is v.state v.inner q ready (one.valid v.state q ∙ valid) (one.handed v.state q ∙ answers)
+      (ap (λ l. acknowledged q && outnumbers ((product_whole o p).full v q) l) (sym whole) ∙ quiet) first rest e
+      (sym (plain_given_in (protocols_whole o p) one v first) ∙ same ∙ whole)
 
   pub product_stated : IsStatedServed (product_whole o p) (states_of {V = Server T F I} {A = Server T F I} acknowledged)
   product_stated = record {

@@ -1,8 +1,8 @@
 -- A family of exchanges as one: it keeps the laws of its members, and its AL state is a part of its application.
-use Rattle.std.proofs.Common.{◌≡◌, ◌⊎◌, inl, inr, ℕ, Bool, true, not, List, [], ◌∷◌, ◌++◌, refl, sym, ap, ◌∙◌, subst}
+use Rattle.std.proofs.Common.{◌≡◌, ◌⊎◌, inl, inr, ℕ, ◌&&◌, Bool, true, not, List, [], ◌∷◌, ◌++◌, refl, sym, ap, ◌∙◌, subst}
 use Rattle.std.proofs.lemmas.List.Elements.{filter_agree}
 use Rattle.state_model.specs.of_exchange_model.Prefix.{IsPrefixOf}
-use Rattle.state_model.specs.of_exchange_model.Exchange.{Exchange, IsLawful, AnswersLast, Before, Behind, after, given, plain, emitted}
+use Rattle.state_model.specs.of_exchange_model.Exchange.{Exchange, IsLawful, AnswersLast, Before, Behind, after, given, plain, emitted, outnumbers}
 use Rattle.state_exchange.specs.Stated.{IsStated}
 use Rattle.state_exchange.specs.Families.{InState, AreOneClient, AreOne, in_states, states_of}
 
@@ -91,5 +91,6 @@ module _ {V A M Q R : Type 0} (x : ℕ → Exchange V A M Q R) where
       stays = λ v m. refl;
       keeps = λ a q. refl;
       last = λ v q ready valid answers quiet p r e same.
-          last v.state v.inner q ready (one.client.valid v.state q ∙ valid) (one.client.handed v.state q ∙ answers) quiet p r e (same_in one.client v q p same);
+          last v.state v.inner q ready (one.client.valid v.state q ∙ valid) (one.client.handed v.state q ∙ answers)
+          (ap (λ l. acknowledged q && outnumbers ((in_states x).full v q) l) (sym (plain_given_in one.client v ((in_states x).full v q))) ∙ quiet) p r e (same_in one.client v q p same);
     }

@@ -12,7 +12,7 @@ pub record Stated (V A Q : Type 0) : Type 0 where
   pub told : ℕ → A → A
   -- the AL state of an application
   pub state : A → ℕ
-  -- whether the last mail of a service is an acknowledgement, which brings no reply
+  -- the services whose last mail may be an acknowledgement, which brings no reply
   pub acknowledged : Q → Bool
 
 -- what such an exchange owes beside the laws of exchange

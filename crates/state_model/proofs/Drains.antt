@@ -46,7 +46,7 @@ in_done_last count number (s ∷ rs) r all answer e = let below = in_done_last c
 -- nothing is left of a row that is over, and it ends with its last write, which is done, or it has its answer
 over_parts : {V A M Q R : Type 0} (x : Exchange V A M Q R) (holding : Option (LinkMail M)) (fresh : Bool) (r : Row M Q R) → is_over x.speech holding fresh r ≡ true →
     (left x.speech r ≡ []) × (((x.speech.handed r.service ≡ true) × (holding ≡ None)) ⊎ ((a : R × ℕ) × (r.answer ≡ Some a)))
-over_parts {M = M} {R = R} x holding fresh r e = (parts.0, go (x.speech.handed r.service) refl parts.1)
+over_parts {M = M} {R = R} x holding fresh r e = (parts.0, go (x.speech.handed r.service) (is_none r.answer) refl parts.1)
   where
     empty : (ms : List M) (b : Bool) → is_none_left ms && b ≡ true → (ms ≡ []) × (b ≡ true)
     empty [] b e = (refl, e)
@@ -60,12 +60,14 @@ over_parts {M = M} {R = R} x holding fresh r e = (parts.0, go (x.speech.handed r
     has None e = absurd (cc)
     has (Some a) e = (a, refl)
 
-    parts : (left x.speech r ≡ []) × ((if x.speech.handed r.service then is_none holding else is_some r.answer && not fresh) ≡ true)
-    parts = empty (left x.speech r) (if x.speech.handed r.service then is_none holding else is_some r.answer && not fresh) e
+    parts : (left x.speech r ≡ []) × ((if x.speech.handed r.service && is_none r.answer then is_none holding else is_some r.answer && not fresh) ≡ true)
+    parts = empty (left x.speech r) (if x.speech.handed r.service && is_none r.answer then is_none holding else is_some r.answer && not fresh) e
 
-    go : (handed : Bool) → x.speech.handed r.service ≡ handed → (if handed then is_none holding else is_some r.answer && not fresh) ≡ true → ((x.speech.handed r.service ≡ true) × (holding ≡ None)) ⊎ ((a : R × ℕ) × (r.answer ≡ Some a))
-    go true h f = inl (h, idle holding f)
-    go false h f = inr (has r.answer f)
+    go : (handed unanswered : Bool) → x.speech.handed r.service ≡ handed → (if handed && unanswered then is_none holding else is_some r.answer && not fresh) ≡ true →
+        ((x.speech.handed r.service ≡ true) × (holding ≡ None)) ⊎ ((a : R × ℕ) × (r.answer ≡ Some a))
+    go true true h f = inl (h, idle holding f)
+    go true false h f = inr (has r.answer f)
+    go false unanswered h f = inr (has r.answer f)
 
 -- a status of mailbox 0 that shows it empty comes from an empty mailbox 0
 pub seen_empty : {V M : Type 0} (station : ℕ) (s : Slave V M) (d : Datagram M) → d.access ≡ Access.ReadFull → is_meant s.registers d.address ≡ true →

@@ -2,15 +2,17 @@
 use Rattle.std.proofs.Common.{◌≡◌, ◌⊎◌, inl, inr, ℕ, ◌+◌, ◌≤◌, ◌&&◌, Bool, true, false, is_none, if◌then◌else◌, Option, None, Some, option_map, List, [], ◌∷◌, ◌++◌, length, refl, sym, ap, ap₂, ◌∙◌, subst, append_assoc, append-nil, arith, length-append}
 use Rattle.std.proofs.lemmas.Bool.{and_parts}
 use Rattle.state_exchange.specs.of_exchange_model.Prefix.{IsPrefixOf}
-use Rattle.state_exchange.specs.of_exchange_model.Exchange.{Exchange, IsLawful, after, given, plain}
-use Rattle.state_exchange.specs.of_exchange_model.Rows.{Row, Settled, begun, row_told, left, told_all, heard_all, services}
+use Rattle.state_exchange.specs.of_exchange_model.Exchange.{Exchange, IsLawful, after, given, plain, outnumbers}
+use Rattle.state_exchange.specs.of_exchange_model.Rows.{Row, Settled, ends_unheard, begun, row_told, left, told_all, heard_all, services}
 use Rattle.state_exchange.specs.of_exchange_model.Laws.{Moment}
+use Rattle.state_exchange.proofs.of_exchange_model.Lasts.{answered_unheard}
 use Rattle.state_exchange.proofs.of_exchange_model.Lists.{append_none, prefix_nil}
 use Rattle.state_exchange.proofs.of_exchange_model.Moments
 use Rattle.state_exchange.specs.of_link_model.Mails
 use Rattle.state_exchange.specs.of_link_model.Mails.{LinkMail}
 use Rattle.state_exchange.proofs.of_link_model.Law.{accepted_of_offered}
 use Rattle.state_exchange.specs.of_segment_model.Ends.{Outcome}
+use Rattle.state_exchange.specs.of_segment_model.Laws.{as_outcome}
 use Rattle.state_exchange.specs.of_segment_model.Seats.{Side, Seat, link_of, newest, rows_of, is_over, side_begins, side_holds, next_mail, first_left, seat_next}
 use Rattle.state_exchange.proofs.of_segment_model.Overs.{over_parts, idle}
 use Rattle.state_exchange.proofs.of_segment_model.Fitted.{few}
@@ -82,7 +84,12 @@ module _ {V A M Q R : Type 0} (x : Exchange V A M Q R) (law : IsLawful x) (s : S
         silent = no_acts (plain x.speech.emission r.heard) (sym (plain_acts x.speech.emission r.heard) ∙ ap (plain y.speech.emission) (sym h.heard) ∙ f.silent);
         mine = begin_acts r.told (x.speech.planned r.service []) (subst (λ l. IsPrefixOf l (acts (x.speech.planned r.service []))) h.told (subst (IsPrefixOf g.told) planned f.mine));
         some = λ none. f.some (planned ∙ ap acts none);
+        unanswered = none_of r.answer (sym h.answer ∙ f.unanswered);
       }
+    where
+      none_of : (o : Option (R × ℕ)) → as_outcome o ≡ None → o ≡ None
+      none_of None e = refl
+      none_of (Some a) e = absurd (cc)
 
   -- a service that begins behind these rows
   pub record Begun (seat : Seat V M Q R) (taken : List (Act M)) (rest : List M) (before : List (GhostRow M Q R)) (q : Service Q) (frame : ℕ) : Type 0 where
@@ -98,7 +105,7 @@ module _ {V A M Q R : Type 0} (x : Exchange V A M Q R) (law : IsLawful x) (s : S
     pub started : starts_of before ≡ a.started
     pub labels : mail_labels before ≡ labels_of (rows_of seat.side)
     pub rested : Rested x law seat.side.past seat.side.now
-    pub drained : is_acknowledged s.acknowledged seat.side seat.side.now ≡ true → (seat.side.halves.out.holding ≡ None) ⊎ (rest ≡ [])
+    pub drained : is_acknowledged x.speech s.acknowledged seat.side seat.side.now ≡ true → (seat.side.halves.out.holding ≡ None) ⊎ (rest ≡ [])
     pub next : (q : Service Q) (frame : ℕ) → service_valid x.speech q ≡ true → Begun seat taken rest before q frame
 
   opens_first : (from : ℕ) (seat : Seat V M Q R) (a : Account Q R) → x.ready seat.start ≡ true → SeatAgrees x seat → (c : Carried x law s table from seat a) → Untouched x law s table seat a c.taken → Opening seat a c.taken c.rest
@@ -134,7 +141,7 @@ module _ {V A M Q R : Type 0} (x : Exchange V A M Q R) (law : IsLawful x) (s : S
             ∙ ap₂ (λ (l k : List _). l ++ (k ++ [])) m.past (shown_label r.now m.row m.shows)
             ∙ sym (labels_append seat.side.past (m.row ∷ [])) ∙ ap (λ n. labels_of (seat.side.past ++ newest n)) (sym m.is);
         rested = subst (Rested x law seat.side.past) (sym m.is) (record { left = parts.0; done = done });
-        drained = λ k. drained parts.1 (s.acknowledged m.row.service) refl (sym (ap (is_acknowledged s.acknowledged seat.side) m.is) ∙ k);
+        drained = λ k. drained parts.1 (ends_unheard x.speech s.acknowledged m.row) refl (sym (ap (is_acknowledged x.speech s.acknowledged seat.side) m.is) ∙ k);
         next = λ q frame valid. record {
           front = r.front ++ r.last;
           last = r.now ∷ [];
@@ -177,12 +184,16 @@ module _ {V A M Q R : Type 0} (x : Exchange V A M Q R) (law : IsLawful x) (s : S
       next (inr b) q frame valid =
           Moments.answered (with_states x s table) lawful (counting seat.start) ready r.front r.last r.now (c.taken ++ acts c.rest) c.taken (acts seat.accepted) r.moment (Outcome.Replied b.0.0.0, b.0.0.1) (answer b.0.0 b.0.1) nothing q frame valid
 
-      drained : ((x.speech.handed m.row.service ≡ true) × (seat.side.halves.out.holding ≡ None)) ⊎ (((a : R × ℕ) × (m.row.answer ≡ Some a)) × (seat.side.fresh ≡ false)) → (acknowledged : Bool) → s.acknowledged m.row.service ≡ acknowledged →
+      unheard : (b : R × ℕ) → m.row.answer ≡ Some b → ends_unheard x.speech s.acknowledged m.row ≡ false →
+          (s.acknowledged m.row.service && outnumbers (x.speech.planned m.row.service (plain x.speech.emission m.row.heard)) (plain x.speech.emission m.row.heard)) ≡ false
+      unheard b is e = sym (answered_unheard x.speech s.acknowledged m.row b is) ∙ e
+
+      drained : ((x.speech.handed m.row.service ≡ true) × (seat.side.halves.out.holding ≡ None)) ⊎ (((a : R × ℕ) × (m.row.answer ≡ Some a)) × (seat.side.fresh ≡ false)) → (acknowledged : Bool) → ends_unheard x.speech s.acknowledged m.row ≡ acknowledged →
           (if acknowledged then is_none seat.side.halves.out.holding else true) ≡ true → (seat.side.halves.out.holding ≡ None) ⊎ (c.rest ≡ [])
       drained (inl h) acknowledged e k = inl h.1
       drained (inr b) true e k = inl (idle seat.side.halves.out.holding k)
       drained (inr b) false e k = inr (none_behind c.taken c.rest (answered_taken x s table stated law (counting seat.start) ready r.front r.last r.now (c.taken ++ acts c.rest) c.taken (acts seat.accepted) r.moment
-          m.row.service m.shows.service e (Outcome.Replied b.0.0.0, b.0.0.1) (answer b.0.0 b.0.1) nothing))
+          m.row.service m.shows.service m.row.heard m.shows.heard (unheard b.0.0 b.0.1 e) (Outcome.Replied b.0.0.0, b.0.0.1) (answer b.0.0 b.0.1) nothing))
 
   -- and of a state service that is over
   opens_state : (from : ℕ) (seat : Seat V M Q R) (a : Account Q R) → x.ready seat.start ≡ true → (c : Carried x law s table from seat a) → (r : Rowed x law s table from seat a c.taken c.rest) →
@@ -262,7 +273,7 @@ module _ {V A M Q R : Type 0} (x : Exchange V A M Q R) (law : IsLawful x) (s : S
       })))
 
   -- a state service comes into hand
-  begins_state : (from : ℕ) (seat : Seat V M Q R) (a : Account Q R) (c : Carried x law s table from seat a) → Opening seat a c.taken c.rest → (target frame : ℕ) → is_acknowledged s.acknowledged seat.side seat.side.now ≡ true →
+  begins_state : (from : ℕ) (seat : Seat V M Q R) (a : Account Q R) (c : Carried x law s table from seat a) → Opening seat a c.taken c.rest → (target frame : ℕ) → is_acknowledged x.speech s.acknowledged seat.side seat.side.now ≡ true →
       seat.slave.registers.state ≡ from → Carried x law s table from seat (state_begins a target frame)
   begins_state from seat a c o target frame acknowledged state =
       let b = o.next (Service.State target) frame refl in
@@ -301,11 +312,11 @@ module _ {V A M Q R : Type 0} (x : Exchange V A M Q R) (law : IsLawful x) (s : S
           one true true v o = begins_mails from seat a c (opens from seat a ready agrees c e (free_now (Some r) n o)) q frame (seat.side.past ++ r ∷ [])
               (ap (λ (o : Option (Row M Q R)). labels_of (seat.side.past ++ newest o)) (sym n)) v e
 
-      by_state : (target : ℕ) (may : Bool) → is_free x.speech seat.side seat.side.now && is_acknowledged s.acknowledged seat.side seat.side.now ≡ may → a.hand ≡ None →
+      by_state : (target : ℕ) (may : Bool) → is_free x.speech seat.side seat.side.now && is_acknowledged x.speech s.acknowledged seat.side seat.side.now ≡ may → a.hand ≡ None →
           Carried x law s table from seat (if may then state_begins a target frame else a)
       by_state target false m e = c
       by_state target true m e =
-          let parts = and_parts (is_free x.speech seat.side seat.side.now) (is_acknowledged s.acknowledged seat.side seat.side.now) m in
+          let parts = and_parts (is_free x.speech seat.side seat.side.now) (is_acknowledged x.speech s.acknowledged seat.side seat.side.now) m in
           begins_state from seat a c (opens from seat a ready agrees c e parts.0) target frame parts.1 (stands e)
 
       go : (hand : Option Duty) (wish : Option (Service Q)) → a.hand ≡ hand →
@@ -313,7 +324,7 @@ module _ {V A M Q R : Type 0} (x : Exchange V A M Q R) (law : IsLawful x) (s : S
       go hand None e = c
       go (Some duty) (Some wish) e = c
       go None (Some (Service.Mails q)) e = by_mails q seat.side.now refl e
-      go None (Some (Service.State target)) e = by_state target (is_free x.speech seat.side seat.side.now && is_acknowledged s.acknowledged seat.side seat.side.now) refl e
+      go None (Some (Service.State target)) e = by_state target (is_free x.speech seat.side seat.side.now && is_acknowledged x.speech s.acknowledged seat.side seat.side.now) refl e
 
   -- a seat that takes these mails up
   abbrev holds_of : Seat V M Q R → List M → Seat V M Q R

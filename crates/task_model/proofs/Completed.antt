@@ -25,7 +25,7 @@ over_next {Q = Q} {R = R} x acknowledged frame d a p = go a.hand p.begin
     go hand None = refl
     go (Some duty) (Some wish) = refl
     go None (Some (Service.Mails q)) = either (x.speech.valid q && is_free x.speech d d.now) (record a { started = starts a (Service.Mails q) frame }) refl
-    go None (Some (Service.State target)) = either (is_free x.speech d d.now && is_acknowledged acknowledged d d.now) (state_begins a target frame) refl
+    go None (Some (Service.State target)) = either (is_free x.speech d d.now && is_acknowledged x.speech acknowledged d d.now) (state_begins a target frame) refl
 
 -- what a frame brought back starts nothing
 started_by : {Q R : Type 0} (frame : ℕ) (a : Account Q R) (duty : Duty) (p : Progress R) → (account_by frame a duty p).started ≡ a.started
@@ -170,11 +170,11 @@ module _ {V A M Q R : Type 0} (x : Exchange V A M Q R) (more : M → Bool) (stat
         go : (b : Bool) → x.speech.valid q && is_free x.speech d d.now ≡ b → Completed fs (if b then record a { started = starts a (Service.Mails q) (length fs) } else a).started
         go false e = c
         go true e = completed_push fs a.started (Service.Mails q) c (over refl (and_parts (x.speech.valid q) (is_free x.speech d d.now) e).1)
-    begins None (Some (Service.State target)) over = go (is_free x.speech d d.now && is_acknowledged acknowledged d d.now) refl
+    begins None (Some (Service.State target)) over = go (is_free x.speech d d.now && is_acknowledged x.speech acknowledged d d.now) refl
       where
-        go : (b : Bool) → is_free x.speech d d.now && is_acknowledged acknowledged d d.now ≡ b → Completed fs (if b then state_begins a target (length fs) else a).started
+        go : (b : Bool) → is_free x.speech d d.now && is_acknowledged x.speech acknowledged d d.now ≡ b → Completed fs (if b then state_begins a target (length fs) else a).started
         go false e = c
-        go true e = completed_push fs a.started (Service.State target) c (over refl (and_parts (is_free x.speech d d.now) (is_acknowledged acknowledged d d.now) e).0)
+        go true e = completed_push fs a.started (Service.State target) c (over refl (and_parts (is_free x.speech d d.now) (is_acknowledged x.speech acknowledged d d.now) e).0)
 
     pub completed_next : (p : Pick Q) → (a.hand ≡ None → is_free x.speech d d.now ≡ true → LastOver fs a.started) → Completed fs (account_next x.speech acknowledged (length fs) d a p).started
     completed_next p over = begins a.hand p.begin over

@@ -288,7 +288,7 @@ module _ {V A M Q R : Type 0} (x : Exchange V A M Q R) (law : IsLawful x) (s : S
         | inr h ↦
             let f : Facts x law r = h.1 in
             let none = stays_unanswered frame r.answer found (law.unanswered r.service (plain x.speech.emission (r.heard ++ ms)) h.0) in
-            (record { left = nothing; done = inr (h.0, record { silent = same ∙ f.silent; mine = f.mine; some = f.some }) }, ap (λ o. record { service = r.service; frame = r.frame; answer = as_outcome o }) none)
+            (record { left = nothing; done = inr (h.0, record { silent = same ∙ f.silent; mine = f.mine; some = f.some; unanswered = none ∙ f.unanswered }) }, ap (λ o. record { service = r.service; frame = r.frame; answer = as_outcome o }) none)
       ]
 
   rests_heard : (frame : ℕ) (ms : List M) (past : List (Row M Q R)) (now : Option (Row M Q R)) → plain x.speech.emission ms ≡ [] → Rested x law past now →

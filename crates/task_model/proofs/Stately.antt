@@ -226,7 +226,7 @@ module _ {M Q R : Type 0} (table : Table) (start : ℕ) (is : IsTable table star
       go hand None e = k
       go (Some duty) (Some wish) e = k
       go None (Some (Service.Mails q)) e = mails q (x.speech.valid q && is_free x.speech d d.now) e
-      go None (Some (Service.State target)) e = state target (is_free x.speech d d.now && is_acknowledged acknowledged d d.now) e
+      go None (Some (Service.State target)) e = state target (is_free x.speech d d.now && is_acknowledged x.speech acknowledged d d.now) e
 
   -- a frame that does nothing here
   quiet_stately : (fs : List (Frame M)) (f : Frame M) (r : Registers) (a : Account Q R) → statuses (frame_news station (kept_of station fs) f) ≡ [] → Stately table start is station fs r a → Stately table start is station (fs ++ f ∷ []) r a

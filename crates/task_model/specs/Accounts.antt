@@ -2,7 +2,7 @@
 -- in hand at a time, and what the master's datagrams make of a state service.
 use Rattle.std.specs.Prelude.{◌≡◌, ℕ, ◌==◌, ◌&&◌, Bool, true, false, not, is_none, if◌then◌else◌, Option, Some, None, List, [], ◌∷◌, ◌++◌}
 use Rattle.state_exchange.specs.of_exchange_model.Exchange.{Speech}
-use Rattle.state_exchange.specs.of_exchange_model.Rows.{Row}
+use Rattle.state_exchange.specs.of_exchange_model.Rows.{Row, ends_unheard}
 use Rattle.state_exchange.specs.of_segment_model.Slaves.{Datagram, Address, Access, Found}
 use Rattle.state_exchange.specs.of_segment_model.Record.{is_for}
 use Rattle.state_exchange.specs.of_segment_model.Ends.{Outcome}
@@ -65,9 +65,9 @@ is_free x d None = true
 is_free x d (Some r) = is_over x d.halves.out.holding d.fresh r
 
 -- and its last mail's write is done, where that mail is an acknowledgement
-abbrev pub is_acknowledged : {M Q R : Type 0} → (Q → Bool) → Side M Q R → Option (Row M Q R) → Bool
-is_acknowledged acknowledged d None = true
-is_acknowledged acknowledged d (Some r) = if acknowledged r.service then is_none d.halves.out.holding else true
+abbrev pub is_acknowledged : {M Q R : Type 0} → Speech M Q R → (Q → Bool) → Side M Q R → Option (Row M Q R) → Bool
+is_acknowledged x acknowledged d None = true
+is_acknowledged x acknowledged d (Some r) = if ends_unheard x acknowledged r then is_none d.halves.out.holding else true
 
 -- one more service in hand
 abbrev pub starts : {Q R : Type 0} → Account Q R → Service Q → ℕ → List (Started Q)
@@ -85,7 +85,7 @@ account_begins x acknowledged frame d a (Some duty) (Some wish) = a
 account_begins x acknowledged frame d a None (Some (Service.Mails q)) =
     if x.valid q && is_free x d d.now then record a { started = starts a (Service.Mails q) frame } else a
 account_begins x acknowledged frame d a None (Some (Service.State target)) =
-    if is_free x d d.now && is_acknowledged acknowledged d d.now then state_begins a target frame else a
+    if is_free x d d.now && is_acknowledged x acknowledged d d.now then state_begins a target frame else a
 
 -- the account before a frame, by this choice; `d` is the side of the mails as it stands
 abbrev pub account_next : {M Q R : Type 0} → Speech M Q R → (Q → Bool) → ℕ → Side M Q R → Account Q R → Pick Q → Account Q R

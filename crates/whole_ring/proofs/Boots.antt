@@ -37,7 +37,7 @@ module _ {M Q R : Type 0} (boot : Bool) where
       go : (b : Bool) → HandBoots boot (if b then record a { started = starts a (Service.Mails q) frame } else a).hand
       go true = is
       go false = is
-  hand_begins x acknowledged frame d a None (Some (Service.State target)) is wish = go (is_free x d d.now && is_acknowledged acknowledged d d.now)
+  hand_begins x acknowledged frame d a None (Some (Service.State target)) is wish = go (is_free x d d.now && is_acknowledged x acknowledged d d.now)
     where
       go : (b : Bool) → HandBoots boot (if b then state_begins a target frame else a).hand
       go true = wish

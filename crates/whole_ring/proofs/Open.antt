@@ -50,7 +50,7 @@ module _ {M Q R : Type 0} (x : Speech M Q R) (acknowledged : Q → Bool) (frame 
       go : (b : Bool) → NoneToInit (if b then record a { started = starts a (Service.Mails q) frame } else a).over
       go true = over
       go false = over
-  over_begins None (Some (Service.State target)) over = go (is_free x d d.now && is_acknowledged acknowledged d d.now)
+  over_begins None (Some (Service.State target)) over = go (is_free x d d.now && is_acknowledged x acknowledged d d.now)
     where
       go : (b : Bool) → NoneToInit (if b then state_begins a target frame else a).over
       go true = over
@@ -65,7 +65,7 @@ module _ {M Q R : Type 0} (x : Speech M Q R) (acknowledged : Q → Bool) (frame 
       go : (b : Bool) → HandToInit (if b then record a { started = starts a (Service.Mails q) frame } else a).hand
       go true = is
       go false = is
-  hand_begins None (Some (Service.State target)) is = go (is_free x d d.now && is_acknowledged acknowledged d d.now)
+  hand_begins None (Some (Service.State target)) is = go (is_free x d d.now && is_acknowledged x acknowledged d d.now)
     where
       go : (b : Bool) → HandToInit (if b then state_begins a target frame else a).hand
       go true = tt
