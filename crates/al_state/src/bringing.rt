@@ -14,7 +14,7 @@ use ec_fields::{buffer_of, put_u16, u16_at};
 const RETURN: u8 = INIT + 0x10;
 
 /// The access of a bring-up or a reopening that is in hand; each is repeated until it returns.
-#[derive(Clone, Copy, Debug, PartialEq, Eq)]
+#[derive(Clone, Copy)]
 pub enum BringStep {
     /// Of a reopening: writes Init with the acknowledge to AL control, at the slave's place in the ring.
     Return,
@@ -39,7 +39,7 @@ pub enum BringStep {
 /// A bring-up of one slave by the master: `adp` names its place in the ring, `start` is the state in
 /// which it begins to serve, PreOp or Bootstrap, and `again` says that it is a reopening, which leads the slave
 /// back to Init first and disables its mailboxes.
-#[derive(Clone, Copy, Debug, PartialEq, Eq)]
+#[derive(Clone, Copy)]
 pub struct BringUp {
     pub adp: u16,
     pub station: u16,

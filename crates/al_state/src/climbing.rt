@@ -4,7 +4,7 @@ ghost use Rattle.al_state.specs.Climb.{next_of, written_to, shown_to};
 use ec_fields::bits;
 
 /// How far the master is on its way to bring a slave into a state.
-#[derive(Clone, Copy, Debug, PartialEq, Eq)]
+#[derive(Clone, Copy)]
 pub enum Climb {
     /// The target is to be written to AL control.
     Ask { target: u8 },
@@ -21,7 +21,7 @@ pub enum Climb {
 }
 
 /// What the master does next about a state.
-#[derive(Clone, Copy, Debug, PartialEq, Eq)]
+#[derive(Clone, Copy)]
 pub enum ClimbNext {
     /// Write this word to AL control.
     Write(u16),

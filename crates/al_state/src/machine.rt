@@ -21,7 +21,7 @@ pub const OP: u8 = 8;
 
 /// The state of a slave: 1 Init, 2 PreOp, 3 Bootstrap, 4 SafeOp, 8 Op. The error flag stands exactly
 /// where `error` isn't 0, which then is the AL status code.
-#[derive(Clone, Copy, Debug, PartialEq, Eq)]
+#[derive(Clone, Copy)]
 pub struct Al {
     pub state: u8,
     pub error: u16,
@@ -29,7 +29,7 @@ pub struct Al {
 
 /// What became of an AL control word. The number of a refusal is the AL status code
 /// (ETG.1000.6, table 11).
-#[derive(Clone, Copy, Debug, PartialEq, Eq)]
+#[derive(Clone, Copy)]
 pub enum Asked {
     /// The state is the target, with no error.
     Changed,

@@ -85,7 +85,7 @@ fn free_all(blocks: &mut Vec<Box<Block>>, free: &mut Vec<Box<Block>>)
 }
 
 /// A place for one chain: whether a chain is live there, and the blocks that it has.
-#[derive(Debug, Drop)]
+#[derive(Drop)]
 pub struct Chain {
     live: bool,
     blocks: Vec<Box<Block>>,

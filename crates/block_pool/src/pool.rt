@@ -10,11 +10,11 @@ use std::alloc::Global;
 use std::marker::Model;
 
 /// No block is free for the octets.
-#[derive(Clone, Copy, Debug, PartialEq, Eq)]
+#[derive(Clone, Copy)]
 pub struct PoolFull;
 
 /// A chain of one pool. It is made by `begin` alone, and `close` ends it.
-#[derive(Debug, Drop)]
+#[derive(Drop)]
 pub struct ChainId {
     place: usize,
 }
@@ -29,7 +29,7 @@ impl Model for ChainId {
 
 /// A region of blocks of 128 octets. Chains of blocks keep octet lists; a chain of `n` octets has
 /// `ceil(n / 128)` blocks. After `new` no call takes memory.
-#[derive(Debug, Drop)]
+#[derive(Drop)]
 pub struct Pool {
     free: Vec<Box<Block>>,
     chains: Vec<Chain>,

@@ -10,7 +10,7 @@ use datagrams::{Command, Head};
 pub const MANAGER_LEN: usize = 8;
 
 /// A mailbox's sync manager (ETG.1000.4, sync manager registers).
-#[derive(Clone, Copy, Debug, PartialEq, Eq)]
+#[derive(Clone, Copy)]
 pub enum Manager {
     /// Sync manager 0, of the mailbox that the master writes.
     Out,
@@ -19,7 +19,7 @@ pub enum Manager {
 }
 
 /// An access of a mailbox.
-#[derive(Clone, Copy, Debug, PartialEq, Eq)]
+#[derive(Clone, Copy)]
 pub enum MailAccess {
     /// FPWR at 0x1000.
     WriteMail,
@@ -32,7 +32,7 @@ pub enum MailAccess {
 }
 
 /// What a datagram is to an audit.
-#[derive(Clone, Copy, Debug, PartialEq, Eq)]
+#[derive(Clone, Copy)]
 pub enum Access {
     /// FPWR of 8 octets to a mailbox's sync manager.
     Manager(Manager),

@@ -19,7 +19,7 @@ use pcap_frames::{Capture, PacketAt};
 use std::alloc::Global;
 
 /// What a packet came to: whether the one behind it is its return, and the rule that it breaks.
-#[derive(Clone, Copy, Debug)]
+#[derive(Clone, Copy)]
 struct Heard {
     used: bool,
     rule: Option<Rule>,

@@ -7,14 +7,14 @@ use capture_view::body_of;
 use datagrams::{Frame, Head, Part, read};
 
 /// What returned of a datagram.
-#[derive(Clone, Copy, Debug)]
+#[derive(Clone, Copy)]
 pub struct Return<'a> {
     pub counter: u16,
     pub body: &'a [u8],
 }
 
 /// A datagram that was sent, with what returned of it: `None` where it was lost.
-#[derive(Clone, Copy, Debug)]
+#[derive(Clone, Copy)]
 pub struct Datagram<'a> {
     pub head: Head,
     pub body: &'a [u8],

@@ -15,7 +15,7 @@ use std::alloc::Global;
 use std::marker::Model;
 
 /// What is known so far: the stations whose managers were written, and those whose links opened, in that order.
-#[derive(Debug, Drop)]
+#[derive(Drop)]
 pub struct Known {
     pub seats: Rows<Seat>,
     pub stations: Rows<StationAudit>,

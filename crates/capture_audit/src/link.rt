@@ -14,7 +14,7 @@ use mailbox_mail::{Mail, mail_of, view};
 use std::alloc::Global;
 
 /// What the master's inward half sends next (ETG.1000.4, mailbox with repeat request and acknowledge).
-#[derive(Clone, Copy, Debug, PartialEq, Eq)]
+#[derive(Clone, Copy)]
 pub enum Inward {
     /// Nothing is in doubt: mailbox 1 is read.
     Clear,
@@ -27,7 +27,7 @@ pub enum Inward {
 }
 
 /// The master's side of an open link, as its datagrams so far show it.
-#[derive(Debug, Drop)]
+#[derive(Drop)]
 pub struct Link {
     /// The lengths of the areas that it opened with.
     pub out_len: u16,
@@ -45,7 +45,7 @@ pub struct Link {
 }
 
 /// The mail that an access moved.
-#[derive(Debug, Drop)]
+#[derive(Drop)]
 pub enum Moved {
     /// None, or one that was moved before.
     Nothing,

@@ -3,7 +3,7 @@ ghost use Rattle.capture_audit.specs.Rules.{number_of};
 
 /// A rule of the mailboxes (ETG.1000.4, mailbox with repeat request and acknowledge) that a datagram breaks, in the
 /// order in which they are tried; a station whose link isn't open comes before the others.
-#[derive(Clone, Copy, Debug, PartialEq, Eq)]
+#[derive(Clone, Copy)]
 pub enum Rule {
     /// A1: what is written to mailbox 0 hasn't the length of its area, or is no mail.
     NoMail,

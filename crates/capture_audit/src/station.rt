@@ -17,7 +17,7 @@ const MANAGER_AREA_LEN: usize = 2;
 
 /// What an audit found at a station: the mails that the master sent there, and those that it accepted, in order and
 /// without repeats, over all openings of the link.
-#[derive(Debug, Drop)]
+#[derive(Drop)]
 pub struct StationAudit {
     pub station: u16,
     pub sent: Rows<Mail>,
@@ -26,7 +26,7 @@ pub struct StationAudit {
 
 /// What is known of a station: the lengths with which its managers were enabled since its link opened last, and the
 /// link where it is open.
-#[derive(Debug, Drop)]
+#[derive(Drop)]
 pub struct Seat {
     pub station: u16,
     pub out_len: Option<u16>,
@@ -35,7 +35,7 @@ pub struct Seat {
 }
 
 /// What an access of a station's mailbox comes to.
-#[derive(Debug, Drop)]
+#[derive(Drop)]
 pub enum Step {
     /// It breaks this rule, the first that it breaks.
     Breaks(Rule),

@@ -2,7 +2,7 @@ use crate::station::StationAudit;
 use ec_fields::Rows;
 
 /// What an audit comes to.
-#[derive(Debug, Drop)]
+#[derive(Drop)]
 pub enum Verdict {
     /// No datagram breaks a rule: the stations in the order in which their links opened first.
     Yes(Rows<StationAudit>),

@@ -15,7 +15,7 @@ use std::marker::Model;
 pub(crate) const MOST: usize = 16_384;
 
 /// A client for one service at a time. It takes all its memory when it is made.
-#[derive(Debug, Drop)]
+#[derive(Drop)]
 pub struct CoeClient {
     pub(crate) room: u16,
     pub(crate) task: Task,

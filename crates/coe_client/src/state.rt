@@ -1,7 +1,7 @@
 use mailbox_mail::ReplyKind;
 
 /// What is asked of the slave.
-#[derive(Clone, Copy, Debug)]
+#[derive(Clone, Copy)]
 pub enum Task {
     Nothing,
     Download { index: u16, sub: u8, all: bool },
@@ -12,7 +12,7 @@ pub enum Task {
 }
 
 /// What of the service's mails is not yet sent.
-#[derive(Clone, Copy, Debug)]
+#[derive(Clone, Copy)]
 pub enum Unsent {
     Nothing,
     /// All of them.
@@ -24,7 +24,7 @@ pub enum Unsent {
 }
 
 /// What answer comes next.
-#[derive(Clone, Copy, Debug)]
+#[derive(Clone, Copy)]
 pub enum Awaits {
     Nothing,
     /// The answer to an initiate download.

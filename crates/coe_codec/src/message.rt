@@ -2,7 +2,7 @@ use arrayvec::ArrayVec;
 
 /// A CoE message. `index` and `sub` name an entry of the object dictionary, `all` is complete
 /// access, and a toggle alternates from `false` over the segments of one transfer.
-#[derive(Debug, Drop, PartialEq, Eq)]
+#[derive(Drop)]
 pub enum Coe {
     /// An emergency: error code, error register and five octets of the manufacturer's.
     Emergency {
@@ -102,7 +102,7 @@ pub enum Coe {
 }
 
 /// Why a body is no CoE message, in the order in which the parts are looked at.
-#[derive(Clone, Copy, Debug, PartialEq, Eq)]
+#[derive(Clone, Copy)]
 pub enum CoeFault {
     /// Fewer than 2 octets, than 10 of SDO and emergency, or than 6 of information.
     Short,

@@ -10,7 +10,7 @@ use crate::message::{Coe, CoeFault};
 use ec_fields::{u16_at, u32_at};
 
 /// A CoE message as it stands in a body: its variants are those of [`Coe`](crate::Coe), and its octets are where they lie.
-#[derive(Clone, Copy, Debug)]
+#[derive(Clone, Copy)]
 pub enum CoeView<'a> {
     Emergency {
         octets: &'a [u8],

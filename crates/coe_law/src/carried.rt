@@ -2,7 +2,7 @@ use arrayvec::ArrayVec;
 use mailbox_mail::ReplyKind;
 
 /// What a download has made the slave send of itself.
-#[derive(Debug, Drop)]
+#[derive(Drop)]
 pub enum Emission {
     /// An emergency: error code, error register and 5 octets.
     Emergency(ArrayVec<u8, 8>),
@@ -11,7 +11,7 @@ pub enum Emission {
 }
 
 /// What a service came to. Its value is the client's.
-#[derive(Debug, Drop)]
+#[derive(Drop)]
 pub struct Carried {
     /// What it replied.
     pub kind: ReplyKind,

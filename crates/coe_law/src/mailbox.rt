@@ -10,7 +10,7 @@ use std::alloc::Global;
 use std::marker::Model;
 
 /// A mailbox of one direction: its area, and the counter of the last mail written there (ETG.1000.4, "Mailbox").
-#[derive(Debug, Drop)]
+#[derive(Drop)]
 pub struct Mailbox {
     area: Vec<u8>,
     counter: u8,
@@ -59,7 +59,7 @@ impl Mailbox {
 }
 
 /// The two mailboxes of a slave: the one that requests go through, and the one for answers.
-#[derive(Debug, Drop)]
+#[derive(Drop)]
 pub struct Mailboxes {
     outward: Mailbox,
     inward: Mailbox,

@@ -6,7 +6,7 @@ ghost use Rattle.coe_server.specs.Serving.{target_view, ask_view, Stores, Reads,
 use ec_fields::Transfer;
 
 /// What an SDO transfer is about: an entry by its subindex, or, by complete access, the object from this subindex on.
-#[derive(Clone, Copy, Debug)]
+#[derive(Clone, Copy)]
 pub struct Target {
     pub index: u16,
     pub sub: u8,
@@ -14,7 +14,7 @@ pub struct Target {
 }
 
 /// What an information request asks (ETG.1000.6, "SDO Information").
-#[derive(Clone, Copy, Debug)]
+#[derive(Clone, Copy)]
 pub enum Question {
     List { kind: u16 },
     Object { index: u16 },

@@ -13,7 +13,7 @@ use std::marker::Model;
 const MOST: usize = 16_384;
 
 /// A server over the objects of one slave. It takes all its memory when it is made.
-#[derive(Debug, Drop)]
+#[derive(Drop)]
 pub struct CoeServer {
     pub(crate) eoe: bool,
     pub(crate) room: u16,

@@ -1,7 +1,7 @@
 use crate::dictionary::Target;
 
 /// The SDO transfer that is not finished.
-#[derive(Clone, Copy, Debug)]
+#[derive(Clone, Copy)]
 pub enum State {
     Idle,
     /// The octets that came lie in the value.
@@ -19,7 +19,7 @@ pub enum State {
 }
 
 /// What is still to be told; a mail is made of it when it goes.
-#[derive(Clone, Copy, Debug)]
+#[derive(Clone, Copy)]
 pub enum Pending {
     Nothing,
     DownloadAnswer { target: Target },
@@ -40,7 +40,7 @@ pub enum Pending {
 }
 
 /// What a mail made the slave send of itself.
-#[derive(Clone, Copy, Debug)]
+#[derive(Clone, Copy)]
 pub enum Emitted {
     Nothing,
     Emergency,

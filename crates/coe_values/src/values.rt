@@ -12,7 +12,7 @@ use std::marker::Model;
 const BLOCKS: u32 = 256;
 
 /// One of the two values.
-#[derive(Clone, Copy, Debug)]
+#[derive(Clone, Copy)]
 pub enum Slot {
     /// The value of the SDO transfer in hand, whichever way it goes.
     Value,
@@ -21,7 +21,7 @@ pub enum Slot {
 }
 
 /// The two values of a CoE server, each of at most 16,384 octets, as chains of one region. No call but `new` takes memory.
-#[derive(Debug, Drop)]
+#[derive(Drop)]
 pub struct Values {
     pool: Pool,
     value: Option<ChainId>,

@@ -2,7 +2,7 @@ ghost use Rattle.std.specs.Prelude.{◌≡◌};
 ghost use Rattle.datagrams.specs.Command.{number_of, command_of};
 
 /// What a datagram asks of the slaves (ETG.1000.4, 5.4.1). `Other` stands for the numbers above 14.
-#[derive(Clone, Copy, Debug, Default, PartialEq, Eq)]
+#[derive(Clone, Copy, Default)]
 pub enum Command {
     /// No operation.
     #[default]

@@ -5,7 +5,7 @@ use arrayvec::ArrayVec;
 pub type FrameBuf = ArrayVec<u8, 1514>;
 
 /// One datagram of a frame: `at` is the place of its first octet in the frame.
-#[derive(Clone, Copy, Debug, Default, PartialEq, Eq)]
+#[derive(Clone, Copy, Default)]
 pub struct Part {
     pub at: usize,
     pub head: Head,
@@ -19,7 +19,7 @@ pub struct Frame {
 
 /// Why octets are no EtherCAT frame: the first cause that applies, in this order. The two last ones are
 /// those of a datagram: either no octet is left for it, or too few are.
-#[derive(Clone, Copy, Debug, PartialEq, Eq)]
+#[derive(Clone, Copy)]
 pub enum FrameFault {
     /// Fewer than 16 octets.
     Short,

@@ -7,7 +7,7 @@ use ec_fields::{bits, put_u16, u16_at};
 /// What stands in a datagram beside its body (ETG.1000.4, 5.4.1): the command, the index that the
 /// master chose, the two address fields, the body's length, whether the frame circulates, whether
 /// another datagram follows, the interrupts, and the working counter.
-#[derive(Clone, Copy, Debug, Default, PartialEq, Eq)]
+#[derive(Clone, Copy, Default)]
 pub struct Head {
     pub command: Command,
     pub index: u8,

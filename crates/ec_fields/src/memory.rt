@@ -4,7 +4,7 @@ use std::fmt;
 
 /// Want of memory. It is merged with no other cause, and after it the object of the call is as
 /// before.
-#[derive(Clone, Copy, Debug, PartialEq, Eq)]
+#[derive(Clone, Copy, Debug)]
 pub struct NoMemory;
 
 impl fmt::Display for NoMemory {

@@ -8,7 +8,7 @@ use std::alloc::Global;
 use std::marker::Model;
 
 /// A list of rows that can grow.
-#[derive(Debug, Drop)]
+#[derive(Drop)]
 pub struct Rows<T> {
     rows: Vec<T>,
 }

@@ -6,7 +6,7 @@ use std::alloc::Global;
 use std::marker::Model;
 
 /// A list of octets up to a limit, whose memory is taken when it is made. No other call takes any.
-#[derive(Debug, Drop)]
+#[derive(Drop)]
 pub struct Transfer {
     octets: Vec<u8>,
     limit: usize,

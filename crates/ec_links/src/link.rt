@@ -25,7 +25,7 @@ pub enum LinkErr {
 }
 
 /// What a link in memory has to give.
-#[derive(Debug, Drop)]
+#[derive(Drop)]
 pub enum LinkItem {
     /// Octets that come in one piece.
     Bytes(Octets),

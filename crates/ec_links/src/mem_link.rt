@@ -10,7 +10,7 @@ use std::alloc::Global;
 
 /// A link in memory that gives its items in order and keeps the octets put. Chosen calls of it
 /// fail, numbered from 0, both its methods together.
-#[derive(Debug, Drop)]
+#[derive(Drop)]
 pub struct MemLink {
     pub(crate) items: Rows<LinkItem>,
     // How many of the items were given in full.

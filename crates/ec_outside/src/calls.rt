@@ -7,7 +7,7 @@ use ec_fields::Rows;
 /// The trait calls of one object in memory, as a file, sink, port or link: which of them are to
 /// fail, counted from 0, how many were made, and how many failed. Both counts stand still at their
 /// type's end.
-#[derive(Debug, Drop)]
+#[derive(Drop)]
 pub struct Calls {
     /// The numbers of the calls that are to fail.
     pub failing: Rows<u64>,

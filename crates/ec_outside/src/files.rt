@@ -4,7 +4,7 @@ ghost use Rattle.ec_outside.specs.Faults.{Rose};
 use ec_fields::Octets;
 
 /// A file by its name.
-#[derive(Debug, Drop)]
+#[derive(Drop)]
 pub struct StoredFile {
     /// The octets of its name.
     pub name: Octets,
@@ -13,7 +13,7 @@ pub struct StoredFile {
 }
 
 /// What a load found.
-#[derive(Clone, Copy, Debug, PartialEq, Eq)]
+#[derive(Clone, Copy)]
 pub enum Loaded {
     /// The file; its contents were loaded.
     Found,
@@ -24,7 +24,7 @@ pub enum Loaded {
 }
 
 /// Why a call of files failed.
-#[derive(Clone, Copy, Debug, PartialEq, Eq)]
+#[derive(Clone, Copy)]
 pub enum FilesErr {
     /// A fault of the files; their count of faults rose.
     Failed,

@@ -9,7 +9,7 @@ use ec_fields::{NoMemory, Octets, Rows};
 use std::alloc::Global;
 
 /// Files in memory of which chosen calls fail, numbered from 0, loads and saves together.
-#[derive(Debug, Drop)]
+#[derive(Drop)]
 pub struct MemFiles {
     pub(crate) alloc: Global,
     pub(crate) files: Rows<StoredFile>,

@@ -10,7 +10,7 @@ use std::alloc::Global;
 
 /// A port in memory that gives its items in order and keeps what it sends. Chosen calls of it
 /// fail, numbered from 0, all its methods together.
-#[derive(Debug, Drop)]
+#[derive(Drop)]
 pub struct MemPort {
     pub(crate) alloc: Global,
     pub(crate) items: Rows<PortItem>,

@@ -37,7 +37,7 @@ pub enum PortErr {
 }
 
 /// A datagram that was sent.
-#[derive(Debug, Drop)]
+#[derive(Drop)]
 pub struct SentGram {
     /// To whom.
     pub to: Peer,
@@ -46,7 +46,7 @@ pub struct SentGram {
 }
 
 /// What a port in memory has to give.
-#[derive(Debug, Drop)]
+#[derive(Drop)]
 pub enum PortItem {
     /// A datagram of a peer.
     Gram {

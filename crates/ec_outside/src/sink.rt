@@ -2,7 +2,7 @@ ghost use Rattle.std.specs.Prelude.{◌≡◌, ◌≤◌};
 ghost use Rattle.ec_outside.specs.Faults.{Rose};
 
 /// Why a sink took less than it was given.
-#[derive(Clone, Copy, Debug, PartialEq, Eq)]
+#[derive(Clone, Copy)]
 pub enum SinkErr {
     /// A fault of the sink; its count of faults rose.
     Failed,

@@ -20,7 +20,7 @@ fn append(written: &mut Octets, bytes: &[u8]) -> Result<(), SinkErr>
 }
 
 /// A sink in memory of which chosen calls fail, numbered from 0.
-#[derive(Debug, Drop)]
+#[derive(Drop)]
 pub struct MemSink {
     pub(crate) written: Octets,
     pub(crate) calls: Calls,
@@ -68,7 +68,7 @@ impl Sink for MemSink {
 }
 
 /// A sink in memory that never fails.
-#[derive(Debug, Drop)]
+#[derive(Drop)]
 pub struct SureSink {
     pub(crate) written: Octets,
 }

@@ -10,7 +10,7 @@ const MOST: u32 = 4096;
 const MOST_GRAMS: u32 = 1_000_000;
 
 /// What the words behind the program's name ask for. The files that a form names stand behind its first word.
-#[derive(Clone, Copy, Debug, PartialEq, Eq)]
+#[derive(Clone, Copy)]
 pub enum Form {
     /// `run SCENARIO`
     Run,

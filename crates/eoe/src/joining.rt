@@ -21,7 +21,7 @@ const STAMP: usize = 4;
 /// A packet whose last fragment has not come yet: its frame number, the number of the fragment that
 /// came last, how many blocks it is to have, how many octets came, and those octets. A packet that
 /// outgrows 1,514 octets keeps none from then on.
-#[derive(Debug, Drop)]
+#[derive(Drop)]
 pub struct Unfinished {
     pub frame: u8,
     pub number: u8,
@@ -31,7 +31,7 @@ pub struct Unfinished {
 }
 
 /// What became of a fragment.
-#[derive(Debug, Drop, PartialEq, Eq)]
+#[derive(Drop)]
 pub enum Joined {
     /// It was awaited, and more are.
     More,
@@ -42,7 +42,7 @@ pub enum Joined {
 }
 
 /// The same by itself.
-#[derive(Clone, Copy, Debug, PartialEq, Eq)]
+#[derive(Clone, Copy)]
 pub enum Came {
     More,
     Whole,
@@ -50,7 +50,7 @@ pub enum Came {
 }
 
 /// Packets joined from their fragments, one at a time, in one place.
-#[derive(Debug, Drop)]
+#[derive(Drop)]
 pub struct Reassembler {
     is_going: bool,
     packet: Unfinished,

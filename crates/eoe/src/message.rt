@@ -9,7 +9,7 @@ pub type Block = ArrayVec<u8, 1476>;
 /// A part of a packet. `frame` numbers the packet and `number` the part; `offset` is the place of
 /// its octets in blocks of 32, or in part 0 how many blocks the packet has. `stamped` says that a
 /// time stamp of four octets ends the last part.
-#[derive(Debug, Drop, PartialEq, Eq)]
+#[derive(Drop)]
 pub struct Fragment {
     pub last: bool,
     pub stamped: bool,
@@ -21,7 +21,7 @@ pub struct Fragment {
 
 /// A message of the protocol. The number of an answer is its result: 0 success, 1 unspecified error,
 /// 2 unsupported type.
-#[derive(Debug, Drop, PartialEq, Eq)]
+#[derive(Drop)]
 pub enum Eoe {
     Fragment(Fragment),
     SetIp(Block),
@@ -31,7 +31,7 @@ pub enum Eoe {
 }
 
 /// Why a mail's body is no message: the first cause that applies, in this order.
-#[derive(Clone, Copy, Debug, PartialEq, Eq)]
+#[derive(Clone, Copy)]
 pub enum EoeFault {
     /// Fewer than 4 octets.
     Short,

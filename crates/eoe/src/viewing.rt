@@ -13,7 +13,7 @@ pub const BLOCK: usize = 32;
 
 /// A part of a packet as it stands in a body: its fields are those of [`Fragment`], and its octets are
 /// where they lie.
-#[derive(Clone, Copy, Debug)]
+#[derive(Clone, Copy)]
 pub struct FragmentView<'a> {
     pub last: bool,
     pub stamped: bool,
@@ -24,7 +24,7 @@ pub struct FragmentView<'a> {
 }
 
 /// A message as it stands in a body: its variants are those of [`Eoe`], and its octets are where they lie.
-#[derive(Clone, Copy, Debug)]
+#[derive(Clone, Copy)]
 pub enum EoeView<'a> {
     Fragment(FragmentView<'a>),
     SetIp(&'a [u8]),

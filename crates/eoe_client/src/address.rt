@@ -14,7 +14,7 @@ use mailbox_mail::{Kind, Mail, ReplyKind, Took};
 use std::marker::Model;
 
 /// What of a service is not yet sent.
-#[derive(Clone, Copy, Debug)]
+#[derive(Clone, Copy)]
 pub enum Unsent {
     Nothing,
     /// The request to set the address block.
@@ -24,7 +24,7 @@ pub enum Unsent {
 }
 
 /// What answer comes next.
-#[derive(Clone, Copy, Debug)]
+#[derive(Clone, Copy)]
 pub enum Awaits {
     Nothing,
     /// The answer to a set.
@@ -36,7 +36,7 @@ pub enum Awaits {
 }
 
 /// A client for one address service at a time. It takes no memory.
-#[derive(Debug, Drop)]
+#[derive(Drop)]
 pub struct AddressClient {
     pub(crate) room: u16,
     pub(crate) block: Block,

@@ -19,7 +19,7 @@ use mailbox_mail::{Kind, Mail, error_mail};
 use std::marker::Model;
 
 /// What a slave answers to an address service, or in place of an answer.
-#[derive(Clone, Copy, Debug, PartialEq, Eq)]
+#[derive(Clone, Copy)]
 pub enum Answer {
     Nothing,
     SetIp(u16),

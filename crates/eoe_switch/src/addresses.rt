@@ -8,7 +8,7 @@ use byteorder::{BigEndian, ByteOrder};
 pub const ADDRESSES: usize = 64;
 
 /// An address, as the number of its six octets, and the port at which it was seen last.
-#[derive(Clone, Copy, Debug, Default, PartialEq, Eq)]
+#[derive(Clone, Copy, Default)]
 pub struct Learned {
     pub address: u64,
     pub port: u32,

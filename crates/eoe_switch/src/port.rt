@@ -13,7 +13,7 @@ pub struct Port {
 }
 
 /// What became of a packet at a port.
-#[derive(Clone, Copy, Debug, PartialEq, Eq)]
+#[derive(Clone, Copy)]
 pub enum Offered {
     /// It doesn't go there.
     Not,
@@ -24,7 +24,7 @@ pub enum Offered {
 }
 
 /// Where a packet goes: it came in at port `from`; `known` is the port of its destination.
-#[derive(Clone, Copy, Debug, PartialEq, Eq)]
+#[derive(Clone, Copy)]
 pub struct Route {
     pub from: u32,
     pub known: Option<u32>,

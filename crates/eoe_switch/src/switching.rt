@@ -17,13 +17,13 @@ const DESTINATION: usize = 0;
 const SOURCE: usize = 6;
 
 /// A set of ports: bit `p` stands for port `p`.
-#[derive(Clone, Copy, Debug, PartialEq, Eq)]
+#[derive(Clone, Copy)]
 pub struct Ports {
     pub bits: u32,
 }
 
 /// What happens at a switch.
-#[derive(Debug, Drop)]
+#[derive(Drop)]
 pub enum SwitchEvent {
     /// A packet comes in at a port.
     Arrive { port: u32, packet: Packet },

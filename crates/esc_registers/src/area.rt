@@ -6,7 +6,7 @@ use std::alloc::Global;
 use std::marker::Model;
 
 /// The octets of a mailbox area. Their number never changes.
-#[derive(Debug, Drop)]
+#[derive(Drop)]
 pub struct Area {
     octets: Vec<u8>,
 }

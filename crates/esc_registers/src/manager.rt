@@ -6,7 +6,7 @@ use ec_fields::{bits, put_u16, u16_at};
 
 /// A mailbox sync manager (ETG.1000.4, 6.7) and its area. Bit 0 of `activate` enables it, bit 1 is
 /// the repeat request, which bit 1 of its PDI control answers: the `acknowledge`.
-#[derive(Debug, Drop)]
+#[derive(Drop)]
 pub struct Manager {
     pub start: u16,
     pub length: u16,

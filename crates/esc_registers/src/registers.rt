@@ -15,7 +15,7 @@ use ec_fields::{buffer_of, u16_at};
 /// The registers of a slave. `unhandled` says that AL control was written and the slave's processor
 /// has not yet looked at it. `out_manager` is sync manager 0, whose mailbox the master writes,
 /// `in_manager` is sync manager 1, whose mailbox the master reads.
-#[derive(Debug, Drop)]
+#[derive(Drop)]
 pub struct Registers {
     pub station: u16,
     pub al_control: u16,

@@ -4,7 +4,7 @@ ghost use Rattle.esc_registers.specs.Access.{reads, writes, is_by_place, is_by_s
 use datagrams::Command;
 
 /// One of the two sync managers.
-#[derive(Clone, Copy, Debug, PartialEq, Eq)]
+#[derive(Clone, Copy)]
 pub enum Mailbox {
     /// Manager 0, for mails to the slave.
     Outward,
@@ -13,7 +13,7 @@ pub enum Mailbox {
 }
 
 /// What an access of some length at some address means to the slave.
-#[derive(Clone, Copy, Debug, PartialEq, Eq)]
+#[derive(Clone, Copy)]
 pub enum Row {
     Station,
     AlControl,

@@ -19,7 +19,7 @@ use std::marker::Model;
 const INIT: u16 = 1;
 
 /// The controller of one slave, seen as its [`Registers`].
-#[derive(Debug, Drop)]
+#[derive(Drop)]
 pub struct Esc {
     registers: Registers,
 }

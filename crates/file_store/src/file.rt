@@ -8,7 +8,7 @@ pub const NOT_FOUND: u32 = 0x8001;
 pub type Name = ArrayVec<u8, 32>;
 
 /// A file, but for its octets.
-#[derive(Clone, Debug, Drop)]
+#[derive(Clone, Drop)]
 pub struct FileSpec {
     pub name: Name,
     /// The password that a request has to give.
@@ -24,14 +24,14 @@ pub struct FileSpec {
 }
 
 /// A file and the chain of its octets.
-#[derive(Debug, Drop)]
+#[derive(Drop)]
 pub struct File {
     pub spec: FileSpec,
     pub chain: ChainId,
 }
 
 /// A version of a file that isn't committed.
-#[derive(Debug, Drop)]
+#[derive(Drop)]
 pub struct Version {
     pub name: Name,
     pub chain: ChainId,

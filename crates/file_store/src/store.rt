@@ -27,7 +27,7 @@ const BOOTSTRAP: u8 = 3;
 
 /// The files of a slave. Each is a chain of one region of blocks of 128 octets, and so is a version that isn't committed. After `new` and
 /// `insert` no call takes memory.
-#[derive(Debug, Drop)]
+#[derive(Drop)]
 pub struct Store {
     pool: Pool,
     files: Vec<File>,

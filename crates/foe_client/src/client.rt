@@ -21,7 +21,7 @@ pub(crate) const MOST: usize = 131_072;
 pub(crate) const HEADER: usize = 12;
 
 /// A client for one service at a time. It takes all its memory when it is made.
-#[derive(Debug, Drop)]
+#[derive(Drop)]
 pub struct FoeClient {
     pub(crate) out: u16,
     pub(crate) back: u16,

@@ -1,7 +1,7 @@
 use mailbox_mail::ReplyKind;
 
 /// The first of a service's mails that is not yet sent.
-#[derive(Clone, Copy, Debug)]
+#[derive(Clone, Copy)]
 pub enum Unsent {
     /// The request for a file; acknowledgements follow.
     ReadRequest,
@@ -14,7 +14,7 @@ pub enum Unsent {
 }
 
 /// What answer comes next.
-#[derive(Clone, Copy, Debug)]
+#[derive(Clone, Copy)]
 pub enum Awaits {
     Nothing,
     /// The packet of this number of a file that is read.

@@ -5,7 +5,7 @@ pub type Name = ArrayVec<u8, 32>;
 
 /// A message of the protocol (ETG.1000.6, "File access over EtherCAT"). Packets are numbered from 1;
 /// an acknowledgement of packet 0 answers a write request.
-#[derive(Debug, Drop, PartialEq, Eq)]
+#[derive(Drop)]
 pub enum Foe {
     /// Opcode 1: asks for a file.
     Read {
@@ -39,7 +39,7 @@ pub enum Foe {
 }
 
 /// Why a mail's body is no message: the first cause that applies, in this order.
-#[derive(Clone, Copy, Debug, PartialEq, Eq)]
+#[derive(Clone, Copy)]
 pub enum FoeFault {
     /// Fewer than 6 octets.
     Short,

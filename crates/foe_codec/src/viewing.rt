@@ -12,7 +12,7 @@ const HEADER: usize = 6;
 const LONGEST: usize = 32;
 
 /// A message as it stands in a body: its variants are those of [`Foe`], and its octets are where they lie.
-#[derive(Clone, Copy, Debug)]
+#[derive(Clone, Copy)]
 pub enum FoeView<'a> {
     Read { pass: u32, name: &'a [u8] },
     Write { pass: u32, name: &'a [u8] },

@@ -13,7 +13,7 @@ use std::marker::Model;
 pub(crate) const PACKET_HEAD: usize = 12;
 
 /// A server over the files of one slave. The octets of a write lie in the store, so that no call takes memory.
-#[derive(Debug, Drop)]
+#[derive(Drop)]
 pub struct FoeServer {
     pub(crate) out: u16,
     pub(crate) back: u16,

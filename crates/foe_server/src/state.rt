@@ -1,5 +1,5 @@
 /// The FoE transfer that is not finished. Packets are numbered from 1.
-#[derive(Clone, Copy, Debug)]
+#[derive(Clone, Copy)]
 pub enum State {
     Idle,
     /// Packet `number` was sent, with the octets of the file from `from` on.
@@ -11,7 +11,7 @@ pub enum State {
 }
 
 /// What is still to be told; a mail is made of it when it goes.
-#[derive(Clone, Copy, Debug)]
+#[derive(Clone, Copy)]
 pub enum Pending {
     Nothing,
     /// The packet of this number, with the octets of the file from `from` on.

@@ -4,7 +4,7 @@ use ec_outside::{Gram, Peer};
 use mailbox_mail::Mail;
 
 /// Who asked for what: to whom the replies of a request go, and with which station and counter.
-#[derive(Clone, Copy, Debug)]
+#[derive(Clone, Copy)]
 pub struct Asker {
     /// The peer that asked.
     pub peer: Peer,
@@ -18,7 +18,7 @@ pub struct Asker {
 }
 
 /// What becomes of a datagram.
-#[derive(Debug, Drop)]
+#[derive(Drop)]
 pub enum Asked {
     /// The mail is to be passed on to this slave; its replies go by this key.
     Queued { key: usize, slave: u32, mail: Mail },

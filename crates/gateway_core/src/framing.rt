@@ -14,7 +14,7 @@ const FRAME_HEADER: usize = 2;
 const MAILBOX: u16 = 5;
 
 /// Why a datagram is no request of the gateway, in the order in which the parts are looked at.
-#[derive(Clone, Copy, Debug, PartialEq, Eq)]
+#[derive(Clone, Copy)]
 pub enum GatewayFault {
     /// Fewer octets than a frame header and a mail's header have.
     Short,

@@ -27,7 +27,7 @@ const NO_ROOM: u16 = 7;
 const MOST: usize = 64;
 
 /// A request that was passed on and isn't finished.
-#[derive(Clone, Copy, Debug)]
+#[derive(Clone, Copy)]
 pub struct Request {
     /// Its key in the gateway.
     pub key: usize,

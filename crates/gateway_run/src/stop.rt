@@ -6,7 +6,7 @@ use ec_fields::NoMemory;
 use ec_outside::PortErr;
 
 /// Why a serving stops in a turn.
-#[derive(Clone, Copy, Debug, PartialEq, Eq)]
+#[derive(Clone, Copy)]
 pub enum Stop {
     /// The port failed.
     PortFault,

@@ -10,7 +10,7 @@ use segment_plan::Service;
 use std::alloc::Global;
 
 /// How a service over the gateway ended.
-#[derive(Clone, Copy, Debug, PartialEq, Eq)]
+#[derive(Clone, Copy)]
 pub enum ToolEnd {
     /// The slave replied.
     Reply,

@@ -17,7 +17,7 @@ use segment_plan::Service;
 use std::alloc::Global;
 
 /// A service at the client of its protocol.
-#[derive(Debug, Drop)]
+#[derive(Drop)]
 pub enum Client {
     Sdo(CoeClient),
     File(FoeClient),

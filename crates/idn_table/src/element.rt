@@ -2,7 +2,7 @@ ghost use Rattle.std.specs.Prelude.{◌≡◌};
 ghost use Rattle.idn_table.specs.Idns.{element_of};
 
 /// The element of an IDN that a service is about.
-#[derive(Clone, Copy, Debug)]
+#[derive(Clone, Copy)]
 pub enum Element {
     State,
     Name,

@@ -14,7 +14,7 @@ use std::alloc::Global;
 use std::marker::Model;
 
 /// An IDN as it is kept. The room for its greatest value was taken when it was made.
-#[derive(Debug, Drop)]
+#[derive(Drop)]
 pub struct Idn {
     attribute: u32,
     label: Option<Octets>,

@@ -1,7 +1,7 @@
 use ec_fields::Octets;
 
 /// An IDN of a drive as it is described: its elements, and what bounds its value. Integers are unsigned, the lowest octet first.
-#[derive(Debug, Drop)]
+#[derive(Drop)]
 pub struct IdnSpec {
     /// The drive, 0 to 7.
     pub drive: u8,

@@ -14,7 +14,7 @@ use std::alloc::Global;
 use std::marker::Model;
 
 /// The IDNs of a slave, in rising order of drive and number. The room for each value is taken when its IDN is inserted.
-#[derive(Debug, Drop)]
+#[derive(Drop)]
 pub struct IdnTable {
     alloc: Global,
     idns: IndexMap<(u8, u16), Idn>,

@@ -11,7 +11,7 @@ use std::collections::VecDeque;
 use std::marker::Model;
 
 /// The mails that a slave took, without their counters, and those that wait to be offered.
-#[derive(Debug, Drop)]
+#[derive(Drop)]
 pub struct Keeper {
     taken: Vec<Mail>,
     room: usize,

@@ -6,7 +6,7 @@ use ec_fields::Rows;
 use mailbox_mail::{HEADER, Mail};
 
 /// What becomes of a datagram.
-#[derive(Clone, Copy, Debug, PartialEq, Eq)]
+#[derive(Clone, Copy)]
 pub enum LinkFate {
     /// The slave meets it, and it returns.
     Pass,
@@ -17,7 +17,7 @@ pub enum LinkFate {
 }
 
 /// A step of a run.
-#[derive(Debug, Drop)]
+#[derive(Drop)]
 pub enum LinkStep {
     /// The outward half takes up a mail; while it holds one, nothing changes.
     Hold(Mail),
@@ -32,7 +32,7 @@ pub enum LinkStep {
 }
 
 /// The mails of a run, each list in order.
-#[derive(Debug, Drop)]
+#[derive(Drop)]
 pub struct LinkRun {
     /// The mails that the outward half took up.
     pub held: Rows<Mail>,

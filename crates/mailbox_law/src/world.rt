@@ -23,7 +23,7 @@ use mailbox_slave::SlaveBox;
 use std::alloc::Global;
 
 /// A link as it runs.
-#[derive(Debug, Drop)]
+#[derive(Drop)]
 pub struct World {
     pub esc: Esc,
     pub slave_box: SlaveBox,

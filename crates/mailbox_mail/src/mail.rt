@@ -13,7 +13,7 @@ pub const HEADER: usize = 6;
 pub const BODY: usize = 1480;
 
 /// The protocol that a mail carries, the type of its header (ETG.1000.4, "Mailbox header").
-#[derive(Clone, Copy, Debug, PartialEq, Eq)]
+#[derive(Clone, Copy)]
 pub enum Kind {
     /// Type 0: a mailbox error, with a detail.
     Error,
@@ -65,7 +65,7 @@ impl Kind {
 }
 
 /// One mail, without channel and priority, which are written as 0 and ignored on reading.
-#[derive(Debug, Drop, PartialEq, Eq)]
+#[derive(Drop)]
 pub struct Mail {
     /// The station address; 0 on the segment, the addressed slave's at the gateway.
     pub address: u16,
@@ -78,7 +78,7 @@ pub struct Mail {
 }
 
 /// What a mail's header says but the length of the body (ETG.1000.4, "Mailbox header").
-#[derive(Clone, Copy, Debug, PartialEq, Eq)]
+#[derive(Clone, Copy)]
 pub struct MailHead {
     /// The station address; 0 on the segment.
     pub address: u16,
@@ -102,7 +102,7 @@ impl Mail {
 }
 
 /// One mail as it stands in an area: its header, and its body where it lies.
-#[derive(Clone, Copy, Debug)]
+#[derive(Clone, Copy)]
 pub struct MailView<'a> {
     pub address: u16,
     pub kind: Kind,
@@ -111,7 +111,7 @@ pub struct MailView<'a> {
 }
 
 /// Why an area is no mail, in the order in which the parts are looked at.
-#[derive(Clone, Copy, Debug, PartialEq, Eq)]
+#[derive(Clone, Copy)]
 pub enum MailFault {
     /// Fewer octets than a header has.
     Short,

@@ -1,5 +1,5 @@
 /// What a service came to, as its application answers it.
-#[derive(Clone, Copy, Debug, PartialEq, Eq)]
+#[derive(Clone, Copy)]
 pub enum ReplyKind {
     /// Carried out; there is no value.
     Done,
@@ -22,7 +22,7 @@ pub enum ReplyKind {
 }
 
 /// What a mail was to the client that took it.
-#[derive(Clone, Copy, Debug, PartialEq, Eq)]
+#[derive(Clone, Copy)]
 pub enum Took {
     /// Awaited; the reply isn't complete yet.
     More,

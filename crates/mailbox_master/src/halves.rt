@@ -20,7 +20,7 @@ use datagrams::Head;
 use mailbox_mail::Mail;
 
 /// The outward half of a link in whichever state.
-#[derive(Debug, Drop)]
+#[derive(Drop)]
 pub enum OutwardHalf {
     /// It holds no mail.
     Idle(Outward<states::Idle>),
@@ -29,7 +29,7 @@ pub enum OutwardHalf {
 }
 
 /// The inward half of a link in whichever state.
-#[derive(Debug, Drop)]
+#[derive(Drop)]
 pub enum InwardHalf {
     /// Mailbox 1 may be read.
     Clear(Inward<states::Clear>),

@@ -25,7 +25,7 @@ use mailbox_mail::{Mail, MailFault, view};
 use std::marker::Model;
 
 /// The inward half of a link in the state `S`: it reads mailbox 1 of one slave.
-#[derive(Debug, Drop)]
+#[derive(Drop)]
 pub struct Inward<S> {
     station: u16,
     len: u16,
@@ -46,7 +46,7 @@ impl<S> Model for Inward<S> {
 }
 
 /// What a returned read of mailbox 1 gave.
-#[derive(Debug, Drop)]
+#[derive(Drop)]
 pub enum Got {
     /// A mail that was not accepted before.
     Mail(Mail),
@@ -59,7 +59,7 @@ pub enum Got {
 }
 
 /// What a half in doubt has become by the answer to the write of its repeat request.
-#[derive(Debug, Drop)]
+#[derive(Drop)]
 pub enum DoubtNext {
     /// The write was not done.
     Still(Inward<Doubt>),
@@ -68,7 +68,7 @@ pub enum DoubtNext {
 }
 
 /// What a half that asked has become by the answer to its read of the acknowledge.
-#[derive(Debug, Drop)]
+#[derive(Drop)]
 pub enum AskedNext {
     /// The read was not done, or the acknowledge does not equal the request yet.
     Still(Inward<Asked>),

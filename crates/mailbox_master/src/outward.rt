@@ -43,7 +43,7 @@ impl OutState for Holding {
 }
 
 /// The outward half of a link in the state `S`: it writes mailbox 0 of one slave.
-#[derive(Debug, Drop)]
+#[derive(Drop)]
 pub struct Outward<S: OutState> {
     station: u16,
     len: u16,
@@ -63,7 +63,7 @@ impl<S: OutState> Model for Outward<S> {
 }
 
 /// What an outward half has become by the answer to its write.
-#[derive(Debug, Drop)]
+#[derive(Drop)]
 pub enum OutNext {
     /// Mailbox 0 holds the mail: the half is idle.
     Taken(Outward<Idle>),

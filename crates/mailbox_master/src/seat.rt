@@ -24,7 +24,7 @@ use std::marker::Model;
 use std::mem;
 
 /// The outward half of a link with the place of its mail.
-#[derive(Debug, Drop)]
+#[derive(Drop)]
 pub struct OutwardSeat {
     station: u16,
     len: u16,
@@ -46,7 +46,7 @@ impl Model for OutwardSeat {
 }
 
 /// What a returned read of mailbox 1 gave, as it stands in the area.
-#[derive(Clone, Copy, Debug)]
+#[derive(Clone, Copy)]
 pub enum GotView<'a> {
     /// A mail that was not accepted before.
     Mail(MailView<'a>),

@@ -20,7 +20,7 @@ use std::marker::Model;
 
 /// What a slave keeps of its mails: which was taken last, and which it may have to offer again. The
 /// last mail read and the newest one stand in two places that change their parts: no mail is moved.
-#[derive(Debug, Drop)]
+#[derive(Drop)]
 pub struct SlaveBox {
     last_taken: u8,
     newest: u8,

@@ -6,7 +6,7 @@ use al_state::{Climb, ClimbNext, climb_new, next, status, written};
 
 /// A change of a slave's AL state that is in hand (ETG.1000.6, AL control and AL status): the state that it is to end in, and how
 /// far it has come. A state is a number below 16.
-#[derive(Clone, Copy, Debug)]
+#[derive(Clone, Copy)]
 pub struct Duty {
     /// The state to be reached: 1 Init, 2 PreOp, 3 Bootstrap, 4 SafeOp, 8 Op.
     pub target: u8,

@@ -27,7 +27,7 @@ use std::alloc::Global;
 use std::marker::Model;
 
 /// Which client has the newest service.
-#[derive(Clone, Copy, Debug, PartialEq, Eq)]
+#[derive(Clone, Copy)]
 pub enum Which {
     Coe,
     ReadFile,
@@ -39,7 +39,7 @@ pub enum Which {
 }
 
 /// All clients of one slave. They take all their memory when they are made.
-#[derive(Debug, Drop)]
+#[derive(Drop)]
 pub struct Clients {
     pub(crate) out_len: u16,
     pub(crate) in_len: u16,

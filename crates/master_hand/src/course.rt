@@ -1,5 +1,5 @@
 /// How far the newest service of a slave has come.
-#[derive(Clone, Copy, Debug, PartialEq, Eq)]
+#[derive(Clone, Copy)]
 pub enum Course {
     /// No service came into hand yet.
     Nothing,

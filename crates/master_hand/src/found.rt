@@ -19,7 +19,7 @@ use eoe::{Came, EoeView, Packet, Reassembler};
 use mailbox_mail::{Kind, Mail, MailView, Took};
 
 /// What the mail heard last brought besides a reply to a service of the master's own.
-#[derive(Clone, Copy, Debug, PartialEq, Eq)]
+#[derive(Clone, Copy)]
 pub enum Brought {
     Nothing,
     Emergency,
@@ -30,7 +30,7 @@ pub enum Brought {
 }
 
 /// The mail heard last, and packets that are joined from their fragments.
-#[derive(Debug, Drop)]
+#[derive(Drop)]
 pub struct Found {
     pub brought: Brought,
     pub emergency: ArrayVec<u8, 8>,

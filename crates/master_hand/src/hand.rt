@@ -13,7 +13,7 @@ use segment_plan::Service;
 use std::alloc::Global;
 
 /// The newest service by mails of one slave, the one that is laid ready to follow it, and the slave's script.
-#[derive(Debug, Drop)]
+#[derive(Drop)]
 pub struct InHand {
     /// The clients, each with the service that it had last.
     pub clients: Clients,

@@ -14,7 +14,7 @@ use segment_plan::Service;
 use std::marker::Model;
 
 /// What is laid ready to come into hand next.
-#[derive(Clone, Copy, Debug, PartialEq, Eq)]
+#[derive(Clone, Copy)]
 pub enum Laid {
     Nothing,
     /// The next service of the script.
@@ -26,7 +26,7 @@ pub enum Laid {
 }
 
 /// The script of a slave with the number of its next service, and what is laid ready: that service, a packet, or a mail.
-#[derive(Debug, Drop)]
+#[derive(Drop)]
 pub struct Laying {
     pub(crate) out_len: u16,
     pub(crate) in_len: u16,

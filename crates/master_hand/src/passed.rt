@@ -16,7 +16,7 @@ use ec_fields::refill;
 use mailbox_mail::{Kind, Mail, Took};
 
 /// A mail to nobody that isn't counted.
-#[derive(Debug, Drop)]
+#[derive(Drop)]
 pub struct Content {
     /// The protocol of the body.
     pub kind: Kind,
@@ -46,7 +46,7 @@ impl Content {
 }
 
 /// A mail that is passed on as it is, whether it is still to be sent, and whether its last reply came.
-#[derive(Debug, Drop)]
+#[derive(Drop)]
 pub struct PassedMail {
     pub content: Content,
     pub unsent: bool,

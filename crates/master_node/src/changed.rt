@@ -12,7 +12,7 @@ use crate::node::MasterNode;
 use master_duty::Met;
 
 /// What became of the newest change of state since a slave was opened.
-#[derive(Clone, Copy, Debug, PartialEq, Eq)]
+#[derive(Clone, Copy)]
 pub enum Changed {
     /// None came into hand.
     Nothing,

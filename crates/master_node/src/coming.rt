@@ -10,7 +10,7 @@ use master_side::{Target, Wish};
 use segment_plan::Service;
 
 /// What may come into hand at a visit.
-#[derive(Clone, Copy, Debug)]
+#[derive(Clone, Copy)]
 pub enum Coming {
     /// A packet from the switch.
     Packet,

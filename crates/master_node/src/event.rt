@@ -6,7 +6,7 @@ use mailbox_mail::{Mail, ReplyKind};
 use std::alloc::Global;
 
 /// Where a service comes from, and its number among those of its slave from there, counted from 0.
-#[derive(Clone, Copy, Debug, PartialEq, Eq)]
+#[derive(Clone, Copy)]
 pub enum Origin {
     /// The script.
     Script(u32),
@@ -17,7 +17,7 @@ pub enum Origin {
 }
 
 /// What happened in a step of the master, but for the switch.
-#[derive(Debug, Drop)]
+#[derive(Drop)]
 pub enum Event {
     /// A service came into hand.
     Began { slave: u32, origin: Origin },
@@ -41,7 +41,7 @@ pub enum Event {
 const MOST: usize = 97;
 
 /// The events of a frame: those of `next`, and behind them those of the return or the loss. Its memory is taken at `new`.
-#[derive(Debug, Drop)]
+#[derive(Drop)]
 pub struct EventList {
     rows: Vec<Event>,
     /// How many events there are.

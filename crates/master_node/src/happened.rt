@@ -10,7 +10,7 @@ use std::marker::Model;
 const MOST: usize = 17;
 
 /// Something that happened at the switch, and whether the host was handed the packet that came in.
-#[derive(Debug, Drop)]
+#[derive(Drop)]
 pub struct Happening {
     pub event: SwitchEvent,
     pub handed: bool,

@@ -15,7 +15,7 @@ use master_tour::{Stand, Tour};
 const SLAVES: usize = 16;
 
 /// What `next` made.
-#[derive(Clone, Copy, Debug, PartialEq, Eq)]
+#[derive(Clone, Copy)]
 pub enum Next {
     /// The next frame.
     Frame,

@@ -10,7 +10,7 @@ use std::alloc::Global;
 const WAITING: usize = 64;
 
 /// What a slave has in hand that has no answer yet.
-#[derive(Clone, Copy, Debug, PartialEq, Eq)]
+#[derive(Clone, Copy)]
 pub enum Work {
     /// Nothing.
     Nothing,
@@ -25,7 +25,7 @@ pub enum Work {
 }
 
 /// A mail that waits to be passed on, and the key of its asker.
-#[derive(Debug, Drop)]
+#[derive(Drop)]
 pub struct Asked {
     pub key: usize,
     pub mail: Mail,

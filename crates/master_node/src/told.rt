@@ -15,7 +15,7 @@ use mailbox_mail::ReplyKind;
 use master_hand::InHand;
 
 /// What became of the newest service by mails of a slave.
-#[derive(Clone, Copy, Debug, PartialEq, Eq)]
+#[derive(Clone, Copy)]
 pub enum Told {
     /// It has no answer, or none came into hand.
     Waits,

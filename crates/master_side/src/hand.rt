@@ -5,7 +5,7 @@ ghost use Rattle.std.specs.Prelude.{◌≡◌};
 use mailbox_mail::{Kind, MailView};
 
 /// What a mail that was accepted is to the service in hand.
-#[derive(Clone, Copy, Debug, PartialEq, Eq)]
+#[derive(Clone, Copy)]
 pub enum Heard {
     /// It replies to nothing: an emergency or a fragment of a packet.
     Emission,

@@ -9,7 +9,7 @@ use crate::hand::Heard;
 use ec_fields::bits;
 
 /// How far a mail that is passed on has come.
-#[derive(Clone, Copy, Debug, PartialEq, Eq)]
+#[derive(Clone, Copy)]
 pub enum Passing {
     /// It was not yet sent.
     Waiting,

@@ -11,7 +11,7 @@ use mailbox_master::{InwardHalf, OutwardSeat, new_inward};
 use master_duty::{Duty, Met};
 
 /// One slave as its master has it while it is open.
-#[derive(Debug, Drop)]
+#[derive(Drop)]
 pub struct Side<H: Hand> {
     /// Its station.
     pub station: u16,

@@ -5,7 +5,7 @@ ghost use Rattle.datagrams.specs.Frame.{IsFrame, IsPart};
 use datagrams::Part;
 
 /// A place in a frame that reads: one of its datagrams, with its number, from 0 on.
-#[derive(Clone, Copy, Debug)]
+#[derive(Clone, Copy)]
 pub struct Cursor {
     pub number: usize,
     pub part: Part,

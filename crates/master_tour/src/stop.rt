@@ -7,7 +7,7 @@ use datagrams::Part;
 use master_side::{Hand, Side};
 
 /// How the master stands to a slave.
-#[derive(Clone, Copy, Debug)]
+#[derive(Clone, Copy)]
 pub enum Stand {
     /// It is brought up, or opened anew.
     Opening(BringUp),
@@ -18,7 +18,7 @@ pub enum Stand {
 }
 
 /// What a frame has turned a slave's stand into.
-#[derive(Clone, Copy, Debug, PartialEq, Eq)]
+#[derive(Clone, Copy)]
 pub enum Turned {
     /// It was seen in Init: what its mailboxes and services were is gone.
     Cleared,
@@ -29,7 +29,7 @@ pub enum Turned {
 }
 
 /// A slave of the tour.
-#[derive(Debug, Drop)]
+#[derive(Drop)]
 pub struct Stop<H: Hand> {
     pub side: Side<H>,
     pub stand: Stand,

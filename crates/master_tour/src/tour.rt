@@ -7,7 +7,7 @@ use datagrams::FrameBuf;
 use master_side::{Hand, Wish};
 
 /// All slaves of a master, in ring order, and where their tour stands.
-#[derive(Debug, Drop)]
+#[derive(Drop)]
 pub struct Tour<H: Hand> {
     /// The slaves, 1 to 16.
     pub stops: Vec<Stop<H>>,

@@ -12,7 +12,7 @@ use std::alloc::Global;
 use std::marker::Model;
 
 /// One entry of an object: what it may hold and what it holds (ETG.1000.6, section 5.6.7).
-#[derive(Debug, Drop)]
+#[derive(Drop)]
 pub struct EntrySpec {
     /// The data type: 1 BOOLEAN, 2 to 4 INTEGER8, 16 and 32, 5 to 7 UNSIGNED8, 16 and 32,
     /// 9 VISIBLE_STRING, 10 OCTET_STRING, 21 INTEGER64, 27 UNSIGNED64.
@@ -35,7 +35,7 @@ pub struct EntrySpec {
 }
 
 /// An entry that is kept: its value has the memory of its greatest size, so that no download takes any.
-#[derive(Debug, Drop)]
+#[derive(Drop)]
 pub(crate) struct Entry {
     pub(crate) kind: u16,
     pub(crate) access: u16,

@@ -11,7 +11,7 @@ use ec_fields::{NoMemory, Octets, Rows, Transfer};
 use std::alloc::Global;
 
 /// An object that is kept, but for its index (ETG.1000.6, section 5.6.7).
-#[derive(Debug, Drop)]
+#[derive(Drop)]
 pub(crate) struct Object {
     /// The object code: 7 variable, 8 array, 9 record.
     pub(crate) code: u8,

@@ -18,7 +18,7 @@ use std::alloc::Global;
 use std::marker::Model;
 
 /// The object dictionary of one slave: objects by their indexes, in rising order. After `insert` no call takes memory.
-#[derive(Debug, Drop)]
+#[derive(Drop)]
 pub struct Objects {
     alloc: Global,
     table: IndexMap<u16, Object>,

@@ -2,7 +2,7 @@ use ec_fields::Octets;
 
 /// A CoE service that a client asks of a slave's object dictionary (ETG.1000.6, sections 5.6.2 and
 /// 5.6.3).
-#[derive(Debug, Drop)]
+#[derive(Drop)]
 pub enum SdoService {
     /// Writes an entry: 1 to 8,000 octets.
     Download { index: u16, sub: u8, bytes: Octets },

@@ -1,7 +1,7 @@
 use ec_fields::Rows;
 
 /// The time of a packet: seconds, and a part of a second in micro- or nanoseconds.
-#[derive(Clone, Copy, Debug, PartialEq, Eq)]
+#[derive(Clone, Copy)]
 pub struct Stamp {
     pub seconds: u32,
     pub part: u32,
@@ -9,7 +9,7 @@ pub struct Stamp {
 
 /// A packet of a capture: its octets are the `len` octets from place `from` of the file, and it had
 /// `original` octets before it was cut.
-#[derive(Clone, Copy, Debug, PartialEq, Eq)]
+#[derive(Clone, Copy)]
 pub struct PacketAt {
     pub stamp: Stamp,
     pub from: usize,
@@ -18,7 +18,7 @@ pub struct PacketAt {
 }
 
 /// The packets of a capture in the order of the file, and whether their parts are nanoseconds.
-#[derive(Debug, Drop)]
+#[derive(Drop)]
 pub struct Capture {
     pub nanos: bool,
     pub packets: Rows<PacketAt>,
@@ -27,7 +27,7 @@ pub struct Capture {
 /// Why octets are no capture: the first cause that applies, in this order. The two of a packet are judged
 /// by what is left for its header, then by its length, then by what is left for its octets. `at` is the
 /// file's length, or the place of a packet's header.
-#[derive(Clone, Copy, Debug, PartialEq, Eq)]
+#[derive(Clone, Copy)]
 pub enum PcapFault {
     /// Fewer than 24 octets.
     Short { at: usize },

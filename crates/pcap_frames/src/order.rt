@@ -5,7 +5,7 @@ use byteorder::{BigEndian, ByteOrder};
 use ec_fields::{u16_at, u32_at};
 
 /// The byte order of a capture's numbers.
-#[derive(Clone, Copy, Debug, PartialEq, Eq)]
+#[derive(Clone, Copy)]
 pub enum Order {
     LowFirst,
     HighFirst,

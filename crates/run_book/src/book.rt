@@ -11,14 +11,14 @@ use slave_server::SlaveServer;
 use std::alloc::Global;
 
 /// What a service came to, and the value that it brought.
-#[derive(Debug, Drop)]
+#[derive(Drop)]
 pub struct Reply {
     pub kind: ReplyKind,
     pub value: Octets,
 }
 
 /// What became of a service.
-#[derive(Debug, Drop)]
+#[derive(Drop)]
 pub enum Answer {
     /// It was answered; `frame` is the returned frame that completed the reply.
     Replied { reply: Reply, frame: u32 },
@@ -29,7 +29,7 @@ pub enum Answer {
 }
 
 /// A frame that was sent, its fate, and what returned; nothing of a lost one.
-#[derive(Debug, Drop)]
+#[derive(Drop)]
 pub struct SentFrame {
     pub sent: Octets,
     pub fate: Fate,
@@ -37,14 +37,14 @@ pub struct SentFrame {
 }
 
 /// A service that came into hand, and how many frames had been sent then.
-#[derive(Clone, Copy, Debug, PartialEq, Eq)]
+#[derive(Clone, Copy)]
 pub struct Begun {
     pub origin: Origin,
     pub frame: u32,
 }
 
 /// The time of a slave between two returns to Init that were seen.
-#[derive(Clone, Copy, Debug, PartialEq, Eq)]
+#[derive(Clone, Copy)]
 pub struct Epoch {
     /// How many services had come into hand before.
     pub row: u32,
@@ -59,7 +59,7 @@ pub struct Epoch {
 }
 
 /// An emergency that was received.
-#[derive(Debug, Drop)]
+#[derive(Drop)]
 pub struct Emergency {
     /// Its 8 octets.
     pub octets: Octets,
@@ -87,7 +87,7 @@ pub struct SlaveBook {
 }
 
 /// A datagram that a serving heard.
-#[derive(Debug, Drop)]
+#[derive(Drop)]
 pub struct GramIn {
     /// From whom it came.
     pub peer: Peer,
@@ -100,7 +100,7 @@ pub struct GramIn {
 }
 
 /// A datagram that a serving sent.
-#[derive(Debug, Drop)]
+#[derive(Drop)]
 pub struct GramOut {
     /// To whom it went.
     pub peer: Peer,
@@ -111,7 +111,7 @@ pub struct GramOut {
 }
 
 /// How a run ended.
-#[derive(Clone, Copy, Debug, PartialEq, Eq)]
+#[derive(Clone, Copy)]
 pub enum Ending {
     /// It didn't end yet.
     Unfinished,

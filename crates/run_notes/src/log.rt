@@ -26,7 +26,7 @@ use segment_plan::{Scenario, Service, SlaveSpec};
 use std::alloc::Global;
 
 /// When something happened: with which frame, and how many frames had been sent then.
-#[derive(Clone, Copy, Debug)]
+#[derive(Clone, Copy)]
 pub struct Moment {
     pub frame: u32,
     pub sent: u32,

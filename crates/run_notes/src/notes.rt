@@ -8,7 +8,7 @@ use run_book::{Answer, Begun, Emergency, Epoch, Reply};
 use std::alloc::Global;
 
 /// What is awaited of the service that came into hand last.
-#[derive(Clone, Copy, Debug, PartialEq, Eq)]
+#[derive(Clone, Copy)]
 pub enum Awaited {
     /// Nothing of a service of the script: it has its answer or gets none, or it is another service.
     Nothing,
@@ -19,7 +19,7 @@ pub enum Awaited {
 }
 
 /// What became of a slave so far, but for the slave itself.
-#[derive(Debug, Drop)]
+#[derive(Drop)]
 pub struct Notes {
     pub begun: Rows<Begun>,
     pub answers: Rows<Answer>,

@@ -6,7 +6,7 @@ use ec_fields::{Octets, Rows};
 use mailbox_mail::Kind;
 
 /// A mail that is passed on to a slave.
-#[derive(Debug, Drop)]
+#[derive(Drop)]
 pub struct AskedMail {
     /// The key of its asker.
     pub key: usize,

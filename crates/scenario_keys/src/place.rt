@@ -1,5 +1,5 @@
 /// The table of a scenario at which a refusal stands; all numbers count from 0.
-#[derive(Clone, Copy, Debug, PartialEq, Eq)]
+#[derive(Clone, Copy)]
 pub enum Place {
     /// The top of the file.
     Top,

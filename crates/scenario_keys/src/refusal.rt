@@ -7,7 +7,7 @@ use ec_fields::{NoMemory, Rows};
 use std::alloc::{AllocError, AllocFailed};
 
 /// Why a scenario is refused. The number of a rule is its place here, counted from 1.
-#[derive(Clone, Copy, Debug, PartialEq, Eq)]
+#[derive(Clone, Copy)]
 pub enum Rule {
     /// The octets are no TOML document.
     NotToml,
@@ -58,14 +58,14 @@ impl Rule {
 }
 
 /// A refusal: by which rule, and where.
-#[derive(Clone, Copy, Debug, PartialEq, Eq)]
+#[derive(Clone, Copy)]
 pub struct Refusal {
     pub rule: Rule,
     pub place: Place,
 }
 
 /// Why a reader of a part of a scenario stopped.
-#[derive(Clone, Copy, Debug, PartialEq, Eq)]
+#[derive(Clone, Copy)]
 pub enum Stop {
     /// The part is refused.
     Refused(Refusal),
@@ -116,7 +116,7 @@ pub fn put<T: Drop>(rows: &mut Rows<T>, row: T) -> Result<(), Stop>
 }
 
 /// Why a file is no scenario that can be run.
-#[derive(Clone, Copy, Debug, PartialEq, Eq)]
+#[derive(Clone, Copy)]
 pub enum ReadErr {
     /// The file is refused by the rule of this number, 1 to 12, at this place.
     Refused { rule: u8, place: Place },

@@ -2,7 +2,7 @@ ghost use Rattle.std.specs.Prelude.{◌≡◌, ◌≤◌, ◌<◌};
 ghost use Rattle.scenario_made.specs.Made.{next, drawn};
 
 /// The state of the generator.
-#[derive(Debug, Drop)]
+#[derive(Drop)]
 pub struct Draws {
     pub state: u64,
 }

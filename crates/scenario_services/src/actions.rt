@@ -2,7 +2,7 @@ ghost use Rattle.std.specs.Prelude.{◌≡◌, map};
 ghost use Rattle.scenario_services.specs.Actions.{sdo_action_of, sdo_keys_of, other_action_of, action_of, keys_of};
 
 /// What a service of CoE does.
-#[derive(Clone, Copy, Debug, PartialEq, Eq)]
+#[derive(Clone, Copy)]
 pub(crate) enum SdoAction {
     /// Writes an entry.
     Download,
@@ -21,7 +21,7 @@ pub(crate) enum SdoAction {
 }
 
 /// What a service does.
-#[derive(Clone, Copy, Debug, PartialEq, Eq)]
+#[derive(Clone, Copy)]
 pub(crate) enum Action {
     /// A service of CoE.
     Sdo(SdoAction),

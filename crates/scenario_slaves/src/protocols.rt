@@ -9,7 +9,7 @@ use std::alloc::Global;
 use toml::{Table, Value};
 
 /// The protocols that a slave serves.
-#[derive(Clone, Copy, Debug, PartialEq, Eq)]
+#[derive(Clone, Copy)]
 pub(crate) struct Served {
     pub coe: bool,
     pub foe: bool,

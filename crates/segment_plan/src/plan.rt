@@ -4,7 +4,7 @@ use ec_fields::Rows;
 use eoe::Packet;
 
 /// What a scenario says: the segment, the services addressed to its slaves, the packets of the host and the frames that are lost.
-#[derive(Debug, Drop)]
+#[derive(Drop)]
 pub struct Scenario {
     /// How many lost frames in a row a slave outlives, 0 to 15.
     pub retry: u32,

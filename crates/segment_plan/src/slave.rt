@@ -4,7 +4,7 @@ use idn_table::IdnSpec;
 use object_dictionary::EntrySpec;
 
 /// An object of a slave's dictionary and its entries from subindex 1 on (ETG.1000.6, section 5.6.7).
-#[derive(Debug, Drop)]
+#[derive(Drop)]
 pub struct ObjectSpec {
     /// The index, 1 to 65,535.
     pub index: u16,
@@ -18,7 +18,7 @@ pub struct ObjectSpec {
 }
 
 /// A slave as a scenario describes it.
-#[derive(Debug, Drop)]
+#[derive(Drop)]
 pub struct SlaveSpec {
     /// The name, 1 to 32 characters from 0x21 to 0x7E.
     pub name: Octets,

@@ -7,14 +7,14 @@ use mailbox_mail::ReplyKind;
 use std::alloc::Global;
 
 /// What a service came to, and the value that it brought: octets as the protocol has them, none where there is no value.
-#[derive(Debug, Drop)]
+#[derive(Drop)]
 pub struct Reply {
     pub kind: ReplyKind,
     pub value: Octets,
 }
 
 /// What a service makes a slave send of itself.
-#[derive(Debug, Drop)]
+#[derive(Drop)]
 pub enum Emission {
     /// An emergency: error code, error register and 5 octets (ETG.1000.6, "Emergency").
     Emergency(ArrayVec<u8, 8>),
@@ -23,7 +23,7 @@ pub enum Emission {
 }
 
 /// A service that was carried out or refused: its reply, and what the slave sends of itself.
-#[derive(Debug, Drop)]
+#[derive(Drop)]
 pub struct Performed {
     pub reply: Reply,
     pub emission: Option<Emission>,

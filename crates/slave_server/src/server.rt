@@ -14,14 +14,14 @@ use std::alloc::Global;
 use std::marker::Model;
 
 /// The lengths of a slave's mailboxes, towards it and from it.
-#[derive(Clone, Copy, Debug)]
+#[derive(Clone, Copy)]
 pub struct Lengths {
     pub out_len: u16,
     pub in_len: u16,
 }
 
 /// The protocols that a slave serves.
-#[derive(Clone, Copy, Debug)]
+#[derive(Clone, Copy)]
 pub struct Protocols {
     pub has_coe: bool,
     pub has_foe: bool,

@@ -13,7 +13,7 @@ use std::alloc::Global;
 use std::marker::Model;
 
 /// A client for one service at a time. It takes all its memory when it is made.
-#[derive(Debug, Drop)]
+#[derive(Drop)]
 pub struct SoeClient {
     pub(crate) room: u16,
     pub(crate) task: Task,

@@ -2,7 +2,7 @@ use mailbox_mail::ReplyKind;
 use soe_parts::Subject;
 
 /// What a client is asked.
-#[derive(Clone, Copy, Debug)]
+#[derive(Clone, Copy)]
 pub enum Task {
     Nothing,
     Read { subject: Subject },
@@ -10,7 +10,7 @@ pub enum Task {
 }
 
 /// What of a service's mails is not yet sent.
-#[derive(Clone, Copy, Debug)]
+#[derive(Clone, Copy)]
 pub enum Unsent {
     Nothing,
     /// The request for an element.
@@ -20,7 +20,7 @@ pub enum Unsent {
 }
 
 /// What answer comes next.
-#[derive(Clone, Copy, Debug)]
+#[derive(Clone, Copy)]
 pub enum Awaits {
     Nothing,
     /// The parts of an element, behind those that came.

@@ -13,7 +13,7 @@ pub const WRITE: u8 = 3;
 pub const WRITE_ANSWER: u8 = 4;
 
 /// A message of the protocol, or a fragment of one (ETG.1000.6, "SoE header").
-#[derive(Debug, Drop, PartialEq, Eq)]
+#[derive(Drop)]
 pub struct Soe {
     /// 1 read, 2 its answer, 3 write, 4 its answer.
     pub opcode: u8,
@@ -32,7 +32,7 @@ pub struct Soe {
 }
 
 /// Why a mail's body is no message: the first cause that applies, in this order.
-#[derive(Clone, Copy, Debug, PartialEq, Eq)]
+#[derive(Clone, Copy)]
 pub enum SoeFault {
     /// Fewer than 4 octets.
     Short,

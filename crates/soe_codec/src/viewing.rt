@@ -9,7 +9,7 @@ use ec_fields::{bits, u16_at};
 const HEADER: usize = 4;
 
 /// A message as it stands in a body: its fields are those of [`Soe`], and its octets are where they lie.
-#[derive(Clone, Copy, Debug)]
+#[derive(Clone, Copy)]
 pub struct SoeView<'a> {
     pub opcode: u8,
     pub incomplete: bool,

@@ -2,7 +2,7 @@
 pub const MOST: usize = 16_384;
 
 /// What a service is about: an IDN of a drive, and the flags of its elements.
-#[derive(Clone, Copy, Debug)]
+#[derive(Clone, Copy)]
 pub struct Subject {
     /// The drive, 0 to 7.
     pub drive: u8,

@@ -8,7 +8,7 @@ use std::alloc::Global;
 use std::marker::Model;
 
 /// A server over the IDNs of one slave. It takes all its memory when it is made.
-#[derive(Debug, Drop)]
+#[derive(Drop)]
 pub struct SoeServer {
     pub(crate) room: u16,
     pub(crate) join: Option<Common>,

@@ -1,7 +1,7 @@
 use soe_parts::Subject;
 
 /// What the fragments of one message have in common.
-#[derive(Clone, Copy, Debug)]
+#[derive(Clone, Copy)]
 pub struct Common {
     pub opcode: u8,
     pub drive: u8,
@@ -9,7 +9,7 @@ pub struct Common {
 }
 
 /// What a server has still to tell; a mail is made of it when it goes.
-#[derive(Clone, Copy, Debug)]
+#[derive(Clone, Copy)]
 pub enum Pending {
     Nothing,
     /// The answer to a write.

@@ -20,7 +20,7 @@ const LEAST_AREA: u16 = 64;
 const MOST_AREA: u16 = 1486;
 
 /// What is asked of a slave.
-#[derive(Debug, Drop)]
+#[derive(Drop)]
 pub enum Act {
     /// A service whose words say all of it.
     Whole(Service),
@@ -29,7 +29,7 @@ pub enum Act {
 }
 
 /// A slave behind a gateway: its station, and the lengths of its mailboxes, the one that requests go through and the one for answers.
-#[derive(Clone, Copy, Debug)]
+#[derive(Clone, Copy)]
 pub struct Slave {
     pub station: u16,
     pub out_len: u16,
@@ -37,7 +37,7 @@ pub struct Slave {
 }
 
 /// Which slave is asked, and what.
-#[derive(Debug, Drop)]
+#[derive(Drop)]
 pub struct Asked {
     pub slave: Slave,
     pub act: Act,
