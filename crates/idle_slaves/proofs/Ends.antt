@@ -37,7 +37,7 @@ module _ {M Q R : Type 0} (x : Speech M Q R) (acknowledged : Q → Bool) (frame 
 
 -- OF A SERVICE THAT HAS ITS ANSWER it is known that it was told whole
 module _ {M Q R : Type 0} (y : Speech M Q R) (acknowledged : Q → Bool) (e : Era M Q R) (said : NowAnswered y e.side)
-    (known : e.account.hand ≡ None → (t : Row M Q R) → e.side.now ≡ Some t → (answer : R × ℕ) → t.answer ≡ Some answer → acknowledged t.service ≡ false → (left y t ≡ []) × (e.side.fresh ≡ false))
+    (known : e.account.hand ≡ None → (t : Row M Q R) → e.side.now ≡ Some t → (answer : R × ℕ) → t.answer ≡ Some answer → ends_unheard y acknowledged t ≡ false → (left y t ≡ []) × (e.side.fresh ≡ false))
     (more : M → Bool) (passed : Q → Bool) (frame : ℕ) (pick : Pick Q) (station : ℕ) (back : List (Datagram M)) (Left : Type 0) where
   abbrev u : Era M Q R
   u = era_next y acknowledged more passed frame e pick
@@ -79,10 +79,11 @@ module _ {M Q R : Type 0} (y : Speech M Q R) (acknowledged : Q → Bool) (e : Er
 -- SO IT IS OF AN EPOCH
 module _ {V A M Q R : Type 0} (x : Exchange V A M Q R) (s : Stated V A Q) (processor : Processor V) (table : ℕ → Table) (spot : Spot) (e : Era M Q R) (opened last : ℕ) (fs : List (Frame M)) (v : V) (r : Registers) (slave : Slave V M)
     (law : IsLawful x) (stated : IsStated x s) (lived : EraIs x s processor table spot e opened last fs v r slave) (is : Q → Bool) (y : Speech M Q R) (same : Alike is y x.speech) (row : RowIs is e.side.now) where
-  pub known : e.account.hand ≡ None → (t : Row M Q R) → e.side.now ≡ Some t → (answer : R × ℕ) → t.answer ≡ Some answer → s.acknowledged t.service ≡ false → (left y t ≡ []) × (e.side.fresh ≡ false)
+  pub known : e.account.hand ≡ None → (t : Row M Q R) → e.side.now ≡ Some t → (answer : R × ℕ) → t.answer ≡ Some answer → ends_unheard y s.acknowledged t ≡ false → (left y t ≡ []) × (e.side.fresh ≡ false)
   known hand t now answer has quiet =
-      let k = answered x s processor table spot e opened last fs v r slave law stated lived hand t now answer has quiet in
-      (left_same is y x.speech same e.side t (in_hand is y x.speech same e.side e.side.now row t now) ∙ k.0, k.1)
+      let own = in_hand is y x.speech same e.side e.side.now row t now in
+      let k = answered x s processor table spot e opened last fs v r slave law stated lived hand t now answer has (sym (unheard_same is y x.speech same s.acknowledged t own) ∙ quiet) in
+      (left_same is y x.speech same e.side t own ∙ k.0, k.1)
 
   pub ends : NowAnswered y e.side → (more : M → Bool) (passed : Q → Bool) (frame : ℕ) (pick : Pick Q) (station : ℕ) (back : List (Datagram M)) (Left : Type 0) → (IsFree y s.acknowledged e.side → e.account.hand ≡ None → e.passing ≡ None → pick.begin ≡ None → Left) →
       Took y s.acknowledged is more passed frame e pick → (let u = era_next y s.acknowledged more passed frame e pick in let k = side_back y frame station back u.side in u.account.hand ≡ None → u.passing ≡ None → HeldStill station back u.side k → IsFree y s.acknowledged k → Left)

@@ -79,7 +79,7 @@ module _ (p : Profile) (boot : Bool) (lens : ℕ → Lens) (law : IsLawful (sile
   next_kept : (fs : List (Frame Body)) (q : Planned V) (t : SeatHere) (a : AccountHere) (pick : Pick Asked) → Kept fs q t a → Kept fs q (seat_next x (length fs) t (mails_choice a pick)) (account_next x.speech s.acknowledged (length fs) t.side a pick)
   next_kept fs q t a pick k = record {
     is = next_is x s processor table s.acknowledged fs q t a pick k.is;
-    listens = subst (Listens y law t.station fs) (Unpassed.next_is p boot lens (length fs) t.side (mails_choice a pick)) (next_listens y law t.station fs (unpassed_side t.side) (mails_choice a pick) k.listens);
+    listens = Unpassed.next_told p boot lens law t.station fs t.side (mails_choice a pick) k.listens;
     begun = next_begun x.speech s.acknowledged (length fs) t.side a k.begun pick;
   }
 
