@@ -4,11 +4,12 @@ use Rattle.never_waits.specs.Moments.{IsFree, HeldStill, NowAnswered}
 use Rattle.never_waits.proofs.Laws.{answered, begun}
 use Rattle.never_waits.proofs.Ready.{ready}
 use Rattle.exchange_model.specs.Exchange.{Exchange, Speech, IsLawful}
-use Rattle.exchange_model.specs.Rows.{Row, left}
+use Rattle.exchange_model.specs.Rows.{Row, ends_unheard, left}
 use Rattle.idle_slaves.specs.Held.{Took}
 use Rattle.life_model.specs.Eras.{EraIs}
 use Rattle.life_model.specs.Lives.{Spot, Era, era_next, granted, passing_begins}
 use Rattle.plan_ring.specs.Alike.{Alike, RowIs}
+use Rattle.plan_ring.proofs.Alike.{unheard_same}
 use Rattle.plan_ring.proofs.NamedAlike.{left_same, in_hand}
 use Rattle.segment_model.specs.Ends.{Passing}
 use Rattle.segment_model.specs.Record.{Frame}

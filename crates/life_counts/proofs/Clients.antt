@@ -41,7 +41,7 @@ module _ {V M Q R T : Type 0} (x : Exchange V V M Q R) (calm : V → Bool) (fair
   MarksSame (Asked.Script q) hs = ⊤
   MarksSame (Asked.Passed m answers) hs = (answers && ends_marked (plain (λ (t : Meant). is_own t.meant) hs)) ≡ ends_told n.more (untag (plain (λ (t : Meant). is_own t.meant) hs))
 
-  heard_same : (hs : List Meant) → ByContents x.speech.emission hs → untag (plain (λ (t : Meant). is_own t.meant) hs) ≡ plain n.speech.emission (map mail hs)
+  pub heard_same : (hs : List Meant) → ByContents x.speech.emission hs → untag (plain (λ (t : Meant). is_own t.meant) hs) ≡ plain n.speech.emission (map mail hs)
   heard_same hs by = plain_untag x.speech.emission hs by ∙ ap (λ (e : M → Bool). plain e (map mail hs)) (sym emission)
 
   pub plans : (q : Asked M Q) → IsKnown q → (hs : List Meant) → ByContents x.speech.emission hs → PlanOne mail n.name same y n.speech q hs

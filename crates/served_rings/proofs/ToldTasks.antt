@@ -16,7 +16,7 @@ use Rattle.segment_model.specs.Laws.{EachSeat, AllAnswered}
 use Rattle.segment_model.specs.Record.{Frame}
 use Rattle.segment_model.specs.Seats.{Side, Seat, Planned, IsFrame, ring_of, sides_of, seat_next, seats_next, seat_back, seats_after, side_lost, seat_steps, new_seats}
 use Rattle.segment_model.specs.Slaves.{Registers, Processor, Slave, Datagram, slave_after, frame_after, ring_back}
-use Rattle.segment_model.proofs.Answers.{Listens, next_listens, back_listens, lost_listens}
+use Rattle.segment_model.proofs.Answers.{Listens, back_listens, lost_listens}
 use Rattle.segment_model.proofs.Kept.{Records, new_records, rows_answered}
 use Rattle.served_rings.specs.Speakers.{spoken, spoken_states, processor_of, table_of}
 use Rattle.served_rings.specs.ToldEras.{unpassed_era, unpassed_side}
