@@ -4,11 +4,12 @@ use Rattle.never_waits.specs.Moments.{IsFree, HeldStill, NowAnswered}
 use Rattle.never_waits.proofs.Laws.{answered, begun}
 use Rattle.never_waits.proofs.Ready.{ready}
 use Rattle.exchange_model.specs.Exchange.{Exchange, Speech, IsLawful}
-use Rattle.exchange_model.specs.Rows.{Row, left}
+use Rattle.exchange_model.specs.Rows.{Row, ends_unheard, left}
 use Rattle.idle_slaves.specs.Held.{Took}
 use Rattle.life_model.specs.Eras.{EraIs}
 use Rattle.life_model.specs.Lives.{Spot, Era, era_next, granted, passing_begins}
 use Rattle.plan_ring.specs.Alike.{Alike, RowIs}
+use Rattle.plan_ring.proofs.Alike.{unheard_same}
 use Rattle.plan_ring.proofs.NamedAlike.{left_same, in_hand}
 use Rattle.segment_model.specs.Ends.{Passing}
 use Rattle.segment_model.specs.Record.{Frame}
@@ -37,7 +38,7 @@ module _ {M Q R : Type 0} (x : Speech M Q R) (acknowledged : Q → Bool) (frame 
 
 -- OF A SERVICE THAT HAS ITS ANSWER it is known that it was told whole
 module _ {M Q R : Type 0} (y : Speech M Q R) (acknowledged : Q → Bool) (e : Era M Q R) (said : NowAnswered y e.side)
-    (known : e.account.hand ≡ None → (t : Row M Q R) → e.side.now ≡ Some t → (answer : R × ℕ) → t.answer ≡ Some answer → acknowledged t.service ≡ false → (left y t ≡ []) × (e.side.fresh ≡ false))
+    (known : e.account.hand ≡ None → (t : Row M Q R) → e.side.now ≡ Some t → (answer : R × ℕ) → t.answer ≡ Some answer → ends_unheard y acknowledged t ≡ false → (left y t ≡ []) × (e.side.fresh ≡ false))
     (more : M → Bool) (passed : Q → Bool) (frame : ℕ) (pick : Pick Q) (station : ℕ) (back : List (Datagram M)) (Left : Type 0) where
   abbrev u : Era M Q R
   u = era_next y acknowledged more passed frame e pick
@@ -79,10 +80,11 @@ module _ {M Q R : Type 0} (y : Speech M Q R) (acknowledged : Q → Bool) (e : Er
 -- SO IT IS OF AN EPOCH
 module _ {V A M Q R : Type 0} (x : Exchange V A M Q R) (s : Stated V A Q) (processor : Processor V) (table : ℕ → Table) (spot : Spot) (e : Era M Q R) (opened last : ℕ) (fs : List (Frame M)) (v : V) (r : Registers) (slave : Slave V M)
     (law : IsLawful x) (stated : IsStated x s) (lived : EraIs x s processor table spot e opened last fs v r slave) (is : Q → Bool) (y : Speech M Q R) (same : Alike is y x.speech) (row : RowIs is e.side.now) where
-  pub known : e.account.hand ≡ None → (t : Row M Q R) → e.side.now ≡ Some t → (answer : R × ℕ) → t.answer ≡ Some answer → s.acknowledged t.service ≡ false → (left y t ≡ []) × (e.side.fresh ≡ false)
+  pub known : e.account.hand ≡ None → (t : Row M Q R) → e.side.now ≡ Some t → (answer : R × ℕ) → t.answer ≡ Some answer → ends_unheard y s.acknowledged t ≡ false → (left y t ≡ []) × (e.side.fresh ≡ false)
   known hand t now answer has quiet =
-      let k = answered x s processor table spot e opened last fs v r slave law stated lived hand t now answer has quiet in
-      (left_same is y x.speech same e.side t (in_hand is y x.speech same e.side e.side.now row t now) ∙ k.0, k.1)
+      let own = in_hand is y x.speech same e.side e.side.now row t now in
+      let k = answered x s processor table spot e opened last fs v r slave law stated lived hand t now answer has (sym (unheard_same is y x.speech same s.acknowledged t own) ∙ quiet) in
+      (left_same is y x.speech same e.side t own ∙ k.0, k.1)
 
   pub ends : NowAnswered y e.side → (more : M → Bool) (passed : Q → Bool) (frame : ℕ) (pick : Pick Q) (station : ℕ) (back : List (Datagram M)) (Left : Type 0) → (IsFree y s.acknowledged e.side → e.account.hand ≡ None → e.passing ≡ None → pick.begin ≡ None → Left) →
       Took y s.acknowledged is more passed frame e pick → (let u = era_next y s.acknowledged more passed frame e pick in let k = side_back y frame station back u.side in u.account.hand ≡ None → u.passing ≡ None → HeldStill station back u.side k → IsFree y s.acknowledged k → Left)

@@ -55,8 +55,8 @@ module _ {V M Q R : Type 0} (x : Exchange V V M Q R) (calm : V → Bool) (fair :
   free_answers : (d : SideHere) (now : Option RowHere) → is_free y d now ≡ true → AllAnswered now
   free_answers d None e = tt
   free_answers d (Some r) e = λ m is.
-      (let part = (both_of (is_none_left (left y r)) (if y.handed r.service then is_none d.halves.out.holding else is_some r.answer && not d.fresh) e).1 in
-      let last : (is_some r.answer && not d.fresh) ≡ true = sym (ap (λ (b : Bool). if b then is_none d.halves.out.holding else is_some r.answer && not d.fresh) (ap y.handed is)) ∙ part in
+      (let part = (both_of (is_none_left (left y r)) (if y.handed r.service && is_none r.answer then is_none d.halves.out.holding else is_some r.answer && not d.fresh) e).1 in
+      let last : (is_some r.answer && not d.fresh) ≡ true = sym (ap (λ (b : Bool). if b && is_none r.answer then is_none d.halves.out.holding else is_some r.answer && not d.fresh) (ap y.handed is)) ∙ part in
       (both_of (is_some r.answer) (not d.fresh) last).0)
 
   module _ (frame : ℕ) (d : SideHere) (a : AccountHere) where

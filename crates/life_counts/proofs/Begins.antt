@@ -1,10 +1,10 @@
 -- WHAT COMES INTO HAND by a master's choice comes into hand where it is seen what is meant by mails: its side of the slave and its account stay the same.
-use Rattle.std.proofs.Common.{◌≡◌, inl, inr, ℕ, ◌&&◌, Bool, true, false, not, is_none, Option, None, Some, option_map, List, [], ◌∷◌, ◌++◌, map, length, refl, ap, ap₂, sym, ◌∙◌, subst, append-nil, arith, if◌then◌else◌}
+use Rattle.std.proofs.Common.{◌≡◌, inl, inr, ℕ, ◌&&◌, ◌||◌, Bool, true, false, not, is_none, Option, None, Some, option_map, List, [], ◌∷◌, ◌++◌, map, length, refl, ap, ap₂, sym, ◌∙◌, subst, append-nil, arith, if◌then◌else◌}
 use Rattle.std.specs.Prelude.{nat_lt}
 use Rattle.std.proofs.lemmas.Bool.Decides.{nat_tests}
 use Rattle.std.proofs.lemmas.List.{map-append, length-map}
-use Rattle.exchange_model.specs.Exchange.{Exchange, Speech}
-use Rattle.exchange_model.specs.Rows.{Row, begun, row_told}
+use Rattle.exchange_model.specs.Exchange.{Exchange, Speech, plain}
+use Rattle.exchange_model.specs.Rows.{Row, begun, ends_unheard, row_told}
 use Rattle.life_model.specs.Lives.{Era, era_next, passing_begins}
 use Rattle.few_replies.specs.Calm.{calm_tagged}
 use Rattle.passed_whole.specs.Client.{ByContents}
@@ -23,7 +23,7 @@ use Rattle.task_model.specs.Accounts.{Account, Duty, Pick, Started, is_free, is_
 use Rattle.life_counts.specs.Seen.{service_seen, account_seen, era_seen, started_seen}
 use Rattle.life_counts.specs.Foreseen.{AllRight, server_behind}
 use Rattle.life_counts.specs.Spoken.{Naming, IsScript, IsPassed, IsNamed, Speaks}
-use Rattle.life_counts.proofs.Clients.{IsKnown, HasEnded, hands, plans, overs}
+use Rattle.life_counts.proofs.Clients.{IsKnown, HasEnded, hands, heard_same, plans, overs}
 
 not_less : (k : ℕ) → nat_lt k k ≡ false
 not_less k = grind (arith, nat_tests)
@@ -106,9 +106,22 @@ module _ {V M Q R T : Type 0} (x : Exchange V V M Q R) (calm : V → Bool) (fair
   none_box None = refl
   none_box (Some m) = refl
 
-  last_seen : (d : SideHere) (now : Option (Row (Tagged M Q) (Asked M Q) (Option R))) → NowKnown now → is_acknowledged n.speech n.acknowledged (sees d) (option_map (λ r. row_seen mail n.name same r) now) ≡ is_acknowledged (asked_acknowledged s.acknowledged) d now
+  none_answer : (a : Option (Option R × ℕ)) → is_none (option_map (λ (k : Option R × ℕ). (same k.0, k.1)) a) ≡ is_none a
+  none_answer None = refl
+  none_answer (Some a) = refl
+
+  -- a row ends unheard by its name where it does
+  unheard_named : (r : Row (Tagged M Q) (Asked M Q) (Option R)) → RowKnown r → ends_unheard n.speech n.acknowledged (row_seen mail n.name same r) ≡ ends_unheard y (asked_acknowledged s.acknowledged) r
+  unheard_named r k =
+      let replies : length (plain n.speech.emission (map mail r.heard)) ≡ length (plain y.emission r.heard) =
+      ap length (sym (heard_same x calm fair s.acknowledged n speaks.emission r.heard k.by)) ∙ length-map (plain y.emission r.heard) mail in
+      let sends : length (n.speech.planned (n.name r.service) (plain n.speech.emission (map mail r.heard))) ≡ length (y.planned r.service (plain y.emission r.heard)) =
+      ap length (sym (plans x calm fair s.acknowledged n speaks.emission r.service k.known r.heard k.by)) ∙ length-map (y.planned r.service (plain y.emission r.heard)) mail in
+      λ i. last_named r.service k.known i && (none_answer r.answer i || nat_lt (replies i) (sends i))
+
+  last_seen : (d : SideHere) (now : Option (Row (Tagged M Q) (Asked M Q) (Option R))) → NowKnown now → is_acknowledged n.speech n.acknowledged (sees d) (option_map (λ r. row_seen mail n.name same r) now) ≡ is_acknowledged y (asked_acknowledged s.acknowledged) d now
   last_seen d None k = refl
-  last_seen d (Some r) k = ap₂ (λ (a b : Bool). if a then b else true) (last_named r.service k.known) (none_box d.halves.out.holding)
+  last_seen d (Some r) k = ap₂ (λ (a b : Bool). if a then b else true) (unheard_named r k) (none_box d.halves.out.holding)
 
   abbrev pub PlansOf : Option (Row (Tagged M Q) (Asked M Q) (Option R)) → Type 0
   PlansOf now = OfRow (λ r. PlanOne mail n.name same y n.speech r.service r.heard) now
@@ -129,11 +142,11 @@ module _ {V M Q R T : Type 0} (x : Exchange V V M Q R) (calm : V → Bool) (fair
   contents_of (Some r) k = k.by
 
   abbrev pub LastsOf : Option (Row (Tagged M Q) (Asked M Q) (Option R)) → Type 0
-  LastsOf now = OfRow (λ r. n.acknowledged (n.name r.service) ≡ asked_acknowledged s.acknowledged r.service) now
+  LastsOf now = OfRow (λ r. ends_unheard n.speech n.acknowledged (row_seen mail n.name same r) ≡ ends_unheard y (asked_acknowledged s.acknowledged) r) now
 
   pub lasts_of : (now : Option (Row (Tagged M Q) (Asked M Q) (Option R))) → NowKnown now → LastsOf now
   lasts_of None k = tt
-  lasts_of (Some r) k = last_named r.service k.known
+  lasts_of (Some r) k = unheard_named r k
 
   module _ (frame : ℕ) (d : SideHere) (a : AccountHere) (known : NowKnown d.now) where
     abbrev side_begun : Option Duty → Option (Service (Asked M Q)) → SideHere

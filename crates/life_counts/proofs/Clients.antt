@@ -41,7 +41,7 @@ module _ {V M Q R T : Type 0} (x : Exchange V V M Q R) (calm : V → Bool) (fair
   MarksSame (Asked.Script q) hs = ⊤
   MarksSame (Asked.Passed m answers) hs = (answers && ends_marked (plain (λ (t : Meant). is_own t.meant) hs)) ≡ ends_told n.more (untag (plain (λ (t : Meant). is_own t.meant) hs))
 
-  heard_same : (hs : List Meant) → ByContents x.speech.emission hs → untag (plain (λ (t : Meant). is_own t.meant) hs) ≡ plain n.speech.emission (map mail hs)
+  pub heard_same : (hs : List Meant) → ByContents x.speech.emission hs → untag (plain (λ (t : Meant). is_own t.meant) hs) ≡ plain n.speech.emission (map mail hs)
   heard_same hs by = plain_untag x.speech.emission hs by ∙ ap (λ (e : M → Bool). plain e (map mail hs)) (sym emission)
 
   pub plans : (q : Asked M Q) → IsKnown q → (hs : List Meant) → ByContents x.speech.emission hs → PlanOne mail n.name same y n.speech q hs
@@ -64,8 +64,8 @@ module _ {V M Q R T : Type 0} (x : Exchange V V M Q R) (calm : V → Bool) (fair
   ends (Asked.Passed m answers) k hs by marks =
       same_is (y.ends (Asked.Passed m answers) (plain y.emission hs)) ∙ ap (λ b. if b then Some None else None) (marks ∙ ap (ends_told n.more) (heard_same hs by)) ∙ sym (k.ends (plain n.speech.emission (map mail hs)))
 
-  -- A ROW IS OVER for the one where it is for the other, which holds a mail that is passed on over as soon as it is written; so, where it is answered, its
-  -- answer has to be there then
+  -- A ROW IS OVER for the one where it is for the other, which holds a mail that is passed on and has no answer over as soon as it is written; so, where
+  -- it is answered, its answer has to be there then
   abbrev pub HasEnded : Asked M Q → Option (LinkMail Meant) → Bool → MeantRow → Type 0
   HasEnded (Asked.Script q) holding fresh r = ⊤
   HasEnded (Asked.Passed m false) holding fresh r = ⊤
@@ -86,6 +86,10 @@ module _ {V M Q R T : Type 0} (x : Exchange V V M Q R) (calm : V → Bool) (fair
   some_answer None = refl
   some_answer (Some a) = refl
 
+  none_answer : (a : Option (Option R × ℕ)) → is_none (answer_of a) ≡ is_none a
+  none_answer None = refl
+  none_answer (Some a) = refl
+
   pub overs : (r : MeantRow) (q : Asked M Q) → r.service ≡ q → IsKnown q → ByContents x.speech.emission r.heard → (holding : Option (LinkMail Meant)) (fresh : Bool) → HasEnded q holding fresh r →
       is_over n.speech (box_as mail holding) fresh (row_seen mail n.name same r) ≡ true → is_over y holding fresh r ≡ true
   overs r q e k by holding fresh ended over =
@@ -95,18 +99,22 @@ module _ {V M Q R T : Type 0} (x : Exchange V V M Q R) (calm : V → Bool) (fair
       plan = plans r.service (subst IsKnown (sym e) k) r.heard by
 
       parts : (is_none_left (left n.speech (row_seen mail n.name same r)) ≡ true)
-          × ((if n.speech.handed (n.name r.service) then is_none (box_as mail holding) else is_some (row_seen mail n.name same r).answer && not fresh) ≡ true)
-      parts = both_of (is_none_left (left n.speech (row_seen mail n.name same r))) (if n.speech.handed (n.name r.service) then is_none (box_as mail holding) else is_some (row_seen mail n.name same r).answer && not fresh) over
+          × ((if n.speech.handed (n.name r.service) && is_none (row_seen mail n.name same r).answer then is_none (box_as mail holding) else is_some (row_seen mail n.name same r).answer && not fresh) ≡ true)
+      parts = both_of (is_none_left (left n.speech (row_seen mail n.name same r))) (if n.speech.handed (n.name r.service) && is_none (row_seen mail n.name same r).answer then is_none (box_as mail holding) else is_some (row_seen mail n.name same r).answer && not fresh) over
 
-      last : (if n.speech.handed (n.name r.service) then is_none holding else is_some r.answer && not fresh) ≡ true
-      last = ap₂ (λ (a b : Bool). if n.speech.handed (n.name r.service) then a else b && not fresh) (sym (none_box holding)) (sym (some_answer r.answer)) ∙ parts.1
+      last : (if n.speech.handed (n.name r.service) && is_none r.answer then is_none holding else is_some r.answer && not fresh) ≡ true
+      last = sym (λ i. if n.speech.handed (n.name r.service) && none_answer r.answer i then none_box holding i else some_answer r.answer i && not fresh) ∙ parts.1
 
-      kind : (q : Asked M Q) → r.service ≡ q → IsKnown q → HasEnded q holding fresh r → (if n.speech.handed (n.name r.service) then is_none holding else is_some r.answer && not fresh) ≡ true →
-          (if y.handed r.service then is_none holding else is_some r.answer && not fresh) ≡ true
+      answered : (is_none holding ≡ true → (is_some r.answer && not fresh) ≡ true) → (a : Option (Option R × ℕ)) → (if is_none a then is_none holding else is_some r.answer && not fresh) ≡ true → (is_some r.answer && not fresh) ≡ true
+      answered ended None f = ended f
+      answered ended (Some a) f = f
+
+      kind : (q : Asked M Q) → r.service ≡ q → IsKnown q → HasEnded q holding fresh r → (if n.speech.handed (n.name r.service) && is_none r.answer then is_none holding else is_some r.answer && not fresh) ≡ true →
+          (if y.handed r.service && is_none r.answer then is_none holding else is_some r.answer && not fresh) ≡ true
       kind (Asked.Script q) e k ended last =
-          ap (λ b. if b then is_none holding else is_some r.answer && not fresh) (ap y.handed e ∙ sym k.handed ∙ ap (λ z. n.speech.handed (n.name z)) (sym e)) ∙ last
+          ap (λ b. if b && is_none r.answer then is_none holding else is_some r.answer && not fresh) (ap y.handed e ∙ sym k.handed ∙ ap (λ z. n.speech.handed (n.name z)) (sym e)) ∙ last
       kind (Asked.Passed m true) e k ended last =
-          ap (λ b. if b then is_none holding else is_some r.answer && not fresh) (ap y.handed e)
-          ∙ ended (ap (λ b. if b then is_none holding else is_some r.answer && not fresh) (sym (ap (λ z. n.speech.handed (n.name z)) e ∙ k.handed)) ∙ last)
+          ap (λ b. if b && is_none r.answer then is_none holding else is_some r.answer && not fresh) (ap y.handed e)
+          ∙ answered ended r.answer (ap (λ b. if b && is_none r.answer then is_none holding else is_some r.answer && not fresh) (sym (ap (λ z. n.speech.handed (n.name z)) e ∙ k.handed)) ∙ last)
       kind (Asked.Passed m false) e k ended last =
-          ap (λ b. if b then is_none holding else is_some r.answer && not fresh) (ap y.handed e ∙ sym k.handed ∙ ap (λ z. n.speech.handed (n.name z)) (sym e)) ∙ last
+          ap (λ b. if b && is_none r.answer then is_none holding else is_some r.answer && not fresh) (ap y.handed e ∙ sym k.handed ∙ ap (λ z. n.speech.handed (n.name z)) (sym e)) ∙ last

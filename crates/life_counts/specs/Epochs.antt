@@ -1,11 +1,12 @@
 -- AN EPOCH AS A MASTER LEADS IT, and the same with what is meant by its mails.
 use Rattle.std.specs.Prelude.{◌≡◌, ℕ, Bool, true, is_some, Option, Some, None, List, [], ◌∷◌, map, length, ⊤}
 use Rattle.exchange_model.specs.Exchange.{Exchange, IsLawful}
+use Rattle.exchange_model.specs.Rows.{ends_unheard}
 use Rattle.life_model.specs.Eras.{EraIs, era_frames}
 use Rattle.life_model.specs.Lives.{Spot, Era}
 use Rattle.few_replies.specs.Calm.{calm_tagged}
 use Rattle.passed_whole.specs.Client.{ByContents}
-use Rattle.passed_whole.specs.Erased.{frame_as, OfRow, PlanOne, EndOne}
+use Rattle.passed_whole.specs.Erased.{frame_as, row_seen, OfRow, PlanOne, EndOne}
 use Rattle.passed_whole.specs.Led.{IsLed, RepliesFirst}
 use Rattle.passed_whole.specs.Silent.{is_passed}
 use Rattle.passed_whole.specs.Heard.{EraPasses}
@@ -98,7 +99,7 @@ module _ {V M Q R C T : Type 0} (w : Speaker V M Q R C T) where
     pub passes : EraPasses seeing.speech (λ t. w.naming.more t.mail) is_passed era
     pub plans : OfRow (λ h. PlanOne (λ t. t.mail) w.naming.name (λ a. a) seeing.speech w.naming.speech h.service h.heard) era.side.now
     pub hands : OfRow (λ h. seeing.speech.handed h.service ≡ true → w.naming.speech.handed (w.naming.name h.service) ≡ true) era.side.now
-    pub lasts : OfRow (λ h. w.naming.acknowledged (w.naming.name h.service) ≡ seeing_states.acknowledged h.service) era.side.now
+    pub lasts : OfRow (λ h. ends_unheard w.naming.speech w.naming.acknowledged (row_seen (λ t. t.mail) w.naming.name (λ a. a) h) ≡ ends_unheard seeing.speech seeing_states.acknowledged h) era.side.now
     -- contents tell what was heard for it; and where its mail is over, and was foreseen to be answered, it has its answer
     pub contents : OfRow (λ h. ByContents w.exchange.speech.emission h.heard) era.side.now
     pub answered : era.passing ≡ None → OfRow (λ h. (m : M) → h.service ≡ Asked.Passed m true → is_some h.answer ≡ true) era.side.now

@@ -139,7 +139,7 @@ ends areas (drive q) hs = replied ((drive_speech areas).ends q hs)
 ends areas (net q) hs = replied ((net_speech areas).ends q hs)
 ends areas (passed m) hs = passed_ends hs
 
--- packets end with their last write; so may a mail that is passed on, which not each slave answers
+-- packets end with their last write; so does a mail that is passed on and has no reply, as not each slave answers each mail
 abbrev pub handed : Areas → Asked → Bool
 handed areas (sdo q) = (sdo_speech areas).handed q
 handed areas (file q) = (file_speech areas).handed q
@@ -151,7 +151,7 @@ handed areas (passed m) = true
 abbrev pub hand_speech : Areas → Speech Body Asked Reply
 hand_speech areas = record { emission = emission; valid = valid areas; planned = planned areas; ends = ends areas; handed = handed areas }
 
--- reads of files end with an acknowledgement
+-- reads of files may end with an acknowledgement
 abbrev pub acknowledged : Asked → Bool
 acknowledged (file q) = FoeMeaning.is_file_read q
 acknowledged _ = false

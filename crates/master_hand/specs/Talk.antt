@@ -45,7 +45,7 @@ which_of (passed m) = Which.Passed
 abbrev pub IsOf : Which → Asked → Type 0
 IsOf which q = which_of q ≡ which
 
--- packets and mails that are passed on end with their last write
+-- packets end with their last write, and so do mails that are passed on and have no reply
 abbrev pub is_handed : Which → Bool
 is_handed Which.Packet = true
 is_handed Which.Passed = true
@@ -56,7 +56,7 @@ abbrev pub is_mail : Which → Bool
 is_mail Which.Passed = true
 is_mail _ = false
 
--- a read of a file ends with an acknowledgement
+-- a read of a file, which may end with an acknowledgement
 abbrev pub is_read : Which → Bool
 is_read Which.ReadFile = true
 is_read _ = false

@@ -1,5 +1,6 @@
 ghost use Rattle.std.specs.Prelude.{◌≡◌, true};
 ghost use Rattle.master_hand.specs.Shown.{is_answered, course_behind, heard_as};
+ghost use Rattle.master_hand.specs.Talk.{is_handed};
 
 use crate::clients::{Clients, Which};
 use crate::course::Course;
@@ -31,14 +32,14 @@ pub struct InHand {
 }
 
 impl InHand {
-    ghost use Rattle.std.specs.Prelude.{◌≡◌, ◌≤◌, [], true, false, length, IfOk, None, All, if◌then◌else◌, ◌&&◌, not};
+    ghost use Rattle.std.specs.Prelude.{◌≡◌, ◌≤◌, [], true, false, length, IfOk, None, All, if◌then◌else◌, ◌&&◌, not, is_some};
     ghost use Rattle.mailbox_mail.specs.View.{mail_seen};
     ghost use Rattle.segment_plan.specs.Sound.{IsService};
     ghost use Rattle.master_side.specs.Passing.{told_as, goes_on};
     ghost use Rattle.master_hand.specs.Spoken.{is_followed, hand_speech};
     ghost use Rattle.master_hand.specs.Passed.{body_of};
-    ghost use Rattle.master_hand.specs.Talk.{client_later, is_handed};
-    ghost use Rattle.master_hand.specs.Over.{is_sent_by};
+    ghost use Rattle.master_hand.specs.Talk.{client_awaits, client_later};
+    ghost use Rattle.master_hand.specs.Over.{delivers, is_sent_by};
     ghost use Rattle.master_hand.specs.Brings.{emergency_kept};
     ghost use Rattle.master_hand.specs.Joins.{packet_kept};
     ghost use Rattle.master_hand.specs.Replied.{KeepsReply};
@@ -115,8 +116,8 @@ impl InHand {
     // Whether the newest service is over, where its reply is there or not.
     fn is_sent(&self, answered: bool, fresh: bool, idle: bool) -> bool
         ensures left { result ≡ true → client_later self.now.which self.now.clients [] ≡ [] }
-        ensures done { result ≡ true → (if is_handed self.now.which then idle else answered && not fresh) ≡ true }
-        ensures all { client_later self.now.which self.now.clients [] ≡ [] → (if is_handed self.now.which then idle else answered && not fresh) ≡ true → result ≡ true }
+        ensures done { result ≡ true → (if is_handed self.now.which && not answered then idle else answered && not fresh) ≡ true }
+        ensures all { client_later self.now.which self.now.clients [] ≡ [] → (if is_handed self.now.which && not answered then idle else answered && not fresh) ≡ true → result ≡ true }
         ensures is { result ≡ is_sent_by answered self.now.which self.now.clients fresh idle }
     {
         if self.clients.has_next(self.which) {
@@ -130,14 +131,19 @@ impl InHand {
     }
 
     // Whether the newest service, which has its answer, ends with an acknowledgement: a read that delivered its file does.
-    fn is_delivered(&self) -> bool {
+    fn is_delivered(&self) -> bool
+        requires { is_some (client_awaits self.now.which self.now.clients []) ≡ true }
+        ensures { result ≡ delivers self.now.which self.now.clients }
+    {
         self.which == Which::ReadFile
             && matches!(self.clients.reply(self.which), Some(ReplyKind::Value))
     }
 }
 
 // Whether a service that has no answer ends with its last write.
-fn is_handed(which: Which) -> bool {
+fn is_handed(which: Which) -> bool
+    ensures { result ≡ is_handed which }
+{
     matches!(which, Which::Packet | Which::Passed)
 }
 
@@ -208,7 +214,7 @@ impl Hand for InHand {
 
     ghost over = { λ h fresh idle. over_by h.course h.which h.clients fresh idle };
 
-    ghost done = { λ h idle. done_by h.course h.which idle };
+    ghost done = { λ h idle. done_by h.course h.which h.clients idle };
 
     ghost brings = { λ h b. Brings h.found b };
 

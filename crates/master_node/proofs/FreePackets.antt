@@ -77,12 +77,12 @@ module _ (which : Which) (c : Talking) (fresh : Bool) (state : Option Mail) (x :
 
   sent_is : Shows Course.Goes which c x d.now → is_sent_by false which c fresh idle ≡ is_free x d d.now
   sent_is s = same_test (is_sent_by false which c fresh idle) (is_free x d d.now)
-      (λ e. (let b = both (is_none_left (client_later which c [])) (if is_handed which then idle else false && not fresh) e in
+      (λ e. (let b = both (is_none_left (client_later which c [])) (if is_handed which && true then idle else false && not fresh) e in
       sent_free false Course.Goes which c fresh idle x d (goes_is Course.Goes which c d.now refl) (none_in (client_later which c []) b.0) b.1 unsent holds s))
       (λ e. (let o = goes_over Course.Goes which c fresh idle x d refl unsent idles s e in
       (λ i. is_none_left (o.left i) && o.done i)))
 
-  packet_free : (course : Course) → Shows course which c x d.now → (over_by course which c fresh idle && done_by course which idle) ≡ (knows course && is_free x d d.now)
+  packet_free : (course : Course) → Shows course which c x d.now → (over_by course which c fresh idle && done_by course which c idle) ≡ (knows course && is_free x d d.now)
   packet_free Course.Nothing s = absurd (let bad : None ≡ Some r = sym s.1 ∙ now in cc)
   packet_free Course.Goes s =
       and_true (is_sent_by false which c fresh idle) (if is_read which then idle else true) (ap (λ (z : Which). if is_read z then idle else true) (kind_is s.1.row.service (row_is s.1.row s.1.is) s.1.kind)) ∙ sent_is s
@@ -99,5 +99,5 @@ module _ (which : Which) (c : Talking) (fresh : Bool) (state : Option Mail) (x :
 pub free_packet : (s : Side InHand Impl.ghosts) (x : Speech Body Asked Reply) (d : Seats.Side Body Asked Reply) (a : Account Asked Reply) (r : Row Body Asked Reply) →
     SideShows (Shows s.hand.course s.hand.which s.hand.clients x) s.out s.inn s.fresh s.duty d a → a.hand ≡ None → s.passing ≡ None → d.now ≡ Some r → is_other r.service ≡ false → is_free_side s ≡ (knows s.hand.course && is_free x d d.now)
 free_packet s x d a r h n p e o =
-    (λ i. (is_none (no_hand (in_hand s.duty) a.hand n h.state i) && is_none (p i)) && (over_by s.hand.course s.hand.which s.hand.clients s.fresh (is_none s.out.state) && done_by s.hand.course s.hand.which (is_none s.out.state)))
+    (λ i. (is_none (no_hand (in_hand s.duty) a.hand n h.state i) && is_none (p i)) && (over_by s.hand.course s.hand.which s.hand.clients s.fresh (is_none s.out.state) && done_by s.hand.course s.hand.which s.hand.clients (is_none s.out.state)))
     ∙ packet_free s.hand.which s.hand.clients s.fresh s.out.state x d r e o (ap (λ (z : Halves Body). z.out.holding) h.halves) h.unsent s.hand.course h.row

@@ -1,8 +1,8 @@
 -- TWO CLIENTS THAT SPEAK ALIKE lead a life alike: its choices and frames make the same of it.
-use Rattle.std.proofs.Common.{◌≡◌, ℕ, ◌==◌, ◌&&◌, Bool, true, false, List, [], ◌∷◌, ◌++◌, refl, ap, ap₂, ◌∙◌, subst}
+use Rattle.std.proofs.Common.{◌≡◌, ℕ, ◌==◌, ◌&&◌, ◌||◌, Bool, true, false, List, [], ◌∷◌, ◌++◌, refl, ap, ap₂, ◌∙◌, subst}
 use Rattle.std.specs.Prelude.{if◌then◌else◌, not, Option, Some, None, option_map, is_some, is_none, drop, length}
-use Rattle.exchange_model.specs.Exchange.{Speech, plain}
-use Rattle.exchange_model.specs.Rows.{Row, begun, answer_after, row_heard, row_told, left}
+use Rattle.exchange_model.specs.Exchange.{Speech, outnumbers, plain}
+use Rattle.exchange_model.specs.Rows.{Row, begun, answer_after, ends_unheard, row_heard, row_told, left}
 use Rattle.link_model.specs.Frames.{all_accepted}
 use Rattle.link_model.specs.Mails.{LinkMail}
 use Rattle.segment_model.specs.Ends.{Passing, passing_after}
@@ -85,6 +85,15 @@ module _ {M P T : Type 0} (is : P → Bool) (y z : Speech M P T) (same : Alike i
   free_same d None row = refl
   free_same d (Some r) row = over_same d.halves.out.holding d.fresh r row
 
+  pub unheard_same : (acknowledged : P → Bool) (r : Row M P T) → is r.service ≡ true → ends_unheard y acknowledged r ≡ ends_unheard z acknowledged r
+  unheard_same acknowledged r row =
+      ap (λ (e : M → Bool). acknowledged r.service && (is_none r.answer || outnumbers (y.planned r.service (plain e r.heard)) (plain e r.heard))) same.emission
+      ∙ ap (λ (ms : List M). acknowledged r.service && (is_none r.answer || outnumbers ms (plain z.emission r.heard))) (same.planned r.service (plain z.emission r.heard) row)
+
+  done_same : (acknowledged : P → Bool) (d : Side M P T) (now : Option (Row M P T)) → RowIs is now → is_acknowledged y acknowledged d now ≡ is_acknowledged z acknowledged d now
+  done_same acknowledged d None row = refl
+  done_same acknowledged d (Some r) row = ap (λ (b : Bool). if b then is_none d.halves.out.holding else true) (unheard_same acknowledged r row)
+
   account_same : (acknowledged : P → Bool) (frame : ℕ) (d : Side M P T) (a : Account P T) (hand : Option Duty) (wish : Option (Service P)) → RowIs is d.now → WishIs is wish →
       account_begins y acknowledged frame d a hand wish ≡ account_begins z acknowledged frame d a hand wish
   account_same acknowledged frame d a None None row w = refl
@@ -93,7 +102,7 @@ module _ {M P T : Type 0} (is : P → Bool) (y z : Speech M P T) (same : Alike i
   account_same acknowledged frame d a None (Some (Service.Mails q)) row w =
       ap₂ (λ (v f : Bool). if v && f then record a { started = starts a (Service.Mails q) frame } else a) (same.valid q w) (free_same d d.now row)
   account_same acknowledged frame d a None (Some (Service.State target)) row w =
-      ap (λ (f : Bool). if f && is_acknowledged x acknowledged d d.now then state_begins a target frame else a) (free_same d d.now row)
+      ap₂ (λ (f e : Bool). if f && e then state_begins a target frame else a) (free_same d d.now row) (done_same acknowledged d d.now row)
 
   module _ (acknowledged : P → Bool) (more : M → Bool) (passed : P → Bool) where
     granted_is : (passing : Option Passing) (pick : Pick P) → WishIs is pick.begin → WishIs is (granted passing pick).begin

@@ -63,9 +63,9 @@ free_by : (x : Speech Body Asked Reply) (d : Side Body Asked Reply) (o : Option 
 free_by x d None over = refl
 free_by x d (Some r) over = over
 
-done_by : (d : Side Body Asked Reply) (o : Option (Row Body Asked Reply)) → d.halves.out.holding ≡ None → is_acknowledged acknowledged d o ≡ true
-done_by d None idle = refl
-done_by d (Some r) idle = by (acknowledged r.service)
+done_by : (x : Speech Body Asked Reply) (d : Side Body Asked Reply) (o : Option (Row Body Asked Reply)) → d.halves.out.holding ≡ None → is_acknowledged x acknowledged d o ≡ true
+done_by x d None idle = refl
+done_by x d (Some r) idle = by (ends_unheard x acknowledged r)
   where
     by : (b : Bool) → (if b then is_none d.halves.out.holding else true) ≡ true
     by true = ap is_none idle

@@ -4,7 +4,7 @@ use Rattle.std.specs.Prelude.{is_none, is_some}
 use Rattle.never_waits.specs.Moments.{HasNothing, IsFree, IsMailsLast, WasHeard}
 use Rattle.never_waits.proofs.Laws.{heard, nothing}
 use Rattle.exchange_model.specs.Exchange.{Exchange, Speech, IsLawful}
-use Rattle.exchange_model.specs.Rows.{Row, left}
+use Rattle.exchange_model.specs.Rows.{Row, ends_unheard, left}
 use Rattle.life_model.specs.Eras.{EraIs}
 use Rattle.life_model.specs.Lives.{Era, Spot}
 use Rattle.link_model.specs.Mails.{LinkMail}
@@ -71,22 +71,30 @@ module _ {N M P Q S R : Type 0} (f : N → M) (g : P → Q) (h : S → R) where
     -- ---- a row that is over is over for the other, with no mail held
     over_by : (r : Row N P S) (holding : Option (LinkMail N)) (fresh : Bool) → holding ≡ None → left y (row_seen f g h r) ≡ [] → is_over z holding fresh r ≡ true → (z.handed r.service ≡ true → y.handed (g r.service) ≡ true) →
         (b c : Bool) → y.handed (g r.service) ≡ b → z.handed r.service ≡ c → is_over y (box_as f holding) fresh (row_seen f g h r) ≡ true
-    over_by r holding fresh held none over hands true c is was = (λ i. is_none_left (none i) && (if is i then is_none (box_as f (held i)) else is_some {T = R × ℕ} (option_map (λ (a : S × ℕ). (h a.0, a.1)) r.answer) && not fresh))
-    over_by r holding fresh held none over hands false true is was = absurd (let no : true ≡ false = sym (hands was) ∙ is in cc)
-    over_by r holding fresh held none over hands false false is was =
-        let mine : (if z.handed r.service then is_none holding else is_some r.answer && not fresh) ≡ true = and_right (is_none_left (left z r)) (if z.handed r.service then is_none holding else is_some r.answer && not fresh) over in
-        let said : (is_some r.answer && not fresh) ≡ true = sym (ap (λ (d : Bool). if d then is_none holding else is_some r.answer && not fresh) was) ∙ mine in
-        (λ i. is_none_left (none i) && (if is i then is_none (box_as f holding) else is_some {T = R × ℕ} (option_map (λ (a : S × ℕ). (h a.0, a.1)) r.answer) && not fresh))
-        ∙ ap (λ (d : Bool). d && not fresh) (some_same {Y = R × ℕ} (λ (a : S × ℕ). (h a.0, a.1)) r.answer) ∙ said
+    over_by r holding fresh held none over hands b c is was =
+        (λ i. is_none_left (none i) && (if is i && none_same r.answer i then is_none (box_as f (held i)) else some_same {Y = R × ℕ} (λ (a : S × ℕ). (h a.0, a.1)) r.answer i && not fresh))
+        ∙ by b c is was r.answer (sym (ap (λ (d : Bool). if d && is_none r.answer then is_none holding else is_some r.answer && not fresh) was)
+            ∙ and_right (is_none_left (left z r)) (if z.handed r.service && is_none r.answer then is_none holding else is_some r.answer && not fresh) over)
+      where
+        none_same : (a : Option (S × ℕ)) → is_none {T = R × ℕ} (option_map (λ (k : S × ℕ). (h k.0, k.1)) a) ≡ is_none a
+        none_same None = refl
+        none_same (Some k) = refl
+
+        by : (b c : Bool) → y.handed (g r.service) ≡ b → z.handed r.service ≡ c → (a : Option (S × ℕ)) → (if c && is_none a then is_none holding else is_some a && not fresh) ≡ true → (if b && is_none a then true else is_some a && not fresh) ≡ true
+        by true c is was None m = refl
+        by true true is was (Some a) m = m
+        by true false is was (Some a) m = m
+        by false true is was a m = absurd (let no : true ≡ false = sym (hands was) ∙ is in cc)
+        by false false is was a m = m
 
     free_by : (d : Side N P S) (now : Option (Row N P S)) → d.halves.out.holding ≡ None → OfRow (λ (r : Row N P S). z.handed r.service ≡ true → y.handed (g r.service) ≡ true) now → OfRow (λ (r : Row N P S). left y (row_seen f g h r) ≡ []) now →
         is_free z d now ≡ true → is_free y (side_seen f g h d) (option_map (λ (r : Row N P S). row_seen f g h r) now) ≡ true
     free_by d None held hands none free = refl
     free_by d (Some r) held hands none free = over_by r d.halves.out.holding d.fresh held none free hands (y.handed (g r.service)) (z.handed r.service) refl refl
 
-    done_by : (d : Side N P S) (now : Option (Row N P S)) → d.halves.out.holding ≡ None → is_acknowledged acknowledged (side_seen f g h d) (option_map (λ (r : Row N P S). row_seen f g h r) now) ≡ true
+    done_by : (d : Side N P S) (now : Option (Row N P S)) → d.halves.out.holding ≡ None → is_acknowledged y acknowledged (side_seen f g h d) (option_map (λ (r : Row N P S). row_seen f g h r) now) ≡ true
     done_by d None held = refl
-    done_by d (Some r) held = (λ i. if acknowledged (g r.service) then is_none (box_as f (held i)) else true) ∙ either_true (acknowledged (g r.service))
+    done_by d (Some r) held = (λ i. if ends_unheard y acknowledged (row_seen f g h r) then is_none (box_as f (held i)) else true) ∙ either_true (ends_unheard y acknowledged (row_seen f g h r))
 
     -- nothing is left of its row
     none_of : (d : Side N P S) (now : Option (Row N P S)) → d.now ≡ now → ((r : Row M Q R) → option_map (λ (t : Row N P S). row_seen f g h t) d.now ≡ Some r → left y r ≡ []) → OfRow (λ (r : Row N P S). left y (row_seen f g h r) ≡ []) now

@@ -2,7 +2,7 @@
 use Rattle.std.specs.Prelude.{◌≡◌, ℕ, Bool, false, Some, None, []}
 use Rattle.never_waits.specs.Moments.{IsFree, NoneLeft}
 use Rattle.exchange_model.specs.Exchange.{Exchange, Speech}
-use Rattle.exchange_model.specs.Rows.{Row, left}
+use Rattle.exchange_model.specs.Rows.{Row, ends_unheard, left}
 use Rattle.idle_slaves.specs.Going.{IsCome}
 use Rattle.idle_slaves.specs.Links.{HasLink}
 use Rattle.idle_slaves.specs.Steps.{StepsAlone}
@@ -30,6 +30,6 @@ pub record FitsSo {V A M Q R : Type 0} (u : Exchange V A M Q R) (processor : Pro
   pub link : HasLink e.side n
   pub alone : StepsAlone u processor table e.account.hand n
   pub come : (duty : Duty) (phase : Phase) → e.account.hand ≡ Some duty → duty.stage ≡ Stage.Goes phase → IsCome M R table duty.target phase n.registers
-  pub told : e.account.hand ≡ None → (r : Row M Q R) → e.side.now ≡ Some r → (answer : R × ℕ) → r.answer ≡ Some answer → acknowledged r.service ≡ false → (left y r ≡ []) × (e.side.fresh ≡ false)
+  pub told : e.account.hand ≡ None → (r : Row M Q R) → e.side.now ≡ Some r → (answer : R × ℕ) → r.answer ≡ Some answer → ends_unheard y acknowledged r ≡ false → (left y r ≡ []) × (e.side.fresh ≡ false)
   pub free : HasNone y e n → IsFree y acknowledged e.side
   pub awaits : HasNone y e n → EraPasses y more passed e → LastPasses e → e.passing ≡ Some Passing.Answered → ⊥

@@ -4,11 +4,11 @@
 ghost use Rattle.std.specs.Prelude.{◌≡◌, ℕ, Bool, true, false, Option, Some, None, List, []};
 ghost use Rattle.never_waits.specs.Moments.{IsFree, NowAnswered, WasHeard};
 ghost use Rattle.exchange_model.specs.Exchange.{Exchange, Speech, IsLawful};
-ghost use Rattle.exchange_model.specs.Rows.{Row, left};
+ghost use Rattle.exchange_model.specs.Rows.{Row, ends_unheard, left};
 ghost use Rattle.life_model.specs.Eras.{EraIs};
 ghost use Rattle.life_model.specs.Lives.{Era, Spot};
 ghost use Rattle.never_waits.specs.Waits.{NeverWaits};
-ghost use Rattle.passed_whole.specs.Erased.{OfRow, PlanOne, side_seen};
+ghost use Rattle.passed_whole.specs.Erased.{OfRow, PlanOne, row_seen, side_seen};
 ghost use Rattle.passed_whole.specs.Led.{IsLed};
 ghost use Rattle.passed_whole.specs.Heard.{EraPasses};
 ghost use Rattle.seen_slaves.specs.Fits.{FitsSo};
@@ -46,8 +46,8 @@ pub fn led_said<V, A, M, Q, R>()
 /// A SERVICE BY MAILS THAT HAS ITS ANSWER, but for one that ends with an acknowledgement, was told whole, and each of its mails was sent: for the other too.
 pub fn told_seen<N, M, P, Q, S, R, V, A>()
     ensures { (f : N → M) (g : P → Q) (h : S → R) (x : Exchange V A N P S) (s : Stated V A P) (y : Speech M Q R) (acknowledged : Q → Bool) (processor : Processor V) (table : ℕ → Table) (spot : Spot) (e : Era N P S) (opened last : ℕ) (fs : List (Frame N)) (v : V) (r : Registers) (n : Slave V N) →
-        IsLawful x → IsStated x s → EraIs x s processor table spot e opened last fs v r n → OfRow (λ (t : Row N P S). PlanOne f g h x.speech y t.service t.heard) e.side.now → OfRow (λ (t : Row N P S). acknowledged (g t.service) ≡ s.acknowledged t.service) e.side.now →
-        e.account.hand ≡ None → (z : Row M Q R) → (side_seen f g h e.side).now ≡ Some z → (answer : R × ℕ) → z.answer ≡ Some answer → acknowledged z.service ≡ false → (left y z ≡ []) × (e.side.fresh ≡ false) }
+        IsLawful x → IsStated x s → EraIs x s processor table spot e opened last fs v r n → OfRow (λ (t : Row N P S). PlanOne f g h x.speech y t.service t.heard) e.side.now → OfRow (λ (t : Row N P S). ends_unheard y acknowledged (row_seen f g h t) ≡ ends_unheard x.speech s.acknowledged t) e.side.now →
+        e.account.hand ≡ None → (z : Row M Q R) → (side_seen f g h e.side).now ≡ Some z → (answer : R × ℕ) → z.answer ≡ Some answer → ends_unheard y acknowledged z ≡ false → (left y z ≡ []) × (e.side.fresh ≡ false) }
 {}
 
 /// SO AN OPEN SLAVE IS TO ITS MASTER, whose epoch of it is one that is seen with what is meant by its mails, by whatever exchange its node runs.

@@ -125,11 +125,12 @@ module _ (p : Profile) where
     unhanded_over (Tagged.Asked.Passed m false) is none = absurd (let no : true ≡ false = none in cc)
 
     over_here : is_over (seeing (mailer p)).speech None fresh r ≡ true
-    over_here = ap₂ (λ (a b : Bool). a && b) (none_of mail named_wanted same (seeing (mailer p)).speech (spoken p).speech r plans ∙ ap is_none_left (over_parts (spoken p) None fresh (seen_row r) over).0) (go (handed r.service) refl)
+    over_here = ap₂ (λ (a b : Bool). a && b) (none_of mail named_wanted same (seeing (mailer p)).speech (spoken p).speech r plans ∙ ap is_none_left (over_parts (spoken p) None fresh (seen_row r) over).0) (go (handed r.service) r.answer refl refl)
       where
-        go : (b : Bool) → handed r.service ≡ b → (if b then true else is_some r.answer && not fresh) ≡ true
-        go true is = refl
-        go false is = ap₂ (λ (a b : Bool). a && not b) (unhanded_over r.service refl is) new
+        go : (b : Bool) (o : Option (Option SlaveReply.Reply × ℕ)) → handed r.service ≡ b → r.answer ≡ o → (if b && is_none o then true else is_some o && not fresh) ≡ true
+        go true None is a = refl
+        go true (Some k) is a = ap not new
+        go false o is a = ap₂ (λ (a b : Bool). a && not b) (ap is_some (sym a) ∙ unhanded_over r.service refl is) new
 
 module _ (p : Profile) (k : IsSpeaker (mailer p)) (boot : Bool) (spot : Spot) (opened : ℕ) (v : InState Server) (r : Registers) (fs : List (Frame Body)) (counts : Bool) (e : Era Body Asked Reply) (n : Slave (InState Server) Body)
     (i : IsSeen (mailer p) (seer_of p boot) (table_of boot) spot opened v r fs counts e n) where

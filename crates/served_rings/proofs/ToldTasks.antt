@@ -16,7 +16,7 @@ use Rattle.segment_model.specs.Laws.{EachSeat, AllAnswered}
 use Rattle.segment_model.specs.Record.{Frame}
 use Rattle.segment_model.specs.Seats.{Side, Seat, Planned, IsFrame, ring_of, sides_of, seat_next, seats_next, seat_back, seats_after, side_lost, seat_steps, new_seats}
 use Rattle.segment_model.specs.Slaves.{Registers, Processor, Slave, Datagram, slave_after, frame_after, ring_back}
-use Rattle.segment_model.proofs.Answers.{Listens, next_listens, back_listens, lost_listens}
+use Rattle.segment_model.proofs.Answers.{Listens, back_listens, lost_listens}
 use Rattle.segment_model.proofs.Kept.{Records, new_records, rows_answered}
 use Rattle.served_rings.specs.Speakers.{spoken, spoken_states, processor_of, table_of}
 use Rattle.served_rings.specs.ToldEras.{unpassed_era, unpassed_side}
@@ -79,7 +79,7 @@ module _ (p : Profile) (boot : Bool) (lens : ℕ → Lens) (law : IsLawful (sile
   next_kept : (fs : List (Frame Body)) (q : Planned V) (t : SeatHere) (a : AccountHere) (pick : Pick Asked) → Kept fs q t a → Kept fs q (seat_next x (length fs) t (mails_choice a pick)) (account_next x.speech s.acknowledged (length fs) t.side a pick)
   next_kept fs q t a pick k = record {
     is = next_is x s processor table s.acknowledged fs q t a pick k.is;
-    listens = subst (Listens y law t.station fs) (Unpassed.next_is p boot lens (length fs) t.side (mails_choice a pick)) (next_listens y law t.station fs (unpassed_side t.side) (mails_choice a pick) k.listens);
+    listens = Unpassed.next_told p boot lens law t.station fs t.side (mails_choice a pick) k.listens;
     begun = next_begun x.speech s.acknowledged (length fs) t.side a k.begun pick;
   }
 

@@ -1,5 +1,5 @@
 -- WITHOUT THE ANSWERS OF MAILS THAT ARE PASSED ON a master's side goes on as one whose services all owe the laws of answers: as if no such mail had a reply.
-use Rattle.std.proofs.Common.{◌≡◌, ℕ, ◌&&◌, Bool, true, false, Option, Some, None, option_map, List, [], ◌∷◌, ◌++◌, map, refl, ap, sym, ◌∙◌, append_assoc, append-nil, if◌then◌else◌}
+use Rattle.std.proofs.Common.{◌≡◌, ◌⊎◌, inl, inr, ℕ, ◌&&◌, Bool, true, false, Option, Some, None, option_map, List, [], ◌∷◌, ◌++◌, map, length, refl, ap, sym, subst, ◌∙◌, append_assoc, append-nil, if◌then◌else◌}
 use Rattle.std.specs.Prelude.{not, is_none, is_some}
 use Rattle.std.proofs.lemmas.List.{map-append}
 use Rattle.exchange_model.specs.Exchange.{Exchange, Speech, IsLawful, plain}
@@ -12,6 +12,8 @@ use Rattle.link_model.specs.Master.{out_hold}
 use Rattle.master_duty.specs.Reply.{Reply}
 use Rattle.run_work.specs.of_master_hand.Spoken.{Asked, sdo, file, drive, net, passed, hand_speech, handed, valid}
 use Rattle.plan_ring.specs.Asked.{asked}
+use Rattle.segment_model.specs.Record.{Frame}
+use Rattle.segment_model.proofs.Answers.{Listens, first_listens, held_listens, more_listens}
 use Rattle.segment_model.specs.Seats.{Side, Choice, is_none_left, is_over, newest, next_mail, rows_of, side_back, side_begins, side_holds, side_next}
 use Rattle.segment_model.specs.Slaves.{Datagram, grams}
 use Rattle.served_rings.specs.ToldEras.{unpassed_answer, unpassed_row, unpassed_side}
@@ -37,6 +39,15 @@ none_is (file q) = refl
 none_is (drive q) = refl
 none_is (net q) = refl
 none_is (passed m) = refl
+
+second_of : (a b : Bool) → (a && b) ≡ true → b ≡ true
+second_of true b e = e
+second_of false b e = never e
+
+answered_or : (handed : Bool) (answer : Option (Reply × ℕ)) (idle fresh : Bool) → (if handed && is_none answer then idle else is_some answer && not fresh) ≡ true → ((a : Reply × ℕ) × (answer ≡ Some a)) ⊎ (handed ≡ true)
+answered_or true answer idle fresh e = inr refl
+answered_or false (Some a) idle fresh e = inl (a, refl)
+answered_or false None idle fresh e = never e
 
 module _ (p : Profile) (boot : Bool) (lens : ℕ → Lens) where
   -- THE SERVICES ALONE, beside mails of which none has a reply: of its servers, none of which is ready, it owes nothing
@@ -68,35 +79,37 @@ module _ (p : Profile) (boot : Bool) (lens : ℕ → Lens) where
   abbrev y : Speech Body Asked Reply
   y = silent.speech
 
-  over_by : (q : Asked) (answer : Option (Reply × ℕ)) (holding : Option (LinkMail Body)) (fresh : Bool) →
-      (if handed (areas_of p) q then is_none holding else is_some (unpassed_answer q answer) && not fresh) ≡ (if handed (areas_of p) q then is_none holding else is_some answer && not fresh)
-  over_by (sdo q) answer holding fresh = refl
-  over_by (file q) answer holding fresh = refl
-  over_by (drive q) answer holding fresh = refl
-  over_by (net q) answer holding fresh = refl
-  over_by (passed m) answer holding fresh = refl
+  -- A ROW THAT IS OVER has its answer then too, or ends with its last write
+  ended_by : (q : Asked) (answer : Option (Reply × ℕ)) (holding : Option (LinkMail Body)) (fresh : Bool) → (if handed (areas_of p) q && is_none answer then is_none holding else is_some answer && not fresh) ≡ true →
+      ((a : Reply × ℕ) × (unpassed_answer q answer ≡ Some a)) ⊎ (handed (areas_of p) q ≡ true)
+  ended_by (sdo q) answer holding fresh over = answered_or (handed (areas_of p) (sdo q)) answer (is_none holding) fresh over
+  ended_by (file q) answer holding fresh over = answered_or (handed (areas_of p) (file q)) answer (is_none holding) fresh over
+  ended_by (drive q) answer holding fresh over = answered_or (handed (areas_of p) (drive q)) answer (is_none holding) fresh over
+  ended_by (net q) answer holding fresh over = answered_or (handed (areas_of p) (net q)) answer (is_none holding) fresh over
+  ended_by (passed m) answer holding fresh over = inr refl
 
-  -- A ROW IS OVER alike
-  over_is : (r : Held) (holding : Option (LinkMail Body)) (fresh : Bool) → is_over y holding fresh (unpassed_row r) ≡ is_over x holding fresh r
-  over_is r holding fresh = ap (λ (b : Bool). is_none_left (left x r) && b) (over_by r.service r.answer holding fresh)
-
-  -- A SERVICE COMES INTO HAND alike
-  begins_is : (frame : ℕ) (d : Side Body Asked Reply) (now : Option Held) (begin : Option Asked) → unpassed_side (side_begins x frame d now begin) ≡ side_begins y frame (unpassed_side d) (option_map (λ r. unpassed_row r) now) begin
-  begins_is frame d now None = refl
-  begins_is frame d None (Some q) = go (x.valid q)
+  -- A SERVICE COMES INTO HAND, and the answers stay those of the frames
+  begins_told : (law : IsLawful silent) (station : ℕ) (fs : List (Frame Body)) (d : Side Body Asked Reply) (now : Option Held) (begin : Option Asked) → d.now ≡ now → Listens silent law station fs (unpassed_side d) →
+      Listens silent law station fs (unpassed_side (side_begins x (length fs) d now begin))
+  begins_told law station fs d now None e l = l
+  begins_told law station fs d None (Some q) e l = go (x.valid q)
     where
-      go : (b : Bool) → unpassed_side (if b then record d { now = Some (begun q frame) } else d) ≡ (if b then record (unpassed_side d) { now = Some (begun q frame) } else unpassed_side d)
-      go true = ap (λ (a : Option (Reply × ℕ)). record (unpassed_side d) { now = Some (record (begun q frame) { answer = a }) }) (none_is q)
-      go false = refl
-  begins_is frame d (Some r) (Some q) =
-      go (x.valid q && is_over x d.halves.out.holding d.fresh r) ∙ ap (λ (b : Bool). if x.valid q && b then behind else unpassed_side d) (sym (over_is r d.halves.out.holding d.fresh))
+      go : (b : Bool) → Listens silent law station fs (unpassed_side (if b then record d { now = Some (begun q (length fs)) } else d))
+      go true = subst (λ (a : Option (Reply × ℕ)). Listens silent law station fs (record (unpassed_side d) { now = Some (record (begun q (length fs)) { answer = a }) })) (sym (none_is q)) (first_listens silent law station fs (unpassed_side d) q l)
+      go false = l
+  begins_told law station fs d (Some r) (Some q) e l = go (x.valid q) (is_over x d.halves.out.holding d.fresh r) refl
     where
-      behind : Side Body Asked Reply
-      behind = record (unpassed_side d) { past = map (λ r. unpassed_row r) d.past ++ unpassed_row r ∷ []; now = Some (begun q frame) }
+      begun_behind : Side Body Asked Reply
+      begun_behind = record (unpassed_side d) { past = map (λ r. unpassed_row r) d.past ++ unpassed_row r ∷ []; now = Some (begun q (length fs)) }
 
-      go : (b : Bool) → unpassed_side (if b then record d { past = d.past ++ r ∷ []; now = Some (begun q frame) } else d) ≡ (if b then behind else unpassed_side d)
-      go true = λ i. record (unpassed_side d) { past = map-append (λ (t : Held). unpassed_row t) d.past (r ∷ []) i; now = Some (record (begun q frame) { answer = none_is q i }) }
-      go false = refl
+      same : begun_behind ≡ unpassed_side (record d { past = d.past ++ r ∷ []; now = Some (begun q (length fs)) })
+      same = sym (λ i. record (unpassed_side d) { past = map-append (λ (t : Held). unpassed_row t) d.past (r ∷ []) i; now = Some (record (begun q (length fs)) { answer = none_is q i }) })
+
+      go : (valid over : Bool) → is_over x d.halves.out.holding d.fresh r ≡ over → Listens silent law station fs (unpassed_side (if valid && over then record d { past = d.past ++ r ∷ []; now = Some (begun q (length fs)) } else d))
+      go false over o = l
+      go true false o = l
+      go true true o = subst (Listens silent law station fs) same
+          (more_listens silent law station fs (unpassed_side d) (unpassed_row r) q (ap (option_map (λ t. unpassed_row t)) e) (ended_by r.service r.answer d.halves.out.holding d.fresh (second_of (is_none_left (left x r)) _ o)) l)
 
   -- AND A MAIL IS TAKEN UP alike
   told_is : (m : Body) (now : Option Held) → option_map (λ r. unpassed_row r) (option_map (λ r. row_told m r) now) ≡ option_map (λ r. row_told m r) (option_map (λ r. unpassed_row r) now)
@@ -107,18 +120,13 @@ module _ (p : Profile) (boot : Bool) (lens : ℕ → Lens) where
   holds_is d [] = refl
   holds_is d (m ∷ ms) = ap (λ (n : Option Held). record { halves = record d.halves { out = out_hold d.halves.out m }; fresh = true; past = map (λ r. unpassed_row r) d.past; now = n }) (told_is m d.now)
 
-  mail_is : (now : Option Held) (holding : Option (LinkMail Body)) (hold : Bool) → next_mail y (option_map (λ r. unpassed_row r) now) holding hold ≡ next_mail x now holding hold
-  mail_is now holding false = refl
-  mail_is None holding true = refl
-  mail_is (Some r) (Some m) true = refl
-  mail_is (Some r) None true = refl
-
   -- BEFORE A FRAME
-  pub next_is : (frame : ℕ) (d : Side Body Asked Reply) (c : Choice Asked) → side_next y frame (unpassed_side d) c ≡ unpassed_side (side_next x frame d c)
-  next_is frame d c =
-      let e = side_begins x frame d d.now c.begin in
-      sym (holds_is e (next_mail x e.now e.halves.out.holding c.hold) ∙ ap (side_holds (unpassed_side e)) (sym (mail_is e.now e.halves.out.holding c.hold))
-      ∙ ap (λ (f : Side Body Asked Reply). side_holds f (next_mail y f.now f.halves.out.holding c.hold)) (begins_is frame d d.now c.begin))
+  pub next_told : (law : IsLawful silent) (station : ℕ) (fs : List (Frame Body)) (d : Side Body Asked Reply) (c : Choice Asked) → Listens silent law station fs (unpassed_side d) →
+      Listens silent law station fs (unpassed_side (side_next x (length fs) d c))
+  next_told law station fs d c l =
+      let e = side_begins x (length fs) d d.now c.begin in
+      let ms = next_mail x e.now e.halves.out.holding c.hold in
+      subst (Listens silent law station fs) (sym (holds_is e ms)) (held_listens silent law station fs (unpassed_side e) ms (begins_told law station fs d d.now c.begin refl l))
 
   heard_by : (frame : ℕ) (hs : List Body) (q : Asked) (answer : Option (Reply × ℕ)) → answer_after frame (unpassed_answer q answer) (y.ends q hs) ≡ unpassed_answer q (answer_after frame answer (x.ends q hs))
   heard_by frame hs (sdo q) answer = refl
