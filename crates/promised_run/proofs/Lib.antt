@@ -20,6 +20,7 @@ mod First
 pub mod Frames
 mod Given
 mod LastEpochs
+pub mod Left
 pub mod Maps
 pub mod News
 mod Numbers
