@@ -108,8 +108,4 @@ pub trait Link {
         ensures asks { asked self.new ≡ asked self.old }
         ensures later { link_faults self.old ≤ link_faults self.new }
         ensures cause { Rose (link_faults self.old) (link_faults self.new) };
-
-    /// How many faults it has had.
-    fn faults(&self) -> u64
-        ensures { result ≡ link_faults self.now };
 }

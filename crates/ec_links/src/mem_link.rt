@@ -196,8 +196,4 @@ impl Link for MemLink {
     fn fail(&mut self) {
         self.calls.faults = self.calls.faults.saturating_add(1);
     }
-
-    fn faults(&self) -> u64 {
-        self.calls.faults
-    }
 }

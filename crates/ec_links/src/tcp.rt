@@ -194,8 +194,4 @@ impl<'a, R: Net> Link for TcpLink<'a, R> {
     fn fail(&mut self) {
         self.faults = self.faults.saturating_add(1);
     }
-
-    fn faults(&self) -> u64 {
-        self.faults
-    }
 }

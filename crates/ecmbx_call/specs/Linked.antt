@@ -25,7 +25,8 @@ told_last given sent over faults first link = record {
   faults = faults link;
 }
 
--- WHAT IS PUT TO A LINK, where it tells that and just datagrams stood there before: behind its datagrams nothing, or, where the link failed, the first octets of one more
-abbrev pub PutsWhole : Type 0 → Option (List ℕ) → Option (List ℕ) → Type 0
-PutsWhole faulted None last = Unit {0}
-PutsWhole faulted (Some before) last = behind_of before ≡ [] → (octets : List ℕ) × (last ≡ Some octets) × IsBehind faulted (behind_of octets)
+-- WHAT IS PUT TO A LINK with so many faults, where it tells that and just datagrams stood there before: behind its datagrams nothing, or, where it had a fault, the
+-- first octets of one more
+abbrev pub PutsWhole : ℕ → Option (List ℕ) → Option (List ℕ) → Type 0
+PutsWhole faults None last = Unit {0}
+PutsWhole faults (Some before) last = behind_of before ≡ [] → (octets : List ℕ) × (last ≡ Some octets) × IsBehind faults (behind_of octets)

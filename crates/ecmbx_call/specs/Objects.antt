@@ -43,10 +43,10 @@ LeavesUnder files_tell name book files files' status = LeavesFiles name (files_t
 abbrev pub LeavesIn : {F : Type 0} → FilesTell F → List (List ℕ) → Book → F → F → Status → Type 0
 LeavesIn files_tell words book files files' status = LeavesUnder files_tell (saved_in words) book files files' status
 
--- behind the datagrams put to a link stands nothing, or, where it failed, the first octets of one more; unless memory ran out, and where nothing stood there before
+-- behind the datagrams put to a link stands nothing, or, where it had a fault, the first octets of one more; unless memory ran out, and where nothing stood there before
 abbrev pub PutsNoMore : {L : Type 0} → LinkTells L → L → L → Book → Type 0
 PutsNoMore link_tells first link book =
-    book.ending ≢ endings.NoMemory → PutsWhole (Rose (link_tells.link_faults first) (link_tells.link_faults link)) (link_tells.sent first) (link_tells.sent link)
+    book.ending ≢ endings.NoMemory → PutsWhole (link_tells.link_faults link) (link_tells.sent first) (link_tells.sent link)
 
 -- octets are served over a port
 abbrev pub ServesOctets : {O P : Type 0} → SinkTells O → PortTells P → List ℕ → ℕ → P → P → Book → O → O → Status → Type 0

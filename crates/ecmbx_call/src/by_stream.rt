@@ -68,7 +68,7 @@ fn carry_out<F: Files, O: Sink, L: Link>(
 /// list of words is `Usage`.
 ///
 /// In the clauses the words are those of `serve`. The datagrams heard are the requests in the octets given, those sent are the datagrams in the
-/// octets put, and the faults are the link's. Nothing else is put; where the link failed the first octets of one more may stand behind these.
+/// octets put, and the faults are the link's. Nothing else is put; where the link had a fault the first octets of one more may stand behind these.
 pub fn stream_call<F: Files, O: Sink, L: Link>(
     alloc: Global,
     words: &[String],
@@ -86,7 +86,7 @@ pub fn stream_call<F: Files, O: Sink, L: Link>(
     ensures same { F.table files.new ≡ F.table files.old }
     ensures link { ServesNone (as_serve (words_of words.now)) book.new → result.1 ≡ link }
 
-    // Behind the datagrams put stands nothing; or, where the link failed, the first octets of one more.
+    // Behind the datagrams put stands nothing; or, where the link had a fault, the first octets of one more.
     ensures puts { PutsNoMore L.Link link result.1 book.new }
 {
     carry_out(alloc, words, files, out, link, book)

@@ -54,7 +54,7 @@ pub fn program<F: Files, O: Sink, P: Port, L: Link>(
     ensures port { ServesNone (words_of words.now) book.new → asked_in (words_of words.now) ≡ None → port.new ≡ port.old }
     ensures link { ServesNone (as_serve (words_of words.now)) book.new → result.1 ≡ link }
 
-    // Behind the datagrams put to the link stands nothing; or, where it failed, the first octets of one more.
+    // Behind the datagrams put to the link stands nothing; or, where it had a fault, the first octets of one more.
     ensures puts { PutsNoMore L.Link link result.1 book.new }
 {
     if is_stream(words) {

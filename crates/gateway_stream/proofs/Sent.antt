@@ -60,7 +60,7 @@ told_by : (failed octets behind : List ℕ) → behind_of octets ≡ behind → 
 told_by failed octets behind e is = rw (e, is) refl
 
 -- octets behind which nothing stands
-clean : (failed octets : List ℕ) → behind_of octets ≡ [] → sent_of failed (Some octets) ≡ Some (map sent_as (requests_of octets))
+pub clean : (failed octets : List ℕ) → behind_of octets ≡ [] → sent_of failed (Some octets) ≡ Some (map sent_as (requests_of octets))
 clean failed octets e = told_by failed octets [] e refl
 
 -- where no put failed nothing stands there, or nothing is told
@@ -159,10 +159,10 @@ sends_part sent sent' octets (Err errors.Failed) is cut p = sends_failed sent se
 sends_part sent sent' octets (Err errors.NoMemory) is cut p = absurd cc
 
 -- WHAT STANDS BEHIND what was put
-behind_is : (failed behind : List ℕ) (faulted : Type 0) → (failed ≢ [] → faulted) → is_rest failed behind ≡ true → IsBehind faulted behind
-behind_is failed [] faulted rose is = IsBehind.nothing
-behind_is [] (x ∷ behind) faulted rose is = absurd cc
-behind_is (y ∷ failed) (x ∷ behind) faulted rose is =
+behind_is : (failed behind : List ℕ) (faults : ℕ) → (failed ≢ [] → 1 ≤ faults) → is_rest failed behind ≡ true → IsBehind faults behind
+behind_is failed [] faults rose is = IsBehind.nothing
+behind_is [] (x ∷ behind) faults rose is = absurd cc
+behind_is (y ∷ failed) (x ∷ behind) faults rose is =
     let both : (is_request (y ∷ failed) ≡ true) × (is_front (x ∷ behind) (y ∷ failed) ≡ true) = both_by (is_request (y ∷ failed)) (is_front (x ∷ behind) (y ∷ failed)) is in
     let n : ℕ = length (x ∷ behind) in
     let same : x ∷ behind ≡ take n (y ∷ failed) = (bytes_eq-Decides (x ∷ behind) (take n (y ∷ failed))).0 both.1 in
@@ -174,9 +174,9 @@ behind_is (y ∷ failed) (x ∷ behind) faulted rose is =
     both_by true false e = absurd cc
     both_by false other e = absurd cc
 
-pub rest_is : (failed octets : List ℕ) (grams : List SentGram) (faulted : Type 0) → (failed ≢ [] → faulted) → sent_of failed (Some octets) ≡ Some grams → IsBehind faulted (behind_of octets)
-rest_is failed octets grams faulted rose told =
+pub rest_is : (failed octets : List ℕ) (grams : List SentGram) (faults : ℕ) → (failed ≢ [] → 1 ≤ faults) → sent_of failed (Some octets) ≡ Some grams → IsBehind faults (behind_of octets)
+rest_is failed octets grams faults rose told =
     elim (either (is_rest failed (behind_of octets))) [
-      | inl is ↦ behind_is failed (behind_of octets) faulted rose is
+      | inl is ↦ behind_is failed (behind_of octets) faults rose is
       | inr not ↦ let none : sent_of failed (Some octets) ≡ None = rw not refl in absurd cc
     ]

@@ -29,18 +29,16 @@ abbrev pub sent_of : List ℕ → Option (List ℕ) → Option (List SentGram)
 sent_of failed None = None
 sent_of failed (Some octets) = if is_rest failed (behind_of octets) then sent_in (Some octets) else None
 
--- WHAT STANDS BEHIND THE DATAGRAMS PUT: nothing; or, where the link failed, the first octets of one more
-pub data IsBehind (faulted : Type 0) : List ℕ → Type 0 where
-  nothing : IsBehind faulted []
-  front : (front behind : List ℕ) → faulted → is_request (front ++ behind) ≡ true → IsBehind faulted front
+-- WHAT STANDS BEHIND THE DATAGRAMS PUT to a link with so many faults: nothing; or, where it had one, the first octets of one more
+pub data IsBehind (faults : ℕ) : List ℕ → Type 0 where
+  nothing : IsBehind faults []
+  front : (front behind : List ℕ) → 1 ≤ faults → is_request (front ++ behind) ≡ true → IsBehind faults front
 
--- a port over a link that tells what it sends: its link, the octets of the next request that were given, the datagram whose put failed, and how many faults the link
--- had had before
+-- a port over a link that tells what it sends: its link, the octets of the next request that were given, and the datagram whose put failed
 pub record Whole (L : Type 0) : Type 0 where
   pub link : L
   pub kept : List ℕ
   pub failed : List ℕ
-  pub first : ℕ
 
 -- whether a put failed, so that a part of a datagram may stand last
 abbrev pub has_failed : Result (Unit {0}) PortErr → Bool

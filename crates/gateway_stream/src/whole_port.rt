@@ -17,20 +17,17 @@ pub struct WholePort<L: Link> {
     pub(crate) port: StreamPort<L>,
     // The datagram whose put failed; empty where none did.
     pub(crate) failed: Gram,
-    // How many faults the link had had before.
-    pub(crate) first: u64,
 }
 
 impl<L: Link> Model for WholePort<L> {
     ghost use Rattle.std.specs.Prelude.{◌≢◌, ◌≤◌, []};
-    ghost use Rattle.ec_outside.specs.Faults.{Rose};
     ghost use Rattle.gateway_stream.specs.Sending.{Whole};
 
     ghost Value = { Whole L };
 
-    ghost view = { λ p. record { link = p.port.link; kept = p.port.kept.items; failed = p.failed.items; first = p.first } };
+    ghost view = { λ p. record { link = p.port.link; kept = p.port.kept.items; failed = p.failed.items } };
 
-    ghost invariant = { λ p. (p.first ≤ L.link_faults p.port.link) × (p.failed.items ≢ [] → Rose p.first (L.link_faults p.port.link)) };
+    ghost invariant = { λ p. p.failed.items ≢ [] → 1 ≤ L.link_faults p.port.link };
 }
 
 fn has_failed(sent: &Result<(), PortErr>) -> bool
@@ -40,25 +37,22 @@ fn has_failed(sent: &Result<(), PortErr>) -> bool
 }
 
 impl<L: Link> WholePort<L> {
-    ghost use Rattle.std.specs.Prelude.{◌≢◌};
-    ghost use Rattle.ec_outside.specs.Faults.{Rose};
+    ghost use Rattle.std.specs.Prelude.{◌≢◌, ◌≤◌};
 
     /// The port of a link.
     pub fn new(link: L) -> WholePort<L>
-        ensures { result ≡ record { link = link; kept = []; failed = []; first = L.link_faults link } }
+        ensures { result ≡ record { link = link; kept = []; failed = [] } }
     {
-        let first = link.faults();
         WholePort {
             port: StreamPort::new(link),
             failed: Gram::new(),
-            first,
         }
     }
 
-    /// Gives the link back. Where a put failed, its count of faults has risen since.
+    /// Gives the link back. Where a put failed, it has had a fault.
     pub fn into_link(self) -> L
         ensures link { result ≡ self.link }
-        ensures rose { self.failed ≢ [] → Rose self.first (L.link_faults result) }
+        ensures faulted { self.failed ≢ [] → 1 ≤ L.link_faults result }
     {
         self.port.into_link()
     }
