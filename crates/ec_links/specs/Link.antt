@@ -1,5 +1,7 @@
 use Rattle.std.specs.Prelude.{◌≡◌, ℕ, ◌≤◌, Bool, true, false, not, if◌then◌else◌, nat_lt, List, [], ◌∷◌, ◌++◌, length, take, drop, Option, Result, Ok, Err}
 use Rattle.std.specs.Option.{option_map}
+use Rattle.ec_outside.specs.Calls.{one_more}
+use Rattle.ec_links.specs.declared.link.Asked.{Asked}
 use Rattle.ec_links.specs.declared.link.LinkErr.{LinkErr}
 use Rattle.ec_links.specs.declared.link.LinkErr.TheVariants.{Failed, NoMemory}
 use Rattle.ec_links.specs.declared.link.LinkItem.{LinkItem}
@@ -15,6 +17,15 @@ told_more octets told = option_map (λ earlier. earlier ++ octets) told
 abbrev pub has_ended : Result Piece LinkErr → Bool
 has_ended (Ok pieces.Ended) = true
 has_ended _ = false
+
+-- whether the link answered that there is no octet for now
+abbrev pub is_quiet : Result Piece LinkErr → Bool
+is_quiet (Ok pieces.Quiet) = true
+is_quiet _ = false
+
+-- how the link was asked, behind one call more, where that is told
+abbrev pub asked_more : Result Piece LinkErr → Option Asked → Option Asked
+asked_more result told = option_map (λ asked. record { count = one_more asked.count; quiet = is_quiet result }) told
 
 -- a piece of 1 to so many octets came, and stands behind what the buffer held
 pub record GivesPiece (given given' : Option (List ℕ)) (into into' : List ℕ) (most : ℕ) : Type 0 where

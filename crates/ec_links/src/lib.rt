@@ -6,6 +6,6 @@ mod link;
 mod mem_link;
 mod tcp;
 
-pub use link::{Link, LinkErr, LinkItem, Piece};
+pub use link::{Asked, Link, LinkErr, LinkItem, Piece};
 pub use mem_link::MemLink;
 pub use tcp::TcpLink;

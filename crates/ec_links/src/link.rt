@@ -1,4 +1,5 @@
 ghost use Rattle.std.specs.Prelude.{◌≡◌, ◌≤◌, ◌+◌, ◌||◌, true, length, IsTrue, IfOk};
+ghost use Rattle.ec_outside.specs.Calls.{one_more};
 ghost use Rattle.ec_outside.specs.Faults.{Rose};
 
 use ec_fields::Octets;
@@ -24,6 +25,27 @@ pub enum LinkErr {
     NoMemory,
 }
 
+/// How a link was asked for octets.
+#[derive(Clone, Copy, Debug)]
+pub struct Asked {
+    /// How many calls of `get` were made. It stands still at the greatest `u64`.
+    pub count: u64,
+    /// Whether the last of them answered `Quiet`.
+    pub quiet: bool,
+}
+
+impl Asked {
+    /// The same behind one call more, which answered `Quiet` or not.
+    pub fn more(self, quiet: bool) -> Asked
+        ensures { result ≡ record { count = one_more self.count; quiet = quiet } }
+    {
+        Asked {
+            count: self.count.saturating_add(1),
+            quiet,
+        }
+    }
+}
+
 /// What a link in memory has to give.
 #[derive(Drop)]
 pub enum LinkItem {
@@ -36,17 +58,21 @@ pub enum LinkItem {
 /// A stream of octets in each direction.
 ///
 /// `given` and `sent` are the octets given and put so far, where they are told; `over` says whether
-/// a call has answered that no octet will come any more; `link_faults` counts the faults. It never
-/// falls, and stands still at the greatest `u64`.
+/// a call has answered that no octet will come any more; `asked` is how it was asked for octets,
+/// where that is told; `link_faults` counts the faults. It never falls, and stands still at the
+/// greatest `u64`.
 pub trait Link {
     ghost use Rattle.std.specs.Prelude.{ℕ, Bool, List, Option};
-    ghost use Rattle.ec_links.specs.Link.{Gives, Puts, has_ended};
+    ghost use Rattle.ec_links.specs.Link.{Gives, Puts, has_ended, asked_more};
+    ghost use Rattle.ec_links.specs.declared.link.Asked.{Asked};
 
     ghost given: { Self → Option (List ℕ) };
 
     ghost sent: { Self → Option (List ℕ) };
 
     ghost over: { Self → Bool };
+
+    ghost asked: { Self → Option Asked };
 
     ghost link_faults: { Self → ℕ };
 
@@ -60,6 +86,7 @@ pub trait Link {
         ensures puts { sent self.new ≡ sent self.old }
         ensures ended { over self.new ≡ (has_ended result || over self.old) }
         ensures stays { IsTrue (over self.old) → IfOk result (λ answer. answer ≡ Piece.Ended) }
+        ensures asks { asked self.new ≡ asked_more result (asked self.old) }
         ensures later { link_faults self.old ≤ link_faults self.new }
         ensures cause { result ≡ Err LinkErr.Failed → Rose (link_faults self.old) (link_faults self.new) };
 
@@ -69,6 +96,16 @@ pub trait Link {
         ensures puts { Puts (sent self.old) (sent self.new) bytes.now result }
         ensures gives { given self.new ≡ given self.old }
         ensures ended { over self.new ≡ over self.old }
+        ensures asks { asked self.new ≡ asked self.old }
         ensures later { link_faults self.old ≤ link_faults self.new }
         ensures cause { result ≡ Err LinkErr.Failed → Rose (link_faults self.old) (link_faults self.new) };
+
+    /// Counts a fault that its user found: what was to be put is nothing that it may put.
+    fn fail(&mut self)
+        ensures gives { given self.new ≡ given self.old }
+        ensures puts { sent self.new ≡ sent self.old }
+        ensures ended { over self.new ≡ over self.old }
+        ensures asks { asked self.new ≡ asked self.old }
+        ensures later { link_faults self.old ≤ link_faults self.new }
+        ensures cause { Rose (link_faults self.old) (link_faults self.new) };
 }

@@ -1,9 +1,9 @@
 ghost use Rattle.std.specs.Prelude.{◌≡◌, ◌<◌, ◌≤◌, ◌+◌, ◌++◌, ◌||◌, ◌↔◌, [], true, false, length, take, drop, IsErrOf, IsTrue, IfOk, OnOk, OnErr};
 ghost use Rattle.ec_outside.specs.Faults.{Rose};
 ghost use Rattle.ec_outside.specs.Calls.{made, will_fail};
-ghost use Rattle.ec_links.specs.Link.{Gives, Puts, has_ended, bytes_first, given_at, left_at, is_given, from_piece, piece_first, behind_first};
+ghost use Rattle.ec_links.specs.Link.{Gives, Puts, has_ended, asked_more, bytes_first, given_at, left_at, is_given, from_piece, piece_first, behind_first};
 
-use crate::link::{Link, LinkErr, LinkItem, Piece};
+use crate::link::{Asked, Link, LinkErr, LinkItem, Piece};
 use ec_fields::{Octets, Rows, append};
 use ec_outside::{Calls, Gram};
 use std::alloc::Global;
@@ -18,6 +18,7 @@ pub struct MemLink {
     // How many octets of the next item were given.
     pub(crate) from: usize,
     pub(crate) over: bool,
+    pub(crate) asked: Asked,
     pub(crate) sent: Octets,
     pub(crate) calls: Calls,
     ghost within: { at ≤ length items },
@@ -61,6 +62,7 @@ impl MemLink {
         ensures at { result.at ≡ 0 }
         ensures from { result.from ≡ 0 }
         ensures over { result.over ≡ false }
+        ensures asked { result.asked ≡ record { count = 0; quiet = false } }
         ensures sent { result.sent ≡ [] }
         ensures calls { result.calls ≡ record { failing = failing; count = 0; faults = 0 } }
     {
@@ -69,6 +71,10 @@ impl MemLink {
             at: 0,
             from: 0,
             over: false,
+            asked: Asked {
+                count: 0,
+                quiet: false,
+            },
             sent: Octets::new(alloc),
             calls: Calls::new(failing),
         }
@@ -93,6 +99,7 @@ impl MemLink {
         ensures over { self.new.over ≡ (has_ended (Ok result) || self.old.over) }
         ensures same { self.new.items ≡ self.old.items }
         ensures calls { self.new.calls ≡ self.old.calls }
+        ensures asked { self.new.asked ≡ self.old.asked }
         ensures sent { self.new.sent ≡ self.old.sent }
     {
         if self.at == self.items.len() {
@@ -129,6 +136,8 @@ impl Link for MemLink {
 
     ghost over = { λ l. l.over };
 
+    ghost asked = { λ l. Some l.asked };
+
     ghost link_faults = { λ l. l.calls.faults };
 
     fn get(&mut self, into: &mut Gram, most: usize, wait: bool) -> Result<Piece, LinkErr>
@@ -139,6 +148,7 @@ impl Link for MemLink {
         ensures puts { Some self.new.sent ≡ Some self.old.sent }
         ensures ended { self.new.over ≡ (has_ended result || self.old.over) }
         ensures stays { IsTrue self.old.over → IfOk result (λ answer. answer ≡ Piece.Ended) }
+        ensures asks { Some self.new.asked ≡ asked_more result (Some self.old.asked) }
         ensures failing { IsErrOf result LinkErr.Failed ↔ IsTrue (will_fail self.old.calls) }
         ensures memory { result ≡ Err LinkErr.NoMemory → ⊥ }
         ensures answer { IfOk result (λ answer. answer ≡ piece_first (from_piece wait (left_at self.old.at self.old.from self.old.items))) }
@@ -151,16 +161,20 @@ impl Link for MemLink {
         ensures cause { result ≡ Err LinkErr.Failed → Rose self.old.calls.faults self.new.calls.faults }
     {
         if self.calls.fails() {
+            self.asked = self.asked.more(false);
             return Err(LinkErr::Failed);
         }
         self.at = next_place(self.items.as_slice(), self.at, self.from, wait);
-        Ok(self.give(into, most))
+        let piece = self.give(into, most);
+        self.asked = self.asked.more(matches!(piece, Piece::Quiet));
+        Ok(piece)
     }
 
     fn put(&mut self, bytes: &[u8]) -> Result<(), LinkErr>
         ensures puts { Puts (Some self.old.sent) (Some self.new.sent) bytes.now result }
         ensures gives { Some (given_at self.new.at self.new.from self.new.items) ≡ Some (given_at self.old.at self.old.from self.old.items) }
         ensures ended { self.new.over ≡ self.old.over }
+        ensures asks { Some self.new.asked ≡ Some self.old.asked }
         ensures failing { IsErrOf result LinkErr.Failed ↔ IsTrue (will_fail self.old.calls) }
         ensures none { OnErr result (self.new.sent ≡ self.old.sent) }
         ensures at { self.new.at ≡ self.old.at }
@@ -177,5 +191,9 @@ impl Link for MemLink {
             Ok(()) => Ok(()),
             Err(_) => Err(LinkErr::NoMemory),
         }
+    }
+
+    fn fail(&mut self) {
+        self.calls.faults = self.calls.faults.saturating_add(1);
     }
 }

@@ -170,6 +170,8 @@ impl<'a, R: Net> Link for TcpLink<'a, R> {
 
     ghost over = { λ l. l.over };
 
+    ghost asked = { λ l. None };
+
     ghost link_faults = { λ l. l.faults };
 
     fn get(&mut self, into: &mut Gram, most: usize, wait: bool) -> Result<Piece, LinkErr> {
@@ -187,5 +189,9 @@ impl<'a, R: Net> Link for TcpLink<'a, R> {
     fn put(&mut self, bytes: &[u8]) -> Result<(), LinkErr> {
         let put = self.hand_out(bytes);
         self.counted(put)
+    }
+
+    fn fail(&mut self) {
+        self.faults = self.faults.saturating_add(1);
     }
 }

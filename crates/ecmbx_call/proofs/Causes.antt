@@ -1,9 +1,10 @@
 -- What the course of a call says of each status.
-use Rattle.std.proofs.Common.{◌≡◌, ℕ, ◌<◌, ◌≤◌, ◌⊎◌, List, length, Option, Some, None, true, refl, sym, subst, ap, ◌∙◌, inl, inr, arith}
+use Rattle.std.proofs.Common.{◌≡◌, ◌≢◌, ℕ, ◌<◌, ◌≤◌, ◌⊎◌, List, length, Option, Some, None, true, refl, sym, subst, ap, ◌∙◌, inl, inr, arith}
 use Rattle.ec_outside.specs.Files.{Table, file_of}
 use Rattle.ec_outside.specs.Sink.{Wrote}
 use Rattle.segment_plan.specs.declared.plan.Scenario.{Scenario}
 use Rattle.run_book.specs.declared.book.Book.{Book}
+use Rattle.run_book.specs.declared.book.Ending.{Ending}
 use Rattle.run_book.specs.declared.book.Ending.TheVariants as endings
 use Rattle.ecmbx_words.specs.declared.form.Form.TheVariants as forms
 use Rattle.ecmbx_words.specs.declared.status.Status.{Status}
@@ -13,29 +14,13 @@ use Rattle.ecmbx_words.specs.Ends.{Ended}
 use Rattle.ecmbx_call.specs.Audits.{verdict_status}
 use Rattle.ecmbx_words.specs.Files.{Holds, IsLong, Followed}
 use Rattle.ecmbx_call.specs.Files.{limit}
-use Rattle.ecmbx_call.specs.Course.{Course}
-use Rattle.promised_run.specs.Ran.{EndsAs, IsOver, IsCut}
+use Rattle.ecmbx_call.specs.Course.{Course, status_of}
 use Rattle.promised_run.specs.of_gateway_run.Serving.{Told as PortTold}
-use Rattle.promised_run.specs.of_gateway_run.Served.{IsServed}
-use Rattle.ecmbx_call.specs.Causes.{loaded_in, IsFound, UsageCause, AbsentCause, LongCause, RefusedCause, CameOf, GivenUpCause, LeavesWork, SpentCause, PortCause, IsBroken, BrokenCause, EndingAt, RunsTo, SavesTo, ServesTo, ShowsTo, AuditsTo, MakesTo}
-use Rattle.ecmbx_call.proofs.Told.{Told, told, planned_is, settle_one, settle_two, held, held_long, no_file, no_made, told_usage, told_other, told_absent, told_long, told_refused, told_fault, told_broken, told_ran}
+use Rattle.ecmbx_call.specs.Causes.{loaded_in, IsFound, UsageCause, AbsentCause, LongCause, RefusedCause, CameOf, GivenUpCause, HasDone, DoneCause, IsUnlessFault, SpentCause, PortCause, IsBroken, BrokenCause, EndingAt, RunsTo, SavesTo, ServesTo, ShowsTo, AuditsTo, MakesTo}
+use Rattle.ecmbx_call.proofs.Told.{Told, told, planned_is, settle_one, settle_two, held, held_long, no_file, no_made, told_usage, told_other, told_absent, told_long, told_refused, told_fault, told_broken, told_ran, told_done, told_ended, is_run}
 use Rattle.ecmbx_call.proofs.Found.{found_told, found_refused, found_ran, found_kept, found_served, found_shown, found_audited}
-use Rattle.ecmbx_call.proofs.Endings.{given_ending, spent_ending, told_ending, told_port, told_made}
-
--- a slave was given up, and nothing was left to do
-over_of : (words : List (List ℕ)) (first last : PortTold) (plan : Scenario) (book : Book) (grams : ℕ) → CameOf words first last plan book grams → book.ending ≡ endings.GivenUp → IsOver plan book true
-over_of words first last plan book _ (CameOf.ran did) is = subst (λ e. EndsAs plan book e) is did.ending
-over_of words first last plan book _ (CameOf.served count f did) is = let so : IsServed plan count first last book endings.GivenUp = subst (λ e. IsServed plan count first last book e) is did.served in so.0
-
--- the budget was spent
-cut_of : (words : List (List ℕ)) (first last : PortTold) (plan : Scenario) (book : Book) (grams : ℕ) → CameOf words first last plan book grams → book.ending ≡ endings.BudgetSpent → IsCut plan grams book
-cut_of words first last plan book _ (CameOf.ran did) is = subst (λ e. EndsAs plan book e) is did.ending
-cut_of words first last plan book _ (CameOf.served count f did) is = let so : IsServed plan count first last book endings.BudgetSpent = subst (λ e. IsServed plan count first last book e) is did.served in so.0
-
--- and something was left to do
-work_of : (words : List (List ℕ)) (first last : PortTold) (plan : Scenario) (book : Book) (grams : ℕ) (came : CameOf words first last plan book grams) → book.ending ≡ endings.BudgetSpent → LeavesWork came
-work_of words first last plan book _ (CameOf.ran did) is = did.promise.left is
-work_of words first last plan book _ (CameOf.served count f did) is = did.left is
+use Rattle.ecmbx_call.proofs.Ended.{IsPlanned, came_ended, done_planned, ended_cut, ended_done, ended_given, given_planned, settle_fault, spent_planned}
+use Rattle.ecmbx_call.proofs.Endings.{done_ending, given_ending, spent_ending, told_ending, told_port, told_made}
 
 -- ---- the clauses
 
@@ -126,20 +111,61 @@ module _ (words : List (List ℕ)) (table saved : Option Table) (faulted : Type 
   file_fault_cause (inl memory) is = absurd cc
   file_fault_cause (inr (planned, text, c, ended)) is = told_fault words table saved faulted first last book planned text (seen planned text c) (planned_is statuses.FileFault planned text old new status (λ sink. cc) ended is)
 
-  pub given_up_cause : Followed (Course words table saved faulted first last book) old new status → GivenUpCause words first last book status
-  given_up_cause (inl memory) is = absurd cc
-  given_up_cause (inr (planned, text, c, ended)) is =
-      let mine = planned_is statuses.GivenUp planned text old new status (λ sink. cc) ended is in
-      let did = told_ran words table saved faulted first last book planned text (seen planned text c) endings.GivenUp mine refl in
-      (did.0, did.1, did.2, over_of words first last did.0 book did.1 did.2 (given_ending book.ending (sym did.3 ∙ mine)))
+  -- what a status says of how a run or serving ended, and the other way
+  came_told : (planned : Status) (text : List ℕ) → (wanted : Status) (e : Ending) → wanted ≡ status_of e → is_run (status_of e) ≡ true → Course words table saved faulted first last book planned text → Ended planned text old new status → (wanted ≡ statuses.SinkFault → ⊥) → status ≡ wanted →
+      (plan : Scenario) × (grams : ℕ) × CameOf words table first last plan book grams × (status_of book.ending ≡ wanted)
+  came_told planned text wanted e one own c ended sink is =
+      let mine = planned_is wanted planned text old new status sink ended is in
+      let did = told_ran words table saved faulted first last book planned text (seen planned text c) e (mine ∙ one) own in
+      (did.0, did.1, did.2, sym did.3 ∙ mine)
 
-  pub spent_cause : Followed (Course words table saved faulted first last book) old new status → SpentCause words first last book status
-  spent_cause (inl memory) is = absurd cc
-  spent_cause (inr (planned, text, c, ended)) is =
-      let mine = planned_is statuses.BudgetSpent planned text old new status (λ sink. cc) ended is in
-      let did = told_ran words table saved faulted first last book planned text (seen planned text c) endings.BudgetSpent mine refl in
-      let spent = spent_ending book.ending (sym did.3 ∙ mine) in
-      (did.0, did.1, did.2, cut_of words first last did.0 book did.1 did.2 spent, work_of words first last did.0 book did.1 did.2 spent)
+  -- a planned status where one ended
+  ended_told : (planned : Status) (text : List ℕ) (one : Status) → Course words table saved faulted first last book planned text → Ended planned text old new status → book.ending ≢ endings.Unfinished → (planned ≡ status_of book.ending → IsPlanned one planned) → IsUnlessFault one status
+  ended_told planned text one c ended run by =
+      settle_fault one planned text old new status
+      (elim (told_ended words table saved faulted first last book planned text (seen planned text c) run) [
+        | inl is ↦ by is
+        | inr fault ↦ inr (inl fault)
+      ])
+      ended
+
+  without : (one : Status) → status ≡ statuses.NoMemory → IsUnlessFault one status
+  without one memory = inr (inr (inr (inr (inl memory))))
+
+  pub given_up_cause : Followed (Course words table saved faulted first last book) old new status → GivenUpCause words table first last book status
+  given_up_cause (inl memory) = (λ is. absurd cc, λ plan grams came rests gave. without statuses.GivenUp memory)
+  given_up_cause (inr (planned, text, c, ended)) = (
+    λ is.
+        let did = came_told planned text statuses.GivenUp endings.GivenUp refl refl c ended (λ sink. cc) is in
+        ended_given words table first last did.0 book did.1 did.2 (given_ending book.ending did.3),
+    λ plan grams came rests gave.
+        ended_told planned text statuses.GivenUp c ended (came_ended words table first last plan book grams came) (λ one. given_planned words table first last plan book grams came rests gave planned one),
+  )
+
+  pub spent_cause : Followed (Course words table saved faulted first last book) old new status → SpentCause words table first last book status
+  spent_cause (inl memory) = (λ is. absurd cc, λ plan grams came left. without statuses.BudgetSpent memory)
+  spent_cause (inr (planned, text, c, ended)) = (
+    λ is.
+        let did = came_told planned text statuses.BudgetSpent endings.BudgetSpent refl refl c ended (λ sink. cc) is in
+        ended_cut words table first last did.0 book did.1 did.2 (spent_ending book.ending did.3),
+    λ plan grams came left.
+        ended_told planned text statuses.BudgetSpent c ended (came_ended words table first last plan book grams came) (λ one. spent_planned words table first last plan book grams came left planned one),
+  )
+
+  has_done : (planned : Status) (text : List ℕ) → Course words table saved faulted first last book planned text → planned ≡ statuses.Done → HasDone words table first last book
+  has_done planned text c mine =
+      elim (told_done words table saved faulted first last book planned text (seen planned text c) mine) [
+        | inl done ↦ done
+        | inr did ↦ HasDone.over (ended_done words table first last did.0 book did.1 did.2 (done_ending book.ending (sym did.3 ∙ mine)))
+      ]
+
+  pub done_cause : Followed (Course words table saved faulted first last book) old new status → DoneCause words table first last book status
+  done_cause (inl memory) = (λ is. absurd cc, λ plan grams came rests gave. without statuses.Done memory)
+  done_cause (inr (planned, text, c, ended)) = (
+    λ is. has_done planned text c (planned_is statuses.Done planned text old new status (λ sink. cc) ended is),
+    λ plan grams came rests gave.
+        ended_told planned text statuses.Done c ended (came_ended words table first last plan book grams came) (λ one. done_planned words table first last plan book grams came rests gave planned one),
+  )
 
   pub ending_is : Followed (Course words table saved faulted first last book) old new status → EndingAt status book.ending
   ending_is (inl memory) = subst (λ s. EndingAt s book.ending) (sym memory) tt

@@ -70,12 +70,13 @@ save_unread name before table faulted book octets old new status fresh (inl memo
 save_unread name before table faulted book octets old new status fresh (inr (e, is, ended)) = inr (statuses.Refused, refused_line e, SavedCourse.refused e is fresh, ended)
 
 -- what a run left
-pub has_run : (plan : Scenario) (book : Book) (ending : Ending) → HasFrames plan book → IsPromised plan book → IsBounded plan book → EndsAs plan book ending → book.ending ≡ ending → HasRun plan book
-has_run plan book ending frames promise bounded ends is = record { frames = frames; promise = promise; bounded = bounded; ending = subst (λ e. EndsAs plan book e) (sym is) ends }
+pub has_run : (plan : Scenario) (book : Book) (ending : Ending) → HasFrames plan book → IsPromised plan book → IsBounded plan book → EndsAs plan book ending → book.ending ≡ ending → book.serving ≡ false → book.grams ≡ [] → book.replies ≡ [] → HasRun plan book
+has_run plan book ending frames promise bounded ends is serving unheard unsent =
+    record { frames = frames; promise = promise; bounded = bounded; ending = subst (λ e. EndsAs plan book e) (sym is) ends; serving = serving; unheard = unheard; unsent = unsent }
 
 -- a save that failed ends a run without a text
-pub save_failed : (name : List ℕ) (before table : Option Table) (faulted : Type 0) (plan : Scenario) (book : Book) (octets : List ℕ) (old : Option (List ℕ)) (status : Status) → plan_of octets ≡ Ok plan → HasRun plan book → IsUnsaved faulted status → Followed (SavedCourse name before table faulted book octets) old old status
-save_failed name before table faulted plan book octets old status is ran (inl memory) = inl memory
+pub save_failed : (name : List ℕ) (before table : Option Table) (faulted : Type 0) (plan : Scenario) (book : Book) (octets : List ℕ) (old : Option (List ℕ)) (status : Status) → plan_of octets ≡ Ok plan → HasRun plan book → IsUnsaved name before table faulted status → Followed (SavedCourse name before table faulted book octets) old old status
+save_failed name before table faulted plan book octets old status is ran (inl both) = inl both.0
 save_failed name before table faulted plan book octets old status is ran (inr failed) = inr (statuses.FileFault, [], SavedCourse.unsaved plan is ran failed.1, inl (failed.0, nothing_put old))
 
 -- a run that ended has a row for each slave

@@ -43,6 +43,14 @@ spent_ending endings.BudgetSpent is = refl
 spent_ending endings.PortFault is = absurd cc
 spent_ending endings.NoMemory is = absurd cc
 
+pub done_ending : (e : Ending) → status_of e ≡ statuses.Done → e ≡ endings.Done
+done_ending endings.Unfinished is = absurd cc
+done_ending endings.Done is = refl
+done_ending endings.GivenUp is = absurd cc
+done_ending endings.BudgetSpent is = absurd cc
+done_ending endings.PortFault is = absurd cc
+done_ending endings.NoMemory is = absurd cc
+
 pub port_ending : (e : Ending) → status_of e ≡ statuses.PortFault → e ≡ endings.PortFault
 port_ending endings.Unfinished is = absurd cc
 port_ending endings.Done is = absurd cc

@@ -3,7 +3,9 @@ pub mod Courses
 pub mod Servings
 mod Told
 mod Found
+mod Ended
 mod Endings
+pub mod Kept
 pub mod Causes
 mod Complete
 mod Frames

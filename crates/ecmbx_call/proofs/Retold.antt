@@ -19,7 +19,7 @@ use Rattle.promised_run.specs.of_gateway_run.Serving.{Told}
 use Rattle.promised_run.proofs.of_gateway_run.Waits.{over_later, waited_still}
 use Rattle.gateway_stream.specs.Cutting.{behind_of}
 use Rattle.gateway_stream.specs.Hearing.{heard_in, heard_of, is_broken}
-use Rattle.gateway_stream.specs.Sending.{sent_in, sent_of}
+use Rattle.gateway_stream.specs.Sending.{is_rest, sent_in, sent_of}
 use Rattle.ecmbx_words.specs.declared.status.Status.{Status}
 use Rattle.ecmbx_words.specs.Files.{FileCourse}
 use Rattle.ecmbx_call.specs.Files.{limit}
@@ -109,17 +109,17 @@ heard_retold None given kept grams heard = tt
 heard_retold (Some old) given kept grams heard = told_in given kept (old ++ map as_heard grams) heard
 
 -- the datagrams sent are those in the octets put
-put_in : (cut : Bool) (put : Option (List ℕ)) (sent : List SentGram) → sent_of cut put ≡ Some sent → sent_in put ≡ Some sent
-put_in cut None sent is = absurd cc
-put_in cut (Some octets) sent is =
-    elim (either (cut || bytes_eq (behind_of octets) [])) [
-      | inl whole ↦ let told : sent_of cut (Some octets) ≡ sent_in (Some octets) = rw whole refl in sym told ∙ is
-      | inr other ↦ let none : sent_of cut (Some octets) ≡ None = rw other refl in absurd cc
+put_in : (failed : List ℕ) (put : Option (List ℕ)) (sent : List SentGram) → sent_of failed put ≡ Some sent → sent_in put ≡ Some sent
+put_in failed None sent is = absurd cc
+put_in failed (Some octets) sent is =
+    elim (either (is_rest failed (behind_of octets))) [
+      | inl whole ↦ let told : sent_of failed (Some octets) ≡ sent_in (Some octets) = rw whole refl in sym told ∙ is
+      | inr other ↦ let none : sent_of failed (Some octets) ≡ None = rw other refl in absurd cc
     ]
 
-sent_retold : (first : Option (List SentGram)) (cut : Bool) (put : Option (List ℕ)) (replies : List GramOut) → AreSent first (sent_of cut put) replies → AreSent first (sent_in put) replies
-sent_retold None cut put replies sent = tt
-sent_retold (Some old) cut put replies sent = put_in cut put (old ++ map as_sent replies) sent
+sent_retold : (first : Option (List SentGram)) (failed : List ℕ) (put : Option (List ℕ)) (replies : List GramOut) → AreSent first (sent_of failed put) replies → AreSent first (sent_in put) replies
+sent_retold None failed put replies sent = tt
+sent_retold (Some old) failed put replies sent = put_in failed put (old ++ map as_sent replies) sent
 
 -- the octets kept are those behind the requests
 kept_is : (octets kept : List ℕ) (heard : List HeardGram) → heard_of (Some octets) kept ≡ Some heard → behind_of octets ≡ kept
@@ -138,16 +138,16 @@ over_told (Some old) (Some octets) kept over grams heard is =
     let same : behind_of octets ≡ kept = kept_is octets kept (old ++ map as_heard grams) heard in
     rw same is
 
--- WHAT A LINK TELLS is what a port over it tells, which keeps some octets and has cut its last datagram or not
+-- WHAT A LINK TELLS is what a port over it tells, which keeps some octets and failed to put a datagram or not
 pub link_retold :
-    (given given' put put' : Option (List ℕ)) (over over' ended : Bool) (faults faults' : ℕ) (kept : List ℕ) (cut : Bool)
-    → Retold (record { heard = heard_of given []; sent = sent_of false put; over = ended; faults = faults })
-    (record { heard = heard_of given' kept; sent = sent_of cut put'; over = over' || is_broken kept; faults = faults' })
-    (record { heard = heard_of given []; sent = sent_of false put; over = over; faults = faults })
+    (given given' put put' : Option (List ℕ)) (over over' ended : Bool) (faults faults' : ℕ) (kept failed : List ℕ)
+    → Retold (record { heard = heard_of given []; sent = sent_of [] put; over = ended; faults = faults })
+    (record { heard = heard_of given' kept; sent = sent_of failed put'; over = over' || is_broken kept; faults = faults' })
+    (record { heard = heard_of given []; sent = sent_of [] put; over = over; faults = faults })
     (record { heard = heard_in given'; sent = sent_in put'; over = over' || may_be_broken (heard_of given []) given'; faults = faults' })
-link_retold given given' put put' over over' ended faults faults' kept cut = record {
+link_retold given given' put put' over over' ended faults faults' kept failed = record {
   heard = λ grams heard. heard_retold (heard_of given []) given' kept grams heard;
-  sent = λ replies sent. sent_retold (sent_of false put) cut put' replies sent;
+  sent = λ replies sent. sent_retold (sent_of [] put) failed put' replies sent;
   over = λ grams heard is. over_told (heard_of given []) given' kept over' grams heard is;
   faults = λ rose. rose;
 }

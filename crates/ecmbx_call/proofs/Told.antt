@@ -1,5 +1,5 @@
 -- What a course says of its status, case by case.
-use Rattle.std.proofs.Common.{◌≡◌, ℕ, ◌<◌, ◌≤◌, ◌⊎◌, List, [], ◌∷◌, length, Option, Some, None, Ok, Bool, true, false, refl, sym, subst, ap, ◌∙◌, inl, inr}
+use Rattle.std.proofs.Common.{◌≡◌, ◌≢◌, ℕ, ◌<◌, ◌≤◌, ◌⊎◌, List, [], ◌∷◌, length, Option, Some, None, Ok, Bool, true, false, refl, sym, subst, ap, ◌∙◌, inl, inr}
 use Rattle.ec_outside.specs.Files.{Table, file_of}
 use Rattle.pcap_frames.specs.declared.capture.Capture.{Capture}
 use Rattle.pcap_frames.specs.Reading.{capture_read}
@@ -29,7 +29,7 @@ use Rattle.ecmbx_call.specs.Files.{limit, IsSaved}
 use Rattle.ecmbx_call.specs.Course.{HasRun, status_of, RunCourse, SavedCourse, ViewCourse, Course}
 use Rattle.promised_run.specs.of_gateway_run.Serving.{Told as PortTold}
 use Rattle.ecmbx_call.specs.Serving.{HasServed, ServeCourse}
-use Rattle.ecmbx_call.specs.Causes.{loaded_by, loaded_in, IsRefused, CameOf, IsBroken}
+use Rattle.ecmbx_call.specs.Causes.{loaded_by, loaded_in, IsRefused, IsNamed, CameOf, HasDone, IsBroken}
 
 -- ---- what a planned status says
 
@@ -172,6 +172,24 @@ no_file form file name is said = let none : loaded_by form file ≡ None = rw is
 pub no_made : (form : Form) (file name : List ℕ) (seed size : ℕ) → form ≡ forms.Make seed size → loaded_by form file ≡ Some name → ⊥
 no_made form file name seed size is said = let none : loaded_by form file ≡ None = rw is refl in absurd cc
 
+-- the name that a form loads is the word behind the first
+pub loaded_name : (form : Form) (file name : List ℕ) → loaded_by form file ≡ Some name → file ≡ name
+loaded_name forms.Run file name said = cc
+loaded_name forms.RunSaved file name said = cc
+loaded_name forms.Decode file name said = cc
+loaded_name forms.Audit file name said = cc
+loaded_name (forms.Make seed size) file name said = absurd cc
+loaded_name (forms.Serve count) file name said = cc
+loaded_name forms.Other file name said = absurd cc
+
+-- what stands there
+loaded_held : (words : List (List ℕ)) (table : Option Table) (name octets : List ℕ) → loaded_in words ≡ Some name → Holds table name (Some octets) → Holds table (name_in words) (Some octets)
+loaded_held words table name octets said holds = subst (λ n. Holds table n (Some octets)) (sym (loaded_name (form_in words) (name_in words) name said)) holds
+
+-- the plan of the words' file
+named : (words : List (List ℕ)) (table : Option Table) (plan : Scenario) (name octets : List ℕ) → loaded_in words ≡ Some name → Holds table name (Some octets) → length octets ≤ limit → plan_of octets ≡ Ok plan → IsNamed words table plan
+named words table plan name octets said holds fits read = record { octets = octets; holds = loaded_held words table name octets said holds; fits = fits; writes = read }
+
 module _ (words : List (List ℕ)) (table saved : Option Table) (faulted : Type 0) (first last : PortTold) (book : Book) (planned : Status) (text : List ℕ) where
   pub told_usage : Told words table saved faulted first last book planned text → planned ≡ statuses.Usage → form_in words ≡ forms.Other
   told_usage (Told.usage f fresh is) e = f
@@ -257,9 +275,6 @@ module _ (words : List (List ℕ)) (table saved : Option Table) (faulted : Type 
   told_fault (Told.kept name octets plan f said holds fits read run file is text) e = absurd (ends_not statuses.FileFault planned book.ending refl is e)
   told_fault (Told.served name octets plan count f said holds fits read run is text) e = absurd (ends_not statuses.FileFault planned book.ending refl is e)
 
-  pub audit_name : (form : Form) (file name : List ℕ) → form ≡ forms.Audit → loaded_by form file ≡ Some name → file ≡ name
-  audit_name form file name is said = let own : loaded_by form file ≡ Some file = rw is refl in cc
-
   pub told_broken : Told words table saved faulted first last book planned text → planned ≡ statuses.AuditNo → (form_in words ≡ forms.Audit) × (octets : List ℕ) × Holds table (name_in words) (Some octets) × IsBroken octets
   told_broken (Told.usage f fresh is) e = absurd cc
   told_broken (Told.fault name said rose is) e = absurd cc
@@ -270,13 +285,13 @@ module _ (words : List (List ℕ)) (table saved : Option Table) (faulted : Type 
   told_broken (Told.shown name octets capture f said holds fits read fresh is text) e = absurd cc
   told_broken (Told.passed name octets capture stations f said holds fits read verdict fresh is text) e = absurd cc
   told_broken (Told.failed name octets capture rule packet f said holds fits read verdict fresh is text) e =
-      (f, octets, subst (λ n. Holds table n (Some octets)) (sym (audit_name (form_in words) (name_in words) name f said)) holds, (capture, rule, packet, read, verdict))
+      (f, octets, loaded_held words table name octets said holds, (capture, rule, packet, read, verdict))
   told_broken (Told.ran name octets plan f said holds fits read run is text) e = absurd (ends_not statuses.AuditNo planned book.ending refl is e)
   told_broken (Told.kept name octets plan f said holds fits read run file is text) e = absurd (ends_not statuses.AuditNo planned book.ending refl is e)
   told_broken (Told.served name octets plan count f said holds fits read run is text) e = absurd (ends_not statuses.AuditNo planned book.ending refl is e)
 
   -- a run with its ending
-  pub told_ran : Told words table saved faulted first last book planned text → (e : Ending) → planned ≡ status_of e → is_run (status_of e) ≡ true → (plan : Scenario) × (grams : ℕ) × CameOf words first last plan book grams × (planned ≡ status_of book.ending)
+  pub told_ran : Told words table saved faulted first last book planned text → (e : Ending) → planned ≡ status_of e → is_run (status_of e) ≡ true → (plan : Scenario) × (grams : ℕ) × CameOf words table first last plan book grams × (planned ≡ status_of book.ending)
   told_ran (Told.usage f fresh is) e end own = absurd (run_not statuses.Usage planned e refl is end own)
   told_ran (Told.fault name said rose is) e end own = absurd (run_not statuses.FileFault planned e refl is end own)
   told_ran (Told.absent name said holds fresh is) e end own = absurd (run_not statuses.Absent planned e refl is end own)
@@ -286,6 +301,38 @@ module _ (words : List (List ℕ)) (table saved : Option Table) (faulted : Type 
   told_ran (Told.shown name octets capture f said holds fits read fresh is text) e end own = absurd (run_not statuses.Done planned e refl is end own)
   told_ran (Told.passed name octets capture stations f said holds fits read verdict fresh is text) e end own = absurd (run_not statuses.Done planned e refl is end own)
   told_ran (Told.failed name octets capture rule packet f said holds fits read verdict fresh is text) e end own = absurd (run_not statuses.AuditNo planned e refl is end own)
-  told_ran (Told.ran name octets plan f said holds fits read did is text) e end own = (plan, 0, CameOf.ran did, is)
-  told_ran (Told.kept name octets plan f said holds fits read did file is text) e end own = (plan, 0, CameOf.ran did, is)
-  told_ran (Told.served name octets plan count f said holds fits read did is text) e end own = (plan, count, CameOf.served count f did, is)
+  told_ran (Told.ran name octets plan f said holds fits read did is text) e end own = (plan, 0, CameOf.ran (inl f) (named words table plan name octets said holds fits read) did, is)
+  told_ran (Told.kept name octets plan f said holds fits read did file is text) e end own = (plan, 0, CameOf.ran (inr f) (named words table plan name octets said holds fits read) did, is)
+  told_ran (Told.served name octets plan count f said holds fits read did is text) e end own = (plan, count, CameOf.served count f (named words table plan name octets said holds fits read) did, is)
+
+  -- a call that is done, by its words and file or by its run's ending
+  pub told_done :
+      Told words table saved faulted first last book planned text → planned ≡ statuses.Done
+      → HasDone words table first last book ⊎ ((plan : Scenario) × (grams : ℕ) × CameOf words table first last plan book grams × (planned ≡ status_of book.ending))
+  told_done (Told.usage f fresh is) e = absurd cc
+  told_done (Told.fault name said rose is) e = absurd cc
+  told_done (Told.absent name said holds fresh is) e = absurd cc
+  told_done (Told.long name said big fresh is) e = absurd cc
+  told_done (Told.refused name octets said holds fits refusal fresh is) e = absurd cc
+  told_done (Told.made seed size f fresh is text) e = inl (HasDone.made seed size f)
+  told_done (Told.shown name octets capture f said holds fits read fresh is text) e = inl (HasDone.shown octets capture f (loaded_held words table name octets said holds) read)
+  told_done (Told.passed name octets capture stations f said holds fits read verdict fresh is text) e = inl (HasDone.obeys octets capture stations f (loaded_held words table name octets said holds) read verdict)
+  told_done (Told.failed name octets capture rule packet f said holds fits read verdict fresh is text) e = absurd cc
+  told_done (Told.ran name octets plan f said holds fits read did is text) e = inr (plan, 0, CameOf.ran (inl f) (named words table plan name octets said holds fits read) did, is)
+  told_done (Told.kept name octets plan f said holds fits read did file is text) e = inr (plan, 0, CameOf.ran (inr f) (named words table plan name octets said holds fits read) did, is)
+  told_done (Told.served name octets plan count f said holds fits read did is text) e = inr (plan, count, CameOf.served count f (named words table plan name octets said holds fits read) did, is)
+
+  -- where a run or a serving ended, the planned status is that of its ending, unless the files had a fault
+  pub told_ended : Told words table saved faulted first last book planned text → book.ending ≢ endings.Unfinished → (planned ≡ status_of book.ending) ⊎ (planned ≡ statuses.FileFault)
+  told_ended (Told.usage f fresh is) ended = absurd (ended fresh.ending)
+  told_ended (Told.fault name said rose is) ended = inr is
+  told_ended (Told.absent name said holds fresh is) ended = absurd (ended fresh.ending)
+  told_ended (Told.long name said big fresh is) ended = absurd (ended fresh.ending)
+  told_ended (Told.refused name octets said holds fits refusal fresh is) ended = absurd (ended fresh.ending)
+  told_ended (Told.made seed size f fresh is text) ended = absurd (ended fresh.ending)
+  told_ended (Told.shown name octets capture f said holds fits read fresh is text) ended = absurd (ended fresh.ending)
+  told_ended (Told.passed name octets capture stations f said holds fits read verdict fresh is text) ended = absurd (ended fresh.ending)
+  told_ended (Told.failed name octets capture rule packet f said holds fits read verdict fresh is text) ended = absurd (ended fresh.ending)
+  told_ended (Told.ran name octets plan f said holds fits read did is text) ended = inl is
+  told_ended (Told.kept name octets plan f said holds fits read did file is text) ended = inl is
+  told_ended (Told.served name octets plan count f said holds fits read did is text) ended = inl is

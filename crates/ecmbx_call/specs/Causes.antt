@@ -1,5 +1,5 @@
 -- When each status comes.
-use Rattle.std.specs.Prelude.{◌≡◌, ℕ, ◌<◌, ◌≤◌, ◌⊎◌, List, [], ◌∷◌, length, true, Option, Some, None, Ok, Err}
+use Rattle.std.specs.Prelude.{◌≡◌, ℕ, ◌<◌, ◌≤◌, ◌⊎◌, Bool, true, false, List, [], ◌∷◌, length, Option, Some, None, Ok, Err}
 use Rattle.ec_outside.specs.Faults.{Rose}
 use Rattle.ec_outside.specs.Files.{Table, file_of}
 use Rattle.ec_outside.specs.Sink.{Wrote}
@@ -11,11 +11,15 @@ use Rattle.pcap_frames.specs.Reading.{capture_read}
 use Rattle.segment_plan.specs.declared.plan.Scenario.{Scenario}
 use Rattle.scenario_keys.specs.declared.refusal.Refusal.{Refusal}
 use Rattle.scenario.specs.Document.{plan_of}
+use Rattle.run_book.specs.Book.{IsNew}
 use Rattle.run_book.specs.declared.book.Book.{Book}
 use Rattle.run_book.specs.declared.book.Ending.{Ending}
 use Rattle.run_book.specs.declared.book.Ending.TheVariants as endings
-use Rattle.promised_run.specs.Left.{LeavesSome, ServedLeavesSome}
+use Rattle.promised_run.specs.Left.{LeavesSome, RestAll, ServedLeavesSome}
 use Rattle.promised_run.specs.Ran.{IsOver, IsCut}
+use Rattle.promised_run.specs.Session.{some_given_up}
+use Rattle.promised_run.specs.of_gateway_run.Done.{ServedRestAll}
+use Rattle.promised_run.specs.of_gateway_run.Served.{HasAccount}
 use Rattle.run_report.specs.Report.{report_lines}
 use Rattle.run_report.specs.Saved.{capture_of}
 use Rattle.ecmbx_words.specs.declared.form.Form.{Form}
@@ -24,7 +28,8 @@ use Rattle.ecmbx_words.specs.declared.status.Status.{Status}
 use Rattle.ecmbx_words.specs.declared.status.Status.TheVariants as statuses
 use Rattle.ecmbx_words.specs.Form.{form_in, name_in, saved_in}
 use Rattle.ecmbx_words.specs.Ends.{text_of, Ended, IsAmong}
-use Rattle.capture_audit.specs.declared.verdict.Verdict.TheVariants.{No}
+use Rattle.capture_audit.specs.declared.station.StationAudit.{StationAudit}
+use Rattle.capture_audit.specs.declared.verdict.Verdict.TheVariants.{Yes, No}
 use Rattle.capture_audit.specs.Audit.{verdict_of}
 use Rattle.ecmbx_call.specs.Audits.{verdict_status, verdict_text}
 use Rattle.ecmbx_words.specs.Files.{Holds, IsLong}
@@ -88,29 +93,87 @@ RefusedCause words table status =
     × ((octets : List ℕ) → IsFound words table octets → IsRefused (form_in words) octets
     → IsAmong (statuses.Refused ∷ statuses.FileFault ∷ statuses.SinkFault ∷ statuses.NoMemory ∷ []) status)
 
--- what a plan's run left, which heard no datagrams, or the serving that the words ask for, which hears so many
-pub data CameOf (words : List (List ℕ)) (first last : Told) (plan : Scenario) (book : Book) : ℕ → Type 0 where
-  ran : HasRun plan book → CameOf words first last plan book 0
-  served : (count : ℕ) → form_in words ≡ forms.Serve count → HasServed plan count first last book → CameOf words first last plan book count
+-- words that ask for a run
+abbrev pub IsRunning : List (List ℕ) → Type 0
+IsRunning words = (form_in words ≡ forms.Run) ⊎ (form_in words ≡ forms.RunSaved)
 
--- GivenUp comes only where nothing was left to do and a slave was given up.
-abbrev pub GivenUpCause : List (List ℕ) → Told → Told → Book → Status → Type 0
-GivenUpCause words first last book status =
-    status ≡ statuses.GivenUp → (plan : Scenario) × (grams : ℕ) × CameOf words first last plan book grams × IsOver plan book true
+-- the plan that the octets of the words' file write
+pub record IsNamed (words : List (List ℕ)) (table : Option Table) (plan : Scenario) : Type 0 where
+  pub octets : List ℕ
+  pub holds : Holds table (name_in words) (Some octets)
+  pub fits : length octets ≤ limit
+  pub writes : plan_of octets ≡ Ok plan
 
--- something was left to do, by the lives that its frames lead
-abbrev pub LeavesWork : {words : List (List ℕ)} {first last : Told} {plan : Scenario} {book : Book} {grams : ℕ} → CameOf words first last plan book grams → Type 0
-LeavesWork {plan = plan} {book = book} (CameOf.ran did) = LeavesSome plan book did.promise.led
-LeavesWork {plan = plan} {book = book} (CameOf.served count is did) = ServedLeavesSome plan count book
+-- WHAT CAME OF THE PLAN of the words' file: a run, which heard no datagrams, or a serving, which heard so many at most
+pub data CameOf (words : List (List ℕ)) (table : Option Table) (first last : Told) (plan : Scenario) (book : Book) : ℕ → Type 0 where
+  ran : IsRunning words → IsNamed words table plan → HasRun plan book → CameOf words table first last plan book 0
+  served : (count : ℕ) → form_in words ≡ forms.Serve count → IsNamed words table plan → HasServed plan count first last book → CameOf words table first last plan book count
 
--- BudgetSpent comes only where as many frames were sent as the budget allows, and something was left to do.
-abbrev pub SpentCause : List (List ℕ) → Told → Told → Book → Status → Type 0
-SpentCause words first last book status =
-    status ≡ statuses.BudgetSpent → (plan : Scenario) × (grams : ℕ) × (came : CameOf words first last plan book grams) × IsCut plan grams book × LeavesWork came
+-- nothing was left to do, by the lives that its frames lead
+abbrev pub LeavesNoWork : {words : List (List ℕ)} {table : Option Table} {first last : Told} {plan : Scenario} {book : Book} {grams : ℕ} → CameOf words table first last plan book grams → Type 0
+LeavesNoWork {plan = plan} {book = book} (CameOf.ran runs named did) = RestAll plan did.promise.led.leads book
+LeavesNoWork {plan = plan} {book = book} (CameOf.served count is named did) = (a : HasAccount plan count book book.ending) × ServedRestAll plan a.answers.serving.leading.serves book
+
+-- something was left to do
+abbrev pub LeavesWork : {words : List (List ℕ)} {table : Option Table} {first last : Told} {plan : Scenario} {book : Book} {grams : ℕ} → CameOf words table first last plan book grams → Type 0
+LeavesWork {plan = plan} {book = book} (CameOf.ran runs named did) = LeavesSome plan book did.promise.led
+LeavesWork {plan = plan} {book = book} (CameOf.served count is named did) = ServedLeavesSome plan count book
+
+-- a run or serving ended with nothing left to do, and a slave was given up or none
+pub record EndedWith (some : Bool) (words : List (List ℕ)) (table : Option Table) (first last : Told) (book : Book) : Type 0 where
+  pub plan : Scenario
+  pub grams : ℕ
+  pub came : CameOf words table first last plan book grams
+  pub over : IsOver plan book some
+  pub rests : LeavesNoWork came
+
+-- a status, but for a fault of a file, the sink or the port, and want of memory
+abbrev pub IsUnlessFault : Status → Status → Type 0
+IsUnlessFault one status = IsAmong (one ∷ statuses.FileFault ∷ statuses.SinkFault ∷ statuses.PortFault ∷ statuses.NoMemory ∷ []) status
+
+-- a status comes wherever nothing was left to do and a slave was given up or none, but for a fault
+abbrev pub ComesAt : Bool → Status → List (List ℕ) → Option Table → Told → Told → Book → Status → Type 0
+ComesAt some one words table first last book status =
+    (plan : Scenario) (grams : ℕ) (came : CameOf words table first last plan book grams) → LeavesNoWork came → some_given_up book.slaves ≡ some → IsUnlessFault one status
+
+-- GivenUp comes exactly where nothing was left to do and a slave was given up, but for a fault.
+abbrev pub GivenUpCause : List (List ℕ) → Option Table → Told → Told → Book → Status → Type 0
+GivenUpCause words table first last book status =
+    (status ≡ statuses.GivenUp → EndedWith true words table first last book) × ComesAt true statuses.GivenUp words table first last book status
+
+-- a call that is done as it was to be: a text was made, a capture shown or found to obey the rules, or a run or serving ended with nothing left to do and no slave given up
+pub data HasDone (words : List (List ℕ)) (table : Option Table) (first last : Told) (book : Book) : Type 0 where
+  made : (seed size : ℕ) → form_in words ≡ forms.Make seed size → HasDone words table first last book
+  shown : (octets : List ℕ) (capture : Capture) → form_in words ≡ forms.Decode → Holds table (name_in words) (Some octets) → capture_read octets ≡ Ok capture → HasDone words table first last book
+  obeys : (octets : List ℕ) (capture : Capture) (stations : List StationAudit) → form_in words ≡ forms.Audit → Holds table (name_in words) (Some octets) → capture_read octets ≡ Ok capture → verdict_of octets capture ≡ Yes stations → HasDone words table first last book
+  over : EndedWith false words table first last book → HasDone words table first last book
+
+-- Done comes only so; and of a run or serving wherever nothing was left to do and no slave was given up, but for a fault.
+abbrev pub DoneCause : List (List ℕ) → Option Table → Told → Told → Book → Status → Type 0
+DoneCause words table first last book status =
+    (status ≡ statuses.Done → HasDone words table first last book) × ComesAt false statuses.Done words table first last book status
+
+-- a run or serving ended with as many frames as the budget allows, and something was left to do
+pub record EndedCut (words : List (List ℕ)) (table : Option Table) (first last : Told) (book : Book) : Type 0 where
+  pub plan : Scenario
+  pub grams : ℕ
+  pub came : CameOf words table first last plan book grams
+  pub cut : IsCut plan grams book
+  pub left : LeavesWork came
+
+-- BudgetSpent comes exactly where something was left to do, of as many frames as the budget allows, but for a fault.
+abbrev pub SpentCause : List (List ℕ) → Option Table → Told → Told → Book → Status → Type 0
+SpentCause words table first last book status =
+    (status ≡ statuses.BudgetSpent → EndedCut words table first last book)
+    × ((plan : Scenario) (grams : ℕ) (came : CameOf words table first last plan book grams) → LeavesWork came → IsUnlessFault statuses.BudgetSpent status)
 
 -- words that ask for a serving
 abbrev pub IsServing : List (List ℕ) → Type 0
 IsServing words = (count : ℕ) × (form_in words ≡ forms.Serve count)
+
+-- no serving began
+abbrev pub ServesNone : List (List ℕ) → Book → Type 0
+ServesNone words book = (¬ IsServing words) ⊎ IsNew book
 
 -- PortFault comes only of a serving whose port's count of faults rose.
 abbrev pub PortCause : List (List ℕ) → Told → Told → Status → Type 0

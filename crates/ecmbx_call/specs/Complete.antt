@@ -16,12 +16,8 @@ use Rattle.ecmbx_words.specs.declared.form.Form.TheVariants as forms
 use Rattle.ecmbx_words.specs.declared.status.Status.{Status}
 use Rattle.ecmbx_words.specs.declared.status.Status.TheVariants as statuses
 use Rattle.ecmbx_words.specs.Form.{form_in}
-use Rattle.ecmbx_call.specs.Causes.{IsFound}
+use Rattle.ecmbx_call.specs.Causes.{IsFound, IsRunning}
 use Rattle.ecmbx_call.specs.Serving.{HasServed}
-
--- words that ask for a run
-abbrev pub IsRunning : List (List ℕ) → Type 0
-IsRunning words = (form_in words ≡ forms.Run) ⊎ (form_in words ≡ forms.RunSaved)
 
 -- A RUN THAT IS COMPLETE: all is done, or a slave was given up and nothing is left of those that weren't given up for good; and where no more frames in a row are
 -- lost than the retry limit, all is done

@@ -1,5 +1,5 @@
 -- What a call of the program does, from its words to its status: one case for each row of the table of answers.
-use Rattle.std.specs.Prelude.{◌≡◌, ℕ, ◌≤◌, ◌⊎◌, List, [], map, length, All, String, string_bytes, Option, Some, Ok, Err}
+use Rattle.std.specs.Prelude.{◌≡◌, ℕ, ◌≤◌, ◌⊎◌, false, List, [], map, length, All, String, string_bytes, Option, Some, Ok, Err}
 use Rattle.std.specs.declared.alloc.Global.{Global}
 use Rattle.ec_outside.specs.Faults.{Rose}
 use Rattle.ec_outside.specs.Files.{Table}
@@ -31,19 +31,22 @@ use Rattle.promised_run.specs.of_gateway_run.Serving.{Told}
 use Rattle.ecmbx_call.specs.Audits.{AuditCourse}
 use Rattle.ecmbx_call.specs.Serving.{ServeCourse, Served}
 use Rattle.ecmbx_words.specs.Files.{Holds, FileCourse}
-use Rattle.ecmbx_call.specs.Files.{limit, IsSaved}
+use Rattle.ecmbx_call.specs.Files.{limit, AreKept, IsSaved, OthersKept}
 
 -- the octets of the words
 abbrev pub words_of : List (String Global) → List (List ℕ)
 words_of words = map string_bytes words
 
--- what the run of a plan left in its book: its frames, the promise for each slave, and an ending with its cause; a budget of as many frames as the bound
--- didn't cut it off, and where few frames in a row were lost all is done
+-- what the run of a plan left in its book: its frames, fewer than the bound, the promise for each slave, and an ending with its cause; a budget of as many frames as
+-- the bound didn't cut it off, and where few frames in a row were lost all is done; it is no serving, and no datagram was heard or sent
 pub record HasRun (plan : Scenario) (book : Book) : Type 0 where
   pub frames : HasFrames plan book
   pub promise : IsPromised plan book
   pub bounded : IsBounded plan book
   pub ending : EndsAs plan book book.ending
+  pub serving : book.serving ≡ false
+  pub unheard : book.grams ≡ []
+  pub unsent : book.replies ≡ []
 
 -- a run or serving that can be reported: each slave has its row, and each event is at a port of the switch
 pub record IsReportable (plan : Scenario) (book : Book) : Type 0 where
@@ -81,9 +84,9 @@ pub data Course (words : List (List ℕ)) (table saved : Option Table) (faulted 
 abbrev pub IsUnread : List ℕ → Option (List ℕ) → Option (List ℕ) → Status → Type 0
 IsUnread octets old new status = (status ≡ statuses.NoMemory) ⊎ ((e : Refusal) × (plan_of octets ≡ Err e) × Ended statuses.Refused (refused_line e) old new status)
 
--- a save that failed
-abbrev pub IsUnsaved : Type 0 → Status → Type 0
-IsUnsaved faulted status = (status ≡ statuses.NoMemory) ⊎ ((status ≡ statuses.FileFault) × faulted)
+-- a save that failed: all files are as they were where memory ran out, and by a fault of the files those of other names are
+abbrev pub IsUnsaved : List ℕ → Option Table → Option Table → Type 0 → Status → Type 0
+IsUnsaved name before saved faulted status = ((status ≡ statuses.NoMemory) × AreKept before saved) ⊎ ((status ≡ statuses.FileFault) × faulted × OthersKept name before saved)
 
 -- a run of the plan that octets write, and what it left
 abbrev pub BeganOn : List ℕ → Book → Type 0

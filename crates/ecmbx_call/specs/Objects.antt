@@ -1,23 +1,26 @@
 -- What a call does and promises, by what its files, its sink, and its port or link tell.
-use Rattle.std.specs.Prelude.{◌≡◌, ℕ, List, true, false}
+use Rattle.std.specs.Prelude.{◌≡◌, ◌≢◌, ℕ, List, true, false}
+use Rattle.ec_outside.specs.Faults.{Rose}
 use Rattle.ec_outside.specs.declared.files.Files.{Ghosts as FilesTell}
 use Rattle.ec_outside.specs.declared.sink.Sink.{Ghosts as SinkTells}
 use Rattle.ec_outside.specs.declared.port.Port.{Ghosts as PortTells}
 use Rattle.ec_links.specs.declared.link.Link.{Ghosts as LinkTells}
 use Rattle.segment_plan.specs.declared.plan.Scenario.{Scenario}
 use Rattle.run_book.specs.declared.book.Book.{Book}
+use Rattle.run_book.specs.declared.book.Ending.TheVariants as endings
 use Rattle.promised_run.specs.of_gateway_run.Serving.{Told, told}
 use Rattle.gateway_tool.specs.Told.{told as asked}
 use Rattle.tool_call.specs.Asked.{is_ask}
 use Rattle.ecmbx_words.specs.declared.status.Status.{Status}
-use Rattle.ecmbx_words.specs.Form.{as_serve}
+use Rattle.ecmbx_words.specs.Form.{as_serve, saved_in}
 use Rattle.ecmbx_call.specs.Asks.{Asks}
 use Rattle.ecmbx_call.specs.Calls.{Calls}
 use Rattle.ecmbx_call.specs.Causes.{IsCalm, RunsTo, SavesTo, ServesTo, ShowsTo, AuditsTo}
 use Rattle.ecmbx_call.specs.Complete.{CompletesServing, CompletesTo}
 use Rattle.ecmbx_call.specs.Course.{CarriesOut, Followed}
+use Rattle.ecmbx_call.specs.Files.{LeavesFiles}
 use Rattle.ecmbx_call.specs.First.{is_stream}
-use Rattle.ecmbx_call.specs.Linked.{told_first, told_last}
+use Rattle.ecmbx_call.specs.Linked.{PutsWhole, told_first, told_last}
 use Rattle.ecmbx_call.specs.Serving.{ServeCourse, ServesFile}
 
 -- what this port tells
@@ -31,6 +34,19 @@ first_of tells link = told_first tells.given tells.sent tells.over tells.link_fa
 -- what it tells behind that
 abbrev pub last_of : {L : Type 0} → LinkTells L → L → L → Told
 last_of tells first link = told_last tells.given tells.sent tells.over tells.link_faults first link
+
+-- what a call leaves of the files, which saves under this name if at all
+abbrev pub LeavesUnder : {F : Type 0} → FilesTell F → List ℕ → Book → F → F → Status → Type 0
+LeavesUnder files_tell name book files files' status = LeavesFiles name (files_tell.table files) (files_tell.table files') (Rose (files_tell.file_faults files) (files_tell.file_faults files')) book status
+
+-- what the words do
+abbrev pub LeavesIn : {F : Type 0} → FilesTell F → List (List ℕ) → Book → F → F → Status → Type 0
+LeavesIn files_tell words book files files' status = LeavesUnder files_tell (saved_in words) book files files' status
+
+-- behind the datagrams put to a link stands nothing, or, where it had a fault, the first octets of one more; unless memory ran out, and where nothing stood there before
+abbrev pub PutsNoMore : {L : Type 0} → LinkTells L → L → L → Book → Type 0
+PutsNoMore link_tells first link book =
+    book.ending ≢ endings.NoMemory → PutsWhole (link_tells.link_faults link) (link_tells.sent first) (link_tells.sent link)
 
 -- octets are served over a port
 abbrev pub ServesOctets : {O P : Type 0} → SinkTells O → PortTells P → List ℕ → ℕ → P → P → Book → O → O → Status → Type 0

@@ -5,8 +5,8 @@ ghost use Rattle.ecmbx_words.specs.declared.status.Status.TheVariants as statuse
 ghost use Rattle.ecmbx_words.specs.Form.{as_serve};
 ghost use Rattle.ecmbx_call.specs.Course.{words_of, Began};
 ghost use Rattle.ecmbx_call.specs.Serving.{ServedIn};
-ghost use Rattle.ecmbx_call.specs.Causes.{IsServing};
-ghost use Rattle.ecmbx_call.specs.Objects.{first_of, last_of, ServesOnLink, CarriesOnLink, CallsOnLink};
+ghost use Rattle.ecmbx_call.specs.Causes.{ServesNone};
+ghost use Rattle.ecmbx_call.specs.Objects.{first_of, last_of, PutsNoMore, ServesOnLink, CarriesOnLink, CallsOnLink};
 
 use crate::top::serve_file;
 use ec_links::Link;
@@ -32,6 +32,8 @@ fn stream_file<F: Files, O: Sink, L: Link>(
     ensures sink { result.0 ≡ statuses.SinkFault → Rose (O.sink_faults out.old) (O.sink_faults out.new) }
     ensures book { IsNew book.new ⊎ ServedIn name.now (F.table files.old) count (first_of L.Link link) (last_of L.Link link result.1) book.new }
     ensures same { F.table files.new ≡ F.table files.old }
+    ensures link { IsNew book.new → result.1 ≡ link }
+    ensures puts { PutsNoMore L.Link link result.1 book.new }
 {
     let mut port = WholePort::new(link);
     let status = serve_file(alloc, name, count, files, out, &mut port, book);
@@ -51,7 +53,8 @@ fn carry_out<F: Files, O: Sink, L: Link>(
     ensures sink { result.0 ≡ statuses.SinkFault → Rose (O.sink_faults out.old) (O.sink_faults out.new) }
     ensures book { IsNew book.new ⊎ Began (as_serve (words_of words.now)) (F.table files.old) (first_of L.Link link) (last_of L.Link link result.1) book.new }
     ensures same { F.table files.new ≡ F.table files.old }
-    ensures link { ¬ IsServing (as_serve (words_of words.now)) → result.1 ≡ link }
+    ensures link { ServesNone (as_serve (words_of words.now)) book.new → result.1 ≡ link }
+    ensures puts { PutsNoMore L.Link link result.1 book.new }
 {
     match stream_of(words) {
         Some(count) => stream_file(alloc, words[1].as_str(), count, files, out, link, book),
@@ -65,7 +68,7 @@ fn carry_out<F: Files, O: Sink, L: Link>(
 /// list of words is `Usage`.
 ///
 /// In the clauses the words are those of `serve`. The datagrams heard are the requests in the octets given, those sent are the datagrams in the
-/// octets put, and the faults are the link's; a put that failed may leave a part of the last datagram behind these.
+/// octets put, and the faults are the link's. Nothing else is put; where the link had a fault the first octets of one more may stand behind these.
 pub fn stream_call<F: Files, O: Sink, L: Link>(
     alloc: Global,
     words: &[String],
@@ -79,9 +82,12 @@ pub fn stream_call<F: Files, O: Sink, L: Link>(
     // All that the top call promises, with what the link tells in the place of what a port tells.
     ensures calls { CallsOnLink F.Files O.Sink L.Link (as_serve (words_of words.now)) link result.1 book.new files.old files.new out.old out.new result.0 }
 
-    // No file is changed, and no call but a serving touches the link.
+    // No file is changed, and no call but a serving that began touches the link.
     ensures same { F.table files.new ≡ F.table files.old }
-    ensures link { ¬ IsServing (as_serve (words_of words.now)) → result.1 ≡ link }
+    ensures link { ServesNone (as_serve (words_of words.now)) book.new → result.1 ≡ link }
+
+    // Behind the datagrams put stands nothing; or, where the link had a fault, the first octets of one more.
+    ensures puts { PutsNoMore L.Link link result.1 book.new }
 {
     carry_out(alloc, words, files, out, link, book)
 }

@@ -2,8 +2,8 @@ ghost use Rattle.std.specs.Prelude.{◌≡◌, true, None};
 ghost use Rattle.run_book.specs.Book.{IsNew};
 ghost use Rattle.ecmbx_words.specs.Form.{as_serve};
 ghost use Rattle.ecmbx_call.specs.Course.{words_of};
-ghost use Rattle.ecmbx_call.specs.Causes.{IsServing};
-ghost use Rattle.ecmbx_call.specs.Objects.{StreamsFirst, AsksFirst, CallsElse};
+ghost use Rattle.ecmbx_call.specs.Causes.{ServesNone};
+ghost use Rattle.ecmbx_call.specs.Objects.{PutsNoMore, StreamsFirst, AsksFirst, CallsElse};
 ghost use Rattle.tool_call.specs.Asked.{is_ask, asked_in};
 ghost use Rattle.ecmbx_call.specs.First.{is_stream};
 
@@ -50,9 +50,12 @@ pub fn program<F: Files, O: Sink, P: Port, L: Link>(
     // Else: all that the top call promises.
     ensures calls { CallsElse F.Files O.Sink P.Port (words_of words.now) port.old port.new book.new files.old files.new out.old out.new result.0 }
 
-    // No call but a serving and one that asks touches the port, and none but a stream the link.
-    ensures port { ¬ IsServing (words_of words.now) → asked_in (words_of words.now) ≡ None → port.new ≡ port.old }
-    ensures link { ¬ IsServing (as_serve (words_of words.now)) → result.1 ≡ link }
+    // No call but a serving that began and one that asks touches the port, and none but a stream that began the link.
+    ensures port { ServesNone (words_of words.now) book.new → asked_in (words_of words.now) ≡ None → port.new ≡ port.old }
+    ensures link { ServesNone (as_serve (words_of words.now)) book.new → result.1 ≡ link }
+
+    // Behind the datagrams put to the link stands nothing; or, where it had a fault, the first octets of one more.
+    ensures puts { PutsNoMore L.Link link result.1 book.new }
 {
     if is_stream(words) {
         stream_call(alloc, words, files, out, link, book)

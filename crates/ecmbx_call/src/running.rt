@@ -10,6 +10,7 @@ ghost use Rattle.ecmbx_words.specs.Ends.{text_of, PutAll};
 ghost use Rattle.ecmbx_words.specs.Texts.{refusal_line};
 ghost use Rattle.ecmbx_words.specs.declared.status.Status.TheVariants as statuses;
 ghost use Rattle.ecmbx_call.specs.Files.{IsSaved};
+ghost use Rattle.ecmbx_call.specs.Objects.{LeavesUnder};
 ghost use Rattle.ecmbx_call.specs.Course.{HasRun, IsReportable, status_of, Followed, RunCourse, SavesRun, IsUnread, IsUnsaved, BeganOn};
 
 use ec_fields::{NoMemory, Octets, Rows};
@@ -85,7 +86,7 @@ fn save<F: Files>(
     requires plan { IsPlan plan.now }
     requires ran { HasRun plan.now book.now }
     ensures saved { IfOk result (λ done. IsSaved (F.table files.old) (F.table files.new) name.now (capture_of book.now.frames)) }
-    ensures failed { IfErr result (IsUnsaved (Rose (F.file_faults files.old) (F.file_faults files.new))) }
+    ensures failed { IfErr result (IsUnsaved name.now (F.table files.old) (F.table files.new) (Rose (F.file_faults files.old) (F.file_faults files.new))) }
     ensures later { F.file_faults files.old ≤ F.file_faults files.new }
 {
     let _plan = plan.retry;
@@ -117,7 +118,7 @@ pub fn run_octets<O: Sink>(alloc: Global, octets: Octets, out: &mut O, book: &mu
     tell(alloc, &plan, book, out)
 }
 
-/// The same, and saves the frames as a capture before the report is put. Where that fails nothing is put.
+/// The same, and saves the frames as a capture before the report is put. Where that fails nothing is put, and all files but that stay.
 pub fn run_saved<F: Files, O: Sink>(
     alloc: Global,
     octets: Octets,
@@ -130,6 +131,7 @@ pub fn run_saved<F: Files, O: Sink>(
     ensures course { SavesRun F.table F.file_faults O.written octets name.now book.new files.old files.new out.old out.new result }
     ensures sink { result ≡ statuses.SinkFault → Rose (O.sink_faults out.old) (O.sink_faults out.new) }
     ensures book { IsNew book.new ⊎ BeganOn octets book.new }
+    ensures files { LeavesUnder F.Files name.now book.new files.old files.new result }
     ensures later { F.file_faults files.old ≤ F.file_faults files.new }
 {
     let plan = match plan_in(alloc, octets, out) {

@@ -14,7 +14,7 @@ use run_book::{Book, Ending};
 use std::alloc::Global;
 
 /// Serves the plan that octets write over a port, until so many datagrams were heard or the port ended, and puts the report; or why they
-/// write none. The octets are let go before, as for a run.
+/// write none, and the port stays as it was. The octets are let go before, as for a run.
 pub fn serve_octets<O: Sink, P: Port>(
     alloc: Global,
     octets: Octets,
@@ -28,6 +28,7 @@ pub fn serve_octets<O: Sink, P: Port>(
     ensures course { ServesOctets O.Sink P.Port octets count port.old port.new book.new out.old out.new result }
     ensures sink { result ≡ statuses.SinkFault → Rose (O.sink_faults out.old) (O.sink_faults out.new) }
     ensures book { IsNew book.new ⊎ ServedOn octets count (told_by P.Port port.old) (told_by P.Port port.new) book.new }
+    ensures port { IsNew book.new → port.new ≡ port.old }
 {
     let plan = match plan_in(alloc, octets, out) {
         Ok(plan) => plan,

@@ -6,8 +6,8 @@ ghost use Rattle.ecmbx_words.specs.declared.status.Status.TheVariants as statuse
 ghost use Rattle.ecmbx_words.specs.Form.{form_in};
 ghost use Rattle.ecmbx_call.specs.Course.{words_of, RunsFile, SavesFile, ShowsFile, AuditsFile, Began, BeganIn};
 ghost use Rattle.ecmbx_call.specs.Serving.{ServedIn};
-ghost use Rattle.ecmbx_call.specs.Objects.{told_by, ServesAtPort, CarriesAtPort, RunsFound, SavesFound, RunsWhole, ServesFound, ServesWhole, ShowsFound, AuditsFound};
-ghost use Rattle.ecmbx_call.specs.Causes.{UsageCause, AbsentCause, LongCause, RefusedCause, GivenUpCause, SpentCause, BrokenCause, EndingAt, PortCause, IsCalm, IsServing, MakesTo};
+ghost use Rattle.ecmbx_call.specs.Objects.{told_by, LeavesIn, LeavesUnder, ServesAtPort, CarriesAtPort, RunsFound, SavesFound, RunsWhole, ServesFound, ServesWhole, ShowsFound, AuditsFound};
+ghost use Rattle.ecmbx_call.specs.Causes.{UsageCause, AbsentCause, LongCause, RefusedCause, DoneCause, GivenUpCause, SpentCause, BrokenCause, EndingAt, PortCause, IsCalm, ServesNone, MakesTo};
 
 use crate::making::make;
 use crate::running::{run_octets, run_saved};
@@ -52,6 +52,7 @@ fn run_file_saved<F: Files, O: Sink>(
     ensures course { SavesFile F.table F.file_faults O.written name.now capture.now book.new files.old files.new out.old out.new result }
     ensures sink { result ≡ statuses.SinkFault → Rose (O.sink_faults out.old) (O.sink_faults out.new) }
     ensures book { IsNew book.new ⊎ BeganIn name.now (F.table files.old) book.new }
+    ensures files { LeavesUnder F.Files capture.now book.new files.old files.new result }
 {
     match load(alloc, name, LIMIT, files, out) {
         Ok(octets) => run_saved(alloc, octets, capture, files, out, book),
@@ -60,7 +61,7 @@ fn run_file_saved<F: Files, O: Sink>(
 }
 
 /// Serves the scenario under a name over a port, until so many datagrams were heard or the port ended, and puts the report; or the line of a
-/// file that can't be had or is no scenario. The book has what the serving left; where none began it stays new.
+/// file that can't be had or is no scenario. The book has what the serving left; where none began it stays new, and the port as it was.
 pub fn serve_file<F: Files, O: Sink, P: Port>(
     alloc: Global,
     name: &str,
@@ -76,6 +77,7 @@ pub fn serve_file<F: Files, O: Sink, P: Port>(
     ensures sink { result ≡ statuses.SinkFault → Rose (O.sink_faults out.old) (O.sink_faults out.new) }
     ensures book { IsNew book.new ⊎ ServedIn name.now (F.table files.old) count (told_by P.Port port.old) (told_by P.Port port.new) book.new }
     ensures same { F.table files.new ≡ F.table files.old }
+    ensures port { IsNew book.new → port.new ≡ port.old }
 {
     match load(alloc, name, LIMIT, files, out) {
         Ok(octets) => serve_octets(alloc, octets, count, out, port, book),
@@ -118,7 +120,8 @@ fn carry_out<F: Files, O: Sink, P: Port>(
     ensures sink { result ≡ statuses.SinkFault → Rose (O.sink_faults out.old) (O.sink_faults out.new) }
     ensures book { IsNew book.new ⊎ Began (words_of words.now) (F.table files.old) (told_by P.Port port.old) (told_by P.Port port.new) book.new }
     ensures same { form_in (words_of words.now) ≢ forms.RunSaved → F.table files.new ≡ F.table files.old }
-    ensures port { ¬ IsServing (words_of words.now) → port.new ≡ port.old }
+    ensures files { LeavesIn F.Files (words_of words.now) book.new files.old files.new result }
+    ensures port { ServesNone (words_of words.now) book.new → port.new ≡ port.old }
 {
     match form_of(words) {
         Form::Run => run_file(alloc, words[1].as_str(), files, out, book),
@@ -140,13 +143,14 @@ fn carry_out<F: Files, O: Sink, P: Port>(
     }
 }
 
-/// Does what the words say. `run SCENARIO` loads the scenario, runs it, and puts the report, a `put` a line; with CAPTURE behind, the
-/// frames are saved under that name before. `serve SCENARIO COUNT` serves the segment over the port instead. `decode CAPTURE` puts the decoding text of a capture, `audit CAPTURE` whether it obeys the rules of
+/// Does what the words say. `run SCENARIO` loads the scenario, runs it, and puts the report; with CAPTURE behind, the frames are saved under that name before.
+/// `serve SCENARIO COUNT` serves the segment over the port instead. `decode CAPTURE` puts the decoding text of a capture, `audit CAPTURE` whether it obeys the rules of
 /// the mailboxes, `make SEED SIZE` the text of a scenario. Every other list of words is `Usage`. The book has what the run left; where no run began it stays new.
 ///
 /// `Usage` comes exactly where the words are no form, `Absent` and `TooLong` where the load said so, `Refused` where the octets are no
-/// scenario or no capture, `AuditNo` where a capture that is audited breaks a rule, `GivenUp`, `BudgetSpent` and `PortFault` where the run or serving ended so; `FileFault`,
-/// `SinkFault` and `PortFault` only where that object's count of faults rose. Each yields to `SinkFault`, and all to `NoMemory`.
+/// scenario or no capture, `AuditNo` where a capture that is audited breaks a rule; of a run or a serving of the plan that the words' file writes `GivenUp` where nothing
+/// was left to do and a slave was given up, `BudgetSpent` where something was, of as many frames as the budget allows, and `Done` where nothing was and no slave was
+/// given up. `FileFault`, `SinkFault` and `PortFault` come only where that object's count of faults rose. Each yields to these, and all to `NoMemory`.
 pub fn ecmbx<F: Files, O: Sink, P: Port>(
     alloc: Global,
     words: &[String],
@@ -190,8 +194,9 @@ pub fn ecmbx<F: Files, O: Sink, P: Port>(
     ensures absent { AbsentCause (words_of words.now) (F.table files.old) result }
     ensures too_long { LongCause (words_of words.now) (F.table files.old) result }
     ensures refused { RefusedCause (words_of words.now) (F.table files.old) result }
-    ensures given_up { GivenUpCause (words_of words.now) (told_by P.Port port.old) (told_by P.Port port.new) book.new result }
-    ensures budget_spent { SpentCause (words_of words.now) (told_by P.Port port.old) (told_by P.Port port.new) book.new result }
+    ensures done { DoneCause (words_of words.now) (F.table files.old) (told_by P.Port port.old) (told_by P.Port port.new) book.new result }
+    ensures given_up { GivenUpCause (words_of words.now) (F.table files.old) (told_by P.Port port.old) (told_by P.Port port.new) book.new result }
+    ensures budget_spent { SpentCause (words_of words.now) (F.table files.old) (told_by P.Port port.old) (told_by P.Port port.new) book.new result }
     ensures audit_no { BrokenCause (words_of words.now) (F.table files.old) result }
     ensures file_fault { result ≡ statuses.FileFault → Rose (F.file_faults files.old) (F.file_faults files.new) }
     ensures sink_fault { result ≡ statuses.SinkFault → Rose (O.sink_faults out.old) (O.sink_faults out.new) }
@@ -201,11 +206,13 @@ pub fn ecmbx<F: Files, O: Sink, P: Port>(
     ensures book { IsNew book.new ⊎ Began (words_of words.now) (F.table files.old) (told_by P.Port port.old) (told_by P.Port port.new) book.new }
     ensures ending { EndingAt result book.new.ending }
 
-    // No call but a run with CAPTURE changes a file.
+    // No call but a run with CAPTURE changes a file; and that none but CAPTURE, which it changes only where a run ended, to the capture of its frames, unless the
+    // files had a fault.
     ensures same { form_in (words_of words.now) ≢ forms.RunSaved → F.table files.new ≡ F.table files.old }
+    ensures files { LeavesIn F.Files (words_of words.now) book.new files.old files.new result }
 
-    // No call but a serving touches the port.
-    ensures port { ¬ IsServing (words_of words.now) → port.new ≡ port.old }
+    // No call but a serving that began touches the port.
+    ensures port { ServesNone (words_of words.now) book.new → port.new ≡ port.old }
 {
     carry_out(alloc, words, files, out, port, book)
 }

@@ -1,6 +1,7 @@
 -- What is sent on a stream that goes on.
-use Rattle.std.proofs.Common.{◌≡◌, ◌∙◌, ap, sym, refl, ℕ, ◌+◌, ◌≤◌, inl, inr, Bool, true, false, ◌==◌, ◌&&◌, nat_lt, if◌then◌else◌, List, [], ◌∷◌, ◌++◌, length, map, Option, None, Some, Result, Ok, Err, append-nil, subst, arith}
-use Rattle.std.proofs.lemmas.List.{map-append, length-append}
+use Rattle.std.proofs.Common.{◌≡◌, ◌≢◌, ◌∙◌, ◌⊎◌, ap, sym, refl, ℕ, ◌+◌, ◌≤◌, inl, inr, Bool, true, false, ◌==◌, ◌&&◌, nat_lt, if◌then◌else◌, List, [], ◌∷◌, ◌++◌, length, take, drop, map, Option, None, Some, Result, Ok, Err, append-nil, subst, arith}
+use Rattle.std.proofs.Math.Seq.{take-length}
+use Rattle.std.proofs.lemmas.List.{map-append, length-append, take-append-drop, take-append-le}
 use Rattle.std.proofs.lemmas.Slice.Eq.{bytes_eq-Decides}
 use Rattle.std.specs.Str.{bytes_eq}
 use Rattle.ec_outside.specs.Port.{Sends}
@@ -11,7 +12,7 @@ use Rattle.ec_outside.specs.declared.port.SentGram.{SentGram}
 use Rattle.ec_links.specs.Link.{told_more, PutsPrefix}
 use Rattle.gateway_stream.specs.Cutting.{Cut, is_header, whole_of, is_whole, is_request, cut_off, requests_of, behind_of}
 use Rattle.gateway_stream.specs.Hearing.{PutsBytes}
-use Rattle.gateway_stream.specs.Sending.{sent_as, sent_in, sent_of, has_failed}
+use Rattle.gateway_stream.specs.Sending.{sent_as, sent_in, sent_of, has_failed, is_front, is_rest, IsBehind}
 use Rattle.gateway_stream.proofs.Whole.{either, header_same, Whole, whole_is, is_whole_when}
 use Rattle.gateway_stream.proofs.Cuts.{uncut, followed, Fixed, request_fixed, part_fixed, cut_whole}
 use Rattle.gateway_stream.proofs.Heard.{loopback}
@@ -54,9 +55,18 @@ part_is front behind x one =
 behind_whole : (octets piece : List ℕ) (d : Cut) → behind_of octets ≡ [] → Fixed piece d → cut_off (length (octets ++ piece)) (octets ++ piece) ≡ followed (cut_off (length octets) octets) d
 behind_whole octets piece d e fixed = cut_whole (length octets) (length (octets ++ piece)) octets piece d e fixed (omega arith) (omega arith)
 
+-- what is told, by what stands behind the datagrams
+told_by : (failed octets behind : List ℕ) → behind_of octets ≡ behind → is_rest failed behind ≡ true → sent_of failed (Some octets) ≡ sent_in (Some octets)
+told_by failed octets behind e is = rw (e, is) refl
+
 -- octets behind which nothing stands
-clean : (octets : List ℕ) → behind_of octets ≡ [] → sent_of false (Some octets) ≡ Some (map sent_as (requests_of octets))
-clean octets e = rw ((bytes_eq-Decides (behind_of octets) []).1 e) refl
+pub clean : (failed octets : List ℕ) → behind_of octets ≡ [] → sent_of failed (Some octets) ≡ Some (map sent_as (requests_of octets))
+clean failed octets e = told_by failed octets [] e refl
+
+-- where no put failed nothing stands there, or nothing is told
+whole_or : (octets behind : List ℕ) → behind_of octets ≡ behind → (behind_of octets ≡ []) ⊎ (sent_of [] (Some octets) ≡ None)
+whole_or octets [] e = inl e
+whole_or octets (x ∷ behind) e = inr (rw e refl)
 
 -- a request more, behind whole ones
 one_more : (octets piece : List ℕ) → behind_of octets ≡ [] → One piece → map sent_as (requests_of (octets ++ piece)) ≡ map sent_as (requests_of octets) ++ sent_as piece ∷ []
@@ -73,16 +83,36 @@ part_more : (octets piece : List ℕ) → behind_of octets ≡ [] → is_whole p
 part_more octets piece e n =
     ap (λ (cut : Cut). map sent_as cut.requests) (behind_whole octets piece (uncut piece) e (part_fixed piece n)) ∙ ap (map sent_as) (append-nil (requests_of octets))
 
+-- what stands behind them then
+part_behind : (octets piece : List ℕ) → behind_of octets ≡ [] → is_whole piece ≡ false → behind_of (octets ++ piece) ≡ piece
+part_behind octets piece e n = ap (λ (cut : Cut). cut.behind) (behind_whole octets piece (uncut piece) e (part_fixed piece n))
+
 -- a put that was done
-sends_done : (sent sent' : Option (List ℕ)) (octets : List ℕ) (done : Unit {0}) → One octets → sent' ≡ told_more octets sent → Sends (sent_of false sent) (sent_of false sent') loopback octets (Ok done)
+sends_done : (sent sent' : Option (List ℕ)) (octets : List ℕ) (done : Unit {0}) → One octets → sent' ≡ told_more octets sent → Sends (sent_of [] sent) (sent_of [] sent') loopback octets (Ok done)
 sends_done None sent' octets done one told = tt
 sends_done (Some earlier) sent' octets done one told =
-    elim (either (bytes_eq (behind_of earlier) [])) [
+    elim (whole_or earlier (behind_of earlier) refl) [
       | inr other ↦ rw other tt
-      | inl same ↦
-          let e : behind_of earlier ≡ [] = (bytes_eq-Decides (behind_of earlier) []).0 same in
-          rw (clean earlier e, told) (clean (earlier ++ octets) (clean_more earlier octets e one) ∙ ap Some (one_more earlier octets e one))
+      | inl e ↦ rw (clean [] earlier e, told) (clean [] (earlier ++ octets) (clean_more earlier octets e one) ∙ ap Some (one_more earlier octets e one))
     ]
+
+-- the first octets of others
+front_is : (front behind : List ℕ) → is_front front (front ++ behind) ≡ true
+front_is front behind =
+    (bytes_eq-Decides front (take (length front) (front ++ behind))).1 (sym (take-append-le (length front) front behind (omega arith) ∙ take-length front))
+
+front_rest : (front behind : List ℕ) → is_request (front ++ behind) ≡ true → is_rest (front ++ behind) front ≡ true
+front_rest [] behind is = refl
+front_rest (x ∷ front) behind is = rw (is, front_is (x ∷ front) behind) refl
+
+-- what is told of a part of a datagram, or all of it
+rest_told : (earlier front behind octets : List ℕ) → behind_of earlier ≡ [] → is_request octets ≡ true → octets ≡ front ++ behind → sent_of octets (Some (earlier ++ front)) ≡ sent_in (Some (earlier ++ front))
+rest_told earlier front [] octets e is cut =
+    let all : octets ≡ front = cut ∙ append-nil front in
+    told_by octets (earlier ++ front) [] (ap (λ piece. behind_of (earlier ++ piece)) (sym all) ∙ clean_more earlier octets e (one_is octets is)) refl
+rest_told earlier front (x ∷ behind) octets e is cut =
+    told_by octets (earlier ++ front) front (part_behind earlier front e (part_is front behind x (subst One cut (one_is octets is))))
+    (subst (λ o. is_rest o front ≡ true) (sym cut) (front_rest front (x ∷ behind) (subst (λ o. is_request o ≡ true) cut is)))
 
 -- a part of a datagram, or all of it
 failed_by : (earlier front behind octets : List ℕ) → behind_of earlier ≡ [] → One octets → octets ≡ front ++ behind
@@ -94,24 +124,59 @@ failed_by earlier front (x ∷ behind) octets e one cut =
     inl (ap Some (part_more earlier front e (part_is front behind x (subst One cut one))))
 
 -- a put that failed
-sends_failed : (sent sent' : Option (List ℕ)) (octets : List ℕ) → One octets → PutsPrefix sent sent' octets → Sends (sent_of false sent) (sent_of true sent') loopback octets (Err errors.Failed)
-sends_failed None sent' octets one p = tt
-sends_failed (Some earlier) sent' octets one p =
-    elim (either (bytes_eq (behind_of earlier) [])) [
+sends_failed : (sent sent' : Option (List ℕ)) (octets : List ℕ) → is_request octets ≡ true → PutsPrefix sent sent' octets → Sends (sent_of [] sent) (sent_of octets sent') loopback octets (Err errors.Failed)
+sends_failed None sent' octets is p = tt
+sends_failed (Some earlier) sent' octets is p =
+    elim (whole_or earlier (behind_of earlier) refl) [
       | inr other ↦ rw other tt
-      | inl same ↦
-          let e : behind_of earlier ≡ [] = (bytes_eq-Decides (behind_of earlier) []).0 same in
-          rw (clean earlier e, p.told) (failed_by earlier p.front p.behind octets e one p.cut)
+      | inl e ↦
+          let told : sent_of octets sent' ≡ sent_in (Some (earlier ++ p.front)) = ap (λ put. sent_of octets put) p.told ∙ rest_told earlier p.front p.behind octets e is p.cut in
+          rw (clean [] earlier e, told) (failed_by earlier p.front p.behind octets e (one_is octets is) p.cut)
     ]
 
 -- nothing was put
-pub sends_nothing : (old new : Option (List SentGram)) (to : Peer) (octets : List ℕ) → new ≡ old → Sends old new to octets (Err errors.NoMemory)
-sends_nothing None new to octets same = tt
-sends_nothing (Some old) new to octets same = same
+sends_nothing : (old new : Option (List SentGram)) (octets : List ℕ) → new ≡ old → Sends old new loopback octets (Err errors.NoMemory)
+sends_nothing None new octets same = tt
+sends_nothing (Some old) new octets same = same
 
--- WHAT A PUT SENDS
-pub sends_one : (sent sent' : Option (List ℕ)) (octets : List ℕ) (result : Result (Unit {0}) PortErr) → is_request octets ≡ true → PutsBytes sent sent' octets result
-    → Sends (sent_of false sent) (sent_of (has_failed result) sent') loopback octets result
-sends_one sent sent' octets (Ok done) is p = sends_done sent sent' octets done (one_is octets is) p
-sends_one sent sent' octets (Err errors.Failed) is p = sends_failed sent sent' octets (one_is octets is) p
-sends_one sent sent' octets (Err errors.NoMemory) is p = sends_nothing (sent_of false sent) (sent_of false sent') loopback octets (ap (sent_of false) p)
+-- and nothing was, of a datagram that may not be
+pub sends_none : (old new : Option (List SentGram)) (to : Peer) (octets : List ℕ) → new ≡ old → Sends old new to octets (Err errors.Failed)
+sends_none None new to octets same = tt
+sends_none (Some old) new to octets same = inl same
+
+-- WHAT A PUT SENDS, that didn't fail
+pub sends_one : (sent sent' : Option (List ℕ)) (octets : List ℕ) (result : Result (Unit {0}) PortErr) → is_request octets ≡ true → has_failed result ≡ false → PutsBytes sent sent' octets result
+    → Sends (sent_of [] sent) (sent_of [] sent') loopback octets result
+sends_one sent sent' octets (Ok done) is whole p = sends_done sent sent' octets done (one_is octets is) p
+sends_one sent sent' octets (Err errors.Failed) is whole p = absurd cc
+sends_one sent sent' octets (Err errors.NoMemory) is whole p = sends_nothing (sent_of [] sent) (sent_of [] sent') octets (ap (sent_of []) p)
+
+-- and one that failed
+pub sends_part : (sent sent' : Option (List ℕ)) (octets : List ℕ) (result : Result (Unit {0}) PortErr) → is_request octets ≡ true → has_failed result ≡ true → PutsBytes sent sent' octets result
+    → Sends (sent_of [] sent) (sent_of octets sent') loopback octets result
+sends_part sent sent' octets (Ok done) is cut p = absurd cc
+sends_part sent sent' octets (Err errors.Failed) is cut p = sends_failed sent sent' octets is p
+sends_part sent sent' octets (Err errors.NoMemory) is cut p = absurd cc
+
+-- WHAT STANDS BEHIND what was put
+behind_is : (failed behind : List ℕ) (faults : ℕ) → (failed ≢ [] → 1 ≤ faults) → is_rest failed behind ≡ true → IsBehind faults behind
+behind_is failed [] faults rose is = IsBehind.nothing
+behind_is [] (x ∷ behind) faults rose is = absurd cc
+behind_is (y ∷ failed) (x ∷ behind) faults rose is =
+    let both : (is_request (y ∷ failed) ≡ true) × (is_front (x ∷ behind) (y ∷ failed) ≡ true) = both_by (is_request (y ∷ failed)) (is_front (x ∷ behind) (y ∷ failed)) is in
+    let n : ℕ = length (x ∷ behind) in
+    let same : x ∷ behind ≡ take n (y ∷ failed) = (bytes_eq-Decides (x ∷ behind) (take n (y ∷ failed))).0 both.1 in
+    let all : x ∷ behind ++ drop n (y ∷ failed) ≡ y ∷ failed = ap (λ front. front ++ drop n (y ∷ failed)) same ∙ take-append-drop n (y ∷ failed) in
+    IsBehind.front (x ∷ behind) (drop n (y ∷ failed)) (rose (λ none. absurd cc)) (ap is_request all ∙ both.0)
+  where
+    both_by : (one other : Bool) → (one && other) ≡ true → (one ≡ true) × (other ≡ true)
+    both_by true true e = (refl, refl)
+    both_by true false e = absurd cc
+    both_by false other e = absurd cc
+
+pub rest_is : (failed octets : List ℕ) (grams : List SentGram) (faults : ℕ) → (failed ≢ [] → 1 ≤ faults) → sent_of failed (Some octets) ≡ Some grams → IsBehind faults (behind_of octets)
+rest_is failed octets grams faults rose told =
+    elim (either (is_rest failed (behind_of octets))) [
+      | inl is ↦ behind_is failed (behind_of octets) faults rose is
+      | inr not ↦ let none : sent_of failed (Some octets) ≡ None = rw not refl in absurd cc
+    ]

@@ -2,7 +2,7 @@ ghost use Rattle.std.specs.Prelude.{◌≡◌, ◌<◌, ◌≤◌, ◌||◌, [],
 ghost use Rattle.ec_outside.specs.Faults.{Rose};
 ghost use Rattle.ec_outside.specs.Port.{Hears, IsBlank, Sends, has_ended};
 ghost use Rattle.gateway_stream.specs.Cutting.{is_whole};
-ghost use Rattle.gateway_stream.specs.Hearing.{heard_of, is_broken, answer_of, error_of, PutsBytes};
+ghost use Rattle.gateway_stream.specs.Hearing.{heard_of, is_broken, answer_of, error_of, AsksLink, PutsBytes, TurnsTo};
 
 use crate::cutting::missing;
 use ec_fields::refill;
@@ -15,8 +15,8 @@ pub(crate) const PEER: Peer = Peer {
     port: 0,
 };
 
-/// More pieces than a datagram has octets.
-const PIECES: usize = 2049;
+/// As many pieces as a datagram has octets at most.
+const PIECES: usize = 2048;
 
 /// A port over a link: its datagrams are the requests that stand one behind the other in the
 /// octets that the link gives, in whatever pieces those come. It asks the link for just the octets
@@ -65,7 +65,9 @@ impl<L: Link> StreamPort<L> {
         ensures blank { IsBlank (answer_of result) into.new.items }
         ensures waits { wait ≡ true → result ≡ Some (Ok Heard.Quiet) → ⊥ }
         ensures more { result ≡ None → length self.old.kept.items < length self.new.kept.items }
-        ensures few { result ≡ None → length self.new.kept.items ≤ 2048 }
+        ensures few { result ≡ None → length self.new.kept.items < 2048 }
+        ensures asks { TurnsTo (L.asked self.old.link) (L.asked self.new.link) (is_broken self.old.kept.items) result }
+        ensures unbroken { result ≡ None → is_broken self.new.kept.items ≡ is_broken self.old.kept.items }
         ensures ended { (L.over self.new.link || is_broken self.new.kept.items) ≡ (has_ended (answer_of result) || (L.over self.old.link || is_broken self.old.kept.items)) }
         ensures stays { IsTrue (L.over self.old.link || is_broken self.old.kept.items) → IfSome result (λ one. IfOk one (λ answer. answer ≡ Heard.Ended)) }
         ensures sends { L.sent self.new.link ≡ L.sent self.old.link }
@@ -91,13 +93,14 @@ impl<L: Link> StreamPort<L> {
         }
     }
 
-    // Hears the next request; where it isn't to wait, nothing as soon as the link has none for now.
+    // Hears the next request; where it isn't to wait, nothing exactly where the link has none for now.
     pub(crate) fn hear(&mut self, into: &mut Gram, wait: bool) -> Result<Heard, PortErr>
         ensures hears { Hears (heard_of (L.given self.old.link) self.old.kept.items) (heard_of (L.given self.new.link) self.new.kept.items) into.new.items result }
         ensures blank { IsBlank result into.new.items }
         ensures waits { wait ≡ true → result ≡ Ok Heard.Quiet → ⊥ }
         ensures ended { (L.over self.new.link || is_broken self.new.kept.items) ≡ (has_ended result || (L.over self.old.link || is_broken self.old.kept.items)) }
         ensures stays { IsTrue (L.over self.old.link || is_broken self.old.kept.items) → IfOk result (λ answer. answer ≡ Heard.Ended) }
+        ensures asks { AsksLink (L.asked self.old.link) (L.asked self.new.link) (is_broken self.old.kept.items) result }
         ensures sends { L.sent self.new.link ≡ L.sent self.old.link }
         ensures later { L.link_faults self.old.link ≤ L.link_faults self.new.link }
         ensures cause { result ≡ Err PortErr.Failed → Rose (L.link_faults self.old.link) (L.link_faults self.new.link) }

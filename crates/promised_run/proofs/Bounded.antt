@@ -1,5 +1,5 @@
 -- A run that isn't cut off and gives no slave up ends with all done.
-use Rattle.std.proofs.Common.{◌≡◌, ◌≢◌, ◌≤◌, refl, sym, subst}
+use Rattle.std.proofs.Common.{◌≡◌, ◌≢◌, ◌<◌, ◌≤◌, length, refl, sym, subst, arith}
 use Rattle.promised_run.specs.Bounded.{IsBounded}
 use Rattle.promised_run.proofs.Few.{outlived}
 use Rattle.run_book.specs.declared.book.Book.{Book}
@@ -19,13 +19,20 @@ ends_done plan book endings.NoMemory ends cut given memory = absurd (memory refl
 ends_done plan book endings.PortFault ends cut given memory = absurd ends
 ends_done plan book endings.Unfinished ends cut given memory = absurd ends
 
+-- one within the bound isn't cut off with as large a budget
+not_cut : (plan : Scenario) (book : Book) (ending : Ending) → EndsAs plan book ending → (ending ≢ endings.NoMemory → length book.frames < bound_of plan 0) → bound_of plan 0 ≤ budget_of plan 0 → ending ≢ endings.BudgetSpent
+not_cut plan book endings.BudgetSpent ends fewer enough spent = (let less = fewer (λ memory. cc) in omega (arith, less, enough, ends.spent))
+not_cut plan book ending ends fewer enough spent = absurd cc
+
 -- by the law of the bound, whichever way it ended
-pub bounded : (plan : Scenario) (book : Book) (ending : Ending) → ((e : Ending) → EndsAs plan book e → LedBook plan book e → bound_of plan 0 ≤ budget_of plan 0 → e ≢ endings.BudgetSpent) → HasFrames plan book → EndsAs plan book ending → book.ending ≡ ending → LedBook plan book ending →
+pub bounded : (plan : Scenario) (book : Book) (ending : Ending) → ((e : Ending) → LedBook plan book e → e ≢ endings.NoMemory → length book.frames < bound_of plan 0) → HasFrames plan book → EndsAs plan book ending → book.ending ≡ ending → LedBook plan book ending →
     IsBounded plan book
 bounded plan book ending law frames ends is led =
     let mine : EndsAs plan book book.ending = subst (λ (e : Ending). EndsAs plan book e) (sym is) ends in
     let led : LedBook plan book book.ending = subst (λ (e : Ending). LedBook plan book e) (sym is) led in
+    let fewer = law book.ending led in
     record {
-      uncut = λ enough. law book.ending mine led enough;
-      done = λ enough few memory. ends_done plan book book.ending mine (law book.ending mine led enough) (outlived plan book frames mine led few memory).ending memory;
+      fewer = fewer;
+      uncut = not_cut plan book book.ending mine fewer;
+      done = λ enough few memory. ends_done plan book book.ending mine (not_cut plan book book.ending mine fewer enough) (outlived plan book frames mine led few memory).ending memory;
     }

@@ -15,10 +15,12 @@ mod EagerWalk
 mod Emergencies
 mod Epochs
 pub mod Few
+mod Fewer
 mod First
 pub mod Frames
 mod Given
 mod LastEpochs
+pub mod Left
 pub mod Maps
 pub mod News
 mod Numbers
@@ -37,16 +39,15 @@ pub mod Scripts
 mod SentWhole
 mod ServedBooks
 pub mod ServedBounded
+mod ServedFewer
 mod ServedPorts
 mod ServedReported
-mod ServedUncut
 mod ServedVisits
 pub mod Settled
 pub mod Through
 mod TouredAhead
 pub mod TouredTours
 pub mod Tours
-mod Uncut
 mod Unopened
 pub mod Unpassed
 mod Unsent

@@ -1,5 +1,5 @@
 -- The frames of a book are a run of its plan whose count has a bound.
-use Rattle.std.proofs.Common.{◌≡◌, ◌≢◌, ◌≤◌, ℕ, List, [], ◌∷◌, ◌++◌, map, sym, ap, ◌∙◌, subst}
+use Rattle.std.proofs.Common.{◌≡◌, ◌≢◌, ◌<◌, ℕ, List, [], ◌∷◌, ◌++◌, length, map, ap, ◌∙◌, subst}
 use Rattle.arrayvec.specs.ArrayVec.{ArrayVec}
 use Rattle.promised_run.specs.Runs.{HasRun}
 use Rattle.life_runs.specs.First.{lens_of, first_leads}
@@ -20,7 +20,6 @@ use Rattle.run_frames.specs.Runs.{Progress}
 use Rattle.run_record.specs.Led.{LedBook, RecalledBook, exchanged}
 use Rattle.run_record.specs.Ran.{HasFrames}
 use Rattle.run_record.specs.Replay.{AreRecorded}
-use Rattle.run_record.specs.Session.{budget_of}
 use Rattle.run_work.specs.Bounds.{IsPlanRun}
 use Rattle.segment_plan.specs.Bound.{bound_of}
 use Rattle.segment_plan.specs.declared.plan.Scenario.{Scenario}
@@ -34,28 +33,22 @@ pub all_round : (ring : RingState (Node Serving)) (fs : List SentFrame) → AreR
 all_round ring [] r = tt
 all_round ring (f ∷ fs) r = (record { fate = r.0.fate; back = r.0.back }, all_round (behind ring f.sent) fs r.1)
 
-other : endings.BudgetSpent ≢ endings.NoMemory
-other e = cc
-
 -- what the laws say
-pub record Counts (plan : Scenario) (book : Book) (ending : Ending) (missed : ℕ) (leads : List Leads) : Type 0 where
-  pub bounded : (p : Progress) (cs : List (Clocked Body Asked Reply)) → IsPlanRun plan (map exchanged book.frames) missed leads p cs → bound_of plan 0 ≤ budget_of plan 0 → ending ≢ endings.BudgetSpent
+pub record Counts (plan : Scenario) (book : Book) (missed : ℕ) (leads : List Leads) : Type 0 where
+  pub bounded : (p : Progress) (cs : List (Clocked Body Asked Reply)) → IsPlanRun plan (map exchanged book.frames) missed leads p cs → length book.frames < bound_of plan 0
   pub eager : (fs : List Exchanged) (t : Tour) (s : State) → (toured : IsToured (lens_of plan.slaves) plan.recover plan.retry (first_leads plan) fs t leads) → RecalledIn plan toured s → AllRound (ring_of plan) fs →
       (rest : List (ArrayVec ℕ)) → arrivals_at 0 s.events ++ rest ≡ plan.host → HasRun plan fs t.missed leads
 
 run_is : (plan : Scenario) (fs : List Exchanged) (missed : ℕ) (leads : List Leads) → (r : HasRun plan fs missed leads) → IsPlanRun plan fs missed leads r.progress r.slaves
 run_is plan fs missed leads r = record { again = r.again; toured = r.toured; asks = r.asks; waits = r.waits; enters = r.enters; round = r.round }
 
-never_cut : (plan : Scenario) (book : Book) (ending : Ending) → HasFrames plan book → (led : LedBook plan book ending) → Counts plan book ending led.missed led.leads → bound_of plan 0 ≤ budget_of plan 0 → ending ≢ endings.NoMemory → ending ≢ endings.BudgetSpent
-never_cut plan book ending sent led laws enough memory =
+-- and fewer than the bound
+pub all_fewer : (plan : Scenario) (book : Book) (ending : Ending) → HasFrames plan book → (led : LedBook plan book ending) → Counts plan book led.missed led.leads → ending ≢ endings.NoMemory → length book.frames < bound_of plan 0
+all_fewer plan book ending sent led laws memory =
     let fs = map exchanged book.frames in
     let k : RecalledBook plan book led.missed led.leads = led.recalled memory in
     let packets = led.packets memory in
     let run : HasRun plan fs led.missed led.leads =
     subst (λ (n : ℕ). HasRun plan fs n led.leads) k.missed_is
     (laws.eager fs k.tour k.state k.toured k.recalled (all_round (ring_of plan) book.frames sent.recorded) packets.rest (ap (λ es. arrivals_at 0 es ++ packets.rest) k.events ∙ packets.entered)) in
-    laws.bounded run.progress run.slaves (run_is plan fs led.missed led.leads run) enough
-
--- where memory ran out, it wasn't cut off
-pub uncut : (plan : Scenario) (book : Book) (ending : Ending) → HasFrames plan book → (led : LedBook plan book ending) → Counts plan book ending led.missed led.leads → bound_of plan 0 ≤ budget_of plan 0 → ending ≢ endings.BudgetSpent
-uncut plan book ending sent led laws enough spent = never_cut plan book ending sent led laws enough (λ memory. other (sym spent ∙ memory)) spent
+    laws.bounded run.progress run.slaves (run_is plan fs led.missed led.leads run)

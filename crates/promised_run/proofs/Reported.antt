@@ -259,7 +259,7 @@ module _ {S V A : Type 0} (w : Behind S V A Asked Reply) (spot : Spot) (fs : Lis
         let last = nothing_last es e o in
         let same : eras_scripted gave (es ++ e ∷ []) behind ≡ eras_scripted gave es e.opened =
         eras_more gave es e behind ∙ ap (λ ts. eras_scripted gave es e.opened ++ ts) (unopened_none (opened_anew gave e.opened behind) e (last.1 n)) ∙ append-nil (eras_scripted gave es e.opened) in
-        PastReplies.unopened es behind b e ns (past_replies es e.opened b k last.0 ns (subst (λ ts. AllNoted ts ns) same h))
+        PastReplies.unopened es behind b e ns n (last.1 n) (past_replies es e.opened b k last.0 ns (subst (λ ts. AllNoted ts ns) same h))
     past_replies _ behind _ (AreKept.opened es b e left until k kept) o ns h =
         let anew = opened_anew gave e.opened behind in
         let p = parts (eras_scripted gave es e.opened) (era_scripted anew e) ns (subst (λ ts. AllNoted ts ns) (eras_more gave es e behind) h) in
@@ -270,7 +270,7 @@ module _ {S V A : Type 0} (w : Behind S V A Asked Reply) (spot : Spot) (fs : Lis
     newest_replies : (e : Era Body Asked Reply) (from : A) (n : Node S) → IsNewest w is_followed spot cleared fs e from n → (ns : List Noted) → AllNoted (era_scripted None e) ns → NewestReplies w spot fs e from n ns
     newest_replies e from n (IsNewest.lives kept rests) ns h = NewestReplies.lives ns kept (kept_replies None e from _ _ kept ns h)
     newest_replies e from n (IsNewest.waits state none anew) ns h =
-        subst (λ ms. NewestReplies w spot fs e from n ms) (sym (none_noted ns (subst (λ ts. AllNoted ts ns) (unopened_none None e none) h))) NewestReplies.waits
+        subst (λ ms. NewestReplies w spot fs e from n ms) (sym (none_noted ns (subst (λ ts. AllNoted ts ns) (unopened_none None e none) h))) (NewestReplies.waits none)
     newest_replies e from n (IsNewest.left state to until kept anew) ns h = NewestReplies.left to until ns kept (kept_replies None e from to until kept ns h)
 
     pub life_replies : (l : Life Body Asked Reply) (n : Node S) → IsKeptLife w is_followed spot cleared fs first l n → Opened l → (ns : List Noted) → AllNoted (life_scripted l) ns → LifeReplies w spot fs cleared first l n ns

@@ -29,7 +29,7 @@ use Rattle.run_book.specs.of_master_node.Serving.{run_lead}
 use Rattle.run_book.specs.of_master_node.Wants.{gave_of}
 use Rattle.run_book.specs.of_master_tour.Made.{is_in}
 use Rattle.run_record.specs.Led.{exchanged}
-use Rattle.run_record.specs.Ran.{HasSent, StopsAs}
+use Rattle.run_record.specs.Ran.{HasSent}
 use Rattle.run_record.specs.Replay.{first_ring}
 use Rattle.run_record.specs.Session.{budget_of, some_given_up}
 use Rattle.run_record.specs.of_run_notes.Slaves.{gaves_noted, slave_rows}
@@ -129,8 +129,8 @@ all_done ws came dones os number (g ∷ gs) n d = (one_done ws came dones os num
 -- ---- how it ends
 
 -- the law of the bound, however the serving ended
-abbrev pub UncutLaw : Scenario → ℕ → Book → Type 0
-UncutLaw plan count book = (ending : Ending) → StopsAs plan count book ending → HasAccount plan count book ending → HearsFair book → length book.grams ≤ count → bound_of plan count ≤ budget_of plan count → ending ≢ endings.BudgetSpent
+abbrev pub FewerLaw : Scenario → ℕ → Book → Type 0
+FewerLaw plan count book = (ending : Ending) → HasAccount plan count book ending → HearsFair book → length book.grams ≤ count → length book.frames < bound_of plan count
 
 module _ (plan : Scenario) (count : ℕ) (first last : Told) (book : Book) (sent : HasSent plan count book) where
   -- no slave is given up over its frames
@@ -157,14 +157,19 @@ module _ (plan : Scenario) (count : ℕ) (first last : Told) (book : Book) (sent
   stayed_by few endings.NoMemory s memory = absurd (memory refl)
   stayed_by few endings.Unfinished s memory = absurd s.0
 
-  module _ (law : UncutLaw plan count book) (fair : HearsFair book) (enough : bound_of plan count ≤ budget_of plan count) where
+  module _ (law : FewerLaw plan count book) (fair : HearsFair book) where
+    fewer_by : (ending : Ending) → IsServed plan count first last book ending → ending ≢ endings.NoMemory → length book.frames < bound_of plan count
+    fewer_by endings.Done s memory = law endings.Done s.3 fair s.1.few
+    fewer_by endings.GivenUp s memory = law endings.GivenUp s.3 fair s.1.few
+    fewer_by endings.BudgetSpent s memory = law endings.BudgetSpent s.3 fair s.1.few
+    fewer_by endings.PortFault s memory = law endings.PortFault s.3 fair s.1.few
+    fewer_by endings.NoMemory s memory = absurd (memory refl)
+    fewer_by endings.Unfinished s memory = absurd s.0
+
+  module _ (law : FewerLaw plan count book) (fair : HearsFair book) (enough : bound_of plan count ≤ budget_of plan count) where
     uncut_by : (ending : Ending) → IsServed plan count first last book ending → ending ≢ endings.BudgetSpent
-    uncut_by endings.Done s spent = law endings.Done s.0 s.3 fair s.1.few enough spent
-    uncut_by endings.GivenUp s spent = law endings.GivenUp s.0 s.3 fair s.1.few enough spent
-    uncut_by endings.BudgetSpent s spent = law endings.BudgetSpent s.0 s.3 fair s.1.few enough spent
-    uncut_by endings.PortFault s spent = law endings.PortFault s.0 s.3 fair s.1.few enough spent
-    uncut_by endings.NoMemory s spent = absurd cc
-    uncut_by endings.Unfinished s spent = absurd s.0
+    uncut_by endings.BudgetSpent s spent = (let less = fewer_by law fair endings.BudgetSpent s (λ memory. cc) in let all : length book.frames ≡ budget_of plan count = s.0.spent in omega (arith, less, enough, all))
+    uncut_by ending s spent = absurd cc
 
     done_by : AreFewLost plan.lose plan.retry → (ending : Ending) → IsServed plan count first last book ending → ending ≢ endings.PortFault → ending ≢ endings.NoMemory → ending ≡ endings.Done
     done_by few endings.Done s port memory = refl
@@ -178,10 +183,11 @@ module _ (plan : Scenario) (count : ℕ) (first last : Told) (book : Book) (sent
     done_by few endings.Unfinished s port memory = absurd s.0
 
 -- A SERVING IS NEVER CUT OFF, by the law of the bound
-pub bounded : (plan : Scenario) (count : ℕ) (first last : Told) (book : Book) (ending : Ending) → UncutLaw plan count book → HasSent plan count book → IsServed plan count first last book ending → book.ending ≡ ending → IsServedBounded plan count book
+pub bounded : (plan : Scenario) (count : ℕ) (first last : Told) (book : Book) (ending : Ending) → FewerLaw plan count book → HasSent plan count book → IsServed plan count first last book ending → book.ending ≡ ending → IsServedBounded plan count book
 bounded plan count first last book ending law sent served is =
     let mine : IsServed plan count first last book book.ending = subst (λ (e : Ending). IsServed plan count first last book e) (sym is) served in
     record {
+      fewer = λ fair. fewer_by plan count first last book sent law fair book.ending mine;
       uncut = λ fair enough. uncut_by plan count first last book sent law fair enough book.ending mine;
       stayed = λ few. stayed_by plan count first last book sent few book.ending mine;
       answered = answered plan count first last book sent;

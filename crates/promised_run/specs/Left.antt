@@ -4,7 +4,8 @@ use Rattle.gateway_run.specs.Done.{ServedRestAll}
 use Rattle.gateway_run.specs.Served.{HasAccount}
 use Rattle.run_book.specs.declared.book.Book.{Book}
 use Rattle.run_book.specs.declared.book.Ending.TheVariants as endings
-use Rattle.run_record.specs.Led.{LedBook, RestAll}
+pub use Rattle.run_record.specs.Led.{RestAll}
+use Rattle.run_record.specs.Led.{LedBook}
 use Rattle.segment_plan.specs.declared.plan.Scenario.{Scenario}
 
 -- SOMETHING WAS LEFT TO DO in a run, by the lives that its frames lead to

@@ -89,18 +89,19 @@ module _ {S V A : Type 0} (w : Behind S V A Asked Reply) (spot : Spot) (fs : Lis
   abbrev pub EraReplies : Option ℕ → {e : Era Body Asked Reply} {from to : A} {until : ℕ} → IsKept w is_followed spot fs e from to until → List Noted → Type 0
   EraReplies anew {e} {from} {to} {until} k ns = AreReplies w.exchange w.states (table_of w spot.station) spot.station (era_frames spot k.opened until fs) anew (w.states.told k.state from, 0) e.account.started ns
 
-  -- OF ALL EPOCHS THAT ARE OVER, each from what the one before left, cleared, and with the frame that opened the one behind it; one that was not opened has
-  -- none. The slave was given up at these frames
+  -- OF ALL EPOCHS THAT ARE OVER, each from what the one before left, cleared, and with the frame that opened the one behind it; of one that was not opened nothing
+  -- came into hand. The slave was given up at these frames
   pub data PastReplies (gave : List ℕ) (cleared : A → A) (first : A) : List (Era Body Asked Reply) → Option ℕ → A → List Noted → Type 0 where
     none : (behind : Option ℕ) → PastReplies gave cleared first [] behind first []
-    unopened : (es : List (Era Body Asked Reply)) (behind : Option ℕ) (b : A) (e : Era Body Asked Reply) (ns : List Noted) → PastReplies gave cleared first es e.opened b ns → PastReplies gave cleared first (es ++ e ∷ []) behind (cleared b) ns
+    unopened : (es : List (Era Body Asked Reply)) (behind : Option ℕ) (b : A) (e : Era Body Asked Reply) (ns : List Noted) → e.opened ≡ None → e.account.started ≡ [] → PastReplies gave cleared first es e.opened b ns →
+        PastReplies gave cleared first (es ++ e ∷ []) behind (cleared b) ns
     opened : (es : List (Era Body Asked Reply)) (behind : Option ℕ) (b : A) (e : Era Body Asked Reply) (left : A) (until : ℕ) (ns ms : List Noted) → PastReplies gave cleared first es e.opened b ns → (k : IsKept w is_followed spot fs e b left until) →
         EraReplies (opened_anew gave e.opened behind) k ms → PastReplies gave cleared first (es ++ e ∷ []) behind (cleared left) (ns ++ ms)
 
   -- of the newest: it is open, or nothing began in it, or it is over; nothing is opened behind it yet
   pub data NewestReplies (e : Era Body Asked Reply) (from : A) (n : Node S) : List Noted → Type 0 where
     lives : (ns : List Noted) (k : IsKept w is_followed spot fs e from (app_of w is_followed spot n) (length fs)) → EraReplies None k ns → NewestReplies e from n ns
-    waits : NewestReplies e from n []
+    waits : e.account.started ≡ [] → NewestReplies e from n []
     left : (to : A) (until : ℕ) (ns : List Noted) (k : IsKept w is_followed spot fs e from to until) → EraReplies None k ns → NewestReplies e from n ns
 
   -- OF A WHOLE LIFE

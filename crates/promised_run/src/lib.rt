@@ -14,12 +14,12 @@ pub mod bounded_runs;
 pub mod bounded_servings;
 pub mod eager_runs;
 pub mod eager_servings;
+pub mod fewer_servings;
 pub mod promised_serving;
 pub mod served_books;
 pub mod toured_servings;
-pub mod uncut_servings;
 
-use crate::bounded_runs::uncut_law;
+use crate::bounded_runs::fewer_law;
 use life_runs::epochs_law;
 use plan_ring::plan_dues::plan_due_law;
 use plan_ring::plan_rooms::room_law;
@@ -35,8 +35,8 @@ use std::alloc::Global;
 
 /// Runs a plan that was read, as `run_record` does. Whatever frames are lost, each slave begins just the first services of its script, each once and
 /// in order; it has carried out in each epoch just the first of these and counts just those by mails, and each reply is its application's. Each epoch
-/// opens the AL state that its cause says, and each frame is addressed to the slaves of its visit. A budget of as many frames as the bound never cuts
-/// it off, and where a budget was spent something was left to do; where no more in a row are lost than the retry limit, all is done.
+/// opens the AL state that its cause says, and each frame is addressed to the slaves of its visit. Its frames are fewer than the bound, so a budget of
+/// as many never cuts it off, and where a budget was spent something was left to do; where no more in a row are lost than the retry limit, all is done.
 pub fn run(alloc: Global, plan: &Scenario, book: &mut Book) -> Ending
     requires plan { IsPlan plan.now }
     requires told { IsTold plan.now }
@@ -56,7 +56,7 @@ pub fn run(alloc: Global, plan: &Scenario, book: &mut Book) -> Ending
     epochs_law();
     plan_due_law();
     room_law();
-    uncut_law();
+    fewer_law();
     run_served_law();
     served_replies_law();
     whole_packets_law();

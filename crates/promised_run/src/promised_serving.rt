@@ -20,7 +20,7 @@ ghost use Rattle.promised_run.specs.Through.{IsServedThrough, IsServedWhole};
 ghost use Rattle.promised_run.specs.Visits.{IsServedVisited};
 ghost use Rattle.promised_run.specs.Written.{IsServedWritten};
 
-use crate::uncut_servings::uncut_law;
+use crate::fewer_servings::fewer_law;
 use ec_outside::Port;
 use plan_ring::plan_rooms::room_law;
 use run_book::{Book, Ending};
@@ -68,8 +68,8 @@ use std::alloc::Global;
 /// was given up; else the one whose first bring-up goes on; else the first live ones of a round, and a slave is left out only where the lengths are together
 /// above 1,486.
 ///
-/// A serving of which no datagram asks for a download to 2F01:01 is never cut off by a budget of as many frames as the bound for so many datagrams. Where no
-/// more frames in a row are lost than the retry limit no slave is given up, and such a serving with that budget ends as done, unless its port fails or memory
+/// The frames of a serving of which no datagram asks for a download to 2F01:01 are fewer than the bound for so many datagrams, so a budget of as many never cuts
+/// it off. Where no more frames in a row are lost than the retry limit no slave is given up, and such a serving with that budget ends as done, unless its port fails or memory
 /// runs out.
 pub fn serve<P: Port>(
     alloc: Global,
@@ -111,6 +111,6 @@ pub fn serve<P: Port>(
     opened_law();
     room_law();
     served_due_law();
-    uncut_law();
+    fewer_law();
     gateway_run::serve(alloc, plan, count, port, book)
 }

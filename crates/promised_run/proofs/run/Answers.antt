@@ -14,5 +14,5 @@ pub returns-clause-bounded : goal.returns-clause-bounded
 returns-clause-bounded c =
     let plan = c.args.plan.now in
     bounded plan c.run.new.book c.run.result
-    (λ ending ends led. c.uncut_law.ensures plan c.run.new.book ending c.requires.plan (known plan c.requires.told) (c.room_law.ensures.told plan c.requires.plan c.requires.told) c.run.ensures.frames ends led)
+    (λ ending led memory. c.fewer_law.ensures plan c.run.new.book ending c.requires.plan (known plan c.requires.told) (c.room_law.ensures.told plan c.requires.plan c.requires.told) c.run.ensures.frames led memory)
     c.run.ensures.frames c.run.ensures.ends c.run.ensures.ending c.run.ensures.led

@@ -35,4 +35,4 @@ returns-then-is_ask-clause-asks g c =
 pub returns-else-is_ask-clause-calls : goal.returns-else-is_ask-clause-calls
 returns-else-is_ask-clause-calls g c =
     λ streams asks. calls_of (words_of c.args.words.now) (g.F.Files.table c.args.files.now) (g.F.Files.table c.ecmbx.new.files) (Rose (g.F.Files.file_faults c.args.files.now) (g.F.Files.file_faults c.ecmbx.new.files)) (Rose (g.O.Sink.sink_faults c.args.out.now) (g.O.Sink.sink_faults c.ecmbx.new.out)) (told g.P.Port.heard g.P.Port.sent g.P.Port.over g.P.Port.port_faults c.args.port.now) (told g.P.Port.heard g.P.Port.sent g.P.Port.over g.P.Port.port_faults c.ecmbx.new.port) c.ecmbx.new.book
-    (g.O.Sink.written c.args.out.now) (g.O.Sink.written c.ecmbx.new.out) c.ecmbx.result c.ecmbx.ensures.course c.ecmbx.ensures.sink_fault c.ecmbx.ensures.book c.ecmbx.ensures.same
+    (g.O.Sink.written c.args.out.now) (g.O.Sink.written c.ecmbx.new.out) c.ecmbx.result c.ecmbx.ensures.course c.ecmbx.ensures.sink_fault c.ecmbx.ensures.book c.ecmbx.ensures.same c.ecmbx.ensures.files

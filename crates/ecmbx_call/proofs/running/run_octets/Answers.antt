@@ -13,4 +13,4 @@ pub returns-clause-course : goal.returns-clause-course
 returns-clause-course g c =
     let put = rw c.in-Ok.ensures.quiet at c.tell.ensures.put in
     said (RunCourse c.run.new.book c.args.octets) (status_of c.run.new.book.ending) (text_of (report_lines c.in-Ok.plan c.run.new.book)) (g.O.Sink.written c.args.out.now) (g.O.Sink.written c.tell.new.out) c.tell.result
-    (ran c.in-Ok.plan c.in-Ok.ensures.found (has_run c.in-Ok.plan c.run.new.book c.run.result c.run.ensures.frames c.run.ensures.promise c.run.ensures.bounded c.run.ensures.ends c.run.ensures.ending)) put
+    (ran c.in-Ok.plan c.in-Ok.ensures.found (has_run c.in-Ok.plan c.run.new.book c.run.result c.run.ensures.frames c.run.ensures.promise c.run.ensures.bounded c.run.ensures.ends c.run.ensures.ending c.run.ensures.serving c.run.ensures.unheard c.run.ensures.unsent)) put

@@ -17,10 +17,10 @@ returns-in-Ok-save-clause-course g c =
     let put = rw c.in-Ok.ensures.quiet at c.tell.ensures.put in
     said (SavedCourse c.args.name.now (g.F.Files.table c.args.files.now) (g.F.Files.table c.save.new.files) (Rose (g.F.Files.file_faults c.args.files.now) (g.F.Files.file_faults c.save.new.files)) c.run.new.book c.args.octets) (status_of c.run.new.book.ending)
     (text_of (report_lines c.in-Ok.plan c.run.new.book)) (g.O.Sink.written c.args.out.now) (g.O.Sink.written c.tell.new.out) c.tell.result
-    (ran c.in-Ok.plan c.in-Ok.ensures.found (has_run c.in-Ok.plan c.run.new.book c.run.result c.run.ensures.frames c.run.ensures.promise c.run.ensures.bounded c.run.ensures.ends c.run.ensures.ending) c.in-Ok-save.ensures.saved) put
+    (ran c.in-Ok.plan c.in-Ok.ensures.found (has_run c.in-Ok.plan c.run.new.book c.run.result c.run.ensures.frames c.run.ensures.promise c.run.ensures.bounded c.run.ensures.ends c.run.ensures.ending c.run.ensures.serving c.run.ensures.unheard c.run.ensures.unsent) c.in-Ok-save.ensures.saved) put
 
 pub returns-clause-course : goal.returns-clause-course
 returns-clause-course g c =
     rw (c.in-Ok.ensures.quiet)
     (save_failed c.args.name.now (g.F.Files.table c.args.files.now) (g.F.Files.table c.save.new.files) (Rose (g.F.Files.file_faults c.args.files.now) (g.F.Files.file_faults c.save.new.files)) c.in-Ok.plan c.run.new.book c.args.octets
-    (g.O.Sink.written c.args.out.now) c.in-Err-save.status c.in-Ok.ensures.found (has_run c.in-Ok.plan c.run.new.book c.run.result c.run.ensures.frames c.run.ensures.promise c.run.ensures.bounded c.run.ensures.ends c.run.ensures.ending) c.in-Err-save.ensures.failed)
+    (g.O.Sink.written c.args.out.now) c.in-Err-save.status c.in-Ok.ensures.found (has_run c.in-Ok.plan c.run.new.book c.run.result c.run.ensures.frames c.run.ensures.promise c.run.ensures.bounded c.run.ensures.ends c.run.ensures.ending c.run.ensures.serving c.run.ensures.unheard c.run.ensures.unsent) c.in-Err-save.ensures.failed)

@@ -12,7 +12,7 @@ returns-clause-serving c = λ plan fs again missed ws p cs ls ns is known toured
   round = round;
 }
 
-pub returns-clause-uncut : goal.returns-clause-uncut
-returns-clause-uncut c = λ plan fs missed lost ws p cs count budget is known serving quiet few led es rest at host listed begun enough.
-    c.served_bound.ensures.uncut plan fs missed ws p cs count budget is known serving (all_fair ws quiet)
-    (c.switched_serving_law.ensures plan is known fs lost ws led serving.round quiet es rest at host listed begun) few enough
+pub returns-clause-fewer : goal.returns-clause-fewer
+returns-clause-fewer c = λ plan fs missed lost ws p cs count is known serving quiet few led es rest at host listed begun.
+    c.served_bound.ensures.within plan fs missed ws p cs count is known serving (all_fair ws quiet)
+    (c.switched_serving_law.ensures plan is known fs lost ws led serving.round quiet es rest at host listed begun) few

@@ -29,10 +29,10 @@ pub returns-clause-bounded : goal.returns-clause-bounded
 returns-clause-bounded g c =
     let plan = c.args.plan.now in
     bounded plan c.args.count (told g.P.Port.heard g.P.Port.sent g.P.Port.over g.P.Port.port_faults c.args.port.now) (told g.P.Port.heard g.P.Port.sent g.P.Port.over g.P.Port.port_faults c.serve.new.port) c.serve.new.book c.serve.result
-    (λ ending stops a fair heard enough.
+    (λ ending a fair heard.
     let v = a.answers.serving in
-    c.uncut_law.ensures plan c.args.count c.serve.new.book ending c.requires.plan (known plan c.requires.told) (c.room_law.ensures.told plan c.requires.plan c.requires.told) c.serve.ensures.frames stops a
-    (state_of a.session.master (events_of v.rows) a.session.ring) v.remembers refl fair heard enough)
+    c.fewer_law.ensures plan c.args.count c.serve.new.book ending c.requires.plan (known plan c.requires.told) (c.room_law.ensures.told plan c.requires.plan c.requires.told) c.serve.ensures.frames a
+    (state_of a.session.master (events_of v.rows) a.session.ring) v.remembers refl fair heard)
     c.serve.ensures.frames c.serve.ensures.served c.serve.ensures.ending
 
 pub returns-clause-whole : goal.returns-clause-whole

@@ -2,6 +2,7 @@ use Rattle.std.proofs.Common.{◌≡◌, ◌≤◌, ◌||◌, [], length, Ok}
 use Rattle.ec_outside.specs.Port.{Hears}
 use Rattle.ec_outside.specs.declared.port.Heard.TheVariants.{Quiet}
 use Rattle.gateway_stream.specs.Hearing.{heard_of, is_broken}
+use Rattle.gateway_stream.proofs.Asked.{AskedFew}
 use Rattle.gateway_stream.proofs.stream.StreamPort.hear.Given as goal
 
 abbrev pub invariant-loop : goal.invariant-loop
@@ -12,5 +13,7 @@ invariant-loop g l = record {
   sent : g.L.Link.sent l.self.link ≡ g.L.Link.sent l.fn.self.link;
   later : g.L.Link.link_faults l.fn.self.link ≤ g.L.Link.link_faults l.self.link;
   more : l.counter ≤ length l.self.kept.items;
-  few : l.counter ≤ 2048;
+  few : l.counter ≤ 2047;
+  asked : AskedFew (g.L.Link.asked l.fn.self.link) (g.L.Link.asked l.self.link) l.counter;
+  same : is_broken l.self.kept.items ≡ is_broken l.fn.self.kept.items;
 }

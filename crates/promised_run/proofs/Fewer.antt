@@ -1,5 +1,5 @@
--- A run that was cut off has as many frames as its budget, and one within the bound has fewer.
-use Rattle.std.proofs.Common.{◌≡◌, ◌≢◌, ℕ, ◌++◌, ◌≤◌, All, List, map, length, ◌∙◌}
+-- The frames of a book that are a run of its plan are fewer than the bound.
+use Rattle.std.proofs.Common.{◌≡◌, ◌≢◌, ℕ, ◌++◌, ◌<◌, All, List, map, length, arith}
 use Rattle.std.proofs.lemmas.List.{length-map}
 use Rattle.arrayvec.specs.ArrayVec.{ArrayVec}
 use Rattle.eoe_switch.specs.declared.switching.SwitchEvent.{SwitchEvent}
@@ -19,8 +19,7 @@ use Rattle.run_book.specs.declared.book.Ending.TheVariants as endings
 use Rattle.run_frames.specs.Clocks.{Clocked}
 use Rattle.run_frames.specs.Runs.{Progress}
 use Rattle.run_record.specs.Led.{LedBook, exchanged}
-use Rattle.run_record.specs.Ran.{HasFrames, EndsAs}
-use Rattle.run_record.specs.Session.{budget_of}
+use Rattle.run_record.specs.Ran.{HasFrames}
 use Rattle.run_work.specs.Bounds.{IsPlanRun}
 use Rattle.run_work.specs.Switched.{AreSwitched}
 use Rattle.segment_plan.specs.Bound.{bound_of}
@@ -28,19 +27,15 @@ use Rattle.segment_plan.specs.declared.plan.Scenario.{Scenario}
 
 -- what the laws say
 pub record Laws (plan : Scenario) : Type 0 where
-  pub uncut : (fs : List Exchanged) (missed : ℕ) (leads : List Leads) (p : Progress) (cs : List (Clocked Body Asked Reply)) (budget : ℕ) → IsPlanRun plan fs missed leads p cs → AreSwitched plan leads → bound_of plan 0 ≤ budget → length fs ≢ budget
+  pub fewer : (fs : List Exchanged) (missed : ℕ) (leads : List Leads) (p : Progress) (cs : List (Clocked Body Asked Reply)) → IsPlanRun plan fs missed leads p cs → AreSwitched plan leads → length fs < bound_of plan 0
   pub switched : (fs : List Exchanged) (missed : ℕ) (leads : List Leads) → (led : IsLed (lens_of plan.slaves) plan.recover plan.retry (first_leads plan) fs missed leads) → AllRound (ring_of plan) fs →
       (es : List SwitchEvent) (rest : List (ArrayVec ℕ)) → All (IsAtPort (ports_of plan.slaves)) es → arrivals_at 0 es ++ rest ≡ plan.host →
       Listed (lens_of plan.slaves) plan.recover plan.retry (ports_behind 0 plan.slaves) led es → AreBegun (ports_behind 0 plan.slaves) (ports_of plan.slaves) led es → AreSwitched plan leads
 
-other : endings.BudgetSpent ≢ endings.NoMemory
-other e = cc
-
-pub never_spent : (plan : Scenario) (book : Book) (ending : Ending) → Laws plan → HasFrames plan book → EndsAs plan book ending → (led : LedBook plan book ending) → (p : Progress) (cs : List (Clocked Body Asked Reply)) →
-    IsPlanRun plan (map exchanged book.frames) led.missed led.leads p cs → bound_of plan 0 ≤ budget_of plan 0 → ending ≢ endings.BudgetSpent
-never_spent plan book endings.BudgetSpent laws sent ends led p cs run enough spent =
-    let packets = led.packets other in
+pub fewer : (plan : Scenario) (book : Book) (ending : Ending) → Laws plan → HasFrames plan book → (led : LedBook plan book ending) → (p : Progress) (cs : List (Clocked Body Asked Reply)) →
+    IsPlanRun plan (map exchanged book.frames) led.missed led.leads p cs → ending ≢ endings.NoMemory → length book.frames < bound_of plan 0
+fewer plan book ending laws sent led p cs run memory =
+    let packets = led.packets memory in
     let fs = map exchanged book.frames in
-    let switched = laws.switched fs led.missed led.leads led.lives run.round book.switch packets.rest sent.at_port packets.entered (led.listed other) (led.begun other) in
-    laws.uncut fs led.missed led.leads p cs (budget_of plan 0) run switched enough (length-map book.frames exchanged ∙ ends.spent)
-never_spent plan book ending laws sent ends led p cs run enough spent = absurd (cc)
+    let switched = laws.switched fs led.missed led.leads led.lives run.round book.switch packets.rest sent.at_port packets.entered (led.listed memory) (led.begun memory) in
+    omega (arith, laws.fewer fs led.missed led.leads p cs run switched, length-map book.frames exchanged)

@@ -1,5 +1,5 @@
--- A serving that was cut off has as many frames as its budget, and one within the bound has fewer.
-use Rattle.std.proofs.Common.{◌≡◌, ◌≢◌, ◌≤◌, ◌++◌, ℕ, All, List, drop, take, length, map, ap, ◌∙◌}
+-- The frames of a serving's book are fewer than the bound.
+use Rattle.std.proofs.Common.{◌≡◌, ◌<◌, ◌≤◌, ◌++◌, ℕ, All, List, drop, take, length, map, ap, ◌∙◌, arith}
 use Rattle.std.proofs.lemmas.List.{length-map, take-append-drop}
 use Rattle.arrayvec.specs.ArrayVec.{ArrayVec}
 use Rattle.promised_run.proofs.Recalled.{all_round}
@@ -17,11 +17,9 @@ use Rattle.run_record.specs.of_packets_heard.Servings.{AreServedBegun, ServedLis
 use Rattle.plan_ring.specs.Round.{AllRound, ring_of}
 use Rattle.run_book.specs.declared.book.Book.{Book}
 use Rattle.run_book.specs.declared.book.Ending.{Ending}
-use Rattle.run_book.specs.declared.book.Ending.TheVariants as endings
 use Rattle.run_record.specs.Led.{exchanged}
-use Rattle.run_record.specs.Ran.{HasSent, StopsAs}
+use Rattle.run_record.specs.Ran.{HasSent}
 use Rattle.run_record.specs.Served.{ServeTo, ServedTouredTo}
-use Rattle.run_record.specs.Session.{budget_of}
 use Rattle.run_work.specs.ServedGained.{asked_in}
 use Rattle.segment_plan.specs.Bound.{bound_of}
 use Rattle.segment_plan.specs.declared.plan.Scenario.{Scenario}
@@ -31,15 +29,14 @@ use Rattle.served_runs.specs.Served.{Serves}
 -- what the laws say
 pub record Laws (plan : Scenario) (count : ℕ) : Type 0 where
   pub eager : (fs : List Exchanged) (t : Tour) (ws : List Serves) (s : State) → (toured : ServedTouredTo plan fs t ws) → ServedRecalledIn plan toured s → AllRound (ring_of plan) fs → (rest : List (ArrayVec ℕ)) → arrivals_at 0 s.events ++ rest ≡ plan.host → IsEagerServing plan fs t.missed ws
-  pub uncut : (fs : List Exchanged) (missed lost : ℕ) (ws : List Serves) (budget : ℕ) → IsEagerServing plan fs missed ws → AllRound (ring_of plan) fs → All AsksQuiet ws → asked_in ws ≤ count →
+  pub fewer : (fs : List Exchanged) (missed lost : ℕ) (ws : List Serves) → IsEagerServing plan fs missed ws → AllRound (ring_of plan) fs → All AsksQuiet ws → asked_in ws ≤ count →
       (led : ServeTo plan fs lost ws) (es : List SwitchEvent) (rest : List (ArrayVec ℕ)) → All (IsAtPort (ports_of plan.slaves)) es → arrivals_at 0 es ++ rest ≡ plan.host →
-      ServedListed (ports_behind 0 plan.slaves) led es → AreServedBegun (ports_behind 0 plan.slaves) (ports_of plan.slaves) led es → bound_of plan count ≤ budget → length fs ≢ budget
+      ServedListed (ports_behind 0 plan.slaves) led es → AreServedBegun (ports_behind 0 plan.slaves) (ports_of plan.slaves) led es → length fs < bound_of plan count
 
 module _ (plan : Scenario) (count : ℕ) (book : Book) (laws : Laws plan count) (sent : HasSent plan count book) where
-  -- not with as many frames as the budget
-  fewer : (ending : Ending) (a : HasAccount plan count book ending) (s : State) → ServedRecalledIn plan a.answers.serving.leading.toured s → s.events ≡ events_of a.answers.serving.rows →
-      All AsksQuiet a.answers.serving.leading.serves → asked_in a.answers.serving.leading.serves ≤ count → bound_of plan count ≤ budget_of plan count → length book.frames ≢ budget_of plan count
-  fewer ending a s recalled same quiet few enough spent =
+  pub fewer : (ending : Ending) (a : HasAccount plan count book ending) (s : State) → ServedRecalledIn plan a.answers.serving.leading.toured s → s.events ≡ events_of a.answers.serving.rows →
+      All AsksQuiet a.answers.serving.leading.serves → asked_in a.answers.serving.leading.serves ≤ count → length book.frames < bound_of plan count
+  fewer ending a s recalled same quiet few =
       let v = a.answers.serving in
       let fs = map exchanged book.frames in
       let es = events_of v.rows in
@@ -49,10 +46,5 @@ module _ (plan : Scenario) (count : ℕ) (book : Book) (laws : Laws plan count) 
       let rest = drop l.entered plan.host in
       let host : arrivals_at 0 es ++ rest ≡ plan.host = ap (λ ps. ps ++ rest) (happened.entered ∙ ap (λ ps. take l.entered ps) happened.own) ∙ take-append-drop l.entered plan.host in
       let eager = laws.eager fs (tour_of a.session.master) v.leading.serves s v.leading.toured recalled round rest (ap (λ xs. arrivals_at 0 xs ++ rest) same ∙ host) in
-      laws.uncut fs (tour_of a.session.master).missed v.leading.missed v.leading.serves (budget_of plan count) eager round quiet few v.leading.lives es rest happened.at_port host v.forwarded.listed v.forwarded.begun enough
-      (length-map book.frames exchanged ∙ spent)
-
-  pub never_cut : (ending : Ending) → StopsAs plan count book ending → (a : HasAccount plan count book ending) (s : State) → ServedRecalledIn plan a.answers.serving.leading.toured s → s.events ≡ events_of a.answers.serving.rows →
-      All AsksQuiet a.answers.serving.leading.serves → asked_in a.answers.serving.leading.serves ≤ count → bound_of plan count ≤ budget_of plan count → ending ≢ endings.BudgetSpent
-  never_cut endings.BudgetSpent stops a s recalled same quiet few enough spent = fewer endings.BudgetSpent a s recalled same quiet few enough stops.spent
-  never_cut ending stops a s recalled same quiet few enough spent = absurd (cc)
+      let less = laws.fewer fs (tour_of a.session.master).missed v.leading.missed v.leading.serves eager round quiet few v.leading.lives es rest happened.at_port host v.forwarded.listed v.forwarded.begun in
+      omega (arith, less, length-map book.frames exchanged)
