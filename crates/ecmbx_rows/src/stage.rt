@@ -1,34 +1,29 @@
-use ec_fields::{Octets, Rows};
+use ec_fields::Rows;
 use ec_links::MemLink;
-use ec_outside::{MemFiles, MemPort, MemSink, Peer, PortItem};
-use ecmbx_call::{Book, Status, program};
-use row_table::Row;
+use ec_outside::{Files, MemPort, MemSink};
+use ecmbx_call::{Book, program};
+use row_table::{Page, Row};
 use std::alloc::Global;
+use std::mem;
 
-/// Files and a port in memory, and what the last call put; a put of this number fails in each call.
+/// Files, a port and a link, and what the last call put and left; in each call a put of this number fails.
 #[derive(Drop)]
-pub struct Stage {
-    pub files: MemFiles,
-    pub out: MemSink,
+pub struct Stage<F> {
+    pub files: F,
     pub port: MemPort,
+    pub link: MemLink,
+    pub out: MemSink,
+    pub book: Book,
     failing: Option<u64>,
 }
 
-// The numbers of calls that fail: one or none.
-fn numbers(alloc: Global, number: Option<u64>) -> Rows<u64> {
+/// The numbers of calls that fail: one or none.
+pub fn numbers(alloc: Global, number: Option<u64>) -> Rows<u64> {
     let mut rows = Rows::new(alloc);
     if let Some(number) = number {
         let _ = rows.push(number);
     }
     rows
-}
-
-/// The number of a call that fails, or `-`.
-pub fn failing_in(row: &mut Row<'_>) -> Option<u64> {
-    let word = row.word();
-    let number = word.parse::<u64>().ok();
-    row.check(number.is_some() || word == "-");
-    number
 }
 
 // The words that are left, 16 at most.
@@ -47,93 +42,50 @@ fn words_in(row: &mut Row<'_>) -> Vec<String> {
     words
 }
 
-// A datagram of a peer.
-fn gram_in(row: &mut Row<'_>) -> PortItem {
-    let from = Peer {
-        ip: 0x7F00_0001,
-        port: row.short(),
-    };
-    PortItem::Gram {
-        from,
-        bytes: row.octets(),
-    }
+// A link that gives nothing.
+fn no_link(alloc: Global) -> MemLink {
+    MemLink::new(alloc, Rows::new(alloc), Rows::new(alloc))
 }
 
-// Datagrams of peers, 64 at most.
-fn grams_in(row: &mut Row<'_>) -> Rows<PortItem> {
-    let mut items = Rows::new(row.alloc());
-    for _ in 0..64 {
-        if row.is_read() {
-            return items;
-        }
-        let gram = gram_in(row);
-        row.check(items.add(gram).is_ok());
-    }
-    items
-}
-
-impl Stage {
-    /// No file, and a port that hears nothing; a call of the files of this number fails, and a put of that.
-    pub fn new(alloc: Global, file: Option<u64>, put: Option<u64>) -> Stage {
+impl<F: Files + Drop> Stage<F> {
+    /// These files, and a port and a link that give nothing.
+    pub fn new(alloc: Global, files: F, failing: Option<u64>) -> Stage<F> {
         Stage {
-            files: MemFiles::new(alloc, numbers(alloc, file)),
-            out: MemSink::new(alloc, Rows::new(alloc)),
+            files,
             port: MemPort::new(alloc, Rows::new(alloc), Rows::new(alloc)),
-            failing: put,
+            link: no_link(alloc),
+            out: MemSink::new(alloc, Rows::new(alloc)),
+            book: Book::new(alloc),
+            failing,
         }
     }
 
-    /// A port that hears the datagrams of the words, of which a call of this number fails.
-    pub fn open(&mut self, row: &mut Row<'_>) {
-        let failing = failing_in(row);
-        let grams = grams_in(row);
-        self.port = MemPort::new(row.alloc(), grams, numbers(row.alloc(), failing));
-    }
-
-    /// Makes a call.
-    pub fn call(&mut self, alloc: Global, words: &[String]) -> Status {
-        self.out = MemSink::new(alloc, numbers(alloc, self.failing));
+    /// Makes the call of the words that are left: the number of its status.
+    pub fn call(&mut self, row: &mut Row<'_>) -> u64 {
+        let words = words_in(row);
+        let alloc = row.alloc();
+        let link = mem::replace(&mut self.link, no_link(alloc));
         let mut book = Book::new(alloc);
-        let (status, _link) = program(
+        self.out = MemSink::new(alloc, numbers(alloc, self.failing));
+        let (status, link) = program(
             alloc,
-            words,
+            words.as_slice(),
             &mut self.files,
             &mut self.out,
             &mut self.port,
-            MemLink::new(alloc, Rows::new(alloc), Rows::new(alloc)),
+            link,
             &mut book,
         );
+        self.link = link;
+        self.book = book;
+        u64::from(status.number())
+    }
+
+    /// Makes the call of these words, a space between each two.
+    pub fn call_of(&mut self, page: &mut Page, words: &str) -> u64 {
+        let mut row = Row::of(page.alloc(), words);
+        let status = self.call(&mut row);
+        page.check(row.holds(""));
         status
-    }
-
-    /// Makes the call of the words that are left.
-    pub fn call_asked(&mut self, row: &mut Row<'_>) -> Status {
-        let words = words_in(row);
-        self.call(row.alloc(), words.as_slice())
-    }
-
-    /// The octets of the file of the next word.
-    pub fn file(&self, row: &mut Row<'_>) -> &[u8] {
-        match self.files.get(row.word()) {
-            Some(octets) => octets,
-            None => {
-                row.fail();
-                &[]
-            }
-        }
-    }
-
-    /// Puts an octet into a file.
-    pub fn set(&mut self, row: &mut Row<'_>, name: &str, at: usize, octet: u8) {
-        let mut octets = Octets::new(row.alloc());
-        match self.files.get(name) {
-            Some(old) if at < old.len() => {
-                row.check(octets.add(&old[..at]).is_ok());
-                row.check(octets.add(&[octet]).is_ok());
-                row.check(octets.add(&old[at + 1..]).is_ok());
-            }
-            _ => row.fail(),
-        }
-        row.check(self.files.add(name, octets.bytes()).is_ok());
     }
 }

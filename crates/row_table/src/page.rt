@@ -1,7 +1,6 @@
 use anyhow::{Result, bail};
 use ec_fields::Octets;
 use std::alloc::Global;
-use std::fmt::Debug;
 
 /// A text that grows piece by piece. What can't be carried out is a fault that stays, as is want of memory; so who tells what there is goes on without
 /// looking back.
@@ -73,10 +72,20 @@ impl Page {
         self.put(text);
     }
 
-    /// It goes on by a value, as it is shown.
-    pub fn join<T: Debug>(&mut self, value: &T) {
+    /// It goes on by a number, in decimal digits.
+    pub fn join(&mut self, number: u64) {
         let alloc = self.alloc;
-        match format!(in alloc; "{value:?}") {
+        match format!(in alloc; "{number}") {
+            Ok(text) => self.put(text.as_str()),
+            Err(_) => self.faulty = true,
+        }
+    }
+
+    /// One more word, a text between quotes, in which a line ends by `\n`.
+    pub fn quote(&mut self, text: &str) {
+        let alloc = self.alloc;
+        self.part();
+        match format!(in alloc; "{text:?}") {
             Ok(text) => self.put(text.as_str()),
             Err(_) => self.faulty = true,
         }
@@ -95,10 +104,10 @@ impl Page {
         self.put(word);
     }
 
-    /// One more word, a value as it is shown.
-    pub fn show<T: Debug>(&mut self, value: &T) {
+    /// One more word, a number in decimal digits.
+    pub fn show(&mut self, number: u64) {
         self.part();
-        self.join(value);
+        self.join(number);
     }
 
     /// One more word, the hexadecimal digits of octets.

@@ -2,7 +2,6 @@ use crate::octets::octets_in;
 use crate::page::Page;
 use ec_fields::Octets;
 use std::alloc::Global;
-use std::fmt::Debug;
 
 /// A row: the words of what it asks, from the next one on, and the words of what is found for it. A word that can't be read is a fault, as is what
 /// can't be carried out; it stays, and a row with a fault doesn't hold. So who reads and tells words goes on without looking back.
@@ -132,9 +131,9 @@ impl<'a> Row<'a> {
         self.found.put(text);
     }
 
-    /// A value is found right behind what was found before, as it is shown.
-    pub fn join<T: Debug>(&mut self, value: &T) {
-        self.found.join(value);
+    /// A number is found right behind what was found before.
+    pub fn join(&mut self, number: u64) {
+        self.found.join(number);
     }
 
     /// One more word is found.
@@ -142,9 +141,22 @@ impl<'a> Row<'a> {
         self.found.say(word);
     }
 
-    /// A value is found, as it is shown.
-    pub fn show<T: Debug>(&mut self, value: &T) {
-        self.found.show(value);
+    /// A number is found.
+    pub fn show(&mut self, number: u64) {
+        self.found.show(number);
+    }
+
+    /// A number is found, or `none`.
+    pub fn show_some(&mut self, number: Option<u64>) {
+        match number {
+            Some(number) => self.show(number),
+            None => self.say("none"),
+        }
+    }
+
+    /// `true` is found, or `false`.
+    pub fn answer(&mut self, flag: bool) {
+        self.say(if flag { "true" } else { "false" });
     }
 
     /// The text that octets are.
@@ -152,10 +164,10 @@ impl<'a> Row<'a> {
         self.found.text_in(octets)
     }
 
-    /// A text is found, as it is shown between quotes.
-    pub fn show_text(&mut self, octets: &[u8]) {
+    /// A text is found, between quotes, in which a line ends by `\n`.
+    pub fn quote(&mut self, octets: &[u8]) {
         let text = self.text_in(octets);
-        self.show(&text);
+        self.found.quote(text);
     }
 
     /// Octets are found, by their hexadecimal digits; `-` stands for none.

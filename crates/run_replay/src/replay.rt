@@ -6,9 +6,7 @@ use datagrams::FrameBuf;
 use ec_fields::{NoMemory, Rows};
 use eoe_switch::SwitchEvent;
 use master_node::{MasterNode, Next};
-use run_book::{Book, Ending, SentFrame};
-use run_record::run;
-use scenario::{ReadErr, read};
+use run_book::{Book, SentFrame};
 use segment_plan::Scenario;
 use segment_ring::Fate;
 use std::alloc::Global;
@@ -28,10 +26,6 @@ pub enum Replayed {
     },
     /// Each was, but they don't count by the measure.
     Uncounted(Uncounted),
-    /// The octets are no scenario.
-    Unread,
-    /// Want of memory.
-    NoMemory,
 }
 
 // Whether the next frame is the recorded one. The master learns what became of it.
@@ -87,8 +81,8 @@ fn made_again(
     Ok(Ok(checksum.value()))
 }
 
-// A run that is made again, and counted.
-fn counted(alloc: Global, plan: &Scenario, book: &Book) -> Result<Replayed, NoMemory>
+/// Makes the run of a plan again that a book records, and counts its frames.
+pub fn replay(alloc: Global, plan: &Scenario, book: &Book) -> Result<Replayed, NoMemory>
     requires { IsPlan plan.now }
 {
     let rows = book.frames.as_slice();
@@ -104,22 +98,5 @@ fn counted(alloc: Global, plan: &Scenario, book: &Book) -> Result<Replayed, NoMe
             measured,
         }),
         Err(uncounted) => Ok(Replayed::Uncounted(uncounted)),
-    }
-}
-
-/// Runs a scenario, makes its run again, and counts its frames.
-pub fn replay(alloc: Global, octets: &[u8]) -> Replayed {
-    let plan = match read(alloc, octets) {
-        Ok(plan) => plan,
-        Err(ReadErr::Refused { .. }) => return Replayed::Unread,
-        Err(ReadErr::NoMemory) => return Replayed::NoMemory,
-    };
-    let mut book = Book::new(alloc);
-    if run(alloc, &plan, &mut book) == Ending::NoMemory {
-        return Replayed::NoMemory;
-    }
-    match counted(alloc, &plan, &book) {
-        Ok(replayed) => replayed,
-        Err(NoMemory) => Replayed::NoMemory,
     }
 }
